@@ -8,9 +8,9 @@ use Rattle.pw_types.specs.TypedTrees.{Expression, Node, type_at}
 use Rattle.pw_types.specs.TypedTrees as T
 use Rattle.pw_check_rules.specs.Compatible.{compatible_types, qualified_within}
 use Rattle.pw_check_rules.specs.Constants.{constant_of, constant_value, is_zero, is_null_constant}
-use Rattle.pw_check_rules.specs.Judgements.{CompatibleTypes, IsIntegral, IsFunctionType, NullPointerConstant, Zero, ZeroAsVoidPointer, QualifiedWithin, Assignable, Arithmetic, SameRecord, CompatiblePointers, ToVoidPointer, FromVoidPointer, NullPointer}
+use Rattle.pw_check_rules.specs.Judgements.{CompatibleTypes, IsIntegral, NullPointerConstant, Zero, ZeroAsVoidPointer, QualifiedWithin, Assignable, Arithmetic, SameRecord, CompatiblePointers, ToVoidPointer, FromVoidPointer, NullPointer}
 use Rattle.pw_check_rules.specs.Kinds.{is_integral, is_pointer, is_void, is_function, points_to_function, points_to_void, pointee}
-use Rattle.pw_types.specs.WellTyped.{type_in}
+use Rattle.pw_types.specs.WellTyped.{type_in, IsFunctionType}
 use Rattle.pw_check_rules.specs.Operators.{is_assignable, same_record}
 use Rattle.pw_check_rules.proofs.Booleans.{no, both, left, right, one_of, first, second, opposite}
 use Rattle.pw_check_rules.proofs.CompatibleLaws.{types_forth, types_back}

@@ -1,5 +1,6 @@
 -- Compatible and composite types (ISO C90 6.1.2.6, 6.5.2 to 6.5.4).
 use Rattle.std.specs.Prelude.{ℕ, ◌==◌, Bool, true, false, not, ◌&&◌, ◌||◌, Option, None, Some}
+use Rattle.std.specs.Option.{option_or}
 use Rattle.pw_types.specs.TypeTrees.{CType, Void, Int, Pointer, Array, Function, Record, QType, Qualified, QTypes, NoType, OneType, is_constant, is_volatile}
 use Rattle.pw_check_rules.specs.Kinds.{same_kind}
 use Rattle.pw_value.specs.ProgramNames.{same_truth}
@@ -37,15 +38,11 @@ unfoldable mutual
   pub compatible_plainly : QType → QType → Bool
   compatible_plainly (Qualified a c v) (Qualified b d w) = compatible_types a b
 
-abbrev pub known_length : Option ℕ → Option ℕ → Option ℕ
-known_length (Some n) m = Some n
-known_length None m = m
-
 unfoldable mutual
   -- the composite of two compatible types, which has what is known of either
   pub composite_type : CType → CType → CType
   composite_type (Pointer a) (Pointer b) = Pointer (composite a b)
-  composite_type (Array a n) (Array b m) = Array (composite a b) (known_length n m)
+  composite_type (Array a n) (Array b m) = Array (composite a b) (option_or n m)
   composite_type (Function a ps) (Function b qs) = Function (composite a b) (composite_parameters ps qs)
   composite_type a b = a
 

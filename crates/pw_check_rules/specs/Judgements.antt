@@ -8,7 +8,7 @@ use Rattle.pw_types.specs.TypedTrees as T
 use Rattle.pw_check_rules.specs.Constants.{constant_value}
 use Rattle.pw_check_rules.specs.Kinds.{is_complete, is_free_of_const}
 use Rattle.pw_check_rules.specs.Operands.{Operand}
-use Rattle.pw_types.specs.WellTyped.{type_in}
+use Rattle.pw_types.specs.WellTyped.{type_in, IsFunctionType}
 use Rattle.pw_check_rules.specs.Linkage.{Asking, AsInternal, AsBefore, visible_linkage}
 use Rattle.pw_check_rules.specs.States.{State}
 
@@ -48,9 +48,6 @@ IsIntegral ty = (kind : IntKind) × (ty ≡ Int kind)
 
 abbrev pub IsPointerTo : CType → QType → Type 0
 IsPointerTo ty q = ty ≡ Pointer q
-
-abbrev pub IsFunctionType : CType → Type 0
-IsFunctionType ty = (result : QType) × (ps : QTypes) × (ty ≡ Function result ps)
 
 -- a null pointer constant (6.2.2.3): the constant 0, or it cast to `void *`
 pub data NullPointerConstant (e : Expression) : Type 0 where

@@ -1,6 +1,7 @@
 -- Where globals stand at calls and returns.
 use Rattle.std.proofs.Common.{◌≡◌, ℕ, inl, inr, Option, Some, None, List, [], ◌∷◌, refl, ap, sym, ◌∙◌, subst}
 use Rattle.std.specs.Prelude.{option_map, Contains}
+use Rattle.std.specs.Option.{option_or}
 use Rattle.std.proofs.lemmas.Bool.{cases_eq}
 use Rattle.std.proofs.lemmas.List.Elements.{Contains-append_cases}
 use Rattle.pw_value.specs.declared.value.Value.{Value}
@@ -12,7 +13,7 @@ use Rattle.pw_db.specs.Database.{IsDatabase}
 use Rattle.pw_webflow.specs.Direction.{register_of, directed}
 use Rattle.pw_db_sound.specs.CallGraphs.{Graph, Calls, Path, call, on}
 use Rattle.pw_db_sound.specs.Sound.{Has, In, keeps, Sound}
-use Rattle.pw_run_webs.specs.PlacedRun.{with_register, with_registers, or_else, held}
+use Rattle.pw_run_webs.specs.PlacedRun.{with_register, with_registers, held}
 use Rattle.pw_law_direction.specs.Pairs.{Active, webs_of, web_frames}
 use Rattle.pw_law_direction.specs.Alike.{Linked, Saves, names_active}
 use Rattle.pw_law_direction.specs.Laws.{StandsAtCalls, StandsAtReturns, EntriesAreAlone, AfterSaving}
@@ -45,12 +46,12 @@ comes-back (n ∷ rest) a b saved others =
 
 here : (d : List (List ℕ × Directives)) (f : Active) (h : List ℕ) (r : ℕ) (fs : List Active) (a : ℕ → Value) → register_of (webs_of d f.function) h ≡ Some r → held h a (web_frames d (f ∷ fs)) ≡ Some (a r)
 unfolding directed
-here d f h r fs a e = ap (λ (o : Option ℕ). or_else (option_map a o) (held h (with_registers f.saved a) (web_frames d fs))) e
+here d f h r fs a e = ap (λ (o : Option ℕ). option_or (option_map a o) (held h (with_registers f.saved a) (web_frames d fs))) e
 
 pub further : (d : List (List ℕ × Directives)) (f : Active) (h : List ℕ) (fs : List Active) (a : ℕ → Value) → register_of (webs_of d f.function) h ≡ None
     → held h a (web_frames d (f ∷ fs)) ≡ held h (with_registers f.saved a) (web_frames d fs)
 unfolding directed
-further d f h fs a e = ap (λ (o : Option ℕ). or_else (option_map a o) (held h (with_registers f.saved a) (web_frames d fs))) e
+further d f h fs a e = ap (λ (o : Option ℕ). option_or (option_map a o) (held h (with_registers f.saved a) (web_frames d fs))) e
 
 -- a global of which the callee is no entry stands where it stood
 stands-by : (g : Graph) (d : List (List ℕ × Directives)) (h : List ℕ) (f c : Active) (fs : List Active) (after now : ℕ → Value) → IsDatabase d → Sound g d → Linked g (f ∷ c ∷ fs)

@@ -1,6 +1,7 @@
 -- Calls of the library's functions.
 use Rattle.std.proofs.Common.{◌≡◌, ◌≤◌, ◌+◌, ◌%◌, ◌&&◌, ◌==◌, ◌++◌, ℕ, Bool, true, false, if◌then◌else◌, Option, Some, None, List, [], ◌∷◌, map, refl, ap, sym, ◌∙◌, subst}
 use Rattle.std.specs.Prelude.{option_map, nat_lt, nat_le, sum_by}
+use Rattle.std.specs.Option.{option_or}
 use Rattle.std.proofs.lemmas.Bool.{le-ltb}
 use Rattle.std.proofs.lemmas.List.Sums.{sum_by-cons}
 use Rattle.pw_value.specs.declared.value.Kind.{Kind}
@@ -22,7 +23,7 @@ use Rattle.pw_run_flow.specs.Programs.{Program, Library, GetChar, PutChar, Exit,
 use Rattle.pw_run_flow.specs.Programs as programs
 use Rattle.pw_run_flow.specs.FlowRun as flow
 use Rattle.pw_run_webs.specs.PlacedRun as web
-use Rattle.pw_run_webs.specs.PlacedRun.{with_register, with_registers, or_else, held, without_scratch}
+use Rattle.pw_run_webs.specs.PlacedRun.{with_register, with_registers, held, without_scratch}
 use Rattle.pw_law_direction.specs.Pairs.{Active, Pair, active_of, flow_frame, flow_side, web_side, web_frame, web_frames, webs_of, under}
 use Rattle.pw_law_direction.specs.Alike.{names_active, GlobalStands, IsAlike, Follows}
 use Rattle.pw_law_direction.specs.Laws.{LibraryFollows}
@@ -39,7 +40,7 @@ all-low : (l : List (ℕ × Value)) (a b : ℕ → Value) → AgreeLow a b → A
 all-low [] a b h = h
 all-low (n ∷ rest) a b h = all-low rest (with_register n.0 n.1 a) (with_register n.0 n.1 b) (λ q low. ap (λ (w : Value). if q == n.0 then n.1 else w) (h q low))
 
-low-else : (o : Option ℕ) (a b : ℕ → Value) (x y : Option Value) → ((r : ℕ) → o ≡ Some r → a r ≡ b r) → x ≡ y → or_else (option_map a o) x ≡ or_else (option_map b o) y
+low-else : (o : Option ℕ) (a b : ℕ → Value) (x y : Option Value) → ((r : ℕ) → o ≡ Some r → a r ≡ b r) → x ≡ y → option_or (option_map a o) x ≡ option_or (option_map b o) y
 low-else (Some r) a b x y h e = ap (λ (v : Value). Some v) (h r refl)
 low-else None a b x y h e = e
 

@@ -2,6 +2,7 @@
 use Rattle.std.proofs.Common.{◌≡◌, ◌≢◌, ◌==◌, ℕ, inl, inr, Bool, true, false, if◌then◌else◌, Option, Some, None, List, [], ◌∷◌, map, refl, ap, sym, ◌∙◌, subst, arith}
 use Rattle.std.specs.Prelude.{option_map, Contains}
 use Rattle.std.specs.List.{AllByRecursion}
+use Rattle.std.specs.Option.{option_or}
 use Rattle.std.specs.Str.{bytes_eq}
 use Rattle.std.proofs.lemmas.Bool.{cases_eq}
 use Rattle.std.proofs.lemmas.Option.{same_Some}
@@ -15,7 +16,7 @@ use Rattle.pw_db.specs.declared.database.Directives.{Directives}
 use Rattle.pw_webflow.specs.Direction.{register_of, directed}
 use Rattle.pw_db_sound.specs.CallGraphs.{Graph}
 use Rattle.pw_db_sound.specs.Sound.{Has, In, Sound}
-use Rattle.pw_run_webs.specs.PlacedRun.{with_register, with_registers, or_else, held}
+use Rattle.pw_run_webs.specs.PlacedRun.{with_register, with_registers, held}
 use Rattle.pw_run_webs.specs.Direction.{directives_of}
 use Rattle.pw_law_direction.specs.Pairs.{Active, webs_of, web_frames}
 use Rattle.pw_law_direction.specs.Alike.{Linked, Saves}
@@ -77,7 +78,7 @@ not-restored (n ∷ rest) a r v h = λ q.
 
 -- ---- the place of a global
 
-same-else : (o : Option ℕ) (a b : ℕ → Value) (x y : Option Value) → Agree a b → x ≡ y → or_else (option_map a o) x ≡ or_else (option_map b o) y
+same-else : (o : Option ℕ) (a b : ℕ → Value) (x y : Option Value) → Agree a b → x ≡ y → option_or (option_map a o) x ≡ option_or (option_map b o) y
 same-else (Some r) a b x y h e = ap Some (h r)
 same-else None a b x y h e = e
 
@@ -157,7 +158,7 @@ member-not-saved g d s w f fs l saves member c =
     (λ e. one-role g d s w f fs l (subst (λ (u : Web). Has d f.function.name u Entry) (sym e) r.1) member) (sym r.2)
 
 other-place : (d : List (List ℕ × Directives)) (g : Graph) → Sound g d → (w : Web) (f : Active) (h : List ℕ) (v : Value) (a : ℕ → Value) (x y : Option Value) (o : Option ℕ)
-    → In d w f.function.name → w.global ≢ h → register_of (webs_of d f.function) h ≡ o → x ≡ y → or_else (option_map (with_register w.reg v a) o) x ≡ or_else (option_map a o) y
+    → In d w f.function.name → w.global ≢ h → register_of (webs_of d f.function) h ≡ o → x ≡ y → option_or (option_map (with_register w.reg v a) o) x ≡ option_or (option_map a o) y
 other-place d g s w f h v a x y None i ne e same = same
 other-place d g s w f h v a x y (Some r) i ne e same =
     let k = kept-in d f h r e in

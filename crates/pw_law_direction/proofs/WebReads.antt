@@ -1,6 +1,7 @@
 -- A load of a global that a web of the function holds, as a copy from its register.
 use Rattle.std.proofs.Common.{◌≡◌, ℕ, Option, Some, None, List, ◌∷◌, refl, ap, sym, subst}
 use Rattle.std.specs.Prelude.{IfSome, option_map, Contains}
+use Rattle.std.specs.Option.{option_or}
 use Rattle.pw_value.specs.declared.value.Kind.{Kind}
 use Rattle.pw_value.specs.declared.value.Value.{Value}
 use Rattle.pw_value.specs.declared.value.Byte.{Byte}
@@ -19,7 +20,7 @@ use Rattle.pw_run_flow.specs.FlowRun.{get_global}
 use Rattle.pw_run_flow.specs.Commands.{command}
 use Rattle.pw_run_webs.specs.Programs.{IsProgram, graph_of, eligible_of}
 use Rattle.pw_run_webs.specs.PlacedRun as web
-use Rattle.pw_run_webs.specs.PlacedRun.{held, with_registers, or_else}
+use Rattle.pw_run_webs.specs.PlacedRun.{held, with_registers}
 use Rattle.pw_law_direction.specs.Pairs.{Pair, flow_side, web_side, webs_of, web_frames, under}
 use Rattle.pw_law_direction.specs.Alike.{IsTame, IsAlike, Follows}
 use Rattle.pw_law_direction.specs.Laws.{StepsFollow, ReadsFollow}
@@ -57,7 +58,7 @@ register-holds : (p : Program) (d : List (List ℕ × Directives)) (x : Pair) (g
     → x.registers r ≡ scalar_of h.kept.web.kind (object_at x.objects h.number).bytes
 unfolding directed
 register-holds p d x g r h e a =
-    subst (λ (o : Option ℕ). IfSome (or_else (option_map x.registers o) (held g (with_registers x.frame.saved x.registers) (web_frames d x.callers)))
+    subst (λ (o : Option ℕ). IfSome (option_or (option_map x.registers o) (held g (with_registers x.frame.saved x.registers) (web_frames d x.callers)))
     (λ v. v ≡ scalar_of h.kept.web.kind (object_at x.objects h.number).bytes)) e (a.objects.globals g h.kept.web.kind h.number h.there h.is).stands
 
 global-tame : (p : Program) (d : List (List ℕ × Directives)) (x : Pair) (g : List ℕ) (k : Kind) (n : ℕ) → Contains (eligible_of p) (g, k) → global_number p g ≡ Some n → IsAlike p d x

@@ -2,6 +2,7 @@
 use Rattle.std.proofs.Common.{◌≡◌, ◌≢◌, ◌==◌, ◌&&◌, ℕ, zero, suc, inl, inr, Bool, true, false, true≢false, if◌then◌else◌, cond, Option, Some, None, List, [], ◌∷◌, length, refl, ap, sym, ◌∙◌, subst, arith}
 use Rattle.std.specs.Prelude.{IfSome, option_map, slice_set, slice_index_or, nat_eq, Contains}
 use Rattle.std.specs.List.{AllByRecursion, filter}
+use Rattle.std.specs.Option.{option_or}
 use Rattle.std.specs.Str.{bytes_eq}
 use Rattle.std.proofs.lemmas.Bool.{cases_eq}
 use Rattle.std.proofs.lemmas.Option.{same_Some}
@@ -33,7 +34,7 @@ use Rattle.pw_run_flow.specs.FlowRun.{is_own_kind, put_global}
 use Rattle.pw_run_flow.specs.Commands.{command}
 use Rattle.pw_run_webs.specs.Programs.{IsProgram, graph_of, node_of, written_by, ops_of, eligible_of, eligible_names}
 use Rattle.pw_run_webs.specs.PlacedRun as web
-use Rattle.pw_run_webs.specs.PlacedRun.{held, with_register, with_registers, or_else}
+use Rattle.pw_run_webs.specs.PlacedRun.{held, with_register, with_registers}
 use Rattle.pw_law_direction.specs.Pairs.{Active, Pair, active_of, flow_side, web_side, webs_of, web_frames, under}
 use Rattle.pw_law_direction.specs.Alike.{IsTame, names_active, Saves, IsActive, GlobalStands, IsAlike, Follows}
 use Rattle.pw_law_direction.specs.Laws.{StepsFollow, WritesFollow}
@@ -155,7 +156,7 @@ own-stands p d x g r v h e a fits writes =
       size_too = st.size_too;
       kind = subst (λ (u : Value). is_of_kind k u ≡ true) (sym back) fits;
       bytes = whole ∙ ap (λ (u : Value). encoding u (kind_size k)) (sym back);
-      stands = subst (λ (o : Option ℕ). IfSome (or_else (option_map (with_register r v x.registers) o) (held g (with_registers x.frame.saved (with_register r v x.registers)) (web_frames d x.callers)))
+      stands = subst (λ (o : Option ℕ). IfSome (option_or (option_map (with_register r v x.registers) o) (held g (with_registers x.frame.saved (with_register r v x.registers)) (web_frames d x.callers)))
           (λ u. u ≡ scalar_of k (with_bytes new 0 (object_at x.objects h.number).bytes))) (sym e) (if-same r v (x.registers r) ∙ sym back);
       memory = λ not. absurd (not (record {
         function = x.frame.function.name;

@@ -3,6 +3,7 @@
 use Rattle.std.proofs.Common.{◌≡◌, ◌≢◌, ◌⊎◌, ℕ, Bool, true, false, if◌then◌else◌, List, [], ◌∷◌, map, refl, sym, ap, subst, ◌∙◌, arith, inl, inr}
 use Rattle.std.specs.Prelude.{Option, Some, None}
 use Rattle.std.specs.List.{flat_map}
+use Rattle.std.specs.Option.{option_or}
 use Rattle.std.specs.Str.{bytes_eq}
 use Rattle.std.proofs.lemmas.Slice.Eq.{bytes_eq-Decides}
 use Rattle.std.proofs.lemmas.List.Elements.{recursion_from_All}
@@ -25,7 +26,7 @@ use Rattle.pw_cmean.specs.Worlds.{Program, ProgramModule, Callable, callable, li
 use Rattle.pw_cmean.specs.Worlds as source
 use Rattle.pw_cmean.specs.Typed.{IsWellTyped}
 use Rattle.pw_files.proofs.Standing.{Has, has_by, contains_by, has_each, has_left, has_right, has_split, has_map, has_map_back, has_flat, has_flat_back}
-use Rattle.pw_summarise.specs.Summarises.{shape_in, if_function, or_else, function_shape, function_entry, function_entries}
+use Rattle.pw_summarise.specs.Summarises.{shape_in, if_function, function_shape, function_entry, function_entries}
 use Rattle.pw_law_layers.specs.Lowering.{flow_program, IsAccepted}
 use Rattle.pw_law_graph.proofs.TakingFunctions.{start_only}
 use Rattle.pw_law_graph.proofs.Lists.{clash, found, finds, across}
@@ -142,9 +143,9 @@ IsShaped m name = (s : List ℕ) × (function_shape (function_entries m) m.decla
 defined_shaped : (functions declared : List (List ℕ × List ℕ)) (name : List ℕ) → Has name (map (λ f. f.0) functions) → (s : List ℕ) × (function_shape functions declared name ≡ Some s)
 defined_shaped functions declared name h =
     let r = shape_there functions name h in
-    (r.0, ap (λ (o : Option (List ℕ)). or_else o (if_function (shape_in declared name))) r.1)
+    (r.0, ap (λ (o : Option (List ℕ)). option_or o (if_function (shape_in declared name))) r.1)
 
-or_some : (o : Option (List ℕ)) (s : List ℕ) → (t : List ℕ) × (or_else o (Some s) ≡ Some t)
+or_some : (o : Option (List ℕ)) (s : List ℕ) → (t : List ℕ) × (option_or o (Some s) ≡ Some t)
 or_some None s = (s, refl)
 or_some (Some t) s = (t, refl)
 
@@ -154,7 +155,7 @@ if_some s b = subst (λ (t : List ℕ). if_function (Some t) ≡ Some t) (sym b.
 declared_shaped : (functions declared : List (List ℕ × List ℕ)) (name s : List ℕ) → shape_in declared name ≡ Some s → IsFunctionShape s → (t : List ℕ) × (function_shape functions declared name ≡ Some t)
 declared_shaped functions declared name s e b =
     let r = or_some (shape_in functions name) s in
-    (r.0, ap (λ (o : Option (List ℕ)). or_else (shape_in functions name) o) (ap if_function e ∙ if_some s b) ∙ r.1)
+    (r.0, ap (λ (o : Option (List ℕ)). option_or (shape_in functions name) o) (ap if_function e ∙ if_some s b) ∙ r.1)
 
 -- ---- symbols
 

@@ -1,6 +1,7 @@
 -- What the machine notes at a step, in the words of the run of lines.
 use Rattle.std.specs.Prelude.{ℕ, zero, suc, ℤ, ◌≡◌, ◌+◌, ◌-◌, ◌*◌, ◌^◌, ◌%◌, ◌≤◌, ◌⊎◌, ◌==◌, ◌&&◌, Bool, true, false, if◌then◌else◌, Option, Some, None, option_map, List, [], ◌∷◌, ◌++◌, map, length}
 use Rattle.std.specs.List.{AllByRecursion, flat_map}
+use Rattle.std.specs.Option.{option_or}
 use Rattle.std.specs.Int.{cast_unsigned, w32}
 use Rattle.std.proofs.Common.{arith, subst, sym, ap, refl, ◌∙◌, inl, inr}
 use Rattle.std.proofs.Math.Path.{fun_ext}
@@ -16,7 +17,7 @@ use Rattle.pw_db.specs.Limits.{kept_registers}
 use Rattle.pw_run_webs.specs.PlacedRun.{web_of}
 use Rattle.pw_run_lines.specs.Acts as lines
 use Rattle.pw_run_lines.specs.Acts.{put, number_at, bytes_at, loaded_at, stored_at}
-use Rattle.pw_run_lines.specs.Standing.{Active, given_back, without, or_else, held, standing, global_now, globals_now}
+use Rattle.pw_run_lines.specs.Standing.{Active, given_back, without, held, standing, global_now, globals_now}
 use Rattle.pw_run_lines.specs.LineRun.{accesses}
 use Rattle.pw_run_machine.specs.MachineRun.{Map, Call, Noted, kept, active_as, globals_in, core_of, has_returned, with_returns, left, called, function_at, arrived, is_eligible, accesses_of, accesses_in}
 use Rattle.pw_law_link_run.specs.Showing.{Shows}
@@ -158,7 +159,7 @@ held_same : (low : ℕ) (v : List ℕ) (f g registers : ℕ → ℕ) (actives : 
     → held v f registers actives ≡ held v g registers actives
 held_same low v f g registers [] h all = refl
 held_same low v f g registers (a ∷ callers) h all =
-    ap (λ o. or_else (option_map registers (web_of a.function.body.directives.webs v)) o)
+    ap (λ o. option_or (option_map registers (web_of a.function.body.directives.webs v)) o)
     (held_same low v f g (without a f registers) callers h all.1
     ∙ ap (λ rs. held v g rs callers) (without_same low a f g registers h all.0))
 

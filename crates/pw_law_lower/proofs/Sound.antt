@@ -4,10 +4,11 @@ use Rattle.std.specs.Prelude.{slice_get, slice_set}
 use Rattle.std.specs.List.{AllByRecursion}
 use Rattle.std.proofs.lemmas.List.Elements.{All-set, recursion_from_All, All-from_recursion}
 use Rattle.pw_flow.specs.declared.flow.Op.{Op}
-use Rattle.pw_flow.specs.declared.flow.Op.TheVariants.{Const, Copy, Un, Bin, Ext, AddrGlobal, AddrSlot, AddrFn, LoadG, StoreG, Load, Store, Move, Call, CallInd}
+use Rattle.pw_flow.specs.declared.flow.Op.TheVariants.{Const}
 use Rattle.pw_flow.specs.declared.flow.End.{End}
 use Rattle.pw_flow.specs.declared.flow.End.TheVariants.{Jump, Branch, Return}
 use Rattle.pw_flow.specs.declared.flow.Block.{Block}
+use Rattle.pw_flow.specs.Uses.{op_uses, op_defines}
 use Rattle.pw_flow.specs.ValidFlow.{IsResult, IsEnd}
 use Rattle.pw_flow.proofs.Lists.{all_append}
 use Rattle.pw_lower.specs.declared.code.Code.{Code}
@@ -29,21 +30,7 @@ pub below_more_all : (n m : ℕ) (args : List ℕ) → n ≤ m → AllByRecursio
 below_more_all n m args l h = all_more (λ (a : ℕ). a < n) (λ (a : ℕ). a < m) args (λ a b. omega (arith, l, b)) h
 
 range_more : (n m slots : ℕ) (o : Op) → n ≤ m → IsInRange n slots o → IsInRange m slots o
-range_more n m slots (Const t k) l h = omega (arith, l, h)
-range_more n m slots (Copy t a) l h = (omega (arith, l, h.0), omega (arith, l, h.1))
-range_more n m slots (Un k t a) l h = (omega (arith, l, h.0), omega (arith, l, h.1))
-range_more n m slots (Bin k t a b) l h = (omega (arith, l, h.0), omega (arith, l, h.1), omega (arith, l, h.2))
-range_more n m slots (Ext k t a) l h = (omega (arith, l, h.0), omega (arith, l, h.1))
-range_more n m slots (AddrGlobal t g k) l h = omega (arith, l, h)
-range_more n m slots (AddrSlot t s) l h = (omega (arith, l, h.0), h.1)
-range_more n m slots (AddrFn t f) l h = omega (arith, l, h)
-range_more n m slots (LoadG t g k) l h = omega (arith, l, h)
-range_more n m slots (StoreG g a k) l h = omega (arith, l, h)
-range_more n m slots (Load k t a) l h = (omega (arith, l, h.0), omega (arith, l, h.1))
-range_more n m slots (Store k a b) l h = (omega (arith, l, h.0), omega (arith, l, h.1))
-range_more n m slots (Move a b size unit) l h = (omega (arith, l, h.0), omega (arith, l, h.1))
-range_more n m slots (Call t f args) l h = (result_more n m t l h.0, below_more_all n m args l h.1)
-range_more n m slots (CallInd t a shape args) l h = (result_more n m t l h.0, omega (arith, l, h.1), below_more_all n m args l h.2)
+range_more n m slots o l h = (below_more_all n m (op_uses o) l h.0, result_more n m (op_defines o) l h.1, h.2)
 
 end_more : (n m b c : ℕ) (e : End) → n ≤ m → b ≤ c → IsEnd n b e → IsEnd m c e
 end_more n m b c (Jump to) l k h = omega (arith, k, h)
@@ -172,4 +159,4 @@ adds-in slots n o c s l r =
     record { goes = goes_then g (emits-in slots (o c.temps) (reserve_temps 1 c) g.sound r); reach = omega (arith, l) }
 
 pub constant-in : (slots n k : ℕ) (c : Code) → Sound slots c → n ≤ 1 → Made slots c n (constant k c)
-constant-in slots n k c s l = adds-in slots n (λ t. Const t k) c s l (omega arith)
+constant-in slots n k c s l = adds-in slots n (λ t. Const t k) c s l (tt, omega arith, tt)

@@ -35,7 +35,7 @@ use Rattle.pw_law_lower.proofs.Sound.{below_more_all, Sound, Goes, Made, stays, 
 
 pub with-in : (slots n : ℕ) (k : BinKind) (p : ℕ) (c : Code) (x : Lowered) → Made slots c 0 x → p ≤ c.temps → n ≤ 1 → Made slots c n (with k p x)
 with-in slots n k p c x m h l =
-    made_then m.goes (adds-in slots n (λ t. op.Bin k t p (temp_of x)) x.code m.goes.sound l (omega arith, omega (arith, h, m.goes.temps), omega (arith, m.reach)))
+    made_then m.goes (adds-in slots n (λ t. op.Bin k t p (temp_of x)) x.code m.goes.sound l ((omega (arith, h, m.goes.temps), (omega (arith, m.reach), tt)), omega arith, tt))
 
 scaled-in : (slots : ℕ) (b : Bool) (size n : ℕ) (c : Code) → Sound slots c → n ≤ c.temps → Made slots c 0 (if b then value_is n c else with Mul n (constant size c))
 scaled-in slots true size n c s h = record { goes = stays slots c s; reach = omega (arith, h) }
@@ -50,7 +50,7 @@ in_elements-in slots false size c x m =
     made_then m.goes (with-in slots 1 DivS (temp_of x) x.code (constant size x.code) (constant-in slots 0 size x.code m.goes.sound (omega arith)) (omega (arith, m.reach)) (omega arith))
 
 bin-in : (slots : ℕ) (k : BinKind) (p q : ℕ) (c : Code) → Sound slots c → p ≤ c.temps → q ≤ c.temps → Made slots c 1 (fresh (λ t. op.Bin k t p q) c)
-bin-in slots k p q c s h i = adds-in slots 1 (λ t. op.Bin k t p q) c s (omega arith) (omega arith, omega (arith, h), omega (arith, i))
+bin-in slots k p q c s h i = adds-in slots 1 (λ t. op.Bin k t p q) c s (omega arith) ((omega (arith, h), (omega (arith, i), tt)), omega arith, tt)
 
 distance-in : (slots size p q : ℕ) (c : Code) → Sound slots c → p ≤ c.temps → q ≤ c.temps → Made slots c 1 (distance size p q c)
 distance-in slots size p q c s h i = in_elements-in slots (size == 1) size c (fresh (λ t. op.Bin Sub t p q) c) (bin-in slots Sub p q c s h i)
@@ -73,7 +73,7 @@ sum_or-in slots o v left right p q c s h i = on_numbers-in slots o v p q c s h i
 
 extended-in : (slots n : ℕ) (k : Option ExtKind) (t : ℕ) (c : Code) → Sound slots c → n ≤ 1 → t + n ≤ c.temps → Made slots c n (extended k t c)
 extended-in slots n None t c s l h = record { goes = stays slots c s; reach = h }
-extended-in slots n (Some k) t c s l h = adds-in slots n (λ r. op.Ext k r t) c s l (omega arith, omega (arith, h))
+extended-in slots n (Some k) t c s l h = adds-in slots n (λ r. op.Ext k r t) c s l ((omega (arith, h), tt), omega arith, tt)
 
 converted-in : (slots n : ℕ) (from to : Option Kind) (c : Code) (x : Lowered) → n ≤ 1 → Made slots c n x → Made slots c n (converted from to x)
 converted-in slots n None to c x l m = m
@@ -84,12 +84,12 @@ truth_in-in : (slots r t : ℕ) (c : Code) → Sound slots c → r < c.temps →
 truth_in-in slots r t c s h i =
     let m = constant-in slots 1 0 c s (omega arith) in
     let x = constant 0 c in
-    goes_then m.goes (emits-in slots (op.Bin Ne r t (temp_of x)) x.code m.goes.sound (omega (arith, h), omega (arith, i), omega (arith, m.reach)))
+    goes_then m.goes (emits-in slots (op.Bin Ne r t (temp_of x)) x.code m.goes.sound ((omega (arith, i), (omega (arith, m.reach), tt)), omega (arith, h), tt))
 
 unary_on-in : (slots : ℕ) (o : UnaryOperator) (t : ℕ) (c : Code) → Sound slots c → t < c.temps → Made slots c 1 (unary_on o t c)
 unary_on-in slots unary.Plus t c s h = record { goes = stays slots c s; reach = omega (arith, h) }
-unary_on-in slots unary.Minus t c s h = adds-in slots 1 (λ r. op.Un Neg r t) c s (omega arith) (omega arith, omega (arith, h))
-unary_on-in slots unary.Complement t c s h = adds-in slots 1 (λ r. op.Un Not r t) c s (omega arith) (omega arith, omega (arith, h))
+unary_on-in slots unary.Minus t c s h = adds-in slots 1 (λ r. op.Un Neg r t) c s (omega arith) ((omega (arith, h), tt), omega arith, tt)
+unary_on-in slots unary.Complement t c s h = adds-in slots 1 (λ r. op.Un Not r t) c s (omega arith) ((omega (arith, h), tt), omega arith, tt)
 unary_on-in slots unary.Not t c s h = with-in slots 1 Eq t c (constant 0 c) (constant-in slots 0 0 c s (omega arith)) (omega (arith, h)) (omega arith)
 
 -- ---- lvalues
@@ -109,14 +109,14 @@ pub record PlacedIn (slots : ℕ) (c : Code) (p : Placed) : Type 0 where
   pub target : TargetIn p.code.temps p.target
 
 read-in : (slots : ℕ) (k : Kind) (target : Target) (c : Code) → Sound slots c → TargetIn c.temps target → Made slots c 1 (read_target k target c)
-read-in slots k (Kept x) c s h = adds-in slots 1 (λ t. op.Copy t x) c s (omega arith) (omega arith, omega (arith, h))
-read-in slots k (Named g) c s h = adds-in slots 1 (λ t. op.LoadG t g k) c s (omega arith) (omega arith)
-read-in slots k (Led p) c s h = adds-in slots 1 (λ t. op.Load k t p) c s (omega arith) (omega arith, omega (arith, h))
+read-in slots k (Kept x) c s h = adds-in slots 1 (λ t. op.Copy t x) c s (omega arith) ((omega (arith, h), tt), omega arith, tt)
+read-in slots k (Named g) c s h = adds-in slots 1 (λ t. op.LoadG t g k) c s (omega arith) (tt, omega arith, tt)
+read-in slots k (Led p) c s h = adds-in slots 1 (λ t. op.Load k t p) c s (omega arith) ((omega (arith, h), tt), omega arith, tt)
 
 write-in : (slots : ℕ) (k : Kind) (target : Target) (v : ℕ) (c : Code) → Sound slots c → TargetIn c.temps target → v < c.temps → Goes slots c (write k target v c)
-write-in slots k (Kept x) v c s h i = emits-in slots (op.Copy x v) c s (h, i)
-write-in slots k (Named g) v c s h i = emits-in slots (op.StoreG g v k) c s i
-write-in slots k (Led p) v c s h i = emits-in slots (op.Store k p v) c s (h, i)
+write-in slots k (Kept x) v c s h i = emits-in slots (op.Copy x v) c s ((i, tt), h, tt)
+write-in slots k (Named g) v c s h i = emits-in slots (op.StoreG g v k) c s ((i, tt), tt, tt)
+write-in slots k (Led p) v c s h i = emits-in slots (op.Store k p v) c s ((h, (i, tt)), tt, tt)
 
 further-by : (slots n : ℕ) (b : Bool) (offset : ℕ) (c : Code) (x : Lowered) → n ≤ 1 → Made slots c n x → Made slots c n (if b then x else with Add (temp_of x) (constant offset x.code))
 further-by slots n true offset c x l m = m
@@ -133,7 +133,7 @@ IsPlace slots temps (Slot s) = s < slots
 
 pub address_of_local-in : (slots : ℕ) (p : LocalPlace) (c : Code) → Sound slots c → IsPlace slots c.temps p → Made slots c 1 (address_of_local p c)
 address_of_local-in slots (Temp x) c s h = record { goes = stays slots c s; reach = omega (arith, h) }
-address_of_local-in slots (Slot k) c s h = adds-in slots 1 (λ t. op.AddrSlot t k) c s (omega arith) (omega arith, h)
+address_of_local-in slots (Slot k) c s h = adds-in slots 1 (λ t. op.AddrSlot t k) c s (omega arith) (tt, omega arith, (h, tt))
 
 pub target_of_local-in : (slots : ℕ) (p : LocalPlace) (c : Code) → Sound slots c → IsPlace slots c.temps p → PlacedIn slots c (target_of_local p c)
 target_of_local-in slots (Temp x) c s h = record { goes = stays slots c s; target = h }
@@ -143,10 +143,10 @@ target_of_local-in slots (Slot k) c s h =
 value_at-in : (slots n : ℕ) (k : Option Kind) (c : Code) (x : Lowered) → n ≤ 1 → Made slots c n x → Made slots c n (value_at k x)
 value_at-in slots n None c x l m = m
 value_at-in slots n (Some k) c x l m =
-    made_then m.goes (adds-in slots n (λ t. op.Load k t (temp_of x)) x.code m.goes.sound l (omega arith, omega (arith, m.reach)))
+    made_then m.goes (adds-in slots n (λ t. op.Load k t (temp_of x)) x.code m.goes.sound l ((omega (arith, m.reach), tt), omega arith, tt))
 
 pub global-in : (slots : ℕ) (g : List ℕ) (c : Code) → Sound slots c → Made slots c 1 (address_of_global g c)
-global-in slots g c s = adds-in slots 1 (λ t. op.AddrGlobal t g 0) c s (omega arith) (omega arith)
+global-in slots g c s = adds-in slots 1 (λ t. op.AddrGlobal t g 0) c s (omega arith) (tt, omega arith, tt)
 
 value_of_global-in : (slots : ℕ) (k : Option Kind) (g : List ℕ) (c : Code) → Sound slots c → Made slots c 1 (value_of_global k g c)
 value_of_global-in slots None g c s = global-in slots g c s
@@ -167,7 +167,7 @@ stored-in slots k target c x m h =
 
 pub copied-in : (slots : ℕ) (records : List RecordValue) (ty : CType) (to : ℕ) (c : Code) (x : Lowered) → Made slots c 1 x → to < c.temps → Made slots c 1 (copied records ty to x)
 copied-in slots records ty to c x m h =
-    let g = emits-in slots (op.Move to (temp_of x) (bytes_of records ty) (unit_of records ty)) x.code m.goes.sound (omega (arith, h, m.goes.temps), omega (arith, m.reach)) in
+    let g = emits-in slots (op.Move to (temp_of x) (bytes_of records ty) (unit_of records ty)) x.code m.goes.sound ((omega (arith, h, m.goes.temps), (omega (arith, m.reach), tt)), tt, tt) in
     record { goes = goes_then m.goes g; reach = omega (arith, h, m.goes.temps) }
 
 updated-in : (slots : ℕ) (records : List RecordValue) (o : BinaryOperator) (ty right : CType) (own : Kind) (target : Target) (old : ℕ) (c : Code) (x : Lowered)
@@ -284,7 +284,7 @@ and-in slots c x second m h =
     let yes = cut_here (Jump f.join) f.if_not d in
     let gy = turn-in slots f.join f.if_not d gd.sound (omega (arith, my.goes.blocks, gd.blocks)) in
     let told = says f.result 0 yes in
-    let gt = emits-in slots (op.Const f.result 0) yes gy.sound (omega (arith, my.goes.temps, gd.temps, gy.temps)) in
+    let gt = emits-in slots (op.Const f.result 0) yes gy.sound (tt, omega (arith, my.goes.temps, gd.temps, gy.temps), tt) in
     let ge = turn-in slots f.join f.join told gt.sound (omega (arith, my.goes.blocks, gd.blocks, gy.blocks, gt.blocks)) in
     record {
       goes = goes_then gf (goes_then my.goes (goes_then gd (goes_then gy (goes_then gt ge))));
@@ -301,7 +301,7 @@ or-in slots c x second m h =
     let f = fork 1 x in
     let gf = fork-in slots 1 c x m.goes (omega (arith, m.reach)) in
     let told = says f.result 1 f.code in
-    let gt = emits-in slots (op.Const f.result 1) f.code gf.sound (omega arith) in
+    let gt = emits-in slots (op.Const f.result 1) f.code gf.sound (tt, omega arith, tt) in
     let yes = cut_here (Jump f.join) f.if_not told in
     let gy = turn-in slots f.join f.if_not told gt.sound (omega (arith, gt.blocks)) in
     let my = h yes (goes_then gf (goes_then gt gy)) in
@@ -343,13 +343,13 @@ cond-in slots false c x first second m h i =
     let so = first f.code in
     let ms = h f.code gf in
     let given = gives f.result so in
-    let gg = emits-in slots (op.Copy f.result (temp_of so)) so.code ms.goes.sound (omega (arith, ms.goes.temps), omega (arith, ms.reach)) in
+    let gg = emits-in slots (op.Copy f.result (temp_of so)) so.code ms.goes.sound ((omega (arith, ms.reach), tt), omega (arith, ms.goes.temps), tt) in
     let yes = cut_here (Jump f.join) f.if_not given in
     let gy = turn-in slots f.join f.if_not given gg.sound (omega (arith, ms.goes.blocks, gg.blocks)) in
     let other = second yes in
     let mo = i yes (goes_then gf (goes_then ms.goes (goes_then gg gy))) in
     let told = gives f.result other in
-    let gt = emits-in slots (op.Copy f.result (temp_of other)) other.code mo.goes.sound (omega (arith, ms.goes.temps, gg.temps, gy.temps, mo.goes.temps), omega (arith, mo.reach)) in
+    let gt = emits-in slots (op.Copy f.result (temp_of other)) other.code mo.goes.sound ((omega (arith, mo.reach), tt), omega (arith, ms.goes.temps, gg.temps, gy.temps, mo.goes.temps), tt) in
     let ge = turn-in slots f.join f.join told gt.sound (omega (arith, ms.goes.blocks, gg.blocks, gy.blocks, mo.goes.blocks, gt.blocks)) in
     record {
       goes = goes_then gf (goes_then ms.goes (goes_then gg (goes_then gy (goes_then mo.goes (goes_then gt ge)))));
@@ -424,7 +424,7 @@ module _ (m : ModuleValue) (locals : List LocalValue) (h : Home) (slots : ℕ) w
     lower-in (Node t y (Str k)) c w f s = valued_of slots c _ (type_of y) (global-in slots (full_name h.name (Hidden k)) c s)
     lower-in (Node t y (Local k)) c w f s = valued_of slots c _ (type_of y) (value_of_local-in slots (kind_of (type_of y)) (place_at h.places k) c s (f k w.1.0 w.1.1))
     lower-in (Node t y (Global g)) c w f s = valued_of slots c _ (type_of y) (value_of_global-in slots (kind_of (type_of y)) (full_name h.name g) c s)
-    lower-in (Node t y (Function g)) c w f s = valued_of slots c _ (type_of y) (adds-in slots 1 (λ t. op.AddrFn t (full_name h.name g)) c s (omega arith) (omega arith))
+    lower-in (Node t y (Function g)) c w f s = valued_of slots c _ (type_of y) (adds-in slots 1 (λ t. op.AddrFn t (full_name h.name g)) c s (omega arith) (tt, omega arith, tt))
     lower-in (Node t y (Unary o a)) c w f s =
         let x = lower h a c in
         let n = valued slots c x (type_in a) (unary_worth o (type_in a) (type_of y) w.1.1) (lower-in a c w.1.0 f s) in
@@ -504,14 +504,14 @@ module _ (m : ModuleValue) (locals : List LocalValue) (h : Home) (slots : ℕ) w
     lower-in (Node t y (Call g args)) c w f s =
         let xs = arguments h args c in
         let ma = arguments-in args w.1.1 c w.1.5 f s in
-        made_then ma.goes (called-in slots (is_void (type_of y)) (λ r. op.Call r (full_name h.name g) xs.temps) xs.code ma.goes.sound (tt, ma.temps) (omega arith, below_more_all xs.code.temps (xs.code.temps + 1) xs.temps (omega arith) ma.temps))
+        made_then ma.goes (called-in slots (is_void (type_of y)) (λ r. op.Call r (full_name h.name g) xs.temps) xs.code ma.goes.sound (ma.temps, tt, tt) (below_more_all xs.code.temps (xs.code.temps + 1) xs.temps (omega arith) ma.temps, omega arith, tt))
     lower-in (Node t y (CallValue a args)) c w f s =
         let x = lower h a c in
         let mx = valued slots c x (type_in a) (ap worth w.1.1.4) (lower-in a c w.1.0 f s) in
         let xs = arguments h args x.code in
         let ma = arguments-in args w.1.1.1 x.code w.1.1.7 (fits_more h locals slots c.temps x.code.temps mx.goes.temps f) mx.goes.sound in
         made_then (goes_then mx.goes ma.goes) (called-in slots (is_void (type_of y)) (λ r. op.CallInd r (temp_of x) (shape_at h.records (type_at a)) xs.temps) xs.code ma.goes.sound
-        (tt, omega (arith, mx.reach, ma.goes.temps), ma.temps) (omega arith, omega (arith, mx.reach, ma.goes.temps), below_more_all xs.code.temps (xs.code.temps + 1) xs.temps (omega arith) ma.temps))
+        ((omega (arith, mx.reach, ma.goes.temps), ma.temps), tt, tt) ((omega (arith, mx.reach, ma.goes.temps), below_more_all xs.code.temps (xs.code.temps + 1) xs.temps (omega arith) ma.temps), omega arith, tt))
 
     pub place-in : (e : Expression) (c : Code) → IsTyped m locals e → IsModifiable m.records e → Fits h locals slots c.temps → Sound slots c → PlacedIn slots c (place h e c)
     place-in (Node t y (Local k)) c w g f s = target_of_local-in slots (place_at h.places k) c s (f k w.1.0 w.1.1)

@@ -127,9 +127,9 @@ parameters-in slots (local ∷ locals) (Slot q ∷ places) k zero c temps s h l 
 parameters-in slots (local ∷ locals) (Temp t ∷ places) k zero c temps s h l = stays slots c s
 parameters-in slots (local ∷ locals) (Slot q ∷ places) k (suc left) c temps s h l =
     let x = fresh (λ t. op.AddrSlot t q) c in
-    let mx = adds-in slots 1 (λ t. op.AddrSlot t q) c s (omega arith) (omega arith, h.0) in
+    let mx = adds-in slots 1 (λ t. op.AddrSlot t q) c s (omega arith) (tt, omega arith, (h.0, tt)) in
     let o = op.Store (scalar_kind (type_of local.ty)) (temp_of x) k in
-    let g = goes_then mx.goes (emits-in slots o x.code mx.goes.sound (omega (arith, mx.reach), omega (arith, l, mx.goes.temps))) in
+    let g = goes_then mx.goes (emits-in slots o x.code mx.goes.sound ((omega (arith, mx.reach), (omega (arith, l, mx.goes.temps), tt)), tt, tt)) in
     goes_then g (parameters-in slots locals places (k + 1) left (emit o x.code) temps g.sound h.1 (omega (arith, l, g.temps)))
 parameters-in slots (local ∷ locals) (Temp t ∷ places) k (suc left) c temps s h l = parameters-in slots locals places (k + 1) left c temps s h.1 (omega (arith, l))
 

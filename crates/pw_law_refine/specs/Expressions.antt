@@ -5,14 +5,14 @@ use Rattle.pw_value.specs.declared.value.Value.{Value}
 use Rattle.pw_value.specs.declared.value.Value.TheVariants as V
 use Rattle.pw_value.specs.declared.value.Pointer.TheVariants as P
 use Rattle.pw_types.specs.TypeTrees.{CType, Array, Function, Record}
-use Rattle.pw_types.specs.TypedTrees.{Expression, Node, Form, Local, Unary, Binary, Logic, Cond, Comma, Assign, Compound, Step, Cast, Decay, Member, Deref, Address, Call, CallValue, Expressions, NoExpression, OneExpression}
+use Rattle.pw_types.specs.TypedTrees.{Expression, Node, Form, Unary, Binary, Logic, Cond, Comma, Assign, Compound, Step, Cast, Decay, Member, Deref, Address, Call, CallValue, Expressions, NoExpression, OneExpression}
 use Rattle.pw_types.specs.WellTyped.{IsTyped, IsLvalue, IsScalar, type_in}
 use Rattle.pw_lower.specs.declared.code.Code.{Code}
 use Rattle.pw_lower.specs.declared.place.LocalPlace.TheVariants.{Temp}
 use Rattle.pw_lower.specs.declared.place.Target.{Target}
 use Rattle.pw_lower.specs.declared.place.Target.TheVariants.{Kept, Named, Led}
 use Rattle.pw_lower.specs.Codes.{Lowered}
-use Rattle.pw_lower.specs.Places.{addressed_in, addressed_in_all}
+use Rattle.pw_lower.specs.Places.{local_in, addressed_in, addressed_in_all}
 use Rattle.pw_lower.specs.Expressions.{lower, place, arguments}
 use Rattle.pw_lower.specs.Statements.{test}
 use Rattle.pw_cmean.specs.Acts.{State}
@@ -28,10 +28,6 @@ use Rattle.pw_law_refine.specs.Containing.{ContainsCode, IsAt, IsBehind}
 use Rattle.pw_law_refine.specs.Meeting.{Meets}
 
 -- ---- the locals that an expression assigns to
-
-abbrev pub local_in : Expression → List ℕ
-local_in (Node t ty (Local k)) = k ∷ []
-local_in _ = []
 
 abbrev mutual
   pub assigned_in : Expression → List ℕ

@@ -12,7 +12,7 @@ use Rattle.pw_lower.specs.declared.code.Code.{Code}
 use Rattle.pw_lower.specs.declared.place.Target.{Target}
 use Rattle.pw_lower.specs.declared.place.Target.TheVariants.{Kept, Named, Led}
 use Rattle.pw_lower.specs.Codes.{Lowered, temp_of, lowered_as}
-use Rattle.pw_lower.specs.Places.{addressed_in}
+use Rattle.pw_lower.specs.Places.{local_in, addressed_in}
 use Rattle.pw_lower.specs.Operators.{kind_of}
 use Rattle.pw_lower.specs.Expressions.{Placed, lower, place, is_record, write, stored, copied, scalar_kind}
 use Rattle.pw_cmean.specs.Acts.{State, Site, Act, give, ◌>>=◌, go_on}
@@ -25,7 +25,7 @@ use Rattle.pw_law_refine.specs.Standing.{Spot, Stands}
 use Rattle.pw_law_refine.specs.Activations.{Activation, Numbers, graph_of, home_of, env_of, HaveSlots}
 use Rattle.pw_law_refine.specs.Containing.{ContainsCode}
 use Rattle.pw_law_refine.specs.Meeting.{Meets}
-use Rattle.pw_law_refine.specs.Expressions.{local_in, assigned_in, IsReady, HasValue, HasResult, HasTarget, ResultStands, TargetStands, ExpressionKeeps}
+use Rattle.pw_law_refine.specs.Expressions.{assigned_in, IsReady, HasValue, HasResult, HasTarget, ResultStands, TargetStands, ExpressionKeeps}
 use Rattle.pw_law_refine_forms.specs.Accesses.{LvalueKeeps, IsLedSince, TargetsSuit}
 use Rattle.pw_law_refine_forms.proofs.Laws.{Laws}
 use Rattle.pw_law_refine_forms.proofs.Simulation.{meets-then, meets-here}

@@ -15,7 +15,7 @@ use Rattle.pw_types.specs.WellTyped.{IsTyped, HasForm, type_in}
 use Rattle.pw_flow.specs.declared.flow.Op.TheVariants as op
 use Rattle.pw_lower.specs.declared.code.Code.{Code}
 use Rattle.pw_lower.specs.Codes.{Lowered, temp_of, value_is, emit}
-use Rattle.pw_lower.specs.Places.{addressed_in}
+use Rattle.pw_lower.specs.Places.{local_in, addressed_in}
 use Rattle.pw_lower.specs.Operators.{bytes_of, unit_of}
 use Rattle.pw_lower.specs.Expressions.{lower, place, is_record, copied, stored, scalar_kind}
 use Rattle.pw_cmean.specs.declared.undefined.Undef.TheVariants as U
@@ -35,7 +35,7 @@ use Rattle.pw_law_refine.specs.Standing.{Spot, In, spot_of, Stands, MemoryStands
 use Rattle.pw_law_refine.specs.Activations.{Activation, IsActivation, Numbers, graph_of, home_of, env_of, HaveSlots}
 use Rattle.pw_law_refine.specs.Containing.{ContainsCode}
 use Rattle.pw_law_refine.specs.Meeting.{Meets}
-use Rattle.pw_law_refine.specs.Expressions.{local_in, assigned_in, IsReady, HasValue, HasResult, IsOfPlaces, ExpressionKeeps}
+use Rattle.pw_law_refine.specs.Expressions.{assigned_in, IsReady, HasValue, HasResult, IsOfPlaces, ExpressionKeeps}
 use Rattle.pw_law_refine_forms.specs.Accesses.{AddressKeeps}
 use Rattle.pw_law_refine_forms.proofs.Laws.{Laws}
 use Rattle.pw_law_refine_forms.proofs.Simulation.{meets-then, meets-here, judged}

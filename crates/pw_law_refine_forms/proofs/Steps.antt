@@ -18,7 +18,7 @@ use Rattle.pw_lower.specs.declared.code.Code.{Code}
 use Rattle.pw_lower.specs.declared.place.Target.{Target}
 use Rattle.pw_lower.specs.declared.place.Target.TheVariants.{Led}
 use Rattle.pw_lower.specs.Codes.{Lowered, temp_of, constant}
-use Rattle.pw_lower.specs.Places.{addressed_in}
+use Rattle.pw_lower.specs.Places.{local_in, addressed_in}
 use Rattle.pw_lower.specs.Operators as lowering
 use Rattle.pw_lower.specs.Operators.{kind_of_int, extension, sum_or, step_operator, is_behind}
 use Rattle.pw_lower.specs.Expressions.{lower, place, read_target, updated, step_value, scalar_kind}
@@ -38,7 +38,7 @@ use Rattle.pw_law_refine.specs.Standing.{Spot, Stands}
 use Rattle.pw_law_refine.specs.Activations.{Activation, IsActivation, Numbers, graph_of, home_of, env_of, place_in, local_temps, HaveSlots}
 use Rattle.pw_law_refine.specs.Containing.{ContainsCode}
 use Rattle.pw_law_refine.specs.Meeting.{Meets}
-use Rattle.pw_law_refine.specs.Expressions.{local_in, assigned_in, IsReady, HasValue, HasResult, HasTarget, TargetStands, ExpressionKeeps}
+use Rattle.pw_law_refine.specs.Expressions.{assigned_in, IsReady, HasValue, HasResult, HasTarget, TargetStands, ExpressionKeeps}
 use Rattle.pw_lower.specs.declared.place.LocalPlace.TheVariants.{Temp}
 use Rattle.pw_law_refine_forms.specs.Accesses.{SuitsType, Covers, LvalueKeeps, TargetsSuit}
 use Rattle.pw_law_refine_forms.proofs.Laws.{Laws}

@@ -13,7 +13,7 @@ use Rattle.pw_lower.specs.declared.place.Target.{Target}
 use Rattle.pw_lower.specs.declared.place.Target.TheVariants.{Kept, Named, Led}
 use Rattle.pw_lower.specs.Codes.{Lowered, lowered_as, temp_of}
 use Rattle.pw_lower.specs.Operators.{kind_of}
-use Rattle.pw_lower.specs.Places.{addressed_in}
+use Rattle.pw_lower.specs.Places.{local_in, addressed_in}
 use Rattle.pw_lower.specs.Expressions.{Placed, read_target, write, further, lower, place}
 use Rattle.pw_cmean.specs.Acts.{State, Site}
 use Rattle.pw_cmean.specs.Access.{Purpose, load, store}
@@ -27,7 +27,7 @@ use Rattle.pw_law_refine.specs.Standing.{Spot, Stands}
 use Rattle.pw_law_refine.specs.Activations.{Activation, IsActivation, Numbers, graphs, graph_of, home_of, env_of, place_in, local_temps, HaveSlots}
 use Rattle.pw_law_refine.specs.Containing.{ContainsCode}
 use Rattle.pw_law_refine.specs.Meeting.{Meets}
-use Rattle.pw_law_refine.specs.Expressions.{local_in, IsReady, HasValue, HasResult, HasTarget, ResultStands, TargetStands, IsOfPlaces}
+use Rattle.pw_law_refine.specs.Expressions.{IsReady, HasValue, HasResult, HasTarget, ResultStands, TargetStands, IsOfPlaces}
 
 -- A local that is a target has the type; a global that is one, where there is one of the name, has the type's kind.
 abbrev pub SuitsType : Activation → CType → Target → Type 0

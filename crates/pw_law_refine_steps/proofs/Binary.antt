@@ -19,7 +19,7 @@ use Rattle.pw_lower.specs.declared.code.Code.{Code}
 use Rattle.pw_lower.specs.Codes.{Lowered, temp_of, fresh}
 use Rattle.pw_lower.specs.Expressions.{lower}
 use Rattle.pw_lower.specs.Operators.{on_numbers, operation_of, is_turned, sum_or, combined}
-use Rattle.pw_lower.specs.Places.{addressed_in}
+use Rattle.pw_lower.specs.Places.{local_in, addressed_in}
 use Rattle.pw_cmean.specs.Acts.{State, Site, give, stop, wrong, undefined, ◌>>=◌, go_on}
 use Rattle.pw_cmean.specs.Operators.{outcome_of, arithmetic}
 use Rattle.pw_cmean.specs.Operators as source
@@ -34,7 +34,7 @@ use Rattle.pw_law_refine.specs.Standing.{Spot, Stands}
 use Rattle.pw_law_refine.specs.Activations.{Activation, Numbers, graphs, graph_of, home_of, env_of, local_temps, HaveSlots}
 use Rattle.pw_law_refine.specs.Containing.{ContainsCode}
 use Rattle.pw_law_refine.specs.Meeting.{Reaches, Meets}
-use Rattle.pw_law_refine.specs.Expressions.{local_in, assigned_in, assigned_in_all, IsReady, IsDone, HasValue, HasResult, ExpressionKeeps}
+use Rattle.pw_law_refine.specs.Expressions.{assigned_in, assigned_in_all, IsReady, IsDone, HasValue, HasResult, ExpressionKeeps}
 use Rattle.pw_law_refine_steps.specs.Operations.{operated}
 use Rattle.pw_law_refine_steps.proofs.Simulation.{meets-then, meets-less}
 use Rattle.pw_law_refine_steps.proofs.Lasting.{stands-later}

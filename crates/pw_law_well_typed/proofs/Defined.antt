@@ -1,12 +1,12 @@
 -- Objects that are defined with an initialiser: behind it the name stands for a complete type at file scope, and has the items.
 use Rattle.std.specs.Prelude.{ℕ, ◌≡◌, ◌⊎◌, Bool, true, false, Option, None, Some, is_some, option_map, option_and_then, unwrap_or, List, slice_get, refl}
-use Rattle.std.specs.Option.{option_map_or}
+use Rattle.std.specs.Option.{option_map_or, option_or}
 use Rattle.std.proofs.Common.{ap, sym, subst, ◌∙◌, inl, inr}
 use Rattle.pw_scope.specs.Visible.{visible}
 use Rattle.pw_types.specs.Layouts.{layout_of, array_layout}
 use Rattle.pw_types.specs.TypeTrees.{Void, Int, Pointer, Array, Function, Record, QType, Qualified, type_of, RecordValue}
 use Rattle.pw_types.specs.WellTyped.{IsComplete}
-use Rattle.pw_check_rules.specs.Compatible.{composite, known_length}
+use Rattle.pw_check_rules.specs.Compatible.{composite}
 use Rattle.pw_check_rules.specs.Kinds.{is_array, is_open_array}
 use Rattle.pw_check_rules.specs.Linkage.{note_here, type_here}
 use Rattle.pw_check_rules.specs.States.{State, LinkedName, TypeName, Linked, entity_at, entry_here, enter, put_entity, put_linked, put_at}
@@ -41,7 +41,7 @@ has_length r (Qualified (Pointer q) c v) e k = no e
 has_length r (Qualified (Function q ps) c v) e k = no e
 has_length r (Qualified (Record n) c v) e k = no e
 
-length_with : (a b : QType) → is_array (type_of a) ≡ true → is_array (type_of b) ≡ true → length_of (composite a b) ≡ known_length (length_of a) (length_of b)
+length_with : (a b : QType) → is_array (type_of a) ≡ true → is_array (type_of b) ≡ true → length_of (composite a b) ≡ option_or (length_of a) (length_of b)
 unfolding composite
 length_with (Qualified (Array p n) c v) (Qualified (Array q m) d w) e f = refl
 length_with (Qualified (Array p n) c v) (Qualified Void d w) e f = no f
@@ -66,7 +66,7 @@ layout_with r a b x lawful k = by (is_array (type_of b)) refl
     stems = first.sizes r ∙ sym (x.sizes r)
 
     length : (n : ℕ) (o : Option ℕ) → length_of a ≡ o → length_of b ≡ Some n → is_array (type_of b) ≡ true → length_of (composite a b) ≡ Some n
-    length n None e f z = length_with a b (sym x.array ∙ z) z ∙ (ap (λ o. known_length o (length_of b)) e ∙ f)
+    length n None e f z = length_with a b (sym x.array ∙ z) z ∙ (ap (λ o. option_or o (length_of b)) e ∙ f)
     length n (Some m) e f z = first.length m e ∙ (sym (x.length m e) ∙ f)
 
     by : (z : Bool) → is_array (type_of b) ≡ z → layout_of r (type_of (composite a b)) ≡ layout_of r (type_of b)

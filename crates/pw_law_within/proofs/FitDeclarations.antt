@@ -1,6 +1,6 @@
 -- Declarations leave the sizes and alignments of records lawful, and locals have types whose arrays have elements.
 use Rattle.std.specs.Prelude.{ℕ, zero, suc, ◌≡◌, ◌<◌, ◌+◌, ◌⊎◌, Bool, true, false, not, ◌||◌, Option, None, Some, is_some, option_and_then, List, [], ◌∷◌, ◌++◌, length, slice_get, if◌then◌else◌, refl, zip, ◌==◌}
-use Rattle.std.specs.Option.{option_map_or}
+use Rattle.std.specs.Option.{option_map_or, option_or}
 use Rattle.std.proofs.Common.{arith, sym, subst, ◌∙◌, inl, inr}
 use Rattle.pw_check_literals.specs.Characters.{characters_of_strings, string_bytes_of}
 use Rattle.pw_tree.specs.FirstTokens.{first_of_expr}
@@ -40,7 +40,7 @@ use Rattle.pw_law_well_typed.proofs.Adding.{specified_all}
 use Rattle.pw_law_well_typed.proofs.LabelLaws.{asked_post}
 use Rattle.pw_law_well_typed.proofs.Declarations.{Fits, sort_fits, init_declarator_goes, decl_goes}
 use Rattle.pw_check_rules.specs.Operands.{cast_to}
-use Rattle.pw_check_rules.specs.Compatible.{composite, composite_type, known_length}
+use Rattle.pw_check_rules.specs.Compatible.{composite, composite_type}
 use Rattle.pw_types.specs.TypedModules.{item_size}
 use Rattle.pw_types.specs.Layouts.{content_at}
 use Rattle.pw_types.specs.Conversions.{size_of_kind}
@@ -481,7 +481,7 @@ linked_held s name internal ty token tag h = by (linked_before s name) refl
     by None e = (record { contents = h.0.contents; names = h.0.names; members = h.0.members; items = λ i x g. more i x (get_more s.types.linked (linked_anew name internal ty token tag) i x g); objects = h.0.objects }, h.1)
     by (Some l) e = (linked_put s (place_for s name) (linked_again ty l) h.0 (h.0.items (place_for s name) l (place_is s name l e)), h.1)
 
-fit_known : (n m : Option ℕ) → HasElements n → HasElements m → HasElements (known_length n m)
+fit_known : (n m : Option ℕ) → HasElements n → HasElements m → HasElements (option_or n m)
 fit_known None m h k = k
 fit_known (Some n) m h k = h
 
@@ -493,7 +493,7 @@ mutual
 
   fit_composite_type : (a b : CType) → IsFit a → IsFit b → IsFit (composite_type a b)
   fit_composite_type (Array p n) (Array q m) h k =
-      let x = array_parts p n h in let y = array_parts q m k in fit_array (composite p q) (known_length n m) (fit_composite p q x.0 y.0) (fit_known n m x.1 y.1)
+      let x = array_parts p n h in let y = array_parts q m k in fit_array (composite p q) (option_or n m) (fit_composite p q x.0 y.0) (fit_known n m x.1 y.1)
   fit_composite_type (Array p n) Void h k = h
   fit_composite_type (Array p n) (Int i) h k = h
   fit_composite_type (Array p n) (Pointer q) h k = h

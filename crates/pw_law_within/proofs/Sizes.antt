@@ -233,7 +233,7 @@ many_composite _ _ = refl
 
 array_composite : (r : List RecordValue) (a b : CType) (c v d w : Bool) (n m : Option ℕ) → compatible_types a b ≡ true → IsComplete r a → IsComplete r b
     → passing (size_of r (Array (Qualified a c v) n)) ≡ None → passing (size_of r (Array (Qualified b d w) m)) ≡ None
-    → passing (size_of r (Array (Qualified (composite_type a b) c v) (Rattle.pw_check_rules.specs.Compatible.known_length n m))) ≡ None
+    → passing (size_of r (Array (Qualified (composite_type a b) c v) (option_or n m))) ≡ None
 array_composite r a b c v d w (Some n) m e h k x y = ap (λ o. passing (option_map (λ (l : Layout). l.size) (option_map (array_layout n) o))) (layout_composite r a b h r) ∙ x
 array_composite r a b c v d w None (Some m) e h k x y =
     ap (λ o. passing (option_map (λ (l : Layout). l.size) (option_map (array_layout m) o))) (layout_composite r a b h r ∙ layout_compatible r a b e h k r) ∙ y
@@ -249,7 +249,7 @@ mutual
       let same = (types_compatible a b c v d w (left (compatible (Qualified a c v) (Qualified b d w)) (lengths_agree n m) e)).0 in
       let f = either_none (oversize_of r a) (passing (size_of r (Array (Qualified a c v) n))) x in
       let g = either_none (oversize_of r b) (passing (size_of r (Array (Qualified b d w) m))) y in
-      both_none (oversize_of r (composite_type a b)) (passing (size_of r (Array (Qualified (composite_type a b) c v) (Rattle.pw_check_rules.specs.Compatible.known_length n m))))
+      both_none (oversize_of r (composite_type a b)) (passing (size_of r (Array (Qualified (composite_type a b) c v) (option_or n m))))
       (oversize_composite r a b h.0 k.0 same f.0 g.0) (array_composite r a b c v d w n m same h.1 k.1 f.1 g.1)
   oversize_composite r (Function (Qualified a c v) ps) (Function (Qualified b d w) qs) h k e x y =
       let same = (types_compatible a b c v d w (left (compatible (Qualified a c v) (Qualified b d w)) (compatible_parameters ps qs) e)).0 in

@@ -1,10 +1,11 @@
 -- Of two types one is wider: whatever is compatible with the other is compatible with it. Composites narrow (ISO C90 6.1.2.6).
 use Rattle.std.specs.Prelude.{ℕ, ◌≡◌, ◌==◌, Bool, true, false, ◌&&◌, Option, None, Some, refl}
+use Rattle.std.specs.Option.{option_or}
 use Rattle.std.proofs.Common.{ap, sym, subst, ◌∙◌}
 use Rattle.std.proofs.lemmas.Bool.{eqb-true, eq-eqb}
 use Rattle.pw_types.specs.TypeTrees.{CType, Void, Int, Pointer, Array, Function, Record, QType, Qualified, QTypes, NoType, OneType}
 use Rattle.pw_value.specs.ProgramNames.{same_truth}
-use Rattle.pw_check_rules.specs.Compatible.{compatible, compatible_types, compatible_parameters, compatible_plainly, lengths_agree, known_length, composite, composite_type, composite_parameters}
+use Rattle.pw_check_rules.specs.Compatible.{compatible, compatible_types, compatible_parameters, compatible_plainly, lengths_agree, composite, composite_type, composite_parameters}
 use Rattle.pw_law_well_typed.proofs.Types.{no, left, right, kinds_same}
 
 abbrev pub Wider : QType → QType → Type 0
@@ -19,15 +20,15 @@ both false b e f = no e
 
 -- ---- lengths
 
-first_length : (n m k : Option ℕ) → lengths_agree (known_length n m) k ≡ true → lengths_agree n k ≡ true
+first_length : (n m k : Option ℕ) → lengths_agree (option_or n m) k ≡ true → lengths_agree n k ≡ true
 first_length None m k e = refl
 first_length (Some n) m k e = e
 
-both_lengths : (n m k : Option ℕ) → lengths_agree n k ≡ true → lengths_agree m k ≡ true → lengths_agree (known_length n m) k ≡ true
+both_lengths : (n m k : Option ℕ) → lengths_agree n k ≡ true → lengths_agree m k ≡ true → lengths_agree (option_or n m) k ≡ true
 both_lengths None m k e f = f
 both_lengths (Some n) m k e f = e
 
-second_length : (n m k : Option ℕ) → lengths_agree n m ≡ true → lengths_agree (known_length n m) k ≡ true → lengths_agree m k ≡ true
+second_length : (n m k : Option ℕ) → lengths_agree n m ≡ true → lengths_agree (option_or n m) k ≡ true → lengths_agree m k ≡ true
 second_length None m k e f = f
 second_length (Some n) None k e f = refl
 second_length (Some n) (Some m) k e f = subst (λ i. lengths_agree (Some i) k ≡ true) (eqb-true n m e) f
@@ -46,7 +47,7 @@ mutual
   first_types : (a b t : CType) → compatible_types (composite_type a b) t ≡ true → compatible_types a t ≡ true
   first_types (Pointer a) (Pointer b) (Pointer t) e = first_wider a b t e
   first_types (Array a n) (Array b m) (Array t k) e =
-      both (compatible a t) (lengths_agree n k) (first_wider a b t (left (compatible (composite a b) t) (lengths_agree (known_length n m) k) e)) (first_length n m k (right (compatible (composite a b) t) (lengths_agree (known_length n m) k) e))
+      both (compatible a t) (lengths_agree n k) (first_wider a b t (left (compatible (composite a b) t) (lengths_agree (option_or n m) k) e)) (first_length n m k (right (compatible (composite a b) t) (lengths_agree (option_or n m) k) e))
   first_types (Function a ps) (Function b qs) (Function t rs) e =
       both (compatible a t) (compatible_parameters ps rs) (first_wider a b t (left (compatible (composite a b) t) (compatible_parameters (composite_parameters ps qs) rs) e))
       (first_all ps qs rs (right (compatible (composite a b) t) (compatible_parameters (composite_parameters ps qs) rs) e))
@@ -75,7 +76,7 @@ mutual
   both_types : (a b t : CType) → compatible_types a t ≡ true → compatible_types b t ≡ true → compatible_types (composite_type a b) t ≡ true
   both_types (Pointer a) (Pointer b) (Pointer t) e f = both_wider a b t e f
   both_types (Array a n) (Array b m) (Array t k) e f =
-      both (compatible (composite a b) t) (lengths_agree (known_length n m) k) (both_wider a b t (left (compatible a t) (lengths_agree n k) e) (left (compatible b t) (lengths_agree m k) f))
+      both (compatible (composite a b) t) (lengths_agree (option_or n m) k) (both_wider a b t (left (compatible a t) (lengths_agree n k) e) (left (compatible b t) (lengths_agree m k) f))
       (both_lengths n m k (right (compatible a t) (lengths_agree n k) e) (right (compatible b t) (lengths_agree m k) f))
   both_types (Function a ps) (Function b qs) (Function t rs) e f =
       both (compatible (composite a b) t) (compatible_parameters (composite_parameters ps qs) rs) (both_wider a b t (left (compatible a t) (compatible_parameters ps rs) e) (left (compatible b t) (compatible_parameters qs rs) f))
@@ -116,8 +117,8 @@ mutual
   second_types (Pointer a) (Pointer b) (Record k) h e = no e
   second_types (Array a n) (Array b m) (Array t k) h e =
       both (compatible b t) (lengths_agree m k)
-      (second_wider a b t (left (compatible a b) (lengths_agree n m) h) (left (compatible (composite a b) t) (lengths_agree (known_length n m) k) e))
-      (second_length n m k (right (compatible a b) (lengths_agree n m) h) (right (compatible (composite a b) t) (lengths_agree (known_length n m) k) e))
+      (second_wider a b t (left (compatible a b) (lengths_agree n m) h) (left (compatible (composite a b) t) (lengths_agree (option_or n m) k) e))
+      (second_length n m k (right (compatible a b) (lengths_agree n m) h) (right (compatible (composite a b) t) (lengths_agree (option_or n m) k) e))
   second_types (Array a n) (Array b m) Void h e = no e
   second_types (Array a n) (Array b m) (Int k) h e = no e
   second_types (Array a n) (Array b m) (Pointer t) h e = no e

@@ -7,8 +7,8 @@ use Rattle.pw_types.specs.TypeTrees.{QType}
 use Rattle.pw_types.specs.Views.{view_qtype}
 use Rattle.pw_typed.specs.declared.tree.TExpr.{TExpr}
 use Rattle.pw_typed.specs.Views.{view_expr, view_form}
-use Rattle.pw_lower.specs.Places.{has, addressed_in, addressed_in_all, addressed_in_option}
-use Rattle.pw_lower_places.specs.Marks.{marked_from, marked, addressed_beside, addressed_local, addressed_first}
+use Rattle.pw_lower.specs.Places.{has, local_in, addressed_in, addressed_in_all, addressed_in_option}
+use Rattle.pw_lower_places.specs.Marks.{marked_from, marked, addressed_beside, addressed_first}
 
 or-false : (b : Bool) → b || false ≡ b
 or-false true = refl
@@ -120,7 +120,7 @@ both a b ms = marked_both a b ms ∙ marked_swap a b ms
 addressed_is :
     (t : ℕ) (ty : QType) (a : Expression) (ms : List Bool)
     → marked (addressed_in (Node t ty (Address a))) ms
-    ≡ marked (addressed_first (Node t ty (Address a))) (marked (addressed_local a) ms)
+    ≡ marked (addressed_first (Node t ty (Address a))) (marked (local_in a) ms)
 addressed_is t ty (Node u own (Local k)) ms = beside (k ∷ []) ms
 addressed_is t ty (Node u own (Number n)) ms = alone [] ms
 addressed_is t ty (Node u own (Str k)) ms = alone [] ms

@@ -1,8 +1,8 @@
 -- The locals whose address is taken, as a mark for each local.
 use Rattle.std.specs.Prelude.{ℕ, ◌+◌, Bool, ◌||◌, List, [], ◌∷◌, ◌++◌}
 use Rattle.pw_types.specs.Spines.{first_of}
-use Rattle.pw_types.specs.TypedTrees.{Expression, Node, Form, Local, Address, Binary, Logic, Cond, Comma, Assign, Compound, Call, CallValue}
-use Rattle.pw_lower.specs.Places.{has, addressed_in, addressed_in_all, addressed_in_option}
+use Rattle.pw_types.specs.TypedTrees.{Expression, Form, Address, Binary, Logic, Cond, Comma, Assign, Compound, Call, CallValue}
+use Rattle.pw_lower.specs.Places.{has, local_in, addressed_in, addressed_in_all, addressed_in_option}
 
 abbrev pub marked_from : ℕ → List ℕ → List Bool → List Bool
 marked_from k locals [] = []
@@ -12,14 +12,9 @@ marked_from k locals (mark ∷ rest) = (mark || has k locals) ∷ marked_from (k
 abbrev pub marked : List ℕ → List Bool → List Bool
 marked locals marks = marked_from 0 locals marks
 
--- a local whose address is taken
-abbrev pub addressed_local : Expression → List ℕ
-addressed_local (Node t ty (Local k)) = k ∷ []
-addressed_local _ = []
-
 -- what a node adds to its first operand
 abbrev pub addressed_beside : Form → List ℕ
-addressed_beside (Address a) = addressed_local a
+addressed_beside (Address a) = local_in a
 addressed_beside (Binary o a b) = addressed_in b
 addressed_beside (Logic o a b) = addressed_in b
 addressed_beside (Cond a b c) = addressed_in b ++ addressed_in c

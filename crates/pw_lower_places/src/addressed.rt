@@ -3,7 +3,7 @@
 ghost use Rattle.std.specs.Prelude.{◌≡◌, [], ◌∷◌};
 ghost use Rattle.std.specs.List.{flat_map};
 ghost use Rattle.pw_lower.specs.Places as spec;
-ghost use Rattle.pw_lower_places.specs.Marks.{marked, addressed_local, addressed_beside};
+ghost use Rattle.pw_lower_places.specs.Marks.{marked, addressed_beside};
 ghost use Rattle.pw_typed.specs.Views.{view_expr, view_exprs, view_form, view_optional, view_initialiser, view_initialisers, view_stmt, view_stmts, view_arms, view_otherwise};
 
 use pw_typed::{Arm, Initialiser, TExpr, TForm, TStmt, TStmtForm, first_operand};
@@ -60,7 +60,7 @@ fn mark_node(e: &TExpr, marks: &mut [bool])
 /// Marks a local, where an expression is one.
 #[tactic(auto, unfolding(pw_typed::specs::Views::view_form), using(pw_typed::proofs::Rows::call_view, pw_typed::proofs::Rows::call_value_view, crate::proofs::MarkLaws::marked_none))]
 fn mark_if_local(e: &TExpr, marks: &mut [bool])
-    ensures { marks.new ≡ marked (addressed_local (view_expr e.now)) marks.old }
+    ensures { marks.new ≡ marked (spec.local_in (view_expr e.now)) marks.old }
 {
     match &e.form {
         TForm::Local(local) => mark(*local, marks),

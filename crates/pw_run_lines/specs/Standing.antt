@@ -1,6 +1,7 @@
 -- Where the global objects stand in words: in memory, in a register, or in the word of a frame in which the register
 -- was saved; and what words stand for values.
 use Rattle.std.specs.Prelude.{ℕ, suc, ◌≡◌, ◌+◌, ◌-◌, ◌*◌, ◌/◌, ◌%◌, ◌^◌, Option, Some, None, option_map, unwrap_or, List, [], ◌∷◌, map}
+use Rattle.std.specs.Option.{option_or}
 use Rattle.pw_value.specs.declared.value.Value.{Value}
 use Rattle.pw_value.specs.declared.value.Value.TheVariants.{Undefined, Num, Null, At, Piece}
 use Rattle.pw_value.specs.declared.value.Byte.{Byte}
@@ -34,17 +35,13 @@ abbrev pub without : Active → (ℕ → ℕ) → (ℕ → ℕ) → ℕ → ℕ
 without a memory registers =
     given_back memory (a.stack + a.function.frame - head_size a.function.body) 0 a.function.saved registers
 
-abbrev pub or_else : Option ℕ → Option ℕ → Option ℕ
-or_else (Some v) other = Some v
-or_else None other = other
-
 -- The latest active function that is in a web of the global finds it in the web's register, as that is when all
 -- functions called after it have given back what they saved. A global of which no active function is in a web
 -- stands in memory.
 abbrev pub held : List ℕ → (ℕ → ℕ) → (ℕ → ℕ) → List Active → Option ℕ
 held g memory registers [] = None
 held g memory registers (a ∷ callers) =
-    or_else (option_map registers (web_of a.function.body.directives.webs g)) (held g memory (without a memory registers) callers)
+    option_or (option_map registers (web_of a.function.body.directives.webs g)) (held g memory (without a memory registers) callers)
 
 abbrev pub standing : Option ℕ → List ℕ → Standing ℕ ℕ
 standing (Some word) bytes = InPlace word

@@ -4,6 +4,7 @@
 -- the global at its start, and stores it back at its end where the web writes.
 use Rattle.std.specs.Prelude.{ℕ, zero, suc, ◌+◌, ◌-◌, ◌%◌, ◌==◌, nat_lt, nat_le, ◌&&◌, ◌||◌, Bool, true, false, if◌then◌else◌, Option, Some, None, option_map, List, [], ◌∷◌, ◌++◌, map, find, length, replicate, slice_get, slice_set, slice_index_or, sum_by}
 use Rattle.std.specs.List.{flat_map, list_any}
+use Rattle.std.specs.Option.{option_or}
 use Rattle.std.specs.Str.{bytes_eq}
 use Rattle.pw_value.specs.declared.value.Kind.{Kind}
 use Rattle.pw_value.specs.declared.value.Value.{Value}
@@ -132,14 +133,10 @@ noted e m = record m { trace = e ∷ m.trace }
 -- The latest active function that is in a web of the global finds it in the web's register, as that is when all
 -- functions called after it have given back what they saved. A global of which no active function is in a web
 -- stands in memory.
-abbrev pub or_else : Option Value → Option Value → Option Value
-or_else (Some v) other = Some v
-or_else None other = other
-
 abbrev pub held : List ℕ → (ℕ → Value) → List Frame → Option Value
 held g registers [] = None
 held g registers (f ∷ callers) =
-    or_else (option_map registers (web_of f.function.body.directives.webs g)) (held g (with_registers f.saved registers) callers)
+    option_or (option_map registers (web_of f.function.body.directives.webs g)) (held g (with_registers f.saved registers) callers)
 
 abbrev pub standing : Option Value → Object → Standing Byte Value
 standing (Some v) object = InPlace v

@@ -1,86 +1,23 @@
 -- When places serve a function: no value is lost that is still needed. What is needed is said by paths over what is
 -- left of the code.
-use Rattle.std.specs.Prelude.{ℕ, ◌≡◌, ◌≢◌, ◌≤◌, ◌<◌, Option, Some, None, List, [], ◌∷◌, ◌++◌, length, slice_get, Contains, ◌↔◌}
+use Rattle.std.specs.Prelude.{ℕ, true, ◌≡◌, ◌≢◌, ◌≤◌, ◌<◌, Some, List, [], ◌∷◌, ◌++◌, length, slice_get, Contains, ◌↔◌}
 use Rattle.pw_db.specs.Limits.{first_register, last_register, last_temporary}
 use Rattle.pw_db.specs.Database.{EachTwo}
 use Rattle.pw_db.specs.declared.database.Role.{Role}
 use Rattle.pw_db.specs.declared.database.Web.{Web}
 use Rattle.pw_db.specs.declared.database.Role.TheVariants.{Entry}
-use Rattle.pw_flow.specs.declared.flow.Op.{Op}
-use Rattle.pw_flow.specs.declared.flow.Op.TheVariants as op
 use Rattle.pw_flow.specs.declared.flow.End.{End}
-use Rattle.pw_flow.specs.declared.flow.End.TheVariants.{Jump, Branch, Return}
+use Rattle.pw_flow.specs.Uses.{end_uses, successors}
 use Rattle.pw_webflow.specs.declared.web.WebOp.{WebOp}
-use Rattle.pw_webflow.specs.declared.web.WebOp.TheVariants.{Flow, Read, Write}
 use Rattle.pw_webflow.specs.declared.web.WebBlock.{WebBlock}
 use Rattle.pw_webflow.specs.declared.web.WebFn.{WebFn}
 use Rattle.pw_webflow.specs.ValidWebs.{HasRegister}
+use Rattle.pw_webflow.specs.WebOutline.{uses, defines, calls}
 use Rattle.pw_alloc.specs.declared.located.Place.{Place}
 use Rattle.pw_alloc.specs.declared.located.Place.TheVariants.{Slot, Reg}
 use Rattle.pw_alloc.specs.declared.located.Located.{Located}
 use Rattle.pw_alloc.specs.Allocation.{slots_from}
 use Rattle.pw_alloc.specs.Frames.{head_size, slots_begin, last_reach}
-
--- ---- uses and definitions
-
-abbrev pub op_uses : Op → List ℕ
-op_uses (op.Const t n) = []
-op_uses (op.Copy t a) = a ∷ []
-op_uses (op.Un k t a) = a ∷ []
-op_uses (op.Bin k t a b) = a ∷ b ∷ []
-op_uses (op.Ext k t a) = a ∷ []
-op_uses (op.AddrGlobal t g n) = []
-op_uses (op.AddrSlot t s) = []
-op_uses (op.AddrFn t f) = []
-op_uses (op.LoadG t g k) = []
-op_uses (op.StoreG g a k) = a ∷ []
-op_uses (op.Load k t a) = a ∷ []
-op_uses (op.Store k a b) = a ∷ b ∷ []
-op_uses (op.Move a b size unit) = a ∷ b ∷ []
-op_uses (op.Call t f args) = args
-op_uses (op.CallInd t a shape args) = a ∷ args
-
-abbrev pub op_defines : Op → Option ℕ
-op_defines (op.Const t n) = Some t
-op_defines (op.Copy t a) = Some t
-op_defines (op.Un k t a) = Some t
-op_defines (op.Bin k t a b) = Some t
-op_defines (op.Ext k t a) = Some t
-op_defines (op.AddrGlobal t g n) = Some t
-op_defines (op.AddrSlot t s) = Some t
-op_defines (op.AddrFn t f) = Some t
-op_defines (op.LoadG t g k) = Some t
-op_defines (op.StoreG g a k) = None
-op_defines (op.Load k t a) = Some t
-op_defines (op.Store k a b) = None
-op_defines (op.Move a b size unit) = None
-op_defines (op.Call t f args) = t
-op_defines (op.CallInd t a shape args) = t
-
-abbrev pub uses : WebOp → List ℕ
-uses (Flow o) = op_uses o
-uses (Read t r) = []
-uses (Write r a) = a ∷ []
-
-abbrev pub defines : WebOp → Option ℕ
-defines (Flow o) = op_defines o
-defines (Read t r) = Some t
-defines (Write r a) = None
-
-abbrev pub end_uses : End → List ℕ
-end_uses (Jump b) = []
-end_uses (Branch a b c) = a ∷ []
-end_uses (Return None) = []
-end_uses (Return (Some a)) = a ∷ []
-
-abbrev pub successors : End → List ℕ
-successors (Jump b) = b ∷ []
-successors (Branch a b c) = b ∷ c ∷ []
-successors (Return t) = []
-
-pub data IsCall : WebOp → Type 0 where
-  direct : (t : Option ℕ) (f : List ℕ) (args : List ℕ) → IsCall (Flow (op.Call t f args))
-  indirect : (t : Option ℕ) (a : ℕ) (shape : List ℕ) (args : List ℕ) → IsCall (Flow (op.CallInd t a shape args))
 
 -- ---- what is needed
 
@@ -115,7 +52,7 @@ pub record IsHeld (f : WebFn) (t : ℕ) : Type 0 where
   pub after : List WebOp
   pub end : End
   pub there : StandsIn f op after end
-  pub call : IsCall op
+  pub call : calls op ≡ true
   pub lives : Live f t after end
   pub other : defines op ≢ Some t
 
