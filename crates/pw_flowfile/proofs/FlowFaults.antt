@@ -105,5 +105,5 @@ fields_keep : (names : List (List ℕ)) (rule : FlowModule → ℕ → Option �
 unfolding fields_at
 fields_keep names rule = keeps_behind (parts_at names) _ _ (λ p. keeps_ended {X = Contents FlowModule} (rule p.0 p.1) (record { names = names; value = p.0 }))
 
-pub faults_stay : FaultsStay kind_of_file flow_version fields_at (λ bytes. value_of (flow_file_at bytes))
-faults_stay = files.faults_stay kind_of_file flow_version fields_at late_rules (contents_onward fields_at fields_onward) (contents_keep fields_at late_rules fields_keep)
+pub faults_stay : FaultsStay kind_of_file flow_version flow_version (λ version. fields_at) (λ bytes. value_of (flow_file_at bytes))
+faults_stay = files.faults_stay kind_of_file flow_version flow_version (λ version. fields_at) late_rules (λ version. contents_onward fields_at fields_onward) (λ version. contents_keep fields_at late_rules fields_keep)

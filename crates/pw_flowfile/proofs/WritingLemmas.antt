@@ -187,7 +187,7 @@ pub written : {E : Type 0} (names used : List (List ℕ)) (m : FlowModule) (payl
     → payload ≡ spelling (record { names = names; value = m }) → OnOk r (FitsFile payload) → IfOk r (λ v. v.items ≡ file kind_of_file flow_version payload) → IfOk r (λ v. IsFlowFile v.items m)
 written {E} names used m payload (Ok v) valid table same count made room sealed =
     let fits : FitsFile (spelling (record { names = names; value = m })) = subst FitsFile made room in
-    is_file {E = E} kind_of_file flow_version spelling (IsContents IsValid FitsModule names_of) (record { names = names; value = m }) payload (Ok v)
+    is_file {E = E} kind_of_file flow_version flow_version flow_version (λ version. spelling) (λ version. IsContents IsValid FitsModule names_of) (record { names = names; value = m }) payload (Ok v) (omega arith) (omega arith)
     (record { lawful = valid; fits = module_fits names m (omega (arith, fits)); name_count = count; names = subst (IsTableOf names) same table }) made room sealed
 written names used m payload (Err e) valid table same count made room sealed = tt
 

@@ -104,4 +104,4 @@ flow_version = 1
 
 -- the bytes are the file of the flow graph
 abbrev pub IsFlowFile : List ℕ → FlowModule → Type 0
-IsFlowFile = IsFileWith kind_of_file flow_version spelling (IsContents IsValid FitsModule names_of)
+IsFlowFile = IsFileWith kind_of_file flow_version flow_version (λ version. spelling) (λ version. IsContents IsValid FitsModule names_of)

@@ -158,4 +158,4 @@ abbrev pub late_rules : List (List ℕ) → ℕ → FlowModule → ℕ → Optio
 late_rules names behind m place = module_rules names (names_of m) behind (function_names m) (global_names m) place
 
 abbrev pub flow_file_at : List ℕ → Result (Contents FlowModule) ℕ
-flow_file_at = contents_file_at kind_of_file flow_version fields_at late_rules
+flow_file_at = contents_file_at kind_of_file flow_version flow_version (λ version. fields_at) late_rules

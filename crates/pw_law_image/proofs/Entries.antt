@@ -170,7 +170,7 @@ entry_fault_again bytes others o is lacks len same = let a = same_entry bytes ot
 
 -- ---- a fault from the count of words on
 
-has_entry : (bytes others : List ℕ) → OfPayload kind image_version HasEntry bytes → length others ≡ length bytes → take count_end others ≡ take count_end bytes → OfPayload kind image_version HasEntry others
+has_entry : (bytes others : List ℕ) → OfPayload kind image_version image_version HasEntry bytes → length others ≡ length bytes → take count_end others ≡ take count_end bytes → OfPayload kind image_version image_version HasEntry others
 has_entry bytes others holds len same o e = let a = same_entry others bytes o e (sym len) (sym same) in sym a.alike ∙ holds a.other a.opens
 
 shorter : (m n : ℕ) (one two : List ℕ) → m ≤ n → take n one ≡ take n two → take m one ≡ take m two
@@ -183,7 +183,7 @@ wide tail n (inr (inl four)) = (n, inr (inl four), omega arith, omega (arith, fo
 wide tail n (inr (inr (inl eight))) = (n, inr (inr (inl eight)), omega arith, omega (arith, eight))
 wide tail n (inr (inr (inr text))) = (n, inr (inr (inr text)), omega arith, omega (arith, text.0))
 
-stays_to : (bytes : List ℕ) (at : ℕ) → OfPayload kind image_version HasEntry bytes → (f : StaysFault (OfPayload kind image_version HasEntry) image_at bytes at)
+stays_to : (bytes : List ℕ) (at : ℕ) → OfPayload kind image_version image_version HasEntry bytes → (f : StaysFault (OfPayload kind image_version image_version HasEntry) image_at bytes at)
     → (m : ℕ) → IsFieldLength (drop at bytes) m → f.count ≤ m → count_end ≤ at + m → StaysFault Anything image_at bytes at
 stays_to bytes at holds f m field above far = record {
   count = m;
@@ -192,7 +192,7 @@ stays_to bytes at holds f m field above far = record {
       f.same others len (shorter (at + f.count) (at + m) others bytes (omega (arith, above)) same) (has_entry bytes others holds len (shorter count_end (at + m) others bytes far same));
 }
 
-pub stays_later : (bytes : List ℕ) (at : ℕ) → count_place ≤ at → OfPayload kind image_version HasEntry bytes → StaysFault (OfPayload kind image_version HasEntry) image_at bytes at → StaysFault Anything image_at bytes at
+pub stays_later : (bytes : List ℕ) (at : ℕ) → count_place ≤ at → OfPayload kind image_version image_version HasEntry bytes → StaysFault (OfPayload kind image_version image_version HasEntry) image_at bytes at → StaysFault Anything image_at bytes at
 stays_later bytes at late holds f =
     let w = wide (drop at bytes) f.count f.field in
     elim (cases_lt at count_end) [

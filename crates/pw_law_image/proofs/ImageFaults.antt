@@ -60,18 +60,18 @@ image_fault : (r : Result (Contents Image) ℕ) (at : ℕ) → value_of r ≡ Er
 image_fault (Ok c) at e = absurd cc
 image_fault (Err d) at e = cc
 
-still : (bytes : List ℕ) (at : ℕ) → StaysFault (OfPayload kind image_version HasEntry) image_file_at bytes at → StaysFault (OfPayload kind image_version HasEntry) image_at bytes at
+still : (bytes : List ℕ) (at : ℕ) → StaysFault (OfPayload kind image_version image_version HasEntry) image_file_at bytes at → StaysFault (OfPayload kind image_version image_version HasEntry) image_at bytes at
 still bytes at f = record { count = f.count; field = f.field; same = λ others len same holds. ap value_of (f.same others len same holds) }
 
 pub faults_stay : ImageFaultsStay
 unfolding image_file_at
 faults_stay = record {
-  within = λ bytes at e. lies_within kind image_version fields_at payload_at HasEntry fields_onward payload_keeps bytes at (image_fault (image_file_at bytes) at e);
+  within = λ bytes at e. lies_within kind image_version image_version (λ version. fields_at) (λ version. payload_at) HasEntry (λ version. fields_onward) (λ version. payload_keeps) bytes at (image_fault (image_file_at bytes) at e);
   stays = λ bytes at e holds.
-      let both = fault_stays kind image_version fields_at payload_at HasEntry fields_onward payload_keeps bytes at e holds in
+      let both = fault_stays kind image_version image_version (λ version. fields_at) (λ version. payload_at) HasEntry (λ version. fields_onward) (λ version. payload_keeps) bytes at e holds in
       (ap value_of both.0, still bytes at both.1);
   later = λ bytes at late e holds.
-      let both = fault_stays kind image_version fields_at payload_at HasEntry fields_onward payload_keeps bytes at e holds in
+      let both = fault_stays kind image_version image_version (λ version. fields_at) (λ version. payload_at) HasEntry (λ version. fields_onward) (λ version. payload_keeps) bytes at e holds in
       stays_later bytes at late holds (still bytes at both.1);
   entry = λ bytes lacks. (
     ap value_of (entry_fault bytes lacks.0 lacks.1 lacks.2),

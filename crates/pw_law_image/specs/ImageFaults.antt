@@ -44,9 +44,9 @@ count_end = count_place + 4
 -- entry is the address of a word. An entry that is none is the file's fault, and rests on the bytes up to the count's end.
 pub record ImageFaultsStay : Type 0 where
   pub within : (bytes : List ℕ) (at : ℕ) → image_at bytes ≡ Err at → at ≤ length bytes
-  pub stays : (bytes : List ℕ) (at : ℕ) → unsealed (λ version. fields_at) (opened_at kind image_version image_version bytes) ≡ Err at → OfPayload kind image_version HasEntry bytes
-      → (image_at bytes ≡ Err at) × StaysFault (OfPayload kind image_version HasEntry) image_at bytes at
-  pub later : (bytes : List ℕ) (at : ℕ) → count_place ≤ at → unsealed (λ version. fields_at) (opened_at kind image_version image_version bytes) ≡ Err at → OfPayload kind image_version HasEntry bytes
+  pub stays : (bytes : List ℕ) (at : ℕ) → unsealed (λ version. fields_at) (opened_at kind image_version image_version bytes) ≡ Err at → OfPayload kind image_version image_version HasEntry bytes
+      → (image_at bytes ≡ Err at) × StaysFault (OfPayload kind image_version image_version HasEntry) image_at bytes at
+  pub later : (bytes : List ℕ) (at : ℕ) → count_place ≤ at → unsealed (λ version. fields_at) (opened_at kind image_version image_version bytes) ≡ Err at → OfPayload kind image_version image_version HasEntry bytes
       → StaysFault Anything image_at bytes at
   pub entry : (bytes : List ℕ) → LacksEntry bytes
       → (image_at bytes ≡ Err entry_place) × ((others : List ℕ) → length others ≡ length bytes → take count_end others ≡ take count_end bytes → image_at others ≡ Err entry_place)

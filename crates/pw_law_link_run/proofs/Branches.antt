@@ -4,7 +4,8 @@ use Rattle.std.specs.Int.{cast_unsigned, w32}
 use Rattle.std.proofs.Common.{arith, subst, sym, ap, refl, ◌∙◌}
 use Rattle.pw_inst.specs.declared.Inst.TheVariants.{Combt, Combf, Bl, Bv, Ble}
 use Rattle.pw_machine.specs.Core.{Core, register, next, moved}
-use Rattle.pw_machine.specs.Effect.{Effect, Goes, condition, target, branches_if}
+use Rattle.pw_inst.specs.Computing.{condition}
+use Rattle.pw_machine.specs.Effect.{Effect, Goes, target, branches_if}
 use Rattle.pw_machine.specs.Effect as machine
 use Rattle.pw_run_lines.specs.Acts as lines
 use Rattle.pw_law_link_run.specs.Showing.{Shows, Leads}

@@ -7,6 +7,7 @@ use Rattle.std.proofs.Common.{arith, subst, sym, ap, refl, ◌∙◌, inl, inr}
 use Rattle.std.proofs.Math.Path.{fun_ext}
 use Rattle.pw_inst.specs.declared.Inst.{Inst}
 use Rattle.pw_inst.specs.declared.Inst.TheVariants.{Ldb, Ldh, Ldw, Stb, Sth, Stw}
+use Rattle.pw_inst.specs.Computing.{offset_by}
 use Rattle.pw_inst.specs.InstructionTable.{decoded}
 use Rattle.pw_flow.specs.declared.flow.FlowGlobal.{FlowGlobal}
 use Rattle.pw_machine.specs.Core.{Core, register, byte_at, word_at}
@@ -68,13 +69,13 @@ quiet_arrival x c core a n h e q =
 
 -- ---- accesses
 
-loaded_same : (i : Inst) (c d : lines.Core) → ((b : ℕ) (im : ℤ) → lines.address c b im ≡ lines.address d b im) → loaded_at i c ≡ loaded_at i d
+loaded_same : (i : Inst) (c d : lines.Core) → ((b : ℕ) (im : ℤ) → offset_by (lines.register c b) im ≡ offset_by (lines.register d b) im) → loaded_at i c ≡ loaded_at i d
 loaded_same (Ldb im b t) c d h = ap (λ a. Some (a, 1)) (h b im)
 loaded_same (Ldh im b t) c d h = ap (λ a. Some (a, 2)) (h b im)
 loaded_same (Ldw im b t) c d h = ap (λ a. Some (a, 4)) (h b im)
 loaded_same _ c d h = refl
 
-stored_same : (i : Inst) (c d : lines.Core) → ((b : ℕ) (im : ℤ) → lines.address c b im ≡ lines.address d b im) → stored_at i c ≡ stored_at i d
+stored_same : (i : Inst) (c d : lines.Core) → ((b : ℕ) (im : ℤ) → offset_by (lines.register c b) im ≡ offset_by (lines.register d b) im) → stored_at i c ≡ stored_at i d
 stored_same (Stb r im b) c d h = ap (λ a. Some (a, 1)) (h b im)
 stored_same (Sth r im b) c d h = ap (λ a. Some (a, 2)) (h b im)
 stored_same (Stw r im b) c d h = ap (λ a. Some (a, 4)) (h b im)
@@ -86,7 +87,7 @@ noted_by m loads stores g =
     (if is_eligible m g && touches loads (m.named g.name) g.size then Loaded g.name ∷ [] else [])
     ++ (if is_eligible m g && touches stores (m.named g.name) g.size then Stored g.name ∷ [] else [])
 
-same_accesses : (m : Map) (i : Inst) (c d : lines.Core) → ((b : ℕ) (im : ℤ) → lines.address c b im ≡ lines.address d b im)
+same_accesses : (m : Map) (i : Inst) (c d : lines.Core) → ((b : ℕ) (im : ℤ) → offset_by (lines.register c b) im ≡ offset_by (lines.register d b) im)
     → accesses_of m (Some i) c ≡ accesses_of m (Some i) d
 same_accesses m i c d h =
     ap (λ (o : Option (ℕ × ℕ)). flat_map (noted_by m o (stored_at i c)) (globals_of m.flow)) (loaded_same i c d h)
@@ -96,7 +97,7 @@ twice : (b : Bool) (v : ℕ) → (if b then 0 else (if b then 0 else v)) ≡ (if
 twice true v = refl
 twice false v = refl
 
-address_shown : (c : lines.Core) (core : Core) → Shows c core → (b : ℕ) (im : ℤ) → lines.address (core_of core) b im ≡ lines.address c b im
+address_shown : (c : lines.Core) (core : Core) → Shows c core → (b : ℕ) (im : ℤ) → offset_by (lines.register (core_of core) b) im ≡ offset_by (lines.register c b) im
 address_shown c core h b im =
     ap (λ (v : ℕ). (v + cast_unsigned w32 im) % 2 ^ 32)
     (ap (λ (v : ℕ). if b == 0 then 0 else v) (sym (h.registers b)))

@@ -6,7 +6,7 @@ use Rattle.pw_inst.specs.declared.Inst.{Inst}
 use Rattle.pw_inst.specs.declared.Inst.TheVariants.{Or, Combt, Combf, Bl, Bv, Ble}
 use Rattle.pw_inst.specs.InstructionTable.{IsInRange, nop}
 use Rattle.pw_machine.specs.Core.{Core}
-use Rattle.pw_machine.specs.Effect.{condition}
+use Rattle.pw_inst.specs.Computing.{condition}
 use Rattle.pw_machine.specs.Effect as machine
 use Rattle.pw_delay.specs.Placement.{in_slot}
 use Rattle.pw_run_lines.specs.Acts as lines

@@ -10,7 +10,8 @@ use Rattle.pw_inst.specs.declared.Inst.TheVariants.{Ldb, Ldh, Ldw, Ldo, Stb, Sth
 use Rattle.pw_inst.specs.InstructionTable.{decoded, IsInRange}
 use Rattle.pw_machine.specs.declared.ends.End.TheVariants.{StackStop}
 use Rattle.pw_machine.specs.Core.{Core, register, with_register, next, moved, advanced, byte_at, half_at, word_at, with_byte, with_half, with_word}
-use Rattle.pw_machine.specs.Effect.{Effect, Goes, Stops, condition, extracted, sign_extended, deposited, puts, access_fault, is_in_text, effect_of, effect_of_inst}
+use Rattle.pw_inst.specs.Computing.{condition, extracted, sign_extended, deposited, offset_by}
+use Rattle.pw_machine.specs.Effect.{Effect, Goes, Stops, puts, access_fault, is_in_text, effect_of, effect_of_inst}
 use Rattle.pw_machine.specs.Effect as machine
 use Rattle.pw_law_machine.specs.Lawful.{IsLawfulCore}
 use Rattle.pw_run_lines.specs.Addresses.{Addresses}
@@ -226,7 +227,7 @@ pub record Meets (w : Addresses) (c : lines.Core) (core : Core) : Type 0 where
   pub run : core.nullify ≡ false
 
 puts_so : (w : Addresses) (c : lines.Core) (core : Core) (t v u : ℕ) → Meets w c core → t < 32 → v ≡ u
-    → DoesSo core (puts core t u) (lines.gives t v c)
+    → DoesSo core (puts core t u) (Acts (lines.with_register t v c))
 puts_so w c core t v u m small e = puts_done c core t v u m.lawful small m.shows m.run e
 
 loads_byte : (w : Addresses) (c : lines.Core) (core : Core) (a b t : ℕ) → Meets w c core → t < 32 → a ≡ b
@@ -252,26 +253,26 @@ loads_word w c core a b t m small e =
 
 -- what is stored stands in the same register
 stores_byte : (w : Addresses) (c : lines.Core) (core : Core) (a b r : ℕ) → Meets w c core → a ≡ b
-    → DoesSo core (machine.stores core b 1 (with_byte core.memory b (register core r))) (lines.stores w 1 a r c)
+    → DoesSo core (machine.stores core b 1 (with_byte core.memory b (register core r))) (lines.stores w 1 a (lines.register c r) c)
 stores_byte w c core a b r m e =
-    subst (λ b. DoesSo core (machine.stores core b 1 (with_byte core.memory b (register core r))) (lines.stores w 1 a r c)) e
-    (subst (λ v. DoesSo core (machine.stores core a 1 (with_byte core.memory a v)) (lines.stores w 1 a r c)) (read c core m.shows r)
+    subst (λ b. DoesSo core (machine.stores core b 1 (with_byte core.memory b (register core r))) (lines.stores w 1 a (lines.register c r) c)) e
+    (subst (λ v. DoesSo core (machine.stores core a 1 (with_byte core.memory a v)) (lines.stores w 1 a (lines.register c r) c)) (read c core m.shows r)
     (stores_by w c core 1 a (with_number 1 (lines.register c r) a c.memory) (with_byte core.memory a (lines.register c r)) (is_open w a 1) refl m.starts m.lawful m.shows m.run
     (λ within. byte_put core.data_start c.memory core.memory a a (lines.register c r / 256 ^ 0 % 256) (lines.register c r) refl (omega (arith, within)) (omega arith) m.shows.memory)))
 
 stores_half : (w : Addresses) (c : lines.Core) (core : Core) (a b r : ℕ) → Meets w c core → a ≡ b
-    → DoesSo core (machine.stores core b 2 (with_half core.memory b (register core r))) (lines.stores w 2 a r c)
+    → DoesSo core (machine.stores core b 2 (with_half core.memory b (register core r))) (lines.stores w 2 a (lines.register c r) c)
 stores_half w c core a b r m e =
-    subst (λ b. DoesSo core (machine.stores core b 2 (with_half core.memory b (register core r))) (lines.stores w 2 a r c)) e
-    (subst (λ v. DoesSo core (machine.stores core a 2 (with_half core.memory a v)) (lines.stores w 2 a r c)) (read c core m.shows r)
+    subst (λ b. DoesSo core (machine.stores core b 2 (with_half core.memory b (register core r))) (lines.stores w 2 a (lines.register c r) c)) e
+    (subst (λ v. DoesSo core (machine.stores core a 2 (with_half core.memory a v)) (lines.stores w 2 a (lines.register c r) c)) (read c core m.shows r)
     (stores_by w c core 2 a (with_number 2 (lines.register c r) a c.memory) (with_half core.memory a (lines.register c r)) (is_open w a 2) refl m.starts m.lawful m.shows m.run
     (λ within. half_put core.data_start c.memory core.memory a (lines.register c r) within m.shows.memory)))
 
 stores_word : (w : Addresses) (c : lines.Core) (core : Core) (a b r : ℕ) → Meets w c core → a ≡ b
-    → DoesSo core (machine.stores core b 4 (with_word core.memory b (register core r))) (lines.stores w 4 a r c)
+    → DoesSo core (machine.stores core b 4 (with_word core.memory b (register core r))) (lines.stores w 4 a (lines.register c r) c)
 stores_word w c core a b r m e =
-    subst (λ b. DoesSo core (machine.stores core b 4 (with_word core.memory b (register core r))) (lines.stores w 4 a r c)) e
-    (subst (λ v. DoesSo core (machine.stores core a 4 (with_word core.memory a v)) (lines.stores w 4 a r c)) (read c core m.shows r)
+    subst (λ b. DoesSo core (machine.stores core b 4 (with_word core.memory b (register core r))) (lines.stores w 4 a (lines.register c r) c)) e
+    (subst (λ v. DoesSo core (machine.stores core a 4 (with_word core.memory a v)) (lines.stores w 4 a (lines.register c r) c)) (read c core m.shows r)
     (stores_by w c core 4 a (with_number 4 (lines.register c r) a c.memory) (with_word core.memory a (lines.register c r)) (is_open w a 4) refl m.starts m.lawful m.shows m.run
     (λ within. word_put core.data_start c.memory core.memory a (lines.register c r) within m.shows.memory)))
 
@@ -282,7 +283,7 @@ breaks_by core im5 im13 true e =
     (subst (λ k. machine.breaks core 0 k ≡ Stops StackStop) (sym (eqb-true im13 4 both.1)) refl)
 breaks_by core im5 im13 false e = tt
 
-address_same : (w : Addresses) (c : lines.Core) (core : Core) (b : ℕ) (im : ℤ) → Meets w c core → lines.address c b im ≡ machine.address core b im
+address_same : (w : Addresses) (c : lines.Core) (core : Core) (b : ℕ) (im : ℤ) → Meets w c core → offset_by (lines.register c b) im ≡ machine.address core b im
 address_same w c core b im m = ap (λ x. (x + cast_unsigned w32 im) % 2 ^ 32) (read c core m.shows b)
 
 -- by the registers that it reads
@@ -316,13 +317,13 @@ compares_shown c core k r s h =
 executed_so : (w : Addresses) (c : lines.Core) (core : Core) (i : Inst) → Meets w c core → IsInRange i
     → DoesSo core (machine.executed core i) (lines.executed w i c)
 unfolding IsInRange
-executed_so w c core (Ldb im b t) m k = loads_byte w c core (lines.address c b im) (machine.address core b im) t m k.2 (address_same w c core b im m)
-executed_so w c core (Ldh im b t) m k = loads_half w c core (lines.address c b im) (machine.address core b im) t m k.2 (address_same w c core b im m)
-executed_so w c core (Ldw im b t) m k = loads_word w c core (lines.address c b im) (machine.address core b im) t m k.2 (address_same w c core b im m)
-executed_so w c core (Ldo im b t) m k = puts_so w c core t (lines.address c b im) (machine.address core b im) m k.2 (address_same w c core b im m)
-executed_so w c core (Stb r im b) m k = stores_byte w c core (lines.address c b im) (machine.address core b im) r m (address_same w c core b im m)
-executed_so w c core (Sth r im b) m k = stores_half w c core (lines.address c b im) (machine.address core b im) r m (address_same w c core b im m)
-executed_so w c core (Stw r im b) m k = stores_word w c core (lines.address c b im) (machine.address core b im) r m (address_same w c core b im m)
+executed_so w c core (Ldb im b t) m k = loads_byte w c core (offset_by (lines.register c b) im) (machine.address core b im) t m k.2 (address_same w c core b im m)
+executed_so w c core (Ldh im b t) m k = loads_half w c core (offset_by (lines.register c b) im) (machine.address core b im) t m k.2 (address_same w c core b im m)
+executed_so w c core (Ldw im b t) m k = loads_word w c core (offset_by (lines.register c b) im) (machine.address core b im) t m k.2 (address_same w c core b im m)
+executed_so w c core (Ldo im b t) m k = puts_so w c core t (offset_by (lines.register c b) im) (machine.address core b im) m k.2 (address_same w c core b im m)
+executed_so w c core (Stb r im b) m k = stores_byte w c core (offset_by (lines.register c b) im) (machine.address core b im) r m (address_same w c core b im m)
+executed_so w c core (Sth r im b) m k = stores_half w c core (offset_by (lines.register c b) im) (machine.address core b im) r m (address_same w c core b im m)
+executed_so w c core (Stw r im b) m k = stores_word w c core (offset_by (lines.register c b) im) (machine.address core b im) r m (address_same w c core b im m)
 executed_so w c core (Ldil im t) m k = puts_so w c core t (im * 2048) (im * 2048) m k.1 refl
 executed_so w c core (And r1 r2 t) m k = puts_so w c core t _ _ m k.2 (two w c core (λ x y. bit_and x y) r1 r2 m)
 executed_so w c core (Or r1 r2 t) m k = puts_so w c core t _ _ m k.2 (two w c core (λ x y. bit_or x y) r1 r2 m)

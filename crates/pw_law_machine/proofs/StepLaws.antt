@@ -16,7 +16,8 @@ use Rattle.pw_machine.specs.declared.ends.Halt.{Halt}
 use Rattle.pw_machine.specs.declared.ends.Halt.TheVariants.{Unaligned, OutOfMemoryRange, TextWrite, BadBranch, BadBreak}
 use Rattle.pw_machine.specs.Core.{Core, register, with_register, next, moved, advanced, byte_at, half_at, word_at, with_byte, with_half, with_word}
 use Rattle.pw_value.specs.Words.{unsigned_difference}
-use Rattle.pw_machine.specs.Effect.{Effect, Goes, Reads, Writes, Stops, executed, effect_of, effect_of_inst, unless, puts, loads, stores, breaks, halts, address, access_fault, condition, extracted, sign_extended, deposited, is_in_text, target}
+use Rattle.pw_inst.specs.Computing.{condition, extracted, sign_extended, deposited}
+use Rattle.pw_machine.specs.Effect.{Effect, Goes, Reads, Writes, Stops, executed, effect_of, effect_of_inst, unless, puts, loads, stores, breaks, halts, address, access_fault, is_in_text, target}
 use Rattle.pw_machine.proofs.FieldSizes.{deposited_small}
 use Rattle.pw_law_machine.specs.Lawful.{AreBytes, AreRegistersLawful, IsLawfulCore, HasSameText}
 use Rattle.pw_law_machine.proofs.StoreLaws.{byte_size, half_size, word_size, byte_other, half_other, word_other}

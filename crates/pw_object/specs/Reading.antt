@@ -92,4 +92,4 @@ abbrev pub last_rules : List (List ℕ) → ℕ → Object → ℕ → Option �
 last_rules names behind o count = module_rules names (names_of o) behind (function_names o) (global_names o) count
 
 abbrev pub object_file_at : List ℕ → Result (Contents Object) ℕ
-object_file_at = contents_file_at kind_of_file object_version fields_at last_rules
+object_file_at = contents_file_at kind_of_file object_version object_version (λ version. fields_at) last_rules

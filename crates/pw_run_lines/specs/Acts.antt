@@ -1,16 +1,14 @@
--- What a word of a function does to registers and memory, as PA-RISC 1.1 has it. Branches stand apart.
-use Rattle.std.specs.Prelude.{ℕ, zero, suc, ℤ, pos, ◌+◌, ◌*◌, ◌/◌, ◌%◌, ◌^◌, ◌==◌, nat_le, ◌&&◌, not, Bool, false, if◌then◌else◌, bit_and, bit_or, bit_xor, Option, Some, None, List, [], ◌∷◌}
-use Rattle.std.specs.Int.{cast_unsigned, w32}
+-- What a word of a function does to registers and memory. Branches stand apart.
+use Rattle.std.specs.Prelude.{ℕ, zero, suc, pos, ◌+◌, ◌*◌, ◌/◌, ◌%◌, ◌^◌, ◌==◌, nat_le, ◌&&◌, Bool, false, if◌then◌else◌, Option, Some, None, List, [], ◌∷◌}
 use Rattle.pw_value.specs.Limits.{memory_size}
 use Rattle.pw_inst.specs.declared.Inst.{Inst}
-use Rattle.pw_inst.specs.declared.Inst.TheVariants.{Ldb, Ldh, Ldw, Ldo, Stb, Sth, Stw, Ldil, And, Or, Xor, Sub, Addl, Vshd, Mtctl, Comclr, Subi, Extru, Extrs, Zdep, Break}
+use Rattle.pw_inst.specs.declared.Inst.TheVariants.{Ldb, Ldh, Ldw, Ldo, Stb, Sth, Stw, Ldil}
 use Rattle.pw_inst.specs.Setting.{left_part, right_part}
 use Rattle.pw_inst.specs.declared.relocation.FixKind.{FixKind}
 use Rattle.pw_inst.specs.declared.relocation.FixKind.TheVariants as kind
 use Rattle.pw_inst.specs.declared.relocation.Symbol.{Symbol}
 use Rattle.pw_inst.specs.declared.relocation.Symbol.TheVariants as symbol
-use Rattle.pw_value.specs.Words.{unsigned_difference}
-use Rattle.pw_machine.specs.Effect.{condition, extracted, sign_extended, deposited}
+use Rattle.pw_inst.specs.Computing.{Action, Puts, Loads, Stores, Shifts, Clears, Asks, bytes_of_width, action}
 use Rattle.pw_delay.specs.declared.items.Relocation.{Relocation}
 use Rattle.pw_delay.specs.declared.items.Word.{Word}
 use Rattle.pw_run_lines.specs.Addresses.{Addresses}
@@ -85,9 +83,6 @@ pub data Act : Type 0 where
   Full : Act
   Fails : Act
 
-abbrev pub address : Core → ℕ → ℤ → ℕ
-address c b im = (register c b + cast_unsigned w32 im) % 2 ^ 32
-
 -- an access at a multiple of its size, between the start of the data and the end of the memory
 abbrev pub is_open : Addresses → ℕ → ℕ → Bool
 is_open w a size = (a % size == 0) && (nat_le w.data_start a && nat_le (a + size) memory_size)
@@ -96,37 +91,24 @@ abbrev pub loads : Addresses → ℕ → ℕ → ℕ → Core → Act
 loads w size a t c = if is_open w a size then Acts (with_register t (number_at size c.memory a) c) else Fails
 
 abbrev pub stores : Addresses → ℕ → ℕ → ℕ → Core → Act
-stores w size a r c =
-    if is_open w a size then Acts (record c { memory = with_number size (register c r) a c.memory }) else Fails
+stores w size a word c = if is_open w a size then Acts (record c { memory = with_number size word a c.memory }) else Fails
 
-abbrev pub gives : ℕ → ℕ → Core → Act
-gives t v c = Acts (with_register t v c)
+-- what an action does to them; branches stand apart, and BREAK 0,4 stops for want of stack
+abbrev pub act_of : Addresses → Action → Core → Act
+act_of w (Puts t word) c = Acts (with_register t word c)
+act_of w (Loads width a t) c = loads w (bytes_of_width width) a t c
+act_of w (Stores width a word) c = stores w (bytes_of_width width) a word c
+act_of w (Shifts n) c = Acts (record c { shift = n })
+act_of w (Clears t skips) c = Acts (record (with_register t 0 c) { skip = skips })
+act_of w (Asks im5 im13) c = if (im5 == 0) && (im13 == 4) then Full else Fails
+act_of w branch c = Fails
+
+-- what an instruction does, by what the registers read
+abbrev pub action_of : Inst → Core → Action
+action_of i c = action (λ r. register c r) c.shift i
 
 abbrev pub executed : Addresses → Inst → Core → Act
-executed w (Ldb im b t) c = loads w 1 (address c b im) t c
-executed w (Ldh im b t) c = loads w 2 (address c b im) t c
-executed w (Ldw im b t) c = loads w 4 (address c b im) t c
-executed w (Ldo im b t) c = gives t (address c b im) c
-executed w (Stb r im b) c = stores w 1 (address c b im) r c
-executed w (Sth r im b) c = stores w 2 (address c b im) r c
-executed w (Stw r im b) c = stores w 4 (address c b im) r c
-executed w (Ldil im t) c = gives t (im * 2048) c
-executed w (And r1 r2 t) c = gives t (bit_and (register c r1) (register c r2)) c
-executed w (Or r1 r2 t) c = gives t (bit_or (register c r1) (register c r2)) c
-executed w (Xor r1 r2 t) c = gives t (bit_xor (register c r1) (register c r2)) c
-executed w (Sub r1 r2 t) c = gives t (unsigned_difference (register c r1) (register c r2)) c
-executed w (Addl r1 r2 t) c = gives t ((register c r1 + register c r2) % 2 ^ 32) c
-executed w (Vshd r1 r2 t) c = gives t ((register c r1 * 2 ^ 32 + register c r2) / 2 ^ c.shift % 2 ^ 32) c
-executed w (Mtctl r) c = Acts (record c { shift = register c r % 32 })
-executed w (Comclr k f r1 r2 t) c =
-    let holds = condition k (register c r1) (register c r2) in
-    Acts (record (with_register t 0 c) { skip = if f then not holds else holds })
-executed w (Subi im r t) c = gives t (unsigned_difference (cast_unsigned w32 im) (register c r)) c
-executed w (Extru r p len t) c = gives t (extracted (register c r) p len) c
-executed w (Extrs r p len t) c = gives t (sign_extended len (extracted (register c r) p len)) c
-executed w (Zdep r p len t) c = gives t (deposited (register c r) p len) c
-executed w (Break im5 im13) c = if (im5 == 0) && (im13 == 4) then Full else Fails
-executed w i c = Fails
+executed w i c = act_of w (action_of i c) c
 
 -- a word that is passed over does nothing
 abbrev pub acts : Addresses → Option Inst → Core → Act
@@ -135,15 +117,18 @@ acts w (Some i) c = if c.skip then Acts (record c { skip = false }) else execute
 
 -- ---- accesses
 
--- what an instruction loads, or stores: the address and the number of bytes
+-- what an action loads, or stores: the address and the number of bytes
+abbrev pub load_of : Action → Option (ℕ × ℕ)
+load_of (Loads width a t) = Some (a, bytes_of_width width)
+load_of other = None
+
+abbrev pub store_of : Action → Option (ℕ × ℕ)
+store_of (Stores width a word) = Some (a, bytes_of_width width)
+store_of other = None
+
+-- what an instruction does
 abbrev pub loaded_at : Inst → Core → Option (ℕ × ℕ)
-loaded_at (Ldb im b t) c = Some (address c b im, 1)
-loaded_at (Ldh im b t) c = Some (address c b im, 2)
-loaded_at (Ldw im b t) c = Some (address c b im, 4)
-loaded_at i c = None
+loaded_at i c = load_of (action_of i c)
 
 abbrev pub stored_at : Inst → Core → Option (ℕ × ℕ)
-stored_at (Stb r im b) c = Some (address c b im, 1)
-stored_at (Sth r im b) c = Some (address c b im, 2)
-stored_at (Stw r im b) c = Some (address c b im, 4)
-stored_at i c = None
+stored_at i c = store_of (action_of i c)

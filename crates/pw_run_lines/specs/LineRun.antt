@@ -14,7 +14,7 @@ use Rattle.pw_flow.specs.declared.flow.Item.{Item as FlowItem}
 use Rattle.pw_flow.specs.declared.flow.Item.TheVariants.{Bytes, Address}
 use Rattle.pw_db.specs.Limits.{kept_registers}
 use Rattle.pw_alloc.specs.declared.located.Located.{Located}
-use Rattle.pw_machine.specs.Effect.{condition}
+use Rattle.pw_inst.specs.Computing.{condition}
 use Rattle.pw_delay.specs.declared.items.Word.{Word}
 use Rattle.pw_delay.specs.declared.items.Turn.{Turn}
 use Rattle.pw_delay.specs.declared.items.Item.{Item}
