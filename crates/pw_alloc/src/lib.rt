@@ -1,4 +1,4 @@
-//! Allocation: where the temporaries of a function stand, and its frame.
+//! Allocation: the places of a function's temporaries, the registers that it saves, and its frame.
 #![tactic(auto)]
 
 mod allocating;

@@ -1,4 +1,4 @@
-//! Registers for webs, and the database of directives that they give.
+//! The analyser: registers for webs, and the database of directives that they give.
 #![tactic(auto)]
 
 mod analysing;

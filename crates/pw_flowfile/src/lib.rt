@@ -1,4 +1,4 @@
-//! The flow file: a flow graph as bytes.
+//! The flow file: a flow graph as bytes, read and written.
 #![tactic(auto)]
 
 mod globals;

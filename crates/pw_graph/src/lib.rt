@@ -1,5 +1,5 @@
-//! The call graph of a program, made of its modules' summaries, and the globals that each function refers
-//! to, itself and through others.
+//! The analyser's call graph, made of the summaries of a program's modules, and what it means that a function refers to
+//! a global, itself and through calls.
 #![tactic(auto)]
 
 mod building;

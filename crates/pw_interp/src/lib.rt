@@ -1,5 +1,5 @@
-//! Runs of C programs by their meaning: each expression, statement and call as the definitions have it, within a bound.
-//! It nests as the program does, and serves shallow runs.
+//! The interpreter of C programs: each expression, statement and call as the definitions of the meaning have it, within
+//! a bound. It nests as the program does, and serves shallow runs.
 #![tactic(auto)]
 
 mod run;

@@ -1,4 +1,4 @@
-//! Programs and databases as text.
+//! The text of programs and databases, for the commands that show them.
 #![tactic(auto)]
 
 mod database;

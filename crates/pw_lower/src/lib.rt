@@ -1,5 +1,5 @@
-//! Lowering: the flow graph of a module's typed tree, as a plain function, and the steps by which code is
-//! made.
+//! Lowering in definitions, the flow graph of a module's typed tree as a plain function, and the steps of code by which
+//! a flow graph is made.
 #![tactic(auto)]
 
 pub mod code;

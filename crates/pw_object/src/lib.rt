@@ -1,4 +1,4 @@
-//! Object files: the functions of a module as words, with what a linker puts into them.
+//! The object file: the functions of a module as words, with the places that a linker fills, read and written.
 #![tactic(auto)]
 
 pub mod functions;

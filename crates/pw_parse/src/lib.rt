@@ -1,4 +1,5 @@
-//! The parser of C90 (ISO/IEC 9899:1990, 6.3 to 6.7).
+//! The parser of a module (ISO/IEC 9899:1990, 6.3 to 6.7): from its tokens to its syntax tree, or the token at which
+//! they leave the grammar.
 #![tactic(auto)]
 
 mod decl;

@@ -1,4 +1,4 @@
-//! The summary of a module, made from its flow graph.
+//! The maker of summaries: the summary of a module from its flow graph.
 #![tactic(auto)]
 
 pub mod laws;

@@ -1,5 +1,5 @@
-//! The worked examples of the whole program, and of the texts that its parts read and write: rows in, what is told out.
-//! `pw_tests_rows` says what each row does; commands are obeyed by the top call.
+//! A test of the whole program, and of the texts that its parts read and write: worked examples as rows, and what is
+//! told of each. `pw_tests_rows` says what each row does; commands are obeyed by the top call.
 #![tactic(auto)]
 
 use pw_io::{MemSink, MemSource, MemStore, Sink, Source, Store};

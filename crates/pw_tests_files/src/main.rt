@@ -1,4 +1,4 @@
-//! Tests of files and of what is made of them: rows in, what they hold or where they are faulty out.
+//! A test of files and of what is made of them: rows in, what they hold or where they are faulty out.
 //!
 //! A row is a word and what it takes. Bytes stand in hexadecimal, numbers in decimal. A row that is empty or begins
 //! with `#` is a heading and is printed as it is.

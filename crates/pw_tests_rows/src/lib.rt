@@ -1,5 +1,5 @@
-//! The rows of `pw_tests`: what each of them does to one store, and what is told of it. Whoever has `Rows` answer them says
-//! what obeys the commands among them (`Top`).
+//! A test's rows, in a library: what each row of the test of the whole program does to one store, and what is told of
+//! it. Whoever has `Rows` answer them says what obeys the commands among them (`Top`).
 //!
 //! A row that is empty or begins with `#` is a heading and is printed as it is; `##` begins a table, with an empty store
 //! and no input. Some rows put a text together, which a row below takes:

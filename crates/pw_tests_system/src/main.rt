@@ -1,11 +1,12 @@
-//! The system's files and streams, tried in a folder of the program's own: what each call answers, line by line.
+//! A test of the system's files and streams, tried in a folder of the program's own: what each call answers, line by
+//! line.
 #![tactic(auto)]
 
 mod failing;
 
 use failing::{Call, Failing, Fault};
 use pw_io::{Sink, Source, Store, StoreError};
-use pw_system::{CurrentFolder, FileStore, StdSink, StdSource};
+use pw_io_system::{CurrentFolder, FileStore, StdSink, StdSource};
 use std::fs;
 use std::io::{self, BufWriter, ErrorKind, Write};
 use std::os::unix::fs::symlink;

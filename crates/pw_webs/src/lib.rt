@@ -1,4 +1,4 @@
-//! Webs: the parts of a program in which a global may live in one register.
+//! The analyser's webs: the parts of a program in which a global may live in one register.
 #![tactic(auto)]
 
 mod finding;

@@ -1,2 +1,0 @@
-//! Agreement of a source run with the machine's run.
-#![tactic(auto)]

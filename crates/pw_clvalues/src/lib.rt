@@ -1,6 +1,0 @@
-//! Lvalues of C and assignments, as the interpreter evaluates them: one function for each form, which takes what
-//! evaluates the smaller expressions within it.
-#![tactic(auto)]
-
-pub mod assignments;
-pub mod places;

@@ -1,4 +1,0 @@
-//! Laws of the code that functions are made into, each the contract of a function that does nothing.
-#![tactic(auto)]
-
-pub mod laws;

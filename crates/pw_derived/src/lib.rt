@@ -1,8 +1,0 @@
-//! Declarators and lists of parameters (C90 6.5.4, 6.5.5).
-#![tactic(auto)]
-
-mod declarators;
-mod parameters;
-pub mod steps;
-
-pub use declarators::declarator_of;

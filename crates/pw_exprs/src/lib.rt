@@ -1,7 +1,0 @@
-//! The checker's code of expressions (ISO/IEC 9899:1990, 6.3, 6.4, 6.5.5).
-#![tactic(auto)]
-
-mod chains;
-mod expr;
-
-pub use expr::expr_of;

@@ -1,2 +1,0 @@
-//! The meaning of flow graphs: the run of a list of flow modules.
-#![tactic(auto)]

@@ -1,9 +1,0 @@
-//! Interfaces of object files: what a module as words shows to the others of its program.
-#![tactic(auto)]
-
-mod mains;
-mod names;
-mod objects;
-mod used;
-
-pub use objects::interfaces;

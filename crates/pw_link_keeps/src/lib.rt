@@ -1,4 +1,0 @@
-//! Towards the law of linking: the machine does at each item what the run of lines does.
-#![tactic(auto)]
-
-pub mod laws;

@@ -1,8 +1,0 @@
-//! Where the parameters and locals of a function stand: in temporaries, or in slots where their address is
-//! taken or their type or its qualifiers want it.
-#![tactic(auto)]
-
-pub mod addressed;
-pub mod places;
-
-pub use places::{places_of, slots_of, store_parameters, temps_of};

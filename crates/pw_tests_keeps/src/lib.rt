@@ -1,2 +1,0 @@
-//! A small program, on which what lowering promises is computed.
-#![tactic(auto)]
