@@ -5,10 +5,14 @@ ghost use Rattle.pw_law_direction.specs.Laws.{OperationsFollow, BlocksFollow, Re
 ghost use Rattle.pw_law_direction.specs.Laws.{PlacesStay, StandsAtCalls, EntriesAreAlone, StandsAtReturns, InsideFollows, RunsRestOnSteps};
 ghost use Rattle.pw_law_direction.specs.Laws.{SavesAtStarts, SameFunctions};
 
+use pw_law_directed::taken_functions_are_fine;
+
 /// Operations that neither load or store a global by its name nor call are the same in both runs.
 pub fn operations_follow()
     ensures { OperationsFollow }
-{}
+{
+    taken_functions_are_fine();
+}
 
 /// So are ends of blocks that do not return.
 pub fn blocks_follow()
@@ -53,7 +57,9 @@ pub fn library_follows()
 /// All that a function does by itself, without calls and returns, is the same in both runs.
 pub fn inside_follows()
     ensures { InsideFollows }
-{}
+{
+    taken_functions_are_fine();
+}
 
 /// Where the starts are alike and every step follows, the directed run does what the run of flow graphs does.
 pub fn runs_rest_on_steps()
