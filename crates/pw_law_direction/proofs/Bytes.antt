@@ -32,7 +32,7 @@ AreNumbers (b ∷ rest) = ⊥
 -- a load gives a value of the kind, of which these are the bytes
 pub record Loadable (k : Kind) (bytes : List Byte) : Type 0 where
   pub kind : is_of_kind k (scalar_of k bytes) ≡ true
-  pub bytes : bytes ≡ encoding (scalar_of k bytes) (kind_size k)
+  pub again : bytes ≡ encoding (scalar_of k bytes) (kind_size k)
 
 number-itself : (n : ℕ) → (n == n) ≡ true
 number-itself n = grind arith
@@ -76,7 +76,7 @@ of-number k bytes n is e =
     let back : scalar_of k (encoding (Num n) (kind_size k)) ≡ Num n = ap (λ (l : List Byte). scalar_of k l) (sym e) ∙ is in
     record {
       kind = subst (λ (v : Value). is_of_kind k v ≡ true) (sym is) (of-kind k n back);
-      bytes = e ∙ ap (λ (v : Value). encoding v (kind_size k)) (sym is);
+      again = e ∙ ap (λ (v : Value). encoding v (kind_size k)) (sym is);
     }
   where
     of-kind : (k : Kind) (n : ℕ) → scalar_of k (encoding (Num n) (kind_size k)) ≡ Num n → is_of_kind k (Num n) ≡ true
@@ -161,7 +161,7 @@ pieces-hold q = ap (λ (b : Bool). word_or_pointer Undefined (if nat_eq 0 0 && (
 pieces-loadable : (q : Pointer) → Loadable W32 (pieces_of q)
 pieces-loadable q = record {
   kind = subst (λ (v : Value). is_of_kind W32 v ≡ true) (sym (pieces-hold q)) (ap (λ (v : Value). may_stand W32 (At q) && same_value v (At q)) (pieces-hold q) ∙ pointer-itself q);
-  bytes = ap (λ (v : Value). encoding v 4) (sym (pieces-hold q));
+  again = ap (λ (v : Value). encoding v 4) (sym (pieces-hold q));
 }
 
 -- ---- the items of a scalar

@@ -101,24 +101,26 @@ kinds-same S16 = refl
 kinds-same U16 = refl
 kinds-same W32 = refl
 
+lost-by : (b : Bool) (y : FlowGlobal) (ys : List FlowGlobal) (x : FlowGlobal) (g : List ℕ) → named g y ≡ b → x.name ≡ g → Contains (y ∷ ys) x → (Contains ys x → find (named g) ys ≡ None → ⊥)
+    → cond b (Some y) (find (named g) ys) ≡ None → ⊥
+lost-by true y ys x g is name c later none = cc
+lost-by false y ys x g is name c later none = elim (Contains-append_cases (y ∷ []) ys x c) [
+  | inl first ↦ true≢false (sym ((bytes_eq-Decides y.name g).1 (ap (λ (z : FlowGlobal). z.name) (the-first y x first) ∙ name)) ∙ is)
+  | inr more ↦ later more none
+]
+
+-- a name that a global has is found
+lost : (xs : List FlowGlobal) (x : FlowGlobal) (g : List ℕ) → x.name ≡ g → Contains xs x → find (named g) xs ≡ None → ⊥
+lost [] x g name c none = nowhere x c
+lost (y ∷ ys) x g name c none = lost-by (named g y) y ys x g refl name c (lost ys x g name) none
+
 own-by-name : (p : Program) (g : List ℕ) (k : Kind) (found : Option FlowGlobal) → global_named p g ≡ found → IsProgram p → IsEligible p g k → own-by k found ≡ true
 own-by-name p g k (Some x) e lawful el =
     let r = found-there (named g) (globals_of p) x e in
     let same : x ≡ el.global = one-of-name (globals_of p) x el.global (distinct-right (names_of p) (map (λ g. g.name) (globals_of p)) lawful.names) r.0 el.there
     ((bytes_eq-Decides x.name g).0 r.1 ∙ sym el.name) in
     ap (λ (o : Option Kind). kind-is k o) (ap (λ (y : FlowGlobal). y.kind) same ∙ el.kind) ∙ kinds-same k
-own-by-name p g k None e lawful el = absurd (lost (globals_of p) el.there e)
-  where
-    lost : (xs : List FlowGlobal) → Contains xs el.global → find (named g) xs ≡ None → ⊥
-    lost [] c none = nowhere el.global c
-    lost (y ∷ ys) c none = by (named g y) refl none
-      where
-        by : (b : Bool) → named g y ≡ b → cond b (Some y) (find (named g) ys) ≡ None → ⊥
-        by true is no = cc
-        by false is no = elim (Contains-append_cases (y ∷ []) ys el.global c) [
-          | inl first ↦ true≢false (sym ((bytes_eq-Decides y.name g).1 (ap (λ (z : FlowGlobal). z.name) (the-first y el.global first) ∙ el.name)) ∙ is)
-          | inr later ↦ lost ys later no
-        ]
+own-by-name p g k None e lawful el = absurd (lost (globals_of p) el.global g el.name el.there e)
 
 pub own-kind-of : (p : Program) (g : List ℕ) (k : Kind) → IsProgram p → IsEligible p g k → is_own_kind p g k ≡ true
 own-kind-of p g k lawful el = own-by-name p g k (global_named p g) refl lawful el

@@ -92,13 +92,13 @@ store-one p d below objects memory registers w rest h s =
 
 skip-one : (p : Program) (d : List (List ℕ × Directives)) (below : List (List ℕ)) (objects memory : List Object) (w : Web) (rest : List Web) → w.writes ≡ false
     → Stores p d below objects (w ∷ rest) memory → Stores p d below objects rest memory
-skip-one p d below objects memory w rest no s = record {
+skip-one p d below objects memory w rest idle s = record {
   count = s.count;
   others = s.others;
   lives = s.lives;
   size = s.size;
   bytes = λ g k n there number not todo. s.bytes g k n there number not (λ u c writes global. elim (Contains-append_cases (w ∷ []) rest u c) [
-    | inl first ↦ true≢false (sym writes ∙ ap (λ (x : Web). x.writes) (sym (the-first w u first)) ∙ no)
+    | inl first ↦ true≢false (sym writes ∙ ap (λ (x : Web). x.writes) (sym (the-first w u first)) ∙ idle)
     | inr later ↦ todo u later writes global
   ]);
 }

@@ -80,7 +80,7 @@ name-eligible p g c = let r = map-back (λ (e : List ℕ × Kind). e.0) (eligibl
 
 -- ---- numbers of globals
 
-abbrev named : List ℕ → FlowGlobal → Bool
+abbrev pub named : List ℕ → FlowGlobal → Bool
 named g x = bytes_eq x.name g
 
 pub number-within : (p : Program) (d : FlowGlobal) (g : List ℕ) (n : ℕ) → global_number p g ≡ Some n → n < length (globals_of p)

@@ -143,7 +143,7 @@ kept-in d f g r e = let k = found (webs_of d f.function) g r e in record {
 -- ---- a web's register is written
 
 -- no function is both an entry and a member of a web, where it is called or is `$start`
-one-role : (g : Graph) (d : List (List ℕ × Directives)) → Sound g d → (w : Web) (f : Active) (fs : List Active) → Linked g (f ∷ fs)
+pub one-role : (g : Graph) (d : List (List ℕ × Directives)) → Sound g d → (w : Web) (f : Active) (fs : List Active) → Linked g (f ∷ fs)
     → Has d f.function.name w Entry → Has d f.function.name w Member → ⊥
 one-role g d s w f [] l entry member = s.start w (subst (λ (n : List ℕ). Has d n w Member) l member)
 one-role g d s w f (c ∷ fs) l entry member =

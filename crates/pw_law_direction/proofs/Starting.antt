@@ -137,7 +137,7 @@ start-stands p d g k n lawful c number =
         let bytes : with_items p x.items (replicate (kind_size k) (B.Num 0)) ≡ (object_of p x).bytes = ap (λ (n : ℕ). with_items p x.items (replicate n (B.Num 0))) (sym size) in
         let own = subst (Loadable k) bytes loadable in
         let long : length (object_of p x).bytes ≡ kind_size k = items-length p x.items (replicate x.size (B.Num 0)) ∙ length-replicate x.size (B.Num 0) ∙ size in
-        record { lives = refl; lives_too = refl; size = long; size_too = long; kind = own.kind; bytes = own.bytes; stands = tt; memory = λ not. refl }
+        record { lives = refl; lives_too = refl; size = long; size_too = long; kind = own.kind; bytes = own.again; stands = tt; memory = λ not. refl }
 
 start-alike : (p : Program) (d : List (List ℕ × Directives)) → TakenFunctionsAreFine → IsProgram p → ObjectsAlike p d [] (λ r. Undefined) (start_objects p) (start_objects p)
 start-alike p d fine lawful = record {

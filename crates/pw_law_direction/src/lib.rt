@@ -1,4 +1,4 @@
-//! Laws of direction, without code: the run under directives beside the run of flow graphs.
+//! The law of direction, without code: the run under directives beside the run of flow graphs.
 #![tactic(auto)]
 
 ghost use Rattle.pw_law_direction.specs.Laws.{OperationsFollow, BlocksFollow, ReadsFollow, WritesFollow, LoadsFollow, StoresFollow, LibraryFollows};
