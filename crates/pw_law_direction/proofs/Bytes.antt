@@ -206,13 +206,16 @@ items-fill p size free [] bytes small are ok h = (free, h)
 items-fill p size free (i ∷ items) bytes small are ok h =
     items-fill p size (i.0 + max 1 (item_size i.1)) items (with_bytes (item_bytes p i.1) i.0 bytes) small are.1 ok.1 (item-fills p size free i.0 i.1 bytes small are.0.0 are.0.1 ok.0 h)
 
+not-four : (n : ℕ) → n < 4 → n ≡ 4 → ⊥
+not-four n less e = omega (arith, less, e)
+
 filled-loadable : (k : Kind) (free : ℕ) (bytes : List Byte) → Filled (kind_size k) free bytes → Loadable k bytes
 filled-loadable k free bytes (inl h) = numbers-loadable k bytes h.0 h.1
 filled-loadable W32 free bytes (inr h) = subst (Loadable W32) (sym h.1) (pieces-loadable h.0)
-filled-loadable S8 free bytes (inr h) = let four : 1 ≡ 4 = h.2 in absurd cc
-filled-loadable U8 free bytes (inr h) = let four : 1 ≡ 4 = h.2 in absurd cc
-filled-loadable S16 free bytes (inr h) = let four : 2 ≡ 4 = h.2 in absurd cc
-filled-loadable U16 free bytes (inr h) = let four : 2 ≡ 4 = h.2 in absurd cc
+filled-loadable S8 free bytes (inr h) = absurd (not-four 1 (omega arith) h.2)
+filled-loadable U8 free bytes (inr h) = absurd (not-four 1 (omega arith) h.2)
+filled-loadable S16 free bytes (inr h) = absurd (not-four 2 (omega arith) h.2)
+filled-loadable U16 free bytes (inr h) = absurd (not-four 2 (omega arith) h.2)
 
 zeros : (n : ℕ) → AreNumbers (replicate n (B.Num 0))
 zeros zero = tt

@@ -49,6 +49,7 @@ place-is [] g rest h = ap (λ (b : Bool). cond (not b) (1 + position_or_len (nam
 place-is (x ∷ before) g rest h =
     ap (λ (b : Bool). cond (not b) (1 + position_or_len (named g.name) (before ++ g ∷ rest)) 0) (unequal (bytes_eq x.name g.name) x.name g.name refl (apart-from x before g rest h.0))
     ∙ ap (λ (n : ℕ). 1 + n) (place-is before g rest h.1)
+    ∙ (let e : 1 + length before ≡ suc (length before) = omega arith in e)
 
 number-is : (p : Program) (before : List FlowGlobal) (g : FlowGlobal) (rest : List FlowGlobal) → globals_of p ≡ before ++ g ∷ rest → AreDistinct (map (λ y. y.name) (globals_of p)) → global_number p g.name ≡ Some (length before)
 number-is p before g rest e h =
