@@ -1,5 +1,5 @@
 -- Calls of the program's own functions.
-use Rattle.std.proofs.Common.{◌≡◌, ◌+◌, ◌==◌, ℕ, inl, inr, Bool, true, false, if◌then◌else◌, Option, Some, None, List, [], ◌∷◌, map, length, replicate, refl, ap, sym, ◌∙◌, subst}
+use Rattle.std.proofs.Common.{◌≡◌, ◌+◌, ◌==◌, ℕ, Bool, true, false, if◌then◌else◌, Option, Some, None, List, [], ◌∷◌, map, length, replicate, refl, ap, sym, ◌∙◌, subst}
 use Rattle.std.specs.Prelude.{IfSome, nat_lt, option_map, slice_get, slice_index_or, Contains}
 use Rattle.std.specs.List.{AllByRecursion}
 use Rattle.std.specs.Str.{bytes_eq}
@@ -26,8 +26,8 @@ use Rattle.pw_webflow.specs.declared.web.WebBlock.{WebBlock}
 use Rattle.pw_webflow.specs.Direction.{register_of, directed, directed_op, directed_block}
 use Rattle.pw_alloc.specs.declared.located.Located.{Located}
 use Rattle.pw_alloc.specs.Allocation.{saved_of}
-use Rattle.pw_db_sound.specs.CallGraphs.{Graph, Calls}
-use Rattle.pw_db_sound.specs.Sound.{Has, In, Sound}
+use Rattle.pw_db_sound.specs.CallGraphs.{Calls}
+use Rattle.pw_db_sound.specs.Sound.{Has, Sound}
 use Rattle.pw_run.specs.Runs as run
 use Rattle.pw_run_trace.specs.Traces.{Event, Called, Refused, is_of_source, calls_alone}
 use Rattle.pw_run_flow.specs.Programs.{Program, Library, library_at, functions_of, block_at, global_number}
@@ -36,7 +36,7 @@ use Rattle.pw_run_flow.specs.Memory.{scalar_of}
 use Rattle.pw_run_flow.specs.Commands as command
 use Rattle.pw_run_flow.specs.FlowRun as flow
 use Rattle.pw_run_flow.specs.FlowRun.{get_global, with_slots, start_temps}
-use Rattle.pw_run_webs.specs.Programs.{IsProgram, graph_of, ops_of, eligible_of}
+use Rattle.pw_run_webs.specs.Programs.{IsProgram, graph_of, eligible_of}
 use Rattle.pw_run_webs.specs.PlacedRun as web
 use Rattle.pw_run_webs.specs.PlacedRun.{held}
 use Rattle.pw_run_webs.specs.Direction.{MomentAlike, directed_by, unplaced}
@@ -44,7 +44,7 @@ use Rattle.pw_law_directed.specs.Laws.{StartIsNotCalled}
 use Rattle.pw_law_direction.specs.Pairs.{Active, Pair, active_of, flow_side, web_side, webs_of, web_frames, under}
 use Rattle.pw_law_direction.specs.Alike.{FineValue, Linked, Saves, names_active, GlobalStands, ObjectsAlike, IsAlike, Follows}
 use Rattle.pw_law_direction.specs.Laws.{StepsFollow, AfterSaving, IsCall, CallsFollow}
-use Rattle.pw_law_direction.proofs.Elements.{nowhere, later-there, first-there, at-there, flat-there, map-there}
+use Rattle.pw_law_direction.proofs.Elements.{nowhere, later-there, first-there, at-there, flat-there}
 use Rattle.pw_law_direction.proofs.Names.{IsEligible, is-eligible}
 use Rattle.pw_law_direction.proofs.Globals.{kind-of, number-of-eligible, found-there}
 use Rattle.pw_law_direction.proofs.Registers.{names-saved, kept-in, one-role}
@@ -59,7 +59,7 @@ use Rattle.pw_law_direction.proofs.Callees.{same-functions}
 use Rattle.pw_law_direction.proofs.Standing.{globals-all-stand}
 use Rattle.pw_law_direction.proofs.Edges.{MayCall, call-allowed, source-name}
 use Rattle.pw_law_direction.proofs.Slots.{with-slots-alike, with-temps, parameters-set, temps-start, start-tame, behind-all}
-use Rattle.pw_law_direction.proofs.Entering.{entered-among, all-entered, entered-only, load-of-eligible, Loads, Entered, enters-on}
+use Rattle.pw_law_direction.proofs.Entering.{entered-among, all-entered, entered-only, load-of-eligible, Loads, enters-on}
 
 -- ---- where the globals stand at a call
 

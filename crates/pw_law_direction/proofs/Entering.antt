@@ -1,9 +1,9 @@
 -- The start of a function that enters webs: each of their globals is loaded to its register.
-use Rattle.std.proofs.Common.{◌≡◌, ◌≢◌, ◌≤◌, ◌<◌, ◌+◌, ◌==◌, ◌&&◌, ◌%◌, ℕ, zero, suc, inl, inr, Bool, true, false, true≢false, if◌then◌else◌, Option, Some, None, List, [], ◌∷◌, map, length, refl, ap, sym, ◌∙◌, subst, arith}
+use Rattle.std.proofs.Common.{◌≡◌, ◌≤◌, ◌<◌, ◌+◌, ◌==◌, ◌&&◌, ◌%◌, ℕ, zero, suc, inl, inr, Bool, true, false, true≢false, if◌then◌else◌, Option, Some, None, List, [], ◌∷◌, map, length, refl, ap, sym, ◌∙◌, subst, arith}
 use Rattle.std.specs.Prelude.{cond, find, nat_le, Contains}
 use Rattle.std.specs.List.{flat_map, range_with_len}
 use Rattle.std.specs.Str.{bytes_eq}
-use Rattle.std.proofs.lemmas.Bool.{cases_lt, cases_eq, eqb-true, eqb-false}
+use Rattle.std.proofs.lemmas.Bool.{cases_lt, cases_eq, eqb-false}
 use Rattle.std.proofs.lemmas.List.Elements.{Contains-append_cases}
 use Rattle.std.proofs.lemmas.Slice.Eq.{bytes_eq-Decides}
 use denote.Enum.Bare.{sameb}
@@ -13,7 +13,7 @@ use Rattle.pw_value.specs.declared.value.Kind.TheVariants.{S8, U8, S16, U16, W32
 use Rattle.pw_value.specs.declared.value.Value.{Value}
 use Rattle.pw_value.specs.declared.value.Byte.{Byte}
 use Rattle.pw_value.specs.Objects.{Object, object_at, bytes_from}
-use Rattle.pw_db.specs.Limits.{first_register, last_register, register_count, kept_registers}
+use Rattle.pw_db.specs.Limits.{first_register, register_count, kept_registers}
 use Rattle.pw_db.specs.declared.database.Web.{Web}
 use Rattle.pw_db.specs.declared.database.Role.{Role}
 use Rattle.pw_db.specs.declared.database.Role.TheVariants.{Entry, Member}
@@ -22,18 +22,16 @@ use Rattle.pw_db.specs.Database.{IsDatabase}
 use Rattle.pw_flow.specs.declared.flow.FlowFn.{FlowFn}
 use Rattle.pw_flow.specs.declared.flow.FlowGlobal.{FlowGlobal}
 use Rattle.pw_flow.specs.ValidFlow.{kind_size}
-use Rattle.pw_webflow.specs.Direction.{directed}
 use Rattle.pw_alloc.specs.Allocation.{is_entry}
 use Rattle.pw_db_sound.specs.CallGraphs.{Graph}
 use Rattle.pw_db_sound.specs.Sound.{Has, Sound}
 use Rattle.pw_run_trace.specs.Traces.{Event, Loaded, calls_alone}
 use Rattle.pw_run_flow.specs.Programs.{Program, globals_of, names_of, global_named, global_number}
-use Rattle.pw_run_flow.specs.Memory.{scalar_of, is_open, look_in}
+use Rattle.pw_run_flow.specs.Memory.{scalar_of}
 use Rattle.pw_run_flow.specs.FlowRun.{is_own_kind, get_global}
 use Rattle.pw_run_webs.specs.Programs.{IsProgram}
 use Rattle.pw_run_webs.specs.PlacedRun as web
 use Rattle.pw_run_webs.specs.PlacedRun.{with_register, is_eligible}
-use Rattle.pw_run_webs.specs.Direction.{directed_by, unplaced}
 use Rattle.pw_law_direction.specs.Pairs.{webs_of, under}
 use Rattle.pw_law_direction.proofs.Elements.{nowhere, first-there, later-there, the-first, flat-there, flat-back}
 use Rattle.pw_law_direction.proofs.Names.{IsEligible, named}

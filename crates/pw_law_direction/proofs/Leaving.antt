@@ -1,6 +1,6 @@
 -- The end of a function that enters webs: each of those that write is stored back, and its slots end.
-use Rattle.std.proofs.Common.{◌≡◌, ◌≢◌, ◌+◌, ◌-◌, ◌&&◌, ℕ, zero, suc, inl, inr, Bool, true, false, true≢false, if◌then◌else◌, Option, Some, None, List, [], ◌∷◌, map, length, refl, ap, sym, ◌∙◌, subst, arith, length-set}
-use Rattle.std.specs.Prelude.{slice_set, slice_index_or, Contains}
+use Rattle.std.proofs.Common.{◌≡◌, ◌≢◌, ◌+◌, ◌&&◌, ℕ, zero, suc, inl, inr, Bool, true, false, true≢false, if◌then◌else◌, Option, Some, None, List, [], ◌∷◌, length, refl, ap, sym, ◌∙◌, subst, arith, length-set}
+use Rattle.std.specs.Prelude.{slice_set, Contains}
 use Rattle.std.proofs.lemmas.Bool.{cases_lt, cases_eq}
 use Rattle.std.proofs.lemmas.Option.{same_Some}
 use Rattle.std.proofs.lemmas.List.{get_or-set_same, get_or-set_other, set_past}
@@ -15,15 +15,15 @@ use Rattle.pw_db.specs.declared.database.Directives.{Directives}
 use Rattle.pw_flow.specs.ValidFlow.{kind_size}
 use Rattle.pw_run_trace.specs.Traces.{Event, Stored, calls_alone}
 use Rattle.pw_run_flow.specs.Programs.{Program, global_number}
-use Rattle.pw_run_flow.specs.Memory.{scalar_of, is_of_kind, may_stand, same_value, is_open}
-use Rattle.pw_run_flow.specs.FlowRun.{is_own_kind, put_global, end_from}
+use Rattle.pw_run_flow.specs.Memory.{scalar_of, is_of_kind, may_stand, same_value}
+use Rattle.pw_run_flow.specs.FlowRun.{put_global, end_from}
 use Rattle.pw_run_webs.specs.Programs.{IsProgram, eligible_of}
 use Rattle.pw_run_webs.specs.PlacedRun as web
 use Rattle.pw_run_webs.specs.PlacedRun.{held, is_eligible}
 use Rattle.pw_law_direction.specs.Pairs.{Active, web_frames, under}
 use Rattle.pw_law_direction.specs.Alike.{IsPlain, AreTameBytes, names_active, IsWritten, GlobalStands, ObjectsAlike}
-use Rattle.pw_law_direction.proofs.Elements.{nowhere, first-there, later-there, the-first}
-use Rattle.pw_law_direction.proofs.Names.{IsEligible, is-eligible}
+use Rattle.pw_law_direction.proofs.Elements.{first-there, later-there, the-first}
+use Rattle.pw_law_direction.proofs.Names.{IsEligible}
 use Rattle.pw_law_direction.proofs.Memory.{with-new, is-written, is-other, count-left, eligible-name}
 use Rattle.pw_law_direction.proofs.WebWrites.{and-left, encoding-length, with-all, put-by}
 use Rattle.pw_law_direction.proofs.Bytes.{with-bytes-length}

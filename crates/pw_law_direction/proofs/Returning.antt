@@ -1,16 +1,11 @@
 -- Returns.
-use Rattle.std.proofs.Common.{◌≡◌, ◌+◌, ◌-◌, ℕ, inl, inr, Bool, true, false, if◌then◌else◌, Option, Some, None, List, [], ◌∷◌, map, length, refl, ap, sym, ◌∙◌, subst}
-use Rattle.std.specs.Prelude.{IfSome, option_map, slice_index_or, Contains}
-use Rattle.std.specs.List.{AllByRecursion}
-use Rattle.std.specs.Option.{option_or}
-use Rattle.std.proofs.lemmas.Bool.{cases_eq}
+use Rattle.std.proofs.Common.{◌≡◌, ◌-◌, ℕ, inl, inr, Bool, true, if◌then◌else◌, Option, Some, None, List, [], ◌∷◌, map, length, refl, ap, sym, ◌∙◌, subst}
+use Rattle.std.specs.Prelude.{IfSome, slice_index_or, Contains}
 use Rattle.std.proofs.lemmas.List.Elements.{Contains-append_cases}
-use Rattle.pw_value.specs.declared.value.Kind.{Kind}
 use Rattle.pw_value.specs.declared.value.Value.{Value}
 use Rattle.pw_value.specs.declared.value.Value.TheVariants.{Undefined}
 use Rattle.pw_value.specs.declared.value.Byte.{Byte}
 use Rattle.pw_value.specs.Objects.{Object, object_at}
-use Rattle.pw_value.specs.ProgramNames.{start_name}
 use Rattle.pw_db.specs.declared.database.Web.{Web}
 use Rattle.pw_db.specs.declared.database.Role.{Role}
 use Rattle.pw_db.specs.declared.database.Role.TheVariants.{Entry, Member}
@@ -24,19 +19,19 @@ use Rattle.pw_db_sound.specs.CallGraphs.{Calls}
 use Rattle.pw_db_sound.specs.Sound.{Has, In, Sound}
 use Rattle.pw_run.specs.Runs as run
 use Rattle.pw_run_trace.specs.Traces.{Event, Returned, is_of_source, calls_alone}
-use Rattle.pw_run_flow.specs.Programs.{Program, global_number}
+use Rattle.pw_run_flow.specs.Programs.{Program}
 use Rattle.pw_run_flow.specs.Memory.{scalar_of}
 use Rattle.pw_run_flow.specs.FlowRun as flow
 use Rattle.pw_run_flow.specs.FlowRun.{end_from}
-use Rattle.pw_run_webs.specs.Programs.{IsProgram, graph_of, eligible_of}
+use Rattle.pw_run_webs.specs.Programs.{IsProgram, graph_of}
 use Rattle.pw_run_webs.specs.PlacedRun as web
 use Rattle.pw_run_webs.specs.PlacedRun.{held, with_registers, without_scratch}
 use Rattle.pw_run_webs.specs.Direction.{MomentAlike}
 use Rattle.pw_law_directed.specs.Laws.{StartIsNotCalled}
-use Rattle.pw_law_direction.specs.Pairs.{Active, Pair, active_of, flow_frame, flow_side, web_side, webs_of, web_frame, web_frames, under}
-use Rattle.pw_law_direction.specs.Alike.{FineValue, IsActive, Linked, Saves, names_active, IsWritten, GlobalStands, ObjectsAlike, IsAlike, GoesBoth, Follows}
+use Rattle.pw_law_direction.specs.Pairs.{Active, Pair, flow_frame, flow_side, web_side, webs_of, web_frames, under}
+use Rattle.pw_law_direction.specs.Alike.{FineValue, Linked, Saves, names_active, IsWritten, ObjectsAlike, IsAlike, GoesBoth, Follows}
 use Rattle.pw_law_direction.specs.Laws.{StepsFollow, ReturnsFollow}
-use Rattle.pw_law_direction.proofs.Elements.{nowhere, first-there, later-there, the-first}
+use Rattle.pw_law_direction.proofs.Elements.{nowhere, first-there, the-first}
 use Rattle.pw_law_direction.proofs.Names.{is-eligible}
 use Rattle.pw_law_direction.proofs.Globals.{number-of-eligible}
 use Rattle.pw_law_direction.proofs.Registers.{kept-in, one-role}
@@ -50,7 +45,7 @@ use Rattle.pw_law_direction.proofs.Steps.{with-value, with-ops, value-alike}
 use Rattle.pw_law_direction.proofs.Standing.{globals-all-stand}
 use Rattle.pw_law_direction.proofs.Edges.{source-name}
 use Rattle.pw_law_direction.proofs.Entering.{entered-among, all-entered, entered-only}
-use Rattle.pw_law_direction.proofs.Leaving.{Holds, Stores, Left, leaves-on, end-alike}
+use Rattle.pw_law_direction.proofs.Leaving.{Holds, Stores, leaves-on, end-alike}
 
 -- ---- what the function that returns may have written
 

@@ -1,23 +1,23 @@
 -- The start of a function: its slots are new objects in both runs, and its temporaries are its arguments.
-use Rattle.std.proofs.Common.{◌≡◌, ◌<◌, ◌≤◌, ◌+◌, ◌-◌, ℕ, zero, suc, inl, inr, true, true≢false, Option, Some, None, List, [], ◌∷◌, ◌++◌, map, length, replicate, refl, ap, sym, ◌∙◌, subst, arith}
+use Rattle.std.proofs.Common.{◌≡◌, ◌<◌, ◌≤◌, ◌+◌, ◌-◌, ℕ, zero, suc, true, List, [], ◌∷◌, ◌++◌, length, replicate, refl, ap, sym, ◌∙◌, subst, arith}
 use Rattle.std.specs.Prelude.{slice_set, slice_index_or, Contains}
 use Rattle.std.specs.List.{AllByRecursion}
 use Rattle.pw_value.specs.declared.value.Kind.{Kind}
 use Rattle.pw_value.specs.declared.value.Value.{Value}
 use Rattle.pw_value.specs.declared.value.Value.TheVariants.{Undefined}
 use Rattle.pw_value.specs.declared.value.Byte.TheVariants as B
-use Rattle.pw_value.specs.Objects.{Object, no_object, object_at, byte_at, with_object}
+use Rattle.pw_value.specs.Objects.{Object, no_object, object_at, byte_at}
 use Rattle.pw_db.specs.declared.database.Directives.{Directives}
 use Rattle.pw_flow.specs.declared.flow.FlowFn.{FlowFn}
 use Rattle.pw_flow.specs.declared.flow.FlowModule.{FlowModule}
 use Rattle.pw_flow.specs.ValidFlow.{IsValid, IsFunction}
-use Rattle.pw_run_flow.specs.Programs.{Program, functions_of, global_number}
+use Rattle.pw_run_flow.specs.Programs.{Program, functions_of}
 use Rattle.pw_run_flow.specs.FlowRun.{with_slots, start_temps}
-use Rattle.pw_run_webs.specs.Programs.{IsProgram, eligible_of, eligible_names}
+use Rattle.pw_run_webs.specs.Programs.{IsProgram, eligible_of}
 use Rattle.pw_run_webs.specs.PlacedRun as web
 use Rattle.pw_run_webs.specs.PlacedRun.{held}
 use Rattle.pw_law_direction.specs.Pairs.{Active, Pair, web_side, web_frames}
-use Rattle.pw_law_direction.specs.Alike.{IsPlain, FineValue, FineByte, AreTame, AreTameBytes, names_active, GlobalStands, GlobalsStand, ObjectsAlike}
+use Rattle.pw_law_direction.specs.Alike.{IsPlain, FineValue, FineByte, AreTame, AreTameBytes, names_active, GlobalStands, ObjectsAlike}
 use Rattle.pw_law_direction.proofs.Elements.{map-back, flat-back}
 use Rattle.pw_law_direction.proofs.Globals.{all-hold}
 use Rattle.pw_law_direction.proofs.Memory.{is-within}

@@ -1,8 +1,7 @@
 -- Each global in its place has the value that it has in the flow run, as the calls and returns of both runs note it.
-use Rattle.std.proofs.Common.{◌≡◌, ◌≢◌, ◌<◌, ◌+◌, ℕ, suc, Bool, true, false, true≢false, if◌then◌else◌, Option, Some, None, List, [], ◌∷◌, ◌++◌, map, length, refl, ap, sym, ◌∙◌, subst, arith, inl, inr}
-use Rattle.std.specs.Prelude.{cond, not, IfSome, option_map, position, Contains}
+use Rattle.std.proofs.Common.{◌≡◌, ◌≢◌, ◌<◌, ◌+◌, ℕ, suc, Bool, true, false, true≢false, Option, Some, None, List, [], ◌∷◌, ◌++◌, map, length, refl, ap, sym, ◌∙◌, subst, arith, inl, inr}
+use Rattle.std.specs.Prelude.{cond, not, position, Contains}
 use Rattle.std.specs.List.{AllByRecursion, position_or_len}
-use Rattle.std.specs.Option.{option_or}
 use Rattle.std.specs.Str.{bytes_eq}
 use Rattle.std.proofs.lemmas.Bool.{lt-ltb}
 use Rattle.std.proofs.lemmas.List.Elements.{Contains-append_right, Contains-append_cases}
@@ -16,16 +15,15 @@ use Rattle.pw_db.specs.declared.database.Directives.{Directives}
 use Rattle.pw_db.specs.Database.{IsDatabase}
 use Rattle.pw_flow.specs.declared.flow.FlowGlobal.{FlowGlobal}
 use Rattle.pw_flow.specs.ValidFlow.{AreDistinct}
-use Rattle.pw_webflow.specs.Direction.{register_of, directed}
+use Rattle.pw_webflow.specs.Direction.{register_of}
 use Rattle.pw_db_sound.specs.Sound.{In, Sound}
 use Rattle.pw_run_flow.specs.Programs.{Program, globals_of, names_of, global_number}
-use Rattle.pw_run_flow.specs.Memory.{scalar_of}
 use Rattle.pw_run_webs.specs.Programs.{IsProgram, graph_of, has_name, eligible_of, eligible_names}
 use Rattle.pw_run_webs.specs.PlacedRun.{held, standing, standings, globals_now, with_registers}
 use Rattle.pw_run_webs.specs.Direction.{HoldsAs, StandsFor, AllStand}
 use Rattle.pw_law_direction.specs.Pairs.{Active, webs_of, web_frames, under}
 use Rattle.pw_law_direction.specs.Alike.{IsPlain, names_active, IsWritten, GlobalStands, ObjectsAlike}
-use Rattle.pw_law_direction.proofs.Elements.{nowhere, first-there, later-there, the-first, map-back}
+use Rattle.pw_law_direction.proofs.Elements.{nowhere, first-there, the-first, map-back}
 use Rattle.pw_law_direction.proofs.Names.{named, is-eligible, name-eligible, one-number, has-there, place-below}
 use Rattle.pw_law_direction.proofs.Globals.{distinct-right, one-of-name}
 use Rattle.pw_law_direction.proofs.Memory.{eligible-name}
@@ -113,8 +111,7 @@ all-from p d fs registers objects memory lawful is s a before [] e = tt
 all-from p d fs registers objects memory lawful is s a before (g ∷ gs) e =
     let there : Contains (globals_of p) g = subst (λ (l : List FlowGlobal). Contains l g) (sym e) (Contains-append_right before (g ∷ gs) g (first-there g gs)) in
     let number = number-is p before g gs e (distinct-right (names_of p) (map (λ y. y.name) (globals_of p)) lawful.names) in
-    let longer : length (before ++ g ∷ []) ≡ suc (length before) = lengthened before g in
-    (
+    let longer : length (before ++ g ∷ []) ≡ suc (length before) = lengthened before g in (
       one-stands p d fs registers objects memory lawful is s a g (length before) there number (has_name (eligible_names p) g.name) refl,
       subst (λ (n : ℕ). AllStand gs n objects (standings (map (λ g. g.name) gs) n registers (web_frames d fs) memory)) longer
           (all-from p d fs registers objects memory lawful is s a (before ++ g ∷ []) gs (e ∙ moved before g gs)),

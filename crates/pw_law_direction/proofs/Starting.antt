@@ -1,6 +1,6 @@
 -- The starts of both runs.
-use Rattle.std.proofs.Common.{◌≡◌, ◌<◌, ◌≤◌, ◌+◌, ◌-◌, ℕ, zero, suc, inl, inr, Bool, true, false, if◌then◌else◌, Option, Some, None, List, [], ◌∷◌, ◌++◌, map, length, replicate, refl, ap, sym, ◌∙◌, subst, arith}
-use Rattle.std.specs.Prelude.{IfSome, option_map, slice_get, slice_index_or, Contains}
+use Rattle.std.proofs.Common.{◌≡◌, ◌<◌, ◌+◌, ◌-◌, ℕ, zero, suc, inl, inr, Option, Some, None, List, [], ◌∷◌, ◌++◌, map, length, replicate, refl, ap, sym, ◌∙◌, subst, arith}
+use Rattle.std.specs.Prelude.{IfSome, option_map, slice_index_or, Contains}
 use Rattle.std.specs.List.{flat_map, AllByRecursion}
 use Rattle.std.specs.Str.{bytes_eq}
 use Rattle.std.proofs.lemmas.List.{length-map, length-replicate}
@@ -12,7 +12,7 @@ use Rattle.pw_value.specs.declared.value.Value.TheVariants.{Undefined}
 use Rattle.pw_value.specs.declared.value.Byte.{Byte}
 use Rattle.pw_value.specs.declared.value.Byte.TheVariants as B
 use Rattle.pw_value.specs.ProgramNames.{start_name}
-use Rattle.pw_value.specs.Objects.{Object, no_object, object_at, byte_at, with_bytes}
+use Rattle.pw_value.specs.Objects.{Object, object_at, byte_at, with_bytes}
 use Rattle.pw_db.specs.declared.database.Web.{Web}
 use Rattle.pw_db.specs.declared.database.Role.{Role}
 use Rattle.pw_db.specs.declared.database.Role.TheVariants.{Entry, Member}
@@ -24,14 +24,12 @@ use Rattle.pw_flow.specs.declared.flow.Item.TheVariants.{Bytes, Address}
 use Rattle.pw_flow.specs.declared.flow.FlowFn.{FlowFn}
 use Rattle.pw_flow.specs.declared.flow.FlowGlobal.{FlowGlobal}
 use Rattle.pw_flow.specs.declared.flow.FlowModule.{FlowModule}
-use Rattle.pw_flow.specs.declared.flow.Op.{Op}
 use Rattle.pw_flow.specs.FlowGraph.{item_names, names_in_global, names_in_function, named_in}
 use Rattle.pw_flow.specs.Addressed.{addressed}
 use Rattle.pw_flow.specs.ValidFlow.{IsValid, IsGlobal, kind_size, AreItems}
 use Rattle.pw_webflow.specs.declared.web.WebBlock.{WebBlock}
 use Rattle.pw_webflow.specs.Direction.{register_of, directed, directed_block}
 use Rattle.pw_alloc.specs.declared.located.Located.{Located}
-use Rattle.pw_alloc.specs.Allocation.{saved_of}
 use Rattle.pw_db_sound.specs.Sound.{Has, Sound}
 use Rattle.pw_run.specs.Runs as run
 use Rattle.pw_run_trace.specs.Traces.{Event, Called, calls_alone}
@@ -40,14 +38,14 @@ use Rattle.pw_run_flow.specs.Programs as programs
 use Rattle.pw_run_flow.specs.Memory.{scalar_of}
 use Rattle.pw_run_flow.specs.FlowRun as flow
 use Rattle.pw_run_flow.specs.FlowRun.{with_slots, start_temps}
-use Rattle.pw_run_webs.specs.Programs.{IsProgram, IsGlobalName, IsItem, graph_of, taken_names, ops_of, eligible_of}
+use Rattle.pw_run_webs.specs.Programs.{IsProgram, graph_of, taken_names, ops_of, eligible_of}
 use Rattle.pw_run_webs.specs.PlacedRun as web
 use Rattle.pw_run_webs.specs.PlacedRun.{held, with_registers}
 use Rattle.pw_run_webs.specs.Direction.{MomentAlike, directed_by, unplaced}
 use Rattle.pw_law_directed.specs.Values.{IsTaken}
 use Rattle.pw_law_directed.specs.Laws.{TakenFunctionsAreFine}
-use Rattle.pw_law_direction.specs.Pairs.{Active, Pair, flow_side, web_side, webs_of, web_frames, under}
-use Rattle.pw_law_direction.specs.Alike.{FinePointer, FineByte, AreTameBytes, names_active, GlobalStands, ObjectsAlike, IsAlike, Follows}
+use Rattle.pw_law_direction.specs.Pairs.{Active, Pair, flow_side, web_side, webs_of, under}
+use Rattle.pw_law_direction.specs.Alike.{FinePointer, FineByte, AreTameBytes, GlobalStands, ObjectsAlike, IsAlike, Follows}
 use Rattle.pw_law_direction.specs.Laws.{StartsFollow}
 use Rattle.pw_law_direction.proofs.Elements.{nowhere, first-there, later-there, at-there, flat-there, flat-back}
 use Rattle.pw_law_direction.proofs.Names.{has-there, is-eligible, number-within, number-name, number-leads, has-number, pointer-by, behind-globals}
@@ -57,7 +55,7 @@ use Rattle.pw_law_direction.proofs.Registers.{kept-in}
 use Rattle.pw_law_direction.proofs.Calls.{further}
 use Rattle.pw_law_direction.proofs.Callees.{same-functions}
 use Rattle.pw_law_direction.proofs.Slots.{with-slots-alike, start-tame}
-use Rattle.pw_law_direction.proofs.Entering.{entered-among, all-entered, entered-only, Loads, Entered, enters-on}
+use Rattle.pw_law_direction.proofs.Entering.{entered-among, all-entered, entered-only, Loads, enters-on}
 use Rattle.pw_law_direction.proofs.Bytes.{Loadable, start-loadable, items-length}
 use Rattle.pw_law_direction.proofs.Calling.{HaveLoaded, At, at-entry, callee, saving-of, may-load}
 
