@@ -1,5 +1,5 @@
 -- Steps that neither load or store a global by its name nor call or return.
-use Rattle.std.proofs.Common.{◌≡◌, ◌≤◌, ◌==◌, ◌+◌, ◌&&◌, ◌||◌, ℕ, zero, suc, Bool, true, false, if◌then◌else◌, Option, Some, None, List, [], ◌∷◌, length, refl, ap, sym, ◌∙◌, subst, arith}
+use Rattle.std.proofs.Common.{◌≡◌, ◌==◌, ◌+◌, ◌&&◌, ◌||◌, ℕ, zero, suc, Bool, true, false, if◌then◌else◌, Option, Some, None, List, [], ◌∷◌, refl, ap, sym, ◌∙◌, subst}
 use Rattle.std.specs.Prelude.{IfSome, slice_set, slice_get, slice_index_or, option_map, not, Contains}
 use Rattle.std.specs.List.{AllByRecursion}
 use Rattle.std.proofs.lemmas.Option.{slice_get-map}
@@ -23,7 +23,7 @@ use Rattle.pw_webflow.specs.declared.web.WebBlock.{WebBlock}
 use Rattle.pw_webflow.specs.declared.web.WebOp.{WebOp}
 use Rattle.pw_webflow.specs.declared.web.WebOp.TheVariants.{Flow}
 use Rattle.pw_webflow.specs.Direction.{directed, directed_op, directed_block}
-use Rattle.pw_run_flow.specs.Programs.{Program, globals_of}
+use Rattle.pw_run_flow.specs.Programs.{Program}
 use Rattle.pw_run_flow.specs.Values.{binary, is_somewhere}
 use Rattle.pw_run_flow.specs.Memory.{may_stand, is_open, is_apart, look, poke, copy}
 use Rattle.pw_run_flow.specs.Commands as command
@@ -35,7 +35,7 @@ use Rattle.pw_law_direction.specs.Pairs.{Active, Pair, active_of, flow_side, web
 use Rattle.pw_law_direction.specs.Alike.{FinePointer, FineValue, FineByte, IsActive, IsAlike, GoesBoth, Follows}
 use Rattle.pw_law_direction.specs.Laws.{OperationsFollow, BlocksFollow, LeavesGlobals, StepsFollow, StaysInside}
 use Rattle.pw_law_direction.proofs.Elements.{first-there, later-there, at-there, flat-there}
-use Rattle.pw_law_direction.proofs.Names.{global-leads, address-taken, behind-globals}
+use Rattle.pw_law_direction.proofs.Names.{global-leads, address-taken}
 use Rattle.pw_law_direction.proofs.Tame.{tame-not, unary-tame, extension-tame, binary-tame, bytes-from-tame, encoding-tame, set-tame}
 use Rattle.pw_law_direction.proofs.Memory.{open-alike, look-alike, look-tame, somewhere-alike, binary-alike, objects-written}
 
