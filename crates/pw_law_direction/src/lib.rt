@@ -9,8 +9,6 @@ ghost use Rattle.pw_run_webs.specs.Laws.{DirectionKeepsRuns};
 
 use pw_law_directed::{direction_rests_on_runs, start_is_not_called, taken_functions_are_fine};
 
-use pw_law_directed::taken_functions_are_fine;
-
 /// Operations that neither load or store a global by its name nor call are the same in both runs.
 pub fn operations_follow()
     ensures { OperationsFollow }
