@@ -1,5 +1,5 @@
 -- The bytes of a scalar global at the start: numbers, or the pieces of one pointer. What they hold is written as they stand.
-use Rattle.std.proofs.Common.{◌≡◌, ◌<◌, ◌≤◌, ◌+◌, ◌*◌, ◌/◌, ◌%◌, ◌==◌, ◌&&◌, ◌⊎◌, ℕ, zero, suc, inl, inr, Bool, true, false, if◌then◌else◌, List, [], ◌∷◌, map, length, refl, ap, ap₂, sym, ◌∙◌, subst, arith, length-set}
+use Rattle.std.proofs.Common.{◌≡◌, ◌<◌, ◌≤◌, ◌+◌, ◌*◌, ◌/◌, ◌%◌, ◌&&◌, ◌⊎◌, ℕ, zero, suc, inl, inr, Bool, true, false, if◌then◌else◌, List, [], ◌∷◌, map, length, refl, ap, ap₂, sym, ◌∙◌, subst, arith, length-set}
 use Rattle.std.specs.Prelude.{max, nat_eq, replicate, slice_set}
 use Rattle.std.specs.List.{AllByRecursion}
 use Rattle.std.proofs.lemmas.Bool.Decides.{nat_tests}
@@ -20,6 +20,7 @@ use Rattle.pw_flow.specs.ValidFlow.{kind_size, item_size, AreItems}
 use Rattle.pw_run_flow.specs.Programs.{Program, pointer_to, item_bytes, with_items}
 use Rattle.pw_run_flow.specs.Memory.{scalar_of, is_of_kind, may_stand, same_value, word_or_pointer}
 use Rattle.pw_run_webs.specs.Programs.{IsItem}
+use Rattle.pw_law_direction.proofs.Registers.{itself}
 use Rattle.pw_law_direction.proofs.WebWrites.{with-all}
 
 -- ---- what bytes hold, written again
@@ -33,9 +34,6 @@ AreNumbers (b ∷ rest) = ⊥
 pub record Loadable (k : Kind) (bytes : List Byte) : Type 0 where
   pub kind : is_of_kind k (scalar_of k bytes) ≡ true
   pub again : bytes ≡ encoding (scalar_of k bytes) (kind_size k)
-
-number-itself : (n : ℕ) → (n == n) ≡ true
-number-itself n = grind arith
 
 -- the low bytes of a number of one or two bytes, as a word, are the number again
 low-one : (sign : Bool) (n : ℕ) → n < 256 → extended 1 sign n % 256 ≡ n
@@ -80,11 +78,11 @@ of-number k bytes n is e =
     }
   where
     of-kind : (k : Kind) (n : ℕ) → scalar_of k (encoding (Num n) (kind_size k)) ≡ Num n → is_of_kind k (Num n) ≡ true
-    of-kind S8 n back = ap (λ (v : Value). may_stand S8 (Num n) && same_value v (Num n)) back ∙ number-itself n
-    of-kind U8 n back = ap (λ (v : Value). may_stand U8 (Num n) && same_value v (Num n)) back ∙ number-itself n
-    of-kind S16 n back = ap (λ (v : Value). may_stand S16 (Num n) && same_value v (Num n)) back ∙ number-itself n
-    of-kind U16 n back = ap (λ (v : Value). may_stand U16 (Num n) && same_value v (Num n)) back ∙ number-itself n
-    of-kind W32 n back = ap (λ (v : Value). may_stand W32 (Num n) && same_value v (Num n)) back ∙ number-itself n
+    of-kind S8 n back = ap (λ (v : Value). may_stand S8 (Num n) && same_value v (Num n)) back ∙ itself n
+    of-kind U8 n back = ap (λ (v : Value). may_stand U8 (Num n) && same_value v (Num n)) back ∙ itself n
+    of-kind S16 n back = ap (λ (v : Value). may_stand S16 (Num n) && same_value v (Num n)) back ∙ itself n
+    of-kind U16 n back = ap (λ (v : Value). may_stand U16 (Num n) && same_value v (Num n)) back ∙ itself n
+    of-kind W32 n back = ap (λ (v : Value). may_stand W32 (Num n) && same_value v (Num n)) back ∙ itself n
 
 one-byte : (k : Kind) (sign : Bool) (a : ℕ) → a < 256 → kind_size k ≡ 1 → scalar_of k (B.Num a ∷ []) ≡ Num (extended 1 sign (a * 1 + 0)) → Loadable k (B.Num a ∷ [])
 one-byte k sign a h one is =
@@ -152,8 +150,8 @@ numbers-loadable U16 bytes h e = of-two U16 false bytes h e refl (λ a b. refl)
 numbers-loadable W32 bytes h e = of-four bytes h e
 
 pointer-itself : (q : Pointer) → same_pointer q q ≡ true
-pointer-itself (P.Object o i) = ap₂ (λ (a b : Bool). a && b) (number-itself o) (number-itself i)
-pointer-itself (P.Function f) = number-itself f
+pointer-itself (P.Object o i) = ap₂ (λ (a b : Bool). a && b) (itself o) (itself i)
+pointer-itself (P.Function f) = itself f
 
 pieces-hold : (q : Pointer) → scalar_of W32 (pieces_of q) ≡ At q
 pieces-hold q = ap (λ (b : Bool). word_or_pointer Undefined (if nat_eq 0 0 && (b && nat_eq 1 1) && (b && nat_eq 2 2) && (b && nat_eq 3 3) then At q else Undefined)) (pointer-itself q)

@@ -3,7 +3,7 @@ use Rattle.std.proofs.Common.{◌≡◌, ◌≤◌, ◌<◌, ◌+◌, ◌==◌, 
 use Rattle.std.specs.Prelude.{cond, find, nat_le, Contains}
 use Rattle.std.specs.List.{flat_map, range_with_len}
 use Rattle.std.specs.Str.{bytes_eq}
-use Rattle.std.proofs.lemmas.Bool.{cases_lt, cases_eq, eqb-false}
+use Rattle.std.proofs.lemmas.Bool.{cases_lt, cases_eq}
 use Rattle.std.proofs.lemmas.List.Elements.{Contains-append_cases}
 use Rattle.std.proofs.lemmas.Slice.Eq.{bytes_eq-Decides}
 use denote.Enum.Bare.{sameb}
@@ -36,7 +36,7 @@ use Rattle.pw_law_direction.specs.Pairs.{webs_of, under}
 use Rattle.pw_law_direction.proofs.Elements.{nowhere, first-there, later-there, the-first, flat-there, flat-back}
 use Rattle.pw_law_direction.proofs.Names.{IsEligible, named}
 use Rattle.pw_law_direction.proofs.Globals.{bytes-whole, distinct-right, one-of-name, found-there, kind-is, own-by, get-by}
-use Rattle.pw_law_direction.proofs.Registers.{if-same, if-other, has-web}
+use Rattle.pw_law_direction.proofs.Registers.{itself, if-same, if-other, has-web}
 use Rattle.pw_law_direction.proofs.Webs.{web-there, one-web, is-web}
 
 -- ---- the webs that a function enters are those of which it is an entry
@@ -53,13 +53,6 @@ in-range a (suc n) x low high = elim (cases_lt a x) [
   | inl above ↦ later-there a x (range_with_len (a + 1) n) (in-range (a + 1) n x (omega (arith, above)) (omega (arith, high)))
   | inr same ↦ let e : a ≡ x = omega (arith, low, same) in subst (Contains (range_with_len a (suc n))) e (first-there a (range_with_len (a + 1) n))
 ]
-
-itself : (r : ℕ) → (r == r) ≡ true
-itself r = by (r == r) refl
-  where
-    by : (b : Bool) → (r == r) ≡ b → (r == r) ≡ true
-    by true e = e
-    by false e = absurd (eqb-false r r e refl)
 
 pub all-entered : (d : List (List ℕ × Directives)) (fn : FlowFn) (w : Web) → IsDatabase d → Has d fn.name w Entry → Contains (entered-among (webs_of d fn)) w
 all-entered d fn w is has =

@@ -27,8 +27,11 @@ use Rattle.pw_law_direction.proofs.Elements.{nowhere, first-there, later-there, 
 abbrev pub Agree : (ℕ → Value) → (ℕ → Value) → Type 0
 Agree a b = (q : ℕ) → a q ≡ b q
 
+pub itself : (n : ℕ) → (n == n) ≡ true
+itself n = grind arith
+
 pub if-same : (n : ℕ) (v w : Value) → (if n == n then v else w) ≡ v
-if-same n v w = let e : (n == n) ≡ true = grind arith in ap (λ (b : Bool). if b then v else w) e
+if-same n v w = ap (λ (b : Bool). if b then v else w) (itself n)
 
 pub if-other : (q r : ℕ) (v w : Value) → q ≢ r → (if q == r then v else w) ≡ w
 if-other q r v w ne = let e : (q == r) ≡ false = grind (arith, ne) in ap (λ (b : Bool). if b then v else w) e

@@ -240,15 +240,35 @@ abbrev flow-begins : Program → List (List ℕ × Directives) → List ℕ → 
 flow-begins p d input f None = flow.Astray
 flow-begins p d input f (Some b) = flow.On (flow_side (first p d f b (start_temps f []) nothing [] input))
 
-abbrev web-begins : Program → List (List ℕ × Directives) → List ℕ → FlowFn → Option WebBlock → web.Step
-web-begins p d input f None = web.Astray
-web-begins p d input f (Some b) = web.enters_webs (under p d) (entered-among (webs_of d f)) (record (web_side d (first p d f (record { depth = 0; ops = []; end = b.end }) (replicate f.temps Undefined) nothing (note-start p d ∷ []) input)) {
-  frame = record (web_side d (first p d f (record { depth = 0; ops = []; end = b.end }) (replicate f.temps Undefined) nothing (note-start p d ∷ []) input)).frame { ops = b.ops };
+-- the directed run at the first block of a function
+abbrev web-begins : web.PlacedProgram → List ℕ → Located → Option WebBlock → web.Step
+web-begins p input f None = web.Astray
+web-begins p input f (Some b) = web.enters_webs p (web.entered_webs f) (record {
+  frame = record {
+    function = f;
+    block = 0;
+    ops = b.ops;
+    end = b.end;
+    temps = replicate f.body.temps Undefined;
+    base = length (start_objects p.flow);
+    result = None;
+    saved = map (λ r. (r, Undefined)) f.saved;
+    before = web.kept nothing;
+  };
+  callers = [];
+  registers = nothing;
+  objects = with_slots f.body.slots (start_objects p.flow);
+  rest = input;
+  read = 0;
+  out = [];
+  events = 0;
+  trace = Called start_name (web.globals_now p nothing [] (start_objects p.flow)) (web.kept nothing) ∷ [];
 })
 
 block-follows : (p : Program) (d : List (List ℕ × Directives)) (fn : FlowFn) (found : Option Block) (input : List ℕ) → TakenFunctionsAreFine → IsProgram p → IsDatabase d → Sound (graph_of p) d
     → Contains (functions_of p) fn → fn.name ≡ start_name → block_at fn 0 ≡ found
-    → Follows p d (flow-begins p d input fn found) (web-begins p d input fn (option_map (directed_block (webs_of d fn)) found))
+    → Follows p d (flow-begins p d input fn found) (web-begins (under p d) input (unplaced (directed_by d fn)) (option_map (directed_block (webs_of d fn)) found))
+unfolding directed
 block-follows p d fn None input fine lawful is s there name block = tt
 block-follows p d fn (Some b) input fine lawful is s there name block = starting-follows p d fn b input fine lawful is s there name block
 
@@ -257,35 +277,8 @@ flow-starts p d input (Some f) = flow-begins p d input f (block_at f 0)
 flow-starts p d input None = flow.Astray
 
 abbrev web-starts : web.PlacedProgram → List ℕ → Option Located → web.Step
+web-starts p input (Some f) = web-begins p input f (web.first_block f)
 web-starts p input None = web.Astray
-web-starts p input (Some f) = at-block (web.first_block f)
-  where
-    objects : List Object
-    objects = start_objects p.flow
-
-    at-block : Option WebBlock → web.Step
-    at-block None = web.Astray
-    at-block (Some b) = web.enters_webs p (web.entered_webs f) (record {
-      frame = record {
-        function = f;
-        block = 0;
-        ops = b.ops;
-        end = b.end;
-        temps = replicate f.body.temps Undefined;
-        base = length objects;
-        result = None;
-        saved = map (λ r. (r, Undefined)) f.saved;
-        before = web.kept nothing;
-      };
-      callers = [];
-      registers = nothing;
-      objects = with_slots f.body.slots objects;
-      rest = input;
-      read = 0;
-      out = [];
-      events = 0;
-      trace = Called start_name (web.globals_now p nothing [] objects) (web.kept nothing) ∷ [];
-    })
 
 found-follows : (p : Program) (d : List (List ℕ × Directives)) (input : List ℕ) (found : Option FlowFn) → TakenFunctionsAreFine → IsProgram p → IsDatabase d → Sound (graph_of p) d → programs.function_named p start_name ≡ found
     → Follows p d (flow-starts p d input found) (web-starts (under p d) input (option_map (λ f. unplaced (directed_by d f)) found))
@@ -293,7 +286,7 @@ unfolding directed
 found-follows p d input None fine lawful is s e = tt
 found-follows p d input (Some fn) fine lawful is s e =
     let r = found-there (λ (h : FlowFn). bytes_eq h.name start_name) (functions_of p) fn e in
-    subst (λ (o : Option WebBlock). Follows p d (flow-begins p d input fn (block_at fn 0)) (web-begins p d input fn o)) (sym ((same-functions p d).block fn 0))
+    subst (λ (o : Option WebBlock). Follows p d (flow-begins p d input fn (block_at fn 0)) (web-begins (under p d) input (unplaced (directed_by d fn)) o)) (sym ((same-functions p d).block fn 0))
     (block-follows p d fn (block_at fn 0) input fine lawful is s r.0 ((bytes_eq-Decides fn.name start_name).0 r.1) refl)
 
 pub starts-follow : TakenFunctionsAreFine → StartsFollow
