@@ -1,5 +1,5 @@
 -- What follows from the equation of runs: the law of places for the first form, and that these places serve.
-use Rattle.std.proofs.Common.{◌≡◌, ◌≤◌, ℕ, Bool, true, false, if◌then◌else◌, List, [], ◌∷◌, map, length, refl, arith, inl, inr}
+use Rattle.std.proofs.Common.{◌≡◌, ℕ, Bool, true, false, if◌then◌else◌, List, [], ◌∷◌, map, length, refl, arith, inl, inr}
 use Rattle.std.specs.List.{AllByRecursion}
 use Rattle.std.specs.Str.{bytes_eq}
 use Rattle.pw_value.specs.declared.value.Byte.{Byte}
@@ -73,6 +73,6 @@ pub places_serve : AllocationServes → FirstPlacesServe
 places_serve serves p d ok base =
     serve_all serves d base.directives (functions_of p)
     (λ f among.
-        let m = has_flat_back (λ (m : FlowModule). m.functions) f p.modules among in
-        let valid = has_each IsValid p.modules m.0 ok.modules m.1 in
-        has_each IsFunction m.0.functions f valid.parts.functions m.2)
+    let m = has_flat_back (λ (m : FlowModule). m.functions) f p.modules among in
+    let valid = has_each IsValid p.modules m.0 ok.modules m.1 in
+    has_each IsFunction m.0.functions f valid.parts.functions m.2)

@@ -34,7 +34,7 @@ use Rattle.pw_run_flow.specs.Programs.{Program, Library, GetChar, PutChar, Exit,
 use Rattle.pw_run_flow.specs.Commands as command
 use Rattle.pw_run_flow.specs.FlowRun.{get_global, put_global, with_slots, end_from}
 use Rattle.pw_run_webs.specs.Direction.{unplaced, with_functions}
-use Rattle.pw_run_webs.specs.PlacedRun.{PlacedProgram, Frame, Machine, Step, On, Stopped, Astray, name_of, function_named, with_register, with_registers, kept, register_at, value_in, with_temp, gives, takes_result, counted, noted, held, standing, standings, globals_now, is_eligible, noted_if, loads_global, stores_global, is_reserved, changes, depth, library_call, library_return, without_scratch, gives_back, calls_library, entered_webs, and_then, enters, enters_webs, leaves, leaves_webs, without_places, with_parameters, entered, first_block, begins, calls_defined, calls, jumps, branches, given_back, returns, ends, obeys, does, step, steps, start, staged, placed_run}
+use Rattle.pw_run_webs.specs.PlacedRun.{PlacedProgram, Frame, Machine, Step, On, Stopped, Astray, name_of, function_named, with_register, with_registers, kept, register_at, value_in, with_temp, gives, takes_result, counted, noted, held, standing, standings, globals_now, is_eligible, noted_if, is_reserved, changes, depth, library_call, library_return, without_scratch, gives_back, calls_library, entered_webs, and_then, enters_webs, leaves, leaves_webs, without_places, with_parameters, entered, first_block, begins, calls_defined, calls, jumps, branches, given_back, returns, ends, obeys, does, step, steps, start, staged, placed_run}
 use Rattle.pw_law_places.proofs.FirstForm.{IsSlot}
 
 -- ---- places that are words of the frame

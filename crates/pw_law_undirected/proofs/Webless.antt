@@ -15,7 +15,7 @@ use Rattle.pw_flow.specs.declared.flow.FlowFn.{FlowFn}
 use Rattle.pw_webflow.specs.Direction.{directed}
 use Rattle.pw_webflow.specs.declared.web.WebFn.{WebFn}
 use Rattle.pw_run_flow.specs.Programs.{Program, functions_of}
-use Rattle.pw_run_webs.specs.Direction.{directives_of, directed_by, unplaced, directed_functions, with_functions, web_run}
+use Rattle.pw_run_webs.specs.Direction.{directives_of, directed_by, unplaced, with_functions, web_run}
 use Rattle.pw_run_webs.specs.PlacedRun.{placed_run}
 
 -- ---- the directives of each function are empty

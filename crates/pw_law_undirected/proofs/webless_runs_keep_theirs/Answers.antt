@@ -1,4 +1,4 @@
-use Rattle.std.proofs.Common.{subst, ◌≡◌}
+use Rattle.std.proofs.Common.{subst}
 use Rattle.pw_run.specs.Runs.{Refines}
 use Rattle.pw_run_trace.specs.Traces.{calls_of}
 use Rattle.pw_run_flow.specs.FlowRun.{flow_run}
