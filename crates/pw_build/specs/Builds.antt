@@ -1,7 +1,5 @@
 -- What the texts of modules, and what was kept of them, come to: one relation, with one answer.
 use Rattle.std.specs.Prelude.{◌≡◌, ℕ, nat_lt, if◌then◌else◌, List, [], ◌∷◌, length, sum_by, map, Option, Some, None, Result, Ok, Err}
-use Rattle.std.specs.Ordering.{nat_cmp}
-use Rattle.std.specs.Cmp.Lexicographic.{slice_cmp}
 use Rattle.std.specs.FinMap as finite
 use Rattle.pw_value.specs.Limits.{module_limit, texts_limit}
 use Rattle.pw_value.specs.declared.fault.LinkFault.{LinkFault}
@@ -10,7 +8,7 @@ use Rattle.pw_value.specs.declared.fault.What.TheVariants.{Modules, TextBytes}
 use Rattle.pw_flow.specs.declared.flow.FlowModule.{FlowModule}
 use Rattle.pw_object.specs.declared.object.Object.{Object}
 use Rattle.pw_phase_one.specs.FirstPhase.{Phase, compiled}
-use Rattle.pw_store_modules.specs.Modules.{Source}
+use Rattle.pw_store_modules.specs.Modules.{Source, Texts}
 use Rattle.pw_build_objects.specs.Programs.{Completes, Parts}
 use Rattle.pw_build_objects.specs.Counting.{MakesAnew}
 use Rattle.pw_build.specs.declared.fault.BuildFault.{BuildFault}
@@ -74,10 +72,6 @@ MakesBy (Ok flows) kept colours made = MakesAnew flows kept colours made
 
 abbrev pub BuildsAnew : List Source → List (Option Object) → ℕ → ℕ → Type 0
 BuildsAnew sources kept colours made = MakesBy (first_phases sources) kept colours made
-
--- a map from names to texts, as far as they are read
-abbrev pub Texts : Type 0
-Texts = finite.FinMap (slice_cmp nat_cmp) (List ℕ)
 
 -- the build of texts where nothing was kept
 abbrev pub FullBuild : Texts → ℕ → ℕ → Result Parts BuildFault → Type 0

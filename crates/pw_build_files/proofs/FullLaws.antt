@@ -8,12 +8,12 @@ use Rattle.pw_image.specs.declared.image.Image.{Image}
 use Rattle.pw_image.specs.Image.{Contents, IsImageFile}
 use Rattle.pw_link.specs.Linking.{linked}
 use Rattle.pw_store_modules.specs.FileNames.{database_name, image_name, object_name}
-use Rattle.pw_store_modules.specs.Modules.{Source, module_map, modules_of, names_of_modules}
+use Rattle.pw_store_modules.specs.Modules.{Source, Texts, module_map, modules_of, names_of_modules}
 use Rattle.pw_top_answer.specs.Effects.{after_puts}
 use Rattle.pw_build_objects.specs.Programs.{Parts}
 use Rattle.pw_build_objects.specs.Kept.{all_fresh}
 use Rattle.pw_build_program.specs.FromBuild.BuildFault.{BuildFault}
-use Rattle.pw_build_program.specs.FromBuild.Builds.{Builds, Texts, first_phases}
+use Rattle.pw_build_program.specs.FromBuild.Builds.{Builds, first_phases}
 use Rattle.pw_build_program.specs.FromBuild.Full.{built_anew}
 use Rattle.pw_store_kept.specs.Kept.{is_same, kept_bytes}
 use Rattle.pw_store_kept.specs.Files.{made_anew}

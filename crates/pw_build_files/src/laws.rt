@@ -4,11 +4,11 @@ ghost use Rattle.std.specs.Prelude.{◌≡◌, ◌≢◌, ◌≤◌, ℕ, List, 
 ghost use Rattle.std.specs.List.{AllByRecursion};
 ghost use Rattle.std.specs.FinMap as finite;
 ghost use Rattle.pw_io.specs.Files.{Files, Told};
-ghost use Rattle.pw_store_modules.specs.Modules.{is_module_file, module_map, modules_of};
+ghost use Rattle.pw_store_modules.specs.Modules.{Texts, is_module_file, module_map, modules_of};
 ghost use Rattle.pw_top_answer.specs.Effects.{NamedFile, PutPart, after_puts};
 ghost use Rattle.pw_build_objects.specs.Programs.{Parts};
 ghost use Rattle.pw_build_program.specs.FromBuild.BuildFault.{BuildFault};
-ghost use Rattle.pw_build_program.specs.FromBuild.Builds.{Builds, Texts};
+ghost use Rattle.pw_build_program.specs.FromBuild.Builds.{Builds};
 ghost use Rattle.pw_build_program.specs.FromBuild.Full.{built_anew};
 ghost use Rattle.pw_build_files.specs.Building.{BuildComes, Outcome, kept_objects};
 ghost use Rattle.pw_build_files.specs.Full.{BuildsImage, image_of};

@@ -8,8 +8,8 @@ use Rattle.pw_token.specs.declared.bytes.Class.TheVariants as class
 use Rattle.pw_check_literals.specs.Integers.{digit_value}
 
 -- what a byte stands for behind a backslash, where no number begins
-abbrev pub escaped : ℕ → ℕ
-escaped c = unwrap_or (simple_escape c) c
+abbrev pub escape_value : ℕ → ℕ
+escape_value c = unwrap_or (simple_escape c) c
 
 -- what of an escape was read: its backslash; an octal one's value and how many digits it has; a hexadecimal one's value
 pub data Escape : Type 0 where
@@ -32,7 +32,7 @@ goes_on digits c = nat_lt digits 3 && is_in class.OctalDigit c
 -- the characters that are known with a byte more
 abbrev pub known_with : Escape → ℕ → List ℕ
 known_with NoEscape c = plainly c
-known_with Backslash c = if is_in class.OctalDigit c || c == 120 then [] else escaped c ∷ []
+known_with Backslash c = if is_in class.OctalDigit c || c == 120 then [] else escape_value c ∷ []
 known_with (Octal value digits) c = if goes_on digits c then [] else value ∷ plainly c
 known_with (Hexadecimal value) c = if is_in class.HexDigit c then [] else value ∷ plainly c
 

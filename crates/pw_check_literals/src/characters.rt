@@ -23,8 +23,8 @@ enum Escape {
 }
 
 /// The character that a byte behind a backslash stands for, where no number begins.
-fn escaped(c: u8) -> u8
-    ensures { result ≡ spec.escaped c }
+fn escape_value(c: u8) -> u8
+    ensures { result ≡ spec.escape_value c }
 {
     simple_escape(c).unwrap_or(c)
 }
@@ -71,7 +71,7 @@ fn push_escaped(c: u8, out: &mut Vec<u16>) -> Result<Escape, NoMemory>
     if c == b'x' {
         return Ok(Escape::Hexadecimal(0));
     }
-    out.push(escaped(c) as u16)?;
+    out.push(escape_value(c) as u16)?;
     Ok(Escape::None)
 }
 

@@ -1,5 +1,5 @@
 -- Modules (ISO C90 6.7): external declarations in their order, and what stands at a module's end.
-use Rattle.std.specs.Prelude.{ℕ, true, not, ◌&&◌, ◌||◌, if◌then◌else◌, Option, None, Some, unwrap_or, List, [], ◌∷◌, map, filter, flat_map, slice_get}
+use Rattle.std.specs.Prelude.{ℕ, Bool, true, not, ◌&&◌, ◌||◌, if◌then◌else◌, Option, None, Some, unwrap_or, List, [], ◌∷◌, map, filter, flat_map, slice_get}
 use Rattle.std.specs.Option.{option_map_or}
 use Rattle.pw_tree.specs.Trees.{External, Definition, Declaration, Module}
 use Rattle.pw_types.specs.TypeTrees.{CType, QType, type_of}

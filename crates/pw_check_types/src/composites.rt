@@ -1,6 +1,7 @@
 //! Composite types (C90 6.1.2.6).
 
 ghost use Rattle.std.specs.Prelude.{◌≡◌, IfOk};
+ghost use Rattle.std.specs.Option.{option_or};
 ghost use Rattle.pw_check_rules.specs.Compatible as spec;
 ghost use Rattle.pw_types.specs.Views.{view_type, view_qtype, view_signature, view_types};
 
@@ -10,7 +11,7 @@ use std::alloc::{AllocError, Global};
 
 /// The length of an array that is known by one of two declarations, of the first before the second.
 fn known_length(a: Option<u32>, b: Option<u32>) -> Option<u32>
-    ensures { result ≡ spec.known_length a b }
+    ensures { result ≡ option_or a b }
 {
     match a {
         Some(n) => Some(n),

@@ -4,8 +4,8 @@ use Rattle.pw_io.specs.Files.{Files}
 use Rattle.pw_db.specs.Database.{IsDatabaseFile}
 use Rattle.pw_store_modules.specs.FileNames.{database_name, image_name}
 use Rattle.pw_build_objects.specs.Programs.{Parts}
-use Rattle.pw_store_modules.specs.Modules.{modules_of}
-use Rattle.pw_build_files.specs.FromBuild.Builds.{Builds, FullBuild, Texts}
+use Rattle.pw_store_modules.specs.Modules.{Texts, modules_of}
+use Rattle.pw_build_files.specs.FromBuild.Builds.{Builds, FullBuild}
 use Rattle.pw_store_kept.specs.Kept.{counted, kept_bytes}
 use Rattle.pw_build_files.specs.Building.{kept_objects}
 use Rattle.pw_build_files.specs.Full.{IsImageOf}

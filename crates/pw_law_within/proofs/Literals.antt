@@ -5,7 +5,7 @@ use Rattle.std.proofs.Common.{arith, ap, sym, subst, ◌∙◌}
 use Rattle.std.proofs.lemmas.List.{length-append}
 use Rattle.std.proofs.lemmas.List.Concat.{flat_map-cons}
 use Rattle.pw_value.specs.Limits.{size_limit}
-use Rattle.pw_check_literals.specs.Characters.{Escape, NoEscape, Backslash, Octal, Hexadecimal, escaped, plainly, begun_by, goes_on, known_with, escape_after, known_at_end, characters_from, begins_splice, spliced, between_quotes, characters_of, characters_of_strings, string_bytes_of}
+use Rattle.pw_check_literals.specs.Characters.{Escape, NoEscape, Backslash, Octal, Hexadecimal, escape_value, plainly, begun_by, goes_on, known_with, escape_after, known_at_end, characters_from, begins_splice, spliced, between_quotes, characters_of, characters_of_strings, string_bytes_of}
 use Rattle.pw_check_literals.specs.Integers.{digit_value}
 use Rattle.pw_token.specs.Bytes.{is_in}
 use Rattle.pw_token.specs.Limits.{text_limit}
@@ -44,7 +44,7 @@ escape_step : (e : Escape) (c : ℕ) → length (known_with e c) + waiting (esca
 escape_step NoEscape c = plain_step c
 escape_step Backslash c = by (is_in OctalDigit c) (c == 120)
   where
-    by : (a b : Bool) → length (if a || b then [] else escaped c ∷ []) + waiting (if a then Octal (digit_value c) 1 else (if b then Hexadecimal 0 else NoEscape)) ≤ 1 + 0
+    by : (a b : Bool) → length (if a || b then [] else escape_value c ∷ []) + waiting (if a then Octal (digit_value c) 1 else (if b then Hexadecimal 0 else NoEscape)) ≤ 1 + 0
     by true b = omega arith
     by false true = omega arith
     by false false = omega arith

@@ -38,16 +38,20 @@ pub record HoldsModule (files : Files) (name text : List ℕ) : Type 0 where
   pub named : is_module_name name ≡ true
   pub reads : option_map (front_of text_read) (finite.get files (text_name name)) ≡ Some text
 
+-- a map from the names of modules to their texts
+abbrev pub Texts : Type 0
+Texts = Files
+
 -- What the modules are, said as a map from names to texts: `finite.get (module_map files) name` is `Some text` exactly
 -- where `HoldsModule files name text`, which the public law `modules_are_exact` states.
 
 -- with the module of a file, where there is one
-abbrev pub with_module : Files → Files → List ℕ → Files
+abbrev pub with_module : Files → Texts → List ℕ → Texts
 with_module files modules file =
     if is_module_file file then option_map_or (λ text. finite.insert modules (stem file) (front_of text_read text)) (finite.get files file) modules else modules
 
 -- the modules of all files, by their names
-unfoldable pub module_map : Files → Files
+unfoldable pub module_map : Files → Texts
 module_map files = fold (with_module files) finite.empty (finite.keys files)
 
 -- a module: its name, and its text as far as texts are read
