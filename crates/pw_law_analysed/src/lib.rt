@@ -3,10 +3,11 @@
 #![tactic(auto)]
 
 ghost use Rattle.pw_law_analyses.specs.Laws.{DatabaseIsLawful, DatabaseIsSound, ColouredIsCovered};
-ghost use Rattle.pw_law_analysed.specs.Laws.{NamedGraphsSayTheSame, DatabasesServe, DirectionKeepsWithoutRegisters, LayersGiveAll};
+ghost use Rattle.pw_law_analysed.specs.Laws.{NamedGraphsSayTheSame, DatabasesServe, DirectionKeepsWithoutRegisters, FirstPlacesGiveAll, LayersGiveAll, NoRegistersGiveAll};
 
 use pw_colour::laws;
 use pw_law_analyses::{all_laws_compose, analyses_compose};
+use pw_law_places::first_places_keep;
 use pw_law_undirected::undirected_runs_keep_theirs;
 
 /// The graph of summaries by the names of functions and globals says of calls, references, writes and eligible globals
@@ -49,9 +50,10 @@ pub fn databases_serve()
     coloured_globals_are_covered();
 }
 
-/// From the laws of the layers follows of each program that was built with the database that the analyser makes of it: what
-/// holds of built programs; and where the source is defined, the law of traffic holds over the summaries, which speaks of
-/// each global all of whose webs have a register.
+/// From the laws of lowering, selection and linking follows of each program that was built with the database that the analyser
+/// makes of it, where the laws of direction and of places hold for this database and the program's places: what holds of
+/// built programs; and where the source is defined, the law of traffic holds over the summaries, which speaks of each global
+/// all of whose webs have a register.
 pub fn layers_give_all()
     ensures { LayersGiveAll }
 {
@@ -67,4 +69,23 @@ pub fn direction_keeps_without_registers()
     ensures { DirectionKeepsWithoutRegisters }
 {
     undirected_runs_keep_theirs();
+}
+
+/// Where the places are those of allocation's first form, the same follows without the law of places as a premise.
+pub fn first_places_give_all()
+    ensures { FirstPlacesGiveAll }
+{
+    databases_serve();
+    first_places_keep();
+    layers_give_all();
+}
+
+/// For no register, as without colours, it follows from the laws of lowering, selection and linking alone.
+pub fn no_registers_give_all()
+    ensures { NoRegistersGiveAll }
+{
+    databases_serve();
+    direction_keeps_without_registers();
+    first_places_keep();
+    layers_give_all();
 }
