@@ -8,9 +8,8 @@ use Rattle.pw_colour.specs.Colours.{IsDatabaseOf}
 use Rattle.pw_colour.specs.Naming.{IsNamed}
 use Rattle.pw_alloc.specs.declared.located.Located.{Located}
 use Rattle.pw_object.specs.declared.object.Object.{Object}
-use Rattle.pw_run_flow.specs.Programs.{AreBytes, Program as Flows}
-use Rattle.pw_run_webs.specs.Programs.{IsProgram}
-use Rattle.pw_run_webs.specs.Laws.{DirectionKeeps, PlacesKeep, DirectionKeepsRuns}
+use Rattle.pw_run_flow.specs.Programs.{AreBytes}
+use Rattle.pw_run_webs.specs.Laws.{PlacesKeep}
 use Rattle.pw_run_lines.specs.Laws.{SelectionKeepsRuns}
 use Rattle.pw_run_machine.specs.Laws.{LinkKeepsRuns}
 use Rattle.pw_cmean.specs.Worlds.{Program}
@@ -32,32 +31,19 @@ DatabasesServe =
     (i : IsDatabaseOf ss colours db) → Serves p frame_of stack ss colours db i
 
 -- what holds of a program that was built with this database, from the laws of lowering, selection and linking, and from
--- those of direction and of places for this database and the program's places
+-- that of places for the program's places
 abbrev pub LayersGiveAll : Type 0
 LayersGiveAll =
     LoweringKeepsRuns → SelectionKeepsRuns → LinkKeepsRuns →
     (p : Program) (ss : List Summary) (colours : ℕ) (db : List (List ℕ × Directives)) (functions : List Located) (objects : List Object) (stack : ℕ) (input : List ℕ) →
     (built : IsAnalysed p ss colours db functions objects stack) → AreBytes input →
-    DirectionKeeps (program_of p objects stack) db input → PlacesKeep (program_of p objects stack) db functions input →
+    PlacesKeep (program_of p objects stack) db functions input →
     HoldsOver p ss colours db functions objects stack input built.database
 
 -- with the places of allocation's first form the law of places is no premise
 abbrev pub FirstPlacesGiveAll : Type 0
 FirstPlacesGiveAll =
-    LoweringKeepsRuns → DirectionKeepsRuns → SelectionKeepsRuns → LinkKeepsRuns →
+    LoweringKeepsRuns → SelectionKeepsRuns → LinkKeepsRuns →
     (p : Program) (ss : List Summary) (colours : ℕ) (db : List (List ℕ × Directives)) (objects : List Object) (stack : ℕ) (input : List ℕ) →
     (built : IsAnalysed p ss colours db (first_places (program_of p objects stack) db) objects stack) → AreBytes input →
     HoldsOver p ss colours db (first_places (program_of p objects stack) db) objects stack input built.database
-
--- and for no register neither is that of direction
-abbrev pub NoRegistersGiveAll : Type 0
-NoRegistersGiveAll =
-    LoweringKeepsRuns → SelectionKeepsRuns → LinkKeepsRuns →
-    (p : Program) (ss : List Summary) (db : List (List ℕ × Directives)) (objects : List Object) (stack : ℕ) (input : List ℕ) →
-    (built : IsAnalysed p ss 0 db (first_places (program_of p objects stack) db) objects stack) → AreBytes input →
-    HoldsOver p ss 0 db (first_places (program_of p objects stack) db) objects stack input built.database
-
--- the law of direction, of a program and the database of summaries for no register
-abbrev pub DirectionKeepsWithoutRegisters : Type 0
-DirectionKeepsWithoutRegisters =
-    (p : Flows) (input : List ℕ) (ss : List Summary) (db : List (List ℕ × Directives)) → IsProgram p → IsDatabaseOf ss 0 db → DirectionKeeps p db input

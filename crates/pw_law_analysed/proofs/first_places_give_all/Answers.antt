@@ -4,9 +4,8 @@ use Rattle.pw_law_places.specs.Laws.{first_places}
 use Rattle.pw_law_analysed.proofs.first_places_give_all.Goals as goal
 
 pub returns : goal.returns
-returns c = λ low direction selection link p ss colours db objects stack input built bytes.
+returns c = λ low selection link p ss colours db objects stack input built bytes.
     let q = program_of p objects stack in
-    let program = built.accepted.program in
     let s = c.databases_serve.ensures p (frame_in (image_of objects stack)) stack ss colours db built.accepted built.summarised built.linked built.few built.database in
     c.layers_give_all.ensures low selection link p ss colours db (first_places q db) objects stack input built bytes
-    (direction q db input program s.database s.sound) (c.first_places_keep.ensures q db input program s.database s.sound)
+    (c.first_places_keep.ensures q db input built.accepted.program s.database s.sound)
