@@ -31,38 +31,32 @@ wants() {
 # The first of two sizes, or the second where sizes are small.
 size() { if [ -n "$small" ]; then echo "$2"; else echo "$1"; fi; }
 
-# The crates of crates.txt that these crates stand on, themselves among them.
-crates_below() {
-    awk -F: -v names="$*" '!/^#/ && NF > 1 { split($1, head, " "); deps[head[1]] = $2 }
+# The lines of crates.txt of the crates that these crates stand on, themselves among them.
+lines_below() {
+    awk -F: -v names="$*" '!/^#/ && NF > 1 { split($1, head, " "); lines[head[1]] = $0; deps[head[1]] = $2 }
         function reach(name,    parts, n, i) {
             if (!(name in deps) || seen[name]++) return
             n = split(deps[name], parts, " ")
             for (i = 1; i <= n; i++) reach(parts[i])
         }
-        END { n = split(names, all, " "); for (i = 1; i <= n; i++) reach(all[i]); for (name in seen) print name }' \
+        END { n = split(names, all, " "); for (i = 1; i <= n; i++) reach(all[i]); for (name in seen) print lines[name] }' \
         "$top/crates.txt"
 }
 
-# Makes a program of this name in the working folder, of the text on standard input in which VALUE stands for each @KEY@,
-# with the crates that its `use` items name and those below them. Usage: rattle_program NAME [KEY=VALUE]..
+# Makes a script's program, which has this name, in the working folder: of the text on standard input, in which VALUE
+# stands for each @KEY@, with the crates that its `use` items name and those below them.
+# Usage: rattle_program NAME [KEY=VALUE]..
 rattle_program() {
-    local name=$1 source pair crate part used
+    local name=$1 source="$work/crates/$1/src/main.rt" pair used
     shift
-    source="$work/crates/$name/src/main.rt"
     mkdir -p "$(dirname "$source")"
     cat > "$source"
     for pair in "$@"; do sed -i "s|@${pair%%=*}@|${pair#*=}|g" "$source"; done
     used=$(sed -nE 's/^use ([a-z0-9_]+)::.*/\1/p; s/^ghost use Rattle\.([a-z0-9_]+)\..*/\1/p' "$source" |
         grep -vxE 'std|core' | sort -u | tr '\n' ' ')
-    # shellcheck disable=SC2086 # names, none of which has a blank
-    for crate in $(crates_below $used); do
-        [ ! -d "$work/crates/$crate" ] || continue
-        mkdir "$work/crates/$crate"
-        for part in src specs proofs; do
-            [ ! -d "$top/crates/$crate/$part" ] || cp -r "$top/crates/$crate/$part" "$work/crates/$crate/"
-        done
-        grep -E "^$crate( [^:]*)?:" "$top/crates.txt" >> "$work/crates.txt"
-    done
+    lines_below "$used" > "$work/crates.txt"
+    sed -E 's/[ :].*//' "$work/crates.txt" > "$work/below"
+    tar -C "$top/crates" --exclude=out -cf - -T "$work/below" | tar -C "$work/crates" -xf -
     echo "$name: $used" >> "$work/crates.txt"
     cp "$top/HANDLES" "$work/HANDLES"
 }

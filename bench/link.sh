@@ -128,8 +128,8 @@ fn object(alloc: Global, module: u32, objects: u32) -> Result<Object, AllocError
     })
 }
 
-/// The objects of a program.
-fn objects(alloc: Global, modules: u32) -> Result<Vec<Object>, AllocError> {
+/// The objects of a program of so many modules.
+fn program(alloc: Global, modules: u32) -> Result<Vec<Object>, AllocError> {
     let mut objects = Vec::new(alloc);
     for module in 0..modules {
         objects.push(object(alloc, module, modules.wrapping_mul(GLOBALS))?)?;
@@ -140,7 +140,7 @@ fn objects(alloc: Global, modules: u32) -> Result<Vec<Object>, AllocError> {
 /// Links a program; prints its objects, words and global objects, and the microseconds that linking took.
 fn run(rt: &HostRuntime, modules: u32) -> io::Result<()> {
     let alloc = rt.alloc();
-    let objects = objects(alloc, modules)?;
+    let objects = program(alloc, modules)?;
     let start = rt.thread_cpu_time()?;
     let answer = link(alloc, &objects, 1_048_576);
     let end = rt.thread_cpu_time()?;
