@@ -11,11 +11,13 @@ failed=0
 for script in "$bench"/*.sh "$bench/checks.py" "$bench/cruns.py"; do
     name=$(basename "$script")
     case $name in all.sh | common.sh) continue ;; esac
-    words=("$@")
-    [ "$name" = "${name%.py}" ] || words=()
+    case $name in
+        *.py) command=(python3 "$script") ;;
+        *) command=(bash "$script" "$@") ;;
+    esac
     echo "== $name"
     begin=$SECONDS
-    "$script" ${words[@]+"${words[@]}"} 2>&1 | tee "$log"
+    "${command[@]}" 2>&1 | tee "$log"
     status=${PIPESTATUS[0]}
     case $status in
         0) told="ran" ;;
