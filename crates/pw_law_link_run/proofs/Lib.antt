@@ -21,3 +21,4 @@ pub mod Fitting
 pub mod Selecting
 pub mod ImageStart
 pub mod Shapes
+pub mod Scratch

@@ -35,17 +35,20 @@ ghost use Rattle.pw_alloc.specs.Frames.{head_size, slots_begin, last_reach};
 ghost use Rattle.pw_webflow.specs.declared.web.WebBlock.{WebBlock};
 ghost use Rattle.pw_law_link_run.specs.Showing.{Shows, DoesSo};
 ghost use Rattle.pw_law_link_run.specs.Steps.{Setting, map_in, IsSetting, Arrives, is_back, AreInData};
-ghost use Rattle.pw_law_link_run.specs.Placing.{name_in, own_address, words_of};
+ghost use Rattle.pw_law_link_run.specs.Placing.{name_in, own_address, words_of, Parts};
 ghost use Rattle.pw_law_link_run.specs.Simulating.{calls_from, noted_by, IsLinked, IsCaller, Simulates, IsCalm, IsCalmInside, IsCalmBehind, leaving, HasLibrary, IsFit};
 ghost use Rattle.pw_law_link_run.specs.Meeting.{Meets};
-ghost use Rattle.pw_law_link_run.specs.Routines.{HasRoutines, AreLeftWords, IsSteadyRun, Makes};
-ghost use Rattle.pw_law_link_run.specs.Leveled.{AreFramed, IsPassing, Parts};
+ghost use Rattle.pw_law_link_run.specs.Routines.{HasRoutines, LeaveSo, IsSteadyRun, Makes};
+ghost use Rattle.pw_law_link_run.specs.Leveled.{AreFramed, IsFramed, IsPassing};
 ghost use Rattle.pw_law_link_run.specs.Starting.{IsStart, HasData};
 ghost use Rattle.pw_law_link_run.specs.Conventional.{IsConventional};
 
 use pw_law_machine::{runs_keep_lawful_states, words_of_the_text_stay};
 use pw_machine::{runs_add_up, runs_go_on};
-use pw_milli::{divs_divides, divu_divides, mul_multiplies, rems_divides, remu_divides};
+use pw_milli::{
+    divs_divides, divu_divides, mul_multiplies, rems_divides, remu_divides,
+    routines_leave_by_registers,
+};
 
 /// Where an instruction of a word is next, the machine does what the word does in the run of lines: it goes on to a
 /// core that shows the word's result, or stops for want of stack. Where the word may not act, nothing is said.
@@ -115,23 +118,24 @@ pub fn routines_leave_results()
 }
 
 /// The run of lines is met by the machine's run, with the same log, where the machine shows its start, and each of its
-/// states is steady: nothing seems to return or to be called but what the lines return from and call, and the words
-/// that routines leave are those that the lines take.
-
+/// states is steady: nothing seems to return or to be called but what the lines return from and call; the words that
+/// routines leave are those that the lines take.
 pub fn steady_runs_are_met()
-    ensures { (x : Setting) → IsLinked x → HasLibrary x → HasRoutines x → (scratch : ℕ → ℕ → ℕ) (core : Core) (input : List ℕ) → x.start ≡ start_state core input →
+    ensures { (x : Setting) → IsLinked x → HasLibrary x → (has : HasRoutines x) (scratch : ℕ → (ℕ → ℕ) → ℕ → ℕ) → LeaveSo x has scratch → (core : Core) (input : List ℕ) → x.start ≡ start_state core input →
         Meets x (start x.program x.addresses input) → IsSteadyRun x scratch (start x.program x.addresses input) →
         Refines Same (line_run x.program x.addresses scratch input) (traced_run (map_in x) core input) }
 {}
 
 /// So it is met where the items of each function keep the stack pointer: at its end at every block and turn but a
-/// return, and as at the call before a return, with no return address where it is lower; where the machine starts at the
-/// entry with the core of the lines; and where the words that routines leave are those that the lines take.
+/// return, and as at the call before a return, with no return address where it is lower; and where the machine starts at
+/// the entry with the core of the lines. The lines take the words that the routines leave: a function of the routine and
+/// of the registers at its first word.
 pub fn framed_runs_are_met()
-    ensures { (x : Setting) → IsLinked x → HasLibrary x → HasRoutines x → AreFramed x → (scratch : ℕ → ℕ → ℕ) (core : Core) (input : List ℕ) (f : LineFn) →
-        x.start ≡ start_state core input → IsStart x f input → AreLeftWords x scratch (start x.program x.addresses input) →
-        Refines Same (line_run x.program x.addresses scratch input) (traced_run (map_in x) core input) }
-{}
+    ensures { (x : Setting) → IsLinked x → HasLibrary x → HasRoutines x → AreFramed x → (scratch : ℕ → (ℕ → ℕ) → ℕ → ℕ) × ((core : Core) (input : List ℕ) (f : LineFn) →
+        x.start ≡ start_state core input → IsStart x f input → Refines Same (line_run x.program x.addresses scratch input) (traced_run (map_in x) core input)) }
+{
+    routines_leave_by_registers();
+}
 
 /// A lawful state whose data begin where the lines have them is one from which the machine's run keeps its text.
 pub fn lawful_starts_are_settings()
@@ -151,6 +155,14 @@ pub fn ready_lines_fit()
 /// What is selected of a function calls by the convention: functions by register 2, routines by register 31.
 pub fn selected_calls_are_conventional()
     ensures { (f : Located) → AllByRecursion IsConventional (selected f) }
+{}
+
+/// Whatever stands behind a caller's function stands behind its return address, since a word follows each call: also
+/// where the function ends with a jump, and no call is at its end.
+#[tactic(auto, using(crate::proofs::Levels::caller_below))]
+pub fn callers_return_inside()
+    ensures { (x : Setting) (g : Frame) (a : ℕ) → IsFramed x g.function → IsCaller x g → own_address x g.function + 4 * words_of x g.function g.function.items ≤ a →
+        return_address x.addresses g g.left < a }
 {}
 
 /// The state in which the program of an image begins is the start of the lines, where its entry, its stack and its data

@@ -33,12 +33,12 @@ pub record FramesAre (p : Program) (functions : List Located) : Type 0 where
 -- The run of lines does what the placed run does, wherever functions and globals stand, whatever the routines leave
 -- in scratch registers; what it notes is the same with words that stand for the values; where it does what the placed
 -- run does, returns keep the registers.
-pub record SelectionKeeps (p : Program) (d : List (List ℕ × Directives)) (functions : List Located) (w : Addresses) (scratch : ℕ → ℕ → ℕ) (input : List ℕ) : Type 0 where
+pub record SelectionKeeps (p : Program) (d : List (List ℕ × Directives)) (functions : List Located) (w : Addresses) (scratch : ℕ → (ℕ → ℕ) → ℕ → ℕ) (input : List ℕ) : Type 0 where
   pub runs : Refines (EventInWords p w.named) (placed_run (with_functions p functions) input) (line_run (line_program p functions) w scratch input)
   pub registers : (n : ℕ) → MetWith (KeepRegisters d) (placed_run (with_functions p functions) input n) (line_run (line_program p functions) w scratch input)
 
 abbrev pub SelectionKeepsRuns : Type 0
 SelectionKeepsRuns =
-    (p : Program) (d : List (List ℕ × Directives)) (functions : List Located) (w : Addresses) (scratch : ℕ → ℕ → ℕ) (input : List ℕ) →
+    (p : Program) (d : List (List ℕ × Directives)) (functions : List Located) (w : Addresses) (scratch : ℕ → (ℕ → ℕ) → ℕ → ℕ) (input : List ℕ) →
     IsProgram p → IsDatabase d → Sound (graph_of p) d → AllServe (directed_functions p d) functions → FramesAre p functions →
     StartFits p → AreLawful p w → AreBytes input → SelectionKeeps p d functions w scratch input

@@ -67,7 +67,7 @@ pub record LinkKeeps (p : Program) (functions : List Located) (v : Image) (input
   pub addresses : Addresses
   pub lawful : AreLawful p addresses
   pub named : addresses.named ≡ address_of v
-  pub scratch : ℕ → ℕ → ℕ
+  pub scratch : ℕ → (ℕ → ℕ) → ℕ → ℕ
   pub runs : Refines Same (line_run (line_program p functions) addresses scratch input) (image_run p functions v input)
 
 abbrev pub LinkKeepsRuns : Type 0
