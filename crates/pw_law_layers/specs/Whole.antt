@@ -29,6 +29,7 @@ use Rattle.pw_run_agreement.specs.Agreement.{Agree, IsDefined}
 use Rattle.pw_db_sound.specs.Sound.{Sound}
 use Rattle.pw_run_trace.specs.Traces.{Standing, InMemory, InPlace, Event, Called, Returned, EventAlike, calls_of, Notes, KeepRegisters}
 use Rattle.pw_run_trace.specs.Traffic.{ObeysTraffic}
+use Rattle.pw_run_trace.specs.Late.{RefinesLately}
 use Rattle.pw_run_flow.specs.Memory.{scalar_of}
 use Rattle.pw_run_flow.specs.Programs as flows
 use Rattle.pw_run_flow.specs.FlowRun as flow
@@ -145,13 +146,13 @@ pub record FramesFit (p : Program) (v : Image) : Type 0 where
 
 -- ---- what follows from the laws of the layers
 
--- runs each of which refines the one before it, from the source to the machine: the last refines the first
+-- runs each of which refines the one before it, from the source to the machine, which may be late: the last refines the first
 abbrev pub RefinementGoesThrough : Type 0
 RefinementGoesThrough =
     (p : flows.Program) (named : List ℕ → ℕ) (meaning : ℕ → Stage source.Moment) (graphs : ℕ → Stage flow.Moment)
     (webs places : ℕ → Stage (Event Byte Value)) (lines machine : ℕ → Stage (Event ℕ ℕ)) →
     Refines (MomentKept p) meaning graphs → Refines (MomentAlike p) graphs (calls_of webs) →
-    Refines (EventAlike Same Same) webs places → Refines (EventInWords p named) places lines → Refines Same lines machine →
+    Refines (EventAlike Same Same) webs places → Refines (EventInWords p named) places lines → RefinesLately Same lines machine →
     Refines (InMachine p named) meaning (calls_of machine)
 
 abbrev pub LayersCompose : Type 0

@@ -4,6 +4,7 @@
 ghost use Rattle.pw_law_layers.specs.Rooms.{PlacesFit, MapHasFrames};
 ghost use Rattle.pw_law_layers.specs.Whole.{LayersCompose, AllFramesFit, RefinementGoesThrough};
 
+use pw_law_code::laws::placement_keeps_runs;
 use pw_law_link::laws::modules_stand_in_order;
 use pw_law_lower::frames_fit;
 
@@ -32,6 +33,7 @@ pub fn layers_compose()
     ensures { LayersCompose }
 {
     maps_have_frames();
+    placement_keeps_runs();
 }
 
 /// Of each built program the frame of each function in the image's map is at most the function's room.

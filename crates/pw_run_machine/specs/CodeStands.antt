@@ -26,6 +26,7 @@ use Rattle.pw_link.specs.Layout.{Sites}
 use Rattle.pw_link.specs.Linking.{symbol_address, with_fixes}
 use Rattle.pw_run_lines.specs.Acts as lines
 use Rattle.pw_run_lines.specs.LineRun.{turns, IsCalling}
+use Rattle.pw_run_lines.specs.Laws.{arranged}
 use Rattle.pw_run_lines.specs.Words.{Text, StandsAt}
 
 -- ---- lines that words can be made of
@@ -90,10 +91,10 @@ pub record StandAt (t : Text) (sites : Sites) (own : ℕ) (ls : List Line) : Typ
       t.fetch (own + 4 * i) ≡ decoded (slice_index_or (with_fixes sites own (placed ls).fixes (placed ls).words) i 0)
   pub symbols : (f : Fix) → Contains (placed ls).fixes f → IsKnown sites t own f f.symbol
   pub long : t.long ≡ is_long ls
-  pub marks : (b : ℕ) → t.mark b ≡ own + 4 * mark_at (is_long ls) 0 (slotted ls) b
-  pub behind : (before rest : List Item) (item : Item) → IsCalling item → slotted ls ≡ before ++ item ∷ rest
+  pub marks : (b : ℕ) → t.mark b ≡ own + 4 * mark_at (is_long ls) 0 (arranged ls) b
+  pub behind : (before rest : List Item) (item : Item) → IsCalling item → arranged ls ≡ before ++ item ∷ rest
       → t.addresses.behind t.name (turns rest) ≡ own + 4 * sizes (is_long ls) before + 8
 
 abbrev pub PlacedCodeStands : Type 0
 PlacedCodeStands =
-    (ls : List Line) (t : Text) (sites : Sites) (own : ℕ) → AreReady ls → StandAt t sites own ls → StandsAt t own (slotted ls)
+    (ls : List Line) (t : Text) (sites : Sites) (own : ℕ) → AreReady ls → StandAt t sites own ls → StandsAt t own (arranged ls)

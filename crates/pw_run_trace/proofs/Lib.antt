@@ -1,3 +1,4 @@
 pub mod Likeness
 pub mod Meeting
 pub mod Traffic
+pub mod Late

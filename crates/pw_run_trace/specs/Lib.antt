@@ -1,3 +1,4 @@
 pub mod Traces
 pub mod Traffic
 pub mod Meeting
+pub mod Late
