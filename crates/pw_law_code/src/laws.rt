@@ -19,7 +19,7 @@ ghost use Rattle.pw_run_machine.specs.CodeStands.{AreReady, SelectionIsReady, Pl
 ghost use Rattle.pw_run_lines.specs.Laws.{PlacementKeepsRuns};
 
 use pw_delay::laws::calls_and_jumps_are_relocated;
-use pw_run_trace::late_logs_compose;
+use pw_run_lines::late_logs_compose;
 
 /// The code of selected lines is made of words of which each call and each jump has its relocation.
 pub fn selected_calls_are_relocated()

@@ -15,8 +15,8 @@ use Rattle.pw_run_agreement.specs.Agreement as agreement
 use Rattle.pw_run_agreement.specs.Agreement.{Agree}
 use Rattle.pw_run_trace.specs.Traces.{Event, EventAlike, SameKind, calls_of, calls_alone, shown_by}
 use Rattle.pw_run_trace.proofs.Likeness.{kind_of_alike, kind_of_itself, met_shown, calls_refine}
-use Rattle.pw_run_trace.specs.Late.{RefinesLately}
-use Rattle.pw_run_trace.proofs.Late.{calls_in_time}
+use Rattle.pw_run_lines.specs.Late.{RefinesLately}
+use Rattle.pw_run_lines.proofs.Late.{calls_in_time}
 use Rattle.pw_run_flow.specs.Programs.{Program}
 use Rattle.pw_run_flow.specs.FlowRun as flow
 use Rattle.pw_run_webs.specs.Direction.{MomentAlike}

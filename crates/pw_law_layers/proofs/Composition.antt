@@ -17,9 +17,9 @@ use Rattle.pw_db_sound.specs.CallGraphs.{Graph}
 use Rattle.pw_run_trace.specs.Traces.{Event, EventAlike, calls_alone, calls_of, Notes, KeepRegisters}
 use Rattle.pw_run_trace.specs.Traffic.{ObeysTraffic}
 use Rattle.pw_run_trace.specs.Meeting.{MetWith}
-use Rattle.pw_run_trace.specs.Late.{RefinesLately}
+use Rattle.pw_run_lines.specs.Late.{RefinesLately}
 use Rattle.pw_run_trace.proofs.Meeting.{met_with, met_through, of_shown, carried}
-use Rattle.pw_run_trace.proofs.Late.{late_same, carried_late}
+use Rattle.pw_run_lines.proofs.Late.{late_same, carried_late}
 use Rattle.pw_run_trace.proofs.Traffic.{traffic_alike}
 use Rattle.pw_run_flow.specs.Programs.{Program}
 use Rattle.pw_run_flow.specs.FlowRun.{flow_run}

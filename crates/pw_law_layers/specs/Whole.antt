@@ -29,7 +29,7 @@ use Rattle.pw_run_agreement.specs.Agreement.{Agree, IsDefined}
 use Rattle.pw_db_sound.specs.Sound.{Sound}
 use Rattle.pw_run_trace.specs.Traces.{Standing, InMemory, InPlace, Event, Called, Returned, EventAlike, calls_of, Notes, KeepRegisters}
 use Rattle.pw_run_trace.specs.Traffic.{ObeysTraffic}
-use Rattle.pw_run_trace.specs.Late.{RefinesLately}
+use Rattle.pw_run_lines.specs.Late.{RefinesLately}
 use Rattle.pw_run_flow.specs.Memory.{scalar_of}
 use Rattle.pw_run_flow.specs.Programs as flows
 use Rattle.pw_run_flow.specs.FlowRun as flow

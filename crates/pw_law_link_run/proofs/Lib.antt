@@ -22,3 +22,5 @@ pub mod Selecting
 pub mod ImageStart
 pub mod Shapes
 pub mod Scratch
+pub mod Leaving
+pub mod ByRegisters

@@ -8,8 +8,10 @@ use Rattle.std.proofs.lemmas.List.{ext_get_or, get_or_past}
 use Rattle.std.proofs.lemmas.List.FromFn.{get_or-map-range_with_len, length-map-range_with_len}
 use Rattle.pw_machine.specs.Core.{register}
 use Rattle.pw_machine.specs.Run.{State}
-use Rattle.pw_milli.specs.Calls.{StandsAt, Enters, Leaves, AreByRegisters}
+use Rattle.pw_milli.specs.Calls.{StandsAt, Enters}
+use Rattle.pw_law_link_run.specs.Leaving.{Leaves}
 use Rattle.pw_law_link_run.specs.Steps.{Setting}
+use Rattle.pw_law_link_run.proofs.Leaving.{leaves_alike}
 use Rattle.pw_law_link_run.specs.Routines.{Makes, HasRoutine, HasRoutines, LeavesSo, LeaveSo}
 
 -- ---- a state that has these registers
@@ -62,11 +64,6 @@ same_registers words address s e f is none =
 
 -- ---- what is left
 
-abbrev pub LeaveAlike : Type 0
-LeaveAlike =
-    (words : List ℕ) (address : ℕ) (s t : State) (d : Leaves words address s) (e : Leaves words address t) → AreByRegisters words →
-    Enters words address s → Enters words address t → s.core.registers ≡ t.core.registers → register s.core 31 < address → d.registers ≡ e.registers
-
 leaves : (words : List ℕ) (address : ℕ) (s : State) (j : ℕ) → Makes words address s j → Leaves words address s
 leaves words address s j d = record { steps = d.steps; registers = d.registers; runs = d.runs; inside = d.inside }
 
@@ -75,15 +72,15 @@ left_by x j h f r =
     let address = x.addresses.routine j in
     slice_index (h.makes (entered x address f) (enters_entered x h.words address f h.stands)).registers r
 
-leaves_so : LeaveAlike → (x : Setting) (j : ℕ) (h : HasRoutine x j) → LeavesSo x j h (left_by x j h)
-leaves_so alike x j h f s e is none low r =
+leaves_so : (x : Setting) (j : ℕ) (h : HasRoutine x j) → LeavesSo x j h (left_by x j h)
+leaves_so x j h f s e is none low r =
     let address = x.addresses.routine j in
     let t = entered x address f in
     let g = enters_entered x h.words address f h.stands in
     let same = same_registers h.words address s e f is none in
     let link : register t.core 31 ≡ register s.core 31 = ap (λ (l : List ℕ). slice_index l 31) same in
     ap (λ (l : List ℕ). slice_index l r)
-    (alike h.words address t s (leaves h.words address t j (h.makes t g)) (leaves h.words address s j (h.makes s e)) h.by_registers g e same (omega (arith, link, low)))
+    (leaves_alike h.words address t s (leaves h.words address t j (h.makes t g)) (leaves h.words address s j (h.makes s e)) h.by_registers g e same (omega (arith, link, low)))
 
 -- by the number of the routine
 left_words : (x : Setting) → HasRoutines x → ℕ → (ℕ → ℕ) → ℕ → ℕ
@@ -94,14 +91,14 @@ left_words x has (suc (suc (suc zero))) = left_by x 3 has.rems
 left_words x has (suc (suc (suc (suc zero)))) = left_by x 4 has.remu
 left_words x has (suc (suc (suc (suc (suc j))))) = λ f r. 0
 
-pub some_left : LeaveAlike → (x : Setting) (has : HasRoutines x) → (scratch : ℕ → (ℕ → ℕ) → ℕ → ℕ) × LeaveSo x has scratch
-some_left alike x has = (
+pub some_left : (x : Setting) (has : HasRoutines x) → (scratch : ℕ → (ℕ → ℕ) → ℕ → ℕ) × LeaveSo x has scratch
+some_left x has = (
   left_words x has,
   record {
-    divs = leaves_so alike x 0 has.divs;
-    divu = leaves_so alike x 1 has.divu;
-    mul = leaves_so alike x 2 has.mul;
-    rems = leaves_so alike x 3 has.rems;
-    remu = leaves_so alike x 4 has.remu;
+    divs = leaves_so x 0 has.divs;
+    divu = leaves_so x 1 has.divu;
+    mul = leaves_so x 2 has.mul;
+    rems = leaves_so x 3 has.rems;
+    remu = leaves_so x 4 has.remu;
   },
 )

@@ -11,16 +11,16 @@ use Rattle.pw_law_link_run.specs.Simulating.{IsLinked, HasLibrary}
 use Rattle.pw_law_link_run.specs.Routines.{HasRoutines}
 use Rattle.pw_law_link_run.specs.Leveled.{AreFramed}
 use Rattle.pw_law_link_run.specs.Starting.{IsStart}
-use Rattle.pw_law_link_run.proofs.Scratch.{LeaveAlike, some_left}
+use Rattle.pw_law_link_run.proofs.Scratch.{some_left}
 use Rattle.pw_law_link_run.proofs.Running.{runs_meet}
 use Rattle.pw_law_link_run.proofs.Steadying.{runs_are_steady}
 use Rattle.pw_law_link_run.proofs.Starting.{start_meets, start_in_level}
 
-pub framed_runs_meet : LeaveAlike → (x : Setting) → IsLinked x → HasLibrary x → HasRoutines x → AreFramed x
+pub framed_runs_meet : (x : Setting) → IsLinked x → HasLibrary x → HasRoutines x → AreFramed x
     → (scratch : ℕ → (ℕ → ℕ) → ℕ → ℕ) × ((core : Core) (input : List ℕ) (f : LineFn) → x.start ≡ start_state core input → IsStart x f input
     → Refines Same (line_run x.program x.addresses scratch input) (traced_run (map_in x) core input))
-framed_runs_meet alike x l lib has fr =
-    let words = some_left alike x has in (
+framed_runs_meet x l lib has fr =
+    let words = some_left x has in (
       words.0,
       λ core input f start_is first.
           runs_meet x l lib has words.0 words.1 core input start_is

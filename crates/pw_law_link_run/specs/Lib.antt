@@ -7,3 +7,4 @@ pub mod Routines
 pub mod Leveled
 pub mod Starting
 pub mod Conventional
+pub mod Leaving

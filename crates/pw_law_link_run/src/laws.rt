@@ -5,7 +5,7 @@ ghost use Rattle.std.specs.List.{AllByRecursion};
 ghost use Rattle.pw_inst.specs.declared.Inst.{Inst};
 ghost use Rattle.pw_inst.specs.declared.Inst.TheVariants.{Combf};
 ghost use Rattle.pw_inst.specs.InstructionTable.{decoded, IsInRange};
-ghost use Rattle.pw_machine.specs.Core.{Core, word_at};
+ghost use Rattle.pw_machine.specs.Core.{Core, register, word_at};
 ghost use Rattle.pw_machine.specs.Run.{State};
 ghost use Rattle.pw_machine.specs.Start.{stack_start_of, image_start};
 ghost use Rattle.pw_image.specs.declared.image.Memory.{Memory};
@@ -38,6 +38,7 @@ ghost use Rattle.pw_law_link_run.specs.Steps.{Setting, map_in, IsSetting, Arrive
 ghost use Rattle.pw_law_link_run.specs.Placing.{name_in, own_address, words_of, Parts};
 ghost use Rattle.pw_law_link_run.specs.Simulating.{calls_from, noted_by, IsLinked, IsCaller, Simulates, IsCalm, IsCalmInside, IsCalmBehind, leaving, HasLibrary, IsFit};
 ghost use Rattle.pw_law_link_run.specs.Meeting.{Meets};
+ghost use Rattle.pw_law_link_run.specs.Leaving.{AreByRegisters, Leaves};
 ghost use Rattle.pw_law_link_run.specs.Routines.{HasRoutines, LeaveSo, IsSteadyRun, Makes};
 ghost use Rattle.pw_law_link_run.specs.Leveled.{AreFramed, IsFramed, IsPassing};
 ghost use Rattle.pw_law_link_run.specs.Starting.{IsStart, HasData};
@@ -45,10 +46,7 @@ ghost use Rattle.pw_law_link_run.specs.Conventional.{IsConventional};
 
 use pw_law_machine::{runs_keep_lawful_states, words_of_the_text_stay};
 use pw_machine::{runs_add_up, runs_go_on};
-use pw_milli::{
-    divs_divides, divu_divides, mul_multiplies, rems_divides, remu_divides,
-    routines_leave_by_registers,
-};
+use pw_milli::{divs_divides, divu_divides, mul_multiplies, rems_divides, remu_divides};
 
 /// Where an instruction of a word is next, the machine does what the word does in the run of lines: it goes on to a
 /// core that shows the word's result, or stops for want of stack. Where the word may not act, nothing is said.
@@ -117,6 +115,20 @@ pub fn routines_leave_results()
     remu_divides();
 }
 
+/// What a routine of arithmetic leaves in the registers is a function of the registers at its first word, where it
+/// stands at an address and returns below it: the instructions of the five read and write general registers alone, and
+/// from two states with the same registers such words leave the same.
+#[tactic(auto, using(crate::proofs::ByRegisters::divs_by_registers, crate::proofs::ByRegisters::divu_by_registers, crate::proofs::ByRegisters::mul_by_registers, crate::proofs::ByRegisters::rems_by_registers, crate::proofs::ByRegisters::remu_by_registers, crate::proofs::Leaving::leaves_alike))]
+pub fn routines_leave_by_registers()
+    ensures divs { AreByRegisters divs_words }
+    ensures divu { AreByRegisters divu_words }
+    ensures mul { AreByRegisters mul_words }
+    ensures rems { AreByRegisters rems_words }
+    ensures remu { AreByRegisters remu_words }
+    ensures alike { (words : List ℕ) (address : ℕ) (s t : State) (d : Leaves words address s) (e : Leaves words address t) → AreByRegisters words →
+        Enters words address s → Enters words address t → s.core.registers ≡ t.core.registers → register s.core 31 < address → d.registers ≡ e.registers }
+{}
+
 /// The run of lines is met by the machine's run, with the same log, where the machine shows its start, and each of its
 /// states is steady: nothing seems to return or to be called but what the lines return from and call; the words that
 /// routines leave are those that the lines take.
@@ -133,9 +145,7 @@ pub fn steady_runs_are_met()
 pub fn framed_runs_are_met()
     ensures { (x : Setting) → IsLinked x → HasLibrary x → HasRoutines x → AreFramed x → (scratch : ℕ → (ℕ → ℕ) → ℕ → ℕ) × ((core : Core) (input : List ℕ) (f : LineFn) →
         x.start ≡ start_state core input → IsStart x f input → Refines Same (line_run x.program x.addresses scratch input) (traced_run (map_in x) core input)) }
-{
-    routines_leave_by_registers();
-}
+{}
 
 /// A lawful state whose data begin where the lines have them is one from which the machine's run keeps its text.
 pub fn lawful_starts_are_settings()

@@ -11,5 +11,3 @@ pub mod LibraryCalls
 pub mod Digits
 pub mod Multiplying
 pub mod Product
-pub mod Leaving
-pub mod ByRegisters

@@ -48,12 +48,12 @@ part_stands words code a p core st d fits = record {
 
 -- ---- the beginning
 
-pub same_core : (c : Core) (f b : ℕ) (n : Bool) → c.front ≡ f → c.back ≡ b → c.nullify ≡ n → record c { registers = c.registers; front = f; back = b; nullify = n } ≡ c
+same_core : (c : Core) (f b : ℕ) (n : Bool) → c.front ≡ f → c.back ≡ b → c.nullify ≡ n → record c { registers = c.registers; front = f; back = b; nullify = n } ≡ c
 same_core c f b n e g h =
     let core = λ (f b : ℕ) (n : Bool). record c { registers = c.registers; front = f; back = b; nullify = n } in
     ap (λ (x : ℕ). core x b n) (sym e) ∙ ap (λ (x : ℕ). core c.front x n) (sym g) ∙ ap (λ (x : Bool). core c.front c.back x) (sym h)
 
-pub started : (words : List ℕ) (a : ℕ) (s : State) → Enters words a s → run_of 0 s ≡ Running s
+started : (words : List ℕ) (a : ℕ) (s : State) → Enters words a s → run_of 0 s ≡ Running s
 unfolding run_of
 started words a s h = ap (λ (o : Option End). began o s) h.stopped
 

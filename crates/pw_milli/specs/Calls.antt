@@ -1,10 +1,9 @@
 -- Calls of the routines: the state of the machine in which one is entered, and what it leaves.
 use Rattle.std.specs.Prelude.{ℕ, ℤ, Option, Some, None, true, ◌≡◌, ◌≢◌, ◌+◌, ◌*◌, ◌/◌, ◌%◌, ◌^◌, ◌<◌, ◌≤◌, Bool, false, ◌==◌, ◌||◌, List, length, slice_index, slice_set, int_div, int_rem}
 use Rattle.std.specs.Int.{cast_signed, cast_unsigned, w32}
-use Rattle.std.specs.List.{list_all}
 use Rattle.pw_value.specs.Limits.{text_start, word_limit}
 use Rattle.pw_inst.specs.declared.Inst.{Inst}
-use Rattle.pw_inst.specs.declared.Inst.TheVariants.{Ldb, Ldh, Ldw, Stb, Sth, Stw, Vshd, Mtctl, Break}
+use Rattle.pw_inst.specs.declared.Inst.TheVariants.{Ldb, Ldh, Ldw, Stb, Sth, Stw}
 use Rattle.pw_inst.specs.InstructionTable.{decoded}
 use Rattle.pw_machine.specs.Core.{Core, register, word_at}
 use Rattle.pw_machine.specs.Run.{State, Running, run_of}
@@ -76,33 +75,6 @@ pub record Computes (routine : List ℕ) (address : ℕ) (s : State) (bound : �
   pub result : IsResult (slice_index registers 29)
   pub kept : (r : ℕ) → is_scratch r ≡ false → slice_index registers r ≡ slice_index s.core.registers r
   pub words : AreRegisters registers
-
--- ---- what a routine leaves
-
--- an instruction that reads and writes general registers alone, and may say where the run goes on
-abbrev pub is_by_registers : Option Inst → Bool
-is_by_registers None = false
-is_by_registers (Some (Ldb im b t)) = false
-is_by_registers (Some (Ldh im b t)) = false
-is_by_registers (Some (Ldw im b t)) = false
-is_by_registers (Some (Stb r im b)) = false
-is_by_registers (Some (Sth r im b)) = false
-is_by_registers (Some (Stw r im b)) = false
-is_by_registers (Some (Vshd r1 r2 t)) = false
-is_by_registers (Some (Mtctl r)) = false
-is_by_registers (Some (Break im5 im13)) = false
-is_by_registers (Some _) = true
-
--- words of such instructions
-abbrev pub AreByRegisters : List ℕ → Type 0
-AreByRegisters words = list_all (λ w. is_by_registers (decoded w)) words ≡ true
-
--- a run through a routine's words, from its first one to the return to the address in register 31
-pub record Leaves (words : List ℕ) (address : ℕ) (s : State) : Type 0 where
-  pub steps : ℕ
-  pub registers : List ℕ
-  pub runs : run_of steps s ≡ Running (returned s 31 registers)
-  pub inside : StaysInside address (address + 4 * length words) steps s
 
 -- ---- the results, of the words in registers 26 and 25
 

@@ -1,12 +1,11 @@
 //! What the routines do, wherever their words stand in a program's text.
 
-ghost use Rattle.std.specs.Prelude.{◌≡◌, ℕ, ◌+◌, ◌*◌, ◌<◌, ◌++◌, List, [], ◌∷◌, length, Some};
+ghost use Rattle.std.specs.Prelude.{◌≡◌, ℕ, ◌+◌, ◌*◌, ◌++◌, List, [], ◌∷◌, length, Some};
 ghost use Rattle.pw_value.specs.Words.{end_of_input};
 ghost use Rattle.pw_machine.specs.declared.ends.End.TheVariants.{Ended};
-ghost use Rattle.pw_machine.specs.Core.{register};
 ghost use Rattle.pw_machine.specs.Run.{State, Running, Stopped, run_of};
 ghost use Rattle.pw_milli.specs.Words.{exit_words, getchar_words, putchar_words, divs_words, divu_words, mul_words, rems_words, remu_words};
-ghost use Rattle.pw_milli.specs.Calls.{Enters, StaysInside, Computes, IsProduct, IsQuotient, IsRemainder, IsSignedQuotient, IsSignedRemainder, AreByRegisters, Leaves, answers, given};
+ghost use Rattle.pw_milli.specs.Calls.{Enters, StaysInside, Computes, IsProduct, IsQuotient, IsRemainder, IsSignedQuotient, IsSignedRemainder, answers, given};
 
 /// `$mul` puts the product of registers 26 and 25 modulo 2^32 into register 29, in at most 240 steps.
 #[tactic(auto, using(crate::proofs::Product::mul_computes))]
@@ -38,20 +37,6 @@ pub fn divs_divides()
 #[tactic(auto, using(crate::proofs::Quotients::rems_computes))]
 pub fn rems_divides()
     ensures { (address : ℕ) (s : State) → Enters rems_words address s → Computes rems_words address s 512 (IsSignedRemainder s) }
-{}
-
-/// What a routine of arithmetic leaves in the registers is a function of the registers at its first word, where it
-/// stands at an address and returns below it: the instructions of the five read and write general registers alone, and
-/// from two states with the same registers such words leave the same.
-#[tactic(auto, using(crate::proofs::ByRegisters::divs_by_registers, crate::proofs::ByRegisters::divu_by_registers, crate::proofs::ByRegisters::mul_by_registers, crate::proofs::ByRegisters::rems_by_registers, crate::proofs::ByRegisters::remu_by_registers, crate::proofs::Leaving::leaves_alike))]
-pub fn routines_leave_by_registers()
-    ensures divs { AreByRegisters divs_words }
-    ensures divu { AreByRegisters divu_words }
-    ensures mul { AreByRegisters mul_words }
-    ensures rems { AreByRegisters rems_words }
-    ensures remu { AreByRegisters remu_words }
-    ensures alike { (words : List ℕ) (address : ℕ) (s t : State) (d : Leaves words address s) (e : Leaves words address t) → AreByRegisters words →
-        Enters words address s → Enters words address t → s.core.registers ≡ t.core.registers → register s.core 31 < address → d.registers ≡ e.registers }
 {}
 
 /// `exit` ends the run with the low 8 bits of register 26 as its status, by its first word, which neither loads nor

@@ -11,6 +11,6 @@ mod words;
 
 pub use laws::{
     divs_divides, divu_divides, exit_ends, getchar_reads, mul_multiplies, putchar_writes,
-    rems_divides, remu_divides, routines_leave_by_registers,
+    rems_divides, remu_divides,
 };
 pub use routine::{Routine, library};

@@ -11,7 +11,7 @@ use Rattle.pw_run.specs.Runs.{Refines, Same}
 use Rattle.pw_db_sound.specs.Sound.{Sound}
 use Rattle.pw_run_trace.specs.Traces.{KeepRegisters}
 use Rattle.pw_run_trace.specs.Meeting.{MetWith}
-use Rattle.pw_run_trace.specs.Late.{RefinesLately}
+use Rattle.pw_run_lines.specs.Late.{RefinesLately}
 use Rattle.pw_run_flow.specs.Programs.{Program, AreBytes, NoneForLibrary}
 use Rattle.pw_run_webs.specs.Programs.{IsProgram, StartFits, graph_of, eligible_names}
 use Rattle.pw_run_webs.specs.PlacedRun.{placed_run}

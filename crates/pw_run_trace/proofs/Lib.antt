@@ -1,4 +1,3 @@
 pub mod Likeness
 pub mod Meeting
 pub mod Traffic
-pub mod Late

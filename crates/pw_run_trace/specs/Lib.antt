@@ -1,4 +1,3 @@
 pub mod Traces
 pub mod Traffic
 pub mod Meeting
-pub mod Late

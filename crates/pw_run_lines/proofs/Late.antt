@@ -6,7 +6,7 @@ use Rattle.pw_run.specs.Runs.{View, Stage, Going, Over, Wrong, AreAlike, none, a
 use Rattle.pw_run.proofs.Composition.{alike_twice, same_twice}
 use Rattle.pw_run_trace.specs.Traces.{Event, Called, Refused, Returned, Loaded, Stored, SameKind, call, refusal, return, load, store, is_shown, calls_alone, calls_of, shown_by}
 use Rattle.pw_run_trace.specs.Meeting.{GoesWith, EndsWith, MetWith}
-use Rattle.pw_run_trace.specs.Late.{IsAccess, Lately, level, ahead, GoesLately, MetLately, RefinesLately}
+use Rattle.pw_run_lines.specs.Late.{IsAccess, Lately, level, ahead, GoesLately, MetLately, RefinesLately}
 use Rattle.pw_run_trace.proofs.Likeness.{calls_alike}
 
 -- ---- as refinement

@@ -1,6 +1,7 @@
 -- What a routine leaves is the same from all states that have the same registers, wherever else they differ.
 use Rattle.std.proofs.Common.{ℕ, zero, suc, ◌+◌, ◌-◌, ◌*◌, ◌/◌, ◌%◌, ◌^◌, ◌<◌, ◌≤◌, ◌≡◌, ◌⊎◌, inl, inr, Bool, true, false, List, Option, Some, None, length, refl, sym, ap, subst, ◌∙◌, arith}
 use Rattle.std.specs.Prelude.{◌==◌, ◌&&◌, not, nat_lt, nat_le, if◌then◌else◌, slice_index, slice_set}
+use Rattle.std.specs.Int.{cast_unsigned, w32}
 use Rattle.std.specs.List.{list_all}
 use Rattle.std.proofs.lemmas.Bool.{cases_lt, le-leb, lt-ltb, eq-eqb, eqb-true}
 use Rattle.std.proofs.lemmas.List.Folds.{list_all_at}
@@ -9,13 +10,13 @@ use Rattle.pw_inst.specs.declared.Inst.{Inst}
 use Rattle.pw_inst.specs.declared.Inst.TheVariants.{Ldb, Ldh, Ldw, Stb, Sth, Stw, Vshd, Mtctl, Break}
 use Rattle.pw_inst.specs.Computing.{Action, Puts, Loads, Stores, Shifts, Clears, Branches, Links, Jumps, Calls, Asks, action}
 use Rattle.pw_inst.specs.InstructionTable.{decoded}
+use Rattle.pw_machine.specs.declared.ends.End.{End}
 use Rattle.pw_machine.specs.declared.ends.Halt.TheVariants.{BadBranch}
 use Rattle.pw_machine.specs.Core.{Core, register, advanced, word_at}
 use Rattle.pw_machine.specs.Effect.{Effect, Goes, halts, effect_of_action, effect_of_inst, executed, effect_of, is_in_text}
-use Rattle.pw_machine.specs.Run.{State, Progress, Running, Stopped, goes_on, taken, run_of}
-use Rattle.pw_milli.specs.Calls.{StandsAt, Enters, returned, IsInside, StaysInside, is_by_registers, AreByRegisters, Leaves}
-use Rattle.pw_milli.proofs.Bridge.{effect_runs, effect_passes}
-use Rattle.pw_milli.proofs.Returns.{same_core, started}
+use Rattle.pw_machine.specs.Run.{State, Progress, Running, Stopped, began, goes_on, taken, run_of}
+use Rattle.pw_milli.specs.Calls.{StandsAt, Enters, returned, IsInside}
+use Rattle.pw_law_link_run.specs.Leaving.{is_by_registers, AreByRegisters, Leaves}
 
 -- ---- one instruction
 
@@ -64,13 +65,19 @@ does (Clears t skips) e f p q n = record {
   skips = skips;
   goes = λ b. ap Goes (written b f q ((q + 4) % 2 ^ 32) skips t 0 (t == 0));
 }
-does (Branches go disp) e f p q n = record { registers = f; front = q; back = _; skips = false; goes = λ b. refl }
+does (Branches go disp) e f p q n = record {
+  registers = f;
+  front = q;
+  back = if go then (p + 8 + 4 * cast_unsigned w32 disp) % 2 ^ 32 else (q + 4) % 2 ^ 32;
+  skips = false;
+  goes = λ b. refl;
+}
 does (Links disp t skips) e f p q n = record {
   registers = if t == 0 then f else slice_set f t ((q + 4) % 2 ^ 32);
   front = q;
-  back = _;
+  back = (p + 8 + 4 * cast_unsigned w32 disp) % 2 ^ 32;
   skips = skips;
-  goes = λ b. ap Goes (written b f q _ skips t ((q + 4) % 2 ^ 32) (t == 0));
+  goes = λ b. ap Goes (written b f q ((p + 8 + 4 * cast_unsigned w32 disp) % 2 ^ 32) skips t ((q + 4) % 2 ^ 32) (t == 0));
 }
 does (Jumps to skips) e f p q n = record { registers = f; front = q; back = to; skips = skips; goes = λ b. refl }
 does (Calls to skips) e f p q n = record { registers = slice_set f 31 ((q + 4) % 2 ^ 32); front = q; back = to; skips = skips; goes = λ b. refl }
@@ -133,6 +140,14 @@ runs_in_text s core k mid r next false e =
     let stopped : taken (halts core BadBranch) (record s { core = core }) ≡ Running mid = sym (ap (λ (x : Effect). taken x (record s { core = core })) halted) ∙ (sym (ap goes_on r) ∙ next) in
     absurd cc
 
+effect_runs : (core : Core) (i : Inst) → is_in_text core core.front ≡ true → core.nullify ≡ false → decoded (word_at core.memory core.front) ≡ Some i → effect_of core ≡ executed core i
+unfolding effect_of
+effect_runs core i t n d = rw (t, n, d) refl
+
+effect_passes : (core : Core) → is_in_text core core.front ≡ true → core.nullify ≡ true → effect_of core ≡ Goes (advanced core)
+unfolding effect_of
+effect_passes core t n = rw (t, n) refl
+
 more : (s : State) (k : ℕ) (core new : Core) → run_of k s ≡ Running (record s { core = core }) → effect_of core ≡ Goes new → run_of (suc k) s ≡ Running (record s { core = new })
 unfolding run_of
 more s k core new r e = ap goes_on r ∙ ap (λ (x : Effect). taken x (record s { core = core })) e
@@ -155,6 +170,14 @@ record Both (s t : State) (k : ℕ) : Type 0 where
   skips : Bool
   one : run_of k s ≡ Running (placed s registers front back skips)
   two : run_of k t ≡ Running (placed t registers front back skips)
+
+same_core : (c : Core) (f b : ℕ) (n : Bool) → c.front ≡ f → c.back ≡ b → c.nullify ≡ n → core_at c c.registers f b n ≡ c
+same_core c f b n e g h =
+    ap (λ (x : ℕ). core_at c c.registers x b n) (sym e) ∙ (ap (λ (x : ℕ). core_at c c.registers c.front x n) (sym g) ∙ ap (λ (x : Bool). core_at c c.registers c.front c.back x) (sym h))
+
+started : (words : List ℕ) (a : ℕ) (s : State) → Enters words a s → run_of 0 s ≡ Running s
+unfolding run_of
+started words a s h = ap (λ (o : Option End). began o s) h.stopped
 
 begun : (words : List ℕ) (a : ℕ) (s t : State) → Enters words a s → Enters words a t → s.core.registers ≡ t.core.registers → Both s t 0
 begun words a s t h g same = record {
@@ -221,7 +244,9 @@ went_on (Stopped end t) mid e = absurd cc
 
 goes_before : (n k : ℕ) (s mid : State) → run_of (n + k) s ≡ Running mid → (t : State) × (run_of k s ≡ Running t)
 unfolding run_of
-goes_before zero k s mid e = (mid, subst (λ (j : ℕ). run_of j s ≡ Running mid) (omega arith) e)
+goes_before zero k s mid e =
+    let count : zero + k ≡ k = omega arith in
+    (mid, subst (λ (j : ℕ). run_of j s ≡ Running mid) count e)
 goes_before (suc n) k s mid e =
     let count : suc n + k ≡ suc (n + k) = omega arith in
     let one = went_on (run_of (n + k) s) mid (subst (λ (j : ℕ). run_of j s ≡ Running mid) count e) in
