@@ -1,5 +1,5 @@
 -- The turns that call: the branch with its slot, and what begins at its target.
-use Rattle.std.specs.Prelude.{ℕ, suc, ◌≡◌, ◌≢◌, ◌+◌, ◌%◌, ◌^◌, ◌≤◌, ◌==◌, Bool, true, false, if◌then◌else◌, Option, Some, None, List, [], ◌∷◌, ◌++◌, map, find, Contains, length}
+use Rattle.std.specs.Prelude.{ℕ, suc, ◌≡◌, ◌≢◌, ◌+◌, ◌*◌, ◌%◌, ◌^◌, ◌≤◌, ◌==◌, Bool, true, false, if◌then◌else◌, Option, Some, None, List, [], ◌∷◌, ◌++◌, map, find, Contains, length}
 use Rattle.std.specs.List.{AllByRecursion}
 use Rattle.std.specs.Str.{bytes_eq}
 use Rattle.std.specs.Int.Bits.{or_zero_r}
@@ -182,8 +182,9 @@ call_turn x l k m f rest h run inside high saved =
     let arrives = jump_turn x k c a symbol_is.target 2 symbol_is.jumps.displacement m.rest m.out n l.setting l.few h.at turn symbol_is.jumps.leads (omega arith) stands.0.1 run run
     (record { returns = quiet.returns; enters = quiet.enters }) in
     let linked_to = subst (λ v. Arrives x (suc (suc k)) (lines.with_register 2 v c) symbol_is.target ((symbol_is.target + 4) % 2 ^ 32) m.rest m.out n) (sym back) arrives in
+    let behind : to ≡ a + 4 * 2 = omega (arith, back) in
     record {
-      caller = called_from x m item rest h.there a h.left tt (omega (arith, back));
+      caller = called_from x m item rest h.there a h.left tt behind;
       callers = h.callers;
       link = refl;
       run = run;
@@ -238,8 +239,9 @@ value_called x l k target m rest h run inside high saved there =
     let act : acts x.addresses (Some (Or 31 0 2)) (lines.with_register 31 (a + 8) c) ≡ Acts e =
     subst (λ v. acts x.addresses (Some (Or 31 0 2)) (lines.with_register 31 v c) ≡ Acts e) back (moves_link x c to run) in
     let arrives = value_turn x k c e a m.rest m.out n l.setting l.few h.at turn stands.0.1 act run (record { returns = quiet.returns; enters = quiet.enters }) in
+    let behind : to ≡ a + 4 * 2 = omega (arith, back) in
     record {
-      caller = called_from x m item rest h.there a h.left tt (omega (arith, back));
+      caller = called_from x m item rest h.there a h.left tt behind;
       callers = h.callers;
       link = refl;
       run = run;

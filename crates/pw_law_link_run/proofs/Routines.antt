@@ -300,7 +300,8 @@ routine_begins x l k j m rest r h run inside high =
     let linked_to = subst (λ v. Arrives x (suc (suc k)) (lines.with_register 31 v m.core) symbol_is.target ((symbol_is.target + 4) % 2 ^ 32) m.rest m.out n) (sym back) arrives in
     let there = subst (λ v. Arrives x (suc (suc k)) c v ((v + 4) % 2 ^ 32) m.rest m.out n) (sym same) linked_to in
     let small : (target + 4) % 2 ^ 32 ≡ target + 4 = omega (arith, r.stands.within, l.few) in
-    let caller = called_from x m item rest h.there a h.left tt (omega (arith, back)) in
+    let behind : to ≡ a + 4 * 2 = omega (arith, back) in
+    let caller = called_from x m item rest h.there a h.left tt behind in
     let low = r.apart (left_behind rest m).frame caller in
     record {
       there = h.there;
