@@ -24,3 +24,4 @@ pub mod Shapes
 pub mod Scratch
 pub mod Leaving
 pub mod ByRegisters
+pub mod Behind

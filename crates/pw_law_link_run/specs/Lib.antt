@@ -8,3 +8,4 @@ pub mod Leveled
 pub mod Starting
 pub mod Conventional
 pub mod Leaving
+pub mod Behind

@@ -38,6 +38,7 @@ ghost use Rattle.pw_law_link_run.specs.Steps.{Setting, map_in, IsSetting, Arrive
 ghost use Rattle.pw_law_link_run.specs.Placing.{name_in, own_address, words_of, Parts};
 ghost use Rattle.pw_law_link_run.specs.Simulating.{calls_from, noted_by, IsLinked, IsCaller, Simulates, IsCalm, IsCalmInside, IsCalmBehind, leaving, HasLibrary, IsFit};
 ghost use Rattle.pw_law_link_run.specs.Meeting.{Meets};
+ghost use Rattle.pw_law_link_run.specs.Behind.{AllStand};
 ghost use Rattle.pw_law_link_run.specs.Leaving.{AreByRegisters, Leaves};
 ghost use Rattle.pw_law_link_run.specs.Routines.{HasRoutines, LeaveSo, IsSteadyRun, Makes};
 ghost use Rattle.pw_law_link_run.specs.Leveled.{AreFramed, IsFramed, IsPassing};
@@ -174,6 +175,14 @@ pub fn callers_return_inside()
     ensures { (x : Setting) (g : Frame) (a : ℕ) → IsFramed x g.function → IsCaller x g → own_address x g.function + 4 * words_of x g.function g.function.items ≤ a →
         return_address x.addresses g g.left < a }
 {}
+
+/// Where their words stand behind all functions, and no function begins inside, the library and the routines are there.
+pub fn library_is_there()
+    ensures library { (x : Setting) → AreFramed x → AllStand x → HasLibrary x }
+    ensures routines { (x : Setting) → AreFramed x → AllStand x → HasRoutines x }
+{
+    routines_leave_results();
+}
 
 /// The state in which the program of an image begins is the start of the lines, where its entry, its stack and its data
 /// are those of the lines.
