@@ -46,9 +46,9 @@ asking x words a n h two asks leaves =
     let first : a + 4 * 1 ≡ a + 4 = omega arith in
     let second : a + 4 * 2 ≡ a + 4 + 4 = omega arith in
     record {
-      first = subst (IsInText x) zeroth (in_text x words a 0 h (omega (arith, two)));
-      second = subst (IsInText x) first (in_text x words a 1 h (omega (arith, two)));
-      behind = subst (IsInText x) second (in_text x words a 2 h two);
+      first = subst (λ (b : ℕ). IsInText x b) zeroth (in_text x words a 0 h (omega (arith, two)));
+      second = subst (λ (b : ℕ). IsInText x b) first (in_text x words a 1 h (omega (arith, two)));
+      behind = subst (λ (b : ℕ). IsInText x b) second (in_text x words a 2 h two);
       asks = subst (λ (b : ℕ). fetched x b ≡ Some (Break 0 n)) zeroth (word_there x words a 0 h (omega (arith, two)) ∙ asks);
       leaves = subst (λ (b : ℕ). fetched x b ≡ Some (Bv 2 true)) first (word_there x words a 1 h (omega (arith, two)) ∙ leaves);
     }
