@@ -7,7 +7,7 @@ use Rattle.pw_run.proofs.Composition.{alike_twice, same_twice}
 use Rattle.pw_run_trace.specs.Traces.{Event, Called, Refused, Returned, Loaded, Stored, SameKind, call, refusal, return, load, store, is_shown, calls_alone, calls_of, shown_by}
 use Rattle.pw_run_trace.specs.Meeting.{GoesWith, EndsWith, MetWith}
 use Rattle.pw_run_lines.specs.Late.{IsAccess, Lately, level, ahead, GoesLately, MetLately, RefinesLately}
-use Rattle.pw_run_trace.proofs.Likeness.{calls_alike}
+use Rattle.pw_run_trace.proofs.Likeness.{kind_of_itself, calls_refine}
 
 -- ---- as refinement
 
@@ -154,6 +154,22 @@ not_shown (Called f gs rs) h = absurd h
 not_shown (Refused f) h = absurd h
 not_shown (Returned f k gs rs ss) h = absurd h
 
+-- what is shown of like logs is alike: as of two runs that have these logs at each stage
+as_run : {B V : Type 0} → List (Event B V) → ℕ → Stage (Event B V)
+as_run l n = Going (record { output = []; read = 0; events = 0; log = l })
+
+log_at : {M : Type 0} → Stage M → List M
+log_at (Going v) = v.log
+log_at (Over end v) = v.log
+log_at Wrong = []
+
+calls_alike : {B C V W : Type 0} (F : Event B V → Event C W → Type 0) → ((e : Event B V) (f : Event C W) → F e f → SameKind e f)
+    → (l : List (Event B V)) (m : List (Event C W)) → AreAlike F l m → AreAlike F (calls_alone l) (calls_alone m)
+calls_alike F kind l m p =
+    let q : GoesOn F (record { output = []; read = 0; events = 0; log = calls_alone l }) (calls_of (as_run m)) = calls_refine F kind (as_run l) (as_run m)
+    (λ n. record { at = 0; view = record { output = []; read = 0; events = 0; log = m }; is = refl; same = record { output = refl; read = refl; log = p }; counted = omega arith }) 0 in
+    subst (λ k. AreAlike F (calls_alone l) k) (sym (ap log_at q.is)) q.same.log
+
 -- loads and stores are not shown
 calls_level : {B C V W : Type 0} (F : Event B V → Event C W → Type 0) → ((e : Event B V) (f : Event C W) → F e f → SameKind e f)
     → (l : List (Event B V)) (m : List (Event C W)) → Lately F l m → AreAlike F (calls_alone l) (calls_alone m)
@@ -211,3 +227,8 @@ carried_late F P Q h earlier (Over end v) b c r p =
       holds = h p.view.log m.view.log m.same.log p.holds;
     }
 carried_late F P Q h earlier Wrong b c r p = tt
+
+-- ---- of words
+
+pub same_kind : (e f : Event ℕ ℕ) → Same e f → SameKind e f
+same_kind e f p = subst (λ f. SameKind e f) p (kind_of_itself e)
