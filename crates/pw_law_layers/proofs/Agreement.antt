@@ -14,9 +14,9 @@ use Rattle.pw_run_agreement.specs.MachineStages.{machine_run}
 use Rattle.pw_run_agreement.specs.Agreement as agreement
 use Rattle.pw_run_agreement.specs.Agreement.{Agree}
 use Rattle.pw_run_trace.specs.Traces.{Event, EventAlike, SameKind, calls_of, calls_alone, shown_by}
-use Rattle.pw_run_trace.proofs.Likeness.{kind_of_alike, kind_of_itself, met_shown, calls_refine}
+use Rattle.pw_run_trace.proofs.Likeness.{kind_of_alike, met_shown, calls_refine}
 use Rattle.pw_run_lines.specs.Late.{RefinesLately}
-use Rattle.pw_run_lines.proofs.Late.{calls_in_time}
+use Rattle.pw_run_lines.proofs.Late.{calls_in_time, same_kind}
 use Rattle.pw_run_flow.specs.Programs.{Program}
 use Rattle.pw_run_flow.specs.FlowRun as flow
 use Rattle.pw_run_webs.specs.Direction.{MomentAlike}
@@ -54,9 +54,6 @@ met_wider F G h (Over end v) b p = record {
 met_wider F G h run.Wrong b p = tt
 
 -- ---- the runs one after another
-
-pub same_kind : (e f : Event ℕ ℕ) → Same e f → SameKind e f
-same_kind e f p = subst (λ f. SameKind e f) p (kind_of_itself e)
 
 pub words_kind : (p : Program) (named : List ℕ → ℕ) (e : Event Byte Value) (f : Event ℕ ℕ) → EventInWords p named e f → SameKind e f
 words_kind p named e f w = kind_of_alike _ _ e f w.alike

@@ -19,7 +19,7 @@ use Rattle.pw_run_trace.specs.Traffic.{ObeysTraffic}
 use Rattle.pw_run_trace.specs.Meeting.{MetWith}
 use Rattle.pw_run_lines.specs.Late.{RefinesLately}
 use Rattle.pw_run_trace.proofs.Meeting.{met_with, met_through, of_shown, carried}
-use Rattle.pw_run_lines.proofs.Late.{late_same, carried_late}
+use Rattle.pw_run_lines.proofs.Late.{late_same, carried_late, same_kind}
 use Rattle.pw_run_trace.proofs.Traffic.{traffic_alike}
 use Rattle.pw_run_flow.specs.Programs.{Program}
 use Rattle.pw_run_flow.specs.FlowRun.{flow_run}
@@ -37,7 +37,7 @@ use Rattle.pw_law_layers.specs.Whole.{InMachine, image_of, program_of, LayersCom
 use Rattle.pw_law_layers.specs.Rooms.{MapHasFrames}
 use Rattle.pw_law_layers.proofs.Fitting.{places_fit}
 use Rattle.pw_law_layers.proofs.Starts.{starts, start_fits}
-use Rattle.pw_law_layers.proofs.Agreement.{source_to_machine, source_to_webs, source_to_places, agrees, places_kind, words_kind, same_kind}
+use Rattle.pw_law_layers.proofs.Agreement.{source_to_machine, source_to_webs, source_to_places, agrees, places_kind, words_kind}
 use Rattle.pw_law_layers.proofs.Noted.{defined_notes, registers_closed, traffic_closed, same_logs, same_kinds}
 
 -- what the lines note of registers holds of the machine
