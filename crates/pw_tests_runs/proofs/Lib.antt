@@ -6,6 +6,7 @@ mod LawfulRows
 mod LawRows
 mod JumpRows
 mod ProgramRows
+mod SoundRows
 mod RegisterRows
 mod WordRows
 mod SourceRows
