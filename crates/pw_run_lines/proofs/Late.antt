@@ -1,11 +1,11 @@
 -- Logs that may be behind by loads and stores: with runs that refine, before and behind; in what is shown of calls they
 -- are not behind; and what holds of earlier logs holds of them.
-use Rattle.std.specs.Prelude.{ℕ, ◌≡◌, Bool, true, false, if◌then◌else◌, List, [], ◌∷◌}
+use Rattle.std.specs.Prelude.{ℕ, ◌≡◌, Bool, false, if◌then◌else◌, List, [], ◌∷◌}
 use Rattle.std.proofs.Common.{arith, subst, sym, ap, refl, ◌∙◌}
-use Rattle.pw_run.specs.Runs.{View, Stage, Going, Over, Wrong, AreAlike, none, also, GoesOn, EndsSo, Met, Refines, Through, Same}
+use Rattle.pw_run.specs.Runs.{Stage, Going, Over, Wrong, AreAlike, none, also, GoesOn, EndsSo, Met, Refines, Through, Same}
 use Rattle.pw_run.proofs.Composition.{alike_twice, same_twice}
 use Rattle.pw_run_trace.specs.Traces.{Event, Called, Refused, Returned, Loaded, Stored, SameKind, call, refusal, return, load, store, is_shown, calls_alone, calls_of, shown_by}
-use Rattle.pw_run_trace.specs.Meeting.{GoesWith, EndsWith, MetWith}
+use Rattle.pw_run_trace.specs.Meeting.{MetWith}
 use Rattle.pw_run_lines.specs.Late.{IsAccess, Lately, level, ahead, GoesLately, MetLately, RefinesLately}
 use Rattle.pw_run_trace.proofs.Likeness.{kind_of_itself, calls_refine}
 
@@ -165,6 +165,7 @@ log_at Wrong = []
 
 calls_alike : {B C V W : Type 0} (F : Event B V → Event C W → Type 0) → ((e : Event B V) (f : Event C W) → F e f → SameKind e f)
     → (l : List (Event B V)) (m : List (Event C W)) → AreAlike F l m → AreAlike F (calls_alone l) (calls_alone m)
+unfolding as_run log_at
 calls_alike F kind l m p =
     let q : GoesOn F (record { output = []; read = 0; events = 0; log = calls_alone l }) (calls_of (as_run m)) = calls_refine F kind (as_run l) (as_run m)
     (λ n. record { at = 0; view = record { output = []; read = 0; events = 0; log = m }; is = refl; same = record { output = refl; read = refl; log = p }; counted = omega arith }) 0 in
