@@ -332,6 +332,7 @@ one_routine has (suc (suc (suc (suc (suc j))))) below = absurd (omega (arith, be
 
 one_left : (x : Setting) (has : HasRoutines x) (scratch : ℕ → (ℕ → ℕ) → ℕ → ℕ) → LeaveSo x has scratch → (j : ℕ) (below : j < 5)
     → LeavesSo x j (one_routine has j below) (scratch j)
+unfolding one_routine
 one_left x has scratch so zero below = so.divs
 one_left x has scratch so (suc zero) below = so.divu
 one_left x has scratch so (suc (suc zero)) below = so.mul

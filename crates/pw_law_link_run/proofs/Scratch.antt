@@ -73,6 +73,7 @@ left_by x j h f r =
     slice_index (h.makes (entered x address f) (enters_entered x h.words address f h.stands)).registers r
 
 leaves_so : (x : Setting) (j : ℕ) (h : HasRoutine x j) → LeavesSo x j h (left_by x j h)
+unfolding left_by leaves
 leaves_so x j h f s e is none low r =
     let address = x.addresses.routine j in
     let t = entered x address f in
@@ -92,6 +93,7 @@ left_words x has (suc (suc (suc (suc zero)))) = left_by x 4 has.remu
 left_words x has (suc (suc (suc (suc (suc j))))) = λ f r. 0
 
 pub some_left : (x : Setting) (has : HasRoutines x) → (scratch : ℕ → (ℕ → ℕ) → ℕ → ℕ) × LeaveSo x has scratch
+unfolding left_words left_by
 some_left x has = (
   left_words x has,
   record {

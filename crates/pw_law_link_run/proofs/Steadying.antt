@@ -161,7 +161,7 @@ turning_steady x l fr m item rest turning back h s level next =
       level = level;
     }
 
-abbrev TurnSteady : (x : Setting) → AreFramed x → (ℕ → ℕ → ℕ) → Turn → Option Word → Type 0
+abbrev TurnSteady : (x : Setting) → AreFramed x → (ℕ → (ℕ → ℕ) → ℕ → ℕ) → Turn → Option Word → Type 0
 TurnSteady x fr scratch turn slot =
     (m : Machine) (rest : List Item) → TurnAt x fr m (Turns turn slot) rest → m.core.skip ≡ false
     → Steady x fr (left_behind (Turns turn slot ∷ rest) m) (Turns turn slot) (turned x.program x.addresses scratch turn slot (Turns turn slot ∷ rest) rest (left_behind (Turns turn slot ∷ rest) m))

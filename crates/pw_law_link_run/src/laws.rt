@@ -119,7 +119,7 @@ pub fn routines_leave_results()
 /// What a routine of arithmetic leaves in the registers is a function of the registers at its first word, where it
 /// stands at an address and returns below it: the instructions of the five read and write general registers alone, and
 /// from two states with the same registers such words leave the same.
-#[tactic(auto, using(crate::proofs::ByRegisters::divs_by_registers, crate::proofs::ByRegisters::divu_by_registers, crate::proofs::ByRegisters::mul_by_registers, crate::proofs::ByRegisters::rems_by_registers, crate::proofs::ByRegisters::remu_by_registers, crate::proofs::Leaving::leaves_alike))]
+#[tactic(auto, using(crate::proofs::ByRegisters::divs_by_registers, crate::proofs::ByRegisters::divu_by_registers, crate::proofs::ByRegisters::mul_by_registers, crate::proofs::ByRegisters::rems_by_registers, crate::proofs::ByRegisters::remu_by_registers))]
 pub fn routines_leave_by_registers()
     ensures divs { AreByRegisters divs_words }
     ensures divu { AreByRegisters divu_words }
