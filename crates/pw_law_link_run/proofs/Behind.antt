@@ -1,10 +1,9 @@
 -- The library and the routines are there where their words stand behind all functions.
 use Rattle.std.specs.Prelude.{ℕ, ◌≡◌, ◌+◌, ◌*◌, ◌<◌, ◌≤◌, ◌⊎◌, true, Some, None, List, length, slice_index}
-use Rattle.std.proofs.Common.{arith, subst, sym, ap, refl, ◌∙◌, inl, inr}
+use Rattle.std.proofs.Common.{arith, subst, ap, refl, ◌∙◌, inl, inr}
 use Rattle.std.proofs.lemmas.Bool.{cases_eq, cases_lt}
 use Rattle.pw_inst.specs.declared.Inst.TheVariants.{Break, Bv}
 use Rattle.pw_inst.specs.InstructionTable.{decoded, form_of, system, three_register, long_immediate, compare, subtract_immediate, extract, deposit, branch_external, branch, memory}
-use Rattle.pw_machine.specs.Core.{word_at}
 use Rattle.pw_machine.specs.Run.{State}
 use Rattle.pw_milli.specs.Words.{exit_words, getchar_words, putchar_words, divs_words, divu_words, mul_words, rems_words, remu_words}
 use Rattle.pw_milli.specs.Calls.{Enters}

@@ -1,6 +1,5 @@
 -- The routines of arithmetic read and write general registers alone.
-use Rattle.std.proofs.Common.{ℕ, ◌≡◌, true, refl}
-use Rattle.std.specs.List.{list_all}
+use Rattle.std.proofs.Common.{refl}
 use Rattle.pw_inst.specs.InstructionTable.{decoded, form_of, system, three_register, long_immediate, compare, subtract_immediate, extract, deposit, branch_external, branch, memory}
 use Rattle.pw_milli.specs.Words.{divs_words, divu_words, mul_words, rems_words, remu_words}
 use Rattle.pw_law_link_run.specs.Leaving.{AreByRegisters}

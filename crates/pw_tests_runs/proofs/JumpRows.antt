@@ -1,5 +1,5 @@
 -- A function that ends with a jump, `int f(int a) { if (a) return 1; else return 2; }`: no caller is left at its end.
-use Rattle.std.specs.Prelude.{ℕ, ◌≡◌, None, Some, List, [], ◌∷◌, ◌++◌, codes}
+use Rattle.std.specs.Prelude.{◌≡◌, None, Some, List, [], ◌∷◌, ◌++◌, codes}
 use Rattle.std.proofs.Common.{subst, sym, ap, refl, ◌∙◌}
 use Rattle.pw_flow.specs.declared.flow.Op.TheVariants.{Const}
 use Rattle.pw_flow.specs.declared.flow.End.TheVariants.{Jump, Branch, Return}
