@@ -29,7 +29,7 @@ use Rattle.pw_delay.proofs.MarkLaws.{mark_at_within}
 use Rattle.pw_link.specs.Layout.{Sites}
 use Rattle.pw_link.specs.Linking.{word_address, symbol_address, settled}
 use Rattle.pw_run_lines.specs.Acts as lines
-use Rattle.pw_run_lines.specs.LineRun.{turns}
+use Rattle.pw_run_lines.specs.LineRun.{turns, IsCalling}
 use Rattle.pw_run_lines.specs.Words.{Text, JumpsTo, TestsShort, Tests, CallsSymbol, SlotStands, TurnStands, StandsAt}
 use Rattle.pw_run_machine.specs.CodeStands.{IsOfProgram, AreApart, AreReady, is_long, Reaches, IsKnown, StandAt, PlacedCodeStands}
 use Rattle.pw_law_code.proofs.Branching.{hop, lands, text_end}
@@ -197,7 +197,7 @@ unfolding IsInRange
 ble_range = omega arith
 
 turn_stands : (t : Text) (sites : Sites) (own : ℕ) (begins : ℕ → ℕ) (total k : ℕ) (turn : Turn) (slot : Option Word) (rest : List Item) → Ground t own t.long begins total → k + turn_size t.long turn slot ≤ total
-    → IsReadyTurn turn → IsReadySlot slot → Returns t own k rest → WordsHold t sites own k (turn_words t.long begins k turn slot) → TurnStands t (own + 4 * k) turn slot rest
+    → IsReadyTurn turn → IsReadySlot slot → (IsCalling (Turns turn slot) → Returns t own k rest) → WordsHold t sites own k (turn_words t.long begins k turn slot) → TurnStands t (own + 4 * k) turn slot rest
 turn_stands t sites own begins total k (Back branch) slot rest g within ready filled behind h =
     (bare_stands t sites own k branch ready h.0, slot_stands t sites own k slot filled h.1.0)
 turn_stands t sites own begins total k (Goto b) slot rest g within ready filled behind h =
@@ -205,9 +205,9 @@ turn_stands t sites own begins total k (Goto b) slot rest g within ready filled 
 turn_stands t sites own begins total k (If r b) slot rest g within ready filled behind h =
     if_stands t sites own t.long begins total k r b slot g within ready filled h
 turn_stands t sites own begins total k (CallTo s link) slot rest g within ready filled behind h =
-    (call_stands t sites own t.long begins total k link s g within ready.0 ready.1 h.0, slot_stands t sites own k slot filled h.1.0, behind)
+    (call_stands t sites own t.long begins total k link s g within ready.0 ready.1 h.0, slot_stands t sites own k slot filled h.1.0, behind tt)
 turn_stands t sites own begins total k CallReg slot rest g within ready filled behind h =
-    (bare_stands t sites own k (i.Ble 22 false) ble_range h.0, slot_stands t sites own k slot filled h.1.0, behind)
+    (bare_stands t sites own k (i.Ble 22 false) ble_range h.0, slot_stands t sites own k slot filled h.1.0, behind tt)
 turn_stands t sites own begins total k Leave None rest g within ready filled behind h =
     bare_stands t sites own k (i.Bv 2 true) (bv_range true) h.0
 turn_stands t sites own begins total k Leave (Some w) rest g within ready filled behind h =
@@ -220,7 +220,7 @@ pub record Left (t : Text) (sites : Sites) (own : ℕ) (long : Bool) (begins : �
   ready : AllByRecursion IsReadyItem items
   marks : AllByRecursion (λ b. begins b ≡ mark_at long k items b) (marks_of items)
   apart : AreApart (marks_of items)
-  behind : (before rest : List Item) (turn : Turn) (slot : Option Word) → items ≡ before ++ Turns turn slot ∷ rest → Returns t own (k + sizes long before) rest
+  behind : (before rest : List Item) (item : Item) → IsCalling item → items ≡ before ++ item ∷ rest → Returns t own (k + sizes long before) rest
   within : k + sizes long items ≤ total
 
 -- the words behind an item
@@ -230,12 +230,12 @@ words_behind t sites own long begins k item rest h =
     let both = hold_split t sites own k (item_words long begins k item) (words_from long begins (k + size long item) rest) h in
     (both.0, subst (λ (n : ℕ). WordsHold t sites own (k + n) (words_from long begins (k + size long item) rest)) (item_length long begins k item) both.1)
 
-returns_behind : (t : Text) (own : ℕ) (long : Bool) (k : ℕ) (item : Item) (items : List Item)
-    → ((before rest : List Item) (turn : Turn) (slot : Option Word) → item ∷ items ≡ before ++ Turns turn slot ∷ rest → Returns t own (k + sizes long before) rest)
-    → (before rest : List Item) (turn : Turn) (slot : Option Word) → items ≡ before ++ Turns turn slot ∷ rest → Returns t own (k + size long item + sizes long before) rest
-returns_behind t own long k item items behind before rest turn slot e =
-    let h = behind (item ∷ before) rest turn slot (ap (λ (l : List Item). item ∷ l) e) in
-    omega (arith, h, sum_by-cons (size long) item before)
+returns_behind : (t : Text) (own : ℕ) (long : Bool) (k : ℕ) (first : Item) (items : List Item)
+    → ((before rest : List Item) (item : Item) → IsCalling item → first ∷ items ≡ before ++ item ∷ rest → Returns t own (k + sizes long before) rest)
+    → (before rest : List Item) (item : Item) → IsCalling item → items ≡ before ++ item ∷ rest → Returns t own (k + size long first + sizes long before) rest
+returns_behind t own long k first items behind before rest item calling e =
+    let h = behind (first ∷ before) rest item calling (ap (λ (l : List Item). first ∷ l) e) in
+    omega (arith, h, sum_by-cons (size long) first before)
 
 within_behind : (long : Bool) (total k : ℕ) (item : Item) (rest : List Item) → k + sizes long (item ∷ rest) ≤ total → k + size long item + sizes long rest ≤ total
 within_behind long total k item rest h = omega (arith, h, sum_by-cons (size long) item rest)
@@ -270,7 +270,7 @@ stands t sites own begins total g k (Turns turn slot ∷ rest) l =
     let words = words_behind t sites own t.long begins k (Turns turn slot) rest l.words in
     let next : own + 4 * (k + n) ≡ own + 4 * k + 4 * n = omega arith in
     let within = within_behind t.long total k (Turns turn slot) rest l.within in
-    let back : Returns t own k rest = omega (arith, l.behind [] rest turn slot refl) in
+    let back : IsCalling (Turns turn slot) → Returns t own k rest = λ calling. omega (arith, l.behind [] rest (Turns turn slot) calling refl) in
     let left : Left t sites own t.long begins total (k + n) rest = record {
       words = words.1;
       ready = l.ready.1;
@@ -290,7 +290,7 @@ stands t sites own begins total g k (Mark m ∷ rest) l =
       ready = l.ready.1;
       marks = other_marks t.long begins k m rest (marks_of rest) l.apart.0 l.marks.1;
       apart = l.apart.1;
-      behind = λ before after turn slot e. subst (λ (n : ℕ). Returns t own (n + sizes t.long before) after) same (returns_behind t own t.long k (Mark m) rest l.behind before after turn slot e);
+      behind = λ before after item calling e. subst (λ (n : ℕ). Returns t own (n + sizes t.long before) after) same (returns_behind t own t.long k (Mark m) rest l.behind before after item calling e);
       within = omega (arith, within_behind t.long total k (Mark m) rest l.within);
     } in
     (here, stands t sites own begins total g k rest left)
@@ -340,7 +340,7 @@ laid_so ls t sites own ready at =
         ready = slotted_ready ls ready.each;
         marks = each_is long items (marks_of items);
         apart = subst AreApart (sym (marks_are_labels ls)) ready.labels;
-        behind = λ before rest turn slot e. omega (arith, at.behind before rest turn slot e);
+        behind = λ before rest item calling e. omega (arith, at.behind before rest item calling e);
         within = omega arith;
       };
     }

@@ -14,7 +14,9 @@ use Rattle.pw_run_agreement.specs.MachineStages.{machine_run}
 use Rattle.pw_run_agreement.specs.Agreement as agreement
 use Rattle.pw_run_agreement.specs.Agreement.{Agree}
 use Rattle.pw_run_trace.specs.Traces.{Event, EventAlike, SameKind, calls_of, calls_alone, shown_by}
-use Rattle.pw_run_trace.proofs.Likeness.{kind_of_alike, kind_of_itself, met_shown, calls_refine}
+use Rattle.pw_run_trace.proofs.Likeness.{kind_of_alike, met_shown, calls_refine}
+use Rattle.pw_run_lines.specs.Late.{RefinesLately}
+use Rattle.pw_run_lines.proofs.Late.{calls_in_time, same_kind}
 use Rattle.pw_run_flow.specs.Programs.{Program}
 use Rattle.pw_run_flow.specs.FlowRun as flow
 use Rattle.pw_run_webs.specs.Direction.{MomentAlike}
@@ -53,9 +55,6 @@ met_wider F G h run.Wrong b p = tt
 
 -- ---- the runs one after another
 
-pub same_kind : (e f : Event ℕ ℕ) → Same e f → SameKind e f
-same_kind e f p = subst (λ f. SameKind e f) p (kind_of_itself e)
-
 pub words_kind : (p : Program) (named : List ℕ → ℕ) (e : Event Byte Value) (f : Event ℕ ℕ) → EventInWords p named e f → SameKind e f
 words_kind p named e f w = kind_of_alike _ _ e f w.alike
 
@@ -66,7 +65,7 @@ places_kind e f w = kind_of_alike Same Same e f w
 pub source_to_machine : (p : Program) (named : List ℕ → ℕ)
     (source : ℕ → Stage Moment) (flows : ℕ → Stage flow.Moment) (webs places : ℕ → Stage (Event Byte Value)) (lines machine : ℕ → Stage (Event ℕ ℕ))
     → Refines (MomentKept p) source flows → Refines (MomentAlike p) flows (calls_of webs)
-    → Refines (EventAlike Same Same) webs places → Refines (EventInWords p named) places lines → Refines Same lines machine
+    → Refines (EventAlike Same Same) webs places → Refines (EventInWords p named) places lines → RefinesLately Same lines machine
     → Refines (InMachine p named) source (calls_of machine)
 source_to_machine p named source flows webs places lines machine a b c d e =
     λ n. met_wider (Through (MomentKept p) (Through (MomentAlike p) (Through (EventAlike Same Same) (Through (EventInWords p named) Same))))
@@ -79,7 +78,7 @@ source_to_machine p named source flows webs places lines machine a b c d e =
     (calls_refine (EventAlike Same Same) places_kind webs places c)
     (refines_twice (EventInWords p named) Same (calls_of places) (calls_of lines) (calls_of machine)
     (calls_refine (EventInWords p named) (words_kind p named) places lines d)
-    (calls_refine Same same_kind lines machine e)))) n)
+    (calls_in_time Same same_kind lines machine e)))) n)
 
 -- from the source to the directed run, and to the run with places
 pub source_to_webs : (p : Program) (source : ℕ → Stage Moment) (flows : ℕ → Stage flow.Moment) (webs : ℕ → Stage (Event Byte Value))

@@ -17,7 +17,9 @@ use Rattle.pw_db_sound.specs.CallGraphs.{Graph}
 use Rattle.pw_run_trace.specs.Traces.{Event, EventAlike, calls_alone, calls_of, Notes, KeepRegisters}
 use Rattle.pw_run_trace.specs.Traffic.{ObeysTraffic}
 use Rattle.pw_run_trace.specs.Meeting.{MetWith}
+use Rattle.pw_run_lines.specs.Late.{RefinesLately}
 use Rattle.pw_run_trace.proofs.Meeting.{met_with, met_through, of_shown, carried}
+use Rattle.pw_run_lines.proofs.Late.{late_same, carried_late, same_kind}
 use Rattle.pw_run_trace.proofs.Traffic.{traffic_alike}
 use Rattle.pw_run_flow.specs.Programs.{Program}
 use Rattle.pw_run_flow.specs.FlowRun.{flow_run}
@@ -27,7 +29,7 @@ use Rattle.pw_run_webs.specs.Direction.{web_run, with_functions, MomentAlike}
 use Rattle.pw_run_webs.specs.Laws.{DirectionKeeps, PlacesKeep}
 use Rattle.pw_run_lines.specs.Standing.{EventInWords}
 use Rattle.pw_run_lines.specs.LineRun.{line_run}
-use Rattle.pw_run_lines.specs.Laws.{line_program, SelectionKeeps}
+use Rattle.pw_run_lines.specs.Laws.{line_program, placed_program, SelectionKeeps, PlacementKeepsRuns}
 use Rattle.pw_run_machine.specs.Laws.{LinkKeeps, address_of, frame_in, map_of, image_run}
 use Rattle.pw_law_layers.specs.Source.{source_stages, source_runs}
 use Rattle.pw_law_layers.specs.Lowering.{MomentKept}
@@ -35,23 +37,23 @@ use Rattle.pw_law_layers.specs.Whole.{InMachine, image_of, program_of, LayersHol
 use Rattle.pw_law_layers.specs.Rooms.{MapHasFrames}
 use Rattle.pw_law_layers.proofs.Fitting.{places_fit}
 use Rattle.pw_law_layers.proofs.Starts.{starts, start_fits}
-use Rattle.pw_law_layers.proofs.Agreement.{source_to_machine, source_to_webs, source_to_places, agrees, places_kind, words_kind, same_kind}
+use Rattle.pw_law_layers.proofs.Agreement.{source_to_machine, source_to_webs, source_to_places, agrees, places_kind, words_kind}
 use Rattle.pw_law_layers.proofs.Noted.{defined_notes, registers_closed, traffic_closed, same_logs, same_kinds}
 
 -- what the lines note of registers holds of the machine
 registers_down : (d : List (List ℕ × Directives)) (s : Stage Moment) (lines machine : ℕ → Stage (Event ℕ ℕ))
-    → Refines Same lines machine → MetWith (KeepRegisters d) s lines → MetWith (KeepRegisters d) s machine
+    → RefinesLately Same lines machine → MetWith (KeepRegisters d) s lines → MetWith (KeepRegisters d) s machine
 registers_down d s lines machine r m =
-    carried Same (KeepRegisters d) (KeepRegisters d) (λ l k a h. subst (KeepRegisters d) (same_logs l k a) h) s lines machine r m
+    carried_late Same (KeepRegisters d) (KeepRegisters d) (λ l k a h. subst (KeepRegisters d) (same_logs l k a) h) (λ e l h. h.1) s lines machine r m
 
 -- what the directed run notes of traffic holds of the machine
 traffic_down : (p : Program) (named : List ℕ → ℕ) (g : Graph) (d : List (List ℕ × Directives)) (s : Stage Moment)
     (webs places : ℕ → Stage (Event Byte Value)) (lines machine : ℕ → Stage (Event ℕ ℕ))
-    → Refines (EventAlike Same Same) webs places → Refines (EventInWords p named) places lines → Refines Same lines machine
+    → Refines (EventAlike Same Same) webs places → Refines (EventInWords p named) places lines → RefinesLately Same lines machine
     → MetWith (ObeysTraffic g d) s webs → MetWith (ObeysTraffic g d) s machine
 traffic_down p named g d s webs places lines machine a b c m =
-    carried Same (ObeysTraffic g d) (ObeysTraffic g d)
-    (λ l k q. traffic_alike g d l k (same_kinds Same same_kind l k q)) s lines machine c
+    carried_late Same (ObeysTraffic g d) (ObeysTraffic g d)
+    (λ l k q. traffic_alike g d l k (same_kinds Same same_kind l k q)) (λ e l h. h.1) s lines machine c
     (carried (EventInWords p named) (ObeysTraffic g d) (ObeysTraffic g d)
     (λ l k q. traffic_alike g d l k (same_kinds (EventInWords p named) (words_kind p named) l k q)) s places lines b
     (carried (EventAlike Same Same) (ObeysTraffic g d) (ObeysTraffic g d)
@@ -70,6 +72,7 @@ record Layers (p : source.Program) (q : Program) (d : List (List ℕ × Directiv
   places : PlacesKeep q d functions input
   link : LinkKeeps q functions v input
   selection : SelectionKeeps q d functions link.addresses link.scratch input
+  placement : RefinesLately Same (line_run (line_program q functions) link.addresses link.scratch input) (line_run (placed_program q functions) link.addresses link.scratch input)
 
 whole : (p : source.Program) (q : Program) (d : List (List ℕ × Directives)) (functions : List Located) (v : Image) (frame_of : List ℕ → ℕ) (stack : ℕ) (input : List ℕ)
     → (l : Layers p q d functions v frame_of stack input)
@@ -81,19 +84,20 @@ whole p q d functions v frame_of stack input l words =
     let places = placed_run (with_functions q functions) input in
     let lines = line_run (line_program q functions) l.link.addresses l.link.scratch input in
     let machine = image_run q functions v input in
+    let down = late_same lines (line_run (placed_program q functions) l.link.addresses l.link.scratch input) machine l.placement l.link.runs in
     let all = source_to_machine q (address_of v) source (flow_run q input) webs places lines machine
-    l.low l.direction.runs l.places.runs words l.link.runs in
+    l.low l.direction.runs l.places.runs words down in
     let to_webs = source_to_webs q source (flow_run q input) webs l.low l.direction.runs in
     let to_places = source_to_places q source webs places to_webs l.places.runs in
     record {
       agree = agrees p frame_of stack input q (address_of v) (map_of q functions v) (image_start v.memory) all;
       places = all;
       registers = λ defined n. defined_notes (KeepRegisters d) (registers_closed d) p frame_of stack input (map_of q functions v) (image_start v.memory) defined
-          (λ k. registers_down d (source k) lines machine l.link.runs
+          (λ k. registers_down d (source k) lines machine down
           (met_through (Through (Through (MomentKept q) (MomentAlike q)) (EventAlike Same Same)) (KeepRegisters d) (source k) (calls_of places) lines
           (to_places k) (λ j. of_shown (KeepRegisters d) calls_alone (places j) lines (l.selection.registers j)))) n;
       traffic = λ defined n. defined_notes (ObeysTraffic (graph_of q) d) (traffic_closed (graph_of q) d) p frame_of stack input (map_of q functions v) (image_start v.memory) defined
-          (λ k. traffic_down q (address_of v) (graph_of q) d (source k) webs places lines machine l.places.runs words l.link.runs
+          (λ k. traffic_down q (address_of v) (graph_of q) d (source k) webs places lines machine l.places.runs words down
           (met_with (Through (MomentKept q) (MomentAlike q)) (ObeysTraffic (graph_of q) d) calls_alone (source k) webs l.direction.traffic (to_webs k))) n;
     }
 
@@ -102,13 +106,13 @@ holds p d functions objects stack input l =
     let q = program_of p objects stack in
     let v = image_of objects stack in
     let h = whole p q d functions v (frame_in v) stack input
-    (record { low = l.lowering; direction = l.direction; places = l.places; link = l.linking; selection = l.selection })
+    (record { low = l.lowering; direction = l.direction; places = l.places; link = l.linking; selection = l.selection; placement = l.placement })
     (subst (λ named. Refines (EventInWords q named) (placed_run (with_functions q functions) input) (line_run (line_program q functions) l.linking.addresses l.linking.scratch input)) l.linking.named l.selection.runs) in
     record { agree = h.agree; places = h.places; registers = h.registers; traffic = h.traffic }
 
--- by the law on the map
-pub composes : MapHasFrames → LayersHold → LayersCompose
-composes map hold low selection link p d functions objects stack input built bytes direction places =
+-- by the laws on the map and on placement
+pub composes : MapHasFrames → PlacementKeepsRuns → LayersHold → LayersCompose
+composes map placement hold low selection link p d functions objects stack input built bytes direction places =
     let q = program_of p objects stack in
     let v = image_of objects stack in
     let program = built.accepted.program in
@@ -125,4 +129,5 @@ composes map hold low selection link p d functions objects stack input built byt
       places = places;
       linking = l;
       selection = selection q d functions l.addresses l.scratch input program built.database built.sound built.serve frames start l.lawful bytes;
+      placement = placement q d functions l.addresses l.scratch input program built.database built.serve frames start l.lawful bytes;
     })

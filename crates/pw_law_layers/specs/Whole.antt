@@ -28,6 +28,7 @@ use Rattle.pw_run_agreement.specs.Agreement.{Agree, IsDefined}
 use Rattle.pw_db_sound.specs.Sound.{Sound}
 use Rattle.pw_run_trace.specs.Traces.{Standing, InMemory, InPlace, Event, Called, Returned, EventAlike, calls_of, Notes, KeepRegisters}
 use Rattle.pw_run_trace.specs.Traffic.{ObeysTraffic}
+use Rattle.pw_run_lines.specs.Late.{RefinesLately}
 use Rattle.pw_run_flow.specs.Memory.{scalar_of}
 use Rattle.pw_run_flow.specs.Programs as flows
 use Rattle.pw_run_flow.specs.FlowRun as flow
@@ -39,7 +40,8 @@ use Rattle.pw_run_lines.specs.Standing.{pointer_address, byte_of, EventInWords}
 use Rattle.pw_run_machine.specs.Laws.{AreObjectsOf, AreNamesApart, address_of, frame_in, image_run}
 use Rattle.pw_law_layers.specs.Source.{source_stages, source_runs}
 use Rattle.pw_run_webs.specs.Laws.{DirectionKeeps, PlacesKeep}
-use Rattle.pw_run_lines.specs.Laws.{SelectionKeeps, SelectionKeepsRuns}
+use Rattle.pw_run_lines.specs.LineRun.{line_run}
+use Rattle.pw_run_lines.specs.Laws.{line_program, placed_program, SelectionKeeps, SelectionKeepsRuns}
 use Rattle.pw_run_machine.specs.Laws.{LinkKeeps, LinkKeepsRuns}
 use Rattle.pw_law_layers.specs.Lowering.{MomentKept, flow_program, IsAccepted, AreChecked, HaveParts, LoweringKeepsRuns}
 
@@ -133,8 +135,8 @@ pub record Holds (p : Program) (d : List (List ℕ × Directives)) (functions : 
   pub traffic : IsDefined (source_runs p (frame_in (image_of objects stack)) stack input) → (n : ℕ) →
       Notes (ObeysTraffic (graph_of (program_of p objects stack)) d) (image_run (program_of p objects stack) functions (image_of objects stack) input n)
 
--- What each layer keeps in the runs of one program, with its directives and its places: selection at the addresses that
--- linking gives, with the words that the routines leave there.
+-- What each layer keeps in the runs of one program, with its directives and its places: selection and placement at the addresses
+-- that linking gives, with the words that the routines leave there.
 pub record LayersKeep (p : Program) (d : List (List ℕ × Directives)) (functions : List Located) (objects : List Object) (stack : ℕ) (input : List ℕ) : Type 0 where
   pub lowering : Refines (MomentKept (program_of p objects stack))
       (source_stages p (frame_in (image_of objects stack)) stack input) (flow.flow_run (program_of p objects stack) input)
@@ -142,6 +144,9 @@ pub record LayersKeep (p : Program) (d : List (List ℕ × Directives)) (functio
   pub places : PlacesKeep (program_of p objects stack) d functions input
   pub linking : LinkKeeps (program_of p objects stack) functions (image_of objects stack) input
   pub selection : SelectionKeeps (program_of p objects stack) d functions linking.addresses linking.scratch input
+  pub placement : RefinesLately Same
+      (line_run (line_program (program_of p objects stack) functions) linking.addresses linking.scratch input)
+      (line_run (placed_program (program_of p objects stack) functions) linking.addresses linking.scratch input)
 
 -- each frame is at most its function's room
 pub record FramesFit (p : Program) (v : Image) : Type 0 where
@@ -152,13 +157,13 @@ pub record FramesFit (p : Program) (v : Image) : Type 0 where
 
 -- ---- what follows from the laws of the layers
 
--- runs each of which refines the one before it, from the source to the machine: the last refines the first
+-- runs each of which refines the one before it, from the source to the machine, which may be late: the last refines the first
 abbrev pub RefinementGoesThrough : Type 0
 RefinementGoesThrough =
     (p : flows.Program) (named : List ℕ → ℕ) (meaning : ℕ → Stage source.Moment) (graphs : ℕ → Stage flow.Moment)
     (webs places : ℕ → Stage (Event Byte Value)) (lines machine : ℕ → Stage (Event ℕ ℕ)) →
     Refines (MomentKept p) meaning graphs → Refines (MomentAlike p) graphs (calls_of webs) →
-    Refines (EventAlike Same Same) webs places → Refines (EventInWords p named) places lines → Refines Same lines machine →
+    Refines (EventAlike Same Same) webs places → Refines (EventInWords p named) places lines → RefinesLately Same lines machine →
     Refines (InMachine p named) meaning (calls_of machine)
 
 -- what the layers keep of one program gives what holds of it

@@ -1,5 +1,5 @@
 -- Calls of the program's functions, and returns from them.
-use Rattle.std.specs.Prelude.{ℕ, suc, ◌≡◌, ◌+◌, ◌%◌, ◌^◌, ◌≤◌, ◌==◌, ◌&&◌, Bool, true, false, if◌then◌else◌, Some, None, List, [], ◌∷◌, ◌++◌, map, find, Contains, length}
+use Rattle.std.specs.Prelude.{ℕ, suc, ◌≡◌, ◌+◌, ◌%◌, ◌^◌, ◌≤◌, ◌==◌, ◌&&◌, Bool, true, false, if◌then◌else◌, Some, None, List, [], ◌∷◌, ◌++◌, map, find, Contains, length, ◌*◌}
 use Rattle.std.specs.List.{AllByRecursion, flat_map}
 use Rattle.std.specs.Str.{bytes_eq}
 use Rattle.std.proofs.Common.{arith, subst, sym, ap, refl, ◌∙◌, inl, inr}
@@ -13,16 +13,43 @@ use Rattle.pw_run_trace.specs.Traces.{Standing, Called, Returned}
 use Rattle.pw_run_lines.specs.Acts as lines
 use Rattle.pw_run_lines.specs.Acts.{settled, symbol_address}
 use Rattle.pw_run_lines.specs.Standing.{globals_now}
-use Rattle.pw_run_lines.specs.LineRun.{LineFn, Frame, Machine, On, Astray, name_of, active, kept, left_behind, globals_in, return_address, enters, returns}
+use Rattle.pw_run_lines.specs.LineRun.{LineFn, Frame, Machine, On, Astray, name_of, active, kept, left_behind, globals_in, return_address, enters, returns, IsCalling}
 use Rattle.pw_run_machine.specs.MachineRun.{Map, Call, active_as, function_at}
 use Rattle.pw_law_link_run.specs.Steps.{Setting, map_in, At, Arrives, is_back, globals_by, with_call, with_return, AreInData}
 use Rattle.pw_law_link_run.specs.Placing.{name_in, own_address, IsLeft}
 use Rattle.pw_law_link_run.specs.Simulating.{call_from, calls_behind, calls_from, noted_by, IsLinked, IsCaller, Simulates, IsCalm, IsCalmBehind, leaving}
 use Rattle.pw_law_link_run.proofs.Noting.{enters_at, returns_at}
 use Rattle.pw_law_link_run.proofs.Stepping.{starts_at}
-use Rattle.pw_law_link_run.proofs.Placed.{left_stands, all_left}
+use Rattle.pw_law_link_run.proofs.Placed.{left_stands, all_left, more, joined}
 use Rattle.pw_law_link_run.proofs.Turning.{IsTurn, text_small, return_turn}
 use Rattle.pw_law_link_run.proofs.Items.{here_in_text, later_in_text, on_same}
+use Rattle.std.proofs.lemmas.List.{append_assoc}
+use Rattle.pw_delay.specs.Placement.{size}
+
+-- ---- callers
+
+-- what is left of a caller stands at the address to which its call returns
+pub caller_left : (x : Setting) (f : Frame) → IsCaller x f → IsLeft x f.function f.left (return_address x.addresses f f.left)
+caller_left x f c = record {
+  before = c.before ++ c.call ∷ [];
+  items = c.parts ∙ sym (append_assoc c.before (c.call ∷ []) f.left);
+  at = c.at;
+}
+
+-- a function that calls is a caller behind its call
+pub called_from : (x : Setting) (m : Machine) (item : Item) (rest : List Item) → Contains x.program.functions m.frame.function → (a : ℕ)
+    → IsLeft x m.frame.function (item ∷ rest) a → IsCalling item
+    → return_address x.addresses m.frame rest ≡ a + 4 * size (x.long (name_in m.frame.function)) item → IsCaller x (left_behind rest m).frame
+called_from x m item rest there a h calling back =
+    let long = x.long (name_in m.frame.function) in
+    record {
+      there = there;
+      before = h.before;
+      call = item;
+      parts = h.items;
+      calling = calling;
+      at = omega (arith, back, h.at, joined long h.before (item ∷ []), more long item []);
+    }
 
 -- ---- the globals by the frames
 
@@ -118,7 +145,8 @@ return_simulates x l k m t rest caller callers h run e behind calm are =
     let to : lines.register c 2 ≡ link = eqb-true (lines.register c 2) link (and_parts (lines.register c 2 == link) (lines.register c 30 == m.frame.stack) is.0).0 in
     let stands = left_stands x f (l.stands f h.there) (Turns Leave None ∷ rest) a h.left in
     let one = h.callers.0 in
-    let text = here_in_text x l caller.function one.there caller.left link one.left in
+    let left = caller_left x caller one in
+    let text = here_in_text x l caller.function one.there caller.left link left in
     let turn : IsTurn x a (Bv 2 true) = record {
       here = here_in_text x l f h.there (Turns Leave None ∷ rest) a h.left;
       slot = later_in_text x l f h.there (Turns Leave None) rest a 1 (a + 4) h.left (omega arith) (omega arith);
@@ -130,7 +158,7 @@ return_simulates x l k m t rest caller callers h run e behind calm are =
     (let v : (lines.register c 2 + 4) % 2 ^ 32 ≡ link + 4 = omega (arith, to, text_small x link l.few text) in v)
     (subst (λ d. Arrives x (suc (suc k)) d (lines.register c 2) ((lines.register c 2 + 4) % 2 ^ 32) m.rest m.out n) same arrives) in
     let at_link = subst (λ v. Arrives x (suc (suc k)) c v (link + 4) m.rest m.out n) to there in
-    let quiet = calm_there x (after_return x s caller callers) link (subst (λ (t : Machine). IsCalm x t) is.1 calm) run one.left in
+    let quiet = calm_there x (after_return x s caller callers) link (subst (λ (t : Machine). IsCalm x t) is.1 calm) run left in
     let back : is_back c link (call_from x (left_behind rest (leaving m rest caller callers)).frame (caller ∷ callers)) ≡ true =
     ap (λ v. (v == link) && (lines.register c 30 == m.frame.stack)) (sym to) ∙ is.0 in
     let at = returns_at x (suc (suc k)) c link (link + 4) m.rest m.out (call_from x s.frame (caller ∷ callers)) (calls_from x caller callers) m.trace at_link
@@ -142,7 +170,7 @@ return_simulates x l k m t rest caller callers h run e behind calm are =
       address = link;
       at = subst (λ n. At x (suc (suc k)) c link (link + 4) m.rest m.out n) noted at;
       there = one.there;
-      left = one.left;
+      left = left;
       callers = h.callers.1;
       events = omega (arith, h.events);
       read = h.read;

@@ -22,16 +22,16 @@ use Rattle.pw_run_lines.specs.Acts as lines
 use Rattle.pw_run_lines.specs.Acts.{Acts, acts, settled, symbol_address}
 use Rattle.pw_run_lines.specs.LineRun.{LineFn, Machine, Step, On, Stopped, Astray, kept, left_behind, linked, return_address, notes_call, does, went_on, and_then, through_slot, function_named, function_at, calls, calls_at, library, enters}
 use Rattle.pw_law_link_run.specs.Steps.{Setting, At, Arrives, with_call, AreInData}
-use Rattle.pw_law_link_run.specs.Placing.{name_in, own_address, IsLeft}
+use Rattle.pw_law_link_run.specs.Placing.{name_in, own_address}
 use Rattle.pw_law_link_run.specs.Simulating.{calls_from, noted_by, IsLinked, IsCaller, Simulates, IsCalm, IsCalmInside, HasAsking, HasLibrary, IsHigh}
 use Rattle.pw_law_link_run.specs.Meeting.{ComesTo, EndsSo, Meets, end_as}
 use Rattle.pw_law_link_run.proofs.Noting.{enters_at, no_accesses}
 use Rattle.pw_law_link_run.proofs.Stepping.{starts_at, halts_at_front}
 use Rattle.pw_law_link_run.proofs.Words.{read}
-use Rattle.pw_law_link_run.proofs.Placed.{left_stands, next_left}
+use Rattle.pw_law_link_run.proofs.Placed.{left_stands}
 use Rattle.pw_law_link_run.proofs.Turning.{text_small, jump_turn, value_turn}
 use Rattle.pw_law_link_run.proofs.Items.{turn_at, inside_at, on_same}
-use Rattle.pw_law_link_run.proofs.Calls.{globals_are, enters_simulates}
+use Rattle.pw_law_link_run.proofs.Calls.{globals_are, enters_simulates, called_from}
 use Rattle.pw_law_link_run.proofs.Library.{Asks, high_none, name_of_library, library_simulates}
 
 -- ---- what is found
@@ -182,9 +182,9 @@ call_turn x l k m f rest h run inside high saved =
     let arrives = jump_turn x k c a symbol_is.target 2 symbol_is.jumps.displacement m.rest m.out n l.setting l.few h.at turn symbol_is.jumps.leads (omega arith) stands.0.1 run run
     (record { returns = quiet.returns; enters = quiet.enters }) in
     let linked_to = subst (λ v. Arrives x (suc (suc k)) (lines.with_register 2 v c) symbol_is.target ((symbol_is.target + 4) % 2 ^ 32) m.rest m.out n) (sym back) arrives in
-    let behind : IsLeft x fn rest to = subst (λ v. IsLeft x fn rest v) (let e : a + 4 * 2 ≡ to = omega (arith, back) in e) (next_left x fn item rest a h.left) in
+    let behind : to ≡ a + 4 * 2 = omega (arith, back) in
     record {
-      caller = record { there = h.there; left = behind };
+      caller = called_from x m item rest h.there a h.left tt behind;
       callers = h.callers;
       link = refl;
       run = run;
@@ -239,9 +239,9 @@ value_called x l k target m rest h run inside high saved there =
     let act : acts x.addresses (Some (Or 31 0 2)) (lines.with_register 31 (a + 8) c) ≡ Acts e =
     subst (λ v. acts x.addresses (Some (Or 31 0 2)) (lines.with_register 31 v c) ≡ Acts e) back (moves_link x c to run) in
     let arrives = value_turn x k c e a m.rest m.out n l.setting l.few h.at turn stands.0.1 act run (record { returns = quiet.returns; enters = quiet.enters }) in
-    let behind : IsLeft x fn rest to = subst (λ v. IsLeft x fn rest v) (let e : a + 4 * 2 ≡ to = omega (arith, back) in e) (next_left x fn item rest a h.left) in
+    let behind : to ≡ a + 4 * 2 = omega (arith, back) in
     record {
-      caller = record { there = h.there; left = behind };
+      caller = called_from x m item rest h.there a h.left tt behind;
       callers = h.callers;
       link = refl;
       run = run;

@@ -8,12 +8,12 @@ use Rattle.pw_delay.specs.declared.items.Item.{Item}
 use Rattle.pw_delay.specs.declared.items.Item.TheVariants.{Plain, Turns, Mark}
 use Rattle.pw_run_lines.specs.Acts as lines
 use Rattle.pw_run_lines.specs.Acts.{Acts, acts, settled}
-use Rattle.pw_run_lines.specs.LineRun.{LineFn, Frame, Machine, On, left_behind, accesses, does, from_mark, back_over, turns, enters}
+use Rattle.pw_run_lines.specs.LineRun.{LineFn, Frame, Machine, On, left_behind, accesses, does, from_mark, back_over, turns, enters, IsCalling}
 use Rattle.pw_law_link_run.specs.Steps.{Setting}
-use Rattle.pw_law_link_run.specs.Placing.{name_in, own_address, words_of}
+use Rattle.pw_law_link_run.specs.Placing.{name_in, own_address, words_of, Parts}
 use Rattle.pw_law_link_run.specs.Simulating.{IsLinked, IsCalm}
 use Rattle.pw_law_link_run.specs.Meeting.{IsTurning}
-use Rattle.pw_law_link_run.specs.Leveled.{HoldsAt, IsRaised, IsCalling, IsPassing, Parts, AreFramed, ChainFrom, IsInLevel}
+use Rattle.pw_law_link_run.specs.Leveled.{HoldsAt, IsRaised, IsPassing, AreFramed, ChainFrom, IsInLevel}
 use Rattle.pw_law_link_run.proofs.Placed.{left_stands, loop_left, joined, more}
 use Rattle.pw_law_link_run.proofs.Items.{does_goes}
 use Rattle.pw_law_link_run.proofs.Levels.{Place, calling_passes, behind_place, calm}
@@ -176,13 +176,15 @@ enters_level x l fr m g before rest item there caller parts calling is raised ch
       holds = (fr.framed g there).leveled.entry (lines.register m.core 30) m.core (let p = raised.pointer in let b = raised.bounds.high in omega (arith, p, b)) refl run;
       chain = (
         record {
-          there = caller;
+          caller = record {
+            there = caller;
+            before = before;
+            call = item;
+            parts = parts_left;
+            calling = calling;
+            at = call_at x l f caller before m.frame.left item parts_left calling;
+          };
           stack = raised.bounds;
-          before = before;
-          call = item;
-          parts = parts_left;
-          calling = calling;
-          at = call_at x l f caller before m.frame.left item parts_left calling;
         },
         raised.pointer,
         chain,
@@ -203,6 +205,7 @@ calling_turns (Turns Leave slot) h = absurd h
 pub returns_keeps : (x : Setting) (fr : AreFramed x) (t : Machine) (stack : ℕ) (g : Frame) (gs : List Frame) → ChainFrom x stack (g ∷ gs)
     → lines.register t.core 30 ≡ stack → Keeps x fr (record t { frame = g; callers = gs })
 returns_keeps x fr t stack g gs chain pointer =
-    turn_keeps x fr (record t { frame = g; callers = gs }) chain.0.before g.left chain.0.call chain.0.there chain.0.parts
-    (calling_turns chain.0.call chain.0.calling) (calling_passes chain.0.call chain.0.calling) refl
+    let one = chain.0.caller in
+    turn_keeps x fr (record t { frame = g; callers = gs }) one.before g.left one.call one.there one.parts
+    (calling_turns one.call one.calling) (calling_passes one.call one.calling) refl
     (record { bounds = chain.0.stack; pointer = pointer ∙ chain.1 }) chain.2

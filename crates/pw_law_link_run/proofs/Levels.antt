@@ -10,12 +10,12 @@ use Rattle.pw_delay.specs.declared.items.Item.{Item}
 use Rattle.pw_delay.specs.declared.items.Item.TheVariants.{Plain, Turns, Mark}
 use Rattle.pw_delay.specs.Placement.{size}
 use Rattle.pw_run_lines.specs.Acts as lines
-use Rattle.pw_run_lines.specs.LineRun.{LineFn, Frame, Machine, left_behind, return_address}
+use Rattle.pw_run_lines.specs.LineRun.{LineFn, Frame, Machine, left_behind, return_address, IsCalling}
 use Rattle.pw_run_machine.specs.MachineRun.{Call, function_at, active_as}
 use Rattle.pw_law_link_run.specs.Steps.{Setting, map_in, is_back, IsSavedFrom, AreInData}
-use Rattle.pw_law_link_run.specs.Placing.{name_in, own_address, words_of}
-use Rattle.pw_law_link_run.specs.Simulating.{link_of, call_from, calls_behind, calls_from, IsLinked, IsCalm, IsCalmInside, IsCalmBehind, IsHigh}
-use Rattle.pw_law_link_run.specs.Leveled.{IsStack, IsRaised, IsCalling, IsCold, IsPassing, Parts, IsFramed, AreFramed, IsBehind, ChainFrom, IsInLevel}
+use Rattle.pw_law_link_run.specs.Placing.{name_in, own_address, words_of, Parts}
+use Rattle.pw_law_link_run.specs.Simulating.{link_of, call_from, calls_behind, calls_from, IsLinked, IsCalm, IsCalmInside, IsCalmBehind, IsHigh, IsCaller}
+use Rattle.pw_law_link_run.specs.Leveled.{IsStack, IsRaised, IsCold, IsPassing, IsFramed, AreFramed, IsBehind, ChainFrom, IsInLevel}
 use Rattle.pw_law_link_run.proofs.Placed.{joined, more}
 use Rattle.pw_law_link_run.proofs.Calls.{found_as}
 use Rattle.pw_law_link_run.proofs.Library.{high_none}
@@ -29,7 +29,7 @@ callers_low : (x : Setting) → AreFramed x → (stack r : ℕ) (callers : List 
     → AllByRecursion (λ call. call.stack < r) (calls_behind x callers)
 callers_low x a stack r [] h le = tt
 callers_low x a stack r (g ∷ gs) h le =
-    let some = frame_some x g.function (a.framed g.function h.0.there) in
+    let some = frame_some x g.function (a.framed g.function h.0.caller.there) in
     (omega (arith, some, h.1, le), callers_low x a g.stack r gs h.2 (omega (arith, some, h.1, le)))
 
 -- the stack pointer is at the end of the frame
@@ -62,6 +62,17 @@ calling_size long (Turns (CallTo s link) slot) h = omega arith
 calling_size long (Turns CallReg slot) h = omega arith
 calling_size long (Turns Leave slot) h = absurd h
 
+-- what stands behind a caller's function stands behind its return address
+pub caller_below : (x : Setting) (g : Frame) (a : ℕ) → IsFramed x g.function → IsCaller x g → own_address x g.function + 4 * words_of x g.function g.function.items ≤ a
+    → return_address x.addresses g g.left < a
+caller_below x g a framed h fits =
+    let f = g.function in
+    let long = x.long (name_in f) in
+    let total : words_of x f f.items ≡ words_of x f h.before + words_of x f (h.call ∷ g.left) = ap (words_of x f) h.parts ∙ joined long h.before (h.call ∷ g.left) in
+    let one : words_of x f (h.before ++ h.call ∷ []) ≡ words_of x f h.before + words_of x f (h.call ∷ []) = joined long h.before (h.call ∷ []) in
+    let left = framed.goes h.before g.left h.call h.parts (calling_passes h.call h.calling) in
+    omega (arith, total, one, more long h.call [], more long h.call g.left, left, h.at, fits)
+
 -- a caller's return address is behind a call in its function, and inside it
 pub record IsReturnIn (x : Setting) (g : Frame) (link : ℕ) : Type 0 where
   pub words : ℕ
@@ -71,8 +82,9 @@ pub record IsReturnIn (x : Setting) (g : Frame) (link : ℕ) : Type 0 where
   pub cold : (n : ℕ) → IsCold x g.function n → n ≢ words
 
 pub returns_in : (x : Setting) → AreFramed x → (g : Frame) → IsBehind x g → IsReturnIn x g (return_address x.addresses g g.left)
-returns_in x a g h =
+returns_in x a g behind =
     let f = g.function in
+    let h = behind.caller in
     let fr = a.framed f h.there in
     let long = x.long (name_in f) in
     let total : words_of x f f.items ≡ words_of x f h.before + words_of x f (h.call ∷ g.left) = ap (words_of x f) h.parts ∙ joined long h.before (h.call ∷ g.left) in
@@ -92,7 +104,7 @@ pub no_return : (x : Setting) → AreFramed x → (f : LineFn) (g : Frame) (n : 
     → IsCold x f n → own_address x f + 4 * n ≢ return_address x.addresses g g.left
 no_return x a f g n there h le cold e =
     let r = returns_in x a g h in
-    elim (a.apart f g.function there h.there) [
+    elim (a.apart f g.function there h.caller.there) [
       | inl same ↦
           let other = r.cold n (subst (λ (f : LineFn). IsCold x f n) same cold) in
           let own : own_address x f ≡ own_address x g.function = ap (own_address x) same in
@@ -197,8 +209,8 @@ saved_behind : (x : Setting) → IsLinked x → (fr : AreFramed x) (stack : ℕ)
 saved_behind x l fr stack [] h = tt
 saved_behind x l fr stack (g ∷ gs) h =
     subst (λ r. AllByRecursion (IsSavedFrom x.addresses.data_start) (r ++ flat_map (active_as (map_in x)) (calls_behind x gs)))
-    (sym (found_as (map_in x) (call_from x g gs) g.function.located (l.found g.function h.0.there)))
-    (saved_as x g.function g.stack g.before (fr.framed g.function h.0.there).frame h.0.stack.low, saved_behind x l fr g.stack gs h.2)
+    (sym (found_as (map_in x) (call_from x g gs) g.function.located (l.found g.function h.0.caller.there)))
+    (saved_as x g.function g.stack g.before (fr.framed g.function h.0.caller.there).frame h.0.stack.low, saved_behind x l fr g.stack gs h.2)
 
 pub callers_saved : (x : Setting) → IsLinked x → (fr : AreFramed x) (stack : ℕ) (callers : List Frame) → ChainFrom x stack callers → AreInData x (calls_behind x callers)
 callers_saved x l fr stack callers h = record { saved = saved_behind x l fr stack callers h; globals = fr.globals }

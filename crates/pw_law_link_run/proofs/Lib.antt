@@ -21,3 +21,7 @@ pub mod Fitting
 pub mod Selecting
 pub mod ImageStart
 pub mod Shapes
+pub mod Scratch
+pub mod Leaving
+pub mod ByRegisters
+pub mod Behind

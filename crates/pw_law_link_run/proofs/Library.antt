@@ -25,7 +25,7 @@ use Rattle.pw_law_link_run.proofs.Noting.{settles, returns_at, accesses_shown, n
 use Rattle.pw_law_link_run.proofs.Stepping.{faces, starts_at}
 use Rattle.pw_law_link_run.proofs.Turning.{text_small, return_turn}
 use Rattle.pw_law_link_run.proofs.Items.{here_in_text}
-use Rattle.pw_law_link_run.proofs.Calls.{globals_are, calm_there}
+use Rattle.pw_law_link_run.proofs.Calls.{globals_are, calm_there, caller_left}
 
 -- ---- a step that asks
 
@@ -126,7 +126,7 @@ answers_simulate x l k i a v read m f rest out caller callers link run count rea
     let two = return_turn x (suc k) c (a + 4) 2 rest out n l.setting at_second
     (record { here = asking.second; slot = asking.behind; is = asking.leaves }) run (record { returns = alone.behind; enters = inl refl }) in
     let same : record c { skip = false } ≡ c = ap (λ b. record c { skip = b }) (sym run) in
-    let left : IsLeft x m.frame.function m.frame.left to = subst (λ v. IsLeft x m.frame.function m.frame.left v) (sym link) caller.left in
+    let left : IsLeft x m.frame.function m.frame.left to = subst (λ v. IsLeft x m.frame.function m.frame.left v) (sym link) (caller_left x m.frame caller) in
     let text = here_in_text x l m.frame.function caller.there m.frame.left to left in
     let next_to : (to + 4) % 2 ^ 32 ≡ to + 4 = omega (arith, text_small x to l.few text) in
     let there = subst (λ b. Arrives x (suc (suc (suc k))) c to b rest out n) next_to

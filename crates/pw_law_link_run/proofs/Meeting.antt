@@ -25,7 +25,7 @@ use Rattle.pw_law_link_run.proofs.Stepping.{full_at_front}
 use Rattle.pw_law_link_run.proofs.Items.{left_fit, here_in_text, word_simulates, mark_simulates, goto_simulates, if_simulates, back_simulates}
 use Rattle.pw_law_link_run.proofs.Calls.{return_simulates}
 use Rattle.pw_law_link_run.proofs.Entering.{after_call, call_turn, calls_meet, values_meet}
-use Rattle.pw_law_link_run.specs.Routines.{HasRoutines, IsLeftWords, to_routine, after_routine}
+use Rattle.pw_law_link_run.specs.Routines.{HasRoutines, LeaveSo, to_routine, after_routine}
 use Rattle.pw_law_link_run.proofs.Routines.{routine_meets}
 
 -- ---- words
@@ -156,99 +156,91 @@ leave_meets x l k m rest (caller ∷ callers) h run behind saved s e calm = leav
 
 -- ---- the item that is next
 
-abbrev StepOf : Setting → (ℕ → ℕ → ℕ) → Machine → Turn → Option Word → List Item → Step
+abbrev StepOf : Setting → (ℕ → (ℕ → ℕ) → ℕ → ℕ) → Machine → Turn → Option Word → List Item → Step
 StepOf x scratch m turn slot rest = turned x.program x.addresses scratch turn slot (Turns turn slot ∷ rest) rest (left_behind (Turns turn slot ∷ rest) m)
 
--- where a routine is called, the words that it leaves
-abbrev RoutineWords : Setting → (ℕ → ℕ → ℕ) → Turn → Option Word → Machine → List Item → Type 0
-RoutineWords x scratch turn slot m rest = (j : ℕ) → turn ≡ CallTo (symbol.Routine j) 31 → slot ≡ None → IsLeftWords x scratch (to_routine x m rest)
-
 -- a turn is met, where the lines are steady
-abbrev TurnMeets : Setting → (ℕ → ℕ → ℕ) → Turn → Option Word → Type 0
+abbrev TurnMeets : Setting → (ℕ → (ℕ → ℕ) → ℕ → ℕ) → Turn → Option Word → Type 0
 TurnMeets x scratch turn slot =
     (k : ℕ) (m : Machine) (rest : List Item) → Simulates x (left_behind (Turns turn slot ∷ rest) m) k → m.core.skip ≡ false
     → (s : Step) → StepOf x scratch m turn slot rest ≡ s
-    → IsSteady x (left_behind (Turns turn slot ∷ rest) m) (Turns turn slot) s → RoutineWords x scratch turn slot m rest → Meets x s
+    → IsSteady x (left_behind (Turns turn slot ∷ rest) m) (Turns turn slot) s → Meets x s
 
-named_two : (x : Setting) → IsLinked x → HasLibrary x → (scratch : ℕ → ℕ → ℕ) (f : List ℕ) → TurnMeets x scratch (CallTo (symbol.Named f) 2) None
-named_two x l lib scratch f k m rest h run s e steady words =
+named_two : (x : Setting) → IsLinked x → HasLibrary x → (scratch : ℕ → (ℕ → ℕ) → ℕ → ℕ) (f : List ℕ) → TurnMeets x scratch (CallTo (symbol.Named f) 2) None
+named_two x l lib scratch f k m rest h run s e steady =
     calls_meet x l lib (suc (suc k)) (return_address x.addresses m.frame rest) (after_call x m rest) f s refl
     (call_turn x l k m f rest h run (steady.inside tt) (steady.high tt) (steady.saved tt)) e steady.next
 
-named_meets : (x : Setting) → IsLinked x → HasLibrary x → (scratch : ℕ → ℕ → ℕ) (f : List ℕ) (link : ℕ) (slot : Option Word) → link ≡ 2 → slot ≡ None
+named_meets : (x : Setting) → IsLinked x → HasLibrary x → (scratch : ℕ → (ℕ → ℕ) → ℕ → ℕ) (f : List ℕ) (link : ℕ) (slot : Option Word) → link ≡ 2 → slot ≡ None
     → TurnMeets x scratch (CallTo (symbol.Named f) link) slot
 named_meets x l lib scratch f link slot is none =
     subst (λ v. TurnMeets x scratch (CallTo (symbol.Named f) v) slot) (sym is)
     (subst (λ o. TurnMeets x scratch (CallTo (symbol.Named f) 2) o) (sym none) (named_two x l lib scratch f))
 
-routine_none : (x : Setting) → IsLinked x → HasRoutines x → (scratch : ℕ → ℕ → ℕ) (j : ℕ) → j < 5 → TurnMeets x scratch (CallTo (symbol.Routine j) 31) None
-routine_none x l has scratch j below k m rest h run s e steady words =
+routine_none : (x : Setting) → IsLinked x → (has : HasRoutines x) (scratch : ℕ → (ℕ → ℕ) → ℕ → ℕ) → LeaveSo x has scratch → (j : ℕ) → j < 5 → TurnMeets x scratch (CallTo (symbol.Routine j) 31) None
+routine_none x l has scratch so j below k m rest h run s e steady =
     subst (λ s. Meets x s) e
-    (routine_meets x l has scratch k j m rest below h run (steady.inside tt) (steady.high tt) (words j refl refl)
-    (steady.next (after_routine (to_routine x m rest) j (scratch m.routines)) (sym e)))
+    (routine_meets x l has scratch so k j m rest below h run (steady.inside tt) (steady.high tt)
+    (steady.next (after_routine (to_routine x m rest) j (scratch j (to_routine x m rest).core.registers)) (sym e)))
 
-numbered_meets : (x : Setting) → IsLinked x → HasRoutines x → (scratch : ℕ → ℕ → ℕ) (j link : ℕ) (slot : Option Word) → link ≡ 31 → slot ≡ None → j < 5
+numbered_meets : (x : Setting) → IsLinked x → (has : HasRoutines x) (scratch : ℕ → (ℕ → ℕ) → ℕ → ℕ) → LeaveSo x has scratch → (j link : ℕ) (slot : Option Word) → link ≡ 31 → slot ≡ None → j < 5
     → TurnMeets x scratch (CallTo (symbol.Routine j) link) slot
-numbered_meets x l has scratch j link slot is none below =
+numbered_meets x l has scratch so j link slot is none below =
     subst (λ v. TurnMeets x scratch (CallTo (symbol.Routine j) v) slot) (sym is)
-    (subst (λ o. TurnMeets x scratch (CallTo (symbol.Routine j) 31) o) (sym none) (routine_none x l has scratch j below))
+    (subst (λ o. TurnMeets x scratch (CallTo (symbol.Routine j) 31) o) (sym none) (routine_none x l has scratch so j below))
 
-value_moved : (x : Setting) → IsLinked x → HasLibrary x → (scratch : ℕ → ℕ → ℕ) → TurnMeets x scratch CallReg (Some link_moved)
-value_moved x l lib scratch k m rest h run s e steady words =
+value_moved : (x : Setting) → IsLinked x → HasLibrary x → (scratch : ℕ → (ℕ → ℕ) → ℕ → ℕ) → TurnMeets x scratch CallReg (Some link_moved)
+value_moved x l lib scratch k m rest h run s e steady =
     values_meet x l lib k m rest s h run e (steady.inside tt) (steady.high tt) (steady.saved tt) steady.next
 
-value_meets : (x : Setting) → IsLinked x → HasLibrary x → (scratch : ℕ → ℕ → ℕ) (slot : Option Word) → slot ≡ Some link_moved → TurnMeets x scratch CallReg slot
+value_meets : (x : Setting) → IsLinked x → HasLibrary x → (scratch : ℕ → (ℕ → ℕ) → ℕ → ℕ) (slot : Option Word) → slot ≡ Some link_moved → TurnMeets x scratch CallReg slot
 value_meets x l lib scratch slot is = subst (λ o. TurnMeets x scratch CallReg o) (sym is) (value_moved x l lib scratch)
 
 none_some : (w : Word) → Some w ≡ None → ⊥
 none_some w e = cc
 
-turn_meets : (x : Setting) → IsLinked x → HasLibrary x → HasRoutines x → (scratch : ℕ → ℕ → ℕ) (turn : Turn) (slot : Option Word) → IsFit x (Turns turn slot)
+turn_meets : (x : Setting) → IsLinked x → HasLibrary x → (has : HasRoutines x) (scratch : ℕ → (ℕ → ℕ) → ℕ → ℕ) → LeaveSo x has scratch → (turn : Turn) (slot : Option Word) → IsFit x (Turns turn slot)
     → TurnMeets x scratch turn slot
-turn_meets x l lib has scratch (Goto b) None fit k m rest h run s e steady words =
+turn_meets x l lib has scratch so (Goto b) None fit k m rest h run s e steady =
     goto_meets x l k b m rest h run (steady.inside tt) s e steady.next
-turn_meets x l lib has scratch (Goto b) (Some w) fit k m rest h run s e steady words = absurd (none_some w fit)
-turn_meets x l lib has scratch (If r b) None fit k m rest h run s e steady words =
+turn_meets x l lib has scratch so (Goto b) (Some w) fit k m rest h run s e steady = absurd (none_some w fit)
+turn_meets x l lib has scratch so (If r b) None fit k m rest h run s e steady =
     if_meets x l k r b m rest h run (steady.inside tt) s e steady.next
-turn_meets x l lib has scratch (If r b) (Some w) fit k m rest h run s e steady words = absurd (none_some w fit)
-turn_meets x l lib has scratch (Back (i.Combf j r u disp)) None fit k m rest h run s e steady words =
+turn_meets x l lib has scratch so (If r b) (Some w) fit k m rest h run s e steady = absurd (none_some w fit)
+turn_meets x l lib has scratch so (Back (i.Combf j r u disp)) None fit k m rest h run s e steady =
     back_meets x l k j r u disp m rest h run (steady.inside tt) s e steady.next
-turn_meets x l lib has scratch (Back (i.Combf j r u disp)) (Some w) fit k m rest h run s e steady words = absurd (none_some w fit.1)
-turn_meets x l lib has scratch (Back _) slot fit k m rest h run s e steady words = absurd fit
-turn_meets x l lib has scratch (CallTo (symbol.Named f) link) slot fit k m rest h run s e steady words =
-    named_meets x l lib scratch f link slot fit.0 fit.1 k m rest h run s e steady words
-turn_meets x l lib has scratch (CallTo (symbol.Routine j) link) slot fit k m rest h run s e steady words =
-    numbered_meets x l has scratch j link slot fit.0 fit.1 fit.2 k m rest h run s e steady words
-turn_meets x l lib has scratch (CallTo symbol.StackLimit link) slot fit k m rest h run s e steady words = absurd fit
-turn_meets x l lib has scratch (CallTo (symbol.Word j) link) slot fit k m rest h run s e steady words = absurd fit
-turn_meets x l lib has scratch CallReg slot fit k m rest h run s e steady words = value_meets x l lib scratch slot fit k m rest h run s e steady words
-turn_meets x l lib has scratch Leave None fit k m rest h run s e steady words =
+turn_meets x l lib has scratch so (Back (i.Combf j r u disp)) (Some w) fit k m rest h run s e steady = absurd (none_some w fit.1)
+turn_meets x l lib has scratch so (Back _) slot fit k m rest h run s e steady = absurd fit
+turn_meets x l lib has scratch so (CallTo (symbol.Named f) link) slot fit k m rest h run s e steady =
+    named_meets x l lib scratch f link slot fit.0 fit.1 k m rest h run s e steady
+turn_meets x l lib has scratch so (CallTo (symbol.Routine j) link) slot fit k m rest h run s e steady =
+    numbered_meets x l has scratch so j link slot fit.0 fit.1 fit.2 k m rest h run s e steady
+turn_meets x l lib has scratch so (CallTo symbol.StackLimit link) slot fit k m rest h run s e steady = absurd fit
+turn_meets x l lib has scratch so (CallTo (symbol.Word j) link) slot fit k m rest h run s e steady = absurd fit
+turn_meets x l lib has scratch so CallReg slot fit k m rest h run s e steady = value_meets x l lib scratch slot fit k m rest h run s e steady
+turn_meets x l lib has scratch so Leave None fit k m rest h run s e steady =
     leave_meets x l k m rest m.callers h run (steady.behind tt) (steady.saved_behind tt) s e steady.next
-turn_meets x l lib has scratch Leave (Some w) fit k m rest h run s e steady words = absurd (none_some w fit)
+turn_meets x l lib has scratch so Leave (Some w) fit k m rest h run s e steady = absurd (none_some w fit)
 
 -- ---- one step of the lines
 
-skip_meets : (x : Setting) → IsLinked x → HasLibrary x → HasRoutines x → (scratch : ℕ → ℕ → ℕ) (k : ℕ) (m : Machine) (turn : Turn) (slot : Option Word) (rest : List Item)
+skip_meets : (x : Setting) → IsLinked x → HasLibrary x → (has : HasRoutines x) (scratch : ℕ → (ℕ → ℕ) → ℕ → ℕ) → LeaveSo x has scratch → (k : ℕ) (m : Machine) (turn : Turn) (slot : Option Word) (rest : List Item)
     → Simulates x (left_behind (Turns turn slot ∷ rest) m) k → (b : Bool) → m.core.skip ≡ b
     → IsSteady x (left_behind (Turns turn slot ∷ rest) m) (Turns turn slot) (if b then Astray else StepOf x scratch m turn slot rest)
-    → RoutineWords x scratch turn slot m rest → Meets x (if b then Astray else StepOf x scratch m turn slot rest)
-skip_meets x l lib has scratch k m turn slot rest h true is steady words = tt
-skip_meets x l lib has scratch k m turn slot rest h false is steady words =
-    turn_meets x l lib has scratch turn slot (left_fit x l m.frame.function h.there (Turns turn slot ∷ rest) h.address h.left).0
-    k m rest h is (StepOf x scratch m turn slot rest) refl steady words
+    → Meets x (if b then Astray else StepOf x scratch m turn slot rest)
+skip_meets x l lib has scratch so k m turn slot rest h true is steady = tt
+skip_meets x l lib has scratch so k m turn slot rest h false is steady =
+    turn_meets x l lib has scratch so turn slot (left_fit x l m.frame.function h.there (Turns turn slot ∷ rest) h.address h.left).0
+    k m rest h is (StepOf x scratch m turn slot rest) refl steady
 
-same_turn : (turn : Turn) (slot : Option Word) (j : ℕ) (rest : List Item) → turn ≡ CallTo (symbol.Routine j) 31 → slot ≡ None
-    → Turns turn slot ∷ rest ≡ Turns (CallTo (symbol.Routine j) 31) None ∷ rest
-same_turn turn slot j rest is none = ap (λ t. Turns t slot ∷ rest) is ∙ ap (λ o. Turns (CallTo (symbol.Routine j) 31) o ∷ rest) none
-
-pub step_meets : (x : Setting) → IsLinked x → HasLibrary x → HasRoutines x → (scratch : ℕ → ℕ → ℕ) (k : ℕ) (m : Machine) (left : List Item)
+pub step_meets : (x : Setting) → IsLinked x → HasLibrary x → (has : HasRoutines x) (scratch : ℕ → (ℕ → ℕ) → ℕ → ℕ) → LeaveSo x has scratch → (k : ℕ) (m : Machine) (left : List Item)
     → Simulates x (left_behind left m) k
     → ((item : Item) (rest : List Item) → left ≡ item ∷ rest → IsSteady x (left_behind left m) item (step x.program x.addresses scratch (left_behind left m)))
-    → ((j : ℕ) (rest : List Item) → left ≡ Turns (CallTo (symbol.Routine j) 31) None ∷ rest → IsLeftWords x scratch (to_routine x m rest)) → Meets x (step x.program x.addresses scratch (left_behind left m))
+    → Meets x (step x.program x.addresses scratch (left_behind left m))
 unfolding step
-step_meets x l lib has scratch k m [] h steady words = tt
-step_meets x l lib has scratch k m (Plain word ∷ rest) h steady words =
+step_meets x l lib has scratch so k m [] h steady = tt
+step_meets x l lib has scratch so k m (Plain word ∷ rest) h steady =
     word_meets x l k m word rest h (does x.program x.addresses word (left_behind rest m)) refl (steady (Plain word) rest refl).next
-step_meets x l lib has scratch k m (Mark b ∷ rest) h steady words = record { steps = k; simulates = mark_simulates x k b m rest h }
-step_meets x l lib has scratch k m (Turns turn slot ∷ rest) h steady words =
-    skip_meets x l lib has scratch k m turn slot rest h m.core.skip refl (steady (Turns turn slot) rest refl) (λ j is none. words j rest (same_turn turn slot j rest is none))
+step_meets x l lib has scratch so k m (Mark b ∷ rest) h steady = record { steps = k; simulates = mark_simulates x k b m rest h }
+step_meets x l lib has scratch so k m (Turns turn slot ∷ rest) h steady =
+    skip_meets x l lib has scratch so k m turn slot rest h m.core.skip refl (steady (Turns turn slot) rest refl)

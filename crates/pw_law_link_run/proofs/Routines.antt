@@ -20,16 +20,16 @@ use Rattle.pw_run_lines.specs.LineRun.{Frame, Machine, left_behind, return_addre
 use Rattle.pw_run_machine.specs.MachineRun.{Map, Call, Noted, has_returned, arrived, stepped, accesses_of, accesses_in, core_of, function_at}
 use Rattle.pw_run_machine.specs.MachineRun as noting
 use Rattle.pw_law_link_run.specs.Steps.{Setting, map_in, IsSetting, At, Arrives, with_accesses}
-use Rattle.pw_law_link_run.specs.Placing.{IsLeft}
 use Rattle.pw_law_link_run.specs.Simulating.{calls_from, noted_by, IsLinked, IsCaller, Simulates, IsCalm, IsCalmInside, IsHigh}
 use Rattle.pw_law_link_run.specs.Meeting.{ComesTo}
-use Rattle.pw_law_link_run.specs.Routines.{IsClear, ResultIs, Makes, after_routine, Begins, HasRoutine, HasRoutines, calling_routine, to_routine, IsLeftWords}
+use Rattle.pw_law_link_run.specs.Routines.{IsClear, ResultIs, Makes, after_routine, Begins, HasRoutine, HasRoutines, calling_routine, to_routine, LeavesSo, LeaveSo}
 use Rattle.pw_law_link_run.proofs.Words.{read, put_same, put_other}
 use Rattle.pw_law_link_run.proofs.Noting.{arrived_quiet, no_touch, settles}
-use Rattle.pw_law_link_run.proofs.Placed.{left_stands, next_left}
+use Rattle.pw_law_link_run.proofs.Placed.{left_stands}
 use Rattle.pw_law_link_run.proofs.Stepping.{later, below_data, noted_next}
 use Rattle.pw_law_link_run.proofs.Turning.{jump_turn}
 use Rattle.pw_law_link_run.proofs.Items.{rests, turn_at, inside_at}
+use Rattle.pw_law_link_run.proofs.Calls.{caller_left, called_from}
 use Rattle.pw_law_link_run.proofs.Library.{high_none}
 
 -- ---- a run inside words
@@ -300,11 +300,12 @@ routine_begins x l k j m rest r h run inside high =
     let linked_to = subst (λ v. Arrives x (suc (suc k)) (lines.with_register 31 v m.core) symbol_is.target ((symbol_is.target + 4) % 2 ^ 32) m.rest m.out n) (sym back) arrives in
     let there = subst (λ v. Arrives x (suc (suc k)) c v ((v + 4) % 2 ^ 32) m.rest m.out n) (sym same) linked_to in
     let small : (target + 4) % 2 ^ 32 ≡ target + 4 = omega (arith, r.stands.within, l.few) in
-    let behind : IsLeft x fn rest to = subst (λ v. IsLeft x fn rest v) (let e : a + 4 * 2 ≡ to = omega (arith, back) in e) (next_left x fn item rest a h.left) in
-    let low = r.apart (left_behind rest m).frame (record { there = h.there; left = behind }) in
+    let behind : to ≡ a + 4 * 2 = omega (arith, back) in
+    let caller = called_from x m item rest h.there a h.left tt behind in
+    let low = r.apart (left_behind rest m).frame caller in
     record {
       there = h.there;
-      left = behind;
+      left = caller_left x (left_behind rest m).frame caller;
       callers = h.callers;
       run = run;
       count = omega (arith, h.events);
@@ -320,19 +321,53 @@ routine_begins x l k j m rest r h run inside high =
       below = low;
     }
 
-pub routine_meets : (x : Setting) → IsLinked x → HasRoutines x → (scratch : ℕ → ℕ → ℕ) (k j : ℕ) (m : Machine) (rest : List Item) → j < 5
+-- the routine of a number
+pub one_routine : {x : Setting} → HasRoutines x → (j : ℕ) → j < 5 → HasRoutine x j
+one_routine has zero below = has.divs
+one_routine has (suc zero) below = has.divu
+one_routine has (suc (suc zero)) below = has.mul
+one_routine has (suc (suc (suc zero))) below = has.rems
+one_routine has (suc (suc (suc (suc zero)))) below = has.remu
+one_routine has (suc (suc (suc (suc (suc j))))) below = absurd (omega (arith, below))
+
+one_left : (x : Setting) (has : HasRoutines x) (scratch : ℕ → (ℕ → ℕ) → ℕ → ℕ) → LeaveSo x has scratch → (j : ℕ) (below : j < 5)
+    → LeavesSo x j (one_routine has j below) (scratch j)
+unfolding one_routine
+one_left x has scratch so zero below = so.divs
+one_left x has scratch so (suc zero) below = so.divu
+one_left x has scratch so (suc (suc zero)) below = so.mul
+one_left x has scratch so (suc (suc (suc zero))) below = so.rems
+one_left x has scratch so (suc (suc (suc (suc zero)))) below = so.remu
+one_left x has scratch so (suc (suc (suc (suc (suc j))))) below = absurd (omega (arith, below))
+
+same_scratch : (ws vs : ℕ → ℕ) (list : List ℕ) (f : ℕ → ℕ) → ((r : ℕ) → ws r ≡ vs r) → with_scratch ws list f ≡ with_scratch vs list f
+same_scratch ws vs [] f h = refl
+same_scratch ws vs (q ∷ rest) f h =
+    ap (λ v. with_scratch ws rest (put q (v % 2 ^ 32) f)) (h q) ∙ same_scratch ws vs rest (put q (vs q % 2 ^ 32) f) h
+
+same_left : (m : Machine) (j : ℕ) (ws vs : ℕ → ℕ) → ((r : ℕ) → ws r ≡ vs r) → after_routine m j ws ≡ after_routine m j vs
+same_left m j ws vs h =
+    ap (λ (f : ℕ → ℕ). record m { core = record m.core { registers = with_result (result_of j (lines.register m.core 26) (lines.register m.core 25)) f } })
+    (same_scratch ws vs scratch_registers m.core.registers h)
+
+pub routine_meets : (x : Setting) → IsLinked x → (has : HasRoutines x) (scratch : ℕ → (ℕ → ℕ) → ℕ → ℕ) → LeaveSo x has scratch → (k j : ℕ) (m : Machine) (rest : List Item) → j < 5
     → Simulates x (calling_routine m j rest) k → m.core.skip ≡ false → IsCalmInside x (calling_routine m j rest) 2 → IsHigh x (calling_routine m j rest)
-    → IsLeftWords x scratch (to_routine x m rest) → IsCalm x (after_routine (to_routine x m rest) j (scratch m.routines))
-    → ComesTo x (after_routine (to_routine x m rest) j (scratch m.routines))
-routine_meets x l has scratch k j m rest below h run inside high fits calm =
-    let r = has j below in
+    → IsCalm x (after_routine (to_routine x m rest) j (scratch j (to_routine x m rest).core.registers))
+    → ComesTo x (after_routine (to_routine x m rest) j (scratch j (to_routine x m rest).core.registers))
+routine_meets x l has scratch so k j m rest below h run inside high calm =
+    let r = one_routine has j below in
+    let u = to_routine x m rest in
+    let a = x.addresses.routine j in
     let b = routine_begins x l k j m rest r h run inside high in
     let s : State = record { core = b.at.core; rest = m.rest; output = m.out } in
-    let d = r.makes s (enters_routine x l.setting (to_routine x m rest) (suc (suc k)) (x.addresses.routine j) r.words b) in
-    let left = fits (suc (suc k)) j (x.addresses.routine j) r.words b d in
+    let e = enters_routine x l.setting u (suc (suc k)) a r.words b in
+    let d = r.makes s e in
+    let link : register b.at.core 31 ≡ lines.register u.core 31 = sym (read u.core b.at.core b.at.shows 31) in
+    let lawful = (later x (suc (suc k)) u.core a (a + 4) m.rest m.out (noted_by x u) l.setting b.at).lawful.core.registers in
+    let left = one_left x has scratch so j below u.core.registers s e b.at.shows.registers lawful.zero (omega (arith, link, b.below)) in
+    let same : after_routine u j (scratch j u.core.registers) ≡ after_routine u j (λ r. slice_index d.registers r) = same_left u j (scratch j u.core.registers) (λ r. slice_index d.registers r) left in
     record {
       steps = suc (suc k) + d.steps;
-      simulates = subst (λ ws. Simulates x (after_routine (to_routine x m rest) j ws) (suc (suc k) + d.steps)) (sym left)
-          (routine_simulates x l (to_routine x m rest) (suc (suc k)) j (x.addresses.routine j) r.words b d
-          (subst (λ ws. IsCalm x (after_routine (to_routine x m rest) j ws)) left calm));
+      simulates = subst (λ (t : Machine). Simulates x t (suc (suc k) + d.steps)) (sym same)
+          (routine_simulates x l u (suc (suc k)) j a r.words b d (subst (λ (t : Machine). IsCalm x t) same calm));
     }

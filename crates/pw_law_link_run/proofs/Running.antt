@@ -14,12 +14,12 @@ use Rattle.pw_law_link_run.specs.Steps.{Setting, map_in}
 use Rattle.pw_law_link_run.specs.Simulating.{IsLinked, HasLibrary}
 use Rattle.pw_law_link_run.specs.Meeting.{ComesTo, Meets, IsSteady}
 use Rattle.pw_law_link_run.specs.Meeting as meeting
-use Rattle.pw_law_link_run.specs.Routines.{HasRoutines, IsSteadyRun}
+use Rattle.pw_law_link_run.specs.Routines.{HasRoutines, LeaveSo, IsSteadyRun}
 use Rattle.pw_law_link_run.proofs.Meeting.{step_meets}
 
 -- ---- one step more, at the end
 
-pub last_step : (x : Setting) (scratch : ℕ → ℕ → ℕ) (n : ℕ) (s : Step)
+pub last_step : (x : Setting) (scratch : ℕ → (ℕ → ℕ) → ℕ → ℕ) (n : ℕ) (s : Step)
     → steps x.program x.addresses scratch (suc n) s ≡ and_then (steps x.program x.addresses scratch n s) (step x.program x.addresses scratch)
 unfolding steps
 last_step x scratch zero s = refl
@@ -27,20 +27,20 @@ last_step x scratch (suc n) s = last_step x scratch n (and_then s (step x.progra
 
 -- ---- the run
 
-more_meets : (x : Setting) → IsLinked x → HasLibrary x → HasRoutines x → (scratch : ℕ → ℕ → ℕ) (s : Step) → IsSteadyRun x scratch s → (n : ℕ) (t : Step)
+more_meets : (x : Setting) → IsLinked x → HasLibrary x → (has : HasRoutines x) (scratch : ℕ → (ℕ → ℕ) → ℕ → ℕ) → LeaveSo x has scratch → (s : Step) → IsSteadyRun x scratch s → (n : ℕ) (t : Step)
     → steps x.program x.addresses scratch n s ≡ t → Meets x t → Meets x (and_then t (step x.program x.addresses scratch))
-more_meets x l lib has scratch s run n (On m) e h =
-    step_meets x l lib has scratch h.steps m m.frame.left h.simulates (λ item rest same. run.steady n m item rest e same) (λ j rest left. run.words n m j rest e left)
-more_meets x l lib has scratch s run n (lines.Stopped end m) e h = h
-more_meets x l lib has scratch s run n Astray e h = tt
+more_meets x l lib has scratch so s run n (On m) e h =
+    step_meets x l lib has scratch so h.steps m m.frame.left h.simulates (λ item rest same. run n m item rest e same)
+more_meets x l lib has scratch so s run n (lines.Stopped end m) e h = h
+more_meets x l lib has scratch so s run n Astray e h = tt
 
-steps_meet : (x : Setting) → IsLinked x → HasLibrary x → HasRoutines x → (scratch : ℕ → ℕ → ℕ) (s : Step) → IsSteadyRun x scratch s → Meets x s → (n : ℕ)
+steps_meet : (x : Setting) → IsLinked x → HasLibrary x → (has : HasRoutines x) (scratch : ℕ → (ℕ → ℕ) → ℕ → ℕ) → LeaveSo x has scratch → (s : Step) → IsSteadyRun x scratch s → Meets x s → (n : ℕ)
     → Meets x (steps x.program x.addresses scratch n s)
 unfolding steps
-steps_meet x l lib has scratch s run h zero = h
-steps_meet x l lib has scratch s run h (suc n) =
+steps_meet x l lib has scratch so s run h zero = h
+steps_meet x l lib has scratch so s run h (suc n) =
     subst (λ t. Meets x t) (sym (last_step x scratch n s))
-    (more_meets x l lib has scratch s run n (steps x.program x.addresses scratch n s) refl (steps_meet x l lib has scratch s run h n))
+    (more_meets x l lib has scratch so s run n (steps x.program x.addresses scratch n s) refl (steps_meet x l lib has scratch so s run h n))
 
 -- ---- as it is seen from outside
 
@@ -112,10 +112,10 @@ met_by x core input (On m) start_is h = met_on x core input m start_is h
 met_by x core input (lines.Stopped end m) start_is h = met_end x core input end m start_is h
 met_by x core input Astray start_is h = tt
 
-pub runs_meet : (x : Setting) → IsLinked x → HasLibrary x → HasRoutines x → (scratch : ℕ → ℕ → ℕ) (core : Core) (input : List ℕ) → x.start ≡ start_state core input
+pub runs_meet : (x : Setting) → IsLinked x → HasLibrary x → (has : HasRoutines x) (scratch : ℕ → (ℕ → ℕ) → ℕ → ℕ) → LeaveSo x has scratch → (core : Core) (input : List ℕ) → x.start ≡ start_state core input
     → Meets x (start x.program x.addresses input) → IsSteadyRun x scratch (start x.program x.addresses input)
     → Refines Same (line_run x.program x.addresses scratch input) (traced_run (map_in x) core input)
 unfolding line_run
-runs_meet x l lib has scratch core input start_is first run n =
+runs_meet x l lib has scratch so core input start_is first run n =
     met_by x core input (steps x.program x.addresses scratch n (start x.program x.addresses input)) start_is
-    (steps_meet x l lib has scratch (start x.program x.addresses input) run first n)
+    (steps_meet x l lib has scratch so (start x.program x.addresses input) run first n)

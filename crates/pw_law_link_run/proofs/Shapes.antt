@@ -20,8 +20,8 @@ use Rattle.pw_delay.specs.Items.{item_of, before, slotted}
 use Rattle.pw_delay.specs.Placement.{size, sizes}
 use Rattle.pw_run_lines.specs.LineRun.{LineFn}
 use Rattle.pw_law_link_run.specs.Steps.{Setting}
-use Rattle.pw_law_link_run.specs.Placing.{name_in, words_of}
-use Rattle.pw_law_link_run.specs.Leveled.{IsPassing, Parts}
+use Rattle.pw_law_link_run.specs.Placing.{name_in, words_of, Parts}
+use Rattle.pw_law_link_run.specs.Leveled.{IsPassing}
 use Rattle.pw_law_link_run.proofs.Placed.{more}
 
 -- ---- the frame

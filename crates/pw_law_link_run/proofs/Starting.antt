@@ -51,7 +51,6 @@ first_state x f input = record {
   read = 0;
   out = [];
   events = 0;
-  routines = 0;
   trace = Called start_name (globals_in x.program x.addresses (start_core x.program x.addresses) []) (kept (start_core x.program x.addresses)) ∷ [];
 }
 

@@ -16,12 +16,12 @@ use Rattle.pw_delay.specs.declared.items.Item.TheVariants.{Plain, Turns, Mark}
 use Rattle.pw_delay.specs.Items.{link_moved}
 use Rattle.pw_run_flow.specs.Programs.{Library, GetChar, PutChar, Exit, library_at}
 use Rattle.pw_run_lines.specs.Acts as lines
-use Rattle.pw_run_lines.specs.LineRun.{LineFn, Frame, Machine, Step, On, Stopped, Astray, left_behind, counted, return_address, does, goes_to, to_block, from_mark, back_over, goes_back, words_back, library, calls, calls_at, function_at, function_named, and_then, through_slot, result_of, scratch_registers, with_scratch, with_result, returns, turned, step, steps}
+use Rattle.pw_run_lines.specs.LineRun.{LineFn, Frame, Machine, Step, On, Stopped, Astray, left_behind, counted, return_address, does, goes_to, to_block, from_mark, back_over, goes_back, words_back, library, calls, calls_at, function_at, function_named, and_then, through_slot, result_of, scratch_registers, with_scratch, with_result, returns, turned, step, steps, IsCalling}
 use Rattle.pw_law_link_run.specs.Steps.{Setting}
 use Rattle.pw_law_link_run.specs.Simulating.{IsFit, IsLinked, IsCalm, IsCalmBehind}
 use Rattle.pw_law_link_run.specs.Meeting.{StepCalm, IsTurning, IsReturn, IsSteady}
-use Rattle.pw_law_link_run.specs.Routines.{AreLeftWords, IsSteadyRun, to_routine, after_routine}
-use Rattle.pw_law_link_run.specs.Leveled.{IsRaised, IsCalling, IsPassing, AreFramed, ChainFrom, IsInLevel, StepLevel}
+use Rattle.pw_law_link_run.specs.Routines.{IsSteadyRun, to_routine, after_routine}
+use Rattle.pw_law_link_run.specs.Leveled.{IsRaised, IsPassing, AreFramed, ChainFrom, IsInLevel, StepLevel}
 use Rattle.pw_law_link_run.proofs.Items.{behind_all}
 use Rattle.pw_law_link_run.proofs.Calls.{after_return}
 use Rattle.pw_law_link_run.proofs.Library.{after_answer}
@@ -161,25 +161,25 @@ turning_steady x l fr m item rest turning back h s level next =
       level = level;
     }
 
-abbrev TurnSteady : (x : Setting) → AreFramed x → (ℕ → ℕ → ℕ) → Turn → Option Word → Type 0
+abbrev TurnSteady : (x : Setting) → AreFramed x → (ℕ → (ℕ → ℕ) → ℕ → ℕ) → Turn → Option Word → Type 0
 TurnSteady x fr scratch turn slot =
     (m : Machine) (rest : List Item) → TurnAt x fr m (Turns turn slot) rest → m.core.skip ≡ false
     → Steady x fr (left_behind (Turns turn slot ∷ rest) m) (Turns turn slot) (turned x.program x.addresses scratch turn slot (Turns turn slot ∷ rest) rest (left_behind (Turns turn slot ∷ rest) m))
 
-goto_steady : (x : Setting) → IsLinked x → (fr : AreFramed x) (scratch : ℕ → ℕ → ℕ) (b : ℕ) → TurnSteady x fr scratch (Goto b) None
+goto_steady : (x : Setting) → IsLinked x → (fr : AreFramed x) (scratch : ℕ → (ℕ → ℕ) → ℕ → ℕ) (b : ℕ) → TurnSteady x fr scratch (Goto b) None
 goto_steady x l fr scratch b m rest h run =
     let item = Turns (Goto b) None in
     let k = to_steps x fr m item rest b tt h in
     turning_steady x l fr m item rest tt (λ e. e) h (to_block b (counted (left_behind (item ∷ rest) m))) (level_of x fr (to_block b (counted (left_behind (item ∷ rest) m))) k) (calm_of x l fr (to_block b (counted (left_behind (item ∷ rest) m))) k)
 
-if_steady : (x : Setting) → IsLinked x → (fr : AreFramed x) (scratch : ℕ → ℕ → ℕ) (r b : ℕ) → TurnSteady x fr scratch (If r b) None
+if_steady : (x : Setting) → IsLinked x → (fr : AreFramed x) (scratch : ℕ → (ℕ → ℕ) → ℕ → ℕ) (r b : ℕ) → TurnSteady x fr scratch (If r b) None
 if_steady x l fr scratch r b m rest h run =
     let item = Turns (If r b) None in
     let s0 = left_behind (item ∷ rest) m in
     let k = choice_steps x fr (lines.register m.core r == 0) (On (left_behind rest m)) (to_block b (counted s0)) (behind_steps x fr m item rest tt tt h) (to_steps x fr m item rest b tt h) in
     turning_steady x l fr m item rest tt (λ e. e) h (if lines.register m.core r == 0 then On (left_behind rest m) else to_block b (counted s0)) (level_of x fr (if lines.register m.core r == 0 then On (left_behind rest m) else to_block b (counted s0)) k) (calm_of x l fr (if lines.register m.core r == 0 then On (left_behind rest m) else to_block b (counted s0)) k)
 
-back_steady : (x : Setting) → IsLinked x → (fr : AreFramed x) (scratch : ℕ → ℕ → ℕ) (j r u : ℕ) (disp : ℤ) → TurnSteady x fr scratch (Back (i.Combf j r u disp)) None
+back_steady : (x : Setting) → IsLinked x → (fr : AreFramed x) (scratch : ℕ → (ℕ → ℕ) → ℕ → ℕ) (j r u : ℕ) (disp : ℤ) → TurnSteady x fr scratch (Back (i.Combf j r u disp)) None
 back_steady x l fr scratch j r u disp m rest h run =
     let item = Turns (Back (i.Combf j r u disp)) None in
     let s0 = left_behind (item ∷ rest) m in
@@ -187,7 +187,7 @@ back_steady x l fr scratch j r u disp m rest h run =
     let k = choice_steps x fr taken (goes_back (words_back disp) (item ∷ rest) (counted s0)) (On (left_behind rest m)) (back_steps x fr m item rest (words_back disp) tt h) (behind_steps x fr m item rest tt tt h) in
     turning_steady x l fr m item rest tt (λ e. e) h (if taken then goes_back (words_back disp) (item ∷ rest) (counted s0) else On (left_behind rest m)) (level_of x fr (if taken then goes_back (words_back disp) (item ∷ rest) (counted s0) else On (left_behind rest m)) k) (calm_of x l fr (if taken then goes_back (words_back disp) (item ∷ rest) (counted s0) else On (left_behind rest m)) k)
 
-named_steady : (x : Setting) → IsLinked x → (fr : AreFramed x) (scratch : ℕ → ℕ → ℕ) (f : List ℕ) → TurnSteady x fr scratch (CallTo (symbol.Named f) 2) None
+named_steady : (x : Setting) → IsLinked x → (fr : AreFramed x) (scratch : ℕ → (ℕ → ℕ) → ℕ → ℕ) (f : List ℕ) → TurnSteady x fr scratch (CallTo (symbol.Named f) 2) None
 named_steady x l fr scratch f m rest h run =
     let item = Turns (CallTo (symbol.Named f) 2) None in
     let to = return_address x.addresses m.frame rest in
@@ -199,16 +199,16 @@ result_stays : (o : Option ℕ) (f : ℕ → ℕ) → with_result o f 30 ≡ f 3
 result_stays None f = refl
 result_stays (Some n) f = refl
 
-routine_steady : (x : Setting) → IsLinked x → (fr : AreFramed x) (scratch : ℕ → ℕ → ℕ) (j : ℕ) → TurnSteady x fr scratch (CallTo (symbol.Routine j) 31) None
+routine_steady : (x : Setting) → IsLinked x → (fr : AreFramed x) (scratch : ℕ → (ℕ → ℕ) → ℕ → ℕ) (j : ℕ) → TurnSteady x fr scratch (CallTo (symbol.Routine j) 31) None
 routine_steady x l fr scratch j m rest h run =
     let item = Turns (CallTo (symbol.Routine j) 31) None in
-    let t = after_routine (to_routine x m rest) j (scratch m.routines) in
+    let t = after_routine (to_routine x m rest) j (scratch j (to_routine x m rest).core.registers) in
     let same = result_stays (result_of j (lines.register (to_routine x m rest).core 26) (lines.register (to_routine x m rest).core 25))
-    (with_scratch (scratch m.routines) scratch_registers (to_routine x m rest).core.registers) in
+    (with_scratch (scratch j (to_routine x m rest).core.registers) scratch_registers (to_routine x m rest).core.registers) in
     let k : StepKeeps x fr (On t) = behind_call x fr m item rest tt tt h t same in
     turning_steady x l fr m item rest tt (λ e. e) h (On t) (level_of x fr (On t) k) (calm_of x l fr (On t) k)
 
-value_steady : (x : Setting) → IsLinked x → (fr : AreFramed x) (scratch : ℕ → ℕ → ℕ) → TurnSteady x fr scratch CallReg (Some link_moved)
+value_steady : (x : Setting) → IsLinked x → (fr : AreFramed x) (scratch : ℕ → (ℕ → ℕ) → ℕ → ℕ) → TurnSteady x fr scratch CallReg (Some link_moved)
 value_steady x l fr scratch m rest h run =
     let item = Turns CallReg (Some link_moved) in
     let to = return_address x.addresses m.frame rest in
@@ -242,7 +242,7 @@ leave_steps x fr m rest (g ∷ gs) chain =
     let two = lines.register m.core 30 == m.frame.stack in
     leave_by x fr s (after_return x s g gs) g gs (one && two) chain (λ e. eqb-true (lines.register m.core 30) m.frame.stack (and_parts one two e).1)
 
-leave_steady : (x : Setting) → IsLinked x → (fr : AreFramed x) (scratch : ℕ → ℕ → ℕ) → TurnSteady x fr scratch Leave None
+leave_steady : (x : Setting) → IsLinked x → (fr : AreFramed x) (scratch : ℕ → (ℕ → ℕ) → ℕ → ℕ) → TurnSteady x fr scratch Leave None
 leave_steady x l fr scratch m rest h run =
     let s = returns x.program x.addresses (lines.register m.core 2) (left_behind rest m) in
     let k = leave_steps x fr m rest m.callers h.chain in
@@ -263,22 +263,22 @@ leave_steady x l fr scratch m rest h run =
 none_some : (w : Word) → Some w ≡ None → ⊥
 none_some w e = cc
 
-named_of : (x : Setting) → IsLinked x → (fr : AreFramed x) (scratch : ℕ → ℕ → ℕ) (f : List ℕ) (link : ℕ) (slot : Option Word) → link ≡ 2 → slot ≡ None
+named_of : (x : Setting) → IsLinked x → (fr : AreFramed x) (scratch : ℕ → (ℕ → ℕ) → ℕ → ℕ) (f : List ℕ) (link : ℕ) (slot : Option Word) → link ≡ 2 → slot ≡ None
     → TurnSteady x fr scratch (CallTo (symbol.Named f) link) slot
 named_of x l fr scratch f link slot is none =
     subst (λ v. TurnSteady x fr scratch (CallTo (symbol.Named f) v) slot) (sym is)
     (subst (λ o. TurnSteady x fr scratch (CallTo (symbol.Named f) 2) o) (sym none) (named_steady x l fr scratch f))
 
-routine_of : (x : Setting) → IsLinked x → (fr : AreFramed x) (scratch : ℕ → ℕ → ℕ) (j link : ℕ) (slot : Option Word) → link ≡ 31 → slot ≡ None
+routine_of : (x : Setting) → IsLinked x → (fr : AreFramed x) (scratch : ℕ → (ℕ → ℕ) → ℕ → ℕ) (j link : ℕ) (slot : Option Word) → link ≡ 31 → slot ≡ None
     → TurnSteady x fr scratch (CallTo (symbol.Routine j) link) slot
 routine_of x l fr scratch j link slot is none =
     subst (λ v. TurnSteady x fr scratch (CallTo (symbol.Routine j) v) slot) (sym is)
     (subst (λ o. TurnSteady x fr scratch (CallTo (symbol.Routine j) 31) o) (sym none) (routine_steady x l fr scratch j))
 
-value_of : (x : Setting) → IsLinked x → (fr : AreFramed x) (scratch : ℕ → ℕ → ℕ) (slot : Option Word) → slot ≡ Some link_moved → TurnSteady x fr scratch CallReg slot
+value_of : (x : Setting) → IsLinked x → (fr : AreFramed x) (scratch : ℕ → (ℕ → ℕ) → ℕ → ℕ) (slot : Option Word) → slot ≡ Some link_moved → TurnSteady x fr scratch CallReg slot
 value_of x l fr scratch slot is = subst (λ o. TurnSteady x fr scratch CallReg o) (sym is) (value_steady x l fr scratch)
 
-turn_steady : (x : Setting) → IsLinked x → (fr : AreFramed x) (scratch : ℕ → ℕ → ℕ) (turn : Turn) (slot : Option Word) → IsFit x (Turns turn slot)
+turn_steady : (x : Setting) → IsLinked x → (fr : AreFramed x) (scratch : ℕ → (ℕ → ℕ) → ℕ → ℕ) (turn : Turn) (slot : Option Word) → IsFit x (Turns turn slot)
     → TurnSteady x fr scratch turn slot
 turn_steady x l fr scratch (Goto b) None fit m rest h run = goto_steady x l fr scratch b m rest h run
 turn_steady x l fr scratch (Goto b) (Some w) fit m rest h run = absurd (none_some w fit)
@@ -336,14 +336,14 @@ no_turn x fr m item s one two level next = record {
   level = level;
 }
 
-skip_steady : (x : Setting) → IsLinked x → (fr : AreFramed x) (scratch : ℕ → ℕ → ℕ) (m : Machine) (turn : Turn) (slot : Option Word) (rest : List Item) → IsFit x (Turns turn slot)
+skip_steady : (x : Setting) → IsLinked x → (fr : AreFramed x) (scratch : ℕ → (ℕ → ℕ) → ℕ → ℕ) (m : Machine) (turn : Turn) (slot : Option Word) (rest : List Item) → IsFit x (Turns turn slot)
     → TurnAt x fr m (Turns turn slot) rest → (b : Bool) → m.core.skip ≡ b
     → Steady x fr (left_behind (Turns turn slot ∷ rest) m) (Turns turn slot)
     (if b then Astray else turned x.program x.addresses scratch turn slot (Turns turn slot ∷ rest) rest (left_behind (Turns turn slot ∷ rest) m))
 skip_steady x l fr scratch m turn slot rest fit h false run = turn_steady x l fr scratch turn slot fit m rest h run
 skip_steady x l fr scratch m turn slot rest fit h true run = stuck_at x l fr m turn slot rest h
 
-pub step_steady : (x : Setting) → IsLinked x → (fr : AreFramed x) (scratch : ℕ → ℕ → ℕ) (m : Machine) (left : List Item) → AllByRecursion (IsFit x) left → IsInLevel x fr (left_behind left m)
+pub step_steady : (x : Setting) → IsLinked x → (fr : AreFramed x) (scratch : ℕ → (ℕ → ℕ) → ℕ → ℕ) (m : Machine) (left : List Item) → AllByRecursion (IsFit x) left → IsInLevel x fr (left_behind left m)
     → (item : Item) (rest : List Item) → left ≡ item ∷ rest → Steady x fr (left_behind left m) item (step x.program x.addresses scratch (left_behind left m))
 unfolding step
 step_steady x l fr scratch m [] fits h item rest e = absurd cc
@@ -372,11 +372,11 @@ fits_left : (x : Setting) → IsLinked x → (fr : AreFramed x) (m : Machine) �
 fits_left x l fr m h =
     behind_all (IsFit x) h.before m.frame.left (subst (λ items. AllByRecursion (IsFit x) items) h.parts (l.fits m.frame.function h.there))
 
-nothing_left : (x : Setting) (fr : AreFramed x) (scratch : ℕ → ℕ → ℕ) (m : Machine) → StepLevel x fr (step x.program x.addresses scratch (left_behind [] m))
+nothing_left : (x : Setting) (fr : AreFramed x) (scratch : ℕ → (ℕ → ℕ) → ℕ → ℕ) (m : Machine) → StepLevel x fr (step x.program x.addresses scratch (left_behind [] m))
 unfolding step
 nothing_left x fr scratch m = tt
 
-more_level : (x : Setting) → IsLinked x → (fr : AreFramed x) (scratch : ℕ → ℕ → ℕ) (s : Step) → StepLevel x fr s → StepLevel x fr (and_then s (step x.program x.addresses scratch))
+more_level : (x : Setting) → IsLinked x → (fr : AreFramed x) (scratch : ℕ → (ℕ → ℕ) → ℕ → ℕ) (s : Step) → StepLevel x fr s → StepLevel x fr (and_then s (step x.program x.addresses scratch))
 more_level x l fr scratch (On m) h = by m.frame.left refl
   where
     by : (left : List Item) → m.frame.left ≡ left → StepLevel x fr (step x.program x.addresses scratch m)
@@ -385,18 +385,13 @@ more_level x l fr scratch (On m) h = by m.frame.left refl
 more_level x l fr scratch (Stopped end m) h = tt
 more_level x l fr scratch Astray h = tt
 
-pub levels : (x : Setting) → IsLinked x → (fr : AreFramed x) (scratch : ℕ → ℕ → ℕ) (s : Step) → StepLevel x fr s → (n : ℕ) → StepLevel x fr (steps x.program x.addresses scratch n s)
+pub levels : (x : Setting) → IsLinked x → (fr : AreFramed x) (scratch : ℕ → (ℕ → ℕ) → ℕ → ℕ) (s : Step) → StepLevel x fr s → (n : ℕ) → StepLevel x fr (steps x.program x.addresses scratch n s)
 unfolding steps
 levels x l fr scratch s h zero = h
 levels x l fr scratch s h (suc n) = subst (λ t. StepLevel x fr t) (sym (last_step x scratch n s)) (more_level x l fr scratch (steps x.program x.addresses scratch n s) (levels x l fr scratch s h n))
 
 -- Where the items of each function keep the stack pointer, each state of the run is steady.
-pub runs_are_steady : (x : Setting) → IsLinked x → (fr : AreFramed x) (scratch : ℕ → ℕ → ℕ) (s : Step) → StepLevel x fr s
-    → AreLeftWords x scratch s
-    → IsSteadyRun x scratch s
-runs_are_steady x l fr scratch s h words = record {
-  steady = λ n m item rest e left.
-      let level : IsInLevel x fr m = subst (λ t. StepLevel x fr t) e (levels x l fr scratch s h n) in
-      (step_steady x l fr scratch m m.frame.left (fits_left x l fr m level) level item rest left).steady;
-  words = words;
-}
+pub runs_are_steady : (x : Setting) → IsLinked x → (fr : AreFramed x) (scratch : ℕ → (ℕ → ℕ) → ℕ → ℕ) (s : Step) → StepLevel x fr s → IsSteadyRun x scratch s
+runs_are_steady x l fr scratch s h n m item rest e left =
+    let level : IsInLevel x fr m = subst (λ t. StepLevel x fr t) e (levels x l fr scratch s h n) in
+    (step_steady x l fr scratch m m.frame.left (fits_left x l fr m level) level item rest left).steady

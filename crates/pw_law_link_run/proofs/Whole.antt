@@ -8,20 +8,25 @@ use Rattle.pw_run_lines.specs.LineRun.{LineFn, start, line_run}
 use Rattle.pw_run_machine.specs.MachineRun.{start_state, traced_run}
 use Rattle.pw_law_link_run.specs.Steps.{Setting, map_in, IsSetting}
 use Rattle.pw_law_link_run.specs.Simulating.{IsLinked, HasLibrary}
-use Rattle.pw_law_link_run.specs.Routines.{HasRoutines, AreLeftWords}
+use Rattle.pw_law_link_run.specs.Routines.{HasRoutines}
 use Rattle.pw_law_link_run.specs.Leveled.{AreFramed}
 use Rattle.pw_law_link_run.specs.Starting.{IsStart}
+use Rattle.pw_law_link_run.proofs.Scratch.{some_left}
 use Rattle.pw_law_link_run.proofs.Running.{runs_meet}
 use Rattle.pw_law_link_run.proofs.Steadying.{runs_are_steady}
 use Rattle.pw_law_link_run.proofs.Starting.{start_meets, start_in_level}
 
-pub framed_runs_meet : (x : Setting) → IsLinked x → HasLibrary x → HasRoutines x → AreFramed x → (scratch : ℕ → ℕ → ℕ) (core : Core) (input : List ℕ) (f : LineFn)
-    → x.start ≡ start_state core input → IsStart x f input → AreLeftWords x scratch (start x.program x.addresses input)
-    → Refines Same (line_run x.program x.addresses scratch input) (traced_run (map_in x) core input)
-framed_runs_meet x l lib has fr scratch core input f start_is first words =
-    runs_meet x l lib has scratch core input start_is
-    (start_meets x l (record { saved = tt; globals = fr.globals }) f input first)
-    (runs_are_steady x l fr scratch (start x.program x.addresses input) (start_in_level x fr f input first) words)
+pub framed_runs_meet : (x : Setting) → IsLinked x → HasLibrary x → HasRoutines x → AreFramed x
+    → (scratch : ℕ → (ℕ → ℕ) → ℕ → ℕ) × ((core : Core) (input : List ℕ) (f : LineFn) → x.start ≡ start_state core input → IsStart x f input
+    → Refines Same (line_run x.program x.addresses scratch input) (traced_run (map_in x) core input))
+framed_runs_meet x l lib has fr =
+    let words = some_left x has in (
+      words.0,
+      λ core input f start_is first.
+          runs_meet x l lib has words.0 words.1 core input start_is
+          (start_meets x l (record { saved = tt; globals = fr.globals }) f input first)
+          (runs_are_steady x l fr words.0 (start x.program x.addresses input) (start_in_level x fr f input first)),
+    )
 
 -- a lawful state from which the machine starts
 pub lawful_setting : ((m : ℕ) (s : State) → IsLawful s → IsLater s (state_of (run_of m s)))

@@ -4,17 +4,18 @@ use Rattle.std.specs.Prelude.{ℕ, ◌≡◌, ◌≢◌, ◌+◌, ◌*◌, ◌<�
 use Rattle.std.specs.List.{AllByRecursion}
 use Rattle.pw_alloc.specs.Frames.{head_size}
 use Rattle.pw_delay.specs.declared.items.Word.{Word}
-use Rattle.pw_delay.specs.declared.items.Turn.TheVariants.{Goto, CallTo, CallReg, Leave}
+use Rattle.pw_delay.specs.declared.items.Turn.TheVariants.{Goto, Leave}
 use Rattle.pw_delay.specs.declared.items.Item.{Item}
 use Rattle.pw_delay.specs.declared.items.Item.TheVariants.{Plain, Turns, Mark}
 use Rattle.pw_run_flow.specs.Programs.{globals_of}
 use Rattle.pw_run_lines.specs.Acts as lines
 use Rattle.pw_run_lines.specs.Acts.{Acts, acts, settled}
-use Rattle.pw_run_lines.specs.LineRun.{LineFn, Frame, Machine, Step, On, Stopped, Astray, back_over, return_address}
+use Rattle.pw_run_lines.specs.LineRun.{LineFn, Frame, Machine, Step, On, Stopped, Astray, back_over, IsCalling}
 use Rattle.pw_run_machine.specs.MachineRun.{function_at}
 use Rattle.pw_law_link_run.specs.Steps.{Setting, map_in}
-use Rattle.pw_law_link_run.specs.Placing.{own_address, words_of}
+use Rattle.pw_law_link_run.specs.Placing.{own_address, words_of, Parts}
 use Rattle.pw_law_link_run.specs.Meeting.{IsTurning}
+use Rattle.pw_law_link_run.specs.Simulating.{IsCaller}
 
 -- the stack pointer at a call is above the data, and so far below the greatest word that a frame fits above it
 pub record IsStack (x : Setting) (f : LineFn) (stack : ℕ) : Type 0 where
@@ -52,20 +53,10 @@ pub record HoldsAt (x : Setting) (f : LineFn) (l : Level) (stack : ℕ) (c : lin
   pub clear : l.clear ≡ true → c.skip ≡ false
   pub help : HelpIs l.help stack c
 
--- a call with its slot, behind which the caller goes on
-abbrev pub IsCalling : Item → Type 0
-IsCalling (Turns (CallTo s link) slot) = Unit {0}
-IsCalling (Turns CallReg slot) = Unit {0}
-IsCalling _ = ⊥
-
 -- no call of the function leads back to where so many words stand before
 abbrev pub IsCold : Setting → LineFn → ℕ → Type 0
 IsCold x f words =
     (before rest : List Item) (item : Item) → f.items ≡ before ++ item ∷ rest → IsCalling item → words ≢ words_of x f (before ++ item ∷ [])
-
--- a place among the items
-abbrev pub Parts : LineFn → List Item → List Item → Type 0
-Parts f before left = f.items ≡ before ++ left
 
 -- What holds at each place of a function's items, by the stack pointer at its call: from one place to the next by each
 -- word; at the beginning of a block and at each turn but a return the pointer is at the end of the frame, and behind
@@ -118,15 +109,10 @@ pub record AreFramed (x : Setting) : Type 0 where
 
 -- ---- states
 
--- a caller is left behind a call, at its return address
+-- a caller whose stack pointer is one
 pub record IsBehind (x : Setting) (g : Frame) : Type 0 where
-  pub there : Contains x.program.functions g.function
+  pub caller : IsCaller x g
   pub stack : IsStack x g.function g.stack
-  pub before : List Item
-  pub call : Item
-  pub parts : Parts g.function before (call ∷ g.left)
-  pub calling : IsCalling call
-  pub at : return_address x.addresses g g.left ≡ own_address x g.function + 4 * words_of x g.function (before ++ call ∷ [])
 
 -- each call's stack pointer is at the end of its caller's frame
 abbrev pub ChainFrom : Setting → ℕ → List Frame → Type 0

@@ -7,3 +7,5 @@ pub mod Routines
 pub mod Leveled
 pub mod Starting
 pub mod Conventional
+pub mod Leaving
+pub mod Behind

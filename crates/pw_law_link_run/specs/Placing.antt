@@ -33,6 +33,10 @@ pub record Stands (x : Setting) (f : LineFn) : Type 0 where
   pub above : text_start ≤ own_address x f
   pub below : own_address x f + 4 * words_of x f f.items < text_start + 4 * x.start.core.text
 
+-- a place among the items
+abbrev pub Parts : LineFn → List Item → List Item → Type 0
+Parts f before left = f.items ≡ before ++ left
+
 -- what is left of a function's items stands at an address
 pub record IsLeft (x : Setting) (f : LineFn) (left : List Item) (a : ℕ) : Type 0 where
   pub before : List Item

@@ -11,6 +11,7 @@ use Rattle.pw_delay.specs.declared.items.Item.TheVariants.{Turns}
 use Rattle.pw_run_lines.specs.Acts as lines
 use Rattle.pw_run_lines.specs.LineRun.{Frame, Machine, Step, On, left_behind, linked, return_address, result_of, scratch_registers, with_scratch, with_result, step, steps}
 use Rattle.pw_run_machine.specs.MachineRun.{Call, function_at}
+use Rattle.pw_law_link_run.specs.Leaving.{AreByRegisters}
 use Rattle.pw_law_link_run.specs.Steps.{Setting, map_in, At}
 use Rattle.pw_law_link_run.specs.Placing.{IsLeft}
 use Rattle.pw_law_link_run.specs.Simulating.{calls_from, noted_by, IsCaller}
@@ -42,7 +43,6 @@ after_routine m j ws = record m {
   core = record m.core {
     registers = with_result (result_of j (lines.register m.core 26) (lines.register m.core 25)) (with_scratch ws scratch_registers m.core.registers);
   };
-  routines = m.routines + 1;
 }
 
 -- at the first word of a routine
@@ -65,10 +65,15 @@ pub record HasRoutine (x : Setting) (j : ℕ) : Type 0 where
   pub entries : (a : ℕ) → x.addresses.routine j ≤ a → a < x.addresses.routine j + 4 * length words → function_at (map_in x) a ≡ None
   pub apart : (g : Frame) → IsCaller x g → return_address x.addresses g g.left < x.addresses.routine j
   pub some : 1 ≤ length words
+  pub by_registers : AreByRegisters words
   pub makes : (s : State) → Enters words (x.addresses.routine j) s → Makes words (x.addresses.routine j) s j
 
-abbrev pub HasRoutines : Setting → Type 0
-HasRoutines x = (j : ℕ) → j < 5 → HasRoutine x j
+pub record HasRoutines (x : Setting) : Type 0 where
+  pub divs : HasRoutine x 0
+  pub divu : HasRoutine x 1
+  pub mul : HasRoutine x 2
+  pub rems : HasRoutine x 3
+  pub remu : HasRoutine x 4
 
 -- the state at the turn, and behind its branch
 abbrev pub calling_routine : Machine → ℕ → List Item → Machine
@@ -77,21 +82,26 @@ calling_routine m j rest = left_behind (Turns (CallTo (symbol.Routine j) 31) Non
 abbrev pub to_routine : Setting → Machine → List Item → Machine
 to_routine x m rest = linked 31 (return_address x.addresses m.frame rest) (left_behind rest m)
 
--- the words that a routine leaves are those that the lines have it leave
-abbrev pub IsLeftWords : Setting → (ℕ → ℕ → ℕ) → Machine → Type 0
-IsLeftWords x scratch m =
-    (k j address : ℕ) (words : List ℕ) (b : Begins x m k address words) (d : Makes words address (record { core = b.at.core; rest = m.rest; output = m.out }) j)
-    → scratch m.routines ≡ (λ r. slice_index d.registers r)
+-- ---- the words that are left
+
+-- What the lines have a routine leave is what it leaves, by the registers at its first word: whatever else the machine
+-- has there, with a return below the routine.
+abbrev pub LeavesSo : (x : Setting) (j : ℕ) → HasRoutine x j → ((ℕ → ℕ) → ℕ → ℕ) → Type 0
+LeavesSo x j h left =
+    (registers : ℕ → ℕ) (s : State) (e : Enters h.words (x.addresses.routine j) s) → ((r : ℕ) → registers r ≡ register s.core r)
+    → slice_index s.core.registers 0 ≡ 0 → register s.core 31 < x.addresses.routine j → (r : ℕ)
+    → left registers r ≡ slice_index (h.makes s e).registers r
+
+pub record LeaveSo (x : Setting) (has : HasRoutines x) (scratch : ℕ → (ℕ → ℕ) → ℕ → ℕ) : Type 0 where
+  pub divs : LeavesSo x 0 has.divs (scratch 0)
+  pub divu : LeavesSo x 1 has.divu (scratch 1)
+  pub mul : LeavesSo x 2 has.mul (scratch 2)
+  pub rems : LeavesSo x 3 has.rems (scratch 3)
+  pub remu : LeavesSo x 4 has.remu (scratch 4)
 
 -- ---- every state of a run is steady
 
--- whenever a routine is called
-abbrev pub AreLeftWords : Setting → (ℕ → ℕ → ℕ) → Step → Type 0
-AreLeftWords x scratch s =
-    (n : ℕ) (m : Machine) (j : ℕ) (rest : List Item) → steps x.program x.addresses scratch n s ≡ On m
-    → m.frame.left ≡ Turns (CallTo (symbol.Routine j) 31) None ∷ rest → IsLeftWords x scratch (to_routine x m rest)
-
-pub record IsSteadyRun (x : Setting) (scratch : ℕ → ℕ → ℕ) (s : Step) : Type 0 where
-  pub steady : (n : ℕ) (m : Machine) (item : Item) (rest : List Item) → steps x.program x.addresses scratch n s ≡ On m → m.frame.left ≡ item ∷ rest
-      → IsSteady x m item (step x.program x.addresses scratch m)
-  pub words : AreLeftWords x scratch s
+abbrev pub IsSteadyRun : Setting → (ℕ → (ℕ → ℕ) → ℕ → ℕ) → Step → Type 0
+IsSteadyRun x scratch s =
+    (n : ℕ) (m : Machine) (item : Item) (rest : List Item) → steps x.program x.addresses scratch n s ≡ On m → m.frame.left ≡ item ∷ rest
+    → IsSteady x m item (step x.program x.addresses scratch m)

@@ -1,5 +1,5 @@
 -- A state of the run of lines, and the machine after so many steps that shows it.
-use Rattle.std.specs.Prelude.{ℕ, ◌≡◌, ◌+◌, ◌*◌, ◌≤◌, ◌<◌, true, false, Some, None, List, [], ◌∷◌, Contains, find, length}
+use Rattle.std.specs.Prelude.{ℕ, ◌≡◌, ◌+◌, ◌*◌, ◌≤◌, ◌<◌, true, false, Some, None, List, [], ◌∷◌, Contains, find, length, ◌++◌}
 use Rattle.std.specs.Str.{bytes_eq}
 use Rattle.std.specs.List.{AllByRecursion}
 use Rattle.pw_value.specs.Limits.{word_limit}
@@ -14,10 +14,10 @@ use Rattle.pw_delay.specs.declared.items.Item.TheVariants.{Plain, Turns, Mark}
 use Rattle.pw_delay.specs.Items.{link_moved}
 use Rattle.pw_run_lines.specs.Acts.{settled}
 use Rattle.pw_run_lines.specs.Acts as lines
-use Rattle.pw_run_lines.specs.LineRun.{LineFn, Frame, Machine, name_of, left_behind, return_address}
+use Rattle.pw_run_lines.specs.LineRun.{LineFn, Frame, Machine, name_of, left_behind, IsCalling, return_address}
 use Rattle.pw_run_machine.specs.MachineRun.{Call, Noted, function_at}
 use Rattle.pw_law_link_run.specs.Steps.{Setting, map_in, fetched, IsInText, IsSetting, At, is_back, IsQuiet}
-use Rattle.pw_law_link_run.specs.Placing.{name_in, own_address, Stands, IsLeft}
+use Rattle.pw_law_link_run.specs.Placing.{name_in, own_address, words_of, Stands, Parts, IsLeft}
 
 -- ---- the calls that are active, by the frames of the lines
 
@@ -68,10 +68,14 @@ pub record IsLinked (x : Setting) : Type 0 where
 
 -- ---- the machine shows a state
 
--- what is left of a caller stands at the address to which it returns
+-- a caller is left behind a call, at the address to which that returns
 pub record IsCaller (x : Setting) (f : Frame) : Type 0 where
   pub there : Contains x.program.functions f.function
-  pub left : IsLeft x f.function f.left (return_address x.addresses f f.left)
+  pub before : List Item
+  pub call : Item
+  pub parts : Parts f.function before (call ∷ f.left)
+  pub calling : IsCalling call
+  pub at : return_address x.addresses f f.left ≡ own_address x f.function + 4 * words_of x f.function (before ++ call ∷ [])
 
 pub record Simulates (x : Setting) (m : Machine) (k : ℕ) : Type 0 where
   pub address : ℕ

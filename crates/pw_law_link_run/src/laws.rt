@@ -5,7 +5,7 @@ ghost use Rattle.std.specs.List.{AllByRecursion};
 ghost use Rattle.pw_inst.specs.declared.Inst.{Inst};
 ghost use Rattle.pw_inst.specs.declared.Inst.TheVariants.{Combf};
 ghost use Rattle.pw_inst.specs.InstructionTable.{decoded, IsInRange};
-ghost use Rattle.pw_machine.specs.Core.{Core, word_at};
+ghost use Rattle.pw_machine.specs.Core.{Core, register, word_at};
 ghost use Rattle.pw_machine.specs.Run.{State};
 ghost use Rattle.pw_machine.specs.Start.{stack_start_of, image_start};
 ghost use Rattle.pw_image.specs.declared.image.Memory.{Memory};
@@ -35,11 +35,13 @@ ghost use Rattle.pw_alloc.specs.Frames.{head_size, slots_begin, last_reach};
 ghost use Rattle.pw_webflow.specs.declared.web.WebBlock.{WebBlock};
 ghost use Rattle.pw_law_link_run.specs.Showing.{Shows, DoesSo};
 ghost use Rattle.pw_law_link_run.specs.Steps.{Setting, map_in, IsSetting, Arrives, is_back, AreInData};
-ghost use Rattle.pw_law_link_run.specs.Placing.{name_in, own_address, words_of};
+ghost use Rattle.pw_law_link_run.specs.Placing.{name_in, own_address, words_of, Parts};
 ghost use Rattle.pw_law_link_run.specs.Simulating.{calls_from, noted_by, IsLinked, IsCaller, Simulates, IsCalm, IsCalmInside, IsCalmBehind, leaving, HasLibrary, IsFit};
 ghost use Rattle.pw_law_link_run.specs.Meeting.{Meets};
-ghost use Rattle.pw_law_link_run.specs.Routines.{HasRoutines, AreLeftWords, IsSteadyRun, Makes};
-ghost use Rattle.pw_law_link_run.specs.Leveled.{AreFramed, IsPassing, Parts};
+ghost use Rattle.pw_law_link_run.specs.Behind.{AllStand};
+ghost use Rattle.pw_law_link_run.specs.Leaving.{AreByRegisters, Leaves};
+ghost use Rattle.pw_law_link_run.specs.Routines.{HasRoutines, LeaveSo, IsSteadyRun, Makes};
+ghost use Rattle.pw_law_link_run.specs.Leveled.{AreFramed, IsFramed, IsPassing};
 ghost use Rattle.pw_law_link_run.specs.Starting.{IsStart, HasData};
 ghost use Rattle.pw_law_link_run.specs.Conventional.{IsConventional};
 
@@ -114,23 +116,36 @@ pub fn routines_leave_results()
     remu_divides();
 }
 
-/// The run of lines is met by the machine's run, with the same log, where the machine shows its start, and each of its
-/// states is steady: nothing seems to return or to be called but what the lines return from and call, and the words
-/// that routines leave are those that the lines take.
+/// What a routine of arithmetic leaves in the registers is a function of the registers at its first word, where it
+/// stands at an address and returns below it: the instructions of the five read and write general registers alone, and
+/// from two states with the same registers such words leave the same.
+#[tactic(auto, using(crate::proofs::ByRegisters::divs_by_registers, crate::proofs::ByRegisters::divu_by_registers, crate::proofs::ByRegisters::mul_by_registers, crate::proofs::ByRegisters::rems_by_registers, crate::proofs::ByRegisters::remu_by_registers))]
+pub fn routines_leave_by_registers()
+    ensures divs { AreByRegisters divs_words }
+    ensures divu { AreByRegisters divu_words }
+    ensures mul { AreByRegisters mul_words }
+    ensures rems { AreByRegisters rems_words }
+    ensures remu { AreByRegisters remu_words }
+    ensures alike { (words : List ℕ) (address : ℕ) (s t : State) (d : Leaves words address s) (e : Leaves words address t) → AreByRegisters words →
+        Enters words address s → Enters words address t → s.core.registers ≡ t.core.registers → register s.core 31 < address → d.registers ≡ e.registers }
+{}
 
+/// The run of lines is met by the machine's run, with the same log, where the machine shows its start, and each of its
+/// states is steady: nothing seems to return or to be called but what the lines return from and call; the words that
+/// routines leave are those that the lines take.
 pub fn steady_runs_are_met()
-    ensures { (x : Setting) → IsLinked x → HasLibrary x → HasRoutines x → (scratch : ℕ → ℕ → ℕ) (core : Core) (input : List ℕ) → x.start ≡ start_state core input →
+    ensures { (x : Setting) → IsLinked x → HasLibrary x → (has : HasRoutines x) (scratch : ℕ → (ℕ → ℕ) → ℕ → ℕ) → LeaveSo x has scratch → (core : Core) (input : List ℕ) → x.start ≡ start_state core input →
         Meets x (start x.program x.addresses input) → IsSteadyRun x scratch (start x.program x.addresses input) →
         Refines Same (line_run x.program x.addresses scratch input) (traced_run (map_in x) core input) }
 {}
 
 /// So it is met where the items of each function keep the stack pointer: at its end at every block and turn but a
-/// return, and as at the call before a return, with no return address where it is lower; where the machine starts at the
-/// entry with the core of the lines; and where the words that routines leave are those that the lines take.
+/// return, and as at the call before a return, with no return address where it is lower; and where the machine starts at
+/// the entry with the core of the lines. The lines take the words that the routines leave: a function of the routine and
+/// of the registers at its first word.
 pub fn framed_runs_are_met()
-    ensures { (x : Setting) → IsLinked x → HasLibrary x → HasRoutines x → AreFramed x → (scratch : ℕ → ℕ → ℕ) (core : Core) (input : List ℕ) (f : LineFn) →
-        x.start ≡ start_state core input → IsStart x f input → AreLeftWords x scratch (start x.program x.addresses input) →
-        Refines Same (line_run x.program x.addresses scratch input) (traced_run (map_in x) core input) }
+    ensures { (x : Setting) → IsLinked x → HasLibrary x → HasRoutines x → AreFramed x → (scratch : ℕ → (ℕ → ℕ) → ℕ → ℕ) × ((core : Core) (input : List ℕ) (f : LineFn) →
+        x.start ≡ start_state core input → IsStart x f input → Refines Same (line_run x.program x.addresses scratch input) (traced_run (map_in x) core input)) }
 {}
 
 /// A lawful state whose data begin where the lines have them is one from which the machine's run keeps its text.
@@ -152,6 +167,22 @@ pub fn ready_lines_fit()
 pub fn selected_calls_are_conventional()
     ensures { (f : Located) → AllByRecursion IsConventional (selected f) }
 {}
+
+/// Whatever stands behind a caller's function stands behind its return address, since a word follows each call: also
+/// where the function ends with a jump, and no call is at its end.
+#[tactic(auto, using(crate::proofs::Levels::caller_below))]
+pub fn callers_return_inside()
+    ensures { (x : Setting) (g : Frame) (a : ℕ) → IsFramed x g.function → IsCaller x g → own_address x g.function + 4 * words_of x g.function g.function.items ≤ a →
+        return_address x.addresses g g.left < a }
+{}
+
+/// Where their words stand behind all functions, and no function begins inside, the library and the routines are there.
+pub fn library_is_there()
+    ensures library { (x : Setting) → AreFramed x → AllStand x → HasLibrary x }
+    ensures routines { (x : Setting) → AreFramed x → AllStand x → HasRoutines x }
+{
+    routines_leave_results();
+}
 
 /// The state in which the program of an image begins is the start of the lines, where its entry, its stack and its data
 /// are those of the lines.

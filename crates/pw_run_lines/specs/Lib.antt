@@ -4,3 +4,4 @@ pub mod Standing
 pub mod LineRun
 pub mod Words
 pub mod Laws
+pub mod Late

@@ -54,8 +54,6 @@ pub record Machine : Type 0 where
   pub read : ℕ
   pub out : List ℕ
   pub events : ℕ
-  -- how many routines were called
-  pub routines : ℕ
   pub trace : List (Event ℕ ℕ)
 
 pub data Step : Type 0 where
@@ -161,6 +159,12 @@ is_turn _ = false
 abbrev pub turns : List Item → ℕ
 turns items = count_by is_turn items
 
+-- a call with its slot, behind which the caller goes on
+abbrev pub IsCalling : Item → Type 0
+IsCalling (Turns (CallTo s link) slot) = Unit {0}
+IsCalling (Turns CallReg slot) = Unit {0}
+IsCalling _ = ⊥
+
 -- the return address of a call behind which these items are left
 abbrev pub return_address : Addresses → Frame → List Item → ℕ
 return_address w f items = w.behind (name_of f) (turns items)
@@ -236,14 +240,13 @@ abbrev pub with_result : Option ℕ → (ℕ → ℕ) → ℕ → ℕ
 with_result (Some n) registers = put 29 n registers
 with_result None registers = registers
 
--- The words that routines leave in scratch registers are any, by the number of the call.
-abbrev pub routine : (ℕ → ℕ → ℕ) → ℕ → Machine → Step
+-- The words that routines leave in scratch registers are any, by the routine and the registers at its first word.
+abbrev pub routine : (ℕ → (ℕ → ℕ) → ℕ → ℕ) → ℕ → Machine → Step
 routine scratch k m = On (record m {
   core = record m.core {
     registers = with_result (result_of k (register m.core 26) (register m.core 25))
-        (with_scratch (scratch m.routines) scratch_registers m.core.registers);
+        (with_scratch (scratch k m.core.registers) scratch_registers m.core.registers);
   };
-  routines = m.routines + 1;
 })
 
 -- ---- the turns
@@ -285,7 +288,7 @@ distance (Combf k r1 r2 disp) = words_back disp
 distance i = None
 
 -- by what is left behind the turn, and what is left with it
-abbrev pub turned : LineProgram → Addresses → (ℕ → ℕ → ℕ) → Turn → Option Word → List Item → List Item → Machine → Step
+abbrev pub turned : LineProgram → Addresses → (ℕ → (ℕ → ℕ) → ℕ → ℕ) → Turn → Option Word → List Item → List Item → Machine → Step
 turned p w scratch (Back branch) slot here behind m =
     if is_taken branch m.core
     then through_slot p w slot (goes_back (distance branch) here) (counted m)
@@ -308,7 +311,7 @@ turned p w scratch Leave slot here behind m = through_slot p w slot (returns p w
 
 -- ---- a step, and runs
 
-unfoldable pub step : LineProgram → Addresses → (ℕ → ℕ → ℕ) → Machine → Step
+unfoldable pub step : LineProgram → Addresses → (ℕ → (ℕ → ℕ) → ℕ → ℕ) → Machine → Step
 step p w scratch m = next m.frame.left
   where
     next : List Item → Step
@@ -318,7 +321,7 @@ step p w scratch m = next m.frame.left
     next (Turns turn slot ∷ rest) =
         if m.core.skip then Astray else turned p w scratch turn slot (Turns turn slot ∷ rest) rest m
 
-unfoldable pub steps : LineProgram → Addresses → (ℕ → ℕ → ℕ) → ℕ → Step → Step
+unfoldable pub steps : LineProgram → Addresses → (ℕ → (ℕ → ℕ) → ℕ → ℕ) → ℕ → Step → Step
 steps p w scratch zero s = s
 steps p w scratch (suc n) s = steps p w scratch n (and_then s (step p w scratch))
 
@@ -363,7 +366,6 @@ start p w input = starts (function_named p start_name)
       read = 0;
       out = [];
       events = 0;
-      routines = 0;
       trace = Called start_name (globals_in p w (start_core p w) []) (kept (start_core p w)) ∷ [];
     })
 
@@ -378,5 +380,5 @@ staged (Stopped StackFull m) = Over StackFull (shown m (with_refusal m.trace))
 staged (Stopped end m) = Over end (shown m m.trace)
 staged Astray = Wrong
 
-unfoldable pub line_run : LineProgram → Addresses → (ℕ → ℕ → ℕ) → List ℕ → ℕ → Stage (Event ℕ ℕ)
+unfoldable pub line_run : LineProgram → Addresses → (ℕ → (ℕ → ℕ) → ℕ → ℕ) → List ℕ → ℕ → Stage (Event ℕ ℕ)
 line_run p w scratch input n = staged (steps p w scratch n (start p w input))

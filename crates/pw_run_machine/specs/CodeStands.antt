@@ -1,6 +1,6 @@
 -- What placement owes: wherever the words of placed lines stand, once their relocations are done, the items stand
 -- there.
-use Rattle.std.specs.Prelude.{ℕ, ◌≡◌, ◌≢◌, ◌+◌, ◌*◌, ◌%◌, ◌<◌, ◌≤◌, nat_lt, Bool, false, Option, Some, None, List, [], ◌∷◌, ◌++◌, length, slice_index_or, Contains}
+use Rattle.std.specs.Prelude.{ℕ, ◌≡◌, ◌≢◌, ◌+◌, ◌*◌, ◌%◌, ◌<◌, ◌≤◌, nat_lt, Bool, false, Some, None, List, [], ◌∷◌, ◌++◌, length, slice_index_or, Contains}
 use Rattle.std.specs.List.{AllByRecursion}
 use Rattle.pw_value.specs.Limits.{text_start, word_limit}
 use Rattle.pw_inst.specs.InstructionTable.{decoded, IsInRange, IsRegister}
@@ -19,16 +19,14 @@ use Rattle.pw_webflow.specs.Direction.{directed}
 use Rattle.pw_alloc.specs.declared.located.Located.{Located}
 use Rattle.pw_select.specs.Selection.{selected}
 use Rattle.pw_run_webs.specs.Serving.{Serves}
-use Rattle.pw_delay.specs.declared.items.Word.{Word}
-use Rattle.pw_delay.specs.declared.items.Turn.{Turn}
 use Rattle.pw_delay.specs.declared.items.Item.{Item}
-use Rattle.pw_delay.specs.declared.items.Item.TheVariants.{Turns}
 use Rattle.pw_delay.specs.Items.{slotted}
 use Rattle.pw_delay.specs.Placement.{sizes, mark_at, short_limit, placed}
 use Rattle.pw_link.specs.Layout.{Sites}
 use Rattle.pw_link.specs.Linking.{symbol_address, with_fixes}
 use Rattle.pw_run_lines.specs.Acts as lines
-use Rattle.pw_run_lines.specs.LineRun.{turns}
+use Rattle.pw_run_lines.specs.LineRun.{turns, IsCalling}
+use Rattle.pw_run_lines.specs.Laws.{arranged}
 use Rattle.pw_run_lines.specs.Words.{Text, StandsAt}
 
 -- ---- lines that words can be made of
@@ -84,7 +82,7 @@ IsKnown sites t own f (symbol.Word k) = Unit {0}
 IsKnown sites t own f s =
     (lines.symbol_address t.addresses s ≡ Some (symbol_address sites own s)) × Reaches f.kind (symbol_address sites own s)
 
--- the text has the linked words of the lines from an address on, and the blocks and return addresses where they are
+-- the text has the linked words of the lines from an address on, and the blocks and the return addresses of its calls where they are
 pub record StandAt (t : Text) (sites : Sites) (own : ℕ) (ls : List Line) : Type 0 where
   pub aligned : own % 4 ≡ 0
   pub above : text_start ≤ own
@@ -93,10 +91,10 @@ pub record StandAt (t : Text) (sites : Sites) (own : ℕ) (ls : List Line) : Typ
       t.fetch (own + 4 * i) ≡ decoded (slice_index_or (with_fixes sites own (placed ls).fixes (placed ls).words) i 0)
   pub symbols : (f : Fix) → Contains (placed ls).fixes f → IsKnown sites t own f f.symbol
   pub long : t.long ≡ is_long ls
-  pub marks : (b : ℕ) → t.mark b ≡ own + 4 * mark_at (is_long ls) 0 (slotted ls) b
-  pub behind : (before rest : List Item) (turn : Turn) (slot : Option Word) → slotted ls ≡ before ++ Turns turn slot ∷ rest
+  pub marks : (b : ℕ) → t.mark b ≡ own + 4 * mark_at (is_long ls) 0 (arranged ls) b
+  pub behind : (before rest : List Item) (item : Item) → IsCalling item → arranged ls ≡ before ++ item ∷ rest
       → t.addresses.behind t.name (turns rest) ≡ own + 4 * sizes (is_long ls) before + 8
 
 abbrev pub PlacedCodeStands : Type 0
 PlacedCodeStands =
-    (ls : List Line) (t : Text) (sites : Sites) (own : ℕ) → AreReady ls → StandAt t sites own ls → StandsAt t own (slotted ls)
+    (ls : List Line) (t : Text) (sites : Sites) (own : ℕ) → AreReady ls → StandAt t sites own ls → StandsAt t own (arranged ls)

@@ -23,7 +23,7 @@ use Rattle.pw_run_webs.specs.Direction.{directed_functions}
 use Rattle.pw_run_webs.specs.Serving.{AllServe}
 use Rattle.pw_run_lines.specs.Addresses.{Addresses, AreLawful}
 use Rattle.pw_run_lines.specs.LineRun.{line_run}
-use Rattle.pw_run_lines.specs.Laws.{line_program, FramesAre}
+use Rattle.pw_run_lines.specs.Laws.{placed_program, FramesAre}
 use Rattle.pw_run_machine.specs.MachineRun.{Map, traced_run}
 
 -- ---- objects of a program
@@ -67,8 +67,8 @@ pub record LinkKeeps (p : Program) (functions : List Located) (v : Image) (input
   pub addresses : Addresses
   pub lawful : AreLawful p addresses
   pub named : addresses.named ≡ address_of v
-  pub scratch : ℕ → ℕ → ℕ
-  pub runs : Refines Same (line_run (line_program p functions) addresses scratch input) (image_run p functions v input)
+  pub scratch : ℕ → (ℕ → ℕ) → ℕ → ℕ
+  pub runs : Refines Same (line_run (placed_program p functions) addresses scratch input) (image_run p functions v input)
 
 abbrev pub LinkKeepsRuns : Type 0
 LinkKeepsRuns =

@@ -4,6 +4,7 @@ mod PlacedRows
 mod LineRows
 mod LawfulRows
 mod LawRows
+mod JumpRows
 mod ProgramRows
 mod SoundRows
 mod RegisterRows

@@ -37,7 +37,7 @@ addresses stack = record {
 
 abbrev run : Program → List (List ℕ × Directives) → ℕ → ℕ → Stage (Event ℕ ℕ)
 run p d stack n =
-    line_run (line_program p (map allocated (directed_functions p d))) (addresses stack) (λ k r. 99) [] n
+    line_run (line_program p (map allocated (directed_functions p d))) (addresses stack) (λ k registers r. 99) [] n
 
 bump_runs : story (run bumping bump_directives 4096 200) ≡ codes " ($start (main <n (bump )bump (bump )bump (putchar )putchar >n )main (exit = 2 2"
 unfolding line_run steps step directed allocated entered_from selected entered_lines
