@@ -33,10 +33,10 @@ use Rattle.pw_tests_refine.proofs.Examples.{number, n_is, tree, program, frames,
 
 -- ---- the states
 
-abbrev world : World
+abbrev pub world : World
 world = record { program = program; frame_of = frames; stack = 1000 }
 
-abbrev x : Activation
+abbrev pub x : Activation
 x = record {
   world = world;
   home = record { name = codes "a"; tree = tree };
@@ -49,7 +49,7 @@ x = record {
 abbrev spots : List Spot
 spots = In 0 4 ∷ []
 
-abbrev state : ℕ → State
+abbrev pub state : ℕ → State
 state k = record { objects = n_is k; active = codes "bump" ∷ []; rest = []; read = 0; out = []; moments = [] }
 
 abbrev machine : ℕ → List Op → List Value → Machine
