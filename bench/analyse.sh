@@ -1,71 +1,11 @@
 #!/usr/bin/env bash
-# Times the analyser on a program at its limits: 256 summaries with 4,096 functions, 8,192 globals, 60,000 calls and
-# as many references, and on one of half the functions and globals. Makes the summaries' files by a script, and a
-# program over crates/pw_commands in a temporary folder that reads them from its input into a store in memory and
-# obeys `analyse`; builds it, runs it, and prints the processor time and the memory of both runs, reading included.
-set -euo pipefail
-top=$(cd "$(dirname "$0")/.." && pwd)
-work=$(mktemp -d /tmp/bench-analyse.XXXXXX)
-trap 'rm -rf "$work"' EXIT
-mkdir -p "$work/crates/bench_analyse/src"
-cp -r "$top/HANDLES" "$top/crates.txt" "$work/"
-sed -i '/^pw_tests/d' "$work/crates.txt"
-for crate in "$top"/crates/*/; do
-    name=$(basename "$crate")
-    case $name in pw_tests*) continue ;; esac
-    mkdir -p "$work/crates/$name"
-    for part in src specs proofs; do
-        if [ -d "$crate/$part" ]; then cp -r "$crate/$part" "$work/crates/$name/"; fi
-    done
-done
-echo 'bench_analyse: pw_commands pw_top_answer pw_io hex' >> "$work/crates.txt"
-cat > "$work/crates/bench_analyse/src/main.rt" <<'RATTLE'
-//! Obeys `analyse` over summaries that its input gives, a name and a file in hexadecimal on each line.
-#![tactic(auto)]
+# Times the analyser on a program at its limits, 256 summaries with 4,096 functions, 8,192 globals, some 60,000 calls and
+# as many references, and on one of half the functions and globals. The summaries' files are made by a script; a program
+# reads them from its input into a store in memory and obeys `analyse`. Prints the milliseconds of the command, reading and
+# writing of the store's files included, and the quotient of the two. Usage: bench/analyse.sh [small]
+. "$(dirname "$0")/common.sh"
+wants rt python3
 
-use pw_top_answer::status;
-use pw_commands::analyse_modules;
-use pw_io::SureStore;
-use std::alloc::{AllocError, Global};
-use std::io::{self, BufRead, BufReader};
-
-/// Puts the files of a line's module behind others: an empty text and its summary.
-fn add_line(
-    alloc: Global,
-    files: &mut Vec<(String, Vec<u8>)>,
-    line: &str,
-) -> Result<(), AllocError> {
-    if let Some((name, hexadecimal)) = line.split_once(' ') {
-        let mut text = String::from_str(alloc, name)?;
-        text.push_str(".i")?;
-        files.push((text, Vec::new(alloc))).map_err(|_| AllocError)?;
-        let mut summary = String::from_str(alloc, name)?;
-        summary.push_str(".sum")?;
-        let bytes = hex::decode(alloc, hexadecimal.as_bytes()).map_err(|_| AllocError)?;
-        files.push((summary, bytes)).map_err(|_| AllocError)?;
-    }
-    Ok(())
-}
-
-/// The status of the answer, and how many bytes the database's file has.
-fn analysed(alloc: Global, files: &[(String, Vec<u8>)]) -> Result<(u8, usize), AllocError> {
-    let mut store = SureStore::new(alloc, files)?;
-    let answer = analyse_modules(alloc, &mut store, 8);
-    let size = store.bytes_of("prog.db").map_or(0, |bytes| bytes.len());
-    Ok((status(&answer), size))
-}
-
-fn main(rt: HostRuntime) -> io::Result<()> {
-    let alloc = rt.alloc();
-    let mut files = Vec::new(alloc);
-    for line in BufReader::new(alloc, rt.reader())?.lines(alloc) {
-        add_line(alloc, &mut files, &line?)?;
-    }
-    let (status, size) = analysed(alloc, &files)?;
-    let told = format!(in alloc; "status {status}, prog.db has {size} bytes\n")?;
-    io::Write::write_all(&mut rt.stdout(), told.as_bytes())
-}
-RATTLE
 cat > "$work/made.py" <<'PYTHON'
 import hashlib, struct, sys
 modules, per_f, per_g = int(sys.argv[1]), int(sys.argv[2]), int(sys.argv[3])
@@ -106,19 +46,69 @@ for m in range(modules):
     x = b'PAWS' + u32(12 + len(p) + 32) + u32(1) + p
     print(mod.decode(), (x + hashlib.sha256(x).digest()).hex())
 PYTHON
-python3 "$work/made.py" 256 16 32 > "$work/whole.in"
-python3 "$work/made.py" 256 8 16 > "$work/half.in"
-if [ "${1:-}" = try ]; then
-    (cd "$work/crates/bench_analyse" && rt try < "$work/half.in")
-    exit
-fi
-(cd "$work/crates/bench_analyse" && rt run < "$work/half.in" | tail -1)
-for which in half whole; do
-    echo "$which:"
-    /usr/bin/env python3 - "$work/crates/bench_analyse/out/bench_analyse" "$work/$which.in" <<'PYTHON'
-import resource, subprocess, sys
-out = subprocess.run([sys.argv[1]], stdin=open(sys.argv[2]), capture_output=True).stdout.decode().strip()
-used = resource.getrusage(resource.RUSAGE_CHILDREN)
-print(f'  {out}; {used.ru_utime + used.ru_stime:.2f} seconds of processor time, {used.ru_maxrss // 1024} MB')
-PYTHON
-done
+
+rattle_program bench_analyse <<'RATTLE'
+//! Obeys `analyse` over summaries that its input gives, a name and a file in hexadecimal on each line.
+#![tactic(auto)]
+
+use hex::decode;
+use pw_top_answer::status;
+use pw_commands::analyse_modules;
+use pw_io::SureStore;
+use std::alloc::{AllocError, Global};
+use std::io::{self, BufRead, BufReader};
+use std::time::CpuClock;
+
+/// Puts the files of a line's module behind others: an empty text and its summary.
+fn add_line(
+    alloc: Global,
+    files: &mut Vec<(String, Vec<u8>)>,
+    line: &str,
+) -> Result<(), AllocError> {
+    if let Some((name, hexadecimal)) = line.split_once(' ') {
+        let mut text = String::from_str(alloc, name)?;
+        text.push_str(".i")?;
+        files.push((text, Vec::new(alloc))).map_err(|_| AllocError)?;
+        let mut summary = String::from_str(alloc, name)?;
+        summary.push_str(".sum")?;
+        let bytes = decode(alloc, hexadecimal.as_bytes()).map_err(|_| AllocError)?;
+        files.push((summary, bytes)).map_err(|_| AllocError)?;
+    }
+    Ok(())
+}
+
+/// Obeys `analyse`, and prints the status of the answer, the bytes of the database's file, and the microseconds that the
+/// command took.
+fn measure(rt: &HostRuntime, files: &[(String, Vec<u8>)]) -> io::Result<()> {
+    let alloc = rt.alloc();
+    let mut store = SureStore::new(alloc, files)?;
+    let begin = rt.thread_cpu_time()?;
+    let answer = analyse_modules(alloc, &mut store, 8);
+    let end = rt.thread_cpu_time()?;
+    let size = store.bytes_of("prog.db").map_or(0, |bytes| bytes.len());
+    println!(rt; "{} {size} {}", status(&answer), end.saturating_sub(begin).as_micros())
+}
+
+fn main(rt: HostRuntime) -> io::Result<()> {
+    let alloc = rt.alloc();
+    let mut files = Vec::new(alloc);
+    for line in BufReader::new(alloc, rt.reader())?.lines(alloc) {
+        add_line(alloc, &mut files, &line?)?;
+    }
+    measure(&rt, &files)
+}
+RATTLE
+
+modules=$(size 256 4)
+measure() { # how many functions and globals a module has
+    local state bytes time
+    python3 "$work/made.py" "$modules" "$1" "$2" > "$work/made.in"
+    rattle_run bench_analyse < "$work/made.in" > "$work/times"
+    read -r state bytes time < "$work/times"
+    [ "$state" = 0 ] || { echo "analyse ends with status $state" >&2; exit 1; }
+    echo "$((modules * $1)) functions, $((modules * $2)) globals: $((time / 1000)) ms, a database of $bytes bytes" >&2
+    echo "$time"
+}
+half=$(measure 8 16)
+whole=$(measure 16 32)
+echo "twice the program: ratio $(ratio "$whole" "$half")"

@@ -13,6 +13,7 @@ With `--write` the script writes the table into crates/pw_tests_checks/stdin and
 where gcc answers otherwise than its column says.
 """
 import re
+import shutil
 import subprocess
 import sys
 from concurrent.futures import ThreadPoolExecutor
@@ -94,6 +95,9 @@ def read_table():
 
 
 def main():
+    if shutil.which("gcc") is None:
+        print("cannot run: there is no gcc")
+        sys.exit(77)
     rows, stdin, stdout = read_table()
     differ = 0
     with ThreadPoolExecutor(2) as pool:

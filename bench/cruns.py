@@ -117,7 +117,26 @@ def answer(program):
     return program.told(), []
 
 
+def can_run():
+    """Whether both compilers make programs of 32 bits here."""
+    with tempfile.TemporaryDirectory() as folder:
+        for compiler in COMPILERS:
+            text = Path(folder, "a.c")
+            text.write_text("int main(void) { return 0; }\n")
+            try:
+                made = subprocess.run([compiler, "-m32", text, "-o", Path(folder, "a")], capture_output=True)
+            except FileNotFoundError:
+                print(f"cannot run: there is no {compiler}")
+                return False
+            if made.returncode != 0:
+                print(f"cannot run: {compiler} -m32 links no program, since the libraries for 32 bits are not there")
+                return False
+    return True
+
+
 def main():
+    if not can_run():
+        sys.exit(77)
     # clang goes down a chain of operands by recursion, and a chain of the table is longer than its usual stack is deep
     most = resource.getrlimit(resource.RLIMIT_STACK)[1]
     resource.setrlimit(resource.RLIMIT_STACK, (most, most))

@@ -1,22 +1,12 @@
 #!/usr/bin/env bash
-# Times the flow file: modules of about 8 and 16 MB, and one with ten times the names of the second, are written,
-# read, and written again. Makes a program over crates/pw_flowfile in a temporary folder, builds it, runs it, and
-# prints the processor time of each step. With the word `try` the program is not proved.
-set -euo pipefail
-top=$(cd "$(dirname "$0")/.." && pwd)
-work=$(mktemp -d /tmp/bench-flowfile.XXXXXX)
-trap 'rm -rf "$work"' EXIT
-mkdir -p "$work/crates/bench_flowfile/src"
-for crate in pw_value pw_scope pw_items pw_flow pw_flow_valid pw_files pw_flow_ops pw_flowfile; do
-    mkdir "$work/crates/$crate"
-    for part in src specs proofs; do
-        if [ -d "$top/crates/$crate/$part" ]; then cp -r "$top/crates/$crate/$part" "$work/crates/$crate/"; fi
-    done
-done
-cp "$top/HANDLES" "$work/HANDLES"
-grep -E '^pw_(value|scope|items|flow|lawful|files|flowops|flowfile):' "$top/crates.txt" > "$work/crates.txt"
-echo 'bench_flowfile: pw_flowfile pw_flow_valid pw_flow pw_items pw_value' >> "$work/crates.txt"
-cat > "$work/crates/bench_flowfile/src/main.rt" <<'RATTLE'
+# Times the flow file: a module of about 8 MB, one of about 16 MB, and one of about 8 MB with ten times the names of the
+# second are judged, written, read, and written again. Prints milliseconds and, beside those of the first module, the time
+# of each byte: 1 where time is linear in bytes, whatever names they have. Usage: bench/flowfile.sh [small]
+. "$(dirname "$0")/common.sh"
+wants rt
+parts=$(size 1000 1)
+
+rattle_program bench_flowfile PARTS="$parts" TWICE=$((2 * parts)) NAMES=$((20 * parts)) <<'RATTLE'
 //! A run of the flow file's reader and writer whose time is taken.
 #![tactic(auto)]
 
@@ -35,11 +25,11 @@ struct Sizes {
     blocks: u32,
 }
 
-/// A module of about 8 MB, one twice as large, and one with ten times its names.
+/// A module, one twice as large, and one with twenty times the names of the first.
 const MODULES: [Sizes; 3] = [
-    Sizes { parts: 1000, blocks: 20 },
-    Sizes { parts: 2000, blocks: 20 },
-    Sizes { parts: 20_000, blocks: 1 },
+    Sizes { parts: @PARTS@, blocks: 20 },
+    Sizes { parts: @TWICE@, blocks: 20 },
+    Sizes { parts: @NAMES@, blocks: 1 },
 ];
 
 /// The operations of a block.
@@ -140,7 +130,8 @@ fn module(alloc: Global, sizes: &Sizes) -> Result<FlowModule, AllocError> {
     })
 }
 
-/// Judges a module, writes it, reads it and writes it again.
+/// Judges a module, writes it, reads it and writes it again; prints its bytes, its functions, whether the second file is
+/// the first, and the microseconds of each step.
 fn run(rt: &HostRuntime, sizes: &Sizes) -> io::Result<()> {
     let flow = module(rt.alloc(), sizes)?;
     let start = rt.thread_cpu_time()?;
@@ -156,9 +147,8 @@ fn run(rt: &HostRuntime, sizes: &Sizes) -> io::Result<()> {
             let second = write(rt.alloc(), &again)?;
             let end = rt.thread_cpu_time()?;
             let same = second == file;
-            println!(rt; "{} bytes, {} functions and as many objects: written in {} milliseconds, read in {}, written again in {}, the same: {same}; judged in {}",
-                file.len(), sizes.parts, written.saturating_sub(judged).as_millis(), seen.saturating_sub(written).as_millis(),
-                end.saturating_sub(seen).as_millis(), judged.saturating_sub(start).as_millis())
+            println!(rt; "{} {} {same} {} {} {} {}", file.len(), sizes.parts, judged.saturating_sub(start).as_micros(),
+                written.saturating_sub(judged).as_micros(), seen.saturating_sub(written).as_micros(), end.saturating_sub(seen).as_micros())
         }
         Err(fault) => println!(rt; "a fault: {fault:?}"),
     }
@@ -171,8 +161,9 @@ fn main(rt: HostRuntime) -> io::Result<()> {
     Ok(())
 }
 RATTLE
-if [ "${1:-}" = try ]; then
-    (cd "$work/crates/bench_flowfile" && rt try)
-else
-    (cd "$work/crates/bench_flowfile" && rt run)
-fi
+
+rattle_run bench_flowfile < /dev/null > "$work/times"
+awk '$3 != "true" { print "the second file is another: " $0; exit 1 }
+    NR == 1 { for (i = 1; i <= NF; i++) first[i] = $i }
+    { printf "%d bytes, %d functions: judged in %.1f ms, written in %.1f, read in %.1f, written again in %.1f; ", $1, $2, $4 / 1e3, $5 / 1e3, $6 / 1e3, $7 / 1e3
+      printf "a byte to one of the first module: written %.2f, read %.2f\n", $5 / $1 / (first[5] / first[1]), $6 / $1 / (first[6] / first[1]) }' "$work/times"

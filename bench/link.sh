@@ -1,25 +1,13 @@
 #!/usr/bin/env bash
-# Times the linker on a program near its limits: 256 objects with 4,096 functions of 65,000 words, 8,192 global
-# objects and 16,000 relocations, and names that all modules declare. Makes a program over crates/pw_link in a
-# temporary folder, builds it, runs it, and prints the processor time of `link`. With the word `try` the program
-# is not proved.
-set -euo pipefail
-top=$(cd "$(dirname "$0")/.." && pwd)
-work=$(mktemp -d /tmp/bench-link.XXXXXX)
-trap 'rm -rf "$work"' EXIT
-mkdir -p "$work/crates/bench_link/src"
-crates='value|items|io|inst|flow|files|flowops|flowfile|object|image|machine|milli|program|interface|link'
-for crate in ${crates//|/ }; do
-    mkdir "$work/crates/pw_$crate"
-    for part in src specs proofs; do
-        if [ -d "$top/crates/pw_$crate/$part" ]; then cp -r "$top/crates/pw_$crate/$part" "$work/crates/pw_$crate/"; fi
-    done
-done
-cp "$top/HANDLES" "$work/HANDLES"
-grep -E "^pw_($crates):" "$top/crates.txt" > "$work/crates.txt"
-echo 'bench_link: pw_link pw_object pw_flow pw_inst pw_items pw_value' >> "$work/crates.txt"
-cat > "$work/crates/bench_link/src/main.rt" <<'RATTLE'
-//! A run of the linker whose time is taken.
+# Times the linker on a program near its limits, 256 objects with 4,096 functions of 65,000 words, 8,192 global objects,
+# 16,000 relocations and names that all modules declare, and on one of half the objects. Prints milliseconds and their
+# quotient. Usage: bench/link.sh [small]
+. "$(dirname "$0")/common.sh"
+wants rt
+
+whole=$(size 256 8)
+rattle_program bench_link HALF=$((whole / 2)) WHOLE="$whole" <<'RATTLE'
+//! Runs of the linker whose time is taken.
 #![tactic(auto)]
 
 use pw_flow::FlowGlobal;
@@ -32,8 +20,8 @@ use std::alloc::{AllocError, Global};
 use std::io;
 use std::time::CpuClock;
 
-/// How many modules there are, and how many functions and objects each has.
-const MODULES: u32 = 256;
+/// How many modules the programs have, and how many functions and objects each module.
+const MODULES: [u32; 2] = [@HALF@, @WHOLE@];
 const FUNCTIONS: u32 = 16;
 const GLOBALS: u32 = 32;
 
@@ -60,11 +48,11 @@ fn shape(alloc: Global, text: &[u8]) -> Result<Shape, AllocError> {
     Ok(Shape::new(Vec::from_slice(alloc, text)?))
 }
 
-/// Relocations to objects all over the program.
-fn fixes(alloc: Global, number: u32) -> Result<Items<Fix>, AllocError> {
+/// Relocations to objects all over a program of so many.
+fn fixes(alloc: Global, number: u32, objects: u32) -> Result<Items<Fix>, AllocError> {
     let mut fixes = Items::new(alloc);
     for k in 0..FIXES {
-        let global = number.wrapping_mul(37).wrapping_add(k) % (MODULES * GLOBALS);
+        let global = number.wrapping_mul(37).wrapping_add(k) % objects.max(1);
         fixes.push(Fix {
             word: k,
             kind: if k % 2 == 0 { FixKind::Ldil } else { FixKind::Im14 },
@@ -76,7 +64,7 @@ fn fixes(alloc: Global, number: u32) -> Result<Items<Fix>, AllocError> {
 }
 
 /// A function of this name; the first of the whole program is `main`, the second `$start`.
-fn function(alloc: Global, number: u32) -> Result<ObjectFn, AllocError> {
+fn function(alloc: Global, number: u32, objects: u32) -> Result<ObjectFn, AllocError> {
     let name = match number {
         0 => name(alloc, b"main")?,
         1 => name(alloc, b"$start")?,
@@ -90,7 +78,7 @@ fn function(alloc: Global, number: u32) -> Result<ObjectFn, AllocError> {
         name,
         frame: 64,
         words,
-        fixes: fixes(alloc, number)?,
+        fixes: fixes(alloc, number, objects)?,
     })
 }
 
@@ -119,14 +107,14 @@ fn declared(alloc: Global, module: u32) -> Result<Items<(Name, Shape)>, AllocErr
     Ok(declared)
 }
 
-fn object(alloc: Global, module: u32) -> Result<Object, AllocError> {
+fn object(alloc: Global, module: u32, objects: u32) -> Result<Object, AllocError> {
     let mut globals = Items::new(alloc);
     for k in 0..GLOBALS {
         globals.push(global(alloc, module.wrapping_mul(GLOBALS).wrapping_add(k))?)?;
     }
     let mut functions = Items::new(alloc);
     for k in 0..FUNCTIONS {
-        functions.push(function(alloc, module.wrapping_mul(FUNCTIONS).wrapping_add(k))?)?;
+        functions.push(function(alloc, module.wrapping_mul(FUNCTIONS).wrapping_add(k), objects)?)?;
     }
     Ok(Object {
         version: VERSION,
@@ -140,25 +128,38 @@ fn object(alloc: Global, module: u32) -> Result<Object, AllocError> {
     })
 }
 
-fn main(rt: HostRuntime) -> io::Result<()> {
-    let alloc = rt.alloc();
+/// The objects of a program.
+fn objects(alloc: Global, modules: u32) -> Result<Vec<Object>, AllocError> {
     let mut objects = Vec::new(alloc);
-    for module in 0..MODULES {
-        objects.push(object(alloc, module)?).map_err(|_| AllocError)?;
+    for module in 0..modules {
+        objects.push(object(alloc, module, modules.wrapping_mul(GLOBALS))?)?;
     }
+    Ok(objects)
+}
+
+/// Links a program; prints its objects, words and global objects, and the microseconds that linking took.
+fn run(rt: &HostRuntime, modules: u32) -> io::Result<()> {
+    let alloc = rt.alloc();
+    let objects = objects(alloc, modules)?;
     let start = rt.thread_cpu_time()?;
     let answer = link(alloc, &objects, 1_048_576);
     let end = rt.thread_cpu_time()?;
-    let time = end.saturating_sub(start).as_millis();
+    let time = end.saturating_sub(start).as_micros();
     match answer {
-        Ok(image) => println!(rt; "{} objects, {} words, {} global objects: linked in {time} milliseconds",
-            objects.len(), image.memory.words.len(), image.globals.len()),
-        Err(_) => println!(rt; "refused in {time} milliseconds"),
+        Ok(image) => println!(rt; "{} {} {} {time}", objects.len(), image.memory.words.len(), image.globals.len()),
+        Err(_) => println!(rt; "refused"),
     }
 }
+
+fn main(rt: HostRuntime) -> io::Result<()> {
+    for modules in &MODULES {
+        run(&rt, *modules)?;
+    }
+    Ok(())
+}
 RATTLE
-if [ "${1:-}" = try ]; then
-    (cd "$work/crates/bench_link" && rt try)
-else
-    (cd "$work/crates/bench_link" && rt run)
-fi
+
+rattle_run bench_link < /dev/null > "$work/times"
+awk '$1 == "refused" { print "a program is refused"; exit 1 }
+    { printf "%d objects, %d words, %d global objects: linked in %.1f ms\n", $1, $2, $3, $4 / 1e3; time[NR] = $4 }
+    END { if (NR == 2 && time[1] > 0) printf "twice the objects: ratio %.2f\n", time[2] / time[1] }' "$work/times"

@@ -1,25 +1,12 @@
 #!/usr/bin/env bash
-# Times lowering: modules of 200,000 and 400,000 tokens, of which each function has 3,300 statements `n = n + 1;`,
-# and one of 200,000 tokens whose functions are one `if` with 1,500 `else if`s. Makes a program over crates/pw_lstmt
-# in a temporary folder, builds it, runs it, and prints the processor time of `lower_module`. With the word `try` the
-# program is not proved.
-set -euo pipefail
-top=$(cd "$(dirname "$0")/.." && pwd)
-work=$(mktemp -d /tmp/bench-lower.XXXXXX)
-trap 'rm -rf "$work"' EXIT
-mkdir -p "$work/crates/bench_lower/src"
-crates='value|items|types|typed|flow|lower|lforms|lexpr|lplaces|lparts|lobjects|lstmt'
-for crate in ${crates//|/ }; do
-    mkdir "$work/crates/pw_$crate"
-    for part in src specs proofs; do
-        if [ -d "$top/crates/pw_$crate/$part" ]; then cp -r "$top/crates/pw_$crate/$part" "$work/crates/pw_$crate/"; fi
-    done
-done
-cp "$top/HANDLES" "$work/HANDLES"
-grep -E "^pw_($crates):" "$top/crates.txt" > "$work/crates.txt"
-echo 'bench_lower: pw_lstmt pw_typed pw_types pw_flow pw_value' >> "$work/crates.txt"
-cat > "$work/crates/bench_lower/src/main.rt" <<'RATTLE'
-//! A run of lowering whose time is taken.
+# Times lowering: typed trees of modules of 200,000 and 400,000 tokens, of which each function has 3,300 statements
+# `n = n + 1;`, and of one of 200,000 tokens whose functions are one `if` with 1,500 `else if`s. Prints milliseconds and
+# their quotients by the first. Usage: bench/lower.sh [small]
+. "$(dirname "$0")/common.sh"
+wants rt
+
+rattle_program bench_lower STATEMENTS="$(size 3300 33)" ARMS="$(size 1500 15)" <<'RATTLE'
+//! Lowers modules; prints the functions of each, and the microseconds that lowering it took.
 #![tactic(auto)]
 
 use pw_lstmt::lower_module;
@@ -38,7 +25,7 @@ struct Sizes {
     is_chosen: bool,
 }
 
-/// Modules of about 200,000, 400,000 and 200,000 tokens.
+/// Modules, the second with twice the functions of the first, the third with other statements.
 const MODULES: [Sizes; 3] = [
     Sizes { functions: 10, is_chosen: false },
     Sizes { functions: 20, is_chosen: false },
@@ -46,8 +33,8 @@ const MODULES: [Sizes; 3] = [
 ];
 
 /// The statements of a function: `n = n + 1;` of 6 tokens, or `else if (n < 1) n = n + 1;` of 13.
-const STATEMENTS: u32 = 3_300;
-const ARMS: u32 = 1_500;
+const STATEMENTS: u32 = @STATEMENTS@;
+const ARMS: u32 = @ARMS@;
 
 /// A letter and a number below 100,000.
 fn named(alloc: Global, letter: u8, number: u32) -> Result<Name, AllocError> {
@@ -188,10 +175,10 @@ fn run(rt: HostRuntime, sizes: &Sizes) -> io::Result<()> {
     let start = rt.thread_cpu_time()?;
     let answer = lower_module(alloc, &name, &tree);
     let end = rt.thread_cpu_time()?;
-    let time = end.saturating_sub(start).as_millis();
+    let time = end.saturating_sub(start).as_micros();
     match answer {
-        Ok(flow) => println!(rt; "{} functions: lowered in {time} milliseconds", flow.functions.as_slice().len()),
-        Err(_) => println!(rt; "no memory in {time} milliseconds"),
+        Ok(flow) => println!(rt; "{} {time}", flow.functions.as_slice().len()),
+        Err(_) => println!(rt; "refused"),
     }
 }
 
@@ -202,8 +189,9 @@ fn main(rt: HostRuntime) -> io::Result<()> {
     Ok(())
 }
 RATTLE
-if [ "${1:-}" = try ]; then
-    (cd "$work/crates/bench_lower" && rt try)
-else
-    (cd "$work/crates/bench_lower" && rt run)
-fi
+
+rattle_run bench_lower < /dev/null > "$work/times"
+awk 'BEGIN { split("a module|twice its functions|as many tokens in arms of an if", what, "|") }
+    $1 == "refused" { print "a module is refused"; exit 1 }
+    { if (NR == 1) first = $2
+      printf "%s: %d functions, lowered in %.1f ms, ratio %.2f\n", what[NR], $1, $2 / 1e3, $2 / first }' "$work/times"

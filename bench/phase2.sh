@@ -1,24 +1,11 @@
 #!/usr/bin/env bash
-# Times the second phase: 100,000 operations in one function, as many in 1,000 functions, and ten times as many in
-# one function. Makes a program over crates/pw_phase_two in a temporary folder, builds it, runs it, and prints the
-# processor time of each module. With the word `try` the program is not proved.
-set -euo pipefail
-top=$(cd "$(dirname "$0")/.." && pwd)
-work=$(mktemp -d /tmp/bench-phase2.XXXXXX)
-trap 'rm -rf "$work"' EXIT
-crates='pw_value pw_scope pw_items pw_inst pw_files pw_flow pw_flow_valid pw_summary pw_db pw_flow_ops pw_flowfile pw_summarise pw_object'
-crates="$crates pw_delay pw_webflow pw_alloc pw_select_registers pw_select_ops pw_select pw_phase_two"
-mkdir -p "$work/crates/bench_phase2/src"
-for crate in $crates; do
-    mkdir "$work/crates/$crate"
-    for part in src specs proofs; do
-        if [ -d "$top/crates/$crate/$part" ]; then cp -r "$top/crates/$crate/$part" "$work/crates/$crate/"; fi
-    done
-    grep -E "^$crate:" "$top/crates.txt" >> "$work/crates.txt"
-done
-cp "$top/HANDLES" "$work/HANDLES"
-echo 'bench_phase2: pw_phase_two pw_object pw_db pw_flow_valid pw_flow pw_items pw_value' >> "$work/crates.txt"
-cat > "$work/crates/bench_phase2/src/main.rt" <<'RATTLE'
+# Times the second phase: 100,000 operations in one function, 128,000 in 1,000 functions, and 1,000,000 in one function.
+# Prints milliseconds and, beside those of the first module, the time of each operation: 1 where time is linear in
+# operations, however they lie in functions. Usage: bench/phase2.sh [small]
+. "$(dirname "$0")/common.sh"
+wants rt
+
+rattle_program bench_phase2 BLOCKS="$(size 3125 4)" PARTS="$(size 1000 2)" MANY="$(size 31250 40)" <<'RATTLE'
 //! Runs of the second phase whose time is taken.
 #![tactic(auto)]
 
@@ -43,9 +30,9 @@ struct Sizes {
 }
 
 const MODULES: [Sizes; 3] = [
-    Sizes { parts: 1, blocks: 3125 },
-    Sizes { parts: 1000, blocks: 4 },
-    Sizes { parts: 1, blocks: 31_250 },
+    Sizes { parts: 1, blocks: @BLOCKS@ },
+    Sizes { parts: @PARTS@, blocks: 4 },
+    Sizes { parts: 1, blocks: @MANY@ },
 ];
 
 /// The operations of a block.
@@ -157,11 +144,11 @@ fn directives(alloc: Global, flow: &FlowModule) -> Result<Vec<(Name, Directives)
     directives_for(alloc, flow, &Database { functions })
 }
 
-/// Makes the object of a module.
+/// Makes the object of a module; prints its functions, operations and words, and the microseconds that this took.
 fn run(rt: &HostRuntime, sizes: &Sizes) -> io::Result<()> {
     let flow = module(rt.alloc(), sizes)?;
     if !is_valid(rt.alloc(), &flow)? {
-        return println!(rt; "the module is not lawful");
+        return println!(rt; "refused");
     }
     let directives = directives(rt.alloc(), &flow)?;
     let start = rt.thread_cpu_time()?;
@@ -171,7 +158,7 @@ fn run(rt: &HostRuntime, sizes: &Sizes) -> io::Result<()> {
     for f in object.functions.as_slice() {
         words = f.words.len().wrapping_add(words);
     }
-    println!(rt; "{} functions, {} operations, {words} words: {} milliseconds", sizes.parts, sizes.parts.wrapping_mul(sizes.blocks).wrapping_mul(OPS), end.saturating_sub(start).as_millis())
+    println!(rt; "{} {} {words} {}", sizes.parts, sizes.parts.wrapping_mul(sizes.blocks).wrapping_mul(OPS), end.saturating_sub(start).as_micros())
 }
 
 fn main(rt: HostRuntime) -> io::Result<()> {
@@ -181,8 +168,8 @@ fn main(rt: HostRuntime) -> io::Result<()> {
     Ok(())
 }
 RATTLE
-if [ "${1:-}" = try ]; then
-    (cd "$work/crates/bench_phase2" && rt try)
-else
-    (cd "$work/crates/bench_phase2" && rt run)
-fi
+
+rattle_run bench_phase2 < /dev/null > "$work/times"
+awk '$1 == "refused" { print "a module is not lawful"; exit 1 }
+    { if (NR == 1) first = $4 / $2
+      printf "%d functions, %d operations, %d words: %.1f ms, an operation to one of the first module %.2f\n", $1, $2, $3, $4 / 1e3, $4 / $2 / first }' "$work/times"

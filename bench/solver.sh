@@ -1,23 +1,14 @@
 #!/usr/bin/env bash
-# Times the data-flow solver: reachability over a graph of 4,096 nodes and 40,000 edges, with rows
-# of 8,192 bits. Makes a program over crates/pw_fix in a temporary folder, builds it, runs it, and
-# prints the processor time that the solver took. With the word `try` the program is not proved.
-set -euo pipefail
-top=$(cd "$(dirname "$0")/.." && pwd)
-work=$(mktemp -d /tmp/bench-solver.XXXXXX)
-trap 'rm -rf "$work"' EXIT
-mkdir -p "$work/crates"
-cp -r "$top/crates/pw_fix" "$work/crates/pw_fix"
-cp "$top/HANDLES" "$work/HANDLES"
-cd "$work"
-git init -q .
-: > crates.txt
-rt new crates/bench_solver start_io > /dev/null 2>&1
-rm -rf crates/bench_solver/proofs crates/bench_solver/specs
-rm -f crates/bench_solver/BUILD.bazel crates/bench_solver/stdin crates/bench_solver/stdout crates/bench_solver/src/*
-printf 'pw_fix:\nbench_solver: pw_fix\n' > crates.txt
-cat > crates/bench_solver/src/main.rt <<'RATTLE'
-//! A run of the solver whose time is taken.
+# Times the data-flow solver: from where the nodes of a graph are reached, over 4,096 nodes, rows of 8,192 bits and 40,000
+# edges, and over 20,000 edges. Prints milliseconds and their quotient; work is bounded by edges times the height of the
+# lattice, so nothing says that the quotient is 2. Usage: bench/solver.sh [small]
+. "$(dirname "$0")/common.sh"
+wants rt
+nodes=$(size 4096 64)
+edges=$(size 20000 300)
+
+rattle_program bench_solver NODES="$nodes" BITS=$((2 * nodes)) HALF="$edges" WHOLE=$((2 * edges)) <<'RATTLE'
+//! Runs of the solver whose time is taken.
 #![tactic(auto)]
 
 ghost use Rattle.std.specs.Prelude.{◌≡◌, ℕ, ◌<◌, ◌⊎◌, ◌↔◌, All, IfOk, OnOk};
@@ -29,21 +20,21 @@ use std::alloc::Global;
 use std::io;
 use std::time::CpuClock;
 
-const NODES: usize = 4096;
-const EDGES: usize = 40_000;
-const BITS: usize = 8192;
+const NODES: usize = @NODES@;
+const EDGES: [usize; 2] = [@HALF@, @WHOLE@];
+const BITS: usize = @BITS@;
 
 /// The nodes from which each node is reached.
 #[derive(Drop)]
 struct Reached {
     rows: Rows,
-    ghost wide: { 4096 < rows.len },
+    ghost wide: { @NODES@ < rows.len },
 }
 
 impl Problem for Reached {
     type L = Rows;
 
-    ghost node_count = { λ _. 4096 };
+    ghost node_count = { λ _. @NODES@ };
 
     ghost lattice_of = { λ p. p.rows };
 
@@ -71,22 +62,22 @@ impl Problem for Reached {
 
 /// One edge more.
 fn add(edges: &mut Vec<(usize, usize)>, from: usize, to: usize) -> Result<(), NoMemory>
-    requires from { from < 4096 }
-    requires to { to < 4096 }
-    requires within { All (λ (e : ℕ × ℕ). (e.0 < 4096) × (e.1 < 4096)) edges.old.items }
-    ensures { OnOk result (All (λ (e : ℕ × ℕ). (e.0 < 4096) × (e.1 < 4096)) edges.new.items) }
+    requires from { from < @NODES@ }
+    requires to { to < @NODES@ }
+    requires within { All (λ (e : ℕ × ℕ). (e.0 < @NODES@) × (e.1 < @NODES@)) edges.old.items }
+    ensures { OnOk result (All (λ (e : ℕ × ℕ). (e.0 < @NODES@) × (e.1 < @NODES@)) edges.new.items) }
 {
     edges.push((from, to))?;
     Ok(())
 }
 
-/// Edges that a generator of numbers draws.
-fn drawn(alloc: Global) -> Result<Graph, NoMemory>
-    ensures { IfOk result (λ graph. graph.nodes ≡ 4096) }
+/// A graph of so many edges, which a generator of numbers draws.
+fn drawn(alloc: Global, count: usize) -> Result<Graph, NoMemory>
+    ensures { IfOk result (λ graph. graph.nodes ≡ @NODES@) }
 {
     let mut edges = Vec::new(alloc);
     let mut state = 1u64;
-    for _ in 0..EDGES {
+    for _ in 0..count {
         state = state.wrapping_mul(6364136223846793005).wrapping_add(1442695040888963407);
         let from = (state >> 33) as usize % NODES;
         state = state.wrapping_mul(6364136223846793005).wrapping_add(1442695040888963407);
@@ -96,8 +87,9 @@ fn drawn(alloc: Global) -> Result<Graph, NoMemory>
     Ok(Graph { nodes: NODES, edges })
 }
 
-fn main(rt: HostRuntime) -> io::Result<()> {
-    let graph = drawn(rt.alloc())?;
+/// Solves a problem; prints the edges, the microseconds that this took, and how many numbers the rows of the solution hold.
+fn run(rt: &HostRuntime, count: usize) -> io::Result<()> {
+    let graph = drawn(rt.alloc(), count)?;
     let problem = Reached { rows: Rows { len: BITS } };
     let start = rt.thread_cpu_time()?;
     let values = solve(rt.alloc(), &graph, &problem)?;
@@ -109,20 +101,25 @@ fn main(rt: HostRuntime) -> io::Result<()> {
         }
     }
     let took = end.saturating_sub(start);
-    println!(rt; "{} nodes, {} edges, {} bits: {} microseconds, {} numbers", NODES, EDGES, BITS, took.as_micros(), held)
+    println!(rt; "{count} {} {held}", took.as_micros())
+}
+
+fn main(rt: HostRuntime) -> io::Result<()> {
+    for count in &EDGES {
+        run(&rt, *count)?;
+    }
+    Ok(())
 }
 RATTLE
-mkdir -p crates/bench_solver/proofs/drawn
-cat > crates/bench_solver/proofs/drawn/Invariants.antt <<'ANTT'
+mkdir -p "$work/crates/bench_solver/proofs/drawn"
+sed "s/@NODES@/$nodes/g" > "$work/crates/bench_solver/proofs/drawn/Invariants.antt" <<'ANTT'
 use Rattle.std.proofs.Common.{ℕ, ◌<◌, All}
 use Rattle.bench_solver.proofs.drawn.Given as goal
 
 abbrev pub invariant-loop : goal.invariant-loop
-invariant-loop l = All (λ (e : ℕ × ℕ). (e.0 < 4096) × (e.1 < 4096)) l.edges.items
+invariant-loop l = All (λ (e : ℕ × ℕ). (e.0 < @NODES@) × (e.1 < @NODES@)) l.edges.items
 ANTT
-if [ "${1:-}" = try ]; then
-    (cd crates/bench_solver && rt try)
-else
-    (cd crates/pw_fix && rt lib > /dev/null)
-    (cd crates/bench_solver && rt run)
-fi
+
+rattle_run bench_solver < /dev/null > "$work/times"
+awk -v nodes="$nodes" '{ printf "%d nodes, %d edges, rows of %d bits: %.1f ms, %d numbers\n", nodes, $1, 2 * nodes, $2 / 1e3, $3; time[NR] = $2 }
+    END { if (NR == 2 && time[1] > 0) printf "twice the edges: ratio %.2f\n", time[2] / time[1] }' "$work/times"

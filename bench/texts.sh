@@ -1,9 +1,10 @@
 #!/usr/bin/env bash
 # Compares the verdicts of the table of pw_tests_texts with gcc's. For each line of crates/pw_tests_texts/stdin
 # that begins with `?` and whose line of stdout says `accepted` or `Syntax`, gcc has to take the text
-# as C90 exactly where it is accepted. Prints each line where they differ, and the counts.
-set -euo pipefail
-crate=$(cd "$(dirname "$0")/../crates/pw_tests_texts" && pwd)
+# as C90 exactly where it is accepted. Prints each line where they differ, and the counts. Usage: bench/texts.sh [small]
+. "$(dirname "$0")/common.sh"
+wants gcc
+crate="$top/crates/pw_tests_texts"
 number=0
 taken=0
 refused=0

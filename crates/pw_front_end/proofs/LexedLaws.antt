@@ -1,5 +1,5 @@
 -- The function on texts gives the one answer of each text.
-use Rattle.std.proofs.Common.{◌≡◌, ◌≢◌, ℕ, zero, suc, ◌+◌, ◌<◌, ◌≤◌, ◌==◌, Bool, true, false, cond, List, [], ◌++◌, length, take, drop, Option, Some, None, Ok, Err, refl, sym, arith, length-append, length-drop, nat_le, nat_lt}
+use Rattle.std.proofs.Common.{◌≡◌, ◌≢◌, ℕ, zero, suc, ◌+◌, ◌<◌, ◌≤◌, ◌==◌, Bool, true, false, cond, List, [], ◌++◌, length, take, drop, Option, Some, None, Ok, Err, refl, sym, arith, length-append, nat_le, nat_lt}
 use Rattle.std.proofs.lemmas.Bool.Decides.{nat_tests}
 use Rattle.pw_token.proofs.LexLaws.{Lexing, lexing-start, lexing-step, lexing-end, lexing-bad, lexing-many, one-answer}
 use Rattle.pw_token.proofs.PieceBounds.{found-within}
@@ -23,7 +23,7 @@ behind-piece : (onward : ℕ → Bool → List Token → LexAnswer) (text : List
     → length (tokens ++ token_in k at n) ≤ token_limit
     → Lexes text (onward (at + n) (line_start_after ls k (take n (drop at text))) (tokens ++ token_in k at n))
 behind-piece onward text at ls tokens most k n goes l inside left e few =
-    let within = found-within ls (drop at text) (Some (k, n)) (omega (arith, length-drop at text)) (sym e) in
+    let within = found-within ls (drop at text) (Some (k, n)) (sym e) in
     goes (at + n) (line_start_after ls k (take n (drop at text))) (tokens ++ token_in k at n)
     (lexing-step text at ls tokens k n (tokens ++ token_in k at n) (line_start_after ls k (take n (drop at text))) l inside e refl few refl)
     (omega (arith, within.0))

@@ -1,3 +1,2 @@
 mod Naming
 mod Covering
-mod Nothing

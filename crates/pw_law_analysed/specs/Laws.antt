@@ -8,13 +8,14 @@ use Rattle.pw_colour.specs.Colours.{IsDatabaseOf}
 use Rattle.pw_colour.specs.Naming.{IsNamed}
 use Rattle.pw_alloc.specs.declared.located.Located.{Located}
 use Rattle.pw_object.specs.declared.object.Object.{Object}
-use Rattle.pw_run_flow.specs.Programs.{AreBytes, Program as Flows}
-use Rattle.pw_run_webs.specs.Programs.{IsProgram}
-use Rattle.pw_run_webs.specs.Laws.{DirectionKeeps, DirectionKeepsRuns, PlacesKeepRuns}
+use Rattle.pw_run_flow.specs.Programs.{AreBytes}
+use Rattle.pw_run_webs.specs.Laws.{PlacesKeep}
 use Rattle.pw_run_lines.specs.Laws.{SelectionKeepsRuns}
 use Rattle.pw_run_machine.specs.Laws.{LinkKeepsRuns}
 use Rattle.pw_cmean.specs.Worlds.{Program}
-use Rattle.pw_law_layers.specs.Lowering.{flow_program, IsAccepted, SourceIsNeverWrong, LoweringKeepsRuns}
+use Rattle.pw_law_layers.specs.Lowering.{flow_program, IsAccepted, LoweringKeepsRuns}
+use Rattle.pw_law_layers.specs.Whole.{program_of}
+use Rattle.pw_law_places.specs.Laws.{first_places}
 use Rattle.pw_law_graph.specs.Graphs.{named_graph, AllSummarise}
 use Rattle.pw_law_analyses.specs.Laws.{AreSummaries, Serves, IsAnalysed, HoldsOver}
 
@@ -29,15 +30,20 @@ DatabasesServe =
     IsAccepted p frame_of stack → AllSummarise (flow_program p frame_of stack).modules ss → AreSummaries ss → colours ≤ 16 →
     (i : IsDatabaseOf ss colours db) → Serves p frame_of stack ss colours db i
 
--- what holds of a program that was built with this database, from the laws of the layers alone
+-- what holds of a program that was built with this database, from the laws of lowering, selection and linking, and from
+-- that of places for the program's places
 abbrev pub LayersGiveAll : Type 0
 LayersGiveAll =
-    SourceIsNeverWrong → LoweringKeepsRuns → DirectionKeepsRuns → PlacesKeepRuns → SelectionKeepsRuns → LinkKeepsRuns →
+    LoweringKeepsRuns → SelectionKeepsRuns → LinkKeepsRuns →
     (p : Program) (ss : List Summary) (colours : ℕ) (db : List (List ℕ × Directives)) (functions : List Located) (objects : List Object) (stack : ℕ) (input : List ℕ) →
     (built : IsAnalysed p ss colours db functions objects stack) → AreBytes input →
+    PlacesKeep (program_of p objects stack) db functions input →
     HoldsOver p ss colours db functions objects stack input built.database
 
--- the law of direction, of a program and the database of summaries for no register
-abbrev pub DirectionKeepsWithoutRegisters : Type 0
-DirectionKeepsWithoutRegisters =
-    (p : Flows) (input : List ℕ) (ss : List Summary) (db : List (List ℕ × Directives)) → IsProgram p → IsDatabaseOf ss 0 db → DirectionKeeps p db input
+-- with the places of allocation's first form the law of places is no premise
+abbrev pub FirstPlacesGiveAll : Type 0
+FirstPlacesGiveAll =
+    LoweringKeepsRuns → SelectionKeepsRuns → LinkKeepsRuns →
+    (p : Program) (ss : List Summary) (colours : ℕ) (db : List (List ℕ × Directives)) (objects : List Object) (stack : ℕ) (input : List ℕ) →
+    (built : IsAnalysed p ss colours db (first_places (program_of p objects stack) db) objects stack) → AreBytes input →
+    HoldsOver p ss colours db (first_places (program_of p objects stack) db) objects stack input built.database

@@ -3,11 +3,12 @@
 #![tactic(auto)]
 
 ghost use Rattle.pw_law_analyses.specs.Laws.{DatabaseIsLawful, DatabaseIsSound, ColouredIsCovered};
-ghost use Rattle.pw_law_analysed.specs.Laws.{NamedGraphsSayTheSame, DatabasesServe, DirectionKeepsWithoutRegisters, LayersGiveAll};
+ghost use Rattle.pw_law_analysed.specs.Laws.{NamedGraphsSayTheSame, DatabasesServe, FirstPlacesGiveAll, LayersGiveAll};
 
 use pw_colour::laws;
 use pw_law_analyses::{all_laws_compose, analyses_compose};
-use pw_law_undirected::undirected_runs_keep_theirs;
+use pw_law_direction::direction_keeps;
+use pw_law_places::first_places_keep;
 
 /// The graph of summaries by the names of functions and globals says of calls, references, writes and eligible globals
 /// what their call graph says by places.
@@ -49,9 +50,9 @@ pub fn databases_serve()
     coloured_globals_are_covered();
 }
 
-/// From the laws of the layers follows of each program that was built with the database that the analyser makes of it: what
-/// holds of built programs; and where the source is defined, the law of traffic holds over the summaries, which speaks of
-/// each global all of whose webs have a register.
+/// From the laws of lowering, selection and linking follows of each program that was built with the database that the analyser
+/// makes of it, where the law of places holds for the program's places: what holds of built programs; and where the source is
+/// defined, the law of traffic holds over the summaries, which speaks of each global all of whose webs have a register.
 pub fn layers_give_all()
     ensures { LayersGiveAll }
 {
@@ -59,12 +60,15 @@ pub fn layers_give_all()
     databases_are_lawful();
     databases_are_sound_by_name();
     coloured_globals_are_covered();
+    databases_serve();
+    direction_keeps();
 }
 
-/// For no register the database of summaries is empty, so that the law of direction holds: the directed run keeps the flow
-/// run, with each global in its place at each call and return, keeps the registers, and obeys the law of traffic.
-pub fn direction_keeps_without_registers()
-    ensures { DirectionKeepsWithoutRegisters }
+/// Where the places are those of allocation's first form, the same follows without the law of places as a premise.
+pub fn first_places_give_all()
+    ensures { FirstPlacesGiveAll }
 {
-    undirected_runs_keep_theirs();
+    databases_serve();
+    first_places_keep();
+    layers_give_all();
 }

@@ -16,13 +16,13 @@ notes P Q from (Over end v) h = from v.log h
 notes P Q from Wrong h = tt
 
 pub joined : LayersCompose → AnalysesCompose → AllLawsCompose
-joined layers analyses sense low direction places selection link lawful sound covered p ss colours db functions objects stack input built bytes =
+joined layers analyses low selection link lawful sound covered p ss colours db functions objects stack input built bytes direction places =
     let v = image_of objects stack in
     let q = program_of p objects stack in
     let s : Serves p (frame_in v) stack ss colours db built.database =
     analyses lawful sound covered p (frame_in v) stack ss colours db built.accepted built.summarised built.linked built.few built.database in
     let h : Holds p db functions objects stack input =
-    layers sense low direction places selection link p db functions objects stack input
+    layers low selection link p db functions objects stack input
     (record {
       checked = built.checked;
       parts = built.parts;
@@ -35,7 +35,7 @@ joined layers analyses sense low direction places selection link lawful sound co
       made = built.made;
       fits = built.fits;
     })
-    bytes in
+    bytes direction places in
     record {
       holds = h;
       traffic = λ defined n.

@@ -19,12 +19,12 @@ use Rattle.pw_run_agreement.specs.Agreement.{IsDefined}
 use Rattle.pw_run_flow.specs.Programs.{AreBytes}
 use Rattle.pw_run_webs.specs.Programs.{graph_of}
 use Rattle.pw_run_webs.specs.Direction.{directed_functions}
-use Rattle.pw_run_webs.specs.Laws.{DirectionKeepsRuns, PlacesKeepRuns}
+use Rattle.pw_run_webs.specs.Laws.{DirectionKeeps, PlacesKeep}
 use Rattle.pw_run_webs.specs.Serving.{AllServe}
 use Rattle.pw_run_lines.specs.Laws.{SelectionKeepsRuns}
 use Rattle.pw_run_machine.specs.Laws.{AreObjectsOf, AreNamesApart, frame_in, image_run, LinkKeepsRuns}
 use Rattle.pw_cmean.specs.Worlds.{Program}
-use Rattle.pw_law_layers.specs.Lowering.{flow_program, IsAccepted, AreChecked, HaveParts, SourceIsNeverWrong, LoweringKeepsRuns}
+use Rattle.pw_law_layers.specs.Lowering.{flow_program, IsAccepted, AreChecked, HaveParts, LoweringKeepsRuns}
 use Rattle.pw_law_layers.specs.Source.{source_runs}
 use Rattle.pw_law_layers.specs.Whole.{image_of, program_of, Holds}
 use Rattle.pw_law_graph.specs.Graphs.{named_graph, AllSummarise}
@@ -100,8 +100,8 @@ pub record HoldsOver (p : Program) (ss : List Summary) (colours : ℕ) (db : Lis
 
 abbrev pub AllLawsCompose : Type 0
 AllLawsCompose =
-    SourceIsNeverWrong → LoweringKeepsRuns → DirectionKeepsRuns → PlacesKeepRuns → SelectionKeepsRuns → LinkKeepsRuns →
-    DatabaseIsLawful → DatabaseIsSound → ColouredIsCovered →
+    LoweringKeepsRuns → SelectionKeepsRuns → LinkKeepsRuns → DatabaseIsLawful → DatabaseIsSound → ColouredIsCovered →
     (p : Program) (ss : List Summary) (colours : ℕ) (db : List (List ℕ × Directives)) (functions : List Located) (objects : List Object) (stack : ℕ) (input : List ℕ) →
     (built : IsAnalysed p ss colours db functions objects stack) → AreBytes input →
+    DirectionKeeps (program_of p objects stack) db input → PlacesKeep (program_of p objects stack) db functions input →
     HoldsOver p ss colours db functions objects stack input built.database

@@ -19,9 +19,10 @@ pub fn analyses_compose()
     summaries_say_the_same();
 }
 
-/// From the laws of the layers and of the analyser follows of each program that was built with the database that the
-/// analyser makes of it: what holds of built programs; and where the source is defined, the law of traffic holds over the
-/// summaries, which speaks of each global all of whose webs have a register.
+/// From the laws of lowering, selection, linking and of the analyser follows of each program that was built with the database
+/// that the analyser makes of it, where the laws of direction and of places hold for this database and the program's places:
+/// what holds of built programs; and where the source is defined, the law of traffic holds over the summaries, which speaks
+/// of each global all of whose webs have a register.
 pub fn all_laws_compose()
     ensures { AllLawsCompose }
 {

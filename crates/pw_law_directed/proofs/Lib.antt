@@ -2,6 +2,7 @@ mod Lists
 mod Values
 mod Numbers
 mod Objects
+mod Starts
 mod Trails
 mod Commands
 mod Running

@@ -1,5 +1,6 @@
 -- Laws of the run of a program under directives, of that run alone.
-use Rattle.std.specs.Prelude.{ℕ, ◌≡◌, List, [], ◌∷◌, map}
+use Rattle.std.specs.Prelude.{ℕ, ◌≡◌, List, [], ◌∷◌, map, Contains}
+use Rattle.pw_value.specs.declared.value.Pointer.TheVariants.{Function}
 use Rattle.pw_value.specs.ProgramNames.{start_name}
 use Rattle.pw_db.specs.declared.database.Directives.{Directives}
 use Rattle.pw_db.specs.Database.{IsDatabase}
@@ -8,13 +9,13 @@ use Rattle.pw_db_sound.specs.Sound.{Sound}
 use Rattle.pw_run.specs.Runs.{Refines}
 use Rattle.pw_run_trace.specs.Traces.{Event, Called, Refused, Notes, KeepRegisters, calls_of}
 use Rattle.pw_run_trace.specs.Traffic.{Open, active, ObeysTraffic}
-use Rattle.pw_run_flow.specs.Programs.{Program}
+use Rattle.pw_run_flow.specs.Programs.{Program, names_of, function_number}
 use Rattle.pw_run_webs.specs.Programs.{IsProgram, graph_of}
 use Rattle.pw_run_flow.specs.FlowRun.{flow_run}
 use Rattle.pw_run_webs.specs.Direction.{unplaced, directed_functions, with_functions, web_run, MomentAlike}
 use Rattle.pw_run_webs.specs.PlacedRun.{Machine, On, steps, start}
 use Rattle.pw_run_webs.specs.Laws.{DirectionKeepsRuns}
-use Rattle.pw_law_directed.specs.Values.{AreFine}
+use Rattle.pw_law_directed.specs.Values.{IsTaken, FinePointer, AreFine}
 
 -- the innermost active call calls the function; where none is active it is `$start`
 abbrev pub IsCalledBy : {B V : Type 0} → Graph → List ℕ → List (Open B V) → Type 0
@@ -45,7 +46,7 @@ RegistersAreKept =
     (p : Program) (d : List (List ℕ × Directives)) (input : List ℕ) → IsProgram p → IsDatabase d → Sound (graph_of p) d → (n : ℕ) →
     Notes (KeepRegisters d) (web_run p d input n)
 
--- what is left of the law of direction: the directed run keeps the flow run, with each global in its place at each call
+-- the first part of the law of direction: the directed run keeps the flow run, with each global in its place at each call
 -- and return
 abbrev pub DirectionRefines : Type 0
 DirectionRefines =
@@ -61,3 +62,11 @@ abbrev pub ValuesAreFine : Type 0
 ValuesAreFine =
     (p : Program) (d : List (List ℕ × Directives)) (input : List ℕ) → IsProgram p → (n : ℕ) (m : Machine) →
     steps (with_functions p (map unplaced (directed_functions p d))) n (start (with_functions p (map unplaced (directed_functions p d))) input) ≡ On m → AreFine p m
+
+-- a pointer to a function whose address is taken leads to no other function
+abbrev pub TakenFunctionsAreFine : Type 0
+TakenFunctionsAreFine = (p : Program) (f : List ℕ) → IsTaken p f → Contains (names_of p) f → FinePointer p (Function (function_number p f))
+
+-- no function calls `$start`
+abbrev pub StartIsNotCalled : Type 0
+StartIsNotCalled = (p : Program) (caller : List ℕ) → IsProgram p → ¬ Calls (graph_of p) caller start_name

@@ -1,12 +1,23 @@
 //! Laws of the run of a program under directives, of that run alone, without code.
 #![tactic(auto)]
 
-ghost use Rattle.pw_law_directed.specs.Laws.{CallsAreOfTheGraph, DirectionRestsOnRuns, RegistersAreKept, TrafficIsObeyed, ValuesAreFine};
+ghost use Rattle.pw_law_directed.specs.Laws.{CallsAreOfTheGraph, DirectionRestsOnRuns, RegistersAreKept, StartIsNotCalled, TakenFunctionsAreFine, TrafficIsObeyed, ValuesAreFine};
 
 /// No value of a run under directives is a pointer, or a piece of one, to a function whose address nothing takes or to a
 /// global that a register may hold: neither in temporaries, registers and what is saved, nor in objects.
 pub fn directed_values_are_fine()
     ensures { ValuesAreFine }
+{}
+
+/// A pointer to a function whose address is taken leads to no function whose address nothing takes: functions of one number
+/// have one name.
+pub fn taken_functions_are_fine()
+    ensures { TakenFunctionsAreFine }
+{}
+
+/// No function of a lawful program calls `$start`, by its name or through a value.
+pub fn start_is_not_called()
+    ensures { StartIsNotCalled }
 {}
 
 /// Every call of a run under directives is a call of the program's graph: the active function calls by name what the graph

@@ -29,7 +29,7 @@ use Rattle.pw_run_webs.specs.Programs.{graph_of, node_of, read_by, ops_of, eligi
 use Rattle.pw_run_webs.specs.PlacedRun as web
 use Rattle.pw_run_webs.specs.PlacedRun.{is_eligible}
 use Rattle.pw_law_direction.specs.Pairs.{Active, Pair, flow_side, web_side, webs_of, under}
-use Rattle.pw_law_direction.specs.Alike.{IsPlain, IsTame, AreTameBytes, Linked, names_active, IsWritten, IsAlike, Follows}
+use Rattle.pw_law_direction.specs.Alike.{IsPlain, FineValue, AreTameBytes, Linked, names_active, IsWritten, IsAlike, Follows}
 use Rattle.pw_law_direction.specs.Laws.{StepsFollow, LoadsFollow}
 use Rattle.pw_law_direction.proofs.Elements.{first-there, later-there, the-first, map-there, map-back, flat-there}
 use Rattle.pw_law_direction.proofs.Names.{name-eligible, one-number, has-there}
@@ -84,7 +84,7 @@ get-same : (p : Program) (g : List ℕ) (k : Kind) (objects memory : List Object
 get-same p g k objects memory None h = refl
 get-same p g k objects memory (Some n) h = look-same objects memory k n (h n refl)
 
-get-tame : (p : Program) (k : Kind) (objects : List Object) (o : Option ℕ) → ((o : ℕ) → AreTameBytes p (object_at objects o).bytes) → IfSome (get-by k objects o) (IsTame p)
+get-tame : (p : Program) (k : Kind) (objects : List Object) (o : Option ℕ) → ((o : ℕ) → AreTameBytes p (object_at objects o).bytes) → IfSome (get-by k objects o) (FineValue p)
 get-tame p k objects None h = tt
 get-tame p k objects (Some n) h = look-in-tame p objects k n 0 h
 
@@ -115,9 +115,9 @@ load-by : (p : Program) (d : List (List ℕ × Directives)) (x : Pair) (t : ℕ)
 load-by p d x t g k b e is s a none needs =
     noted b (ap (λ (o : Option Value). if is_own_kind p g k then o else None)
     (get-same p g k x.objects x.memory (global_number p g) (same-object p d x g b e is s a none needs)))
-    (if-some (IsTame p) (is_own_kind p g k) (get-by k x.objects (global_number p g)) (λ own. get-tame p k x.objects (global_number p g) a.objects.tame))
+    (if-some (FineValue p) (is_own_kind p g k) (get-by k x.objects (global_number p g)) (λ own. get-tame p k x.objects (global_number p g) a.objects.tame))
   where
-    noted : (b : Bool) → get_global p g k x.memory ≡ get_global p g k x.objects → IfSome (get_global p g k x.objects) (IsTame p)
+    noted : (b : Bool) → get_global p g k x.memory ≡ get_global p g k x.objects → IfSome (get_global p g k x.objects) (FineValue p)
         → Follows p d (flow.gives t (get_global p g k x.objects) (flow_side x)) (web.gives t (get_global p g k x.memory) (web.noted_if b (Loaded g) (web_side d x)))
     noted true same tame = gives-follow p d (record x { trace = Loaded g ∷ x.trace }) t (get_global p g k x.objects) (get_global p g k x.memory) same tame
         (record { frame = a.frame; callers = a.callers; linked = a.linked; objects = a.objects; log = a.log })

@@ -44,7 +44,7 @@ comes-back (n ∷ rest) a b saved others =
 
 -- ---- calls
 
-here : (d : List (List ℕ × Directives)) (f : Active) (h : List ℕ) (r : ℕ) (fs : List Active) (a : ℕ → Value) → register_of (webs_of d f.function) h ≡ Some r → held h a (web_frames d (f ∷ fs)) ≡ Some (a r)
+pub here : (d : List (List ℕ × Directives)) (f : Active) (h : List ℕ) (r : ℕ) (fs : List Active) (a : ℕ → Value) → register_of (webs_of d f.function) h ≡ Some r → held h a (web_frames d (f ∷ fs)) ≡ Some (a r)
 unfolding directed
 here d f h r fs a e = ap (λ (o : Option ℕ). option_or (option_map a o) (held h (with_registers f.saved a) (web_frames d fs))) e
 

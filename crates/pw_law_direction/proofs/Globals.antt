@@ -37,7 +37,7 @@ bytes-whole n bytes e = ap (λ (k : ℕ). bytes_from k 0 bytes) (sym e) ∙ byte
 
 -- ---- one global of a name
 
-distinct-right : (xs ys : List (List ℕ)) → AreDistinct (xs ++ ys) → AreDistinct ys
+pub distinct-right : (xs ys : List (List ℕ)) → AreDistinct (xs ++ ys) → AreDistinct ys
 distinct-right [] ys h = h
 distinct-right (x ∷ xs) ys h = distinct-right xs ys h.1
 
@@ -48,7 +48,7 @@ all-hold P (y ∷ ys) x h c = elim (Contains-append_cases (y ∷ []) ys x c) [
   | inr later ↦ all-hold P ys x h.1 later
 ]
 
-one-of-name : (xs : List FlowGlobal) (x y : FlowGlobal) → AreDistinct (map (λ g. g.name) xs) → Contains xs x → Contains xs y → x.name ≡ y.name → x ≡ y
+pub one-of-name : (xs : List FlowGlobal) (x y : FlowGlobal) → AreDistinct (map (λ g. g.name) xs) → Contains xs x → Contains xs y → x.name ≡ y.name → x ≡ y
 one-of-name [] x y h c k e = absurd (nowhere x c)
 one-of-name (z ∷ zs) x y h c k e = elim (Contains-append_cases (z ∷ []) zs x c) [
   | inl first ↦ elim (Contains-append_cases (z ∷ []) zs y k) [
@@ -82,11 +82,11 @@ same-kind U16 U16 h = refl
 same-kind W32 W32 h = refl
 same-kind a b h = absurd (true≢false (sym h))
 
-abbrev kind-is : Kind → Option Kind → Bool
+abbrev pub kind-is : Kind → Option Kind → Bool
 kind-is k (Some own) = sameb the_kinds own k
 kind-is k None = false
 
-abbrev own-by : Kind → Option FlowGlobal → Bool
+abbrev pub own-by : Kind → Option FlowGlobal → Bool
 own-by k (Some x) = kind-is k x.kind
 own-by k None = false
 

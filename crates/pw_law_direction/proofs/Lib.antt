@@ -15,3 +15,13 @@ mod StoresByName
 mod Runs
 mod Saving
 mod Callees
+mod Standing
+mod Edges
+mod Slots
+mod Entering
+mod Calling
+mod Bytes
+mod Leaving
+mod Returning
+mod Starting
+mod Refining

@@ -174,13 +174,13 @@ enough-follows p d x f lib t args true is a = record {
 }
 enough-follows p d x f lib t args false is a = library-follows p d x lib t args is a
 
-abbrev flow-by : Program → Option ℕ → List ℕ → List Value → flow.Machine → Option Library → Option FlowFn → flow.Step
+abbrev pub flow-by : Program → Option ℕ → List ℕ → List Value → flow.Machine → Option Library → Option FlowFn → flow.Step
 flow-by p t f args m (Some g) defined =
     if nat_lt p.stack (p.frame_of f + flow.depth p m) then flow.Stopped run.StackFull m else flow.calls_library g t args m
 flow-by p t f args m None (Some defined) = flow.calls_defined p defined t args m
 flow-by p t f args m None None = flow.Astray
 
-abbrev web-by : web.PlacedProgram → Option ℕ → List ℕ → List Value → web.Machine → Option Library → Option Located → web.Step
+abbrev pub web-by : web.PlacedProgram → Option ℕ → List ℕ → List Value → web.Machine → Option Library → Option Located → web.Step
 web-by p t f args m (Some g) defined =
     if web.exceeds p f (m.frame ∷ m.callers) then web.Stopped run.StackFull (web.noted (Refused f) m) else web.calls_library p g t args m
 web-by p t f args m None (Some defined) = web.calls_defined p defined t args m

@@ -21,13 +21,13 @@ use Rattle.pw_run_flow.specs.Memory.{scalar_of, is_open, look_in, look}
 use Rattle.pw_run_webs.specs.Programs.{eligible_of, eligible_names}
 use Rattle.pw_run_webs.specs.PlacedRun.{held}
 use Rattle.pw_law_direction.specs.Pairs.{Active, web_frames}
-use Rattle.pw_law_direction.specs.Alike.{IsPlain, LeadsWell, IsTame, IsTameByte, AreTameBytes, names_active, GlobalStands, GlobalsStand, ObjectsAlike}
+use Rattle.pw_law_direction.specs.Alike.{IsPlain, FinePointer, FineValue, FineByte, AreTameBytes, names_active, GlobalStands, GlobalsStand, ObjectsAlike}
 use Rattle.pw_law_direction.proofs.Elements.{map-there}
 use Rattle.pw_law_direction.proofs.Tame.{scalar-tame, some-tame, bytes-from-tame, with-bytes-tame}
 
 -- ---- objects of which one was written
 
-is-within : (objects : List Object) (o : ℕ) → (object_at objects o).live ≡ true → o < length objects
+pub is-within : (objects : List Object) (o : ℕ) → (object_at objects o).live ≡ true → o < length objects
 is-within objects o live = elim (cases_lt o (length objects)) [
   | inl less ↦ less
   | inr more ↦ absurd (true≢false (sym live ∙ ap (λ (x : Object). x.live) (get_or_past objects o no_object more)))
@@ -58,7 +58,7 @@ look-in-alike : (objects memory : List Object) (k : Kind) (o i : ℕ) → object
 look-in-alike objects memory k o i e =
     ap (λ (x : Object). if x.live && (nat_le (i + kind_size k) (length x.bytes) && (i % kind_size k == 0)) then Some (scalar_of k (bytes_from (kind_size k) i x.bytes)) else None) e
 
-pub look-alike : (p : Program) (objects memory : List Object) (k : Kind) (v : Value) → OthersAlike p objects memory → IsTame p v → look k v memory ≡ look k v objects
+pub look-alike : (p : Program) (objects memory : List Object) (k : Kind) (v : Value) → OthersAlike p objects memory → FineValue p v → look k v memory ≡ look k v objects
 look-alike p objects memory k (At (P.Object o i)) h t = look-in-alike objects memory k o i (h o t)
 look-alike p objects memory k (At (P.Function f)) h t = refl
 look-alike p objects memory k Undefined h t = refl
@@ -66,11 +66,11 @@ look-alike p objects memory k (Num n) h t = refl
 look-alike p objects memory k Null h t = refl
 look-alike p objects memory k (Piece q i) h t = refl
 
-pub look-in-tame : (p : Program) (objects : List Object) (k : Kind) (o i : ℕ) → ((o : ℕ) → AreTameBytes p (object_at objects o).bytes) → IfSome (look_in k o i objects) (IsTame p)
+pub look-in-tame : (p : Program) (objects : List Object) (k : Kind) (o i : ℕ) → ((o : ℕ) → AreTameBytes p (object_at objects o).bytes) → IfSome (look_in k o i objects) (FineValue p)
 look-in-tame p objects k o i h = some-tame p (is_open objects o i (kind_size k) (kind_size k)) (scalar_of k (bytes_from (kind_size k) i (object_at objects o).bytes))
     (scalar-tame p k (bytes_from (kind_size k) i (object_at objects o).bytes) (bytes-from-tame p (kind_size k) i (object_at objects o).bytes (h o)))
 
-pub look-tame : (p : Program) (objects : List Object) (k : Kind) (v : Value) → ((o : ℕ) → AreTameBytes p (object_at objects o).bytes) → IfSome (look k v objects) (IsTame p)
+pub look-tame : (p : Program) (objects : List Object) (k : Kind) (v : Value) → ((o : ℕ) → AreTameBytes p (object_at objects o).bytes) → IfSome (look k v objects) (FineValue p)
 look-tame p objects k (At (P.Object o i)) h = look-in-tame p objects k o i h
 look-tame p objects k (At (P.Function f)) h = tt
 look-tame p objects k Undefined h = tt
@@ -83,11 +83,11 @@ look-tame p objects k (Piece q i) h = tt
 near-alike : (objects memory : List Object) (o i : ℕ) → object_at memory o ≡ object_at objects o → is_near memory o i ≡ is_near objects o i
 near-alike objects memory o i e = ap (λ (x : Object). x.live && nat_le i (length x.bytes)) e
 
-pub somewhere-alike : (p : Program) (objects memory : List Object) (q : Pointer) → OthersAlike p objects memory → LeadsWell p q → is_somewhere memory q ≡ is_somewhere objects q
+pub somewhere-alike : (p : Program) (objects memory : List Object) (q : Pointer) → OthersAlike p objects memory → FinePointer p q → is_somewhere memory q ≡ is_somewhere objects q
 somewhere-alike p objects memory (P.Object o i) h t = near-alike objects memory o i (h o t)
 somewhere-alike p objects memory (P.Function f) h t = refl
 
-same-alike : (p : Program) (objects memory : List Object) (q r : Pointer) → OthersAlike p objects memory → LeadsWell p q → LeadsWell p r → same_place memory q r ≡ same_place objects q r
+same-alike : (p : Program) (objects memory : List Object) (q r : Pointer) → OthersAlike p objects memory → FinePointer p q → FinePointer p r → same_place memory q r ≡ same_place objects q r
 same-alike p objects memory (P.Object o i) (P.Object s j) h t u =
     ap (λ (b : Bool). if b && is_near memory s j then Some ((o == s) && (i == j)) else None) (near-alike objects memory o i (h o t))
     ∙ ap (λ (b : Bool). if is_near objects o i && b then Some ((o == s) && (i == j)) else None) (near-alike objects memory s j (h s u))
@@ -101,7 +101,7 @@ in-order-alike p objects memory o i s j v h t u =
     ap (λ (b : Bool). if (o == s) && (b && is_near memory s j) then Some v else None) (near-alike objects memory o i (h o t))
     ∙ ap (λ (b : Bool). if (o == s) && (is_near objects o i && b) then Some v else None) (near-alike objects memory s j (h s u))
 
-on-pointers-alike : (p : Program) (objects memory : List Object) (k : BinKind) (q r : Pointer) → OthersAlike p objects memory → LeadsWell p q → LeadsWell p r
+on-pointers-alike : (p : Program) (objects memory : List Object) (k : BinKind) (q r : Pointer) → OthersAlike p objects memory → FinePointer p q → FinePointer p r
     → on_pointers memory k q r ≡ on_pointers objects k q r
 on-pointers-alike p objects memory Eq q r h t u = ap (λ (b : Option Bool). option_map truth b) (same-alike p objects memory q r h t u)
 on-pointers-alike p objects memory Ne q r h t u = ap (λ (b : Option Bool). option_map (λ same. truth (not same)) b) (same-alike p objects memory q r h t u)
@@ -109,19 +109,19 @@ on-pointers-alike p objects memory LtU (P.Object o i) (P.Object s j) h t u = in-
 on-pointers-alike p objects memory LeU (P.Object o i) (P.Object s j) h t u = in-order-alike p objects memory o i s j (truth (nat_le i j)) h t u
 on-pointers-alike p objects memory k q r h t u = refl
 
-pointer-number-alike : (p : Program) (objects memory : List Object) (k : BinKind) (q : Pointer) (n : ℕ) → OthersAlike p objects memory → LeadsWell p q
+pointer-number-alike : (p : Program) (objects memory : List Object) (k : BinKind) (q : Pointer) (n : ℕ) → OthersAlike p objects memory → FinePointer p q
     → pointer_and_number memory k q n ≡ pointer_and_number objects k q n
 pointer-number-alike p objects memory Eq q zero h t = ap (λ (b : Bool). if b then Some (truth false) else None) (somewhere-alike p objects memory q h t)
 pointer-number-alike p objects memory Ne q zero h t = ap (λ (b : Bool). if b then Some (truth true) else None) (somewhere-alike p objects memory q h t)
 pointer-number-alike p objects memory k q n h t = refl
 
-number-pointer-alike : (p : Program) (objects memory : List Object) (k : BinKind) (n : ℕ) (q : Pointer) → OthersAlike p objects memory → LeadsWell p q
+number-pointer-alike : (p : Program) (objects memory : List Object) (k : BinKind) (n : ℕ) (q : Pointer) → OthersAlike p objects memory → FinePointer p q
     → number_and_pointer memory k n q ≡ number_and_pointer objects k n q
 number-pointer-alike p objects memory Eq zero q h t = ap (λ (b : Bool). if b then Some (truth false) else None) (somewhere-alike p objects memory q h t)
 number-pointer-alike p objects memory Ne zero q h t = ap (λ (b : Bool). if b then Some (truth true) else None) (somewhere-alike p objects memory q h t)
 number-pointer-alike p objects memory k n q h t = refl
 
-pub binary-alike : (p : Program) (objects memory : List Object) (k : BinKind) (v w : Value) → OthersAlike p objects memory → IsTame p v → IsTame p w
+pub binary-alike : (p : Program) (objects memory : List Object) (k : BinKind) (v w : Value) → OthersAlike p objects memory → FineValue p v → FineValue p w
     → binary memory k v w ≡ binary objects k v w
 binary-alike p objects memory k (Num a) (Num b) h t u = refl
 binary-alike p objects memory k (At q) (At r) h t u = on-pointers-alike p objects memory k q r h t u
@@ -139,7 +139,7 @@ others-written p objects memory o i new h plain live q t = elim (cases_eq q o) [
   | inr ne ↦ is-other memory o i q new ne ∙ h q t ∙ sym (is-other objects o i q new ne)
 ]
 
-pub tame-written : (p : Program) (objects : List Object) (o i : ℕ) (new : List Byte) → AllByRecursion (IsTameByte p) new → (object_at objects o).live ≡ true
+pub tame-written : (p : Program) (objects : List Object) (o i : ℕ) (new : List Byte) → AllByRecursion (FineByte p) new → (object_at objects o).live ≡ true
     → ((o : ℕ) → AreTameBytes p (object_at objects o).bytes) → (q : ℕ) → AreTameBytes p (object_at (written o i new objects) q).bytes
 tame-written p objects o i new t live h q = elim (cases_eq q o) [
   | inl e ↦ subst (λ (n : ℕ). AreTameBytes p (object_at (written o i new objects) n).bytes) (sym e)
@@ -159,7 +159,7 @@ globals-written p d active registers objects memory o i new plain h g k n there 
     (subst (λ (x : Object). GlobalStands d (names_active active) g k (held g registers (web_frames d active)) (object_at objects n) x) (sym (is-other memory o i n new ne)) (h g k n there is))
 
 pub objects-written : (p : Program) (d : List (List ℕ × Directives)) (active : List Active) (registers : ℕ → Value) (objects memory : List Object) (o i : ℕ) (new : List Byte)
-    → IsPlain p o → (object_at objects o).live ≡ true → AllByRecursion (IsTameByte p) new
+    → IsPlain p o → (object_at objects o).live ≡ true → AllByRecursion (FineByte p) new
     → ObjectsAlike p d active registers objects memory → ObjectsAlike p d active registers (written o i new objects) (written o i new memory)
 objects-written p d active registers objects memory o i new plain live tame a = record {
   count = count-left memory o i new ∙ a.count ∙ sym (count-left objects o i new);

@@ -17,7 +17,7 @@ use Rattle.pw_flow.specs.declared.flow.FlowGlobal.{FlowGlobal}
 use Rattle.pw_flow.specs.declared.flow.FlowFn.{FlowFn}
 use Rattle.pw_run_flow.specs.Programs.{Program, functions_of, globals_of, global_number, function_number, pointer_to}
 use Rattle.pw_run_webs.specs.Programs.{IsGlobalName, ops_of, taken_names, has_name, eligible_as, eligible_of, eligible_names}
-use Rattle.pw_law_direction.specs.Alike.{IsPlain, LeadsWell}
+use Rattle.pw_law_direction.specs.Alike.{IsPlain, FinePointer}
 use Rattle.pw_law_direction.proofs.Elements.{nowhere, the-first, map-back, flat-back, flat-there}
 
 or-right : (a b : Bool) → b ≡ true → (a || b) ≡ true
@@ -80,7 +80,7 @@ name-eligible p g c = let r = map-back (λ (e : List ℕ × Kind). e.0) (eligibl
 
 -- ---- numbers of globals
 
-abbrev named : List ℕ → FlowGlobal → Bool
+abbrev pub named : List ℕ → FlowGlobal → Bool
 named g x = bytes_eq x.name g
 
 pub number-within : (p : Program) (d : FlowGlobal) (g : List ℕ) (n : ℕ) → global_number p g ≡ Some n → n < length (globals_of p)
@@ -99,7 +99,7 @@ place-by : (b : Bool) (n m : ℕ) → (b ≡ false → n < m) → cond (not b) (
 place-by true n m h = omega arith
 place-by false n m h = let r : n < m = h refl in omega (arith, r)
 
-place-below : (test : FlowGlobal → Bool) (xs : List FlowGlobal) (x : FlowGlobal) → Contains xs x → test x ≡ true → position_or_len test xs < length xs
+pub place-below : (test : FlowGlobal → Bool) (xs : List FlowGlobal) (x : FlowGlobal) → Contains xs x → test x ≡ true → position_or_len test xs < length xs
 place-below test [] x c t = absurd (nowhere x c)
 place-below test (y ∷ ys) x c t = place-by (test y) (position_or_len test ys) (length ys) (λ e. elim (Contains-append_cases (y ∷ []) ys x c) [
   | inl first ↦ absurd (true≢false (sym t ∙ sym (ap test (the-first y x first)) ∙ e))
@@ -114,15 +114,19 @@ has-number p g c e =
     let none : Some place ≡ None = subst (λ (b : Bool). cond b (Some place) None ≡ None) (lt-ltb place (length (globals_of p)) k) e in
     absurd cc
 
-abbrev pointer-by : Program → List ℕ → ℕ → Option ℕ → Pointer
+abbrev pub pointer-by : Program → List ℕ → ℕ → Option ℕ → Pointer
 pointer-by p g n (Some o) = P.Object o n
 pointer-by p g n None = P.Function (function_number p g)
 
-leads-by : (p : Program) (g : List ℕ) (n : ℕ) (found : Option ℕ) → global_number p g ≡ found → IsGlobalName p g → has_name (taken_names p) g ≡ true → LeadsWell p (pointer-by p g n found)
-leads-by p g n None e c t = absurd (has-number p g c e)
-leads-by p g n (Some o) e c t = λ h k f.
+-- a global whose address is taken is no eligible one
+pub number-leads : (p : Program) (g : List ℕ) (o : ℕ) → global_number p g ≡ Some o → has_name (taken_names p) g ≡ true → IsPlain p o
+number-leads p g o e t h k f =
     let r = name-eligible p h k in
-    absurd (true≢false (sym t ∙ ap (λ (x : List ℕ). has_name (taken_names p) x) (one-number p r.1.global g h o e f) ∙ r.1.free))
+    true≢false (sym t ∙ ap (λ (x : List ℕ). has_name (taken_names p) x) (one-number p r.1.global g h o e f) ∙ r.1.free)
 
-pub global-leads : (p : Program) (g : List ℕ) (n : ℕ) → IsGlobalName p g → has_name (taken_names p) g ≡ true → LeadsWell p (pointer_to p g n)
+leads-by : (p : Program) (g : List ℕ) (n : ℕ) (found : Option ℕ) → global_number p g ≡ found → IsGlobalName p g → has_name (taken_names p) g ≡ true → FinePointer p (pointer-by p g n found)
+leads-by p g n None e c t = absurd (has-number p g c e)
+leads-by p g n (Some o) e c t = number-leads p g o e t
+
+pub global-leads : (p : Program) (g : List ℕ) (n : ℕ) → IsGlobalName p g → has_name (taken_names p) g ≡ true → FinePointer p (pointer_to p g n)
 global-leads p g n c t = leads-by p g n (global_number p g) refl c t

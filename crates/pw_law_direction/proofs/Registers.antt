@@ -27,8 +27,11 @@ use Rattle.pw_law_direction.proofs.Elements.{nowhere, first-there, later-there, 
 abbrev pub Agree : (ℕ → Value) → (ℕ → Value) → Type 0
 Agree a b = (q : ℕ) → a q ≡ b q
 
+pub itself : (n : ℕ) → (n == n) ≡ true
+itself n = grind arith
+
 pub if-same : (n : ℕ) (v w : Value) → (if n == n then v else w) ≡ v
-if-same n v w = let e : (n == n) ≡ true = grind arith in ap (λ (b : Bool). if b then v else w) e
+if-same n v w = ap (λ (b : Bool). if b then v else w) (itself n)
 
 pub if-other : (q r : ℕ) (v w : Value) → q ≢ r → (if q == r then v else w) ≡ w
 if-other q r v w ne = let e : (q == r) ≡ false = grind (arith, ne) in ap (λ (b : Bool). if b then v else w) e
@@ -143,7 +146,7 @@ kept-in d f g r e = let k = found (webs_of d f.function) g r e in record {
 -- ---- a web's register is written
 
 -- no function is both an entry and a member of a web, where it is called or is `$start`
-one-role : (g : Graph) (d : List (List ℕ × Directives)) → Sound g d → (w : Web) (f : Active) (fs : List Active) → Linked g (f ∷ fs)
+pub one-role : (g : Graph) (d : List (List ℕ × Directives)) → Sound g d → (w : Web) (f : Active) (fs : List Active) → Linked g (f ∷ fs)
     → Has d f.function.name w Entry → Has d f.function.name w Member → ⊥
 one-role g d s w f [] l entry member = s.start w (subst (λ (n : List ℕ). Has d n w Member) l member)
 one-role g d s w f (c ∷ fs) l entry member =

@@ -1,7 +1,7 @@
 -- What a function saves at its start: the registers of the webs that it enters, with what they hold.
 use Rattle.std.proofs.Common.{◌≡◌, ◌≤◌, ◌<◌, ◌+◌, ◌==◌, ◌&&◌, ℕ, zero, suc, inl, inr, Bool, true, false, if◌then◌else◌, List, [], ◌∷◌, map, refl, ap, sym, ◌∙◌, subst, arith}
 use Rattle.std.specs.Prelude.{Contains}
-use Rattle.std.proofs.lemmas.Bool.{cases_lt, eqb-true, eqb-false}
+use Rattle.std.proofs.lemmas.Bool.{cases_lt, eqb-true}
 use Rattle.std.proofs.lemmas.List.Elements.{Contains-append_right, Contains-append_cases, Contains-push_cases}
 use Rattle.pw_value.specs.declared.value.Value.{Value}
 use Rattle.pw_db.specs.Limits.{first_register, register_count}
@@ -17,7 +17,7 @@ use Rattle.pw_run_webs.specs.Direction.{directed_by}
 use Rattle.pw_law_direction.specs.Pairs.{Active, webs_of}
 use Rattle.pw_law_direction.specs.Laws.{SavesAtStarts}
 use Rattle.pw_law_direction.proofs.Elements.{nowhere, first-there, map-back}
-use Rattle.pw_law_direction.proofs.Registers.{has-web}
+use Rattle.pw_law_direction.proofs.Registers.{itself, has-web}
 use Rattle.pw_law_direction.proofs.Webs.{web-there, is-web}
 
 -- ---- the registers of the webs that are entered
@@ -43,13 +43,6 @@ entered_by (w ∷ rest) r e = entered_step w.0 w.1 rest r (w.0.reg == r) refl (e
 or_later : (b c : Bool) → c ≡ true → (if b then true else c) ≡ true
 or_later true c e = refl
 or_later false c e = e
-
-itself : (r : ℕ) → (r == r) ≡ true
-itself r = by (r == r) refl
-  where
-    by : (b : Bool) → (r == r) ≡ b → (r == r) ≡ true
-    by true e = e
-    by false e = absurd (eqb-false r r e refl)
 
 is_entered_here : (w : Web) (rest : List (Web × Role)) (r : ℕ) → w.reg ≡ r → is_entered ((w, Entry) ∷ rest) r ≡ true
 is_entered_here w rest r e =

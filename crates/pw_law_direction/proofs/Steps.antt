@@ -1,5 +1,5 @@
 -- Steps that neither load or store a global by its name nor call or return.
-use Rattle.std.proofs.Common.{◌≡◌, ◌≤◌, ◌==◌, ◌+◌, ◌&&◌, ◌||◌, ℕ, zero, suc, Bool, true, false, if◌then◌else◌, Option, Some, None, List, [], ◌∷◌, length, refl, ap, sym, ◌∙◌, subst, arith}
+use Rattle.std.proofs.Common.{◌≡◌, ◌==◌, ◌+◌, ◌&&◌, ◌||◌, ℕ, zero, suc, Bool, true, false, if◌then◌else◌, Option, Some, None, List, [], ◌∷◌, refl, ap, sym, ◌∙◌, subst}
 use Rattle.std.specs.Prelude.{IfSome, slice_set, slice_get, slice_index_or, option_map, not, Contains}
 use Rattle.std.specs.List.{AllByRecursion}
 use Rattle.std.proofs.lemmas.Option.{slice_get-map}
@@ -23,18 +23,19 @@ use Rattle.pw_webflow.specs.declared.web.WebBlock.{WebBlock}
 use Rattle.pw_webflow.specs.declared.web.WebOp.{WebOp}
 use Rattle.pw_webflow.specs.declared.web.WebOp.TheVariants.{Flow}
 use Rattle.pw_webflow.specs.Direction.{directed, directed_op, directed_block}
-use Rattle.pw_run_flow.specs.Programs.{Program, globals_of}
+use Rattle.pw_run_flow.specs.Programs.{Program}
 use Rattle.pw_run_flow.specs.Values.{binary, is_somewhere}
 use Rattle.pw_run_flow.specs.Memory.{may_stand, is_open, is_apart, look, poke, copy}
 use Rattle.pw_run_flow.specs.Commands as command
 use Rattle.pw_run_flow.specs.FlowRun as flow
 use Rattle.pw_run_webs.specs.Programs.{IsProgram, ops_of}
 use Rattle.pw_run_webs.specs.PlacedRun as web
+use Rattle.pw_law_directed.specs.Laws.{TakenFunctionsAreFine}
 use Rattle.pw_law_direction.specs.Pairs.{Active, Pair, active_of, flow_side, web_side, webs_of, under}
-use Rattle.pw_law_direction.specs.Alike.{LeadsWell, IsTame, IsTameByte, IsActive, IsAlike, GoesBoth, Follows}
+use Rattle.pw_law_direction.specs.Alike.{FinePointer, FineValue, FineByte, IsActive, IsAlike, GoesBoth, Follows}
 use Rattle.pw_law_direction.specs.Laws.{OperationsFollow, BlocksFollow, LeavesGlobals, StepsFollow, StaysInside}
 use Rattle.pw_law_direction.proofs.Elements.{first-there, later-there, at-there, flat-there}
-use Rattle.pw_law_direction.proofs.Names.{global-leads, address-taken, behind-globals}
+use Rattle.pw_law_direction.proofs.Names.{global-leads, address-taken}
 use Rattle.pw_law_direction.proofs.Tame.{tame-not, unary-tame, extension-tame, binary-tame, bytes-from-tame, encoding-tame, set-tame}
 use Rattle.pw_law_direction.proofs.Memory.{open-alike, look-alike, look-tame, somewhere-alike, binary-alike, objects-written}
 
@@ -52,12 +53,12 @@ with-objects objects memory x = record x { objects = objects; memory = memory }
 abbrev pub at-block : ℕ → Block → Pair → Pair
 at-block b next x = record x { frame = record x.frame { block = b; ops = next.ops; end = next.end } }
 
-pub value-alike : (p : Program) (d : List (List ℕ × Directives)) (x : Pair) (t : ℕ) (v : Value) → IsTame p v → IsAlike p d x → IsAlike p d (with-value t v x)
+pub value-alike : (p : Program) (d : List (List ℕ × Directives)) (x : Pair) (t : ℕ) (v : Value) → FineValue p v → IsAlike p d x → IsAlike p d (with-value t v x)
 value-alike p d x t v h a = record {
   frame = record {
     there = a.frame.there;
     code = a.frame.code;
-    base = a.frame.base;
+    slots = a.frame.slots;
     temps = set-tame p x.frame.temps t v a.frame.temps h;
     saves = record { entries = a.frame.saves.entries; alone = a.frame.saves.alone };
   };
@@ -69,7 +70,7 @@ value-alike p d x t v h a = record {
 
 pub ops-alike : (p : Program) (d : List (List ℕ × Directives)) (x : Pair) (ops : List Op) → ((o : Op) → Contains ops o → Contains (ops_of x.frame.function) o) → IsAlike p d x → IsAlike p d (with-ops ops x)
 ops-alike p d x ops h a = record {
-  frame = record { there = a.frame.there; code = h; base = a.frame.base; temps = a.frame.temps; saves = record { entries = a.frame.saves.entries; alone = a.frame.saves.alone } };
+  frame = record { there = a.frame.there; code = h; slots = a.frame.slots; temps = a.frame.temps; saves = record { entries = a.frame.saves.entries; alone = a.frame.saves.alone } };
   callers = a.callers;
   linked = a.linked;
   objects = record { count = a.objects.count; others = a.objects.others; globals = a.objects.globals; tame = a.objects.tame };
@@ -79,7 +80,7 @@ ops-alike p d x ops h a = record {
 block-alike : (p : Program) (d : List (List ℕ × Directives)) (x : Pair) (b : ℕ) (next : Block) → ((o : Op) → Contains next.ops o → Contains (ops_of x.frame.function) o)
     → IsAlike p d x → IsAlike p d (at-block b next x)
 block-alike p d x b next h a = record {
-  frame = record { there = a.frame.there; code = h; base = a.frame.base; temps = a.frame.temps; saves = record { entries = a.frame.saves.entries; alone = a.frame.saves.alone } };
+  frame = record { there = a.frame.there; code = h; slots = a.frame.slots; temps = a.frame.temps; saves = record { entries = a.frame.saves.entries; alone = a.frame.saves.alone } };
   callers = a.callers;
   linked = a.linked;
   objects = record { count = a.objects.count; others = a.objects.others; globals = a.objects.globals; tame = a.objects.tame };
@@ -91,7 +92,7 @@ counted-alike p d x n a = record { frame = a.frame; callers = a.callers; linked 
 
 -- ---- what a command gives
 
-pub gives-follow : (p : Program) (d : List (List ℕ × Directives)) (x : Pair) (t : ℕ) (r s : Option Value) → s ≡ r → IfSome r (IsTame p) → IsAlike p d x
+pub gives-follow : (p : Program) (d : List (List ℕ × Directives)) (x : Pair) (t : ℕ) (r s : Option Value) → s ≡ r → IfSome r (FineValue p) → IsAlike p d x
     → Follows p d (flow.gives t r (flow_side x)) (web.gives t s (web_side d x))
 gives-follow p d x t None s e h a = tt
 gives-follow p d x t (Some v) s e h a = record {
@@ -101,8 +102,8 @@ gives-follow p d x t (Some v) s e h a = record {
   alike = value-alike p d x t v h a;
 }
 
-written-follow : (p : Program) (d : List (List ℕ × Directives)) (x : Pair) (b c : Bool) (o i : ℕ) (new now : List Byte) → c ≡ b → now ≡ new → LeadsWell p (P.Object o i)
-    → (b ≡ true → (object_at x.objects o).live ≡ true) → AllByRecursion (IsTameByte p) new → IsAlike p d x
+written-follow : (p : Program) (d : List (List ℕ × Directives)) (x : Pair) (b c : Bool) (o i : ℕ) (new now : List Byte) → c ≡ b → now ≡ new → FinePointer p (P.Object o i)
+    → (b ≡ true → (object_at x.objects o).live ≡ true) → AllByRecursion (FineByte p) new → IsAlike p d x
     → Follows p d (flow.changes (if b then Some (written o i new x.objects) else None) (flow_side x)) (web.changes (if c then Some (written o i now x.memory) else None) (web_side d x))
 written-follow p d x false c o i new now e f plain live tame a = tt
 written-follow p d x true c o i new now e f plain live tame a = record {
@@ -126,15 +127,15 @@ and-left false b h = h
 -- ---- commands
 
 abbrev IsTameCommand : Program → command.Command → Type 0
-IsTameCommand p (command.Give t v) = IsTame p v
-IsTameCommand p (command.Combine k t v w) = IsTame p v × IsTame p w
-IsTameCommand p (command.Look k t v) = IsTame p v
-IsTameCommand p (command.Poke k v w) = IsTame p v × IsTame p w
-IsTameCommand p (command.Copied v w size unit) = IsTame p v × IsTame p w
+IsTameCommand p (command.Give t v) = FineValue p v
+IsTameCommand p (command.Combine k t v w) = FineValue p v × FineValue p w
+IsTameCommand p (command.Look k t v) = FineValue p v
+IsTameCommand p (command.Poke k v w) = FineValue p v × FineValue p w
+IsTameCommand p (command.Copied v w size unit) = FineValue p v × FineValue p w
 IsTameCommand p command.Fail = Unit {0}
 IsTameCommand p c = ⊥
 
-poke-follow : (p : Program) (d : List (List ℕ × Directives)) (x : Pair) (k : Kind) (v w : Value) → IsTame p v → IsTame p w → IsAlike p d x
+poke-follow : (p : Program) (d : List (List ℕ × Directives)) (x : Pair) (k : Kind) (v w : Value) → FineValue p v → FineValue p w → IsAlike p d x
     → Follows p d (flow.changes (poke k v w x.objects) (flow_side x)) (web.changes (poke k v w x.memory) (web_side d x))
 poke-follow p d x k (At (P.Object o i)) w h j a =
     written-follow p d x (is_open x.objects o i (kind_size k) (kind_size k) && may_stand k w) (is_open x.memory o i (kind_size k) (kind_size k) && may_stand k w)
@@ -151,7 +152,7 @@ poke-follow p d x k (Piece q i) w h j a = tt
 abbrev both-open : List Object → ℕ → ℕ → ℕ → ℕ → ℕ → ℕ → Bool
 both-open objects o i s j size unit = is_open objects o i size unit && (is_open objects s j size unit && (not (o == s) || is_apart i j size))
 
-copy-follow : (p : Program) (d : List (List ℕ × Directives)) (x : Pair) (v w : Value) (size unit : ℕ) → IsTame p v → IsTame p w → IsAlike p d x
+copy-follow : (p : Program) (d : List (List ℕ × Directives)) (x : Pair) (v w : Value) (size unit : ℕ) → FineValue p v → FineValue p w → IsAlike p d x
     → Follows p d (flow.changes (copy v w size unit x.objects) (flow_side x)) (web.changes (copy v w size unit x.memory) (web_side d x))
 copy-follow p d x (At (P.Object o i)) (At (P.Object s j)) size unit h k a =
     written-follow p d x (both-open x.objects o i s j size unit) (both-open x.memory o i s j size unit)
@@ -184,28 +185,28 @@ obeys-follow p d x (command.GetGlobal t g k) h a = absurd h
 obeys-follow p d x (command.PutGlobal g k v) h a = absurd h
 obeys-follow p d x (command.Enter t f args) h a = absurd h
 
-give-tame : (p : Program) (t : ℕ) (r : Option Value) → IfSome r (IsTame p) → IsTameCommand p (command.give t r)
+give-tame : (p : Program) (t : ℕ) (r : Option Value) → IfSome r (FineValue p) → IsTameCommand p (command.give t r)
 give-tame p t (Some v) h = h
 give-tame p t None h = tt
 
-command-tame : (p : Program) (d : List (List ℕ × Directives)) (f : Active) (o : Op) → IsProgram p → IsActive p d f → Contains (ops_of f.function) o → LeavesGlobals o
+command-tame : (p : Program) (d : List (List ℕ × Directives)) (f : Active) (o : Op) → IsProgram p → TakenFunctionsAreFine → IsActive p d f → Contains (ops_of f.function) o → LeavesGlobals o
     → IsTameCommand p (command.command p f.base o (λ t. slice_index_or f.temps t Undefined))
 unfolding command.command
-command-tame p d f (op.Const t n) lawful a c h = tt
-command-tame p d f (op.Copy t b) lawful a c h = a.temps b
-command-tame p d f (op.Un k t b) lawful a c h = give-tame p t _ (unary-tame p k (slice_index_or f.temps b Undefined))
-command-tame p d f (op.Bin k t b e) lawful a c h = (a.temps b, a.temps e)
-command-tame p d f (op.Ext k t b) lawful a c h = give-tame p t _ (extension-tame p k (slice_index_or f.temps b Undefined) (a.temps b))
-command-tame p d f (op.AddrGlobal t g n) lawful a c h = global-leads p g n (lawful.ops f.function (op.AddrGlobal t g n) a.there c) (address-taken p f.function (op.AddrGlobal t g n) g a.there c (first-there g []))
-command-tame p d f (op.AddrSlot t s) lawful a c h = behind-globals p (f.base + s) (let b : length (globals_of p) ≤ f.base = a.base in omega (arith, b))
-command-tame p d f (op.AddrFn t g) lawful a c h = record { function = g; there = lawful.ops f.function (op.AddrFn t g) a.there c; taken = address-taken p f.function (op.AddrFn t g) g a.there c (first-there g []); number = refl }
-command-tame p d f (op.LoadG t g k) lawful a c h = absurd h
-command-tame p d f (op.StoreG g b k) lawful a c h = absurd h
-command-tame p d f (op.Load k t b) lawful a c h = a.temps b
-command-tame p d f (op.Store k b e) lawful a c h = (a.temps b, a.temps e)
-command-tame p d f (op.Move b e size unit) lawful a c h = (a.temps b, a.temps e)
-command-tame p d f (op.Call t g args) lawful a c h = absurd h
-command-tame p d f (op.CallInd t b shape args) lawful a c h = absurd h
+command-tame p d f (op.Const t n) lawful fine a c h = tt
+command-tame p d f (op.Copy t b) lawful fine a c h = a.temps b
+command-tame p d f (op.Un k t b) lawful fine a c h = give-tame p t _ (unary-tame p k (slice_index_or f.temps b Undefined))
+command-tame p d f (op.Bin k t b e) lawful fine a c h = (a.temps b, a.temps e)
+command-tame p d f (op.Ext k t b) lawful fine a c h = give-tame p t _ (extension-tame p k (slice_index_or f.temps b Undefined) (a.temps b))
+command-tame p d f (op.AddrGlobal t g n) lawful fine a c h = global-leads p g n (lawful.ops f.function (op.AddrGlobal t g n) a.there c) (address-taken p f.function (op.AddrGlobal t g n) g a.there c (first-there g []))
+command-tame p d f (op.AddrSlot t s) lawful fine a c h = a.slots s
+command-tame p d f (op.AddrFn t g) lawful fine a c h = fine p g (address-taken p f.function (op.AddrFn t g) g a.there c (first-there g [])) (lawful.ops f.function (op.AddrFn t g) a.there c)
+command-tame p d f (op.LoadG t g k) lawful fine a c h = absurd h
+command-tame p d f (op.StoreG g b k) lawful fine a c h = absurd h
+command-tame p d f (op.Load k t b) lawful fine a c h = a.temps b
+command-tame p d f (op.Store k b e) lawful fine a c h = (a.temps b, a.temps e)
+command-tame p d f (op.Move b e size unit) lawful fine a c h = (a.temps b, a.temps e)
+command-tame p d f (op.Call t g args) lawful fine a c h = absurd h
+command-tame p d f (op.CallInd t b shape args) lawful fine a c h = absurd h
 
 -- ---- operations
 
@@ -226,19 +227,19 @@ stays-flow webs (op.Move b e size unit) h = refl
 stays-flow webs (op.Call t g args) h = absurd h
 stays-flow webs (op.CallInd t b shape args) h = absurd h
 
-operation-follows : (p : Program) (d : List (List ℕ × Directives)) (x : Pair) (o : Op) (ops : List Op) → IsProgram p → IsAlike p d (with-ops (o ∷ ops) x) → LeavesGlobals o
+operation-follows : (p : Program) (d : List (List ℕ × Directives)) (x : Pair) (o : Op) (ops : List Op) → IsProgram p → TakenFunctionsAreFine → IsAlike p d (with-ops (o ∷ ops) x) → LeavesGlobals o
     → StepsFollow p d (with-ops (o ∷ ops) x)
 unfolding flow.step web.step
-operation-follows p d x o ops lawful a h =
+operation-follows p d x o ops lawful fine a h =
     let rest : IsAlike p d (with-ops ops x) = ops-alike p d (with-ops (o ∷ ops) x) ops (λ u c. a.frame.code u (later-there o u ops c)) a in
     subst (λ (w : WebOp). Follows p d (flow.obeys p (command.command p x.frame.base o (λ t. slice_index_or x.frame.temps t Undefined)) (flow_side (with-ops ops x))) (web.does (under p d) w (web_side d (with-ops ops x))))
     (sym (stays-flow (webs_of d x.frame.function) o h))
-    (obeys-follow p d (with-ops ops x) (command.command p x.frame.base o (λ t. slice_index_or x.frame.temps t Undefined)) (command-tame p d (record x.frame { ops = ops }) o lawful rest.frame (a.frame.code o (first-there o ops)) h) rest)
+    (obeys-follow p d (with-ops ops x) (command.command p x.frame.base o (λ t. slice_index_or x.frame.temps t Undefined)) (command-tame p d (record x.frame { ops = ops }) o lawful fine rest.frame (a.frame.code o (first-there o ops)) h) rest)
 
-pub operations-follow : OperationsFollow
-operations-follow p d x o ops lawful a e h =
+pub operations-follow : TakenFunctionsAreFine → OperationsFollow
+operations-follow fine p d x o ops lawful a e h =
     subst (λ (l : List Op). StepsFollow p d (with-ops l x)) (sym e)
-    (operation-follows p d x o ops lawful (subst (λ (l : List Op). IsAlike p d (with-ops l x)) e a) h)
+    (operation-follows p d x o ops lawful fine (subst (λ (l : List Op). IsAlike p d (with-ops l x)) e a) h)
 
 -- ---- ends of blocks
 
@@ -277,7 +278,7 @@ somewhere-follows p d x b false s e a = tt
 somewhere-follows p d x b true s e a =
     subst (λ (s : Bool). Follows p d (flow.jumps b (flow_side x)) (if s then web.jumps b (web_side d x) else web.Astray)) (sym e) (jumps-follow p d x b a)
 
-branches-follow : (p : Program) (d : List (List ℕ × Directives)) (x : Pair) (v : Value) (b c : ℕ) → IsTame p v → IsAlike p d x
+branches-follow : (p : Program) (d : List (List ℕ × Directives)) (x : Pair) (v : Value) (b c : ℕ) → FineValue p v → IsAlike p d x
     → Follows p d (flow.branches v b c (flow_side x)) (web.branches v b c (web_side d x))
 branches-follow p d x (Num zero) b c h a = jumps-follow p d x c a
 branches-follow p d x (Num (suc n)) b c h a = jumps-follow p d x b a

@@ -28,7 +28,7 @@ use Rattle.pw_run_webs.specs.Programs.{IsProgram, graph_of, eligible_of, eligibl
 use Rattle.pw_run_webs.specs.PlacedRun as web
 use Rattle.pw_run_webs.specs.PlacedRun.{is_eligible, held, with_registers}
 use Rattle.pw_law_direction.specs.Pairs.{Active, Pair, active_of, flow_side, web_side, web_frames, webs_of, under}
-use Rattle.pw_law_direction.specs.Alike.{IsPlain, IsTame, names_active, GlobalStands, ObjectsAlike, IsAlike, Follows}
+use Rattle.pw_law_direction.specs.Alike.{IsPlain, FineValue, names_active, GlobalStands, ObjectsAlike, IsAlike, Follows}
 use Rattle.pw_law_direction.specs.Laws.{StepsFollow, StoresFollow}
 use Rattle.pw_law_direction.proofs.Elements.{first-there, later-there, map-back}
 use Rattle.pw_law_direction.proofs.Names.{name-eligible, is-eligible, one-number, has-there}
@@ -48,7 +48,7 @@ held-by : (d : List (List ℕ × Directives)) (v : List ℕ) (f : Active) (fs : 
 held-by d v f fs a none None e below = further d f v fs a e ∙ below
 held-by d v f fs a none (Some r) e below = let k = kept-in d f v r e in absurd (none f.function.name (first-there f.function.name (names_active fs)) k.web k.within k.global)
 
-held-none : (d : List (List ℕ × Directives)) (v : List ℕ) (fs : List Active) (a : ℕ → Value) → ((n : List ℕ) → Contains (names_active fs) n → (w : Web) → In d w n → w.global ≡ v → ⊥)
+pub held-none : (d : List (List ℕ × Directives)) (v : List ℕ) (fs : List Active) (a : ℕ → Value) → ((n : List ℕ) → Contains (names_active fs) n → (w : Web) → In d w n → w.global ≡ v → ⊥)
     → held v a (web_frames d fs) ≡ None
 held-none d v [] a none = refl
 held-none d v (f ∷ fs) a none =
@@ -100,7 +100,7 @@ named-globals p d x g k n v lawful a there number fits none i j m c is =
     ]
 
 named-objects : (p : Program) (d : List (List ℕ × Directives)) (x : Pair) (g : List ℕ) (k : Kind) (n : ℕ) (v : Value) → IsProgram p → IsAlike p d x → Contains (eligible_of p) (g, k) → global_number p g ≡ Some n
-    → is_of_kind k v ≡ true → held g x.registers (web_frames d (active_of x)) ≡ None → IsTame p v
+    → is_of_kind k v ≡ true → held g x.registers (web_frames d (active_of x)) ≡ None → FineValue p v
     → ObjectsAlike p d (active_of x) x.registers (written n 0 (encoding v (kind_size k)) x.objects) (written n 0 (encoding v (kind_size k)) x.memory)
 named-objects p d x g k n v lawful a there number fits none tame =
     let new : List Byte = encoding v (kind_size k) in
@@ -115,7 +115,7 @@ named-objects p d x g k n v lawful a there number fits none tame =
 -- both memories after the store are alike
 stored-objects : (p : Program) (d : List (List ℕ × Directives)) (x : Pair) (g : List ℕ) (k : Kind) (n : ℕ) (v : Value) (b : Bool) → is_eligible (under p d) g ≡ b → IsProgram p → IsDatabase d → Sound (graph_of p) d
     → IsAlike p d x → register_of (webs_of d x.frame.function) g ≡ None → (Contains (eligible_names p) g → Needs (graph_of p) d x.frame.function.name g) → global_number p g ≡ Some n
-    → is_own_kind p g k ≡ true → is_of_kind k v ≡ true → IsTame p v → (object_at x.objects n).live ≡ true
+    → is_own_kind p g k ≡ true → is_of_kind k v ≡ true → FineValue p v → (object_at x.objects n).live ≡ true
     → ObjectsAlike p d (active_of x) x.registers (written n 0 (encoding v (kind_size k)) x.objects) (written n 0 (encoding v (kind_size k)) x.memory)
 stored-objects p d x g k n v false e lawful is s a none needs number own fits tame live =
     let plain : IsPlain p n = λ h c f. let el = name-eligible p h c in
@@ -164,7 +164,7 @@ both-written p d x g false objects memory a h = record {
 
 at-number : (p : Program) (d : List (List ℕ × Directives)) (x : Pair) (g : List ℕ) (k : Kind) (v : Value) (b : Bool) (found : Option ℕ) → global_number p g ≡ found → is_eligible (under p d) g ≡ b → IsProgram p → IsDatabase d
     → Sound (graph_of p) d → IsAlike p d x → register_of (webs_of d x.frame.function) g ≡ None → (Contains (eligible_names p) g → Needs (graph_of p) d x.frame.function.name g)
-    → is_own_kind p g k ≡ true → is_of_kind k v ≡ true → IsTame p v
+    → is_own_kind p g k ≡ true → is_of_kind k v ≡ true → FineValue p v
     → Follows p d (flow.changes (put-by k v x.objects found) (flow_side x)) (web-put b g (web_side d x) (put-by k v x.memory found))
 at-number p d x g k v b None number e lawful is s a none needs own fits tame = tt
 at-number p d x g k v b (Some n) number e lawful is s a none needs own fits tame =
@@ -176,7 +176,7 @@ at-number p d x g k v b (Some n) number e lawful is s a none needs own fits tame
     (and-left (object_at x.objects n).live _ (and-left (is_open x.objects n 0 (kind_size k) (kind_size k)) (may_stand k v) opened))))
 
 put-by-name : (p : Program) (d : List (List ℕ × Directives)) (x : Pair) (g : List ℕ) (k : Kind) (v : Value) → IsProgram p → IsDatabase d
-    → Sound (graph_of p) d → IsAlike p d x → register_of (webs_of d x.frame.function) g ≡ None → (Contains (eligible_names p) g → Needs (graph_of p) d x.frame.function.name g) → IsTame p v
+    → Sound (graph_of p) d → IsAlike p d x → register_of (webs_of d x.frame.function) g ≡ None → (Contains (eligible_names p) g → Needs (graph_of p) d x.frame.function.name g) → FineValue p v
     → Follows p d (flow.changes (put_global p g k v x.objects) (flow_side x)) (web.stores_global (under p d) g k v (web_side d x))
 put-by-name p d x g k v lawful is s a none needs tame =
     both-if p d x g (is_eligible (under p d) g) (is_own_kind p g k && is_of_kind k v) (is_own_kind p g k && is_of_kind k v)

@@ -22,7 +22,7 @@ use Rattle.pw_run_webs.specs.Programs.{IsProgram, graph_of, eligible_of}
 use Rattle.pw_run_webs.specs.PlacedRun as web
 use Rattle.pw_run_webs.specs.PlacedRun.{held, with_registers}
 use Rattle.pw_law_direction.specs.Pairs.{Pair, flow_side, web_side, webs_of, web_frames, under}
-use Rattle.pw_law_direction.specs.Alike.{IsTame, IsAlike, Follows}
+use Rattle.pw_law_direction.specs.Alike.{FineValue, IsAlike, Follows}
 use Rattle.pw_law_direction.specs.Laws.{StepsFollow, ReadsFollow}
 use Rattle.pw_law_direction.proofs.Elements.{later-there}
 use Rattle.pw_law_direction.proofs.Names.{IsEligible, is-eligible}
@@ -41,7 +41,7 @@ pub record HeldGlobal (p : Program) (d : List (List ℕ × Directives)) (x : Pai
   pub number : ℕ
   pub is : global_number p g ≡ Some number
 
-eligible-in : (p : Program) (d : List (List ℕ × Directives)) → Sound (graph_of p) d → (w : Web) (f : List ℕ) → In d w f → Contains (eligible_of p) (w.global, w.kind)
+pub eligible-in : (p : Program) (d : List (List ℕ × Directives)) → Sound (graph_of p) d → (w : Web) (f : List ℕ) → In d w f → Contains (eligible_of p) (w.global, w.kind)
 unfolding graph_of
 eligible-in p d s w f i = s.eligible w f i
 
@@ -62,12 +62,12 @@ register-holds p d x g r h e a =
     (λ v. v ≡ scalar_of h.kept.web.kind (object_at x.objects h.number).bytes)) e (a.objects.globals g h.kept.web.kind h.number h.there h.is).stands
 
 global-tame : (p : Program) (d : List (List ℕ × Directives)) (x : Pair) (g : List ℕ) (k : Kind) (n : ℕ) → Contains (eligible_of p) (g, k) → global_number p g ≡ Some n → IsAlike p d x
-    → IsTame p (scalar_of k (object_at x.objects n).bytes)
+    → FineValue p (scalar_of k (object_at x.objects n).bytes)
 global-tame p d x g k n c is a =
-    subst (λ (l : List Byte). IsTame p (scalar_of k l)) (bytes-whole (kind_size k) (object_at x.objects n).bytes (a.objects.globals g k n c is).size)
+    subst (λ (l : List Byte). FineValue p (scalar_of k l)) (bytes-whole (kind_size k) (object_at x.objects n).bytes (a.objects.globals g k n c is).size)
     (scalar-tame p k (bytes_from (kind_size k) 0 (object_at x.objects n).bytes) (bytes-from-tame p (kind_size k) 0 (object_at x.objects n).bytes (a.objects.tame n)))
 
-given-follows : (p : Program) (d : List (List ℕ × Directives)) (x : Pair) (t : ℕ) (r : Option Value) (v : Value) → IfSome r (λ u. u ≡ v) → IsTame p v → IsAlike p d x
+given-follows : (p : Program) (d : List (List ℕ × Directives)) (x : Pair) (t : ℕ) (r : Option Value) (v : Value) → IfSome r (λ u. u ≡ v) → FineValue p v → IsAlike p d x
     → Follows p d (flow.gives t r (flow_side x)) (web.On (web.with_temp t v (web_side d x)))
 given-follows p d x t None v e h a = tt
 given-follows p d x t (Some u) v e h a = record {
@@ -89,7 +89,7 @@ read-follows p d x t g k ops r lawful s a e =
     (given-follows p d y t (get_global p g k y.objects) (y.registers r)
     (subst (λ (v : Value). IfSome (get_global p g k y.objects) (λ u. u ≡ v)) (sym value)
     (global-value p g k h.kept.web.kind h.number y.objects lawful h.eligible h.is (b.objects.globals g h.kept.web.kind h.number h.there h.is).size))
-    (subst (IsTame p) (sym value) (global-tame p d y g h.kept.web.kind h.number h.there h.is b)) b)
+    (subst (FineValue p) (sym value) (global-tame p d y g h.kept.web.kind h.number h.there h.is b)) b)
 
 pub reads-follow : ReadsFollow
 reads-follow p d x t g k ops r lawful s a here e =

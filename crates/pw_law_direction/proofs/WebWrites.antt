@@ -36,7 +36,7 @@ use Rattle.pw_run_webs.specs.Programs.{IsProgram, graph_of, node_of, written_by,
 use Rattle.pw_run_webs.specs.PlacedRun as web
 use Rattle.pw_run_webs.specs.PlacedRun.{held, with_register, with_registers}
 use Rattle.pw_law_direction.specs.Pairs.{Active, Pair, active_of, flow_side, web_side, webs_of, web_frames, under}
-use Rattle.pw_law_direction.specs.Alike.{IsTame, names_active, Saves, IsActive, GlobalStands, IsAlike, Follows}
+use Rattle.pw_law_direction.specs.Alike.{FineValue, names_active, Saves, IsActive, GlobalStands, IsAlike, Follows}
 use Rattle.pw_law_direction.specs.Laws.{StepsFollow, WritesFollow}
 use Rattle.pw_law_direction.proofs.Elements.{nowhere, first-there, later-there, the-first, map-there, flat-there}
 use Rattle.pw_law_direction.proofs.Names.{is-eligible, one-number}
@@ -203,7 +203,7 @@ abbrev stored : ℕ → ℕ → Value → List Byte → Pair → Pair
 stored n r v new x = record x { objects = written n 0 new x.objects; registers = with_register r v x.registers }
 
 stored-alike : (p : Program) (d : List (List ℕ × Directives)) (x : Pair) (g : List ℕ) (r : ℕ) (v : Value) (h : HeldGlobal p d x g r) → IsProgram p → Sound (graph_of p) d
-    → register_of (webs_of d x.frame.function) g ≡ Some r → IsAlike p d x → is_of_kind h.kept.web.kind v ≡ true → h.kept.web.writes ≡ true → IsTame p v
+    → register_of (webs_of d x.frame.function) g ≡ Some r → IsAlike p d x → is_of_kind h.kept.web.kind v ≡ true → h.kept.web.writes ≡ true → FineValue p v
     → IsAlike p d (stored h.number r v (encoding v (kind_size h.kept.web.kind)) x)
 stored-alike p d x g r v h lawful s e a fits writes tame =
     let new : List Byte = encoding v (kind_size h.kept.web.kind) in record {
@@ -232,7 +232,7 @@ put-by k v objects (Some o) = poke_in k o 0 v objects
 put-by k v objects None = None
 
 put-follows : (p : Program) (d : List (List ℕ × Directives)) (x : Pair) (g : List ℕ) (j : Kind) (r : ℕ) (v : Value) (h : HeldGlobal p d x g r) → IsProgram p → Sound (graph_of p) d
-    → register_of (webs_of d x.frame.function) g ≡ Some r → IsAlike p d x → h.kept.web.writes ≡ true → IsTame p v
+    → register_of (webs_of d x.frame.function) g ≡ Some r → IsAlike p d x → h.kept.web.writes ≡ true → FineValue p v
     → Follows p d (flow.changes (put_global p g j v x.objects) (flow_side x)) (web.On (record (web_side d x) { registers = with_register r v x.registers }))
 put-follows p d x g j r v h lawful s e a writes tame =
     let after : web.Step = web.On (record (web_side d x) { registers = with_register r v x.registers }) in

@@ -1,13 +1,10 @@
 -- When the states of the two runs are alike.
-use Rattle.std.specs.Prelude.{ℕ, ◌≡◌, ◌≢◌, ◌≤◌, true, Option, Some, IfSome, List, [], ◌∷◌, length, map, slice_index_or, Contains}
+use Rattle.std.specs.Prelude.{ℕ, ◌≡◌, ◌≢◌, ◌+◌, true, Option, Some, IfSome, List, [], ◌∷◌, length, map, slice_index_or, Contains}
 use Rattle.std.specs.List.{AllByRecursion}
 use Rattle.pw_value.specs.declared.value.Kind.{Kind}
 use Rattle.pw_value.specs.declared.value.Value.{Value}
-use Rattle.pw_value.specs.declared.value.Value.TheVariants.{Undefined, At, Piece}
+use Rattle.pw_value.specs.declared.value.Value.TheVariants.{Undefined}
 use Rattle.pw_value.specs.declared.value.Byte.{Byte}
-use Rattle.pw_value.specs.declared.value.Byte.TheVariants as B
-use Rattle.pw_value.specs.declared.value.Pointer.{Pointer}
-use Rattle.pw_value.specs.declared.value.Pointer.TheVariants as P
 use Rattle.pw_value.specs.ProgramNames.{start_name}
 use Rattle.pw_value.specs.Objects.{Object, object_at, byte_at}
 use Rattle.pw_value.specs.Values.{encoding}
@@ -21,12 +18,13 @@ use Rattle.pw_db_sound.specs.CallGraphs.{Graph, Calls}
 use Rattle.pw_db_sound.specs.Sound.{Has, In}
 use Rattle.pw_run_trace.specs.Traces.{calls_alone}
 use Rattle.pw_run_flow.specs.Memory.{scalar_of, is_of_kind}
-use Rattle.pw_run_flow.specs.Programs.{Program, functions_of, names_of, globals_of, global_number, function_number}
+use Rattle.pw_run_flow.specs.Programs.{Program, functions_of, global_number}
 use Rattle.pw_run_flow.specs.FlowRun as flow
-use Rattle.pw_run_webs.specs.Programs.{graph_of, eligible_of, eligible_names, taken_names, has_name, ops_of}
+use Rattle.pw_run_webs.specs.Programs.{graph_of, eligible_of, eligible_names, ops_of}
 use Rattle.pw_run_webs.specs.PlacedRun as web
 use Rattle.pw_run_webs.specs.PlacedRun.{held}
 use Rattle.pw_run_webs.specs.Direction.{MomentAlike}
+pub use Rattle.pw_law_directed.specs.Values.{FinePointer, FineValue, FineByte}
 use Rattle.pw_law_direction.specs.Pairs.{Active, Pair, active_of, flow_side, web_side, web_frames}
 
 -- ---- values that lead to no eligible global, and to no function but one whose address is taken
@@ -35,31 +33,11 @@ use Rattle.pw_law_direction.specs.Pairs.{Active, Pair, active_of, flow_side, web
 abbrev pub IsPlain : Program → ℕ → Type 0
 IsPlain p o = (g : List ℕ) → Contains (eligible_names p) g → global_number p g ≢ Some o
 
--- the number of a function whose address is taken
-pub record IsTaken (p : Program) (n : ℕ) : Type 0 where
-  pub function : List ℕ
-  pub there : Contains (names_of p) function
-  pub taken : has_name (taken_names p) function ≡ true
-  pub number : function_number p function ≡ n
-
-abbrev pub LeadsWell : Program → Pointer → Type 0
-LeadsWell p (P.Object o i) = IsPlain p o
-LeadsWell p (P.Function n) = IsTaken p n
-
-abbrev pub IsTame : Program → Value → Type 0
-IsTame p (At q) = LeadsWell p q
-IsTame p (Piece q i) = LeadsWell p q
-IsTame p _ = Unit {0}
-
-abbrev pub IsTameByte : Program → Byte → Type 0
-IsTameByte p (B.Piece q i) = LeadsWell p q
-IsTameByte p _ = Unit {0}
-
 abbrev pub AreTame : Program → List Value → Type 0
-AreTame p temps = (t : ℕ) → IsTame p (slice_index_or temps t Undefined)
+AreTame p temps = (t : ℕ) → FineValue p (slice_index_or temps t Undefined)
 
 abbrev pub AreTameBytes : Program → List Byte → Type 0
-AreTameBytes p bytes = (i : ℕ) → IsTameByte p (byte_at bytes i)
+AreTameBytes p bytes = (i : ℕ) → FineByte p (byte_at bytes i)
 
 -- ---- active functions
 
@@ -68,12 +46,12 @@ pub record Saves (d : List (List ℕ × Directives)) (f : Active) : Type 0 where
   pub entries : (w : Web) → Has d f.function.name w Entry → Contains (map (λ s. s.0) f.saved) w.reg
   pub alone : (r : ℕ) → Contains (map (λ s. s.0) f.saved) r → (w : Web) × Has d f.function.name w Entry × (w.reg ≡ r)
 
--- A function of the program that runs its own code. Its slots are objects behind the globals; its temporaries lead to
--- no eligible global.
+-- A function of the program that runs its own code. None of its slots is an eligible global, and its temporaries lead to
+-- none.
 pub record IsActive (p : Program) (d : List (List ℕ × Directives)) (f : Active) : Type 0 where
   pub there : Contains (functions_of p) f.function
   pub code : (o : Op) → Contains f.ops o → Contains (ops_of f.function) o
-  pub base : length (globals_of p) ≤ f.base
+  pub slots : (s : ℕ) → IsPlain p (f.base + s)
   pub temps : AreTame p f.temps
   pub saves : Saves d f
 

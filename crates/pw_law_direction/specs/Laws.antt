@@ -127,6 +127,25 @@ LibraryFollows =
     IsDatabase d → IsAlike p d x → library_at f ≡ Some lib →
     Follows p d (flow.calls p t f args (flow_side x)) (web.calls (under p d) t f args (web_side d x))
 
+-- a call, by its name or through a value
+abbrev pub IsCall : Op → Type 0
+IsCall (Call t f args) = Unit {0}
+IsCall (CallInd t a shape args) = Unit {0}
+IsCall _ = ⊥
+
+-- whatever it calls
+abbrev pub CallsFollow : Type 0
+CallsFollow =
+    (p : Program) (d : List (List ℕ × Directives)) (x : Pair) (o : Op) (ops : List Op) →
+    IsProgram p → IsDatabase d → Sound (graph_of p) d → IsAlike p d x → x.frame.ops ≡ o ∷ ops → IsCall o → StepsFollow p d x
+
+-- ---- returns
+
+abbrev pub ReturnsFollow : Type 0
+ReturnsFollow =
+    (p : Program) (d : List (List ℕ × Directives)) (x : Pair) (t : Option ℕ) →
+    IsProgram p → IsDatabase d → Sound (graph_of p) d → IsAlike p d x → x.frame.ops ≡ [] → x.frame.end ≡ Return t → StepsFollow p d x
+
 -- ---- all steps, and runs
 
 -- what is left of a block is neither a call nor ends with a return
@@ -141,6 +160,12 @@ abbrev pub InsideFollows : Type 0
 InsideFollows =
     (p : Program) (d : List (List ℕ × Directives)) (x : Pair) →
     IsProgram p → IsDatabase d → Sound (graph_of p) d → IsAlike p d x → StaysInFunction x.frame.ops x.frame.end → StepsFollow p d x
+
+-- the starts are alike
+abbrev pub StartsFollow : Type 0
+StartsFollow =
+    (p : Program) (d : List (List ℕ × Directives)) (input : List ℕ) → IsProgram p → IsDatabase d → Sound (graph_of p) d →
+    Follows p d (flow.start p input) (web.start (under p d) input)
 
 -- where the starts are alike and every step follows, the directed run does what the flow run does
 abbrev pub RunsRestOnSteps : Type 0

@@ -1,14 +1,20 @@
-//! Laws of direction, without code: the run under directives beside the run of flow graphs.
+//! The law of direction, without code: the run under directives beside the run of flow graphs.
 #![tactic(auto)]
 
 ghost use Rattle.pw_law_direction.specs.Laws.{OperationsFollow, BlocksFollow, ReadsFollow, WritesFollow, LoadsFollow, StoresFollow, LibraryFollows};
 ghost use Rattle.pw_law_direction.specs.Laws.{PlacesStay, StandsAtCalls, EntriesAreAlone, StandsAtReturns, InsideFollows, RunsRestOnSteps};
-ghost use Rattle.pw_law_direction.specs.Laws.{SavesAtStarts, SameFunctions};
+ghost use Rattle.pw_law_direction.specs.Laws.{CallsFollow, ReturnsFollow, SavesAtStarts, SameFunctions, StartsFollow};
+ghost use Rattle.pw_law_directed.specs.Laws.{DirectionRefines};
+ghost use Rattle.pw_run_webs.specs.Laws.{DirectionKeepsRuns};
+
+use pw_law_directed::{direction_rests_on_runs, start_is_not_called, taken_functions_are_fine};
 
 /// Operations that neither load or store a global by its name nor call are the same in both runs.
 pub fn operations_follow()
     ensures { OperationsFollow }
-{}
+{
+    taken_functions_are_fine();
+}
 
 /// So are ends of blocks that do not return.
 pub fn blocks_follow()
@@ -53,7 +59,9 @@ pub fn library_follows()
 /// All that a function does by itself, without calls and returns, is the same in both runs.
 pub fn inside_follows()
     ensures { InsideFollows }
-{}
+{
+    taken_functions_are_fine();
+}
 
 /// Where the starts are alike and every step follows, the directed run does what the run of flow graphs does.
 pub fn runs_rest_on_steps()
@@ -66,3 +74,43 @@ pub fn starts_match()
     ensures saves { SavesAtStarts }
     ensures functions { SameFunctions }
 {}
+
+/// A call of a function of the program, by its name or through a value, does the same in both runs, for want of stack too:
+/// the webs that the function enters are loaded, and each global has its value where it stands then.
+pub fn calls_follow()
+    ensures { CallsFollow }
+{
+    start_is_not_called();
+}
+
+/// So does a return: what the function's webs have written is stored back, and each global has its value where it stands
+/// then.
+pub fn returns_follow()
+    ensures { ReturnsFollow }
+{
+    start_is_not_called();
+}
+
+/// The starts of both runs are alike.
+pub fn starts_follow()
+    ensures { StartsFollow }
+{
+    taken_functions_are_fine();
+}
+
+/// Under sound directives the directed run keeps the run of flow graphs: it goes on and ends as that does, with its
+/// output, and each global has its value where it stands, at each call and return.
+pub fn direction_refines()
+    ensures { DirectionRefines }
+{
+    taken_functions_are_fine();
+    start_is_not_called();
+}
+
+/// The law of direction: that, and returns keep the registers, and what the directed run notes obeys the law of traffic.
+pub fn direction_keeps()
+    ensures { DirectionKeepsRuns }
+{
+    direction_refines();
+    direction_rests_on_runs();
+}

@@ -31,7 +31,7 @@ use Rattle.pw_run_lines.specs.Laws.{line_program, SelectionKeeps}
 use Rattle.pw_run_machine.specs.Laws.{LinkKeeps, address_of, frame_in, map_of, image_run}
 use Rattle.pw_law_layers.specs.Source.{source_stages, source_runs}
 use Rattle.pw_law_layers.specs.Lowering.{MomentKept}
-use Rattle.pw_law_layers.specs.Whole.{InMachine, image_of, program_of, LayersCompose}
+use Rattle.pw_law_layers.specs.Whole.{InMachine, image_of, program_of, LayersHold, LayersCompose}
 use Rattle.pw_law_layers.specs.Rooms.{MapHasFrames}
 use Rattle.pw_law_layers.proofs.Fitting.{places_fit}
 use Rattle.pw_law_layers.proofs.Starts.{starts, start_fits}
@@ -97,9 +97,18 @@ whole p q d functions v frame_of stack input l words =
           (met_with (Through (MomentKept q) (MomentAlike q)) (ObeysTraffic (graph_of q) d) calls_alone (source k) webs l.direction.traffic (to_webs k))) n;
     }
 
+pub holds : LayersHold
+holds p d functions objects stack input l =
+    let q = program_of p objects stack in
+    let v = image_of objects stack in
+    let h = whole p q d functions v (frame_in v) stack input
+    (record { low = l.lowering; direction = l.direction; places = l.places; link = l.linking; selection = l.selection })
+    (subst (λ named. Refines (EventInWords q named) (placed_run (with_functions q functions) input) (line_run (line_program q functions) l.linking.addresses l.linking.scratch input)) l.linking.named l.selection.runs) in
+    record { agree = h.agree; places = h.places; registers = h.registers; traffic = h.traffic }
+
 -- by the law on the map
-pub composes : MapHasFrames → LayersCompose
-composes map sense low direction places selection link p d functions objects stack input built bytes =
+pub composes : MapHasFrames → LayersHold → LayersCompose
+composes map hold low selection link p d functions objects stack input built bytes direction places =
     let q = program_of p objects stack in
     let v = image_of objects stack in
     let program = built.accepted.program in
@@ -109,20 +118,11 @@ composes map sense low direction places selection link p d functions objects sta
     let enough : stack_least ≤ stack = built.enough in
     let start : frame_in v start_name ≤ stack = omega (arith, first, enough) in
     let l = link q d functions objects input program built.names built.database built.sound built.serve frames start built.made built.fits bytes in
-    let s = selection q d functions l.addresses l.scratch input program built.database built.sound built.serve frames start l.lawful bytes in
-    let h = whole p q d functions v (frame_in v) stack input
+    hold p d functions objects stack input
     (record {
-      low = low p (frame_in v) stack input built.checked built.accepted frames.library bytes;
-      direction = direction q d input program built.database built.sound;
-      places = places q d functions input program built.database built.sound built.serve;
-      link = l;
-      selection = s;
+      lowering = low p (frame_in v) stack input built.checked built.accepted frames.library bytes;
+      direction = direction;
+      places = places;
+      linking = l;
+      selection = selection q d functions l.addresses l.scratch input program built.database built.sound built.serve frames start l.lawful bytes;
     })
-    (subst (λ named. Refines (EventInWords q named) (placed_run (with_functions q functions) input) (line_run (line_program q functions) l.addresses l.scratch input)) l.named s.runs) in
-    record {
-      sense = sense p (frame_in v) stack input built.checked built.accepted bytes;
-      agree = h.agree;
-      places = h.places;
-      registers = h.registers;
-      traffic = h.traffic;
-    }

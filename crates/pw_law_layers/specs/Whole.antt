@@ -1,5 +1,5 @@
 -- From the source to the machine: what the layers' laws give together.
-use Rattle.std.specs.Prelude.{ℕ, suc, ◌≡◌, ◌≢◌, ◌≤◌, ◌%◌, true, Option, Some, None, List, [], ◌∷◌, Contains}
+use Rattle.std.specs.Prelude.{ℕ, suc, ◌≡◌, ◌≤◌, ◌%◌, true, Option, Some, None, List, [], ◌∷◌, Contains}
 use Rattle.pw_value.specs.declared.value.Kind.{Kind}
 use Rattle.pw_value.specs.declared.value.Value.{Value}
 use Rattle.pw_value.specs.declared.value.Value.TheVariants as V
@@ -23,7 +23,6 @@ use Rattle.pw_machine.specs.Start.{image_start}
 use Rattle.pw_lower.specs.Modules.{start_of, start_function}
 use Rattle.pw_cmean.specs.Worlds.{Program, ProgramModule, full_name}
 use Rattle.pw_cmean.specs.Acts as source
-use Rattle.pw_cmean.specs.SourceRun.{source_run}
 use Rattle.pw_run.specs.Runs.{Stage, Refines, AreAlike, Same}
 use Rattle.pw_run_agreement.specs.Agreement.{Agree, IsDefined}
 use Rattle.pw_db_sound.specs.Sound.{Sound}
@@ -39,10 +38,10 @@ use Rattle.pw_run_webs.specs.Serving.{AllServe}
 use Rattle.pw_run_lines.specs.Standing.{pointer_address, byte_of, EventInWords}
 use Rattle.pw_run_machine.specs.Laws.{AreObjectsOf, AreNamesApart, address_of, frame_in, image_run}
 use Rattle.pw_law_layers.specs.Source.{source_stages, source_runs}
-use Rattle.pw_run_webs.specs.Laws.{DirectionKeepsRuns, PlacesKeepRuns}
-use Rattle.pw_run_lines.specs.Laws.{SelectionKeepsRuns}
-use Rattle.pw_run_machine.specs.Laws.{LinkKeepsRuns}
-use Rattle.pw_law_layers.specs.Lowering.{MomentKept, flow_program, IsAccepted, AreChecked, HaveParts, SourceIsNeverWrong, LoweringKeepsRuns}
+use Rattle.pw_run_webs.specs.Laws.{DirectionKeeps, PlacesKeep}
+use Rattle.pw_run_lines.specs.Laws.{SelectionKeeps, SelectionKeepsRuns}
+use Rattle.pw_run_machine.specs.Laws.{LinkKeeps, LinkKeepsRuns}
+use Rattle.pw_law_layers.specs.Lowering.{MomentKept, flow_program, IsAccepted, AreChecked, HaveParts, LoweringKeepsRuns}
 
 -- ---- C values in the machine's words
 
@@ -122,8 +121,6 @@ pub record IsBuilt (p : Program) (d : List (List ℕ × Directives)) (functions 
 -- ---- what holds of them
 
 pub record Holds (p : Program) (d : List (List ℕ × Directives)) (functions : List Located) (objects : List Object) (stack : ℕ) (input : List ℕ) : Type 0 where
-  -- the source has no other ends than those of which agreement speaks
-  pub sense : (n : ℕ) → (source_run p (frame_in (image_of objects stack)) stack input n).end ≢ source.Wrong
   -- the source agrees with the machine
   pub agree : Agree (source_runs p (frame_in (image_of objects stack)) stack input) (image_start (image_of objects stack).memory) input
   -- each global has its value in its place at each call and return
@@ -135,6 +132,16 @@ pub record Holds (p : Program) (d : List (List ℕ × Directives)) (functions : 
       Notes (KeepRegisters d) (image_run (program_of p objects stack) functions (image_of objects stack) input n)
   pub traffic : IsDefined (source_runs p (frame_in (image_of objects stack)) stack input) → (n : ℕ) →
       Notes (ObeysTraffic (graph_of (program_of p objects stack)) d) (image_run (program_of p objects stack) functions (image_of objects stack) input n)
+
+-- What each layer keeps in the runs of one program, with its directives and its places: selection at the addresses that
+-- linking gives, with the words that the routines leave there.
+pub record LayersKeep (p : Program) (d : List (List ℕ × Directives)) (functions : List Located) (objects : List Object) (stack : ℕ) (input : List ℕ) : Type 0 where
+  pub lowering : Refines (MomentKept (program_of p objects stack))
+      (source_stages p (frame_in (image_of objects stack)) stack input) (flow.flow_run (program_of p objects stack) input)
+  pub direction : DirectionKeeps (program_of p objects stack) d input
+  pub places : PlacesKeep (program_of p objects stack) d functions input
+  pub linking : LinkKeeps (program_of p objects stack) functions (image_of objects stack) input
+  pub selection : SelectionKeeps (program_of p objects stack) d functions linking.addresses linking.scratch input
 
 -- each frame is at most its function's room
 pub record FramesFit (p : Program) (v : Image) : Type 0 where
@@ -154,11 +161,21 @@ RefinementGoesThrough =
     Refines (EventAlike Same Same) webs places → Refines (EventInWords p named) places lines → Refines Same lines machine →
     Refines (InMachine p named) meaning (calls_of machine)
 
+-- what the layers keep of one program gives what holds of it
+abbrev pub LayersHold : Type 0
+LayersHold =
+    (p : Program) (d : List (List ℕ × Directives)) (functions : List Located) (objects : List Object) (stack : ℕ) (input : List ℕ) →
+    LayersKeep p d functions objects stack input → Holds p d functions objects stack input
+
+-- so do, of a built program, the laws of lowering, selection and linking, and those of direction and of places for its
+-- directives and its places
 abbrev pub LayersCompose : Type 0
 LayersCompose =
-    SourceIsNeverWrong → LoweringKeepsRuns → DirectionKeepsRuns → PlacesKeepRuns → SelectionKeepsRuns → LinkKeepsRuns →
+    LoweringKeepsRuns → SelectionKeepsRuns → LinkKeepsRuns →
     (p : Program) (d : List (List ℕ × Directives)) (functions : List Located) (objects : List Object) (stack : ℕ) (input : List ℕ) →
-    IsBuilt p d functions objects stack → AreBytes input → Holds p d functions objects stack input
+    IsBuilt p d functions objects stack → AreBytes input →
+    DirectionKeeps (program_of p objects stack) d input → PlacesKeep (program_of p objects stack) d functions input →
+    Holds p d functions objects stack input
 
 -- of each built program, each frame is at most its function's room
 abbrev pub AllFramesFit : Type 0

@@ -2,7 +2,7 @@
 #![tactic(auto)]
 
 ghost use Rattle.pw_law_layers.specs.Rooms.{PlacesFit, MapHasFrames};
-ghost use Rattle.pw_law_layers.specs.Whole.{LayersCompose, AllFramesFit, RefinementGoesThrough};
+ghost use Rattle.pw_law_layers.specs.Whole.{LayersCompose, LayersHold, AllFramesFit, RefinementGoesThrough};
 
 use pw_law_link::laws::modules_stand_in_order;
 use pw_law_lower::frames_fit;
@@ -25,13 +25,20 @@ pub fn maps_have_frames()
     modules_stand_in_order();
 }
 
-/// From the laws of the meaning of C, of lowering, direction, places, selection and linking follows of each built
-/// program: the source agrees with the machine; each global has its value in its place at each call and return; and
-/// where the source is defined, each return keeps the registers, and the traffic law holds.
+/// From what the layers keep of one program, with its directives and its places, follows: the source agrees with the
+/// machine; each global has its value in its place at each call and return; and where the source is defined, each return
+/// keeps the registers, and the traffic law holds.
+pub fn layers_hold()
+    ensures { LayersHold }
+{}
+
+/// The same follows of each built program from the laws of lowering, selection and linking, and from those of direction and
+/// of places for the program's own directives and places.
 pub fn layers_compose()
     ensures { LayersCompose }
 {
     maps_have_frames();
+    layers_hold();
 }
 
 /// Of each built program the frame of each function in the image's map is at most the function's room.

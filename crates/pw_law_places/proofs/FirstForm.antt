@@ -92,11 +92,11 @@ all_kept head saved i zero k = tt
 all_kept head saved i (suc n) zero = tt
 all_kept head saved i (suc n) (suc k) = all_kept head saved (suc i) n k
 
-abbrev IsSlot : Place → Type 0
+abbrev pub IsSlot : Place → Type 0
 IsSlot (Slot offset) = Unit {0}
 IsSlot (Reg r) = ⊥
 
-all_slots : (head saved i n : ℕ) → AllByRecursion IsSlot (slots_from head saved i n)
+pub all_slots : (head saved i n : ℕ) → AllByRecursion IsSlot (slots_from head saved i n)
 all_slots head saved i zero = tt
 all_slots head saved i (suc n) = (tt, all_slots head saved (suc i) n)
 

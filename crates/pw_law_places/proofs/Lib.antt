@@ -1,1 +1,3 @@
 pub mod FirstForm
+mod Words
+mod Keeping

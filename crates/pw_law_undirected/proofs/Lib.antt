@@ -1,2 +1,3 @@
 mod Likeness
 mod Stepping
+mod Webless

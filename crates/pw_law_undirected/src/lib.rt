@@ -1,7 +1,7 @@
-//! A law of direction, without code: under no directives the run under directives keeps the run of flow graphs.
+//! Laws of direction, without code: without webs the run under directives keeps the run of flow graphs.
 #![tactic(auto)]
 
-ghost use Rattle.pw_law_undirected.specs.Laws.{EmptyDirectionKeeps};
+ghost use Rattle.pw_law_undirected.specs.Laws.{EmptyDirectionKeeps, WeblessDirectionKeeps, WeblessIsSound};
 
 use pw_db_sound::nothing_is_sound;
 use pw_law_directed::{
@@ -17,4 +17,19 @@ pub fn undirected_runs_keep_theirs()
     directed_runs_obey_traffic();
     directed_values_are_fine();
     nothing_is_sound();
+}
+
+/// A database that holds no web is sound, for whatever program.
+pub fn no_webs_are_sound()
+    ensures { WeblessIsSound }
+{}
+
+/// Under every database that holds no web the directed run keeps the flow run, as under the empty one.
+pub fn webless_runs_keep_theirs()
+    ensures { WeblessDirectionKeeps }
+{
+    directed_runs_keep_registers();
+    directed_runs_obey_traffic();
+    no_webs_are_sound();
+    undirected_runs_keep_theirs();
 }

@@ -5,6 +5,7 @@ mod LineRows
 mod LawfulRows
 mod LawRows
 mod ProgramRows
+mod SoundRows
 mod RegisterRows
 mod WordRows
 mod SourceRows

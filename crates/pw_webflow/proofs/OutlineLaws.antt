@@ -42,7 +42,7 @@ acts_stay webs [] = refl
 acts_stay webs (o ∷ rest) =
     ap (λ (a : Act). a ∷ map web_act (map (directed_op webs) rest)) (act_stays webs o) ∙ ap (λ (acts : List Act). act_of o ∷ acts) (acts_stay webs rest)
 
-with_acts : Block → List Act → Stretch
+abbrev with_acts : Block → List Act → Stretch
 with_acts b acts = record { depth = b.depth; acts = acts; uses = end_uses b.end; next = successors b.end }
 
 stretch_stays : (webs : List (Web × Role)) (b : Block) → web_stretch (directed_block webs b) ≡ stretch_of b
@@ -54,7 +54,7 @@ stretches_stay webs (b ∷ rest) =
     ap (λ (s : Stretch). s ∷ map web_stretch (map (directed_block webs) rest)) (stretch_stays webs b)
     ∙ ap (λ (blocks : List Stretch). stretch_of b ∷ blocks) (stretches_stay webs rest)
 
-with_blocks : FlowFn → List Stretch → Outline
+abbrev with_blocks : FlowFn → List Stretch → Outline
 with_blocks f blocks = record { params = f.params; temps = f.temps; blocks = blocks }
 
 pub outline_stays : (f : FlowFn) (d : Directives) → web_outline (directed f d) ≡ outline_of f

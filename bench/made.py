@@ -1,0 +1,51 @@
+#!/usr/bin/env python3
+"""Writes the program that the generator makes from the number 1, by the rules of docs/COMMANDS.md, written a second time.
+
+Usage: made.py FOLDER COUNT TURNS: COUNT modules beside `main`, whose loop has TURNS turns; the command `bench 1` has 64 and
+100.
+"""
+import sys
+from pathlib import Path
+
+STATE = 1
+
+
+def draw(bound):
+    global STATE
+    STATE = (1664525 * STATE + 1013904223) % 2**32
+    return STATE // 65536 % bound
+
+
+def declared(k, j):
+    return f"unsigned f{k}_{j}(unsigned x);\n"
+
+
+def given(k, j, count):
+    if j + 1 < 8:
+        return f"f{k}_{j + 1}(x+g{k})"
+    return f"f{k + 1}_0(x+g{k})" if k + 1 < count else "x"
+
+
+def module(k, count):
+    text = f"unsigned g{k};\n" + "".join(f"extern unsigned g{o};\n" for o in range(count) if o != k)
+    if k + 1 < count:
+        text += declared(k + 1, 0)
+    for j in range(8):
+        factor, mask, other = draw(1000), draw(1000), draw(count)
+        if j + 1 < 8:
+            text += declared(k, j + 1)
+        text += f"unsigned f{k}_{j}(unsigned x){{g{k}=g{k}*{factor}u+x; g{other}=g{other}^{mask}u; return {given(k, j, count)};}}\n"
+    return text
+
+
+def main():
+    folder, count, turns = Path(sys.argv[1]), int(sys.argv[2]), sys.argv[3]
+    for k in range(count):
+        (folder / f"m{k}.i").write_text(module(k, count))
+    (folder / "main.i").write_text(
+        "unsigned f0_0(unsigned x); int main(void){unsigned t; unsigned i; t=0u; "
+        f"for(i=0u;i<{turns}u;i++)t=t+f0_0(i); return t&255u;}}\n"
+    )
+
+
+main()
