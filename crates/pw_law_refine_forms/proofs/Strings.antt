@@ -33,6 +33,7 @@ use Rattle.pw_run_flow.specs.Programs.{Program, globals_of, functions_of, block_
 use Rattle.pw_run_flow.specs.FlowRun.{Machine}
 use Rattle.pw_law_refine.specs.Standing.{Spot, Stands}
 use Rattle.pw_law_refine.specs.Activations.{Activation, IsActivation, Numbers, graphs, graph_of, env_of}
+use Rattle.pw_law_refine.specs.Matching.{global_size}
 use Rattle.pw_law_refine.specs.Containing.{ContainsCode}
 use Rattle.pw_law_refine.specs.Meeting.{Meets}
 use Rattle.pw_law_refine.specs.Expressions.{IsReady, HasValue, HasResult, ExpressionKeeps}
