@@ -6,5 +6,6 @@ pub mod Containing
 pub mod Meeting
 pub mod Expressions
 pub mod Statements
+pub mod StatementParts
 pub mod Calls
 pub mod Whole

@@ -3,6 +3,7 @@ use Rattle.std.specs.Prelude.{ℕ, ◌≡◌, ◌+◌, ◌^◌, ◌<◌, ◌≤�
 use Rattle.pw_value.specs.Objects.{Object, object_at}
 use Rattle.pw_types.specs.TypeTrees.{type_of}
 use Rattle.pw_types.specs.TypedTrees.{LocalValue}
+use Rattle.pw_flow.specs.declared.flow.FlowGlobal.{FlowGlobal}
 use Rattle.pw_lower.specs.declared.place.LocalPlace.{LocalPlace}
 use Rattle.pw_lower.specs.declared.place.LocalPlace.TheVariants.{Temp, Slot}
 use Rattle.pw_lower.specs.Operators.{bytes_of}
@@ -25,9 +26,12 @@ use Rattle.pw_law_refine.specs.Activations.{Activation, Numbers, graphs, graph_o
 abbrev pub Shows : World → State → Machine → Type 0
 Shows world s m = SameIn (MomentKept (graphs world)) (source.shown 0 s) (flow.shown m)
 
--- a global object stands in the object of its own number, and lives
-pub record IsGlobalAt (spots : List Spot) (objects : List Object) (g : ℕ) : Type 0 where
-  pub size : ℕ
+-- the size of the global of a number
+abbrev pub global_size : World → ℕ → ℕ
+global_size world g = slice_index_or (map (λ (x : FlowGlobal). x.size) (globals_of (graphs world))) g 0
+
+-- a global object of a size stands in the object of its own number, and lives
+pub record IsGlobalAt (size : ℕ) (spots : List Spot) (objects : List Object) (g : ℕ) : Type 0 where
   pub there : spot_of spots g ≡ In g size
   pub live : (object_at objects g).live ≡ true
 
@@ -40,7 +44,7 @@ AreSmall objects = (o : ℕ) → length (object_at objects o).bytes < 2 ^ 31
 -- is the same, and what was shown; and the functions that are active are those of the frames.
 pub record Matches (world : World) (spots : List Spot) (s : State) (m : Machine) : Type 0 where
   pub memory : MemoryStands spots s.objects m.objects
-  pub globals : (g : ℕ) → g < length (globals_of (graphs world)) → IsGlobalAt spots s.objects g
+  pub globals : (g : ℕ) → g < length (globals_of (graphs world)) → IsGlobalAt (global_size world g) spots s.objects g
   pub input : s.rest ≡ m.rest
   pub shows : Shows world s m
   pub active : s.active ≡ map (λ (f : Frame). f.function.name) (m.frame ∷ m.callers)

@@ -38,7 +38,7 @@ use Rattle.pw_run_flow.specs.FlowRun as run
 use Rattle.pw_run_flow.specs.FlowRun.{Machine, On, value_in, obeys, is_own_kind}
 use Rattle.pw_law_refine.specs.Standing.{Spot, In, spot_of, Stands, MemoryStands}
 use Rattle.pw_law_refine.specs.Activations.{Activation, Numbers, graphs, graph_of, number_of, place_in, local_temps}
-use Rattle.pw_law_refine.specs.Matching.{StandsAt, IsGlobalAt}
+use Rattle.pw_law_refine.specs.Matching.{StandsAt, IsGlobalAt, global_size}
 use Rattle.pw_law_refine.specs.Containing.{ContainsCode}
 use Rattle.pw_law_refine.specs.Meeting.{Meets}
 use Rattle.pw_law_refine.specs.Expressions.{IsReady, HasValue}
@@ -211,7 +211,7 @@ none-global = record { name = []; size = 0; shape = []; kind = None; volatile = 
 
 -- a global is an object that lives, in its own
 pub global-at : (x : Activation) (numbers : Numbers) (spots : List Spot) (d : Code) (s : State) (m : Machine) (g : List ℕ) (o : ℕ)
-    → IsReady x numbers spots d s m → global_number (graphs x.world) g ≡ Some o → IsGlobalAt spots s.objects o
+    → IsReady x numbers spots d s m → global_number (graphs x.world) g ≡ Some o → IsGlobalAt (global_size x.world o) spots s.objects o
 global-at x numbers spots d s m g o ready number = ready.related.matches.globals o (position-Some (λ (e : FlowGlobal). bytes_eq e.name g) (globals_of (graphs x.world)) o none-global number).0
 
 -- ---- writing
@@ -318,9 +318,9 @@ named-reads laws bound x numbers spots ty k at g o d s m e ready holds suits num
     let q = global-at x numbers spots d s m g o ready number in
     let w = flow.scalar_of k (bytes_from (kind_size k) 0 (object_at m.objects o).bytes) in
     laws.fresh x numbers spots [] d s m (λ t. op.LoadG t g k) (source_access.value_in ty (bytes_from (source_access.width_of ty) 0 (object_at s.objects o).bytes)) w holds ready
-    (look-stands x numbers spots d s m ty k o 0 o q.size ready e q.live q.there)
+    (look-stands x numbers spots d s m ty k o 0 o (global_size x.world o) ready e q.live q.there)
     (λ rest. ap (λ (u : Option Value). run.gives d.temps u (record m { frame = record m.frame { ops = rest } }))
-    (get-named (graphs x.world) g k m.objects o w (suits k o e number) number (looks-in spots s.objects m.objects ty k o 0 o q.size ready.related.matches.memory e allowed q.there))))
+    (get-named (graphs x.world) g k m.objects o w (suits k o e number) number (looks-in spots s.objects m.objects ty k o 0 o (global_size x.world o) ready.related.matches.memory e allowed q.there))))
 
 named-writes :
     Laws → (bound : ℕ) (x : Activation) (numbers : Numbers) (spots : List Spot) (assigned : List ℕ) (purpose : Purpose) (ty : CType) (k : Kind) (at : Site) (g : List ℕ) (t o : ℕ) (d : Code) (s : State) (m : Machine) (v : Value)
@@ -344,13 +344,13 @@ named-writes laws bound x numbers spots assigned purpose ty k at g t o d s m v e
       comes = comes-by laws x d (op.StoreG g t k) m n nx
           (ap (λ (objects : Option (List Object)). run.changes objects (record m { frame = record m.frame { ops = nx.rest } }))
           (put-named (graphs x.world) g k w m.objects o (written o 0 now m.objects) (suits k o e number) (of-kind spots ty k v w laws.back e typed sv) number
-          (pokes-in spots s.objects m.objects ty k o 0 o q.size v w ready.related.matches.memory e allowed q.there typed sv)));
+          (pokes-in spots s.objects m.objects ty k o 0 o (global_size x.world o) v w ready.related.matches.memory e allowed q.there typed sv)));
       holds = record {
         done = record {
           later = record {
             spots = spots;
-            related = related-written x numbers spots s m nx.rest o o q.size 0 new now ready.related q.live q.there (bytes-stand spots ty k v w e typed sv) (encoding-are v (source_access.width_of ty));
-            lasts = lasts-written numbers spots s m nx.rest o o q.size 0 new now q.there;
+            related = related-written x numbers spots s m nx.rest o o (global_size x.world o) 0 new now ready.related q.live q.there (bytes-stand spots ty k v w e typed sv) (encoding-are v (source_access.width_of ty));
+            lasts = lasts-written numbers spots s m nx.rest o o (global_size x.world o) 0 new now q.there;
           };
           temps = λ j h not. refl;
         };

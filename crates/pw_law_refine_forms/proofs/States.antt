@@ -61,7 +61,7 @@ pub related-written :
 related-written x numbers spots s m rest o f size i new now r live spot b are = record {
   matches = record {
     memory = memory-written spots s.objects m.objects o f size i new now r.matches.memory live spot b;
-    globals = λ g h. let q = r.matches.globals g h in record { size = q.size; there = q.there; live = live-left s.objects o i g new ∙ q.live };
+    globals = λ g h. let q = r.matches.globals g h in record { there = q.there; live = live-left s.objects o i g new ∙ q.live };
     input = r.matches.input;
     shows = r.matches.shows;
     active = r.matches.active;
@@ -142,7 +142,7 @@ related-kept x numbers spots s m rest k o t new w r named place room are stands 
     record {
       matches = record {
         memory = memory-nowhere spots s.objects m.objects o 0 new r.matches.memory (λ f size e. not-in (spot_of spots o) f size here.0 e);
-        globals = λ g h. let q = r.matches.globals g h in record { size = q.size; there = q.there; live = live-left s.objects o 0 g new ∙ q.live };
+        globals = λ g h. let q = r.matches.globals g h in record { there = q.there; live = live-left s.objects o 0 g new ∙ q.live };
         input = r.matches.input;
         shows = r.matches.shows;
         active = r.matches.active;

@@ -33,6 +33,7 @@ use Rattle.pw_run_flow.specs.Programs.{Program, globals_of, functions_of, block_
 use Rattle.pw_run_flow.specs.FlowRun.{Machine}
 use Rattle.pw_law_refine.specs.Standing.{Spot, Stands}
 use Rattle.pw_law_refine.specs.Activations.{Activation, IsActivation, Numbers, graphs, graph_of, env_of}
+use Rattle.pw_law_refine.specs.Matching.{global_size}
 use Rattle.pw_law_refine.specs.Containing.{ContainsCode}
 use Rattle.pw_law_refine.specs.Meeting.{Meets}
 use Rattle.pw_law_refine.specs.Expressions.{IsReady, HasValue, HasResult, ExpressionKeeps}
@@ -105,7 +106,7 @@ address-reaches laws bound x numbers spots c s m name ready holds n =
     let q = global-at x numbers spots c s m name n.number ready n.flows in
     let is : V.At (flow.pointer_to (graphs x.world) name 0) ≡ at = ap (λ (o : Option ℕ). V.At (pointer-or (graphs x.world) name o)) n.flows in
     laws.fresh x numbers spots [] c s m (λ t. op.AddrGlobal t name 0) at (V.At (flow.pointer_to (graphs x.world) name 0)) holds ready
-    (subst (λ (w : Value). Stands spots at w) (sym is) (P.Object n.number 0, record { object = n.number; size = q.size; there = q.there; inside = omega arith; is = refl }, refl))
+    (subst (λ (w : Value). Stands spots at w) (sym is) (P.Object n.number 0, record { object = n.number; size = global_size x.world n.number; there = q.there; inside = omega arith; is = refl }, refl))
     (λ rest. refl)
 
 pub symbol-reaches :

@@ -1,5 +1,5 @@
 -- The objects at the start have the same bytes in both runs.
-use Rattle.std.proofs.Common.{◌≡◌, ◌≢◌, ℕ, ◌+◌, ◌^◌, ◌<◌, ◌≤◌, Option, Some, None, option_map, List, [], ◌∷◌, ◌++◌, length, map, refl, sym, ap, subst, ◌∙◌, arith, inl, inr}
+use Rattle.std.proofs.Common.{◌≡◌, ◌≢◌, ℕ, ◌+◌, ◌^◌, ◌<◌, ◌≤◌, Option, Some, None, option_map, List, [], ◌∷◌, ◌++◌, length, map, slice_index_or, refl, sym, ap, subst, ◌∙◌, arith, inl, inr}
 use Rattle.std.specs.Prelude.{IsSomeAnd, unwrap_or, All}
 use Rattle.std.specs.List.{flat_map, position}
 use Rattle.std.specs.Str.{bytes_eq}
@@ -116,8 +116,11 @@ module _ (p : Program) (frame_of : List ℕ → ℕ) (stack : ℕ) where
   kept_are : flows.start_objects q ≡ map kept all
   kept_are = ap (λ (gs : List FlowGlobal). map (flows.object_of q) gs) globals_are ∙ map-map (flows.object_of q) graph_of all
 
+  sizes_are : map (λ (g : FlowGlobal). g.size) (globals_of q) ≡ map bytes_in all
+  sizes_are = ap (λ (gs : List FlowGlobal). map (λ (g : FlowGlobal). g.size) gs) globals_are ∙ map-map (λ (g : FlowGlobal). g.size) graph_of all
+
   spots_are : start_spots q ≡ spots
-  spots_are = ap (λ (gs : List FlowGlobal). in_order 0 (map (λ (g : FlowGlobal). g.size) gs)) globals_are ∙ ap (λ (sizes : List ℕ). in_order 0 sizes) (map-map (λ (g : FlowGlobal). g.size) graph_of all)
+  spots_are = ap (λ (sizes : List ℕ). in_order 0 sizes) sizes_are
 
   -- ---- a name has one number in both
 
@@ -281,12 +284,14 @@ module _ (p : Program) (frame_of : List ℕ → ℕ) (stack : ℕ) where
         (subst (λ (os : List Object). MemoryStands spots os (flows.start_objects q)) (sym own_are)
         (subst (λ (os : List Object). MemoryStands spots (map own all) os) (sym kept_are) m))
 
-    pub globals_at : (g : ℕ) → g < length (globals_of q) → IsGlobalAt (start_spots q) (source.start_objects p) g
+    pub globals_at : (g : ℕ) → g < length (globals_of q) → IsGlobalAt (slice_index_or (map (λ (x : FlowGlobal). x.size) (globals_of q)) g 0) (start_spots q) (source.start_objects p) g
     globals_at g lt =
         let count : length (globals_of q) ≡ length all = ap (λ (gs : List FlowGlobal). length gs) globals_are ∙ length-map all graph_of in
-        let at : IsGlobalAt spots (map own all) g = globals bytes_in own kept all (λ x. refl) g (omega (arith, lt, count)) in
-        subst (λ (s : List Spot). IsGlobalAt s (source.start_objects p) g) (sym spots_are)
-        (subst (λ (os : List Object). IsGlobalAt spots os g) (sym own_are) at)
+        let at : IsGlobalAt (slice_index_or (map bytes_in all) g 0) spots (map own all) g = globals bytes_in own kept all (λ x. refl) g (omega (arith, lt, count)) in
+        let size = slice_index_or (map (λ (x : FlowGlobal). x.size) (globals_of q)) g 0 in
+        subst (λ (s : List Spot). IsGlobalAt size s (source.start_objects p) g) (sym spots_are)
+        (subst (λ (os : List Object). IsGlobalAt size spots os g) (sym own_are)
+        (subst (λ (sizes : List ℕ). IsGlobalAt (slice_index_or sizes g 0) spots (map own all) g) (sym sizes_are) at))
 
     pub all_bytes : All (λ (o : Object). All IsByte o.bytes) (source.start_objects p)
     all_bytes =

@@ -1,5 +1,5 @@
 -- The objects at the start, each with its module; and memory in which each object stands at its own number.
-use Rattle.std.proofs.Common.{◌≡◌, ℕ, zero, suc, ◌+◌, ◌<◌, true, Option, Some, option_map, List, [], ◌∷◌, ◌++◌, length, map, slice_get, refl, sym, ap, subst, ◌∙◌, arith}
+use Rattle.std.proofs.Common.{◌≡◌, ℕ, zero, suc, ◌+◌, ◌<◌, true, Option, Some, option_map, List, [], ◌∷◌, ◌++◌, length, map, slice_get, slice_index_or, refl, sym, ap, subst, ◌∙◌, arith}
 use Rattle.std.specs.List.{flat_map}
 use Rattle.std.proofs.lemmas.Option.{same_Some, slice_get-map, slice_get_within, get_or_from_slice_get}
 use Rattle.std.proofs.lemmas.Simd.{map-map}
@@ -89,11 +89,11 @@ module _ {X : Type 0} (size : X → ℕ) (own kept : X → Object) (xs : List X)
     apart = λ o p f n k lo lp eo ep. omega (arith, (spot_is 0 (map size xs) o f n eo).0, (spot_is 0 (map size xs) p f k ep).0);
   }
 
-  pub globals : ((x : X) → (own x).live ≡ true) → (g : ℕ) → g < length xs → IsGlobalAt spots_for (map own xs) g
+  pub globals : ((x : X) → (own x).live ≡ true) → (g : ℕ) → g < length xs → IsGlobalAt (slice_index_or (map size xs) g 0) spots_for (map own xs) g
   globals lives g lt =
       let x = at_place xs g lt in
+      let sized : slice_index_or (map size xs) g 0 ≡ size x.0 = get_or_from_slice_get (map size xs) g (size x.0) 0 (slice_get-map size xs g ∙ ap (λ (o : Option X). option_map size o) x.1) in
       record {
-        size = size x.0;
-        there = size_there g x.0 x.1;
+        there = size_there g x.0 x.1 ∙ ap (λ (n : ℕ). In g n) (sym sized);
         live = ap (λ (o : Object). o.live) (object_there own g x.0 x.1) ∙ lives x.0;
       }

@@ -12,7 +12,7 @@ ghost use Rattle.pw_run_flow.specs.FlowRun.{On, start};
 ghost use Rattle.pw_law_refine.specs.Lowerable.{IsLowerableWorld};
 ghost use Rattle.pw_law_refine.specs.Activations.{graphs};
 ghost use Rattle.pw_law_refine.specs.Standing.{MemoryStands};
-ghost use Rattle.pw_law_refine.specs.Matching.{IsGlobalAt};
+ghost use Rattle.pw_law_refine.specs.Matching.{IsGlobalAt, global_size};
 ghost use Rattle.pw_law_refine.specs.Calls.{FitShape};
 ghost use Rattle.pw_law_refine.specs.Whole.{AllPartsKeep, ProgramsKeepRuns, StartsMatch, start_machine};
 ghost use Rattle.pw_law_refine_start.specs.Start.{start_spots};
@@ -34,7 +34,7 @@ pub fn objects_stand_at_start()
     ensures memory { (world : World) → IsLowerableWorld world →
         MemoryStands (start_spots (graphs world)) (start_objects world.program) (flows.start_objects (graphs world)) }
     ensures globals { (world : World) (g : ℕ) → IsLowerableWorld world → g < length (flows.globals_of (graphs world)) →
-        IsGlobalAt (start_spots (graphs world)) (start_objects world.program) g }
+        IsGlobalAt (global_size world g) (start_spots (graphs world)) (start_objects world.program) g }
     ensures bytes { (world : World) → IsLowerableWorld world →
         All (λ (o : Object). All IsByte o.bytes) (start_objects world.program) }
     ensures sizes { (world : World) → IsLowerableWorld world →

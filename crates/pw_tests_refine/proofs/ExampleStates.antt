@@ -26,17 +26,17 @@ use Rattle.pw_run_flow.specs.FlowRun as flow
 use Rattle.pw_run_flow.specs.FlowRun.{Machine}
 use Rattle.pw_law_refine.specs.Standing.{Spot, Nowhere, In, spot_of, ByteStands, Holds, MemoryStands}
 use Rattle.pw_law_refine.specs.Activations.{Activation, number_of, graph_of, env_of}
-use Rattle.pw_law_refine.specs.Matching.{AreSmall, IsGlobalAt, Matches, IsFrameOf, Related, Lasts}
+use Rattle.pw_law_refine.specs.Matching.{AreSmall, IsGlobalAt, global_size, Matches, IsFrameOf, Related, Lasts}
 use Rattle.pw_law_refine.specs.Meeting.{Meets}
 use Rattle.pw_law_refine.specs.Expressions.{HasResult}
 use Rattle.pw_tests_refine.proofs.Examples.{number, n_is, tree, program, frames, bump, one_more}
 
 -- ---- the states
 
-abbrev world : World
+abbrev pub world : World
 world = record { program = program; frame_of = frames; stack = 1000 }
 
-abbrev x : Activation
+abbrev pub x : Activation
 x = record {
   world = world;
   home = record { name = codes "a"; tree = tree };
@@ -49,7 +49,7 @@ x = record {
 abbrev spots : List Spot
 spots = In 0 4 ∷ []
 
-abbrev state : ℕ → State
+abbrev pub state : ℕ → State
 state k = record { objects = n_is k; active = codes "bump" ∷ []; rest = []; read = 0; out = []; moments = [] }
 
 abbrev machine : ℕ → List Op → List Value → Machine
@@ -134,8 +134,8 @@ matches k ops temps h = record {
   small = small k;
 }
   where
-    first : (g : ℕ) → g < 1 → IsGlobalAt spots (n_is k) g
-    first zero h = record { size = 4; there = refl; live = refl }
+    first : (g : ℕ) → g < 1 → IsGlobalAt (global_size world g) spots (n_is k) g
+    first zero h = record { there = refl; live = refl }
     first (suc g) h = absurd (omega (arith, h))
 
 frame : (k : ℕ) (ops : List Op) (a b c : Value) → IsFrameOf x [] spots (state k) (machine k ops (a ∷ b ∷ c ∷ []))

@@ -1,2 +1,4 @@
 mod Examples
 mod ExampleStates
+mod ShortBytes
+mod Accepted
