@@ -283,27 +283,38 @@ valid = record {
     functions = (
       record {
         few = record { few_params = omega arith; params = omega arith; room = omega arith; start = omega arith };
-        blocks = (record {
-          depth = omega arith;
-          ops = (omega arith, ((omega arith, omega arith), ((omega arith, omega arith, omega arith), (omega arith, tt))));
-          end = tt;
-        }, tt);
-      },
-      (record {
-        few = record { few_params = omega arith; params = omega arith; room = omega arith; start = omega arith };
         blocks = (
-          record { depth = omega arith; ops = ((tt, record { few = omega arith; below = tt }), (omega arith, tt)); end = omega arith },
-          (record { depth = omega arith; ops = tt; end = tt }, tt),
+          record {
+            depth = omega arith;
+            ops = (omega arith, ((omega arith, omega arith), ((omega arith, omega arith, omega arith), (omega arith, tt))));
+            end = tt;
+          },
+          tt,
         );
       },
-      (record {
-        few = record { few_params = omega arith; params = omega arith; room = omega arith; start = omega arith };
-        blocks = (record {
-          depth = omega arith;
-          ops = ((omega arith, record { few = omega arith; below = tt }), ((tt, record { few = omega arith; below = (omega arith, tt) }), tt));
-          end = tt;
-        }, tt);
-      }, tt)),
+      (
+        record {
+          few = record { few_params = omega arith; params = omega arith; room = omega arith; start = omega arith };
+          blocks = (
+            record { depth = omega arith; ops = ((tt, record { few = omega arith; below = tt }), (omega arith, tt)); end = omega arith },
+            (record { depth = omega arith; ops = tt; end = tt }, tt),
+          );
+        },
+        (
+          record {
+            few = record { few_params = omega arith; params = omega arith; room = omega arith; start = omega arith };
+            blocks = (
+              record {
+                depth = omega arith;
+                ops = ((omega arith, record { few = omega arith; below = tt }), ((tt, record { few = omega arith; below = (omega arith, tt) }), tt));
+                end = tt;
+              },
+              tt,
+            );
+          },
+          tt,
+        ),
+      ),
     );
     ordinary = others start_name (named_in low) refl;
   };
@@ -327,8 +338,10 @@ lawful = record {
       ((6, omega arith, refl), ((6, omega arith, refl), ((3, omega arith, refl), ((6, omega arith, refl), ((4, omega arith, refl), ((0, omega arith, refl), tt))))));
   ops = λ f o there. each (λ (f : FlowFn). Contains (ops_of f) o → NamesRightly graphs o) (functions_of graphs) (
     λ inside. each (NamesRightly graphs) (ops_of (lowered_function (codes "a") [] bump)) ((0, omega arith, refl), (tt, (tt, ((0, omega arith, refl), tt)))) o inside,
-    (λ inside. each (NamesRightly graphs) (ops_of (lowered_function (codes "a") [] main)) ((3, omega arith, refl), ((0, omega arith, refl), tt)) o inside,
-    (λ inside. each (NamesRightly graphs) (ops_of start_function) ((4, omega arith, refl), ((0, omega arith, refl), tt)) o inside, tt)),
+    (
+      λ inside. each (NamesRightly graphs) (ops_of (lowered_function (codes "a") [] main)) ((3, omega arith, refl), ((0, omega arith, refl), tt)) o inside,
+      (λ inside. each (NamesRightly graphs) (ops_of start_function) ((4, omega arith, refl), ((0, omega arith, refl), tt)) o inside, tt),
+    ),
   ) f there;
   items = λ g there. each (λ (g : FlowGlobal). AllByRecursion (λ i. IsItem graphs i.1) g.items) (globals_of graphs) (tt, tt) g there;
   start = (2, omega arith, refl);
@@ -368,9 +381,11 @@ unfolding lower lower_statement lowered_function lowered flow_shape_or
 alike = record {
   declared = λ m k name s t there also. each (λ (m : FlowModule). Contains m.declared (name, s) → Contains k.declared (name, t) → Agree s t) graphs.modules
       (λ a b. each (λ (k : FlowModule). Contains k.declared (name, t) → Agree s t) graphs.modules (λ b. alike_at name s t a b, tt) k also b, tt) m there;
-  library = λ m g name s there a e. each (λ (m : FlowModule). Contains m.declared (name, s) → Agree s (flows.library_shape g)) graphs.modules
-      (λ a. each (λ (d : Declared). library_at d.0 ≡ Some g → Agree d.1 (flows.library_shape g)) entries
-      (λ h. absurd cc, (λ h. absurd cc, (λ h. absurd cc, tt))) (name, s) a e, tt) m there a;
+  library = λ m g name s there a e. each (λ (m : FlowModule). Contains m.declared (name, s) → Agree s (flows.library_shape g)) graphs.modules (
+    λ a. each (λ (d : Declared). library_at d.0 ≡ Some g → Agree d.1 (flows.library_shape g)) entries
+        (λ h. absurd cc, (λ h. absurd cc, (λ h. absurd cc, tt))) (name, s) a e,
+    tt,
+  ) m there a;
   main = λ f e. sym (ap flow_shape_or e);
 }
 
@@ -381,11 +396,13 @@ no_frames name there = each (λ (name : List ℕ). frames name ≡ 0) library_fu
 
 formed : AreFormed program
 formed m f there inside =
-    each (λ (m : ProgramModule). Contains m.tree.functions f → IsFormed f) program.modules
-    (λ inside. each IsFormed tree.functions (
-      record { initialisers = λ k d within. absurd (omega (arith, within)); named = refl },
-      (record { initialisers = λ k d within. absurd (omega (arith, within)); named = refl }, tt),
-    ) f inside, tt) m there inside
+    each (λ (m : ProgramModule). Contains m.tree.functions f → IsFormed f) program.modules (
+      λ inside. each IsFormed tree.functions (
+        record { initialisers = λ k d within. absurd (omega (arith, within)); named = refl },
+        (record { initialisers = λ k d within. absurd (omega (arith, within)); named = refl }, tt),
+      ) f inside,
+      tt,
+    ) m there inside
 
 inside : LeadInside graphs
 unfolding lowered
