@@ -49,7 +49,7 @@ x = record {
 abbrev spots : List Spot
 spots = In 0 4 ∷ []
 
-abbrev state : ℕ → State
+abbrev pub state : ℕ → State
 state k = record { objects = n_is k; active = codes "bump" ∷ []; rest = []; read = 0; out = []; moments = [] }
 
 abbrev machine : ℕ → List Op → List Value → Machine

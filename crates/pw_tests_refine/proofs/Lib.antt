@@ -1,3 +1,4 @@
 mod Examples
 mod ExampleStates
 mod ShortBytes
+mod NoElements
