@@ -32,7 +32,7 @@ IsOpen labels cases l = Contains labels l × ¬ Contains cases l
 
 -- The labels of the part are numbered as those of a well-typed function are. Those that a `goto` can name have the
 -- blocks behind the first, in the order of the text; behind these is a block that is no label's, and then those of the
--- labels of cases. The blocks of the labels that are open were given out before, and none of them last.
+-- labels of cases. The blocks of those and of the labels that are open were given out before, and none of these last.
 pub record AreLabelled (x : Activation) (labels cases : List ℕ) (c : Code) : Type 0 where
   pub once : IsDistinct nat_eq labels
   pub one_use : IsDistinct nat_eq (x.function.named ++ cases)
@@ -40,6 +40,7 @@ pub record AreLabelled (x : Activation) (labels cases : List ℕ) (c : Code) : T
   pub all : length c.labels ≡ x.function.labels
   pub order : (before : List ℕ) × (behind : List ℕ) × (x.function.named ≡ before ++ filter (holds x.function.named) labels ++ behind)
   pub named : (l i : ℕ) → slice_get x.function.named i ≡ Some l → block_of_label c l ≡ i + 1
+  pub first : length x.function.named < c.blocks
   pub given : (l : ℕ) → IsOpen labels cases l → block_of_label c l + 1 < c.blocks
   pub cases : (l : ℕ) → IsOpen labels cases l → ¬ Contains x.function.named l → length x.function.named + 1 < block_of_label c l
 

@@ -33,10 +33,10 @@ use Rattle.pw_tests_refine.proofs.Examples.{number, n_is, tree, program, frames,
 
 -- ---- the states
 
-abbrev world : World
+abbrev pub world : World
 world = record { program = program; frame_of = frames; stack = 1000 }
 
-abbrev x : Activation
+abbrev pub x : Activation
 x = record {
   world = world;
   home = record { name = codes "a"; tree = tree };

@@ -1,10 +1,12 @@
 -- A small program, its flow graphs, and what both runs of it come to, by computing the definitions.
-use Rattle.std.proofs.Common.{ℕ, ◌≡◌, refl, arith, true, false, List, [], ◌∷◌, Some, None}
+use Rattle.std.proofs.Common.{ℕ, ◌≡◌, refl, arith, true, false, if◌then◌else◌, List, [], ◌∷◌, Some, None}
 use Rattle.std.specs.Prelude.{codes}
 use Rattle.pw_value.specs.declared.value.Kind.TheVariants.{W32}
 use Rattle.pw_value.specs.declared.value.Byte.{Byte}
 use Rattle.pw_value.specs.declared.value.Byte.TheVariants as B
 use Rattle.pw_value.specs.Objects.{Object}
+use Rattle.pw_value.specs.NameLists.{has_name}
+use Rattle.pw_value.specs.ProgramNames.{library_functions}
 use Rattle.pw_types.specs.TypeTrees.{Void, Int, Function as FunctionType, QType, Qualified, NoType}
 use Rattle.pw_types.specs.declared.kind.IntKind.TheVariants as K
 use Rattle.pw_types.specs.declared.tree.BinaryOperator.TheVariants as O
@@ -34,19 +36,19 @@ use Rattle.pw_law_layers.specs.Lowering.{ByteKept, SameGlobals, MomentKept, flow
 
 -- ---- int n; void bump(void){n=n+1;} int main(void){bump(); return n;}
 
-abbrev int_type : QType
+abbrev pub int_type : QType
 int_type = Qualified (Int K.Int) false false
 
-abbrev takes_nothing : QType → QType
+abbrev pub takes_nothing : QType → QType
 takes_nothing result = Qualified (FunctionType result NoType) false false
 
-abbrev void_type : QType
+abbrev pub void_type : QType
 void_type = Qualified Void false false
 
 abbrev name_of : List ℕ → Symbol
 name_of = External
 
-abbrev n_read : Expression
+abbrev pub n_read : Expression
 n_read = Node 10 int_type (Global (name_of (codes "n")))
 
 abbrev pub one_more : Expression
@@ -71,11 +73,11 @@ function name result body = record {
 abbrev pub bump : FunctionValue
 bump = function (codes "bump") void_type (Evaluate 8 one_more ∷ [])
 
-abbrev main : FunctionValue
+abbrev pub main : FunctionValue
 main = function (codes "main") int_type
     (Evaluate 20 (Node 20 void_type (Call (name_of (codes "bump")) NoExpression)) ∷ Return 22 (Some n_read) ∷ [])
 
-abbrev n : GlobalValue
+abbrev pub n : GlobalValue
 n = record { name = name_of (codes "n"); ty = int_type; writable = true; items = [] }
 
 abbrev pub tree : ModuleValue
@@ -114,10 +116,11 @@ bump_lowered = refl
 
 -- ---- both runs
 
+-- the library's functions need no stack
 abbrev pub frames : List ℕ → ℕ
-frames name = 100
+frames name = if has_name library_functions name then 0 else 100
 
-abbrev graphs : flows.Program
+abbrev pub graphs : flows.Program
 graphs = flow_program program frames 1000
 
 abbrev pub number : ℕ → List Byte

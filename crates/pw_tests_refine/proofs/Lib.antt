@@ -2,3 +2,4 @@ mod Examples
 mod ExampleStates
 mod ShortBytes
 mod NoElements
+mod Accepted
