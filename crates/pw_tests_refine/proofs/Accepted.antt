@@ -19,11 +19,11 @@ use Rattle.pw_flow.specs.declared.flow.Op.{Op}
 use Rattle.pw_flow.specs.declared.flow.FlowFn.{FlowFn}
 use Rattle.pw_flow.specs.declared.flow.FlowGlobal.{FlowGlobal}
 use Rattle.pw_flow.specs.declared.flow.FlowModule.{FlowModule}
-use Rattle.pw_flow.specs.FlowGraph.{named_in}
+use Rattle.pw_flow.specs.FlowGraph.{global_names, function_names, declared_names, named_in}
 use Rattle.pw_flow.specs.ValidFlow.{AreDistinct, IsValid}
 use Rattle.pw_lower.specs.Expressions.{lower}
 use Rattle.pw_lower.specs.Statements.{lower_statement}
-use Rattle.pw_lower.specs.Modules.{lowered, lowered_function}
+use Rattle.pw_lower.specs.Modules.{lowered, lowered_function, start_function}
 use Rattle.pw_cmean.specs.Worlds.{Callable, ProgramModule, function_named, full_name}
 use Rattle.pw_cmean.specs.Typed.{IsWellTyped}
 use Rattle.pw_run_flow.specs.Programs as flows
@@ -307,7 +307,7 @@ valid = record {
     ordinary = others start_name (named_in low) refl;
   };
   names = record {
-    distinct = record { defined = distinct _ refl; declared = distinct _ refl };
+    distinct = record { defined = distinct (global_names low ++ function_names low) refl; declared = distinct (declared_names low) refl };
     start = record {
       beside = (λ h. (1, omega arith, refl), λ h. (2, omega arith, refl));
       once = omega arith;
@@ -321,13 +321,13 @@ unfolding lower lower_statement lowered_function lowered
 lawful = record {
   modules = (valid, tt);
   order = (tt, tt);
-  names = distinct _ refl;
-  defined = each (λ (name : List ℕ). Contains (names_of graphs ++ map (λ g. g.name) (globals_of graphs)) name) (flat_map named_in graphs.modules)
+  names = distinct (names_of graphs ++ map (λ (g : FlowGlobal). g.name) (globals_of graphs)) refl;
+  defined = each (λ (name : List ℕ). Contains (names_of graphs ++ map (λ (g : FlowGlobal). g.name) (globals_of graphs)) name) (flat_map named_in graphs.modules)
       ((6, omega arith, refl), ((6, omega arith, refl), ((3, omega arith, refl), ((6, omega arith, refl), ((4, omega arith, refl), ((0, omega arith, refl), tt))))));
   ops = λ f o there. each (λ (f : FlowFn). Contains (ops_of f) o → NamesRightly graphs o) (functions_of graphs) (
-    λ inside. each (NamesRightly graphs) _ ((0, omega arith, refl), (tt, (tt, ((0, omega arith, refl), tt)))) o inside,
-    (λ inside. each (NamesRightly graphs) _ ((3, omega arith, refl), ((0, omega arith, refl), tt)) o inside,
-    (λ inside. each (NamesRightly graphs) _ ((4, omega arith, refl), ((0, omega arith, refl), tt)) o inside, tt)),
+    λ inside. each (NamesRightly graphs) (ops_of (lowered_function (codes "a") [] bump)) ((0, omega arith, refl), (tt, (tt, ((0, omega arith, refl), tt)))) o inside,
+    (λ inside. each (NamesRightly graphs) (ops_of (lowered_function (codes "a") [] main)) ((3, omega arith, refl), ((0, omega arith, refl), tt)) o inside,
+    (λ inside. each (NamesRightly graphs) (ops_of start_function) ((4, omega arith, refl), ((0, omega arith, refl), tt)) o inside, tt)),
   ) f there;
   items = λ g there. each (λ (g : FlowGlobal). AllByRecursion (λ i. IsItem graphs i.1) g.items) (globals_of graphs) (tt, tt) g there;
   start = (2, omega arith, refl);
