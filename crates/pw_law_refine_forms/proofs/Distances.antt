@@ -148,11 +148,11 @@ counted size i j hi hj whole = elim (cases_lt size (2 ^ 31)) [
     by_number : (z : ℤ) → z ≡ pos i +ℤ neg_ℤ (pos j) → 2 ^ 31 ≤ size → unsigned_abs z % size ≡ 0 → i ≡ j
     by_number (pos n) is more whole =
         let sum : n + j ≡ i = omega (arith, ints, is) in
-        let left : n % size ≡ n = mod-eq_of_lt (let less : n < size = omega (arith, sum, hi, more) in less) in
+        let left : n % size ≡ n = mod-eq_of_lt {n = n} {m = size} (omega (arith, sum, hi, more)) in
         omega (arith, sum, left, whole)
     by_number (negsuc n) is more whole =
         let sum : suc n + i ≡ j = omega (arith, ints, is) in
-        let left : suc n % size ≡ suc n = mod-eq_of_lt (let less : suc n < size = omega (arith, sum, hj, more) in less) in
+        let left : suc n % size ≡ suc n = mod-eq_of_lt {n = suc n} {m = size} (omega (arith, sum, hj, more)) in
         absurd (omega (arith, left, whole))
 
 -- the difference in bytes, and in elements
