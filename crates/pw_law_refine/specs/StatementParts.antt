@@ -1,6 +1,6 @@
 -- What the parts of statements promise: lists, the arms of an `if`, loops from their top, the locals of a block, their
 -- initialisers, and the comparisons of a `switch`. The promise of a statement rests on them.
-use Rattle.std.specs.Prelude.{ℕ, ◌≡◌, ◌≢◌, ◌+◌, ◌<◌, ◌≤◌, Bool, All, Option, Some, List, [], ◌++◌, length, Contains}
+use Rattle.std.specs.Prelude.{ℕ, ◌≡◌, ◌≢◌, ◌+◌, ◌<◌, ◌≤◌, Bool, true, All, Option, Some, None, List, [], ◌++◌, length, Contains}
 use Rattle.pw_value.specs.declared.value.Value.{Value}
 use Rattle.pw_types.specs.TypedTrees.{CaseValue, Initialiser, Statement, While, Do, For, Arms, Otherwise, Statements}
 use Rattle.pw_types.specs.TypeTrees.{CType}

@@ -26,43 +26,43 @@ use Rattle.pw_law_refine.specs.Expressions.{ResultStands}
 
 -- ---- labels
 
--- a label of a part, which has these and of them these as cases of its own switches, that is that of no such case
-abbrev pub IsOpen : (labels cases : List ℕ) → ℕ → Type 0
-IsOpen labels cases l = Contains labels l × ¬ Contains cases l
+-- a label of a part, which has labels of its own, of them some of the cases of its switches, that is that of no such case
+abbrev pub IsOpen : (own cased : List ℕ) → ℕ → Type 0
+IsOpen own cased l = Contains own l × ¬ Contains cased l
 
 -- The labels of the part are numbered as those of a well-typed function are. Those that a `goto` can name have the
 -- blocks behind the first, in the order of the text; behind these is a block that is no label's, and then those of the
 -- labels of cases. The blocks of those and of the labels that are open were given out before, and none of these last.
-pub record AreLabelled (x : Activation) (labels cases : List ℕ) (c : Code) : Type 0 where
-  pub once : IsDistinct nat_eq labels
-  pub one_use : IsDistinct nat_eq (x.function.named ++ cases)
-  pub below : All (λ l. l < x.function.labels) labels
+pub record AreLabelled (x : Activation) (own cased : List ℕ) (c : Code) : Type 0 where
+  pub once : IsDistinct nat_eq own
+  pub one_use : IsDistinct nat_eq (x.function.named ++ cased)
+  pub below : All (λ l. l < x.function.labels) own
   pub all : length c.labels ≡ x.function.labels
-  pub order : (before : List ℕ) × (behind : List ℕ) × (x.function.named ≡ before ++ filter (holds x.function.named) labels ++ behind)
+  pub order : (before : List ℕ) × (behind : List ℕ) × (x.function.named ≡ before ++ filter (holds x.function.named) own ++ behind)
   pub named : (l i : ℕ) → slice_get x.function.named i ≡ Some l → block_of_label c l ≡ i + 1
   pub first : length x.function.named < c.blocks
-  pub given : (l : ℕ) → IsOpen labels cases l → block_of_label c l + 1 < c.blocks
-  pub cases : (l : ℕ) → IsOpen labels cases l → ¬ Contains x.function.named l → length x.function.named + 1 < block_of_label c l
+  pub given : (l : ℕ) → IsOpen own cased l → block_of_label c l + 1 < c.blocks
+  pub cases : (l : ℕ) → IsOpen own cased l → ¬ Contains x.function.named l → length x.function.named + 1 < block_of_label c l
 
 -- ---- ways back
 
 -- Blocks that lie behind the part: the tops of the loops around it, and the labels that stand before it and that a
 -- `goto` can name. Each was given out before, and is not the next by number to any block in which the part may be left.
-pub record LieBehind (back labels cases : List ℕ) (c : Code) : Type 0 where
+pub record LieBehind (back own cased : List ℕ) (c : Code) : Type 0 where
   pub given : (b : ℕ) → Contains back b → b < c.blocks
   pub here : (b : ℕ) → Contains back b → c.cur + 1 ≢ b
-  pub labels : (b l : ℕ) → Contains back b → IsOpen labels cases l → block_of_label c l + 1 ≢ b
+  pub labels : (b l : ℕ) → Contains back b → IsOpen own cased l → block_of_label c l + 1 ≢ b
 
 -- ---- before the code
 
 -- A part of the active function, with these labels, locals whose address is taken, and initialisers, that is lowered
 -- from one code to another: the function's graph has its code, and the locals from a place on are not in scope.
-pub record IsPlaced (x : Activation) (numbers : Numbers) (from : ℕ) (back labels cases addressed : List ℕ) (initialisers : List Initialiser) (c d : Code) : Type 0 where
+pub record IsPlaced (x : Activation) (numbers : Numbers) (from : ℕ) (back own cased addressed : List ℕ) (initialisers : List Initialiser) (c d : Code) : Type 0 where
   pub slots : HaveSlots x addressed
   pub suits : All (SuitsLocal x.function.locals) initialisers
   pub scope : (k : ℕ) → from ≤ k → number_of numbers k ≡ None
-  pub labels : AreLabelled x labels cases c
-  pub behind : LieBehind back labels cases c
+  pub labels : AreLabelled x own cased c
+  pub behind : LieBehind back own cased c
   pub code : ContainsCode (graph_of x) d
   pub temps : local_temps x ≤ c.temps
 
@@ -76,9 +76,9 @@ pub record IsSet (x : Activation) (numbers : Numbers) (breaks continues : Bool) 
   pub placed : IsPlaced x numbers from back (labels_in a) (cases_in a) (addressed_in_statement a) (initialisers_in a) c (code_behind x ways a c)
 
 -- at its front the machine is behind the code so far, and at a label at the front of the label's block
-abbrev pub IsMet : FlowFn → (labels cases : List ℕ) → Code → Entry → Machine → Type 0
-IsMet g labels cases c Front m = IsBehind g c m
-IsMet g labels cases c (At_label l) m = IsOpen labels cases l × IsAt g (block_of_label c l) [] m
+abbrev pub IsMet : FlowFn → (own cased : List ℕ) → Code → Entry → Machine → Type 0
+IsMet g own cased c Front m = IsBehind g c m
+IsMet g own cased c (At_label l) m = IsOpen own cased l × IsAt g (block_of_label c l) [] m
 
 -- ---- behind it
 
@@ -117,10 +117,10 @@ pub record HasLeft (x : Activation) (numbers : Numbers) (spots : List Spot) (bac
 -- ---- the promise, at a bound
 
 -- of a part that is lowered from one code to another, and does this from where it is met
-abbrev pub PartKeeps : ℕ → Activation → Numbers → (back labels cases : List ℕ) → Ways → (ℕ → Machine → Type 0) → (Entry → Act Flow) → Code → Code → Type 0
-PartKeeps bound x numbers back labels cases ways ByGoto act c d =
+abbrev pub PartKeeps : ℕ → Activation → Numbers → (back own cased : List ℕ) → Ways → (ℕ → Machine → Type 0) → (Entry → Act Flow) → Code → Code → Type 0
+PartKeeps bound x numbers back own cased ways ByGoto act c d =
     (spots : List Spot) (entry : Entry) (s : State) (m : Machine) →
-    Related x numbers spots s m → IsMet (graph_of x) labels cases c entry m →
+    Related x numbers spots s m → IsMet (graph_of x) own cased c entry m →
     Meets x.world bound m (act entry s) (HasLeft x numbers spots back ways ByGoto d s m)
 
 abbrev pub StatementKeeps : ℕ → Statement → Type 0
