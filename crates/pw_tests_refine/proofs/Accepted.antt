@@ -62,11 +62,12 @@ other_firsts b (name ∷ names) = if first name == b then false else other_first
 
 others : (name : List ℕ) (names : List (List ℕ)) → other_firsts (first name) names ≡ true → AllByRecursion (λ other. other ≢ name) names
 others name [] h = tt
-others name (other ∷ names) h = by_test (first other == first name) refl h
+others name (other ∷ names) h = by_test (first other == first name) refl h (others name names)
   where
-    by_test : (b : Bool) → (first other == first name) ≡ b → (if b then false else other_firsts (first name) names) ≡ true → (other ≢ name) × AllByRecursion (λ other. other ≢ name) names
-    by_test true e h = absurd (true≢false (sym h))
-    by_test false e h = (λ same. true≢false (sym (eq-eqb (first other) (first name) (ap first same)) ∙ e), others name names h)
+    by_test : (b : Bool) → (first other == first name) ≡ b → (if b then false else other_firsts (first name) names) ≡ true
+        → (other_firsts (first name) names ≡ true → AllByRecursion (λ other. other ≢ name) names) → (other ≢ name) × AllByRecursion (λ other. other ≢ name) names
+    by_test true e h rest = absurd (true≢false (sym h))
+    by_test false e h rest = (λ same. true≢false (sym (eq-eqb (first other) (first name) (ap first same)) ∙ e), rest h)
 
 abbrev all_firsts : List (List ℕ) → Bool
 all_firsts [] = true
@@ -74,11 +75,11 @@ all_firsts (name ∷ names) = if other_firsts (first name) names then all_firsts
 
 distinct : (names : List (List ℕ)) → all_firsts names ≡ true → AreDistinct names
 distinct [] h = tt
-distinct (name ∷ names) h = by_test (other_firsts (first name) names) refl h
+distinct (name ∷ names) h = by_test (other_firsts (first name) names) refl h (distinct names)
   where
-    by_test : (b : Bool) → other_firsts (first name) names ≡ b → (if b then all_firsts names else false) ≡ true → AreDistinct (name ∷ names)
-    by_test true e h = (others name names e, distinct names h)
-    by_test false e h = absurd (true≢false (sym h))
+    by_test : (b : Bool) → other_firsts (first name) names ≡ b → (if b then all_firsts names else false) ≡ true → (all_firsts names ≡ true → AreDistinct names) → AreDistinct (name ∷ names)
+    by_test true e h rest = (others name names e, rest h)
+    by_test false e h rest = absurd (true≢false (sym h))
 
 -- the same of two
 differ : (a b : List ℕ) → (first a == first b) ≡ false → a ≢ b
@@ -126,7 +127,7 @@ sum_typed = (tt, (n_typed, one_typed, inl (refl, refl, refl)))
 
 more_typed : IsTyped tree [] one_more
 unfolding IsTyped HasForm
-more_typed = (tt, (n_typed, sum_typed, record { lvalue = tt; assigned = inl tt; complete = tt; changing = refl }, refl, refl))
+more_typed = (tt, (n_typed, sum_typed, record { lvalue = tt; assigned = inl tt; complete = refl; changing = refl }, refl, refl))
 
 call_typed : IsTyped tree [] call
 unfolding IsTyped HasForm

@@ -2,7 +2,9 @@
 -- bytes as the type has. Where the hidden object has fewer, C's meaning copies these and goes on, and the machine goes
 -- astray: such a state and machine do not match, whatever the spots. By computing the definitions.
 use Rattle.std.proofs.Common.{ℕ, ◌≡◌, ◌<◌, refl, true, false, Bool, arith, replicate, List, [], ◌∷◌, ◌++◌, Some, None}
-use Rattle.std.specs.Prelude.{codes}
+use Rattle.std.specs.Prelude.{codes, decimal}
+use Rattle.std.specs.Str.{bytes_eq}
+use Rattle.std.proofs.lemmas.Slice.Eq.{bytes_eq-Decides}
 use Rattle.pw_value.specs.declared.value.Value.TheVariants as V
 use Rattle.pw_value.specs.declared.value.Byte.TheVariants as B
 use Rattle.pw_value.specs.Objects.{Object, written}
@@ -98,13 +100,17 @@ machine size = record {
   moments = [];
 }
 
+-- the hidden object's name has its number in it
+own_name : bytes_eq (decimal 0) (decimal 0) ≡ true
+own_name = (bytes_eq-Decides (decimal 0) (decimal 0)).1 refl
+
 goes_on_in_c : initialise (Bytes 0 0 []) [] (env_of x (Some 1 ∷ [])) (state 3) ≡ Gives tt (record (state 3) { objects = written 1 0 (replicate 3 (B.Num 97)) (objects 3) })
 unfolding give stop go_on ◌>>=◌ wrong look write need undefined told judge within local_place symbol_place initialise
-goes_on_in_c = refl
+goes_on_in_c = rw own_name refl
 
 goes_astray : flow.steps (graphs world) 3 (On (machine 3)) ≡ Astray
 unfolding lower lower_statement lowered_function lowered command flow.step flow.steps
-goes_astray = refl
+goes_astray = rw own_name refl
 
 is_on : Step → Bool
 is_on (On m) = true
@@ -113,7 +119,7 @@ is_on s = false
 -- with all of its bytes the hidden object is copied
 goes_on : is_on (flow.steps (graphs world) 3 (On (machine 5))) ≡ true
 unfolding is_on lower lower_statement lowered_function lowered command flow.step flow.steps
-goes_on = refl
+goes_on = rw own_name refl
 
 do_not_match : (spots : List Spot) → Matches world spots (state 3) (machine 3) → ⊥
 unfolding lowered
