@@ -125,7 +125,7 @@ LocalsKeep bound =
     IsActivation x → first + count ≤ length x.function.locals → ((k : ℕ) → first ≤ k → number_of numbers k ≡ None) →
     Related x numbers spots s m →
     ((inner : Numbers) (more : List Spot) (t : State) → HaveBegun first count numbers inner → Related x inner more t m →
-        Meets x.world bound m (act (env_of x inner) t) (HasLeft x inner more back ways (GoesOut x back labels c) d t m)) →
+    Meets x.world bound m (act (env_of x inner) t) (HasLeft x inner more back ways (GoesOut x back labels c) d t m)) →
     Meets x.world bound m (with_locals count first act (env_of x numbers) s) (HasLeft x numbers spots back ways (GoesOut x back labels c) d s m)
 
 -- the code of an initialiser
