@@ -162,11 +162,15 @@ offset_of _ = 0
 abbrev pub distance : Value → Value → ℤ
 distance p q = pos (offset_of p) -ℤ pos (offset_of q)
 
+-- so many bytes are no number of elements of a size; elements without bytes cannot be counted
+abbrev pub are_no_elements : ℕ → ℕ → Bool
+are_no_elements size bytes = size == 0 || not (bytes % size == 0)
+
 -- how many elements lie between (6.3.6)
 unfoldable pub difference : Site → ℕ → Value → Value → Act Value
 difference site size p q = do
   objects ← objects_now
-  judge site (U.EndedObject when (is_ended objects p || is_ended objects q) ∷ U.DifferentObjects when not (into_one_object p q) ∷ U.PointerDifference when not (unsigned_abs (distance p q) % size == 0) ∷ [])
+  judge site (U.EndedObject when (is_ended objects p || is_ended objects q) ∷ U.DifferentObjects when not (into_one_object p q) ∷ U.PointerDifference when are_no_elements size (unsigned_abs (distance p q)) ∷ [])
   outcome_of site (exact (int_div (distance p q) (pos size)))
 
 -- pointers into one object are in the order of their offsets (6.3.8)

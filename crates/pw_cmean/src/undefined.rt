@@ -29,7 +29,7 @@ pub enum Undef {
     PointerArithmetic,
     /// An order or a difference of pointers that are not into one object.
     DifferentObjects,
-    /// A difference of pointers that is no multiple of the size of an element.
+    /// A difference of pointers that is no multiple of the size of an element, or whose elements have no bytes.
     PointerDifference,
     /// A call of a value that is no function.
     NotAFunction,

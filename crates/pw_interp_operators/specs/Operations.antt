@@ -1,5 +1,5 @@
 -- What operators and conversions come to, as functions of the objects.
-use Rattle.std.specs.Prelude.{ℕ, ℤ, pos, int_div, unsigned_abs, ◌%◌, ◌*ℤ◌, ◌==◌, ◌&&◌, ◌||◌, Bool, true, false, not, if◌then◌else◌, Option, Some, None, is_none, unwrap_or, Result, Ok, Err, List, [], ◌∷◌}
+use Rattle.std.specs.Prelude.{ℕ, ℤ, pos, int_div, unsigned_abs, ◌*ℤ◌, ◌==◌, ◌&&◌, ◌||◌, Bool, true, false, not, if◌then◌else◌, Option, Some, None, is_none, unwrap_or, Result, Ok, Err, List, [], ◌∷◌}
 use Rattle.pw_value.specs.declared.value.Value.{Value}
 use Rattle.pw_value.specs.declared.value.Value.TheVariants as V
 use Rattle.pw_value.specs.Objects.{Object}
@@ -15,7 +15,7 @@ use Rattle.pw_types.specs.declared.tree.BinaryOperator.{BinaryOperator}
 use Rattle.pw_types.specs.declared.tree.BinaryOperator.TheVariants.{Add, Subtract, Less, Greater, LessEqual, GreaterEqual, Equal, NotEqual}
 use Rattle.pw_cmean.specs.declared.undefined.Undef.TheVariants as U
 use Rattle.pw_cmean.specs.Undefined.{Finding, ◌when◌}
-use Rattle.pw_cmean.specs.Operators.{number_for, is_piece, is_ended, unlike_zero, arithmetic, negation, moved, integer, into_one_object, offset_of, distance, same, as_pointer}
+use Rattle.pw_cmean.specs.Operators.{number_for, is_piece, is_ended, unlike_zero, arithmetic, negation, moved, integer, into_one_object, offset_of, distance, are_no_elements, same, as_pointer}
 use Rattle.pw_interp_operators.specs.declared.category.Category.{Category}
 use Rattle.pw_interp_operators.specs.declared.category.Category.TheVariants as C
 use Rattle.pw_interp_operators.specs.declared.fault.Fault.{Fault}
@@ -82,7 +82,7 @@ elements_by objects (Some layout) back p kind v = moved_by objects (element_byte
 
 abbrev pub subtracted : List Object → ℕ → Value → Value → Result Value Fault
 subtracted objects size p q =
-    judged (U.EndedObject when (is_ended objects p || is_ended objects q) ∷ U.DifferentObjects when not (into_one_object p q) ∷ U.PointerDifference when not (unsigned_abs (distance p q) % size == 0) ∷ [])
+    judged (U.EndedObject when (is_ended objects p || is_ended objects q) ∷ U.DifferentObjects when not (into_one_object p q) ∷ U.PointerDifference when are_no_elements size (unsigned_abs (distance p q)) ∷ [])
     (word_answer (exact (int_div (distance p q) (pos size))))
 
 abbrev pub ordered_by : List Object → BinaryOperator → Value → Value → Result Value Fault

@@ -1,6 +1,6 @@
 //! Operators on pointers (ISO C90 6.3.6, 6.3.8, 6.3.9).
 
-ghost use Rattle.std.specs.Prelude.{◌≡◌, ◌-ℤ◌, ◌%◌, ◌/◌, ◌==◌, pos, not, int_div, unsigned_abs};
+ghost use Rattle.std.specs.Prelude.{◌≡◌, ◌-ℤ◌, ◌/◌, pos, int_div, unsigned_abs};
 ghost use Rattle.pw_value.specs.Values.{same_pointer};
 ghost use Rattle.pw_value.specs.Words.{exact};
 ghost use Rattle.pw_cmean.specs.Operators as meaning;
@@ -146,27 +146,22 @@ fn quotient(p: u32, q: u32, size: u32) -> Result<u32, WordFault>
     }
 }
 
-/// Whether so many bytes are no multiple of a size.
-#[tactic(auto, using(crate::proofs::ByteLemmas::mod_none))]
-fn leaves(bytes: u32, size: u32) -> bool
-    ensures { result ≡ not (bytes % size == 0) }
+/// Whether so many bytes are no number of elements of a size.
+fn are_no_elements(size: u32, bytes: u32) -> bool
+    ensures { result ≡ meaning.are_no_elements size bytes }
 {
-    if size == 0 {
-        bytes != 0
-    } else {
-        bytes % size != 0
-    }
+    size == 0 || bytes % size != 0
 }
 
-/// Whether a distance is no multiple of a size.
+/// Whether a distance is no number of elements of a size.
 #[tactic(auto, using(crate::proofs::MoveLemmas::abs_on, crate::proofs::MoveLemmas::abs_back))]
-fn is_no_multiple(p: u32, q: u32, size: u32) -> bool
-    ensures { result ≡ not (unsigned_abs (pos p -ℤ pos q) % size == 0) }
+fn is_uncounted(size: u32, p: u32, q: u32) -> bool
+    ensures { result ≡ meaning.are_no_elements size (unsigned_abs (pos p -ℤ pos q)) }
 {
     if q <= p {
-        leaves(p - q, size)
+        are_no_elements(size, p - q)
     } else {
-        leaves(q - p, size)
+        are_no_elements(size, q - p)
     }
 }
 
@@ -175,8 +170,8 @@ fn difference(objects: &Objects, size: u32, p: Value, q: Value) -> Result<Value,
     ensures { result ≡ spec.subtracted objects.now size p q }
 {
     let ended = is_ended(objects, p) || is_ended(objects, q);
-    let no_multiple = is_no_multiple(offset_of(p), offset_of(q), size);
-    let found = when(Undef::PointerDifference, no_multiple, None);
+    let uncounted = is_uncounted(size, offset_of(p), offset_of(q));
+    let found = when(Undef::PointerDifference, uncounted, None);
     let found = when(Undef::DifferentObjects, !into_one_object(p, q), found);
     judge(when(Undef::EndedObject, ended, found))?;
     word_answer(quotient(offset_of(p), offset_of(q), size))

@@ -1,9 +1,10 @@
--- How many elements lie between two pointers, where elements have bytes (C90 6.3.6).
-use Rattle.std.proofs.Common.{◌≡◌, ◌≢◌, ℕ, suc, ◌+◌, ◌-◌, ◌/◌, ◌%◌, ◌^◌, ◌<◌, ◌==◌, ◌||◌, Bool, true, false, not, true≢false, eq-eqb, ne_eqb, eqb-true, if◌then◌else◌, Option, Some, None, unwrap_or, option_map, List, [], ◌∷◌, refl, ap, ap₂, sym, ◌∙◌, subst, arith}
+-- How many elements lie between two pointers (C90 6.3.6).
+use Rattle.std.proofs.Common.{◌≡◌, ◌≢◌, ℕ, zero, suc, ◌+◌, ◌-◌, ◌/◌, ◌%◌, ◌^◌, ◌<◌, ◌≤◌, ◌⊎◌, inl, inr, ◌==◌, ◌||◌, Bool, true, false, not, true≢false, eq-eqb, ne_eqb, eqb-true, if◌then◌else◌, Option, Some, None, unwrap_or, option_map, List, [], ◌∷◌, refl, ap, ap₂, sym, ◌∙◌, subst, arith}
 use Rattle.std.specs.Prelude.{ℤ, pos, negsuc, neg_ℤ, ◌+ℤ◌, ◌-ℤ◌, int_div, unsigned_abs, FitsSigned, Result, Ok, Err}
 use Rattle.std.specs.Int.{w32, cast_signed, int_wrap}
 use Rattle.std.proofs.lemmas.Int.{ints, of_z-to_z, int_wrap_fits, wrapping_sub-bits}
-use Rattle.std.proofs.lemmas.Bool.{not-false, or_parts}
+use Rattle.std.proofs.Math.Nat.{mod-eq_of_lt, zero-div}
+use Rattle.std.proofs.lemmas.Bool.{cases_lt, not-false, or_parts}
 use Rattle.pw_value.specs.Objects.{Object, object_at}
 use Rattle.pw_value.specs.Words.{fits, word, exact}
 use Rattle.pw_value.specs.declared.words.WordFault.{WordFault}
@@ -36,7 +37,7 @@ use Rattle.pw_law_refine.specs.Activations.{Activation, Numbers, graphs, graph_o
 use Rattle.pw_law_refine.specs.Containing.{ContainsCode}
 use Rattle.pw_law_refine.specs.Meeting.{Reaches, Meets}
 use Rattle.pw_law_refine.specs.Expressions.{IsReady, HasValue}
-use Rattle.pw_law_refine_forms.specs.Operands.{BothStand, AppliesAt, HasElements}
+use Rattle.pw_law_refine_forms.specs.Operands.{BothStand, Applies}
 use Rattle.pw_law_refine_forms.proofs.Bytes.{same-object}
 use Rattle.pw_law_refine_forms.proofs.Laws.{Laws}
 use Rattle.pw_law_refine_forms.proofs.Simulation.{judged-then}
@@ -107,10 +108,57 @@ with-number laws x numbers spots k number y s m a ready given holds does =
       holds = value-then laws x numbers spots [] z (with k q z) d s s s m n g.machine (Some (V.Num number)) (Some (V.Num a)) ready.related (omega arith) h g.holds;
     })
 
+positive : (n : ℕ) → n ≢ 0 → 0 < n
+positive zero ne = absurd (ne refl)
+positive (suc n) ne = omega arith
+
+-- Nothing divided by a number is nothing.
+nothing-divided : (z : ℤ) → int_div (pos 0) z ≡ pos 0
+nothing-divided (pos n) = ap pos (zero-div n)
+nothing-divided (negsuc n) = ap (λ (k : ℕ). neg_ℤ (pos k)) (zero-div (suc n))
+
+-- a number is no distance from itself
+no-distance : (i j : ℕ) → i ≡ j → pos i -ℤ pos j ≡ pos 0
+no-distance i j e = by_number (pos i +ℤ neg_ℤ (pos j)) refl
+  where
+    by_number : (z : ℤ) → z ≡ pos i +ℤ neg_ℤ (pos j) → z ≡ pos 0
+    by_number (pos n) is = let none : n ≡ 0 = omega (arith, ints, is, e) in ap pos none
+    by_number (negsuc n) is = absurd (omega (arith, ints, is, e))
+
+-- A size is a positive int, or there is nothing between the two places: an element of 2^31 bytes and more lies in no
+-- object.
+abbrev IsCounted : ℕ → ℕ → ℕ → Type 0
+IsCounted size i j = (size < 2 ^ 31) ⊎ (i ≡ j)
+
+-- so the size may be read as an int
+same-quotient : (size i j : ℕ) → IsCounted size i j → int_div (pos i -ℤ pos j) (cast_signed w32 size) ≡ int_div (pos i -ℤ pos j) (pos size)
+same-quotient size i j (inl few) = ap (λ (z : ℤ). int_div (pos i -ℤ pos j) z) (low-signed size few)
+same-quotient size i j (inr e) =
+    let none = no-distance i j e in
+    ap (λ (y : ℤ). int_div y (cast_signed w32 size)) none ∙ nothing-divided (cast_signed w32 size) ∙ sym (nothing-divided (pos size))
+    ∙ ap (λ (y : ℤ). int_div y (pos size)) (sym none)
+
+-- what has a multiple of the size between them
+counted : (size i j : ℕ) → i < 2 ^ 31 → j < 2 ^ 31 → unsigned_abs (pos i -ℤ pos j) % size ≡ 0 → IsCounted size i j
+counted size i j hi hj whole = elim (cases_lt size (2 ^ 31)) [
+  | inl few ↦ inl few
+  | inr more ↦ inr (by_number (pos i +ℤ neg_ℤ (pos j)) refl more whole)
+]
+  where
+    by_number : (z : ℤ) → z ≡ pos i +ℤ neg_ℤ (pos j) → 2 ^ 31 ≤ size → unsigned_abs z % size ≡ 0 → i ≡ j
+    by_number (pos n) is more whole =
+        let sum : n + j ≡ i = omega (arith, ints, is) in
+        let left : n % size ≡ n = mod-eq_of_lt {n = n} {m = size} (omega (arith, sum, hi, more)) in
+        omega (arith, sum, left, whole)
+    by_number (negsuc n) is more whole =
+        let sum : suc n + i ≡ j = omega (arith, ints, is) in
+        let left : suc n % size ≡ suc n = mod-eq_of_lt {n = suc n} {m = size} (omega (arith, sum, hj, more)) in
+        absurd (omega (arith, left, whole))
+
 -- the difference in bytes, and in elements
 lies-apart :
     Laws → (x : Activation) (numbers : Numbers) (spots : List Spot) (size p q : ℕ) (d : Code) (u : State) (m : Machine) (f i j a : ℕ) (b : Bool)
-    → (size == 1) ≡ b → 0 < size → size < 2 ^ 31 → i < 2 ^ 31 → j < 2 ^ 31 → IsReady x numbers spots d u m
+    → (size == 1) ≡ b → 0 < size → IsCounted size i j → i < 2 ^ 31 → j < 2 ^ 31 → IsReady x numbers spots d u m
     → value_in m.frame p ≡ V.At (P.Object f i) → value_in m.frame q ≡ V.At (P.Object f j) → exact (int_div (pos i -ℤ pos j) (pos size)) ≡ Ok a
     → ContainsCode (graph_of x) (let less = fresh (λ t. op.Bin Sub t p q) d in if b then less else with DivS (temp_of less) (constant size less.code)).code
     → Reaches (graphs x.world) m (HasValue x numbers spots [] (let less = fresh (λ t. op.Bin Sub t p q) d in if b then less else with DivS (temp_of less) (constant size less.code)) d u m (Some (V.Num a)) u)
@@ -136,7 +184,7 @@ lies-apart laws x numbers spots size p q d u m f i j a false is some few hi hj r
     let n = r.machine in
     let divides : flow.on_numbers DivS w size ≡ Some (V.Num a) =
     ap (λ (t : Bool). flow.number_of (if t then Err ZeroDivisor else exact (int_div (cast_signed w32 w) (cast_signed w32 size)))) (ne_eqb size 0 (λ zero-is. omega (arith, some, zero-is)))
-    ∙ ap₂ (λ (y z : ℤ). flow.number_of (exact (int_div y z))) (signed-less i j hi hj) (low-signed size few) ∙ ap (λ (o : Result ℕ WordFault). flow.number_of o) e in
+    ∙ ap (λ (y : ℤ). flow.number_of (exact (int_div y (cast_signed w32 size)))) (signed-less i j hi hj) ∙ ap (λ (y : ℤ). flow.number_of (exact y)) (same-quotient size i j few) ∙ ap (λ (o : Result ℕ WordFault). flow.number_of o) e in
     let g = with-number laws x numbers h.done.later.spots DivS size less u n a (record { related = h.done.later.related; behind = h.behind; temps = omega (arith, ready.temps) }) (omega arith) holds
     (λ objects. ap (λ (v : Value). flow.binary objects DivS v (V.Num size)) h.stands ∙ divides) in
     reaches-then laws x m n r.count (HasValue x numbers spots [] z d u m (Some (V.Num a)) u) r.comes
@@ -152,14 +200,18 @@ lies-apart laws x numbers spots size p q d u m f i j a false is some few hi hj r
 -- behind two pointers into one object
 distances :
     Laws → (bound : ℕ) (x : Activation) (numbers : Numbers) (spots : List Spot) (at : Site) (size p q : ℕ) (d : Code) (v w : Value) (u : State) (m : Machine)
-    → 0 < size → size < 2 ^ 31 → BothStand x numbers spots p q d v w u m → ContainsCode (graph_of x) (distance size p q d).code
+    → BothStand x numbers spots p q d v w u m → ContainsCode (graph_of x) (distance size p q d).code
     → Meets x.world bound m ((source.difference at size v w >>= λ result. give (Some result)) u) (HasValue x numbers spots [] (distance size p q d) d u m)
 unfolding source.difference objects_now look give ◌>>=◌ go_on outcome_of undefined stop
-distances laws bound x numbers spots at size p q d v w u m some few both holds =
-    judged-then x.world bound m at (U.EndedObject when (is_ended u.objects v || is_ended u.objects w) ∷ U.DifferentObjects when not (into_one_object v w) ∷ U.PointerDifference when not (unsigned_abs (source.distance v w) % size == 0) ∷ []) (outcome_of at (exact (int_div (source.distance v w) (pos size)))) (λ result. give (Some result)) u (HasValue x numbers spots [] (distance size p q d) d u m) (λ none.
-    let rest = U.PointerDifference when not (unsigned_abs (source.distance v w) % size == 0) ∷ [] in
+distances laws bound x numbers spots at size p q d v w u m both holds =
+    judged-then x.world bound m at (U.EndedObject when (is_ended u.objects v || is_ended u.objects w) ∷ U.DifferentObjects when not (into_one_object v w) ∷ U.PointerDifference when source.are_no_elements size (unsigned_abs (source.distance v w)) ∷ []) (outcome_of at (exact (int_div (source.distance v w) (pos size)))) (λ result. give (Some result)) u (HasValue x numbers spots [] (distance size p q d) d u m) (λ none.
+    let rest = U.PointerDifference when source.are_no_elements size (unsigned_abs (source.distance v w)) ∷ [] in
     let a = first-false U.EndedObject (is_ended u.objects v || is_ended u.objects w) (U.DifferentObjects when not (into_one_object v w) ∷ rest) none in
     let b = first-false U.DifferentObjects (not (into_one_object v w)) rest a.1 in
+    let e = first-false U.PointerDifference (source.are_no_elements size (unsigned_abs (source.distance v w))) [] b.1 in
+    let parts = or_parts (size == 0) (not (unsigned_abs (source.distance v w) % size == 0)) e.0 in
+    let some : size ≢ 0 = λ (h : size ≡ 0). true≢false (sym (eq-eqb size 0 h) ∙ parts.0) in
+    let whole : unsigned_abs (source.distance v w) % size ≡ 0 = eqb-true (unsigned_abs (source.distance v w) % size) 0 (not-false (unsigned_abs (source.distance v w) % size == 0) parts.1) in
     let one = into-one v w (not-false (into_one_object v w) b.0) in
     let lives = or_parts (is_ended u.objects v) (is_ended u.objects w) a.0 in
     let live = not-false (object_at u.objects one.object).live (ap (λ (z : Value). is_ended u.objects z) (sym one.first) ∙ lives.0) in
@@ -173,25 +225,24 @@ distances laws bound x numbers spots at size p q d v w u m some few both holds =
     let own-i = (both.ready.related.matches.memory.holds one.object f sv.1.size live sv.1.there).own_size in
     let own-j = (both.ready.related.matches.memory.holds one.object sw.1.object sw.1.size live sw.1.there).own_size in
     let z-is : source.distance v w ≡ pos one.i -ℤ pos one.j = ap₂ (λ (y z : Value). source.distance y z) one.first one.second in
-    by_outcome f one.i one.j (omega (arith, sv.1.inside, own-i, small)) (omega (arith, sw.1.inside, own-j, small)) vp vq (exact (int_div (source.distance v w) (pos size))) (ap (λ (z : ℤ). exact (int_div z (pos size))) (sym z-is)))
+    by_outcome f one.i one.j (positive size some) (subst (λ (z : ℤ). unsigned_abs z % size ≡ 0) z-is whole) (omega (arith, sv.1.inside, own-i, small)) (omega (arith, sw.1.inside, own-j, small)) vp vq (exact (int_div (source.distance v w) (pos size))) (ap (λ (z : ℤ). exact (int_div z (pos size))) (sym z-is)))
   where
-    by_outcome : (f i j : ℕ) → i < 2 ^ 31 → j < 2 ^ 31 → value_in m.frame p ≡ V.At (P.Object f i) → value_in m.frame q ≡ V.At (P.Object f j)
+    by_outcome : (f i j : ℕ) → 0 < size → unsigned_abs (pos i -ℤ pos j) % size ≡ 0 → i < 2 ^ 31 → j < 2 ^ 31 → value_in m.frame p ≡ V.At (P.Object f i) → value_in m.frame q ≡ V.At (P.Object f j)
         → (r : Result ℕ WordFault) → exact (int_div (pos i -ℤ pos j) (pos size)) ≡ r
         → Meets x.world bound m ((outcome_of at r >>= λ result. give (Some result)) u) (HasValue x numbers spots [] (distance size p q d) d u m)
-    by_outcome f i j hi hj vp vq (Ok a) e = lies-apart laws x numbers spots size p q d u m f i j a (size == 1) refl some few hi hj both.ready vp vq e holds
-    by_outcome f i j hi hj vp vq (Err Overflow) e = tt
-    by_outcome f i j hi hj vp vq (Err ZeroDivisor) e = tt
-    by_outcome f i j hi hj vp vq (Err ShiftCount) e = tt
+    by_outcome f i j some whole hi hj vp vq (Ok a) e = lies-apart laws x numbers spots size p q d u m f i j a (size == 1) refl some (counted size i j hi hj whole) hi hj both.ready vp vq e holds
+    by_outcome f i j some whole hi hj vp vq (Err Overflow) e = tt
+    by_outcome f i j some whole hi hj vp vq (Err ZeroDivisor) e = tt
+    by_outcome f i j some whole hi hj vp vq (Err ShiftCount) e = tt
 
-pub distance-applies : Laws → (bound : ℕ) (left right : QType) (x : Activation) → HasElements x left → AppliesAt x bound B.Subtract (PointerTo left) (PointerTo right)
+pub distance-applies : Laws → (bound : ℕ) (left right : QType) → Applies bound B.Subtract (PointerTo left) (PointerTo right)
 unfolding source.binary source.on_pointers source.difference need give stop wrong ◌>>=◌ go_on
-distance-applies laws bound (Qualified ty c v) (Qualified to k l) x elements numbers spots at p q d first second u m given-p given-q tv tw both holds = by_layout (layout_of x.home.tree.records ty) refl
+distance-applies laws bound (Qualified ty c v) (Qualified to k l) x numbers spots at p q d first second u m given-p given-q tv tw both holds = by_layout (layout_of x.home.tree.records ty) refl
   where
     by_layout : (r : Option Layout) → layout_of x.home.tree.records ty ≡ r
         → Meets x.world bound m (((need r >>= λ layout. source.difference at layout.size first second) >>= λ result. give (Some result)) u) (HasValue x numbers spots [] (distance (bytes_of x.home.tree.records ty) p q d) d u m)
     by_layout None e = tt
     by_layout (Some layout) e =
         let size-is : bytes_of x.home.tree.records ty ≡ layout.size = ap (λ (r : Option Layout). unwrap_or (option_map (λ (l : Layout). l.size) r) 0) e in
-        let has = elements layout e in
         subst (λ (n : ℕ). Meets x.world bound m ((source.difference at layout.size first second >>= λ result. give (Some result)) u) (HasValue x numbers spots [] (distance n p q d) d u m)) (sym size-is)
-        (distances laws bound x numbers spots at layout.size p q d first second u m has.0 has.1 both (subst (λ (n : ℕ). ContainsCode (graph_of x) (distance n p q d).code) size-is holds))
+        (distances laws bound x numbers spots at layout.size p q d first second u m both (subst (λ (n : ℕ). ContainsCode (graph_of x) (distance n p q d).code) size-is holds))

@@ -30,5 +30,4 @@ mod Sums
 mod Members
 mod Moves
 mod Distances
-mod Elements
 mod Plain

@@ -1,6 +1,6 @@
 -- A pointer plus or minus a number, and the difference of two pointers, as expressions (C90 6.3.6).
 use Rattle.std.proofs.Common.{◌≡◌, ℕ, ◌==◌, Bool, true, false, if◌then◌else◌, sym, ◌∙◌, subst}
-use Rattle.pw_types.specs.TypeTrees.{CType, Int, Pointer as PointerTo, QType, Qualified, type_of}
+use Rattle.pw_types.specs.TypeTrees.{CType, Int, Pointer as PointerTo, QType, Qualified}
 use Rattle.pw_types.specs.declared.kind.IntKind.{IntKind}
 use Rattle.pw_types.specs.declared.tree.BinaryOperator.{BinaryOperator}
 use Rattle.pw_types.specs.declared.tree.BinaryOperator.TheVariants as B
@@ -16,7 +16,6 @@ use Rattle.pw_lower.specs.Operators.{bytes_of, with, scaled, moved_by, distance}
 use Rattle.pw_law_refine.specs.Activations.{Activation, IsActivation, graph_of}
 use Rattle.pw_law_refine.specs.Containing.{ContainsCode}
 use Rattle.pw_law_refine.specs.Expressions.{ExpressionKeeps}
-use Rattle.pw_law_refine_forms.specs.Accesses.{IsElement}
 use Rattle.pw_law_refine_forms.specs.Operands.{AppliesAt}
 use Rattle.pw_law_refine_forms.proofs.Laws.{Laws}
 use Rattle.pw_law_refine_forms.proofs.Kit.{before-fresh}
@@ -24,7 +23,6 @@ use Rattle.pw_law_refine_forms.proofs.Truths.{scalar-not-void}
 use Rattle.pw_law_refine_forms.proofs.Compare.{HasOperands, binary-keeps}
 use Rattle.pw_law_refine_forms.proofs.Sums.{pointer-sum, number-sum, pointer-difference}
 use Rattle.pw_law_refine_forms.proofs.Distances.{distance-applies}
-use Rattle.pw_law_refine_forms.proofs.Elements.{has-elements}
 
 -- ---- the code of the operands
 
@@ -82,8 +80,8 @@ pub less-keeps : Laws → (bound t : ℕ) (ty : QType) (a b : Expression) (left 
     → ExpressionKeeps bound a → ExpressionKeeps bound b → ExpressionKeeps bound (Node t ty (Binary B.Subtract a b))
 less-keeps laws bound t ty a b left kind l r first second = typed-keeps laws bound t ty B.Subtract a b (PointerTo left) (Int kind) tt tt l r (λ x active. pointer-difference laws bound left kind x) (less-operands left kind) first second
 
-pub distance-keeps : Laws → (bound t : ℕ) (ty : QType) (a b : Expression) (left right : QType) → IsElement (type_of left) → type_in a ≡ PointerTo left → type_in b ≡ PointerTo right
+pub distance-keeps : Laws → (bound t : ℕ) (ty : QType) (a b : Expression) (left right : QType) → type_in a ≡ PointerTo left → type_in b ≡ PointerTo right
     → ExpressionKeeps bound a → ExpressionKeeps bound b → ExpressionKeeps bound (Node t ty (Binary B.Subtract a b))
-distance-keeps laws bound t ty a b (Qualified element c v) right is l r first second =
-    typed-keeps laws bound t ty B.Subtract a b (PointerTo (Qualified element c v)) (PointerTo right) tt tt l r
-    (λ x active. distance-applies laws bound (Qualified element c v) right x (has-elements x active element c v is)) (distance-operands (Qualified element c v) right) first second
+distance-keeps laws bound t ty a b left right l r first second =
+    typed-keeps laws bound t ty B.Subtract a b (PointerTo left) (PointerTo right) tt tt l r
+    (λ x active. distance-applies laws bound left right x) (distance-operands left right) first second

@@ -225,7 +225,7 @@ move-plain : Laws → (bound t : ℕ) (ty : QType) (o : BinaryOperator) (a b : E
 move-plain laws bound t ty B.Add a b (inl h) first second = let k = int-of (type_in b) h.1 in sum-keeps laws bound t ty a b h.0.0 k.0 h.0.1 k.1 first second
 move-plain laws bound t ty B.Add a b (inr h) first second = let k = int-of (type_in a) h.0 in turned-sum-keeps laws bound t ty a b h.1.0 k.0 k.1 h.1.1 first second
 move-plain laws bound t ty B.Subtract a b (inl h) first second = let k = int-of (type_in b) h.1 in less-keeps laws bound t ty a b h.0.0 k.0 h.0.1 k.1 first second
-move-plain laws bound t ty B.Subtract a b (inr h) first second = distance-keeps laws bound t ty a b h.0.0 h.1.0 h.0.2 h.0.1 h.1.1 first second
+move-plain laws bound t ty B.Subtract a b (inr h) first second = distance-keeps laws bound t ty a b h.0.0 h.1.0 h.0.1 h.1.1 first second
 move-plain laws bound t ty o a b h first second = absurd h
 
 binary-plain : Laws → FormLaws → (bound t : ℕ) (ty : QType) (o : BinaryOperator) (a b : Expression) → (IsArithmetic (type_in a) × IsArithmetic (type_in b)) ⊎ IsComparison o ⊎ IsMove o (type_in a) (type_in b)

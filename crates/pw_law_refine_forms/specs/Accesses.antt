@@ -2,7 +2,7 @@
 use Rattle.std.specs.Prelude.{ℕ, ◌≡◌, ◌⊎◌, ◌<◌, ◌≤◌, pos, true, Some, List, [], slice_get, Contains}
 use Rattle.pw_value.specs.declared.value.Kind.{Kind}
 use Rattle.pw_value.specs.declared.value.Value.{Value}
-use Rattle.pw_types.specs.TypeTrees.{CType, Int, Pointer, Record, QType, type_of}
+use Rattle.pw_types.specs.TypeTrees.{CType, type_of}
 use Rattle.pw_types.specs.TypedTrees.{Expression, LocalValue}
 use Rattle.pw_types.specs.WellTyped.{IsTyped, IsArithmetic, IsLvalue, IsPointer, IsScalar, type_in}
 use Rattle.pw_types.specs.declared.tree.BinaryOperator.{BinaryOperator}
@@ -68,21 +68,10 @@ IsComparison Equal = Unit {0}
 IsComparison NotEqual = Unit {0}
 IsComparison _ = ⊥
 
--- scalars, structures and unions: what is of such a type has some bytes
-abbrev pub IsElement : CType → Type 0
-IsElement (Int kind) = Unit {0}
-IsElement (Pointer target) = Unit {0}
-IsElement (Record number) = Unit {0}
-IsElement _ = ⊥
-
--- a pointer to such a type
-abbrev pub PointsToElement : CType → Type 0
-PointsToElement ty = (q : QType) × (ty ≡ Pointer q) × IsElement (type_of q)
-
 -- the operators on a pointer and a number, or on two pointers, by the types of their operands (6.3.6)
 abbrev pub IsMove : BinaryOperator → CType → CType → Type 0
 IsMove Add left right = (IsPointer left × IsArithmetic right) ⊎ (IsArithmetic left × IsPointer right)
-IsMove Subtract left right = (IsPointer left × IsArithmetic right) ⊎ (PointsToElement left × IsPointer right)
+IsMove Subtract left right = (IsPointer left × IsArithmetic right) ⊎ (IsPointer left × IsPointer right)
 IsMove _ left right = ⊥
 
 -- ---- lvalues

@@ -1,9 +1,7 @@
 -- What binary operators promise behind both of their operands.
-use Rattle.std.specs.Prelude.{ℕ, ◌≡◌, ◌<◌, ◌^◌, Some, List, []}
+use Rattle.std.specs.Prelude.{ℕ, ◌<◌, Some, List, []}
 use Rattle.pw_value.specs.declared.value.Value.{Value}
-use Rattle.pw_types.specs.TypeTrees.{CType, QType, type_of}
-use Rattle.pw_types.specs.Layouts.{layout_of}
-use Rattle.pw_types.specs.declared.record.Layout.{Layout}
+use Rattle.pw_types.specs.TypeTrees.{CType}
 use Rattle.pw_types.specs.declared.tree.BinaryOperator.{BinaryOperator}
 use Rattle.pw_lower.specs.declared.code.Code.{Code}
 use Rattle.pw_lower.specs.Operators.{combined}
@@ -32,7 +30,3 @@ AppliesAt x bound o left right =
 
 abbrev pub Applies : ℕ → BinaryOperator → CType → CType → Type 0
 Applies bound o left right = (x : Activation) → AppliesAt x bound o left right
-
--- what pointers of a type lead to has some bytes, and is small
-abbrev pub HasElements : Activation → QType → Type 0
-HasElements x q = (l : Layout) → layout_of x.home.tree.records (type_of q) ≡ Some l → (0 < l.size) × (l.size < 2 ^ 31)

@@ -1,5 +1,4 @@
--- Expressions without calls, without names of functions, in which no two pointers to arrays are subtracted and no
--- pointer is updated.
+-- Expressions without calls, without names of functions, in which no pointer is updated.
 use Rattle.std.specs.Prelude.{◌⊎◌}
 use Rattle.pw_types.specs.TypedTrees.{Expression, Node, Form, Number, Str, Local, Global, Function, Unary, Binary, Logic, Cond, Comma, Assign, Compound, Step, Cast, Decay, Member, Deref, Address, Call, CallValue}
 use Rattle.pw_types.specs.WellTyped.{IsArithmetic, type_in}

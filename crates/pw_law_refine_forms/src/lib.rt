@@ -12,10 +12,9 @@ ghost use Rattle.pw_types.specs.declared.tree.BinaryOperator.{BinaryOperator};
 ghost use Rattle.pw_types.specs.declared.tree.BinaryOperator.TheVariants.{Add, Subtract};
 ghost use Rattle.pw_types.specs.declared.tree.LogicOperator.TheVariants.{And, Or};
 ghost use Rattle.pw_types.specs.declared.tree.UnaryOperator.TheVariants.{Not};
-ghost use Rattle.pw_law_refine.specs.Activations.{Activation};
 ghost use Rattle.pw_law_refine.specs.Expressions.{ExpressionKeeps, ExpressionsKeep, ArgumentsKeep, ConditionsKeep};
 ghost use Rattle.pw_law_refine_forms.specs.Accesses.{AddressKeeps, AdvancesKeep, IsComparison, LvalueKeeps, ReadsKeep, TargetsSuit, WritesKeep};
-ghost use Rattle.pw_law_refine_forms.specs.Operands.{Applies, AppliesAt, HasElements};
+ghost use Rattle.pw_law_refine_forms.specs.Operands.{Applies};
 ghost use Rattle.pw_law_refine_forms.specs.Plain.{IsPlain};
 
 use pw_cmean::laws::values_have_types;
@@ -175,14 +174,13 @@ pub fn updates_keep()
 }
 
 /// Pointers that move: by a number of bytes, as to a member; and by a number of elements, forwards and backwards. And how
-/// many elements lie between two pointers, where elements have bytes.
+/// many elements lie between two pointers.
 pub fn pointers_move()
     ensures advances { AdvancesKeep }
     ensures forwards { (bound : ℕ) (left : QType) (kind : IntKind) → Applies bound Add (Pointer left) (Int kind) }
     ensures turned { (bound : ℕ) (right : QType) (kind : IntKind) → Applies bound Add (Int kind) (Pointer right) }
     ensures backwards { (bound : ℕ) (left : QType) (kind : IntKind) → Applies bound Subtract (Pointer left) (Int kind) }
-    ensures distances { (bound : ℕ) (left right : QType) (x : Activation) → HasElements x left →
-        AppliesAt x bound Subtract (Pointer left) (Pointer right) }
+    ensures distances { (bound : ℕ) (left right : QType) → Applies bound Subtract (Pointer left) (Pointer right) }
 {
     machines_step_on();
     operations_step();
@@ -197,8 +195,8 @@ pub fn pointers_move()
     ranges_of_bytes();
 }
 
-/// All expressions without calls, without names of functions, in which no two pointers to arrays are subtracted and no
-/// pointer is updated keep their promise: as values, as places of scalars, and as places of arrays, structures and unions.
+/// All expressions without calls, without names of functions, in which no pointer is updated keep their promise: as
+/// values, as places of scalars, and as places of arrays, structures and unions.
 pub fn plain_expressions_keep()
     ensures values { (bound : ℕ) (a : Expression) → IsPlain a → ExpressionKeeps bound a }
     ensures places { (bound : ℕ) (a : Expression) → IsPlain a → LvalueKeeps bound a }

@@ -1,4 +1,5 @@
 mod Examples
 mod ExampleStates
 mod ShortBytes
+mod NoElements
 mod Accepted
