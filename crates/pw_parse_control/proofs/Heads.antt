@@ -1,7 +1,7 @@
 -- What goes on behind the head of a `for`.
 use Rattle.std.proofs.Common.{◌≡◌, ℕ, Option, Ok, Err, refl}
 use Rattle.pw_tree.specs.Trees.{Expr}
-use Rattle.pw_tree.specs.declared.symbol.Mark.TheVariants as m
+use Rattle.pw_token.specs.declared.symbol.Mark.TheVariants as m
 use Rattle.pw_parse_grammar.specs.Input.{Input, Outcome, Parser, and_then, ◌>>=◌, pure, expect}
 use Rattle.pw_parse_grammar.specs.Statements.{up_to}
 use Rattle.pw_parse_control.specs.Heads.{Head, for_head}

@@ -1,7 +1,7 @@
 -- The head of a `for` (C90 6.6.5.3).
 use Rattle.std.specs.Prelude.{ℕ, Option}
 use Rattle.pw_tree.specs.Trees.{Expr}
-use Rattle.pw_tree.specs.declared.symbol.Mark.TheVariants as m
+use Rattle.pw_token.specs.declared.symbol.Mark.TheVariants as m
 use Rattle.pw_parse_grammar.specs.Input.{Parser, ◌>>=◌, ◌>>◌, pure, expect}
 use Rattle.pw_parse_grammar.specs.Statements.{up_to}
 use Rattle.pw_parse_control.specs.declared.loops.ForHead.{ForHead}

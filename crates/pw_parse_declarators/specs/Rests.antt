@@ -2,7 +2,7 @@
 use Rattle.std.specs.Prelude.{ℕ, Bool, []}
 use Rattle.pw_tree.specs.Levels.{conditional}
 use Rattle.pw_tree.specs.Trees.{Array, Enclosed}
-use Rattle.pw_tree.specs.declared.symbol.Mark.TheVariants as m
+use Rattle.pw_token.specs.declared.symbol.Mark.TheVariants as m
 use Rattle.pw_parse_grammar.specs.Declarators.{Behind, Cored, suffixed}
 use Rattle.pw_parse_grammar.specs.declared.place.Place.{Place}
 use Rattle.pw_parse_grammar.specs.Input.{Parser, ◌>>=◌, ◌>>◌, pure, expect}

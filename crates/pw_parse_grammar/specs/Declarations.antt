@@ -3,7 +3,7 @@ use Rattle.std.specs.Prelude.{ℕ, zero, suc, Bool, true, false, if◌then◌els
 use Rattle.pw_tree.specs.Levels.{assignment}
 use Rattle.pw_tree.specs.Scopes.{has_type, has_typedef}
 use Rattle.pw_tree.specs.Trees.{Specifiers, Init, Value, Braces, Inits, NoInit, Listed, Initializer, InitDeclarator, Decl}
-use Rattle.pw_tree.specs.declared.symbol.Mark.TheVariants as m
+use Rattle.pw_token.specs.declared.symbol.Mark.TheVariants as m
 use Rattle.pw_parse_grammar.specs.declared.place.Place.TheVariants.{Named}
 use Rattle.pw_parse_grammar.specs.Declarators.{declarator_of, declare_name}
 use Rattle.pw_parse_grammar.specs.Expressions.{expr_of, some_specifiers}

@@ -6,7 +6,7 @@ use Rattle.pw_tree.specs.Scopes.{has_type}
 use Rattle.pw_tree.specs.Symbols.{Symbol, Sign, Identifier}
 use Rattle.pw_tree.specs.Trees.{Word, Pointer, Declaring, Core, Absent, Name, Enclosed, Suffixes, NoSuffix, Array, OpenArray, Prototype, Variadic, Identifiers, Parameters, NoParameter, Parameter}
 use Rattle.pw_tree.specs.declared.expr.Qualifier.{Qualifier}
-use Rattle.pw_tree.specs.declared.symbol.Mark.TheVariants as m
+use Rattle.pw_token.specs.declared.symbol.Mark.TheVariants as m
 use Rattle.pw_parse_grammar.specs.declared.place.Place.{Place}
 use Rattle.pw_parse_grammar.specs.declared.place.Place.TheVariants.{Named, Nameless, Either}
 use Rattle.pw_parse_grammar.specs.Expressions.{some_specifiers}

@@ -14,8 +14,8 @@ use Rattle.pw_tree.specs.declared.operator.StepOperator.{StepOperator}
 use Rattle.pw_tree.specs.declared.operator.StepOperator.TheVariants as stepping
 use Rattle.pw_tree.specs.declared.operator.UnaryOperator.{UnaryOperator}
 use Rattle.pw_tree.specs.declared.operator.UnaryOperator.TheVariants as operator
-use Rattle.pw_tree.specs.declared.symbol.Keyword.TheVariants as k
-use Rattle.pw_tree.specs.declared.symbol.Mark.TheVariants as m
+use Rattle.pw_token.specs.declared.symbol.Keyword.TheVariants as k
+use Rattle.pw_token.specs.declared.symbol.Mark.TheVariants as m
 use Rattle.pw_parse_grammar.specs.declared.place.Place.TheVariants.{Nameless}
 use Rattle.pw_parse_grammar.specs.Input.{Parser, ◌>>=◌, ◌>>◌, ◌<$>◌, pure, fault, asks, peek, here, take_number, word, sees, expect, identifier, ordinary, while_some, one_or_more, unless_comma}
 use Rattle.pw_parse_grammar.specs.Parts.{Parts}

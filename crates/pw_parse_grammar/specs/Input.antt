@@ -6,9 +6,9 @@ use Rattle.pw_tree.specs.Symbols.{Symbol, Reserved, Sign, Identifier}
 use Rattle.pw_tree.specs.Trees.{Word}
 use Rattle.pw_tree.specs.contracts.symbol.Keyword.{the_type as the_keywords}
 use Rattle.pw_tree.specs.contracts.symbol.Mark.{the_type as the_marks}
-use Rattle.pw_tree.specs.declared.symbol.Keyword.{Keyword}
-use Rattle.pw_tree.specs.declared.symbol.Mark.{Mark}
-use Rattle.pw_tree.specs.declared.symbol.Mark.TheVariants.{Comma}
+use Rattle.pw_token.specs.declared.symbol.Keyword.{Keyword}
+use Rattle.pw_token.specs.declared.symbol.Mark.{Mark}
+use Rattle.pw_token.specs.declared.symbol.Mark.TheVariants.{Comma}
 
 -- a name, and whether it is a typedef name
 abbrev pub Binding : Type 0

@@ -3,7 +3,7 @@ use Rattle.std.specs.Prelude.{ℕ, ◌+◌, Bool, true, false, not, ◌&&◌, �
 use Rattle.pw_tree.specs.Scopes.{has_type, has_typedef}
 use Rattle.pw_tree.specs.Symbols.{Symbol}
 use Rattle.pw_tree.specs.Trees.{Specifiers, External, Definition, Declaration, Module}
-use Rattle.pw_tree.specs.declared.symbol.Mark.TheVariants as m
+use Rattle.pw_token.specs.declared.symbol.Mark.TheVariants as m
 use Rattle.pw_parse_grammar.specs.declared.place.Place.TheVariants.{Named}
 use Rattle.pw_parse_grammar.specs.Declarations.{parts, declarations, declaration_with}
 use Rattle.pw_parse_grammar.specs.Declarators.{declare_name}

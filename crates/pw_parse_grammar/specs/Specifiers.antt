@@ -6,7 +6,7 @@ use Rattle.pw_tree.specs.Symbols.{Symbol, Reserved, Identifier}
 use Rattle.pw_tree.specs.Trees as tree
 use Rattle.pw_tree.specs.Trees.{Word, Expr, Specifiers, NoSpecifier, Members, NoMember, MemberDeclarators, NoMemberDeclarator, PlainMember, BitField, Padding, Enumerators, NoEnumerator, PlainEnumerator, ValuedEnumerator}
 use Rattle.pw_tree.specs.declared.expr.RecordKind.{RecordKind}
-use Rattle.pw_tree.specs.declared.symbol.Mark.TheVariants as m
+use Rattle.pw_token.specs.declared.symbol.Mark.TheVariants as m
 use Rattle.pw_parse_grammar.specs.declared.place.Place.TheVariants.{Named}
 use Rattle.pw_parse_grammar.specs.declared.word.SpecifierWord.{SpecifierWord}
 use Rattle.pw_parse_grammar.specs.declared.word.SpecifierWord.TheVariants.{Storage, Qualified, Basic, Record, Enum}

@@ -1,5 +1,5 @@
 -- Words, keywords and marks at the front of a text.
-use Rattle.std.proofs.Common.{◌≡◌, ℕ, suc, ◌<◌, ◌≤◌, ◌⊎◌, inl, inr, Bool, true, false, cond, ◌&&◌, ◌||◌, nat_lt, nat_eq, List, [], ◌∷◌, ◌++◌, length, take, drop, refl, ap, arith, sym, ◌∙◌, subst, bytes_eq}
+use Rattle.std.proofs.Common.{◌≡◌, ℕ, suc, ◌<◌, ◌≤◌, ◌⊎◌, inl, inr, Bool, true, false, cond, ◌&&◌, ◌||◌, nat_lt, nat_eq, List, [], ◌∷◌, ◌++◌, length, take, drop, refl, ap, arith, sym, ◌∙◌, subst, bytes_eq, map, is_some, Some, if◌then◌else◌}
 use Rattle.std.specs.List.{list_any, list_all, starts_with}
 use Rattle.std.proofs.lemmas.Bool.{ltb-true, ltb-false}
 use Rattle.std.proofs.lemmas.List.{take_at, take-append-drop}
@@ -9,7 +9,7 @@ use Rattle.pw_token.proofs.ByteFacts.{and-split, or-split}
 use Rattle.pw_token.specs.Bytes.{is_in, is_nondigit, AllIn}
 use Rattle.pw_token.specs.Scanning.{run, word_len, longest_in}
 use Rattle.pw_token.specs.Spelling.{IsWord}
-use Rattle.pw_token.specs.Words.{is_keyword, is_mark, keywords, marks}
+use Rattle.pw_token.specs.Words.{is_keyword, is_mark, keywords, marks, with_text}
 use Rattle.pw_token.specs.declared.bytes.Class.TheVariants as class
 
 -- ---- words
@@ -70,7 +70,21 @@ pub keyword-word : (s : List ℕ) → is_keyword s ≡ true → IsWord s
 unfolding is_keyword
 keyword-word s h = test-word s (any-all word_test s keywords h keywords-words)
 
+-- one of a list has these bytes where the first with them is found
+pub found_among : {A : Type 0} (text : A → List ℕ) (xs : List A) (s : List ℕ) → is_some (with_text text xs s) ≡ list_any (bytes_eq s) (map text xs)
+found_among text [] s = refl
+found_among text (x ∷ xs) s = by (bytes_eq s (text x)) (found_among text xs s)
+  where
+    by : (same : Bool) → is_some (with_text text xs s) ≡ list_any (bytes_eq s) (map text xs)
+        → is_some (if same then Some x else with_text text xs s) ≡ (same || list_any (bytes_eq s) (map text xs))
+    by true h = refl
+    by false h = h
+
 -- ---- the longest of a table
+
+pub longest_append : (best : ℕ) (xs ys : List (List ℕ)) (t : List ℕ) → longest_in best (xs ++ ys) t ≡ longest_in (longest_in best xs t) ys t
+longest_append best [] ys t = refl
+longest_append best (x ∷ xs) ys t = longest_append (cond (starts_with nat_eq t x && nat_lt best (length x)) (length x) best) xs ys t
 
 begins-word : (t m : List ℕ) → starts_with nat_eq t m ≡ true → t ≡ m ++ drop (length m) t
 begins-word t m h = sym (take-append-drop (length m) t) ∙ ap (λ x. x ++ drop (length m) t) (sym ((bytes_eq-Decides m (take (length m) t)).0 h))

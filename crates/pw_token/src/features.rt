@@ -6,6 +6,7 @@ ghost use Rattle.pw_token.specs.Features.{feature_of};
 ghost use Rattle.pw_token.specs.Tokenization.{IsLexed};
 
 use crate::roles::spelling;
+use crate::symbol::{Keyword, Mark};
 use crate::token::{Feature, Token, TokenKind};
 
 fn feature_of(text: &[u8], token: &Token) -> Option<Feature>
@@ -16,18 +17,13 @@ fn feature_of(text: &[u8], token: &Token) -> Option<Feature>
         TokenKind::Floating => Some(Feature::Float),
         TokenKind::Wide => Some(Feature::Wide),
         TokenKind::Directive => Some(Feature::Directive),
-        TokenKind::Keyword => {
-            let word = spelling(text, token);
-            if word == b"float".as_slice() || word == b"double".as_slice() {
-                Some(Feature::Float)
-            } else {
-                None
-            }
-        }
-        TokenKind::Mark => if spelling(text, token) == b"...".as_slice() {
-            Some(Feature::Variadic)
-        } else {
-            None
+        TokenKind::Keyword => match Keyword::with_text(spelling(text, token)) {
+            Some(Keyword::Float | Keyword::Double) => Some(Feature::Float),
+            _ => None,
+        },
+        TokenKind::Mark => match Mark::with_text(spelling(text, token)) {
+            Some(Mark::Ellipsis) => Some(Feature::Variadic),
+            _ => None,
         },
         TokenKind::Identifier | TokenKind::Number | TokenKind::Character | TokenKind::Text => None,
     }

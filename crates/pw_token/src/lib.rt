@@ -14,6 +14,7 @@ mod nesting;
 mod piece;
 mod place;
 mod roles;
+mod symbol;
 mod token;
 
 pub use bytes::{Class, is_in, simple_escape};
@@ -23,4 +24,6 @@ pub use lexer::{MAX_TEXT, MAX_TOKENS, lex};
 pub use nesting::{MAX_NEST, nest_fault};
 pub use piece::{PieceKind, piece_at};
 pub use place::line_at;
+pub use roles::spelling;
+pub use symbol::{Keyword, Mark};
 pub use token::{Feature, LexFault, Token, TokenKind};

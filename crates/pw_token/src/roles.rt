@@ -1,9 +1,10 @@
 //! What a token means for nesting.
 
-ghost use Rattle.std.specs.Prelude.{◌≡◌, ◌≤◌, ◌+◌, length, map};
+ghost use Rattle.std.specs.Prelude.{◌≡◌, ◌≤◌, ◌+◌, length};
 ghost use Rattle.pw_token.specs.Roles as spec;
 
 use crate::bytes::text_from;
+use crate::symbol::{Keyword, Mark};
 use crate::token::{Token, TokenKind};
 
 /// What the rules of nesting know a token as.
@@ -37,64 +38,51 @@ pub enum Role {
     Other,
 }
 
-/// The keywords and marks that have a role.
-const ROLES: [(&[u8], Role); 36] = [
-    (b"(", Role::OpenParen),
-    (b"[", Role::Open),
-    (b"{", Role::Open),
-    (b"?", Role::Question),
-    (b":", Role::Colon),
-    (b")", Role::CloseParen),
-    (b"]", Role::CloseBracket),
-    (b"}", Role::CloseBrace),
-    (b"-", Role::Unary),
-    (b"+", Role::Unary),
-    (b"*", Role::Unary),
-    (b"&", Role::Unary),
-    (b"!", Role::Unary),
-    (b"~", Role::Unary),
-    (b"sizeof", Role::Unary),
-    (b"++", Role::Step),
-    (b"--", Role::Step),
-    (b"=", Role::Assignment),
-    (b"*=", Role::Assignment),
-    (b"/=", Role::Assignment),
-    (b"%=", Role::Assignment),
-    (b"+=", Role::Assignment),
-    (b"-=", Role::Assignment),
-    (b"<<=", Role::Assignment),
-    (b">>=", Role::Assignment),
-    (b"&=", Role::Assignment),
-    (b"^=", Role::Assignment),
-    (b"|=", Role::Assignment),
-    (b"if", Role::If),
-    (b"else", Role::Else),
-    (b"for", Role::Loop),
-    (b"switch", Role::Loop),
-    (b"while", Role::While),
-    (b"do", Role::Do),
-    (b",", Role::Comma),
-    (b";", Role::Semicolon),
-];
-
-fn role_of_word(table: &[(&[u8], Role)], word: &[u8]) -> Role
-    ensures { result ≡ spec.looked_up (map (λ row. (row.0.now, row.1)) table.now) word.now }
+/// The role of a keyword.
+fn keyword_role(keyword: Keyword) -> Role
+    ensures { result ≡ spec.keyword_role keyword }
 {
-    let mut rest = table;
-    while let [row, after @ ..] = rest {
-        if word == row.0 {
-            return row.1;
-        }
-        rest = after;
+    match keyword {
+        Keyword::Sizeof => Role::Unary,
+        Keyword::If => Role::If,
+        Keyword::Else => Role::Else,
+        Keyword::For | Keyword::Switch => Role::Loop,
+        Keyword::While => Role::While,
+        Keyword::Do => Role::Do,
+        _ => Role::Other,
     }
-    Role::Other
 }
 
-#[tactic(auto, unfolding(crate::specs::Roles::word_role))]
-fn word_role(word: &[u8]) -> Role
-    ensures { result ≡ spec.word_role word.now }
+/// The role of a mark.
+fn mark_role(mark: Mark) -> Role
+    ensures { result ≡ spec.mark_role mark }
 {
-    role_of_word(&ROLES, word)
+    match mark {
+        Mark::OpenParen => Role::OpenParen,
+        Mark::OpenBracket | Mark::OpenBrace => Role::Open,
+        Mark::Question => Role::Question,
+        Mark::Colon => Role::Colon,
+        Mark::CloseParen => Role::CloseParen,
+        Mark::CloseBracket => Role::CloseBracket,
+        Mark::CloseBrace => Role::CloseBrace,
+        Mark::Minus | Mark::Plus | Mark::Star | Mark::Ampersand | Mark::Exclamation | Mark::Tilde =>
+            Role::Unary,
+        Mark::Increment | Mark::Decrement => Role::Step,
+        Mark::Equal
+        | Mark::StarEqual
+        | Mark::SlashEqual
+        | Mark::PercentEqual
+        | Mark::PlusEqual
+        | Mark::MinusEqual
+        | Mark::LeftShiftEqual
+        | Mark::RightShiftEqual
+        | Mark::AmpersandEqual
+        | Mark::CaretEqual
+        | Mark::BarEqual => Role::Assignment,
+        Mark::Comma => Role::Comma,
+        Mark::Semicolon => Role::Semicolon,
+        _ => Role::Other,
+    }
 }
 
 /// The bytes of a token.
@@ -111,7 +99,14 @@ pub fn role_in(text: &[u8], token: &Token) -> Role
     ensures { result ≡ spec.role_in text.now token.now }
 {
     match token.kind {
-        TokenKind::Keyword | TokenKind::Mark => word_role(spelling(text, token)),
+        TokenKind::Keyword => match Keyword::with_text(spelling(text, token)) {
+            Some(keyword) => keyword_role(keyword),
+            None => Role::Other,
+        },
+        TokenKind::Mark => match Mark::with_text(spelling(text, token)) {
+            Some(mark) => mark_role(mark),
+            None => Role::Other,
+        },
         TokenKind::Directive => Role::Other,
         TokenKind::Identifier
         | TokenKind::Number

@@ -8,7 +8,7 @@ use Rattle.pw_tree.specs.Trees as t
 use Rattle.pw_tree.specs.WellFormed.{WellFormed, WellFormedDecl, WellFormedStmt, WellFormedDeclarator, Named, Either}
 use Rattle.pw_tree.specs.declared.operator.AssignOperator.TheVariants as assign
 use Rattle.pw_tree.specs.declared.operator.BinaryOperator.TheVariants as binary
-use Rattle.pw_tree.specs.declared.symbol.Mark.TheVariants as m
+use Rattle.pw_token.specs.declared.symbol.Mark.TheVariants as m
 
 -- T is visible as a typedef name
 abbrev with_t : Env

@@ -1,13 +1,14 @@
 -- A symbol has one spelling, and what is spelled is one symbol.
 use Rattle.std.proofs.Common.{◌≡◌, ℕ, Bool, true, false, List, [], ◌∷◌, bytes_eq, Option, Some, None, option_map, refl, ap, sym, ◌∙◌, if◌then◌else◌}
 use Rattle.std.proofs.lemmas.Slice.Eq.{bytes_eq-Decides}
+use Rattle.pw_token.specs.Words.{with_text, keyword_of, keyword_text, all_keywords, mark_of, mark_text, all_marks}
 use Rattle.pw_token.specs.declared.token.TokenKind.{TokenKind}
 use Rattle.pw_token.specs.declared.token.TokenKind.TheVariants as kind
-use Rattle.pw_tree.specs.Symbols.{Symbol, Reserved, Sign, Identifier, Number, Floating, Character, Wide, Text, Spelled, spelled, symbol_of, symbol_with, with_text, keyword_of, keyword_text, all_keywords, mark_of, mark_text, all_marks}
-use Rattle.pw_tree.specs.declared.symbol.Keyword.{Keyword}
-use Rattle.pw_tree.specs.declared.symbol.Keyword.TheVariants as k
-use Rattle.pw_tree.specs.declared.symbol.Mark.{Mark}
-use Rattle.pw_tree.specs.declared.symbol.Mark.TheVariants as m
+use Rattle.pw_tree.specs.Symbols.{Symbol, Reserved, Sign, Identifier, Number, Floating, Character, Wide, Text, Spelled, spelled, symbol_of, symbol_with}
+use Rattle.pw_token.specs.declared.symbol.Keyword.{Keyword}
+use Rattle.pw_token.specs.declared.symbol.Keyword.TheVariants as k
+use Rattle.pw_token.specs.declared.symbol.Mark.{Mark}
+use Rattle.pw_token.specs.declared.symbol.Mark.TheVariants as m
 
 some_injective : {A : Type 0} (a b : A) → Some a ≡ Some b → a ≡ b
 some_injective a b e = cc

@@ -6,7 +6,7 @@ ghost use Rattle.std.specs.Prelude.{◌≡◌};
 ghost use Rattle.pw_tree.specs.Symbols as spec;
 
 use crate::operator::{Access, AssignOperator, BinaryOperator, StepOperator, UnaryOperator};
-use crate::symbol::Keyword;
+use pw_token::Keyword;
 
 /// A token with bytes of its own: an identifier, a constant or a string literal, with its number.
 #[derive(Drop)]

@@ -1,12 +1,10 @@
 //! What a token of a text is for the grammar.
 
-ghost use Rattle.std.specs.Prelude.{◌≡◌, ◌≤◌, ◌+◌, length, take, drop};
-ghost use Rattle.pw_token.specs.Roles.{spelling};
+ghost use Rattle.std.specs.Prelude.{◌≡◌, ◌≤◌, ◌+◌, length};
 ghost use Rattle.pw_tree.specs.Lexemes.{view_lexeme, spelled_in};
 ghost use Rattle.pw_tree.specs.Symbols.{symbol_of};
 
-use crate::symbol::{Keyword, Mark};
-use pw_token::{Token, TokenKind};
+use pw_token::{Keyword, Mark, Token, TokenKind, spelling};
 
 /// A token as the grammar knows it, with its bytes where they are its own.
 #[derive(Clone, Copy)]
@@ -25,20 +23,12 @@ pub enum Lexeme<'a> {
     Other,
 }
 
-fn bytes_of<'a>(text: &'a [u8], token: &Token) -> &'a [u8]
-    requires { token.now.at + token.now.len ≤ length text.now }
-    ensures { result.now ≡ spelling text.now token.now }
-{
-    let rest = &text[token.at..];
-    &rest[..token.len]
-}
-
 /// What a token of a text is, with its bytes.
 pub fn lexeme_of<'a>(text: &'a [u8], token: &Token) -> Lexeme<'a>
     requires { token.now.at + token.now.len ≤ length text.now }
     ensures { view_lexeme result ≡ symbol_of (spelled_in text.now token.now) }
 {
-    let bytes = bytes_of(text, token);
+    let bytes = spelling(text, token);
     match token.kind {
         TokenKind::Keyword => match Keyword::with_text(bytes) {
             Some(keyword) => Lexeme::Keyword(keyword),

@@ -10,7 +10,6 @@ mod module;
 mod node_laws;
 mod operator;
 mod stmt;
-mod symbol;
 
 pub use decl::{Decl, Init, InitDeclarator, Initializer};
 pub use expr::{
@@ -26,5 +25,5 @@ pub use node_laws::{
     declarators_show_their_lists, expressions_show_their_lists, statements_show_their_lists,
 };
 pub use operator::{Access, AssignOperator, BinaryOperator, StepOperator, UnaryOperator};
+pub use pw_token::{Keyword, Mark};
 pub use stmt::{Block, ElseIf, Label, Stmt};
-pub use symbol::{Keyword, Mark};

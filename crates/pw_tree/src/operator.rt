@@ -3,7 +3,7 @@
 ghost use Rattle.std.specs.Prelude.{◌≡◌};
 ghost use Rattle.pw_tree.specs.Symbols as spec;
 
-use crate::symbol::Mark;
+use pw_token::Mark;
 
 /// What stands before its operand (C90 6.3.3).
 #[derive(Clone, Copy)]

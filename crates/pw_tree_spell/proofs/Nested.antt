@@ -14,8 +14,8 @@ use Rattle.pw_tree_spell.specs.declared.spelled.Spelled.{Spelled}
 use Rattle.pw_tree.specs.declared.stmt.ElseIf.{ElseIf}
 use Rattle.pw_tree.specs.declared.stmt.Stmt.{Stmt}
 use Rattle.pw_tree.specs.declared.stmt.Stmt as stmt
-use Rattle.pw_tree.specs.declared.symbol.Keyword.TheVariants as k
-use Rattle.pw_tree.specs.declared.symbol.Mark.TheVariants as m
+use Rattle.pw_token.specs.declared.symbol.Keyword.TheVariants as k
+use Rattle.pw_token.specs.declared.symbol.Mark.TheVariants as m
 
 -- what is written between two states of a writer: whether it is full, and its tokens
 abbrev Wrote : (List Symbol → List Symbol) → Bool → List Spelled → Bool → List Spelled → Type 0

@@ -4,8 +4,8 @@ use Rattle.pw_tree.specs.Spelling.{separated, spell_tag, spell_expr, spell_postf
 use Rattle.pw_tree.specs.Symbols.{Symbol, Reserved, Sign, record_word}
 use Rattle.pw_tree.specs.Trees as tree
 use Rattle.pw_tree.specs.declared.expr.RecordKind.{RecordKind}
-use Rattle.pw_tree.specs.declared.symbol.Keyword.TheVariants as k
-use Rattle.pw_tree.specs.declared.symbol.Mark.TheVariants as m
+use Rattle.pw_token.specs.declared.symbol.Keyword.TheVariants as k
+use Rattle.pw_token.specs.declared.symbol.Mark.TheVariants as m
 
 pub spell_postfix_node : (n e : tree.Expr) (ps : tree.Postfixes) → n ≡ tree.Postfix e ps → (z : List Symbol) → spell_expr n z ≡ spell_expr e (spell_postfixes ps z)
 unfolding spell_expr

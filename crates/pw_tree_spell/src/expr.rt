@@ -1,7 +1,7 @@
 //! The tokens of expressions (C90 6.3).
 
 ghost use Rattle.std.specs.Prelude.{◌≡◌, ◌∷◌, List, true};
-ghost use Rattle.pw_tree.specs.declared.symbol.Mark.TheVariants as mark;
+ghost use Rattle.pw_token.specs.declared.symbol.Mark.TheVariants as mark;
 ghost use Rattle.pw_tree.specs.Spelling as spell;
 ghost use Rattle.pw_tree.specs.Symbols.{Sign, unary_symbol};
 ghost use Rattle.pw_tree.specs.Views as view;

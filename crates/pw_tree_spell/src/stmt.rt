@@ -1,8 +1,8 @@
 //! The tokens of statements (C90 6.6).
 
 ghost use Rattle.std.specs.Prelude.{◌≡◌, ◌∷◌, List, true};
-ghost use Rattle.pw_tree.specs.declared.symbol.Keyword.TheVariants as keyword;
-ghost use Rattle.pw_tree.specs.declared.symbol.Mark.TheVariants as mark;
+ghost use Rattle.pw_token.specs.declared.symbol.Keyword.TheVariants as keyword;
+ghost use Rattle.pw_token.specs.declared.symbol.Mark.TheVariants as mark;
 ghost use Rattle.pw_tree.specs.Spelling as spell;
 ghost use Rattle.pw_tree.specs.Symbols as symbol;
 ghost use Rattle.pw_tree.specs.Views as view;

@@ -1,8 +1,8 @@
 -- Two texts that are one up to a place: what a rule makes of them is one as long as it does not read past that place.
 use Rattle.std.proofs.Common.{◌≡◌, ℕ, suc, ◌+◌, ◌≤◌, Bool, true, false, if◌then◌else◌, ◌⊎◌, inl, inr, List, ◌∷◌, length, Option, Some, None, Ok, Err, arith, refl, subst}
 use Rattle.pw_tree.specs.Symbols.{Symbol, Identifier}
-use Rattle.pw_tree.specs.declared.symbol.Keyword.{Keyword}
-use Rattle.pw_tree.specs.declared.symbol.Mark.{Mark}
+use Rattle.pw_token.specs.declared.symbol.Keyword.{Keyword}
+use Rattle.pw_token.specs.declared.symbol.Mark.{Mark}
 use Rattle.pw_parse_grammar.specs.Input.{Binding, Input, Outcome, Parser, and_then, ahead, at_end, step, is_mark, is_keyword, is_typedef_name, sees, sees_keyword, past, expect, expect_keyword, identifier, identifier_by, ordinary, ordinary_by}
 use Rattle.pw_law_grammar.proofs.Progress.Base.{Left, Forward, forward-rules, left-rules, left-answer, left-parser-if, past-left, expect-left, expect_keyword-left, identifier-by-left, ordinary-by-left}
 

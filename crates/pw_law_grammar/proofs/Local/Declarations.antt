@@ -2,7 +2,7 @@
 use Rattle.std.proofs.Common.{◌≡◌, ℕ, zero, suc, ◌+◌, ◌≤◌, Bool, true, false, not, ◌&&◌, if◌then◌else◌, List, [], ◌∷◌, length, Option, Some, None, arith, refl, subst}
 use Rattle.pw_tree.specs.Symbols.{Symbol, Identifier}
 use Rattle.pw_tree.specs.Trees.{Specifiers, Init, Inits, NoInit, Listed, Initializer, InitDeclarator, Decl}
-use Rattle.pw_tree.specs.declared.symbol.Mark.TheVariants as m
+use Rattle.pw_token.specs.declared.symbol.Mark.TheVariants as m
 use Rattle.pw_parse_grammar.specs.Declarations.{parts, inits_end, inits, braced, init_of, init, initializer, initialized, init_declarator, other_declarator, init_declarators, declaration_with, declaration, declaration_next, declarations}
 use Rattle.pw_parse_grammar.specs.Input.{Binding, Parser, ◌>>=◌, ◌<$>◌, pure, ahead, asks, step, sees, is_typedef_name}
 use Rattle.pw_parse_grammar.specs.Expressions.{some_specifiers}

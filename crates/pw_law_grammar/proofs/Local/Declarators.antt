@@ -3,7 +3,7 @@ use Rattle.std.proofs.Common.{◌≡◌, ℕ, zero, suc, ◌≤◌, Bool, true, 
 use Rattle.std.specs.Option.{option_or}
 use Rattle.pw_tree.specs.Symbols.{Symbol, Sign, Identifier}
 use Rattle.pw_tree.specs.Trees.{Declaring, NoSuffix, Pointer}
-use Rattle.pw_tree.specs.declared.symbol.Mark.TheVariants as m
+use Rattle.pw_token.specs.declared.symbol.Mark.TheVariants as m
 use Rattle.pw_parse_grammar.specs.declared.place.Place.{Place}
 use Rattle.pw_parse_grammar.specs.declared.place.Place.TheVariants.{Named, Nameless, Either}
 use Rattle.pw_parse_grammar.specs.Declarators.{parameter_list, suffix, suffixes, Behind, Cored, needs_name, may_be_enclosed, absent, may_be_absent, enclosed, core_by, core, declarator_of}

@@ -5,7 +5,7 @@ use Rattle.pw_tree.specs.Symbols.{Symbol, Reserved, Sign}
 use Rattle.pw_tree.specs.Trees.{NoPostfix, NoArgument}
 use Rattle.pw_tree.specs.declared.operator.Access.{Access}
 use Rattle.pw_tree.specs.declared.operator.StepOperator.{StepOperator}
-use Rattle.pw_tree.specs.declared.symbol.Mark.TheVariants as m
+use Rattle.pw_token.specs.declared.symbol.Mark.TheVariants as m
 use Rattle.pw_parse_grammar.specs.Expressions.{string, strings, step_behind, some_specifiers, type_name, enclosed_type_name, parenthesized, primary_by, primary, argument, some_arguments, arguments, index, call, select, postfix_by, postfix_operation, postfixes, postfix_expr}
 use Rattle.pw_parse_grammar.specs.Input.{ahead, step, sees}
 use Rattle.pw_parse_grammar.specs.Parts.{Parts}

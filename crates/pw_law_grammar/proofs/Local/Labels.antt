@@ -2,8 +2,8 @@
 use Rattle.std.proofs.Common.{◌≡◌, ℕ, suc, ◌≤◌, Bool, true, false, ◌||◌, if◌then◌else◌, List, [], ◌∷◌, length, Option, Some, None, arith, refl}
 use Rattle.pw_tree.specs.Symbols.{Symbol, Reserved, Identifier}
 use Rattle.pw_tree.specs.Trees.{Label}
-use Rattle.pw_tree.specs.declared.symbol.Keyword.TheVariants as k
-use Rattle.pw_tree.specs.declared.symbol.Mark.TheVariants as m
+use Rattle.pw_token.specs.declared.symbol.Keyword.TheVariants as k
+use Rattle.pw_token.specs.declared.symbol.Mark.TheVariants as m
 use Rattle.pw_parse_grammar.specs.Input.{Binding, Parser, ◌<$>◌, pure, ahead, step, sees, is_typedef_name}
 use Rattle.pw_parse_grammar.specs.Statements.{default_label, name_label, before_label, case_label, label_by, label, labels}
 use Rattle.pw_law_grammar.proofs.Progress.Base.{Left, forward-rules, left-bind, expect-left}

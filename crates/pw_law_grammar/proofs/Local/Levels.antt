@@ -6,8 +6,8 @@ use Rattle.pw_tree.specs.Trees.{Expr, NoOperation}
 use Rattle.pw_tree.specs.declared.operator.AssignOperator.{AssignOperator}
 use Rattle.pw_tree.specs.declared.operator.BinaryOperator.{BinaryOperator}
 use Rattle.pw_tree.specs.declared.operator.UnaryOperator.{UnaryOperator}
-use Rattle.pw_tree.specs.declared.symbol.Keyword.TheVariants as k
-use Rattle.pw_tree.specs.declared.symbol.Mark.TheVariants as m
+use Rattle.pw_token.specs.declared.symbol.Keyword.TheVariants as k
+use Rattle.pw_token.specs.declared.symbol.Mark.TheVariants as m
 use Rattle.pw_parse_grammar.specs.Expressions.{operated, size, operated_or_postfix, unary_by, unary_expr, cast_to, cast_expr, operation_by, operation, operations, conditional_behind, condition_of, assigned, assignment_by, assignment_to, goes_on, above_cast, expr_of}
 use Rattle.pw_parse_grammar.specs.Input.{Binding, ahead, step, sees}
 use Rattle.pw_parse_grammar.specs.Parts.{Parts}

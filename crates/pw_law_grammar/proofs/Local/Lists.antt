@@ -1,7 +1,7 @@
 -- Lists that are read turn by turn, in two texts that are one up to a place.
 use Rattle.std.proofs.Common.{ℕ, zero, suc, ◌+◌, ◌<◌, ◌≤◌, Bool, true, false, if◌then◌else◌, List, ◌∷◌, length, Option, Some, None, Ok, arith}
 use Rattle.pw_tree.specs.Symbols.{Symbol}
-use Rattle.pw_tree.specs.declared.symbol.Mark.TheVariants as m
+use Rattle.pw_token.specs.declared.symbol.Mark.TheVariants as m
 use Rattle.pw_parse_grammar.specs.Input.{Binding, Outcome, Parser, ◌>>=◌, ◌<$>◌, pure, ahead, is_mark, sees, past, step, Turn, More, Last, go_on, repeat, list_of, turn_of, while_some, turns, one_or_more, turn_with, unless_comma}
 use Rattle.pw_law_grammar.proofs.Trees.Base.{no_turns}
 use Rattle.pw_law_grammar.proofs.Progress.Base.{Forward, forward-rules, go_on-left, repeat-left, unless_comma-left}

@@ -3,7 +3,7 @@ use Rattle.std.proofs.Common.{◌≡◌, ℕ, suc, ◌+◌, ◌≤◌, Bool, tru
 use Rattle.pw_tree.specs.Scopes.{has_type}
 use Rattle.pw_tree.specs.Symbols.{Symbol}
 use Rattle.pw_tree.specs.Trees.{Specifiers, Module}
-use Rattle.pw_tree.specs.declared.symbol.Mark.TheVariants as m
+use Rattle.pw_token.specs.declared.symbol.Mark.TheVariants as m
 use Rattle.pw_parse_grammar.specs.declared.place.Place.TheVariants.{Named}
 use Rattle.pw_parse_grammar.specs.Input.{Input, Outcome, at_end}
 use Rattle.pw_parse_grammar.specs.Modules.{goes_on_as_declaration, function, external_with, external_named, external_behind, external, ends_text, externals, read}

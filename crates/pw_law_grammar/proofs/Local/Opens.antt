@@ -2,7 +2,7 @@
 use Rattle.std.proofs.Common.{◌≡◌, ℕ, zero, suc, ◌+◌, ◌-◌, ◌≤◌, Bool, true, false, nat_le, List, ◌∷◌, length, Option, Some, arith}
 use Rattle.pw_tree.specs.Levels.{cast, unary, comma}
 use Rattle.pw_tree.specs.Symbols.{Symbol, Sign, Identifier}
-use Rattle.pw_tree.specs.declared.symbol.Mark.TheVariants as m
+use Rattle.pw_token.specs.declared.symbol.Mark.TheVariants as m
 use Rattle.pw_parse_grammar.specs.Expressions.{enclosed_type_name, parenthesized, primary, postfix_expr, operated_or_postfix, unary_expr, cast_to, cast_expr, above_cast, expr_of}
 use Rattle.pw_parse_grammar.specs.Input.{Binding, ahead, step, same_mark, sees, expect, ordinary, ordinary_by, is_typedef_name, turns}
 use Rattle.pw_parse_grammar.specs.Parts.{Parts}

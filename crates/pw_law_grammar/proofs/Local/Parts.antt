@@ -1,7 +1,7 @@
 -- The parts that hold one another, in two texts that are one up to a place.
 use Rattle.std.proofs.Common.{◌≡◌, ℕ, ◌≤◌, Bool, false, List, ◌∷◌, length, Option, Some, arith}
 use Rattle.pw_tree.specs.Symbols.{Symbol, Sign, Identifier}
-use Rattle.pw_tree.specs.declared.symbol.Mark.TheVariants as marks
+use Rattle.pw_token.specs.declared.symbol.Mark.TheVariants as marks
 use Rattle.pw_parse_grammar.specs.declared.place.Place.{Place}
 use Rattle.pw_parse_grammar.specs.Input.{Binding, is_typedef_name}
 use Rattle.pw_parse_grammar.specs.Parts.{Parts}

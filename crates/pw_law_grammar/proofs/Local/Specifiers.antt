@@ -4,7 +4,7 @@ use Rattle.pw_tree.specs.Levels.{conditional}
 use Rattle.pw_tree.specs.Symbols.{Symbol, Reserved, Identifier}
 use Rattle.pw_tree.specs.Trees.{Word, Specifiers, NoMember, NoMemberDeclarator, NoEnumerator}
 use Rattle.pw_tree.specs.declared.expr.RecordKind.{RecordKind}
-use Rattle.pw_tree.specs.declared.symbol.Mark.TheVariants as m
+use Rattle.pw_token.specs.declared.symbol.Mark.TheVariants as m
 use Rattle.pw_parse_grammar.specs.declared.word.SpecifierWord.{SpecifierWord}
 use Rattle.pw_parse_grammar.specs.declared.word.SpecifierWord.TheVariants.{Storage, Qualified, Basic, Record, Enum}
 use Rattle.pw_parse_grammar.specs.Input.{Binding, ◌>>=◌, pure, ahead, step, sees, is_typedef_name, turns}

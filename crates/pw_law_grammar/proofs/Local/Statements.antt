@@ -3,9 +3,9 @@ use Rattle.std.proofs.Common.{◌≡◌, ℕ, zero, suc, ◌+◌, ◌≤◌, tru
 use Rattle.pw_tree.specs.Levels.{comma}
 use Rattle.pw_tree.specs.Symbols.{Symbol, Reserved, Sign, Identifier}
 use Rattle.pw_tree.specs.Trees.{Decl, Stmt, Alternative, NoElse, ElseIf, Block, Braced, NoStmt}
-use Rattle.pw_tree.specs.declared.symbol.Keyword.TheVariants as k
-use Rattle.pw_tree.specs.declared.symbol.Mark.{Mark}
-use Rattle.pw_tree.specs.declared.symbol.Mark.TheVariants as m
+use Rattle.pw_token.specs.declared.symbol.Keyword.TheVariants as k
+use Rattle.pw_token.specs.declared.symbol.Mark.{Mark}
+use Rattle.pw_token.specs.declared.symbol.Mark.TheVariants as m
 use Rattle.pw_parse_grammar.specs.Declarations.{parts}
 use Rattle.pw_parse_grammar.specs.Input.{Binding, Parser, ◌>>=◌, ◌>>◌, pure, expect, leave, ahead, step, is_keyword, sees, sees_keyword, past_keyword, is_typedef_name, Last}
 use Rattle.pw_parse_grammar.specs.Statements.{empty_stmt, goto_stmt, continue_stmt, break_stmt, expression_stmt, up_to, return_stmt, condition, else_if, behind_else, alternative, alternatives, if_stmt, switch_stmt, while_stmt, do_stmt, for_stmt, stmt_next, stmts, block, compound_by, compound, unlabeled_by, unlabeled, stmt_of, stmt}

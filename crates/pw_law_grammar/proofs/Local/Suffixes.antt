@@ -3,7 +3,7 @@ use Rattle.std.proofs.Common.{ℕ, suc, ◌+◌, Bool, true, false, if◌then◌
 use Rattle.pw_tree.specs.Symbols.{Symbol, Sign, Identifier}
 use Rattle.pw_tree.specs.Trees.{NoSuffix, Parameters, NoParameter}
 use Rattle.pw_tree.specs.declared.expr.Qualifier.{Qualifier}
-use Rattle.pw_tree.specs.declared.symbol.Mark.TheVariants as m
+use Rattle.pw_token.specs.declared.symbol.Mark.TheVariants as m
 use Rattle.pw_parse_grammar.specs.Declarators.{qualifier_by, qualifier, qualifiers, starred, pointer, pointers, declare_name, name_in_list, names_in_list, parameters_end, array, parameter, parameters, prototype, identifiers, listed_by, listed, parameter_list, suffix_by, suffix, suffixes}
 use Rattle.pw_parse_grammar.specs.Input.{Binding, Outcome, Parser, ◌<$>◌, pure, eat, ahead, step, is_mark, sees, past}
 use Rattle.pw_parse_grammar.specs.Parts.{Parts}

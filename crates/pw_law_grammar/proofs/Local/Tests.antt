@@ -1,7 +1,7 @@
 -- Tests on the tokens ahead in two texts that are one up to a place.
 use Rattle.std.proofs.Common.{◌≡◌, ℕ, ◌≤◌, Bool, true, false, not, ◌&&◌, ◌||◌, if◌then◌else◌, ◌⊎◌, inl, inr, List, ◌∷◌, length, Option, Some, None, refl, sym, ap}
 use Rattle.pw_tree.specs.Symbols.{Symbol, Reserved, Sign, Identifier}
-use Rattle.pw_tree.specs.declared.symbol.Mark.TheVariants as m
+use Rattle.pw_token.specs.declared.symbol.Mark.TheVariants as m
 use Rattle.pw_parse_grammar.specs.Declarators.{may_be_enclosed, may_be_enclosed_by}
 use Rattle.pw_parse_grammar.specs.Input.{Binding, Parser, ahead, step, same_mark, is_mark, sees, is_typedef_name}
 use Rattle.pw_parse_grammar.specs.Modules.{goes_on_as_declaration}

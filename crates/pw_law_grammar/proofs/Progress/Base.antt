@@ -1,8 +1,8 @@
 -- No rule goes back: what is left behind an answer, or at a fault, is no more than what the rule was given.
 use Rattle.std.proofs.Common.{ℕ, zero, suc, ◌≤◌, Bool, true, false, if◌then◌else◌, List, [], ◌∷◌, length, Option, Some, None, Ok, Err, arith}
 use Rattle.pw_tree.specs.Symbols.{Symbol, Identifier}
-use Rattle.pw_tree.specs.declared.symbol.Keyword.{Keyword}
-use Rattle.pw_tree.specs.declared.symbol.Mark.{Mark}
+use Rattle.pw_token.specs.declared.symbol.Keyword.{Keyword}
+use Rattle.pw_token.specs.declared.symbol.Mark.{Mark}
 use Rattle.pw_parse_grammar.specs.declared.place.Place.{Place}
 use Rattle.pw_parse_grammar.specs.Input.{Input, Outcome, Parser, and_then, ◌>>=◌, ◌<$>◌, step_to, step, sees, sees_keyword, past, past_keyword, expect, expect_keyword, identifier_by, ordinary_by, Turn, More, Last, turns, go_on, repeat, turn_of, while_some, turn_with, one_or_more, unless_comma}
 use Rattle.pw_parse_grammar.specs.Parts.{Parts}

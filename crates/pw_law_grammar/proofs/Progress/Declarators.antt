@@ -3,7 +3,7 @@ use Rattle.std.proofs.Common.{ℕ, Bool, List, [], Option, Some, None}
 use Rattle.pw_tree.specs.Symbols.{Symbol, Sign, Identifier}
 use Rattle.pw_tree.specs.Trees.{NoSuffix}
 use Rattle.pw_tree.specs.declared.expr.Qualifier.{Qualifier}
-use Rattle.pw_tree.specs.declared.symbol.Mark.TheVariants as m
+use Rattle.pw_token.specs.declared.symbol.Mark.TheVariants as m
 use Rattle.pw_parse_grammar.specs.declared.place.Place.{Place}
 use Rattle.pw_parse_grammar.specs.declared.place.Place.TheVariants.{Named, Nameless, Either}
 use Rattle.pw_parse_grammar.specs.Declarators.{qualifier_by, qualifier, qualifiers, starred, pointer, pointers, declare_name, name_in_list, names_in_list, parameters_end, may_be_absent, array, parameter, parameters, prototype, identifiers, listed_by, listed, parameter_list, suffix_by, suffix, suffixes, enclosed, core_by, core, declarator_of}

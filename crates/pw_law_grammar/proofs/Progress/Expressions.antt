@@ -8,8 +8,8 @@ use Rattle.pw_tree.specs.declared.operator.AssignOperator.{AssignOperator}
 use Rattle.pw_tree.specs.declared.operator.BinaryOperator.{BinaryOperator}
 use Rattle.pw_tree.specs.declared.operator.StepOperator.{StepOperator}
 use Rattle.pw_tree.specs.declared.operator.UnaryOperator.{UnaryOperator}
-use Rattle.pw_tree.specs.declared.symbol.Keyword.TheVariants as k
-use Rattle.pw_tree.specs.declared.symbol.Mark.TheVariants as m
+use Rattle.pw_token.specs.declared.symbol.Keyword.TheVariants as k
+use Rattle.pw_token.specs.declared.symbol.Mark.TheVariants as m
 use Rattle.pw_parse_grammar.specs.Expressions.{string_by, string, strings, step_behind, some_specifiers, type_name, enclosed_type_name, parenthesized, primary_by, primary, argument, some_arguments, arguments, index, call, select, postfix_by, postfix_operation, postfixes, postfix_expr, operated, size, operated_or_postfix, unary_by, unary_expr, cast_to, cast_expr, operation_by, operation, operations, conditional_behind, condition_of, assigned, assignment_by, assignment_to, goes_on, above_cast, expr_of}
 use Rattle.pw_parse_grammar.specs.Input.{ahead, unless_comma}
 use Rattle.pw_parse_grammar.specs.Parts.{Parts}

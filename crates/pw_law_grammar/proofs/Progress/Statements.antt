@@ -2,9 +2,9 @@
 use Rattle.std.proofs.Common.{ℕ, zero, suc, List, [], Option, Some, None}
 use Rattle.pw_tree.specs.Symbols.{Symbol, Reserved, Sign, Identifier}
 use Rattle.pw_tree.specs.Trees.{Specifiers, Stmt, NoStmt}
-use Rattle.pw_tree.specs.declared.symbol.Keyword.TheVariants as k
-use Rattle.pw_tree.specs.declared.symbol.Mark.{Mark}
-use Rattle.pw_tree.specs.declared.symbol.Mark.TheVariants as m
+use Rattle.pw_token.specs.declared.symbol.Keyword.TheVariants as k
+use Rattle.pw_token.specs.declared.symbol.Mark.{Mark}
+use Rattle.pw_token.specs.declared.symbol.Mark.TheVariants as m
 use Rattle.pw_parse_grammar.specs.Declarations.{parts}
 use Rattle.pw_parse_grammar.specs.Input.{Parser, ahead, turns}
 use Rattle.pw_parse_grammar.specs.Modules.{function, external_with, external_named, external_behind, external, ends_text, externals}

@@ -7,7 +7,7 @@ use Rattle.pw_tree.specs.Symbols as symbol
 use Rattle.pw_tree.specs.Symbols.{Symbol, Reserved, Sign, unary_symbol, binary_mark, assign_mark, access_mark, step_mark}
 use Rattle.pw_tree.specs.Trees.{Word, Pointer, Declarator, Declaring, Absent, Name, Enclosed, NoSuffix, Array, OpenArray, Prototype, Variadic, Identifiers}
 use Rattle.pw_tree.specs.WellFormed.{IsSomething, begins_with_typedef, MayEnclose, WellFormed, WellFormedDeclarator, WellFormedCore, WellFormedSuffixes}
-use Rattle.pw_tree.specs.declared.symbol.Mark.TheVariants as m
+use Rattle.pw_token.specs.declared.symbol.Mark.TheVariants as m
 use Rattle.pw_parse_grammar.specs.declared.place.Place.{Place}
 use Rattle.pw_parse_grammar.specs.declared.place.Place.TheVariants.{Named, Nameless, Either}
 use Rattle.pw_parse_grammar.specs.Input.{Input, first_of_rest, ahead, is_none_left, at_end, step_to, step, same_mark, same_keyword, is_mark, is_keyword, sees, sees_keyword, or_false, Outcome, Parser, and_then, ◌>>=◌, ◌>>◌, pure, ◌<$>◌, fault, asks, peek, here, skip, take_number, word, past, past_keyword, eat, eat_keyword, expect, expect_keyword, identifier_by, ordinary_by, ordinary, declare_all, leave, since, turns, go_on, repeat, list_of, turn_of, while_some, turn_with, one_or_more, unless_comma, Binding}

@@ -9,8 +9,8 @@ use Rattle.pw_tree.specs.Trees.{Expr, Conditional, Assign, Operations, NoOperati
 use Rattle.pw_tree.specs.WellFormed.{WellFormed, WellFormedOperations}
 use Rattle.pw_tree.specs.declared.operator.AssignOperator.{AssignOperator}
 use Rattle.pw_tree.specs.declared.operator.BinaryOperator.{BinaryOperator}
-use Rattle.pw_tree.specs.declared.symbol.Mark.{Mark}
-use Rattle.pw_tree.specs.declared.symbol.Mark.TheVariants as m
+use Rattle.pw_token.specs.declared.symbol.Mark.{Mark}
+use Rattle.pw_token.specs.declared.symbol.Mark.TheVariants as m
 use Rattle.pw_parse_grammar.specs.Input.{Input, ahead, step, sees, ◌>>=◌, ◌>>◌, pure, ◌<$>◌, fault, expect}
 use Rattle.pw_parse_grammar.specs.Parts.{Parts}
 use Rattle.std.proofs.lemmas.Bool.{eqb-true, leb-true, leb-false}

@@ -6,7 +6,7 @@ use Rattle.pw_tree.specs.Spelling.{spell_expr, spell_specifiers, spell_declarato
 use Rattle.pw_tree.specs.Symbols.{Symbol, Sign}
 use Rattle.pw_tree.specs.Trees.{Word, Specifiers, Parameters, NoParameter, Parameter}
 use Rattle.pw_tree.specs.WellFormed.{HasSpecifier, HasParameter, WellFormed, WellFormedParameters}
-use Rattle.pw_tree.specs.declared.symbol.Mark.TheVariants as m
+use Rattle.pw_token.specs.declared.symbol.Mark.TheVariants as m
 use Rattle.pw_parse_grammar.specs.declared.place.Place.TheVariants.{Either}
 use Rattle.pw_parse_grammar.specs.Input.{Input, step, sees, ◌>>=◌, ◌>>◌, pure, ◌<$>◌, past, eat, turns, turn_with, Binding}
 use Rattle.pw_parse_grammar.specs.Parts.{Parts, Declared}

@@ -6,8 +6,8 @@ use Rattle.pw_tree.specs.Spelling.{spell_identifiers, spell_qualifiers, spell_po
 use Rattle.pw_tree.specs.Symbols.{Symbol, Reserved, Sign}
 use Rattle.pw_tree.specs.Trees.{Word, Pointer}
 use Rattle.pw_tree.specs.WellFormed.{NotEmpty, NoneTypedef}
-use Rattle.pw_tree.specs.declared.symbol.Keyword.TheVariants as k
-use Rattle.pw_tree.specs.declared.symbol.Mark.TheVariants as m
+use Rattle.pw_token.specs.declared.symbol.Keyword.TheVariants as k
+use Rattle.pw_token.specs.declared.symbol.Mark.TheVariants as m
 use Rattle.pw_parse_grammar.specs.Input.{Input, ahead, step, sees, pure, ◌<$>◌, ordinary}
 use Rattle.pw_tree.specs.Symbols.{qualifier_word}
 use Rattle.pw_tree.specs.declared.expr.Qualifier.{Qualifier}

@@ -7,8 +7,8 @@ use Rattle.pw_tree.specs.Symbols as symbol
 use Rattle.pw_tree.specs.Symbols.{Symbol, Reserved, Sign, unary_symbol, binary_mark, assign_mark, access_mark, step_mark}
 use Rattle.pw_tree.specs.Trees.{Word, Specifiers, NoSpecifier, Storage, Qualified, Basic, TypedefName, RecordTag, Record, EnumTag, Enum, Members, NoMember, Member, MemberDeclarators, Enumerators}
 use Rattle.pw_tree.specs.WellFormed.{HasSpecifier, HasMember, NoStorage, WellFormed, WellFormedSpecifiers, WellFormedMembers}
-use Rattle.pw_tree.specs.declared.symbol.Keyword.TheVariants as k
-use Rattle.pw_tree.specs.declared.symbol.Mark.TheVariants as m
+use Rattle.pw_token.specs.declared.symbol.Keyword.TheVariants as k
+use Rattle.pw_token.specs.declared.symbol.Mark.TheVariants as m
 use Rattle.pw_parse_grammar.specs.Input.{Input, first_of_rest, ahead, is_none_left, at_end, step_to, step, same_mark, same_keyword, is_mark, is_keyword, sees, sees_keyword, or_false, Outcome, Parser, and_then, ◌>>=◌, ◌>>◌, pure, ◌<$>◌, fault, asks, peek, here, skip, take_number, word, past, past_keyword, eat, eat_keyword, expect, expect_keyword, identifier_by, ordinary_by, ordinary, declare_all, leave, since, turns, go_on, repeat, list_of, turn_of, while_some, turn_with, one_or_more, unless_comma, Binding}
 use Rattle.pw_parse_grammar.specs.Input as input
 use Rattle.pw_scope.specs.Visible.{visible}
@@ -17,7 +17,7 @@ use Rattle.pw_tree.specs.declared.expr.BasicType.{BasicType}
 use Rattle.pw_tree.specs.declared.expr.Qualifier.{Qualifier}
 use Rattle.pw_tree.specs.declared.expr.RecordKind.{RecordKind}
 use Rattle.pw_tree.specs.declared.expr.StorageClass.{StorageClass}
-use Rattle.pw_tree.specs.declared.symbol.Keyword.{Keyword}
+use Rattle.pw_token.specs.declared.symbol.Keyword.{Keyword}
 use Rattle.pw_scope.specs.Visible.{visible}
 use Rattle.pw_tree.specs.Symbols.{storage_word, qualifier_word, basic_word, record_word}
 use Rattle.pw_parse_grammar.specs.declared.word.SpecifierWord.{SpecifierWord}

@@ -2,11 +2,12 @@
 use Rattle.std.proofs.Common.{◌≡◌, ℕ, Bool, true, false, if◌then◌else◌, List, [], ◌∷◌, map, Option, Some, None, option_map, refl, sym, ap, ◌∙◌}
 use Rattle.std.specs.Str.{bytes_eq}
 use Rattle.std.proofs.lemmas.Slice.Eq.{bytes_eq-Decides}
+use Rattle.pw_token.specs.Words.{with_text, keyword_of, keyword_text, all_keywords, mark_of, mark_text, all_marks}
 use Rattle.pw_token.specs.declared.token.TokenKind.{TokenKind}
 use Rattle.pw_token.specs.declared.token.TokenKind.TheVariants as kind
-use Rattle.pw_tree.specs.Symbols.{Symbol, Reserved, Sign, Spelled, spelled, symbol_of, symbol_with, with_text, keyword_of, keyword_text, all_keywords, mark_of, mark_text, all_marks}
-use Rattle.pw_tree.specs.declared.symbol.Keyword.{Keyword}
-use Rattle.pw_tree.specs.declared.symbol.Mark.{Mark}
+use Rattle.pw_tree.specs.Symbols.{Symbol, Reserved, Sign, Spelled, spelled, symbol_of, symbol_with}
+use Rattle.pw_token.specs.declared.symbol.Keyword.{Keyword}
+use Rattle.pw_token.specs.declared.symbol.Mark.{Mark}
 use Rattle.pw_law_grammar.proofs.Sound.Levels.{no_some}
 
 abbrev text_in : {A : Type 0} → (A → List ℕ) → List ℕ → Option A → List ℕ

@@ -8,8 +8,8 @@ use Rattle.pw_tree.specs.Trees.{Expr, Unary, SizeofType, Cast, Specifiers, Decla
 use Rattle.pw_tree.specs.WellFormed.{operand_level, WellFormed}
 use Rattle.pw_tree.specs.declared.operator.UnaryOperator.{UnaryOperator}
 use Rattle.pw_tree.specs.declared.operator.UnaryOperator.TheVariants as unary
-use Rattle.pw_tree.specs.declared.symbol.Keyword.TheVariants as k
-use Rattle.pw_tree.specs.declared.symbol.Mark.TheVariants as m
+use Rattle.pw_token.specs.declared.symbol.Keyword.TheVariants as k
+use Rattle.pw_token.specs.declared.symbol.Mark.TheVariants as m
 use Rattle.pw_parse_grammar.specs.Input.{Input, ahead, step, Parser, ◌>>=◌, pure, ◌<$>◌}
 use Rattle.pw_parse_grammar.specs.Parts.{Parts}
 use Rattle.pw_parse_grammar.specs.Expressions.{postfix_expr, operated, size, operated_or_postfix, unary_by, unary_expr, cast_to, cast_expr, enclosed_type_name}

@@ -9,7 +9,7 @@ use Rattle.pw_scope.specs.Visible.{visible}
 use Rattle.pw_tree.specs.Scopes as scopes
 use Rattle.pw_tree.specs.Scopes.{Env}
 use Rattle.pw_tree.specs.Symbols.{Symbol, Sign}
-use Rattle.pw_tree.specs.declared.symbol.Mark.TheVariants as m
+use Rattle.pw_token.specs.declared.symbol.Mark.TheVariants as m
 use Rattle.pw_parse_grammar.specs.Input.{Binding, Input, Outcome, Parser, ◌>>=◌, and_then, pure, is_typedef_name, or_false, ahead, step, Turn, More, Last, go_on, repeat, turn_of, turn_with, ◌<$>◌, unless_comma, sees, past, same_mark, is_mark, first_of_rest}
 
 -- the names that are visible, as a parser has them: the newest last

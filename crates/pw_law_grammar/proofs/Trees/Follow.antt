@@ -6,8 +6,8 @@ use Rattle.pw_tree.specs.Symbols as symbol
 use Rattle.pw_tree.specs.Symbols.{Symbol, Reserved, Sign}
 use Rattle.pw_tree.specs.declared.operator.AssignOperator.{AssignOperator}
 use Rattle.pw_tree.specs.declared.operator.BinaryOperator.{BinaryOperator}
-use Rattle.pw_tree.specs.declared.symbol.Mark.{Mark}
-use Rattle.pw_tree.specs.declared.symbol.Mark.TheVariants as m
+use Rattle.pw_token.specs.declared.symbol.Mark.{Mark}
+use Rattle.pw_token.specs.declared.symbol.Mark.TheVariants as m
 use Rattle.pw_parse_grammar.specs.Expressions.{string_by, postfix_by}
 use Rattle.pw_parse_grammar.specs.Input.{first_of_rest, is_mark, same_mark, pure}
 use Rattle.pw_parse_grammar.specs.Parts.{Parts}

@@ -15,8 +15,8 @@ use Rattle.pw_tree.specs.declared.operator.BinaryOperator.{BinaryOperator}
 use Rattle.pw_tree.specs.declared.operator.BinaryOperator.TheVariants as binary
 use Rattle.pw_tree.specs.declared.operator.UnaryOperator.{UnaryOperator}
 use Rattle.pw_tree.specs.declared.operator.UnaryOperator.TheVariants as unary
-use Rattle.pw_tree.specs.declared.symbol.Keyword.TheVariants as k
-use Rattle.pw_tree.specs.declared.symbol.Mark.TheVariants as m
+use Rattle.pw_token.specs.declared.symbol.Keyword.TheVariants as k
+use Rattle.pw_token.specs.declared.symbol.Mark.TheVariants as m
 use Rattle.pw_parse_grammar.specs.declared.place.Place.{Place}
 use Rattle.pw_parse_grammar.specs.declared.place.Place.TheVariants.{Named, Nameless, Either}
 use Rattle.pw_parse_grammar.specs.Input.{is_mark, same_mark, sees, ahead, step}

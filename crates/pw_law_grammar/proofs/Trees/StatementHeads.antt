@@ -14,10 +14,10 @@ use Rattle.pw_tree.specs.declared.operator.BinaryOperator.TheVariants as binary
 use Rattle.pw_tree.specs.declared.operator.StepOperator.TheVariants as stepping
 use Rattle.pw_tree.specs.declared.operator.UnaryOperator.{UnaryOperator}
 use Rattle.pw_tree.specs.declared.operator.UnaryOperator.TheVariants as unary
-use Rattle.pw_tree.specs.declared.symbol.Keyword.TheVariants as k
-use Rattle.pw_tree.specs.declared.symbol.Mark.TheVariants as m
+use Rattle.pw_token.specs.declared.symbol.Keyword.TheVariants as k
+use Rattle.pw_token.specs.declared.symbol.Mark.TheVariants as m
 use Rattle.pw_parse_grammar.specs.Input.{ahead, step, same_mark, same_keyword, is_mark, is_keyword, sees, Parser}
-use Rattle.pw_tree.specs.declared.symbol.Keyword.{Keyword}
+use Rattle.pw_token.specs.declared.symbol.Keyword.{Keyword}
 use Rattle.pw_parse_grammar.specs.Statements.{label, unlabeled, compound, expression_stmt}
 use Rattle.pw_parse_grammar.specs.Tests.{begins_declaration, begins_specifier, opens_label, symbol_begins_specifier}
 use Rattle.pw_law_grammar.proofs.Trees.Base.{at, is_typedef, true_is_not_false}

@@ -3,8 +3,8 @@ use Rattle.std.proofs.Common.{◌≡◌, ◌+◌, ◌≤◌, Bool, true, false, 
 use Rattle.std.proofs.lemmas.List.{length-append, length-map, map-append}
 use Rattle.pw_tree.specs.Scopes.{Env}
 use Rattle.pw_tree.specs.Symbols.{Symbol, Reserved, Sign}
-use Rattle.pw_tree.specs.declared.symbol.Keyword.{Keyword}
-use Rattle.pw_tree.specs.declared.symbol.Mark.{Mark}
+use Rattle.pw_token.specs.declared.symbol.Keyword.{Keyword}
+use Rattle.pw_token.specs.declared.symbol.Mark.{Mark}
 use Rattle.pw_parse_grammar.specs.Input.{Input, Outcome, Parser, and_then, pure, step, sees, sees_keyword, past, past_keyword, eat, eat_keyword, expect, expect_keyword}
 use Rattle.pw_law_grammar.proofs.Trees.Base.{names_of}
 use Rattle.pw_law_grammar.proofs.Sound.Base.{Post, Reads, sign, word_sign}

@@ -5,8 +5,8 @@ use Rattle.pw_tree.specs.Spelling.{spell_expr, spell_stmt, spell_alternative}
 use Rattle.pw_tree.specs.Symbols.{Symbol, Reserved, Sign}
 use Rattle.pw_tree.specs.Trees.{Stmt, Empty, If, Switch, While, Do, For, Alternative, NoElse, Otherwise, ElseIf}
 use Rattle.pw_tree.specs.WellFormed.{WellFormed, NotIf, ends_open, MayPrecede, WellFormedStmt, WellFormedAlternative}
-use Rattle.pw_tree.specs.declared.symbol.Keyword.TheVariants as k
-use Rattle.pw_tree.specs.declared.symbol.Mark.TheVariants as m
+use Rattle.pw_token.specs.declared.symbol.Keyword.TheVariants as k
+use Rattle.pw_token.specs.declared.symbol.Mark.TheVariants as m
 use Rattle.pw_parse_grammar.specs.Input.{Input, ahead, step, is_keyword, same_keyword, sees_keyword, Parser, and_then, ◌>>=◌, ◌>>◌, pure, ◌<$>◌, expect, expect_keyword, turns, repeat, More, Last}
 use Rattle.pw_parse_grammar.specs.Input as input
 use Rattle.pw_parse_grammar.specs.Statements.{up_to, condition, else_if, behind_else, alternative, alternatives, if_stmt, switch_stmt, while_stmt, do_stmt, for_stmt}

@@ -7,7 +7,7 @@ use Rattle.pw_tree.specs.Symbols.{Sign}
 use Rattle.pw_tree.specs.Trees.{Specifiers, InitDeclarator, Decl}
 use Rattle.pw_tree.specs.WellFormed.{HasSpecifier, WellFormedSpecifiers, WellFormedDeclarator, WellFormedInitializer, WellFormedInitDeclarators, WellFormedDecl, WellFormedDecls}
 use Rattle.pw_tree.specs.WellFormed as tree
-use Rattle.pw_tree.specs.declared.symbol.Mark.TheVariants as m
+use Rattle.pw_token.specs.declared.symbol.Mark.TheVariants as m
 use Rattle.pw_parse_grammar.specs.declared.place.Place.{Place}
 use Rattle.pw_parse_grammar.specs.declared.place.Place.TheVariants.{Named}
 use Rattle.pw_parse_grammar.specs.Input.{Input, and_then, ◌>>=◌, ◌>>◌, pure, ◌<$>◌, while_some}

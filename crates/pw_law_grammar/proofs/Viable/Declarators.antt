@@ -8,7 +8,7 @@ use Rattle.pw_tree.specs.Symbols as symbol
 use Rattle.pw_tree.specs.Symbols.{Symbol, Sign}
 use Rattle.pw_tree.specs.Trees.{Declarator, Declaring, Core, Absent, Name, Enclosed, NoSuffix, Array, OpenArray, Prototype, Variadic, Identifiers}
 use Rattle.pw_tree.specs.WellFormed.{IsSomething, begins_with_typedef, MayEnclose, WellFormed, WellFormedDeclarator, WellFormedCore, WellFormedSuffixes}
-use Rattle.pw_tree.specs.declared.symbol.Mark.TheVariants as m
+use Rattle.pw_token.specs.declared.symbol.Mark.TheVariants as m
 use Rattle.pw_parse_grammar.specs.declared.place.Place.{Place}
 use Rattle.pw_parse_grammar.specs.declared.place.Place.TheVariants.{Named, Nameless, Either}
 use Rattle.pw_parse_grammar.specs.Input.{Input, first_of_rest, ahead, step, sees, ◌>>=◌, ◌>>◌, pure, ◌<$>◌, fault, word, expect}

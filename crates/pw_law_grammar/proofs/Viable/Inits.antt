@@ -5,7 +5,7 @@ use Rattle.pw_tree.specs.Spelling.{trailed, spell_init, spell_inits, spell_initi
 use Rattle.pw_tree.specs.Symbols.{Symbol, Sign}
 use Rattle.pw_tree.specs.Trees.{Init, Value, Braces, Inits, NoInit, Listed, Initializer}
 use Rattle.pw_tree.specs.WellFormed.{HasInit, WellFormedInit, WellFormedInits, WellFormedInitializer}
-use Rattle.pw_tree.specs.declared.symbol.Mark.TheVariants as m
+use Rattle.pw_token.specs.declared.symbol.Mark.TheVariants as m
 use Rattle.pw_parse_grammar.specs.Input.{Input, Parser, and_then, ◌>>=◌, ◌>>◌, pure, ◌<$>◌, step, sees, turns, repeat, turn_with}
 use Rattle.pw_parse_grammar.specs.Input as input
 use Rattle.pw_parse_grammar.specs.Declarations.{parts, inits_end, inits, braced, init_of, init, initializer}

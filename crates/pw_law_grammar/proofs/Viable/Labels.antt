@@ -6,9 +6,9 @@ use Rattle.pw_tree.specs.Symbols as symbol
 use Rattle.pw_tree.specs.Symbols.{Symbol, Reserved, Sign}
 use Rattle.pw_tree.specs.Trees.{Word, Expr, Label, CaseLabel, DefaultLabel, NameLabel, Stmt, Expression, Goto, Continue, Break, Return}
 use Rattle.pw_tree.specs.WellFormed.{WellFormed, WellFormedOptional, WellFormedLabel, WellFormedLabels, NotLabeled, WellFormedStmt}
-use Rattle.pw_tree.specs.declared.symbol.Keyword.TheVariants as k
-use Rattle.pw_tree.specs.declared.symbol.Mark.{Mark}
-use Rattle.pw_tree.specs.declared.symbol.Mark.TheVariants as m
+use Rattle.pw_token.specs.declared.symbol.Keyword.TheVariants as k
+use Rattle.pw_token.specs.declared.symbol.Mark.{Mark}
+use Rattle.pw_token.specs.declared.symbol.Mark.TheVariants as m
 use Rattle.pw_parse_grammar.specs.Input.{Input, ahead, step, sees, or_false, and_then, ◌>>=◌, ◌>>◌, pure, ◌<$>◌, expect, ordinary}
 use Rattle.pw_parse_grammar.specs.Input as input
 use Rattle.pw_parse_grammar.specs.Declarations.{parts}

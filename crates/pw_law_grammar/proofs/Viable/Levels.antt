@@ -9,7 +9,7 @@ use Rattle.pw_tree.specs.Trees.{Expr, Chain, Conditional, Assign, Operations, No
 use Rattle.pw_tree.specs.WellFormed.{WellFormed, WellFormedOperations}
 use Rattle.pw_tree.specs.declared.operator.AssignOperator.{AssignOperator}
 use Rattle.pw_tree.specs.declared.operator.BinaryOperator.{BinaryOperator}
-use Rattle.pw_tree.specs.declared.symbol.Mark.TheVariants as m
+use Rattle.pw_token.specs.declared.symbol.Mark.TheVariants as m
 use Rattle.pw_parse_grammar.specs.Input.{Input, ahead, step, sees, pure, ◌<$>◌, fault}
 use Rattle.pw_parse_grammar.specs.Parts.{Parts}
 use Rattle.pw_parse_grammar.specs.Expressions.{with_operations, operation_by, operation, operations, conditional_behind, condition_of, assigned, assignment_by, assignment_to, goes_on, above_cast, expr_of, unary_expr}

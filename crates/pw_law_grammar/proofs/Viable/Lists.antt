@@ -2,7 +2,7 @@
 use Rattle.std.proofs.Common.{◌≡◌, ℕ, zero, suc, ◌<◌, ◌≤◌, Bool, true, false, if◌then◌else◌, List, ◌∷◌, length, Option, Some, None, arith, refl}
 use Rattle.pw_tree.specs.Scopes.{Env}
 use Rattle.pw_tree.specs.Symbols.{Symbol, Sign}
-use Rattle.pw_tree.specs.declared.symbol.Mark.TheVariants as m
+use Rattle.pw_token.specs.declared.symbol.Mark.TheVariants as m
 use Rattle.pw_parse_grammar.specs.Input.{Input, Parser, ◌>>=◌, ◌<$>◌, pure, sees, past, step, Turn, More, Last, go_on, repeat, turn_of, while_some, turns, one_or_more, turn_with, unless_comma}
 use Rattle.pw_law_grammar.proofs.Trees.Base.{names_of, no_turns}
 use Rattle.pw_law_grammar.proofs.Sound.Base.{Reads, both, sign}

@@ -5,7 +5,7 @@ use Rattle.pw_tree.specs.Spelling.{identifier, spell_expr, spell_declarator, spe
 use Rattle.pw_tree.specs.Symbols.{Symbol, Sign}
 use Rattle.pw_tree.specs.Trees.{Word, Expr, MemberDeclarators, NoMemberDeclarator, PlainMember, BitField, Padding, Enumerators, NoEnumerator, PlainEnumerator, ValuedEnumerator}
 use Rattle.pw_tree.specs.WellFormed.{HasMemberDeclarator, HasEnumerator, WellFormed, WellFormedMemberDeclarators, WellFormedEnumerators}
-use Rattle.pw_tree.specs.declared.symbol.Mark.TheVariants as m
+use Rattle.pw_token.specs.declared.symbol.Mark.TheVariants as m
 use Rattle.pw_parse_grammar.specs.declared.place.Place.TheVariants.{Named}
 use Rattle.pw_parse_grammar.specs.Input.{Input, step, sees, Parser, ◌>>=◌, ◌>>◌, pure, ◌<$>◌, expect}
 use Rattle.pw_parse_grammar.specs.Input as input

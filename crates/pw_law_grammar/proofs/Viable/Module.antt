@@ -6,7 +6,7 @@ use Rattle.pw_tree.specs.Symbols.{Symbol, Sign}
 use Rattle.pw_tree.specs.Trees.{Specifiers, Declarator, Block, Braced, NoStmt, External, Definition, Declaration}
 use Rattle.pw_tree.specs.WellFormed.{NotEmpty, HasSpecifier, WellFormedSpecifiers, WellFormedDeclarator, WellFormedExternal, WellFormedExternals, WellFormedStmt}
 use Rattle.pw_tree.specs.WellFormed as tree
-use Rattle.pw_tree.specs.declared.symbol.Mark.TheVariants as m
+use Rattle.pw_token.specs.declared.symbol.Mark.TheVariants as m
 use Rattle.pw_parse_grammar.specs.declared.place.Place.TheVariants.{Named}
 use Rattle.pw_parse_grammar.specs.Input.{Input, at_end, Parser, and_then, ◌>>=◌, ◌>>◌, pure, ◌<$>◌, Binding}
 use Rattle.pw_parse_grammar.specs.Input as input

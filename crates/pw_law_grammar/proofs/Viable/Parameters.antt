@@ -5,7 +5,7 @@ use Rattle.pw_tree.specs.Spelling.{spell_expr, spell_specifiers, spell_declarato
 use Rattle.pw_tree.specs.Symbols.{Symbol, Sign}
 use Rattle.pw_tree.specs.Trees.{Parameters, NoParameter, Parameter}
 use Rattle.pw_tree.specs.WellFormed.{HasParameter, WellFormed, WellFormedParameters}
-use Rattle.pw_tree.specs.declared.symbol.Mark.TheVariants as m
+use Rattle.pw_token.specs.declared.symbol.Mark.TheVariants as m
 use Rattle.pw_parse_grammar.specs.declared.place.Place.TheVariants.{Either}
 use Rattle.pw_parse_grammar.specs.Input.{Input, step, sees, past, pure, ◌<$>◌, eat}
 use Rattle.pw_parse_grammar.specs.Parts.{Parts}

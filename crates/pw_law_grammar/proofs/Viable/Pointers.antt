@@ -5,8 +5,8 @@ use Rattle.pw_tree.specs.Spelling.{identifier, spell_identifiers}
 use Rattle.pw_tree.specs.Symbols.{Symbol, Reserved, Sign}
 use Rattle.pw_tree.specs.Trees.{Word}
 use Rattle.pw_tree.specs.WellFormed.{NotEmpty, NoneTypedef}
-use Rattle.pw_tree.specs.declared.symbol.Keyword.TheVariants as k
-use Rattle.pw_tree.specs.declared.symbol.Mark.TheVariants as m
+use Rattle.pw_token.specs.declared.symbol.Keyword.TheVariants as k
+use Rattle.pw_token.specs.declared.symbol.Mark.TheVariants as m
 use Rattle.pw_parse_grammar.specs.Input.{Input, ahead, step, sees, pure, ◌<$>◌, ordinary, turns}
 use Rattle.pw_parse_grammar.specs.Tests as tests
 use Rattle.pw_parse_grammar.specs.Declarators.{qualifier_by, qualifier, qualifiers, starred, pointer, pointers, name_in_list, names_in_list}

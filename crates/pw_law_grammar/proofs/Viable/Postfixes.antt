@@ -9,7 +9,7 @@ use Rattle.pw_tree.specs.declared.operator.Access.{Access}
 use Rattle.pw_tree.specs.declared.operator.Access.TheVariants as access
 use Rattle.pw_tree.specs.declared.operator.StepOperator.{StepOperator}
 use Rattle.pw_tree.specs.declared.operator.StepOperator.TheVariants as stepping
-use Rattle.pw_tree.specs.declared.symbol.Mark.TheVariants as m
+use Rattle.pw_token.specs.declared.symbol.Mark.TheVariants as m
 use Rattle.pw_parse_grammar.specs.Input.{Input, ahead, step, sees, Parser, ◌>>=◌, ◌>>◌, pure, ◌<$>◌, expect}
 use Rattle.pw_parse_grammar.specs.Input as input
 use Rattle.pw_parse_grammar.specs.Parts.{Parts}

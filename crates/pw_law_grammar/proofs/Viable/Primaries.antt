@@ -7,7 +7,7 @@ use Rattle.pw_tree.specs.Symbols.{Symbol, Reserved, Sign}
 use Rattle.pw_tree.specs.Trees.{Expr, Identifier, Strings, Paren, Specifiers, NoSpecifier, Storage, Qualified, Basic, TypedefName, RecordTag, Record, EnumTag, Enum, Declarator, Declaring, Absent, NoSuffix}
 use Rattle.pw_tree.specs.WellFormed.{HasSpecifier, NoStorage, WellFormed, WellFormedSpecifiers, WellFormedDeclarator}
 use Rattle.pw_tree.specs.WellFormed as tree
-use Rattle.pw_tree.specs.declared.symbol.Mark.TheVariants as m
+use Rattle.pw_token.specs.declared.symbol.Mark.TheVariants as m
 use Rattle.pw_parse_grammar.specs.declared.place.Place.TheVariants.{Nameless}
 use Rattle.pw_parse_grammar.specs.Input.{Input, ahead, step, Parser, ◌>>=◌, ◌>>◌, pure, ◌<$>◌, fault, word, expect, identifier_by, ordinary_by, ordinary, turns}
 use Rattle.pw_parse_grammar.specs.Input as input

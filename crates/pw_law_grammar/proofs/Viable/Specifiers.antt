@@ -8,9 +8,9 @@ use Rattle.pw_tree.specs.Symbols.{Symbol, Reserved, Sign, storage_word, qualifie
 use Rattle.pw_tree.specs.Trees.{Word, Specifiers, NoSpecifier, Storage, Qualified, Basic, TypedefName, RecordTag, Record, EnumTag, Enum, Members, NoMember, Member, MemberDeclarators, NoMemberDeclarator, Padding}
 use Rattle.pw_tree.specs.WellFormed.{HasMember, NoStorage, WellFormed, WellFormedSpecifiers, WellFormedMembers}
 use Rattle.pw_tree.specs.declared.expr.RecordKind.{RecordKind}
-use Rattle.pw_tree.specs.declared.symbol.Keyword.{Keyword}
-use Rattle.pw_tree.specs.declared.symbol.Keyword.TheVariants as k
-use Rattle.pw_tree.specs.declared.symbol.Mark.TheVariants as m
+use Rattle.pw_token.specs.declared.symbol.Keyword.{Keyword}
+use Rattle.pw_token.specs.declared.symbol.Keyword.TheVariants as k
+use Rattle.pw_token.specs.declared.symbol.Mark.TheVariants as m
 use Rattle.pw_parse_grammar.specs.declared.word.SpecifierWord.{SpecifierWord}
 use Rattle.pw_parse_grammar.specs.declared.word.SpecifierWord.TheVariants as words
 use Rattle.pw_parse_grammar.specs.Input.{Input, ahead, step, sees, past, or_false, Parser, ◌>>=◌, ◌>>◌, pure, ◌<$>◌, word, eat, expect, turns}

@@ -5,8 +5,8 @@ use Rattle.pw_tree.specs.Spelling.{spell_labels, spell_stmt, spell_block, spell_
 use Rattle.pw_tree.specs.Symbols.{Symbol, Reserved, Sign}
 use Rattle.pw_tree.specs.Trees.{Label, Stmt, Compound, Empty, Labeled, Block, Braced, Stmts, NoStmt, Next}
 use Rattle.pw_tree.specs.WellFormed.{WellFormedLabels, WellFormedStmt, WellFormedBlock, WellFormedStmts}
-use Rattle.pw_tree.specs.declared.symbol.Keyword.TheVariants as k
-use Rattle.pw_tree.specs.declared.symbol.Mark.TheVariants as m
+use Rattle.pw_token.specs.declared.symbol.Keyword.TheVariants as k
+use Rattle.pw_token.specs.declared.symbol.Mark.TheVariants as m
 use Rattle.pw_parse_grammar.specs.Input.{Input, ahead, sees, Parser, and_then, ◌>>=◌, ◌>>◌, pure, ◌<$>◌, expect}
 use Rattle.pw_parse_grammar.specs.Input as input
 use Rattle.pw_parse_grammar.specs.Declarations.{declarations}

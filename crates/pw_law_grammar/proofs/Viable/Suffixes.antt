@@ -7,7 +7,7 @@ use Rattle.pw_tree.specs.Symbols as symbol
 use Rattle.pw_tree.specs.Symbols.{Symbol, Sign}
 use Rattle.pw_tree.specs.Trees.{Word, Expr, Suffixes, NoSuffix, Array, OpenArray, Prototype, Variadic, Identifiers, Parameters, NoParameter}
 use Rattle.pw_tree.specs.WellFormed.{NotEmpty, NoneTypedef, HasParameter, WellFormed, WellFormedSuffixes, WellFormedParameters}
-use Rattle.pw_tree.specs.declared.symbol.Mark.TheVariants as m
+use Rattle.pw_token.specs.declared.symbol.Mark.TheVariants as m
 use Rattle.pw_parse_grammar.specs.Input.{Input, ahead, step, Parser, ◌>>=◌, ◌>>◌, pure, ◌<$>◌, expect}
 use Rattle.pw_parse_grammar.specs.Input as input
 use Rattle.pw_parse_grammar.specs.Parts.{Parts}

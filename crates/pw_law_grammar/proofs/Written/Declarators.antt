@@ -8,8 +8,8 @@ use Rattle.pw_tree.specs.Symbols as symbol
 use Rattle.pw_tree.specs.Symbols.{Symbol, Reserved, Sign, unary_symbol, binary_mark, assign_mark, access_mark, step_mark}
 use Rattle.pw_tree.specs.Trees.{Word, Expr, Specifiers, Declarator, Declaring, Core, Absent, Name, Enclosed, Suffixes, NoSuffix, Array, OpenArray, Prototype, Variadic, Identifiers, Parameters, NoParameter, Parameter}
 use Rattle.pw_tree.specs.WellFormed.{is_named, has_name, NoneTypedef, IsSomething, MayEnclose, WellFormed, WellFormedDeclarator, WellFormedCore, WellFormedSuffixes, WellFormedParameters}
-use Rattle.pw_tree.specs.declared.symbol.Keyword.TheVariants as k
-use Rattle.pw_tree.specs.declared.symbol.Mark.TheVariants as m
+use Rattle.pw_token.specs.declared.symbol.Keyword.TheVariants as k
+use Rattle.pw_token.specs.declared.symbol.Mark.TheVariants as m
 use Rattle.pw_parse_grammar.specs.declared.place.Place.{Place}
 use Rattle.pw_parse_grammar.specs.declared.place.Place.TheVariants.{Named, Nameless, Either}
 use Rattle.pw_parse_grammar.specs.Input.{Input, ahead, step, same_mark, is_mark, sees, Parser, pure, ◌<$>◌, past, expect, repeat, turn_of, Turn}

@@ -13,8 +13,8 @@ use Rattle.pw_tree.specs.WellFormed.{WellFormed, WellFormedSpecifiers, WellForme
 use Rattle.pw_tree.specs.WellFormed as tree
 use Rattle.pw_tree.specs.declared.operator.BinaryOperator.{BinaryOperator}
 use Rattle.pw_tree.specs.declared.operator.BinaryOperator.TheVariants as binary
-use Rattle.pw_tree.specs.declared.symbol.Keyword.TheVariants as k
-use Rattle.pw_tree.specs.declared.symbol.Mark.TheVariants as m
+use Rattle.pw_token.specs.declared.symbol.Keyword.TheVariants as k
+use Rattle.pw_token.specs.declared.symbol.Mark.TheVariants as m
 use Rattle.pw_parse_grammar.specs.declared.place.Place.{Place}
 use Rattle.pw_parse_grammar.specs.declared.place.Place.TheVariants.{Named, Nameless, Either}
 use Rattle.pw_parse_grammar.specs.Input.{Parser, Binding}

@@ -11,7 +11,7 @@ use Rattle.pw_tree.specs.declared.operator.AssignOperator.{AssignOperator}
 use Rattle.pw_tree.specs.declared.operator.AssignOperator.TheVariants as assign
 use Rattle.pw_tree.specs.declared.operator.BinaryOperator.{BinaryOperator}
 use Rattle.pw_tree.specs.declared.operator.BinaryOperator.TheVariants as binary
-use Rattle.pw_tree.specs.declared.symbol.Mark.TheVariants as m
+use Rattle.pw_token.specs.declared.symbol.Mark.TheVariants as m
 use Rattle.pw_parse_grammar.specs.Input.{ahead, step, same_mark, sees, ◌<$>◌, expect, repeat, turn_of}
 use Rattle.pw_parse_grammar.specs.Parts.{Parts}
 use Rattle.pw_parse_grammar.specs.Expressions.{with_operations, operation, operations, conditional_behind, condition_of, assignment_to, assigned, goes_on, above_cast, expr_of}

@@ -6,7 +6,7 @@ use Rattle.pw_tree.specs.Spelling.{identifier, spell_identifiers, spell_qualifie
 use Rattle.pw_tree.specs.Symbols.{Symbol, Sign}
 use Rattle.pw_tree.specs.Trees.{Word, Pointer}
 use Rattle.pw_tree.specs.WellFormed.{NotEmpty, NotTypedef, NoneTypedef}
-use Rattle.pw_tree.specs.declared.symbol.Mark.TheVariants as m
+use Rattle.pw_token.specs.declared.symbol.Mark.TheVariants as m
 use Rattle.pw_parse_grammar.specs.Input.{ahead, step, same_mark, is_mark, sees, Parser, ◌<$>◌, ordinary_by, repeat, turn_of, unless_comma, Turn}
 use Rattle.pw_tree.specs.declared.expr.Qualifier.{Qualifier}
 use Rattle.pw_tree.specs.declared.expr.Qualifier.TheVariants as qualifier_kind

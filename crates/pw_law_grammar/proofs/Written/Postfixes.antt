@@ -9,7 +9,7 @@ use Rattle.pw_tree.specs.Trees.{Expr, Postfixes, NoPostfix, Index, Call, Select,
 use Rattle.pw_tree.specs.WellFormed.{WellFormed, WellFormedPostfixes, WellFormedArguments}
 use Rattle.pw_tree.specs.declared.operator.Access.TheVariants as access
 use Rattle.pw_tree.specs.declared.operator.StepOperator.TheVariants as stepping
-use Rattle.pw_tree.specs.declared.symbol.Mark.TheVariants as m
+use Rattle.pw_token.specs.declared.symbol.Mark.TheVariants as m
 use Rattle.pw_parse_grammar.specs.Input.{ahead, step, same_mark, sees, ◌<$>◌, expect, identifier_by, repeat, turn_of, unless_comma}
 use Rattle.pw_parse_grammar.specs.Parts.{Parts}
 use Rattle.pw_parse_grammar.specs.Expressions.{with_postfixes, argument, some_arguments, arguments, index, call, select, step_behind, postfix_operation, postfixes, postfix_expr}

@@ -7,8 +7,8 @@ use Rattle.pw_tree.specs.Symbols as symbol
 use Rattle.pw_tree.specs.Symbols.{Symbol, Reserved, Sign, unary_symbol, binary_mark, assign_mark, access_mark, step_mark}
 use Rattle.pw_tree.specs.Trees.{Word, Specifiers, NoSpecifier, Storage, Qualified, Basic, TypedefName, RecordTag, Record, EnumTag, Enum, Members, Enumerators}
 use Rattle.pw_tree.specs.WellFormed.{NoStorage, HasMember, HasEnumerator, WellFormed, WellFormedSpecifiers, WellFormedMembers, WellFormedEnumerators}
-use Rattle.pw_tree.specs.declared.symbol.Keyword.TheVariants as k
-use Rattle.pw_tree.specs.declared.symbol.Mark.TheVariants as m
+use Rattle.pw_token.specs.declared.symbol.Keyword.TheVariants as k
+use Rattle.pw_token.specs.declared.symbol.Mark.TheVariants as m
 use Rattle.pw_parse_grammar.specs.Input.{Input, ahead, step, same_mark, is_mark, sees, Outcome, pure, past}
 use Rattle.pw_parse_grammar.specs.Parts.{Parts}
 use Rattle.pw_tree.specs.declared.expr.BasicType.{BasicType}

@@ -6,9 +6,9 @@ use Rattle.pw_tree.specs.Spelling.{spell_expr, spell_optional, spell_decls, spel
 use Rattle.pw_tree.specs.Symbols.{Symbol, Reserved, Sign}
 use Rattle.pw_tree.specs.Trees.{Expr, Decl, Label, CaseLabel, DefaultLabel, NameLabel, Stmt, Compound, Expression, Empty, Labeled, If, Switch, While, Do, For, Goto, Continue, Break, Return, Alternative, NoElse, Otherwise, ElseIf, Braced, Stmts, NoStmt, Next}
 use Rattle.pw_tree.specs.WellFormed.{WellFormed, WellFormedOptional, WellFormedDecls, WellFormedLabel, WellFormedLabels, NotLabeled, ends_open, alternative_ends_open, MayPrecede, WellFormedStmt, WellFormedAlternative, WellFormedStmts}
-use Rattle.pw_tree.specs.declared.symbol.Keyword.TheVariants as k
-use Rattle.pw_tree.specs.declared.symbol.Mark.{Mark}
-use Rattle.pw_tree.specs.declared.symbol.Mark.TheVariants as m
+use Rattle.pw_token.specs.declared.symbol.Keyword.TheVariants as k
+use Rattle.pw_token.specs.declared.symbol.Mark.{Mark}
+use Rattle.pw_token.specs.declared.symbol.Mark.TheVariants as m
 use Rattle.pw_parse_grammar.specs.Input.{ahead, step, same_mark, same_keyword, is_mark, is_keyword, sees, sees_keyword, Parser, ◌<$>◌, past, past_keyword, expect, expect_keyword, identifier_by, repeat, turn_of}
 use Rattle.pw_parse_grammar.specs.Statements as rules
 use Rattle.pw_parse_grammar.specs.Tests.{begins_declaration, begins_specifier}

@@ -10,8 +10,8 @@ use Rattle.pw_tree.specs.WellFormed.{NotEmpty, HasPostfix, HasSpecifier, HasMemb
 use Rattle.pw_tree.specs.WellFormed as tree
 use Rattle.pw_tree.specs.declared.operator.UnaryOperator.{UnaryOperator}
 use Rattle.pw_tree.specs.declared.operator.UnaryOperator.TheVariants as unary
-use Rattle.pw_tree.specs.declared.symbol.Keyword.TheVariants as k
-use Rattle.pw_tree.specs.declared.symbol.Mark.TheVariants as m
+use Rattle.pw_token.specs.declared.symbol.Keyword.TheVariants as k
+use Rattle.pw_token.specs.declared.symbol.Mark.TheVariants as m
 use Rattle.pw_parse_grammar.specs.Input.{ahead, step, same_mark, sees}
 use Rattle.pw_parse_grammar.specs.Parts.{Parts}
 use Rattle.pw_parse_grammar.specs.Expressions.{with_postfixes, postfix_expr, operated, operated_or_postfix, size, unary_expr, cast_to, cast_expr}

@@ -5,7 +5,7 @@ use Rattle.pw_token.proofs.marks.longest_in.Given as goal
 -- what is left of the table gives the answer
 abbrev pub invariant-loop-rest : goal.invariant-loop-rest
 invariant-loop-rest l =
-    (longest_in l.longest (map (λ mark. mark.now) l.rest) l.text ≡ longest_in 0 (map (λ mark. mark.now) l.table) l.text) × (l.longest ≤ length l.text)
+    (longest_in l.longest (map (λ mark. mark.now) l.rest) l.text ≡ longest_in l.best (map (λ mark. mark.now) l.table) l.text) × (l.longest ≤ length l.text)
 
 abbrev pub decreases-loop-rest : goal.decreases-loop-rest
 decreases-loop-rest l = length l.rest

@@ -1,6 +1,6 @@
 use Rattle.std.proofs.Common.{◌≡◌, length}
-use Rattle.pw_tree.specs.Symbols.{with_text, keyword_text, all_keywords}
-use Rattle.pw_tree.proofs.symbol.Keyword.with_text.Given as goal
+use Rattle.pw_token.specs.Words.{with_text, keyword_text, all_keywords}
+use Rattle.pw_token.proofs.symbol.Keyword.with_text.Given as goal
 
 -- what is left of the table gives the answer
 abbrev pub invariant-loop-rest : goal.invariant-loop-rest

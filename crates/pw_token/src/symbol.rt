@@ -1,7 +1,7 @@
 //! The keywords and the marks of the language.
 
 ghost use Rattle.std.specs.Prelude.{◌≡◌};
-ghost use Rattle.pw_tree.specs.Symbols as spec;
+ghost use Rattle.pw_token.specs.Words as spec;
 
 /// A keyword (C90 6.1.1).
 #[derive(Clone, Copy, PartialEq, Eq)]
@@ -40,7 +40,7 @@ pub enum Keyword {
     While,
 }
 
-/// An operator but `sizeof`, or a punctuator (C90 6.1.5, 6.1.6), without `#` and `##`, which stand in no tree.
+/// An operator but `sizeof`, or a punctuator (C90 6.1.5, 6.1.6), without `#` and `##`, which stand in directives alone.
 #[derive(Clone, Copy, PartialEq, Eq)]
 pub enum Mark {
     /// `[`
@@ -137,6 +137,7 @@ pub enum Mark {
     Ellipsis,
 }
 
+/// The keywords.
 const KEYWORDS: [Keyword; 32] = [
     Keyword::Auto,
     Keyword::Break,
@@ -214,7 +215,7 @@ impl Keyword {
     }
 
     /// The one with these bytes.
-    #[tactic(auto, unfolding(crate::specs::Symbols::keyword_of))]
+    #[tactic(auto, unfolding(crate::specs::Words::keyword_of))]
     pub fn with_text(text: &[u8]) -> Option<Keyword>
         ensures { result ≡ spec.keyword_of text.now }
     {
@@ -229,7 +230,8 @@ impl Keyword {
     }
 }
 
-const MARKS: [Mark; 46] = [
+/// The marks of the grammar.
+pub const MARKS: [Mark; 46] = [
     Mark::OpenBracket,
     Mark::CloseBracket,
     Mark::OpenParen,
@@ -334,7 +336,7 @@ impl Mark {
     }
 
     /// The one with these bytes.
-    #[tactic(auto, unfolding(crate::specs::Symbols::mark_of))]
+    #[tactic(auto, unfolding(crate::specs::Words::mark_of))]
     pub fn with_text(text: &[u8]) -> Option<Mark>
         ensures { result ≡ spec.mark_of text.now }
     {
