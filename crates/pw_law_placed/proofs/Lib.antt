@@ -1,0 +1,17 @@
+mod Lists
+mod Commands
+mod Standing
+mod Places
+mod Waiting
+mod Writing
+mod Operations
+mod Blocks
+mod Webs
+mod WebSteps
+mod Noting
+mod Library
+mod Naming
+mod Begun
+mod Entering
+mod Receiving
+mod Calling
