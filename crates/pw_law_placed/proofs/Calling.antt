@@ -3,10 +3,8 @@ use Rattle.std.specs.Prelude.{ℕ, zero, suc, ◌≡◌, ◌≤◌, ◌<◌, ◌
 use Rattle.std.proofs.Common.{◌⊎◌, arith, refl, sym, ap, subst, ◌∙◌, inl, inr}
 use Rattle.std.specs.List.{flat_map, range_with_len, AllByRecursion}
 use Rattle.std.specs.Str.{bytes_eq}
-use Rattle.std.proofs.lemmas.Bool.{cases_eq, cases_lt, eqb-false}
+use Rattle.std.proofs.lemmas.Bool.{cases_eq, cases_lt, eqb-true, eqb-false}
 use Rattle.std.proofs.lemmas.List.{length-replicate}
-use Rattle.std.proofs.lemmas.Option.{slice_get_within, get_or_from_slice_get}
-use Rattle.std.proofs.lemmas.List.Elements.{Contains-get_or}
 use Rattle.pw_value.specs.declared.value.Value.{Value}
 use Rattle.pw_value.specs.declared.value.Value.TheVariants.{Undefined}
 use Rattle.pw_files.proofs.Standing.{Has, has_by, contains_by, has_map_back, has_flat, has_flat_back, has_each}
@@ -21,6 +19,7 @@ use Rattle.pw_flow.specs.declared.flow.FlowModule.{FlowModule}
 use Rattle.pw_flow.specs.ValidFlow.{IsValid, IsFunction}
 use Rattle.pw_webflow.specs.declared.web.WebBlock.{WebBlock}
 use Rattle.pw_webflow.specs.declared.web.WebFn.{WebFn}
+use Rattle.pw_webflow.specs.Direction.{directed}
 use Rattle.pw_webflow.specs.ValidWebs.{HasRegister, IsWebFn}
 use Rattle.pw_webflow.proofs.DirectionLaws.{directed_lawful}
 use Rattle.pw_alloc.specs.Allocation.{is_entry, saved_of}
@@ -33,15 +32,18 @@ use Rattle.pw_db_sound.specs.Sound.{Has as HasRole}
 use Rattle.pw_run_flow.specs.Programs.{Program, functions_of}
 use Rattle.pw_run_webs.specs.Programs.{IsProgram, graph_of}
 use Rattle.pw_run_webs.specs.Direction.{directives_of, directed_by, directed_functions, unplaced, with_functions}
-use Rattle.pw_run_webs.specs.PlacedRun.{Machine, Step, On, Stopped, Astray, entered_webs, without_places}
+use Rattle.pw_run_webs.specs.PlacedRun.{PlacedProgram, Machine, Step, On, Stopped, Astray, entered_webs, without_places, with_parameters, and_then, enters_webs, entered, begins, calls_defined, counted, noted, kept, depth, first_block}
 use Rattle.pw_run_webs.specs.Serving.{Serves}
 use Rattle.pw_law_placed.specs.Twins.{Active, Twin, bare_side, placed_side, bare_program}
-use Rattle.pw_law_placed.specs.Alike.{Registers, name_of, IsPlaced, IsReady, IsCalling, Follows}
+use Rattle.pw_law_placed.specs.Alike.{Registers, name_of, IsPlaced, IsReady, IsCalling, Follows, goes, strays}
 use Rattle.pw_law_placed.proofs.Begun.{begun, begun_temps, bare_under, placed_under, uncleared}
-use Rattle.pw_law_placed.proofs.Entering.{Entering}
+use Rattle.pw_law_placed.proofs.Entering.{Entering, LoadsBoth, all_loaded, unloaded, loads_both}
+use Rattle.pw_law_placed.proofs.Receiving.{Receiving, all_received, received_alike}
+use Rattle.pw_law_placed.proofs.Library.{call_noted, call_ready, refusal_follows}
+use Rattle.pw_law_placed.proofs.Noting.{bare_globals, placed_globals, depth_same}
 use Rattle.pw_law_placed.proofs.WebSteps.{register_web}
 use Rattle.pw_law_placed.proofs.Webs.{web_has, web_register}
-use Rattle.pw_law_directed.proofs.Directives.{web_range}
+use Rattle.pw_law_directed.proofs.Directives.{web_range, entered_role}
 
 -- ---- what a function of the program is
 
@@ -108,9 +110,6 @@ keys : (a : Registers) (rs : List ℕ) → map (λ (s : ℕ × Value). s.0) (map
 keys a [] = refl
 keys a (r ∷ rs) = ap (λ (qs : List ℕ). r ∷ qs) (keys a rs)
 
-block_there : (bs : List WebBlock) (b : ℕ) (block : WebBlock) → slice_get bs b ≡ Some block → Contains bs block
-block_there bs b block e = subst (Contains bs) (get_or_from_slice_get bs b block block e) (Contains-get_or bs b block (slice_get_within bs b block e))
-
 module _ (p : Program) (d : List (List ℕ × Directives)) (base : IsDatabase d) (sound : Sound (graph_of p) d) where
   begun_placed : (l : Located) (b : WebBlock) (to : Option ℕ) (x : Twin) → IsOfProgram p d l.body → Serves l.body l → IsPlaced p d (begun l b to x).frame
   begun_placed l b to x is serves = record {
@@ -142,12 +141,18 @@ module _ (p : Program) (d : List (List ℕ × Directives)) (base : IsDatabase d)
           ∙ sym (uncleared l.places x.bank r (λ c. (is.serves.registers r c).1 own))
 
   pub begun_entering : (l : Located) (b : WebBlock) (to : Option ℕ) (x : Twin) → IsOfProgram p d l.body → Serves l.body l → slice_get l.body.blocks 0 ≡ Some b → IsReady p d x to
-      → Calls (graph_of p) (name_of x.frame) l.body.name → Entering p d x (entered_webs l) (begun l b to x)
+      → Calls (graph_of p) (name_of x.frame) l.body.name → Entering p d x l to (entered_webs l) (begun l b to x)
   begun_entering l b to x of serves first ready edge =
       let is = begun_placed l b to x of serves in
       record {
         placed = is;
-        inside = record { block = b; there = block_there l.body.blocks 0 b first; before = []; ops = refl; is = refl };
+        block = b;
+        first = first;
+        ops = refl;
+        end = refl;
+        result = refl;
+        function = refl;
+        edge = edge;
         webs = begun_webs l b to x is ready edge;
         temps = begun_temps l b to x;
         bare_under = λ q high. bare_under l b to x q;

@@ -37,6 +37,7 @@ pub record Receiving (p : Program) (d : List (List ℕ × Directives)) (old : Tw
   pub ops : x.frame.ops ≡ block.ops
   pub end : x.frame.end ≡ block.end
   pub result : x.frame.result ≡ to
+  pub edge : Calls (graph_of p) (name_of old.frame) (name_of x.frame)
   pub webs : (r : ℕ) → HasRegister x.frame.function.body.directives r → x.registers r ≡ x.bank r
   pub temps : (t : ℕ) → (t < x.frame.function.body.params) ⊎ Live x.frame.function.body t block.ops block.end → bare_value x.frame t ≡ placed_value x.frame x.bank t
   pub bare_under : (q : ℕ) → q ≤ last_register → given_back x.frame.bare x.registers q ≡ old.registers q
@@ -73,6 +74,7 @@ module _ (p : Program) (d : List (List ℕ × Directives)) (old : Twin) (to : Op
         ops = e.ops;
         end = e.end;
         result = e.result;
+        edge = e.edge;
         webs = λ q h. e.webs q h ∙ written_other r q v x.bank (λ same.
             (e.placed.serves.registers r (place_there x.frame.function.places t (Reg r) there)).1 (subst (HasRegister x.frame.function.body.directives) same h));
         temps = λ u needed. elim (cases_eq t u) [
@@ -93,6 +95,7 @@ module _ (p : Program) (d : List (List ℕ × Directives)) (old : Twin) (to : Op
     ops = e.ops;
     end = e.end;
     result = e.result;
+    edge = e.edge;
     webs = e.webs;
     temps = λ u needed. elim (cases_eq t u) [
       | inl same ↦ subst (λ (n : ℕ). bare_value (puts x t v None).frame n ≡ placed_value (puts x t v None).frame (puts x t v None).bank n) same (own_put p d x t v None is e.placed)
