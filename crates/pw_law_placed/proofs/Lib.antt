@@ -1,0 +1,13 @@
+mod Lists
+mod Commands
+mod Standing
+mod Places
+mod Waiting
+mod Writing
+mod Operations
+mod Blocks
+mod Webs
+mod WebSteps
+mod Noting
+mod Library
+mod Naming
