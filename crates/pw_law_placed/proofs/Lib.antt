@@ -15,3 +15,4 @@ mod Begun
 mod Entering
 mod Receiving
 mod Calling
+mod Returning

@@ -37,6 +37,7 @@ pub record Receiving (p : Program) (d : List (List ℕ × Directives)) (old : Tw
   pub ops : x.frame.ops ≡ block.ops
   pub end : x.frame.end ≡ block.end
   pub result : x.frame.result ≡ to
+  pub edge : Calls (graph_of p) (name_of old.frame) (name_of x.frame)
   pub webs : (r : ℕ) → HasRegister x.frame.function.body.directives r → x.registers r ≡ x.bank r
   pub temps : (t : ℕ) → (t < x.frame.function.body.params) ⊎ Live x.frame.function.body t block.ops block.end → bare_value x.frame t ≡ placed_value x.frame x.bank t
   pub bare_under : (q : ℕ) → q ≤ last_register → given_back x.frame.bare x.registers q ≡ old.registers q
@@ -68,11 +69,7 @@ module _ (p : Program) (d : List (List ℕ × Directives)) (old : Twin) (to : Op
       let there = of_register (slice_get x.frame.function.places t) r is in
       record {
         placed = put_placed p d x t v (Some r) e.placed;
-        block = e.block;
-        first = e.first;
-        ops = e.ops;
-        end = e.end;
-        result = e.result;
+        block = e.block; first = e.first; ops = e.ops; end = e.end; result = e.result; edge = e.edge;
         webs = λ q h. e.webs q h ∙ written_other r q v x.bank (λ same.
             (e.placed.serves.registers r (place_there x.frame.function.places t (Reg r) there)).1 (subst (HasRegister x.frame.function.body.directives) same h));
         temps = λ u needed. elim (cases_eq t u) [
@@ -81,18 +78,11 @@ module _ (p : Program) (d : List (List ℕ × Directives)) (old : Twin) (to : Op
         ];
         bare_under = e.bare_under;
         placed_under = λ q high. given_same p d x.frame t r q v x.bank e.placed there high ∙ e.placed_under q high;
-        before = e.before;
-        callers = e.callers;
-        log = e.log;
-        keeps = e.keeps;
+        before = e.before; callers = e.callers; log = e.log; keeps = e.keeps;
       }
   one_received x t v None is low e = record {
     placed = put_placed p d x t v None e.placed;
-    block = e.block;
-    first = e.first;
-    ops = e.ops;
-    end = e.end;
-    result = e.result;
+    block = e.block; first = e.first; ops = e.ops; end = e.end; result = e.result; edge = e.edge;
     webs = e.webs;
     temps = λ u needed. elim (cases_eq t u) [
       | inl same ↦ subst (λ (n : ℕ). bare_value (puts x t v None).frame n ≡ placed_value (puts x t v None).frame (puts x t v None).bank n) same (own_put p d x t v None is e.placed)
@@ -100,10 +90,7 @@ module _ (p : Program) (d : List (List ℕ × Directives)) (old : Twin) (to : Op
     ];
     bare_under = e.bare_under;
     placed_under = e.placed_under;
-    before = e.before;
-    callers = e.callers;
-    log = e.log;
-    keeps = e.keeps;
+    before = e.before; callers = e.callers; log = e.log; keeps = e.keeps;
   }
 
   -- both runs with all of them
