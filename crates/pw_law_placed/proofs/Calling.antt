@@ -113,15 +113,9 @@ keys a (r ∷ rs) = ap (λ (qs : List ℕ). r ∷ qs) (keys a rs)
 module _ (p : Program) (d : List (List ℕ × Directives)) (base : IsDatabase d) (sound : Sound (graph_of p) d) where
   begun_placed : (l : Located) (b : WebBlock) (to : Option ℕ) (x : Twin) → IsOfProgram p d l.body → Serves l.body l → IsPlaced p d (begun l b to x).frame
   begun_placed l b to x is serves = record {
-    flow = is.flow;
-    there = is.there;
-    body = is.body;
-    lawful = is.lawful;
-    serves = serves;
-    bare = keys x.registers (saved_of l.body);
-    placed = keys x.bank l.saved;
-    room = length-replicate l.body.temps Undefined;
-    words = length-replicate l.body.temps Undefined;
+    flow = is.flow; there = is.there; body = is.body; lawful = is.lawful; serves = serves;
+    bare = keys x.registers (saved_of l.body); placed = keys x.bank l.saved;
+    room = length-replicate l.body.temps Undefined; words = length-replicate l.body.temps Undefined;
   }
 
   -- the registers of webs in which it is a member are those of its caller's
@@ -146,13 +140,7 @@ module _ (p : Program) (d : List (List ℕ × Directives)) (base : IsDatabase d)
       let is = begun_placed l b to x of serves in
       record {
         placed = is;
-        block = b;
-        first = first;
-        ops = refl;
-        end = refl;
-        result = refl;
-        function = refl;
-        edge = edge;
+        block = b; first = first; ops = refl; end = refl; result = refl; function = refl; edge = edge;
         webs = begun_webs l b to x is ready edge;
         temps = begun_temps l b to x;
         bare_under = λ q high. bare_under l b to x q;
@@ -162,3 +150,42 @@ module _ (p : Program) (d : List (List ℕ × Directives)) (base : IsDatabase d)
         log = ready.log;
         keeps = ready.kept;
       }
+
+  -- ---- the call
+
+  abbrev receives : List Value → Machine → Step
+  receives args m = On (with_parameters 0 args m)
+
+  -- with all webs loaded it gets its parameters
+  after_loads : (x : Twin) (l : Located) (to : Option ℕ) (args : List Value) (s t : Step) → IsCalling p d x to → length args ≡ l.body.params → LoadsBoth p d x l to s t
+      → Follows p d (and_then s (receives args)) (and_then t (receives args))
+  after_loads x l to args s t c count (all_loaded y e) =
+      let r = all_received p d x to args 0 y (let own : length args ≡ y.frame.function.body.params = count ∙ ap (λ (f : Located). f.body.params) (sym e.function) in omega (arith, own)) (record {
+        placed = e.placed; block = e.block; first = e.first; ops = e.ops; end = e.end; result = e.result; edge = e.edge;
+        webs = λ q h. e.webs q h (λ w among same. among);
+        temps = λ u needed. e.temps u;
+        bare_under = e.bare_under; placed_under = e.placed_under; before = e.before; callers = e.callers; log = e.log; keeps = e.keeps;
+      }) in
+      goes (record { twin = r.twin; bare = ap On r.bare; placed = ap On r.full; alike = received_alike p d x to r.twin c r.receiving.edge r.receiving })
+  after_loads x l to args s t c count unloaded = strays refl refl
+
+  entries_alone : (l : Located) (b : WebBlock) (to : Option ℕ) (x : Twin) (is : IsPlaced p d (begun l b to x).frame) → (w : Web) → Has w (entered_webs l) → HasRole d l.body.name w Entry
+  unfolding directed
+  entries_alone l b to x is w h = by_body l.body is.body h where
+    by_body : (g : WebFn) → g ≡ directed_by d is.flow → Has w (entered_webs (unplaced g)) → HasRole d g.name w Entry
+    by_body g e k =
+        subst (λ (f : WebFn). HasRole d f.name w Entry) (sym e)
+        (entered_role d base is.flow.name w (subst (λ (f : WebFn). Has w (entered_webs (unplaced f))) e k))
+
+  pub begins_follow : (ls : List Located) (l : Located) (block : Option WebBlock) (to : Option ℕ) (args : List Value) (x : Twin) → IsOfProgram p d l.body → Serves l.body l → slice_get l.body.blocks 0 ≡ block → IsCalling p d x to
+      → Calls (graph_of p) (name_of x.frame) l.body.name → Follows p d (begins (bare_program p d) (unplaced l.body) block to args (bare_side x)) (begins (with_functions p ls) l block to args (placed_side x))
+  begins_follow ls l (Some b) to args x of serves first c edge = by_count (length args == l.body.params) refl where
+    by_count : (t : Bool) → (length args == l.body.params) ≡ t
+        → Follows p d (if t then and_then (enters_webs (bare_program p d) (entered_webs (unplaced l.body)) (entered (unplaced l.body) b to (bare_side x))) (receives args) else Astray)
+        (if t then and_then (enters_webs (with_functions p ls) (entered_webs l) (entered l b to (placed_side x))) (receives args) else Astray)
+    by_count true e =
+        after_loads x l to args (enters_webs (bare_program p d) (entered_webs l) (bare_side (begun l b to x))) (enters_webs (with_functions p ls) (entered_webs l) (placed_side (begun l b to x)))
+        c (eqb-true (length args) l.body.params e)
+        (loads_both p d base sound ls x l to (entered_webs l) (begun l b to x) (entries_alone l b to x (begun_placed l b to x of serves)) (begun_entering l b to x of serves first c.ready edge))
+    by_count false e = strays refl refl
+  begins_follow ls l None to args x of serves first c edge = strays refl refl
