@@ -38,7 +38,7 @@ web_is (x ∷ rest) zero w all lt e = subst (λ (y : Web × Role). IsWeb y.0) e 
 web_is (x ∷ rest) (suc k) w all lt e = web_is rest k w all.1 (omega (arith, lt)) e
 
 register_between : (f : WebFn) (l : Located) → IsWebFn f → Serves f l → (r : ℕ) → Changes f l r → (first_register ≤ r) × (r ≤ last_register)
-register_between f l is serves r (places c small) = let h = (serves.registers r c).0.low in (h, small)
+register_between f l is serves r (places c small apart) = let h = (serves.registers r c).0.low in (h, small)
 register_between f l is serves r (enters w) =
     let web = web_is f.directives.webs w.there.0 (w.web, Entry) is.directives.each w.there.1 w.there.2 in
     (omega (arith, web.low, w.is), omega (arith, web.high, w.is))

@@ -18,7 +18,7 @@ use Rattle.pw_db.specs.declared.database.Directives.{Directives}
 use Rattle.pw_alloc.specs.Allocation.{is_entry, is_entered, entered_from}
 use Rattle.pw_db_sound.specs.Sound.{Sound}
 use Rattle.pw_db_sound.specs.Sound.{Has as HasRole}
-use Rattle.pw_run_trace.specs.Traces.{Called, Loaded, Stored, IsMembers, KeepRegisters}
+use Rattle.pw_run_trace.specs.Traces.{Called, Loaded, Stored, MayChange, member, KeepRegisters}
 use Rattle.pw_run_flow.specs.Programs.{Program}
 use Rattle.pw_run_webs.specs.Programs.{graph_of}
 use Rattle.pw_run_webs.specs.Direction.{directives_of}
@@ -29,7 +29,7 @@ use Rattle.pw_law_directed.proofs.Traffic.{Linked, linked}
 
 -- ---- registers
 
-kept_at : (regs : Registers) (r : ℕ) → first_register ≤ r → r ≤ last_register → slice_get (kept regs) (r - first_register) ≡ Some (regs r)
+pub kept_at : (regs : Registers) (r : ℕ) → first_register ≤ r → r ≤ last_register → slice_get (kept regs) (r - first_register) ≡ Some (regs r)
 kept_at regs r low high =
     let count : length (kept regs) ≡ register_count = length-map-range_with_len regs first_register register_count in
     slice_get-get_or (kept regs) (r - first_register) Undefined (omega (arith, low, high, count))
@@ -39,14 +39,14 @@ scratch_by : (b c : Bool) (v w : Value) → (b ≡ true → ⊥) → (if b && c 
 scratch_by true c v w h = absurd (h refl)
 scratch_by false c v w h = refl
 
-scratch_keeps : (regs : Registers) (r : ℕ) → r ≤ last_register → without_scratch regs r ≡ regs r
+pub scratch_keeps : (regs : Registers) (r : ℕ) → r ≤ last_register → without_scratch regs r ≡ regs r
 scratch_keeps regs r le = scratch_by (nat_lt last_register r) (nat_le r last_temporary) Undefined (regs r) (λ e. let lt = ltb-true last_register r e in omega (arith, lt, le))
 
 one_same : (b : Bool) (v x y : Value) → x ≡ y → (if b then v else x) ≡ (if b then v else y)
 one_same true v x y e = refl
 one_same false v x y e = e
 
-with_same : (news : List (ℕ × Value)) (a b : Registers) (q : ℕ) → a q ≡ b q → with_registers news a q ≡ with_registers news b q
+pub with_same : (news : List (ℕ × Value)) (a b : Registers) (q : ℕ) → a q ≡ b q → with_registers news a q ≡ with_registers news b q
 with_same [] a b q e = e
 with_same (new ∷ rest) a b q e = with_same rest (with_register new.0 new.1 a) (with_register new.0 new.1 b) q (one_same (q == new.0) new.1 (a q) (b q) e)
 
@@ -54,7 +54,7 @@ one_covered : (b : Bool) (v x y : Value) → (b ≡ false → ⊥) → (if b the
 one_covered true v x y h = refl
 one_covered false v x y h = absurd (h refl)
 
-with_covered : (news : List (ℕ × Value)) (a b : Registers) (q : ℕ) → Has q (map (λ s. s.0) news) → with_registers news a q ≡ with_registers news b q
+pub with_covered : (news : List (ℕ × Value)) (a b : Registers) (q : ℕ) → Has q (map (λ s. s.0) news) → with_registers news a q ≡ with_registers news b q
 with_covered [] a b q h = absurd h
 with_covered (new ∷ rest) a b q (inl e) =
     with_same rest (with_register new.0 new.1 a) (with_register new.0 new.1 b) q (one_covered (q == new.0) new.1 (a q) (b q) (λ f. eqb-false q new.0 f (sym e)))
@@ -65,19 +65,19 @@ one_value : (b : Bool) (v x y : Value) → (b ≡ true → v ≡ y) → (b ≡ f
 one_value true v x y h k = h refl
 one_value false v x y h k = k refl
 
-saved_same : (rs : List ℕ) (a b : Registers) (q : ℕ) → b q ≡ a q → with_registers (map (λ r. (r, a r)) rs) b q ≡ a q
+pub saved_same : (rs : List ℕ) (a b : Registers) (q : ℕ) → b q ≡ a q → with_registers (map (λ r. (r, a r)) rs) b q ≡ a q
 saved_same [] a b q e = e
 saved_same (r ∷ rs) a b q e = saved_same rs a (with_register r (a r) b) q (one_value (q == r) (a r) (b q) (a q) (λ t. ap a (sym (eqb-true q r t))) (λ f. e))
 
-saved_covered : (rs : List ℕ) (a b : Registers) (q : ℕ) → Has q rs → with_registers (map (λ r. (r, a r)) rs) b q ≡ a q
+pub saved_covered : (rs : List ℕ) (a b : Registers) (q : ℕ) → Has q rs → with_registers (map (λ r. (r, a r)) rs) b q ≡ a q
 saved_covered [] a b q h = absurd h
 saved_covered (r ∷ rs) a b q (inl e) = saved_same rs a (with_register r (a r) b) q (one_value (q == r) (a r) (b q) (a q) (λ t. ap a e) (λ f. absurd (eqb-false q r f (sym e))))
 saved_covered (r ∷ rs) a b q (inr h) = saved_covered rs a (with_register r (a r) b) q h
 
-written_other : (r q : ℕ) (v : Value) (regs : Registers) → (q ≡ r → ⊥) → regs q ≡ with_register r v regs q
+pub written_other : (r q : ℕ) (v : Value) (regs : Registers) → (q ≡ r → ⊥) → regs q ≡ with_register r v regs q
 written_other r q v regs apart = sym (one_value (q == r) v (regs q) (regs q) (λ t. absurd (apart (eqb-true q r t))) (λ f. refl))
 
-has_or_not : (q : ℕ) (rs : List ℕ) → Has q rs ⊎ (Has q rs → ⊥)
+pub has_or_not : (q : ℕ) (rs : List ℕ) → Has q rs ⊎ (Has q rs → ⊥)
 has_or_not q [] = inr (λ h. h)
 has_or_not q (r ∷ rs) = elim (cases_eq r q) [
   | inl e ↦ inl (inl e)
@@ -103,7 +103,7 @@ same_number a b e = by_test (a == b) refl where
   by_test true x = refl
   by_test false x = absurd (eqb-false a b x e)
 
-is_entered_by : (webs : List (Web × Role)) (w : Web) → Has (w, Entry) webs → is_entered webs w.reg ≡ true
+pub is_entered_by : (webs : List (Web × Role)) (w : Web) → Has (w, Entry) webs → is_entered webs w.reg ≡ true
 is_entered_by [] w h = absurd h
 is_entered_by (u ∷ rest) w (inl e) =
     entered_by (u.0.reg == w.reg) (is_entry u.1) (is_entered rest w.reg) (same_number u.0.reg w.reg (ap (λ (x : Web × Role). x.0.reg) e)) (ap (λ (x : Web × Role). is_entry x.1) e)
@@ -113,7 +113,7 @@ either_has : (b : Bool) (q r : ℕ) (rs : List ℕ) → Has q rs → Has q (if b
 either_has true q r rs h = inr h
 either_has false q r rs h = h
 
-in_from : (webs : List (Web × Role)) (q : ℕ) → is_entered webs q ≡ true → (r more : ℕ) → r ≤ q → q < r + more → Has q (entered_from webs r more)
+pub in_from : (webs : List (Web × Role)) (q : ℕ) → is_entered webs q ≡ true → (r more : ℕ) → r ≤ q → q < r + more → Has q (entered_from webs r more)
 unfolding entered_from
 in_from webs q on r zero low high = absurd (omega (arith, low, high))
 in_from webs q on r (suc more) low high = elim (cases_eq r q) [
@@ -124,7 +124,7 @@ in_from webs q on r (suc more) low high = elim (cases_eq r q) [
   apart le other = elim (cases_lt r q) [ inl lt ↦ omega (arith, lt) | inr ge ↦ absurd (other (omega (arith, le, ge))) ]
 
 module _ (p : Program) (d : List (List ℕ × Directives)) (base : IsDatabase d) (sound : Sound (graph_of p) d) where
-  saves_has : (f : List ℕ) (w : Web) → HasRole d f w Entry → Has w.reg (saves (directives_of d f).webs)
+  pub saves_has : (f : List ℕ) (w : Web) → HasRole d f w Entry → Has w.reg (saves (directives_of d f).webs)
   saves_has f w h =
       let range = web_range d base f w Entry h in
       in_from (directives_of d f).webs w.reg (is_entered_by (directives_of d f).webs w (role_there d base f w Entry h)) first_register register_count range.0 (omega (arith, range.1))
@@ -133,7 +133,7 @@ module _ (p : Program) (d : List (List ℕ × Directives)) (base : IsDatabase d)
 
   -- what a function gives back, if it returns now, is what the registers held at its call
   abbrev Gives : Act → Registers → Type 0
-  Gives a regs = (r : ℕ) → first_register ≤ r → r ≤ last_register → (IsMembers d a.name r → ⊥) → slice_get a.before (r - first_register) ≡ Some (with_registers a.saved regs r)
+  Gives a regs = (r : ℕ) → first_register ≤ r → r ≤ last_register → (MayChange d a.name r → ⊥) → slice_get a.before (r - first_register) ≡ Some (with_registers a.saved regs r)
 
   -- it saved the registers of the webs that it enters
   abbrev Covers : Act → Type 0
@@ -161,12 +161,12 @@ module _ (p : Program) (d : List (List ℕ × Directives)) (base : IsDatabase d)
         (b.1.0, banks_same fs (with_registers a.saved x) (with_registers a.saved y) (λ r h. same r) b.1.1),
       )
   changed [] a w Member x y has links e b = (
-    λ r low high out. b.0 r low high out ∙ ap Some (with_same a.saved x y r (e r (λ here. out (record { web = w; has = has; is = sym here })))),
+    λ r low high out. b.0 r low high out ∙ ap Some (with_same a.saved x y r (e r (λ here. out (member (record { web = w; has = has; is = sym here }))))),
     (b.1.0, tt),
   )
   changed (c ∷ fs) a w Member x y has links e b =
       let i = sound.member_callers w a.name c.name has links.0 in (
-        λ r low high out. b.0 r low high out ∙ ap Some (with_same a.saved x y r (e r (λ here. out (record { web = w; has = has; is = sym here })))),
+        λ r low high out. b.0 r low high out ∙ ap Some (with_same a.saved x y r (e r (λ here. out (member (record { web = w; has = has; is = sym here }))))),
         (b.1.0, changed fs c w i.role (with_registers a.saved x) (with_registers a.saved y) i.has links.1 (λ r other. with_same a.saved x y r (e r other)) b.1.1),
       )
 

@@ -7,6 +7,6 @@ mod Trails
 mod Commands
 mod Running
 mod Following
-mod Directives
+pub mod Directives
 mod Traffic
-mod Banks
+pub mod Banks

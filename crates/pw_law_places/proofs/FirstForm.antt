@@ -15,7 +15,7 @@ use Rattle.pw_alloc.specs.declared.located.Place.TheVariants.{Slot, Reg}
 use Rattle.pw_alloc.specs.Allocation.{is_entry, is_entered, entered_from, saved_of, slots_from, allocated}
 use Rattle.pw_alloc.specs.Frames.{head_size, temp_offset, slots_begin, last_reach}
 use Rattle.pw_alloc.proofs.SavedLaws.{rises}
-use Rattle.pw_run_webs.specs.Serving.{Interfere, by_operation, by_start, parameters, IsKept, slots_alone, Changes, places, enters, Serves}
+use Rattle.pw_run_webs.specs.Serving.{Interfere, by_operation, by_start, parameters, IsKeptOver, slots_alone, Changes, places, enters, Serves}
 use Rattle.std.proofs.lemmas.Bool.{cases_lt, eqb-true, eqb-false}
 use Rattle.std.proofs.lemmas.Option.{slice_get_past}
 use Rattle.pw_webflow.specs.Direction.{directed}
@@ -83,14 +83,14 @@ kept_apart f d t low clash same =
 
 -- ---- no register is a temporary's
 
-abbrev KeptIn : Option Place → Type 0
-KeptIn (Some place) = IsKept place
-KeptIn None = Unit {0}
+abbrev KeptIn : WebFn → Option Place → Type 0
+KeptIn f (Some place) = IsKeptOver f place
+KeptIn f None = Unit {0}
 
-all_kept : (head saved i n k : ℕ) → KeptIn (slice_get (slots_from head saved i n) k)
-all_kept head saved i zero k = tt
-all_kept head saved i (suc n) zero = tt
-all_kept head saved i (suc n) (suc k) = all_kept head saved (suc i) n k
+all_kept : (f : WebFn) (head saved i n k : ℕ) → KeptIn f (slice_get (slots_from head saved i n) k)
+all_kept f head saved i zero k = tt
+all_kept f head saved i (suc n) zero = tt
+all_kept f head saved i (suc n) (suc k) = all_kept f head saved (suc i) n k
 
 abbrev pub IsSlot : Place → Type 0
 IsSlot (Slot offset) = Unit {0}
@@ -213,7 +213,7 @@ so_saved webs r (suc more) q low high e = elim (cases_lt r q) [
 
 changes : (f : WebFn) → AllByRecursion IsWeb (map (λ w. w.0) f.directives.webs) → (r : ℕ) → Changes f (allocated f) r → Contains (saved_of f) r
 unfolding allocated
-changes f lawful r (places c high) = absurd (no_register (head_size f) (length (saved_of f)) f.temps r c)
+changes f lawful r (places c high apart) = absurd (no_register (head_size f) (length (saved_of f)) f.temps r c)
 changes f lawful r (enters has) =
     let web : IsWeb has.web = All-contains IsWeb (map (λ w. w.0) f.directives.webs) has.web
     (All-from_recursion IsWeb (map (λ w. w.0) f.directives.webs) lawful)
@@ -250,7 +250,7 @@ serves f lawful =
       body = refl;
       count = long head saved 0 f.temps;
       apart = λ d t low clash. kept_apart f d t low clash;
-      held = λ t place h e. subst KeptIn e (all_kept head saved 0 f.temps t);
+      held = λ t place h e. subst (KeptIn f) e (all_kept f head saved 0 f.temps t);
       registers = λ r c. absurd (no_register head saved f.temps r c);
       saved = λ r. (changed f r, changes f lawful r);
       order = rises f.directives.webs first_register register_count;

@@ -1,6 +1,6 @@
 -- What runs below the flow graphs note: calls and returns, each with where the global objects stand and what the
 -- registers hold that a callee keeps; and the loads and stores of the globals that a register may hold.
-use Rattle.std.specs.Prelude.{ℕ, ◌≡◌, ◌≤◌, ◌+◌, ◌-◌, ◌&&◌, nat_lt, Bool, false, not, if◌then◌else◌, Option, Some, None, List, [], ◌∷◌, slice_get}
+use Rattle.std.specs.Prelude.{ℕ, ◌≡◌, ◌≤◌, ◌+◌, ◌-◌, ◌&&◌, nat_lt, Bool, false, not, if◌then◌else◌, Option, Some, None, List, [], ◌∷◌, slice_get, Contains}
 use Rattle.std.specs.List.{list_any}
 use Rattle.std.specs.Str.{bytes_eq}
 use Rattle.pw_value.specs.ProgramNames.{start_name, library_functions}
@@ -101,11 +101,17 @@ pub record IsMembers (d : List (List ℕ × Directives)) (f : List ℕ) (r : ℕ
   pub has : Has d f web Member
   pub is : web.reg ≡ r
 
--- On the return from a function each register that a callee keeps holds what it held at the call, but those of the webs in
--- which the function is a member.
+-- A register that a callee may leave with something else in it: that of a web in which it is a member, or one that it is
+-- free to use.
+pub data MayChange (d : List (List ℕ × Directives)) (f : List ℕ) (r : ℕ) : Type 0 where
+  member : IsMembers d f r → MayChange d f r
+  free : (directives : Directives) → Contains d (f, directives) → Contains directives.free r → MayChange d f r
+
+-- On the return from a function each register that a callee keeps holds what it held at the call, but those that the
+-- function may change.
 abbrev pub KeepsRegisters : {B V : Type 0} → List (List ℕ × Directives) → Event B V → Type 0
 KeepsRegisters d (Returned f inner gs before after) =
-    (r : ℕ) → first_register ≤ r → r ≤ last_register → ¬ IsMembers d f r → slice_get after (r - first_register) ≡ slice_get before (r - first_register)
+    (r : ℕ) → first_register ≤ r → r ≤ last_register → ¬ MayChange d f r → slice_get after (r - first_register) ≡ slice_get before (r - first_register)
 KeepsRegisters d _ = Unit {0}
 
 abbrev pub KeepRegisters : {B V : Type 0} → List (List ℕ × Directives) → List (Event B V) → Type 0

@@ -63,9 +63,10 @@ pub record IsTempRegister (r : ℕ) : Type 0 where
   pub low : first_register ≤ r
   pub high : r ≤ last_temporary
 
-abbrev pub IsKept : Place → Type 0
-IsKept (Reg r) = (first_register ≤ r) × (r ≤ last_register)
-IsKept (Slot offset) = Unit {0}
+-- A call leaves the place as it is: a word of the frame, or a register that a callee keeps and that is not free.
+abbrev pub IsKeptOver : WebFn → Place → Type 0
+IsKeptOver f (Reg r) = (first_register ≤ r) × (r ≤ last_register) × (¬ Contains f.directives.free r)
+IsKeptOver f (Slot offset) = Unit {0}
 
 -- the places that are words of the frame
 abbrev pub slots_alone : List Place → List Place
@@ -79,9 +80,9 @@ pub record HasWebIn (f : WebFn) (role : Role) (r : ℕ) : Type 0 where
   pub there : Contains f.directives.webs (web, role)
   pub is : web.reg ≡ r
 
--- a register that the function has to save: a temporary's, or that of a web that it enters
+-- a register that the function has to save: a temporary's that is not free, or that of a web that it enters
 pub data Changes (f : WebFn) (l : Located) (r : ℕ) : Type 0 where
-  places : Contains l.places (Reg r) → r ≤ last_register → Changes f l r
+  places : Contains l.places (Reg r) → r ≤ last_register → ¬ Contains f.directives.free r → Changes f l r
   enters : HasWebIn f Entry r → Changes f l r
 
 pub record Serves (f : WebFn) (l : Located) : Type 0 where
@@ -89,7 +90,7 @@ pub record Serves (f : WebFn) (l : Located) : Type 0 where
   pub count : length l.places ≡ f.temps
   -- what is needed is not overwritten, and survives calls
   pub apart : (d t : ℕ) → t < f.temps → Interfere f d t → slice_get l.places t ≢ slice_get l.places d
-  pub held : (t : ℕ) (place : Place) → IsHeld f t → slice_get l.places t ≡ Some place → IsKept place
+  pub held : (t : ℕ) (place : Place) → IsHeld f t → slice_get l.places t ≡ Some place → IsKeptOver f place
   -- registers are those of temporaries, and of no web of the function
   pub registers : (r : ℕ) → Contains l.places (Reg r) → IsTempRegister r × (¬ HasRegister f.directives r)
   -- exactly those are saved that the function changes and its callers may hold, each once, rising

@@ -1,0 +1,115 @@
+-- What is proved of the directed run and the placed run.
+use Rattle.std.specs.Prelude.{ℕ, ◌≡◌, ◌≤◌, Option, Some, None, List, [], ◌∷◌, map, Contains}
+use Rattle.pw_value.specs.declared.value.Value.{Value}
+use Rattle.pw_value.specs.Objects.{Object}
+use Rattle.pw_db.specs.Limits.{last_register}
+use Rattle.pw_db.specs.declared.database.Directives.{Directives}
+use Rattle.pw_flow.specs.declared.flow.Op.{Op}
+use Rattle.pw_flow.specs.declared.flow.End.{End}
+use Rattle.pw_flow.specs.declared.flow.End.TheVariants.{Return}
+use Rattle.pw_flow.specs.Uses.{op_uses, op_defines}
+use Rattle.pw_webflow.specs.declared.web.WebFn.{WebFn}
+use Rattle.pw_alloc.specs.declared.located.Located.{Located}
+use Rattle.pw_run_flow.specs.Programs.{Program, Library, library_at}
+use Rattle.pw_run_flow.specs.Commands as command
+use Rattle.pw_run_flow.specs.Commands.{command}
+use Rattle.pw_run_webs.specs.PlacedRun.{PlacedProgram, globals_now, On, takes_result, obeys, ends, function_named}
+use Rattle.pw_run_webs.specs.PlacedRun.{calls as place_calls}
+use Rattle.pw_run_webs.specs.Direction.{directed_functions, with_functions, unplaced}
+use Rattle.pw_run_webs.specs.Serving.{AllServe, Serves}
+use Rattle.pw_law_placed.specs.Twins.{Active, Twin, bare_frame, placed_frame, bare_side, placed_side, bare_program}
+use Rattle.pw_law_placed.specs.Alike.{Registers, WebsAgree, AllWait, IsReady, IsCalling, IsAlike, Follows, given_back}
+
+-- what an operation asks for depends on the temporaries that it reads alone
+abbrev pub CommandsRestOnUses : Type 0
+CommandsRestOnUses =
+    (p : Program) (base : ℕ) (o : Op) (a b : ℕ → Value) → ((t : ℕ) → Contains (op_uses o) t → a t ≡ b t) →
+    command p base o a ≡ command p base o b
+
+-- ---- registers
+
+-- where the webs of all active functions have the same in their registers, the globals stand where they stand
+abbrev pub AllWebsAgree : List Active → Registers → Registers → Type 0
+AllWebsAgree [] registers bank = Unit {0}
+AllWebsAgree (f ∷ fs) registers bank =
+    WebsAgree f registers bank × AllWebsAgree fs (given_back f.bare registers) (given_back f.placed bank)
+
+abbrev pub GlobalsStandAlike : Type 0
+GlobalsStandAlike =
+    (p q : PlacedProgram) (fs : List Active) (registers bank : Registers) (objects : List Object) → q.flow ≡ p.flow → AllWebsAgree fs registers bank →
+    globals_now q bank (map placed_frame fs) objects ≡ globals_now p registers (map bare_frame fs) objects
+
+-- what functions that wait find in the placed run depends on the registers that a callee keeps alone
+abbrev pub WaitingRestsOnKept : Type 0
+WaitingRestsOnKept =
+    (p : Program) (d : List (List ℕ × Directives)) (callee : List ℕ) (result : Option ℕ) (fs : List Active) (registers bank now after : Registers) →
+    ((r : ℕ) → r ≤ last_register → now r ≡ registers r) → ((r : ℕ) → r ≤ last_register → after r ≡ bank r) →
+    AllWait p d callee result fs registers bank → AllWait p d callee result fs now after
+
+-- ---- temporaries
+
+-- a result goes to its place, which is that of no temporary that is still needed
+abbrev pub ResultsFollow : Type 0
+ResultsFollow =
+    (p : Program) (d : List (List ℕ × Directives)) (x : Twin) (result : Option ℕ) (v : Value) → IsReady p d x result →
+    Follows p d (On (takes_result result v (bare_side x))) (On (takes_result result v (placed_side x)))
+
+-- ---- what a function does by itself
+
+-- both runs of a program: without places, and with those that serve
+abbrev pub IsServed : Program → List (List ℕ × Directives) → List Located → Type 0
+IsServed p d ls = AllServe (directed_functions p d) ls
+
+-- a command that calls nothing
+abbrev pub StaysInside : command.Command → Type 0
+StaysInside (command.Enter t f args) = ⊥
+StaysInside c = Unit {0}
+
+-- it gives its result to this temporary
+abbrev pub HasResult : Option ℕ → command.Command → Type 0
+HasResult result (command.Give t v) = result ≡ Some t
+HasResult result (command.Combine k t v w) = result ≡ Some t
+HasResult result (command.Look k t a) = result ≡ Some t
+HasResult result (command.GetGlobal t g k) = result ≡ Some t
+HasResult result (command.Enter t f args) = result ≡ t
+HasResult result command.Fail = Unit {0}
+HasResult result c = result ≡ None
+
+abbrev pub CommandsHaveResults : Type 0
+CommandsHaveResults = (p : Program) (base : ℕ) (o : Op) (value : ℕ → Value) → HasResult (op_defines o) (command p base o value)
+
+abbrev pub CommandsFollow : Type 0
+CommandsFollow =
+    (p : Program) (d : List (List ℕ × Directives)) (ls : List Located) (x : Twin) (result : Option ℕ) (c : command.Command) →
+    IsReady p d x result → StaysInside c → HasResult result c →
+    Follows p d (obeys (bare_program p d) c (bare_side x)) (obeys (with_functions p ls) c (placed_side x))
+
+-- the end of a block that does not return
+abbrev pub StaysInFunction : End → Type 0
+StaysInFunction (Return t) = ⊥
+StaysInFunction end = Unit {0}
+
+abbrev pub BlocksFollow : Type 0
+BlocksFollow =
+    (p : Program) (d : List (List ℕ × Directives)) (ls : List Located) (x : Twin) → IsAlike p d x → x.frame.ops ≡ [] → StaysInFunction x.frame.end →
+    Follows p d (ends (bare_program p d) x.frame.end (bare_side x)) (ends (with_functions p ls) x.frame.end (placed_side x))
+
+-- ---- calls of the library
+
+abbrev pub LibraryFollows : Type 0
+LibraryFollows =
+    (p : Program) (d : List (List ℕ × Directives)) (ls : List Located) (x : Twin) (result : Option ℕ) (f : List ℕ) (args : List Value) (lib : Library) →
+    IsCalling p d x result → library_at f ≡ Some lib →
+    Follows p d (place_calls (bare_program p d) result f args (bare_side x)) (place_calls (with_functions p ls) result f args (placed_side x))
+
+-- ---- functions of both runs
+
+-- a name is that of no function in either run, or of one whose places serve it
+pub data BothNamed (fs : List WebFn) : Option Located → Option Located → Type 0 where
+  neither : BothNamed fs None None
+  both : (l : Located) → Contains fs l.body → Serves l.body l → BothNamed fs (Some (unplaced l.body)) (Some l)
+
+abbrev pub SameFunctions : Type 0
+SameFunctions =
+    (p : Program) (d : List (List ℕ × Directives)) (ls : List Located) (name : List ℕ) → IsServed p d ls →
+    BothNamed (directed_functions p d) (function_named (bare_program p d) name) (function_named (with_functions p ls) name)

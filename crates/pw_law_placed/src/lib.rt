@@ -1,0 +1,49 @@
+//! The law of places, without code: the run of functions whose temporaries have places beside the directed run.
+#![tactic(auto)]
+
+ghost use Rattle.pw_law_placed.specs.Laws.{CommandsRestOnUses, GlobalsStandAlike, WaitingRestsOnKept, ResultsFollow, CommandsHaveResults, CommandsFollow, BlocksFollow, LibraryFollows, SameFunctions};
+
+/// What an operation asks for depends on the temporaries that it reads alone.
+pub fn commands_rest_on_uses()
+    ensures { CommandsRestOnUses }
+{}
+
+/// Where the registers of the webs hold the same in both runs, the globals stand where they stand.
+pub fn globals_stand_alike()
+    ensures { GlobalsStandAlike }
+{}
+
+/// What the functions that wait find in registers depends on those alone that a callee keeps.
+pub fn waiting_rests_on_kept()
+    ensures { WaitingRestsOnKept }
+{}
+
+/// A result goes to its place, and what is still needed stays, of the function and of those that wait.
+pub fn results_follow()
+    ensures { ResultsFollow }
+{}
+
+/// A command gives its result to the temporary that its operation defines.
+pub fn commands_have_results()
+    ensures { CommandsHaveResults }
+{}
+
+/// A command that calls nothing does the same in both runs.
+pub fn commands_follow()
+    ensures { CommandsFollow }
+{}
+
+/// So does the end of a block that does not return.
+pub fn blocks_follow()
+    ensures { BlocksFollow }
+{}
+
+/// A call of the library does the same in both runs, for want of stack too.
+pub fn library_follows()
+    ensures { LibraryFollows }
+{}
+
+/// A name is that of the same function in both runs, with places that serve it.
+pub fn same_functions()
+    ensures { SameFunctions }
+{}
