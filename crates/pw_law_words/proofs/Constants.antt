@@ -3,10 +3,9 @@ use Rattle.std.specs.Prelude.{ℕ, ◌≡◌, ◌<◌, ◌≤◌, ◌+◌, ◌-�
 use Rattle.std.proofs.Common.{arith, subst, sym}
 use Rattle.std.proofs.lemmas.Nat.{and_le_l, or_lt, xor_lt}
 use Rattle.std.proofs.Math.Nat.{div-le_self}
-use Rattle.pw_value.specs.Values.{extended}
 use Rattle.pw_value.specs.Words as w
 use Rattle.pw_value.specs.declared.words.WordFault.{WordFault}
-use Rattle.pw_types.specs.Conversions.{size_of_kind, is_signed_kind}
+use Rattle.pw_types.specs.Conversions.{is_signed_kind}
 use Rattle.pw_types.specs.declared.kind.IntKind.{IntKind}
 use Rattle.pw_types.specs.declared.kind.IntKind.TheVariants as K
 use Rattle.pw_types.specs.declared.tree.BinaryOperator.{BinaryOperator}
@@ -46,7 +45,7 @@ divided_word b n h = by (b == 0)
     by true = err_word _
     by false = ok_word n h
 
-shifted_word : (count n : ℕ) → n < 2 ^ 32 → MakesWords (w.shifted count (Ok n))
+shifted_word : (count n : ℕ) → n < 2 ^ 32 → MakesWords (w.shifted count n)
 shifted_word count n h = by (Rattle.std.specs.Prelude.nat_lt count 32)
   where
     by : (x : Bool) → MakesWords (if x then Ok n else Err Rattle.pw_value.specs.declared.words.WordFault.TheVariants.ShiftCount)
