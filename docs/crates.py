@@ -2,7 +2,7 @@
 """Makes what docs/ARCHITECTURE.md tells of the crates: the map, and the counts of what a change touches.
 
     docs/crates.py              writes both into the page, and the map into the rows of its test
-    docs/crates.py --check      says where the page or the rows differ from the crates, with status 1 where they do
+    docs/crates.py --check      says where the page, the rows or crates.txt differ from the crates, with status 1 where they do
     docs/crates.py --touches    prints the counts
 
 The map has the parts and the order of crates.txt, and of each crate the first sentence of the comment at the head of its
@@ -179,6 +179,27 @@ def unlisted(parts):
     return [f"{crate}: crates.txt does not list it" for crate in sorted(set(folders) - listed)]
 
 
+def listed_below():
+    """What crates.txt lists behind each crate."""
+    lines = (re.match(r"(\w+)[^:#]*:(.*)", line) for line in (TOP / "crates.txt").read_text().splitlines())
+    return {line[1]: set(line[2].split()) for line in lines if line}
+
+
+def unnamed(parts):
+    """What is said of crates behind which crates.txt does not list exactly those that their files name."""
+    below = listed_below()
+    known = set(below).union(*below.values())
+    named = {crate: set() for crate in below}
+    for crate, _, text in sources([crate for _, crates in parts for crate in crates]):
+        named[crate].update(re.findall(r"\b(\w+)::", text), re.findall(r"\bRattle\.(\w+)\.", text))
+    said = []
+    for crate, its in named.items():
+        its &= known - {crate}
+        said += [f"{crate}: crates.txt should list {name} behind it" for name in sorted(its - below[crate])]
+        said += [f"{crate}: crates.txt lists {name} behind it, which no file of it names" for name in sorted(below[crate] - its)]
+    return said
+
+
 def lines_of(path):
     """The lines of a file; none where there is no file."""
     return path.read_text().splitlines() if path.is_file() else []
@@ -187,7 +208,7 @@ def lines_of(path):
 def check(parts):
     """What is wrong with the page and with the rows of the test."""
     page = PAGE.read_text()
-    said = unlisted(parts)
+    said = unlisted(parts) + unnamed(parts)
     said += differences("docs/ARCHITECTURE.md", around(page, "crates")[1], tables(parts))
     said += differences("docs/ARCHITECTURE.md", around(page, "counts")[1], touches(parts))
     if TEST.is_dir():
