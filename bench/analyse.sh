@@ -18,12 +18,12 @@ for crate in "$top"/crates/*/; do
         if [ -d "$crate/$part" ]; then cp -r "$crate/$part" "$work/crates/$name/"; fi
     done
 done
-echo 'bench_analyse: pw_commands pw_answer pw_io hex' >> "$work/crates.txt"
+echo 'bench_analyse: pw_commands pw_top_answer pw_io hex' >> "$work/crates.txt"
 cat > "$work/crates/bench_analyse/src/main.rt" <<'RATTLE'
 //! Obeys `analyse` over summaries that its input gives, a name and a file in hexadecimal on each line.
 #![tactic(auto)]
 
-use pw_answer::status;
+use pw_top_answer::status;
 use pw_commands::analyse_modules;
 use pw_io::SureStore;
 use std::alloc::{AllocError, Global};

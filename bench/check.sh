@@ -13,7 +13,7 @@ crates=$(awk -F: '!/^#/ && NF > 1 { deps[$1] = $2 }
         n = split(deps[name], parts, " ")
         for (i = 1; i <= n; i++) reach(parts[i])
     }
-    END { reach("pw_check"); reach("pw_front"); for (name in seen) print name }' "$top/crates.txt")
+    END { reach("pw_check"); reach("pw_front_end"); for (name in seen) print name }' "$top/crates.txt")
 for name in $crates; do cp -r "$top/crates/$name" "$work/crates/$name"; done
 while IFS= read -r line; do
     case " $(echo $crates) " in *" ${line%%:*} "*) echo "$line" >> "$work/crates.txt" ;; esac
@@ -25,7 +25,7 @@ cat > "$work/crates/bench_check/src/main.rt" <<'RATTLE'
 #![tactic(auto)]
 
 use pw_check::check;
-use pw_front::front;
+use pw_front_end::front;
 use std::alloc::{AllocError, Global};
 use std::io;
 use std::time::CpuClock;

@@ -1,5 +1,5 @@
 #!/usr/bin/env python3
-"""Makes the table of verdicts of pw_checks from bench/checks.txt, and asks gcc for each of its texts.
+"""Makes the table of verdicts of pw_tests_checks from bench/checks.txt, and asks gcc for each of its texts.
 
 A row of checks.txt is `GCC VERDICT @ TEXT` or `GCC VERDICT @ TEXT @ WHY`:
 - GCC is `+` where gcc takes the text as C90 and `-` where it refuses it, on a machine whose words have 32 bits.
@@ -9,7 +9,7 @@ A row of checks.txt is `GCC VERDICT @ TEXT` or `GCC VERDICT @ TEXT @ WHY`:
 - WHY stands exactly where gcc and the verdict differ, and says why.
 Other lines are headings.
 
-With `--write` the script writes the table into crates/pw_checks/stdin and stdout; without, it compares them with it. It fails
+With `--write` the script writes the table into crates/pw_tests_checks/stdin and stdout; without, it compares them with it. It fails
 where gcc answers otherwise than its column says.
 """
 import re
@@ -103,10 +103,10 @@ def main():
                 print(f"line {row.number}: {fault}: {row.text[:200]}\n{told[:400]}")
     for name, text in ("stdin", stdin), ("stdout", stdout):
         if "--write" in sys.argv:
-            write_table("pw_checks", "verdicts", name, text)
-        elif not is_table("pw_checks", "verdicts", name, text):
+            write_table("pw_tests_checks", "verdicts", name, text)
+        elif not is_table("pw_tests_checks", "verdicts", name, text):
             differ += 1
-            print(f"crates/pw_checks/{name} has another table")
+            print(f"crates/pw_tests_checks/{name} has another table")
     taken = sum(row.gcc == "+" for row in rows)
     explained = sum(bool(row.why) for row in rows)
     print(f"{len(rows)} texts: gcc takes {taken} and refuses {len(rows) - taken}; {explained} rows say why they differ from it")

@@ -1,12 +1,12 @@
 #!/usr/bin/env python3
-"""Makes the table of pw_cruns from bench/cruns.txt, and asks gcc, clang and their sanitizers for its programs.
+"""Makes the table of pw_tests_meaning from bench/cruns.txt, and asks gcc, clang and their sanitizers for its programs.
 
 A program of cruns.txt is the lines that the program of runs reads, the last of which begins with `+`, and behind them
 `> END` where the end is by hand; an undefined operation's token follows a backquote. Where there is no `> END`, the
 status and the output are those of gcc (-m32 -fwrapv), and clang's are the same. `@N{TEXT}` stands for the text N times.
 Other lines are headings.
 
-With `--write` the script writes crates/pw_cruns/stdin and stdout; without, it compares them with the table. It fails
+With `--write` the script writes crates/pw_tests_meaning/stdin and stdout; without, it compares them with the table. It fails
 where gcc and clang answer otherwise than the table says, and prints what the sanitizers say of undefined operations
 that they know.
 """
@@ -20,7 +20,7 @@ from concurrent.futures import ThreadPoolExecutor
 from pathlib import Path
 
 BENCH = Path(__file__).resolve().parent
-CRATE = BENCH.parent / "crates" / "pw_cruns"
+CRATE = BENCH.parent / "crates" / "pw_tests_meaning"
 TOKEN = re.compile(
     r"""\s*(?:L?"(?:\\.|[^"\\])*"|L?'(?:\\.|[^'\\])*'|\.?\d(?:[eE][+-]|[\w.])*|[A-Za-z_]\w*"""
     r"""|\.\.\.|<<=|>>=|->|\+\+|--|<<|>>|[<>=!*/%+\-&^|]=|&&|\|\||[^\s])"""

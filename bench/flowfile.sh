@@ -7,7 +7,7 @@ top=$(cd "$(dirname "$0")/.." && pwd)
 work=$(mktemp -d /tmp/bench-flowfile.XXXXXX)
 trap 'rm -rf "$work"' EXIT
 mkdir -p "$work/crates/bench_flowfile/src"
-for crate in pw_value pw_scope pw_items pw_flow pw_lawful pw_files pw_flowops pw_flowfile; do
+for crate in pw_value pw_scope pw_items pw_flow pw_flow_valid pw_files pw_flow_ops pw_flowfile; do
     mkdir "$work/crates/$crate"
     for part in src specs proofs; do
         if [ -d "$top/crates/$crate/$part" ]; then cp -r "$top/crates/$crate/$part" "$work/crates/$crate/"; fi
@@ -15,7 +15,7 @@ for crate in pw_value pw_scope pw_items pw_flow pw_lawful pw_files pw_flowops pw
 done
 cp "$top/HANDLES" "$work/HANDLES"
 grep -E '^pw_(value|scope|items|flow|lawful|files|flowops|flowfile):' "$top/crates.txt" > "$work/crates.txt"
-echo 'bench_flowfile: pw_flowfile pw_lawful pw_flow pw_items pw_value' >> "$work/crates.txt"
+echo 'bench_flowfile: pw_flowfile pw_flow_valid pw_flow pw_items pw_value' >> "$work/crates.txt"
 cat > "$work/crates/bench_flowfile/src/main.rt" <<'RATTLE'
 //! A run of the flow file's reader and writer whose time is taken.
 #![tactic(auto)]
@@ -23,7 +23,7 @@ cat > "$work/crates/bench_flowfile/src/main.rt" <<'RATTLE'
 use pw_flow::{BinKind, Block, End, ExtKind, FlowFn, FlowGlobal, FlowModule, Op};
 use pw_flowfile::{read, write};
 use pw_items::Items;
-use pw_lawful::is_valid;
+use pw_flow_valid::is_valid;
 use pw_value::{Kind, Name, Shape};
 use std::alloc::{AllocError, Global};
 use std::io;

@@ -7,8 +7,8 @@ top=$(cd "$(dirname "$0")/.." && pwd)
 work=$(mktemp -d /tmp/bench-parser.XXXXXX)
 trap 'rm -rf "$work"' EXIT
 mkdir -p "$work/crates/bench_parser/src"
-for name in pw_token pw_scope pw_tree pw_grammar pw_grammar_laws pw_cursor pw_parts pw_expressions pw_specifiers \
-    pw_declarators pw_declarations pw_control pw_statements pw_phrase pw_parse; do
+for name in pw_token pw_scope pw_tree pw_parse_grammar pw_law_grammar pw_parse_cursor pw_parse_parts pw_parse_expr pw_parse_specifiers \
+    pw_parse_declarators pw_parse_decl pw_parse_control pw_parse_stmt pw_parse_knot pw_parse; do
     cp -r "$top/crates/$name" "$work/crates/$name"
     grep "^$name:" "$top/crates.txt" >> "$work/crates.txt"
 done

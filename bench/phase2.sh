@@ -1,13 +1,13 @@
 #!/usr/bin/env bash
 # Times the second phase: 100,000 operations in one function, as many in 1,000 functions, and ten times as many in
-# one function. Makes a program over crates/pw_phases in a temporary folder, builds it, runs it, and prints the
+# one function. Makes a program over crates/pw_phase_two in a temporary folder, builds it, runs it, and prints the
 # processor time of each module. With the word `try` the program is not proved.
 set -euo pipefail
 top=$(cd "$(dirname "$0")/.." && pwd)
 work=$(mktemp -d /tmp/bench-phase2.XXXXXX)
 trap 'rm -rf "$work"' EXIT
-crates='pw_value pw_scope pw_items pw_inst pw_files pw_flow pw_lawful pw_summary pw_db pw_flowops pw_flowfile pw_summarise pw_object'
-crates="$crates pw_delay pw_webflow pw_alloc pw_registers pw_oplines pw_select pw_phases"
+crates='pw_value pw_scope pw_items pw_inst pw_files pw_flow pw_flow_valid pw_summary pw_db pw_flow_ops pw_flowfile pw_summarise pw_object'
+crates="$crates pw_delay pw_webflow pw_alloc pw_select_registers pw_select_ops pw_select pw_phase_two"
 mkdir -p "$work/crates/bench_phase2/src"
 for crate in $crates; do
     mkdir "$work/crates/$crate"
@@ -17,20 +17,20 @@ for crate in $crates; do
     grep -E "^$crate:" "$top/crates.txt" >> "$work/crates.txt"
 done
 cp "$top/HANDLES" "$work/HANDLES"
-echo 'bench_phase2: pw_phases pw_object pw_db pw_lawful pw_flow pw_items pw_value' >> "$work/crates.txt"
+echo 'bench_phase2: pw_phase_two pw_object pw_db pw_flow_valid pw_flow pw_items pw_value' >> "$work/crates.txt"
 cat > "$work/crates/bench_phase2/src/main.rt" <<'RATTLE'
 //! Runs of the second phase whose time is taken.
 #![tactic(auto)]
 
 ghost use Rattle.std.specs.Prelude.{IfOk};
 ghost use Rattle.pw_flow.specs.ValidFlow.{IsValid};
-ghost use Rattle.pw_phases.specs.Phases.{AreDirectivesOf};
+ghost use Rattle.pw_phase_two.specs.Phases.{AreDirectivesOf};
 
 use pw_db::{Database, Directives, read_payload};
 use pw_flow::{BinKind, Block, End, ExtKind, FlowFn, FlowGlobal, FlowModule, Op};
 use pw_items::Items;
-use pw_lawful::is_valid;
-use pw_phases::{directives_for, phase_two};
+use pw_flow_valid::is_valid;
+use pw_phase_two::{directives_for, phase_two};
 use pw_value::{Kind, Name, Shape};
 use std::alloc::{AllocError, Global};
 use std::io;

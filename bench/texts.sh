@@ -1,9 +1,9 @@
 #!/usr/bin/env bash
-# Compares the verdicts of the table of pw_texts with gcc's. For each line of crates/pw_texts/stdin
+# Compares the verdicts of the table of pw_tests_texts with gcc's. For each line of crates/pw_tests_texts/stdin
 # that begins with `?` and whose line of stdout says `accepted` or `Syntax`, gcc has to take the text
 # as C90 exactly where it is accepted. Prints each line where they differ, and the counts.
 set -euo pipefail
-crate=$(cd "$(dirname "$0")/../crates/pw_texts" && pwd)
+crate=$(cd "$(dirname "$0")/../crates/pw_tests_texts" && pwd)
 number=0
 taken=0
 refused=0

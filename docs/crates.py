@@ -26,7 +26,7 @@ TOUCHES = [
     ("an operation of the flow graph", "`Ext`", [r"(?<![\w-])Ext(?![\w-])"]),
     ("an instruction", "`Zdep`", [r"(?<![\w-])Zdep(?![\w-])"]),
     ("an option of every build", "`--colours`, with `--stack`", [r"\bcolours\b", r"\bstack\b"]),
-    ("a field of a file", "`escaped` of summaries", [r"(?<![\w-])escaped(?![\w-])"]),
+    ("a field of a file", "`escaped` of summaries", [r"(?<![\w-])escaped(?![\w-])", r"(?i)summar|\btaken\b"]),
 ]
 
 

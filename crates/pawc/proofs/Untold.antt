@@ -2,9 +2,9 @@
 use Rattle.std.specs.Prelude.{◌≡◌, ◌⊎◌, Bool, if◌then◌else◌, false, true, Result, Ok, Err, OnOk}
 use Rattle.std.proofs.Common.{ap, inl, inr, refl, subst}
 use Rattle.pw_io.specs.declared.Failed.{Failed}
-use Rattle.pw_answer.specs.Answers.{is_untold}
-use Rattle.pw_answer.specs.declared.answer.Answer.{Answer}
-use Rattle.pw_answer.specs.declared.answer.Answer.TheVariants.{NoMemory, Usage, WriteFault}
+use Rattle.pw_top_answer.specs.Answers.{is_untold}
+use Rattle.pw_top_answer.specs.declared.answer.Answer.{Answer}
+use Rattle.pw_top_answer.specs.declared.answer.Answer.TheVariants.{NoMemory, Usage, WriteFault}
 use Rattle.pawc.specs.Flushed.{IsUntold, after_flush}
 
 apart : false ≡ true → ⊥

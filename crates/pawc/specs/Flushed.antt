@@ -1,9 +1,9 @@
 -- The answer behind the flush of the output, and the line that is told then.
 use Rattle.std.specs.Prelude.{ℕ, ◌≡◌, if◌then◌else◌, true, List, [], Result, Ok, Err}
 use Rattle.pw_io.specs.declared.Failed.{Failed}
-use Rattle.pw_answer.specs.Answers.{is_untold, line_text}
-use Rattle.pw_answer.specs.declared.answer.Answer.{Answer}
-use Rattle.pw_answer.specs.declared.answer.Answer.TheVariants.{WriteFault}
+use Rattle.pw_top_answer.specs.Answers.{is_untold, line_text}
+use Rattle.pw_top_answer.specs.declared.answer.Answer.{Answer}
+use Rattle.pw_top_answer.specs.declared.answer.Answer.TheVariants.{WriteFault}
 
 -- Where what was kept back of the output cannot be written, an answer that no line told is a write fault.
 abbrev pub after_flush : Answer → Result (Unit {0}) Failed → Answer

@@ -6,18 +6,18 @@ ghost use Rattle.std.specs.Prelude.{◌≡◌, ◌≢◌, ◌⊎◌, ◌∷◌, 
 ghost use Rattle.std.specs.IoError.{error_kind};
 ghost use Rattle.std.specs.Process.{exit_status};
 ghost use Rattle.std.specs.Vec.Iter.{into_iter_items};
-ghost use Rattle.pw_answer.specs.Answers.{line_text, status_of};
-ghost use Rattle.pw_answer.specs.Outcomes.{Tells};
+ghost use Rattle.pw_top_answer.specs.Answers.{line_text, status_of};
+ghost use Rattle.pw_top_answer.specs.Outcomes.{Tells};
 ghost use Rattle.pw_io.specs.declared.Failed.{Failed};
-ghost use Rattle.pw_system.specs.Sinks.{kept_back};
-ghost use Rattle.pw_words.specs.CommandLine.{command_of};
+ghost use Rattle.pw_io_system.specs.Sinks.{kept_back};
+ghost use Rattle.pw_top_words.specs.CommandLine.{command_of};
 ghost use Rattle.pawc.specs.Flushed.{IsUntold, after_flush, line_after_flush};
 ghost use Rattle.pawc.specs.declared.TheConstants.{BLOCK};
 
-use pw_answer::{exit_of, is_untold, tell};
 use pw_io::{Failed, Sink};
-use pw_system::{CurrentFolder, FileStore, StdSink, StdSource};
+use pw_io_system::{CurrentFolder, FileStore, StdSink, StdSource};
 use pw_top::{Answer, pawc_top};
+use pw_top_answer::{exit_of, is_untold, tell};
 use std::alloc::{AllocError, Global};
 use std::env::{self, Args};
 use std::io::{self, BufWriter, ErrorKind, IsTerminal, Read, Write};

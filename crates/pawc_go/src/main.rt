@@ -3,12 +3,12 @@
 #![tactic(auto)]
 
 ghost use Rattle.std.specs.Prelude.{◌≤◌};
-ghost use Rattle.pw_sum.specs.Built.{sum_steps};
+ghost use Rattle.pw_go_sum.specs.Built.{sum_steps};
 ghost use Rattle.pawc_go.specs.declared.TheConstants.{STEPS};
 
-use pw_answer::{exit_of, tell};
 use pw_go::go;
-use pw_system::{CurrentFolder, FileStore, StdSink, StdSource};
+use pw_io_system::{CurrentFolder, FileStore, StdSink, StdSource};
+use pw_top_answer::{exit_of, tell};
 use std::process::ExitCode;
 use std::rt::Files;
 

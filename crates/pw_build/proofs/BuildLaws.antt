@@ -4,11 +4,11 @@ use Rattle.std.proofs.Common.{◌≡◌, ℕ, ◌≤◌, List, [], Option, Resul
 use Rattle.std.specs.List.{AllByRecursion}
 use Rattle.pw_value.specs.declared.fault.LinkFault.{LinkFault}
 use Rattle.pw_flow.specs.declared.flow.FlowModule.{FlowModule}
-use Rattle.pw_modules.specs.Modules.{Source}
+use Rattle.pw_store_modules.specs.Modules.{Source}
 use Rattle.pw_object.specs.declared.object.Object.{Object}
-use Rattle.pw_making.specs.Programs.{Completes, Parts}
-use Rattle.pw_making.specs.Counting.{MakesAnew}
-use Rattle.pw_making.specs.Kept.{IsGenuineIfKept, anew}
+use Rattle.pw_build_objects.specs.Programs.{Completes, Parts}
+use Rattle.pw_build_objects.specs.Counting.{MakesAnew}
+use Rattle.pw_build_objects.specs.Kept.{IsGenuineIfKept, anew}
 use Rattle.pw_build.specs.declared.fault.BuildFault.{BuildFault}
 use Rattle.pw_build.specs.declared.fault.BuildFault.TheVariants.{Refused, LinkRefused, StoreFault, NoMemory}
 use Rattle.pw_build.specs.Builds.{Builds, BuildsAnew, BuildsBy, CompletesAs, MakesBy, first_phases}

@@ -10,9 +10,9 @@ use Rattle.pw_value.specs.declared.fault.What.TheVariants.{Modules, TextBytes}
 use Rattle.pw_flow.specs.declared.flow.FlowModule.{FlowModule}
 use Rattle.pw_object.specs.declared.object.Object.{Object}
 use Rattle.pw_phase_one.specs.FirstPhase.{Phase, compiled}
-use Rattle.pw_modules.specs.Modules.{Source}
-use Rattle.pw_making.specs.Programs.{Completes, Parts}
-use Rattle.pw_making.specs.Counting.{MakesAnew}
+use Rattle.pw_store_modules.specs.Modules.{Source}
+use Rattle.pw_build_objects.specs.Programs.{Completes, Parts}
+use Rattle.pw_build_objects.specs.Counting.{MakesAnew}
 use Rattle.pw_build.specs.declared.fault.BuildFault.{BuildFault}
 use Rattle.pw_build.specs.declared.fault.BuildFault.TheVariants.{Refused, LinkRefused}
 

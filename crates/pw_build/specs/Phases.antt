@@ -1,8 +1,8 @@
 -- What the code answers for the first phases of modules.
 use Rattle.std.specs.Prelude.{◌≡◌, ℕ, List, [], ◌∷◌, Result, Ok, Err}
-use Rattle.pw_front.specs.Places.{refusal_line}
+use Rattle.pw_front_end.specs.Places.{refusal_line}
 use Rattle.pw_phase_one.specs.FirstPhase.{Phase, compiled}
-use Rattle.pw_modules.specs.Modules.{Source}
+use Rattle.pw_store_modules.specs.Modules.{Source}
 use Rattle.pw_build.specs.declared.fault.BuildFault.{BuildFault}
 use Rattle.pw_build.specs.declared.fault.BuildFault.TheVariants.{Refused, LinkRefused, StoreFault, NoMemory}
 

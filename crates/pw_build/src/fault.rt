@@ -1,6 +1,6 @@
 //! Why no program was built.
 
-use pw_front::Refusal;
+use pw_front_end::Refusal;
 use pw_io::StoreError;
 use pw_value::{LinkFault, Name};
 use std::alloc::AllocError;

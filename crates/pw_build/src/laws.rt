@@ -2,16 +2,16 @@
 
 ghost use Rattle.std.specs.Prelude.{◌≡◌, ◌≤◌, ℕ, List, [], Option, Result, map};
 ghost use Rattle.std.specs.List.{AllByRecursion};
-ghost use Rattle.pw_modules.specs.Modules.{Source};
+ghost use Rattle.pw_store_modules.specs.Modules.{Source};
 ghost use Rattle.pw_object.specs.declared.object.Object.{Object};
-ghost use Rattle.pw_making.specs.Programs.{Parts};
-ghost use Rattle.pw_making.specs.Kept.{IsGenuineIfKept};
+ghost use Rattle.pw_build_objects.specs.Programs.{Parts};
+ghost use Rattle.pw_build_objects.specs.Kept.{IsGenuineIfKept};
 ghost use Rattle.pw_build.specs.declared.fault.BuildFault.{BuildFault};
 ghost use Rattle.pw_build.specs.Builds.{Builds, BuildsAnew};
 ghost use Rattle.pw_build.specs.Full.{built_anew};
 ghost use Rattle.pw_db.specs.Limits.{colour_limit};
 
-use pw_making::laws::{flow_graphs_have_one_answer, genuine_objects_change_nothing};
+use pw_build_objects::laws::{flow_graphs_have_one_answer, genuine_objects_change_nothing};
 
 /// Modules and what was kept of them come to one answer, and so many objects of theirs are made anew.
 pub fn modules_have_one_build()

@@ -4,17 +4,17 @@ ghost use Rattle.std.specs.Prelude.{◌≡◌, ◌+◌, ◌*◌, ◌≤◌, ◌+
 ghost use Rattle.std.specs.List.{AllByRecursion};
 ghost use Rattle.pw_value.specs.Limits.{module_limit};
 ghost use Rattle.pw_flow.specs.ValidFlow.{IsValid};
-ghost use Rattle.pw_front.specs.Places.{refusal_line};
+ghost use Rattle.pw_front_end.specs.Places.{refusal_line};
 ghost use Rattle.pw_phase_one.specs.FirstPhase.{compiled};
-ghost use Rattle.pw_modules.specs.Views.{source};
+ghost use Rattle.pw_store_modules.specs.Views.{source};
 ghost use Rattle.pw_build.specs.Builds.{first_phases, flows_of, limit_passed, text_bytes};
 ghost use Rattle.pw_build.specs.Phases.{FaultsAs, FaultsOfPhase, IsLine, line_by, refused_line};
 
 use crate::fault::{BuildFault, Unbuilt};
 use pw_flow::FlowModule;
-use pw_front::{FrontError, Refusal, refusal_line};
-use pw_modules::Module;
+use pw_front_end::{FrontError, Refusal, refusal_line};
 use pw_phase_one::phase_one;
+use pw_store_modules::Module;
 use pw_value::limits::{MODULE_LIMIT, TEXTS_LIMIT};
 use pw_value::{LinkFault, What};
 use std::alloc::{AllocError, Global};

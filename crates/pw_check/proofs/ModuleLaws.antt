@@ -1,30 +1,30 @@
 -- What checking answers of a module whose constraints are met, and of one of which one is not.
 use Rattle.std.specs.Prelude.{◌⊎◌, ◌≢◌, IfOk, IfErr}
-use Rattle.std.proofs.Common.{◌≡◌, ℕ, ◌+◌, ◌<◌, ◌≤◌, Option, None, Some, Result, Ok, Err, List, [], ◌∷◌, length, map, not, ◌&&◌, true, false, get_or, drop, refl, ap, sym, subst, ◌∙◌}
+use Rattle.std.proofs.Common.{◌≡◌, ℕ, ◌+◌, ◌<◌, ◌≤◌, Option, None, Some, Result, Ok, Err, List, [], ◌∷◌, length, map, Bool, if◌then◌else◌, true, false, get_or, drop, refl, ap, sym, subst, ◌∙◌}
 use Rattle.std.proofs.lemmas.List.{at_drop_more, at_drop_all}
 use mathlib.Core.Logic.{inl, inr}
 use Rattle.pw_tree.specs.Trees.{Module}
 use Rattle.pw_tree.specs.Views.{view_external, view_externals}
 use Rattle.pw_tree.specs.declared.module.External.{External}
-use Rattle.pw_checking.specs.EntityViews.{view_linked}
-use Rattle.pw_entities.specs.declared.entity.LinkedName.{LinkedName}
-use Rattle.pw_finding.specs.Found.{found, told}
-use Rattle.pw_finding.proofs.FindingLaws.{stopped_by_found, end_err}
+use Rattle.pw_check_state.specs.EntityViews.{view_linked}
+use Rattle.pw_check_entities.specs.declared.entity.LinkedName.{LinkedName}
+use Rattle.pw_check_finding.specs.Found.{found, told}
+use Rattle.pw_check_finding.proofs.FindingLaws.{stopped_by_found, end_err}
 use Rattle.pw_types.specs.TypedTrees.{ModuleValue}
-use Rattle.pw_walk.specs.declared.fault.CheckFault.{CheckFault}
-use Rattle.pw_walk.specs.declared.fault.CheckKind.TheVariants.{NoMemory}
-use Rattle.pw_walk.specs.Calls.{Obeys}
-use Rattle.pw_walk.specs.Walks.{Walk, Done, bind, outcome, asks}
-use Rattle.pw_walk.proofs.BindLaws.{bind_made, bind_stopped}
-use Rattle.pw_walk.proofs.CallLaws.{bind_assoc}
-use Rattle.pw_walk.proofs.WalkLaws.{one_answer}
-use Rattle.pw_rules.specs.Checks.{Checks, checking}
-use Rattle.pw_rules.specs.Modules.{end_cause, end_rule, end_spot, external_rule, externals_rule, final_type, module_in, module_rule}
-use Rattle.pw_rules.specs.States as states
-use Rattle.pw_rules.specs.Limits.{completed}
-use Rattle.pw_rules.specs.States.{State, records_in, start}
-use Rattle.pw_types.specs.TypeTrees.{type_of}
-use Rattle.pw_walk.specs.Causes.{CompleteAtEnd}
+use Rattle.pw_check_walk.specs.declared.fault.CheckFault.{CheckFault}
+use Rattle.pw_check_walk.specs.declared.fault.CheckKind.TheVariants.{NoMemory}
+use Rattle.pw_check_walk.specs.Calls.{Obeys}
+use Rattle.pw_check_walk.specs.Walks.{Walk, Done, bind, outcome, asks}
+use Rattle.pw_check_walk.proofs.BindLaws.{bind_made, bind_stopped}
+use Rattle.pw_check_walk.proofs.CallLaws.{bind_assoc}
+use Rattle.pw_check_walk.proofs.WalkLaws.{one_answer}
+use Rattle.pw_check_rules.specs.Checks.{Checks, checking}
+use Rattle.pw_check_rules.specs.Modules.{end_cause, end_rule, end_spot, must_be_complete, external_rule, externals_rule, final_type, module_in, module_rule}
+use Rattle.pw_check_rules.specs.States as states
+use Rattle.pw_check_rules.specs.Limits.{completed}
+use Rattle.pw_check_rules.specs.States.{State, records_in, start}
+use Rattle.pw_types.specs.TypeTrees.{QType, type_of}
+use Rattle.pw_check_walk.specs.Causes.{needs, CompleteAtEnd}
 use Rattle.pw_check.specs.Parts.{met_rule}
 
 -- the rule of modules is that of the constraints, and then what is made
@@ -62,12 +62,21 @@ externals_none s = refl
 
 -- ---- the end of a module
 
-pub no_cause : (s : State) (l : states.LinkedName) → (l.tentative && not l.defined) ≡ false → None ≡ found (end_cause s l ∷ [])
-no_cause s l e = rw e refl
+module _ (s : State) (l : states.LinkedName) (q : QType) (is : q ≡ final_type s l) where
+  -- what is found at the end where this is whether the type must be complete
+  abbrev found_by : Bool → Option CheckFault
+  found_by b =
+      found ((if b then completed (records_in s) (end_spot l) CompleteAtEnd (type_of (final_type s l)) else needs CompleteAtEnd l.token true) ∷ [])
 
-pub some_cause : (s : State) (l : states.LinkedName) → (l.tentative && not l.defined) ≡ true
-    → found (end_cause s l ∷ []) ≡ found (completed (records_in s) (end_spot l) CompleteAtEnd (type_of (final_type s l)) ∷ [])
-some_cause s l e = rw e refl
+  asked : (b : Bool) → must_be_complete l (type_of q) ≡ b → found (end_cause s l ∷ []) ≡ found_by b
+  asked b e = ap found_by (ap (λ x. must_be_complete l (type_of x)) (sym is) ∙ e)
+
+  pub no_cause : must_be_complete l (type_of q) ≡ false → None ≡ found (end_cause s l ∷ [])
+  no_cause e = sym (asked false e)
+
+  pub some_cause : must_be_complete l (type_of q) ≡ true
+      → found (completed (records_in s) (end_spot l) CompleteAtEnd (type_of q) ∷ []) ≡ found (end_cause s l ∷ [])
+  some_cause e = ap (λ x. found (completed (records_in s) (end_spot l) CompleteAtEnd (type_of x) ∷ [])) is ∙ sym (asked true e)
 
 one_end : (l : states.LinkedName) (rest : List states.LinkedName) (s : State)
     → outcome (end_rule (l ∷ rest) s) ≡ told (found (end_cause s l ∷ [])) (outcome (end_rule rest s))

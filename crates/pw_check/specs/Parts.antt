@@ -1,8 +1,8 @@
 -- The part of the rule of modules that code has as a function of its own.
 use Rattle.pw_tree.specs.Trees.{Module}
-use Rattle.pw_walk.specs.Walks.{asks, ◌>>=◌, ◌>>◌}
-use Rattle.pw_rules.specs.States.{Rule, linked_in}
-use Rattle.pw_rules.specs.Modules.{externals_rule, end_rule}
+use Rattle.pw_check_walk.specs.Walks.{asks, ◌>>=◌, ◌>>◌}
+use Rattle.pw_check_rules.specs.States.{Rule, linked_in}
+use Rattle.pw_check_rules.specs.Modules.{externals_rule, end_rule}
 
 -- the constraints of a module, without what it makes
 unfoldable pub met_rule : Module → Rule (Unit {0})

@@ -4,4 +4,4 @@
 mod modules;
 
 pub use modules::check;
-pub use pw_walk::{CheckFault, CheckKind, Which};
+pub use pw_check_walk::{CheckFault, CheckKind, Which};

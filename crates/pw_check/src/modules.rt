@@ -1,28 +1,30 @@
 //! Modules (C90 6.7): external declarations in their order, and what stands at a module's end.
 
-ghost use Rattle.std.specs.Prelude.{◌≡◌, ◌≢◌, ◌⊎◌, ℕ, [], ◌∷◌, Ok, Err, IfOk, IfErr, map, not, ◌&&◌};
+ghost use Rattle.std.specs.Prelude.{◌≡◌, ◌≢◌, ◌⊎◌, ℕ, [], ◌∷◌, Ok, Err, IfOk, IfErr, map};
 ghost use Rattle.pw_token.specs.declared.token.Feature.{Feature};
 ghost use Rattle.pw_types.specs.TypedTrees.{ModuleValue};
-ghost use Rattle.pw_walk.specs.declared.fault.CheckKind.TheVariants.{UnknownName, Redeclared, Typing, Constant, Unsupported, Limit, NoMemory};
-ghost use Rattle.pw_walk.specs.declared.fault.Which.{Which};
+ghost use Rattle.pw_check_walk.specs.declared.fault.CheckKind.TheVariants.{UnknownName, Redeclared, Typing, Constant, Unsupported, Limit, NoMemory};
+ghost use Rattle.pw_check_walk.specs.declared.fault.Which.{Which};
 ghost use Rattle.pw_check.specs.Parts.{met_rule};
 ghost use Rattle.pw_check.specs.Refusals.{IsMade, RanOut, TellsExactly, on_constants, on_declarations, on_feature, on_limit, on_names, on_types};
-ghost use Rattle.pw_checking.specs.EntityViews.{view_linked};
-ghost use Rattle.pw_checking.specs.Follows.{Follows, Leads};
-ghost use Rattle.pw_checking.specs.StateViews.{view_state};
-ghost use Rattle.pw_finding.specs.Found.{found};
-ghost use Rattle.pw_rules.specs.Checks.{Checks, checking};
-ghost use Rattle.pw_rules.specs.Modules as spec;
+ghost use Rattle.pw_check_state.specs.EntityViews.{view_linked};
+ghost use Rattle.pw_check_state.specs.Follows.{Follows, Leads};
+ghost use Rattle.pw_check_state.specs.StateViews.{view_state};
+ghost use Rattle.pw_check_finding.specs.Found.{found};
+ghost use Rattle.pw_check_rules.specs.Checks.{Checks, checking};
+ghost use Rattle.pw_check_rules.specs.Modules as spec;
 ghost use Rattle.pw_tree.specs.Views.{view_external, view_externals, view_module};
 ghost use Rattle.pw_typed.specs.Views as typed;
+ghost use Rattle.pw_types.specs.Views.{view_type};
 
-use pw_checking::{Finding, LinkedName, Spot, State};
-use pw_functions::{decl_rule, function_rule, phrases};
-use pw_limits::completed;
-use pw_results::{final_type, module_in};
+use pw_check_functions::{decl_rule, function_rule, phrases};
+use pw_check_limits::completed;
+use pw_check_result::{final_type, module_in};
+use pw_check_state::{Finding, LinkedName, Spot, State};
+use pw_check_walk::{CheckFault, CheckKind};
 use pw_tree::{External, Module};
 use pw_typed::TModule;
-use pw_walk::{CheckFault, CheckKind};
+use pw_types::{CType, is_record};
 use std::alloc::Global;
 
 /// An external declaration. At file scope no local is initialised.
@@ -56,18 +58,20 @@ fn externals_rule<'a>(
     Ok(())
 }
 
-/// Whether a name is defined tentatively alone (C90 6.7.2).
-fn is_tentative_alone(linked: &LinkedName<'_>) -> bool
-    ensures { result ≡ (linked.now.tentative && not linked.now.defined) }
+/// Whether the type of a name is complete by the end of the module: that of an object that is defined tentatively alone
+/// (C90 6.7.2), and each structure and union.
+fn must_be_complete(linked: &LinkedName<'_>, ty: &CType) -> bool
+    ensures { result ≡ spec.must_be_complete (view_linked linked.now) (view_type ty.now) }
 {
-    linked.tentative && !linked.defined
+    (linked.tentative && !linked.defined) || is_record(ty)
 }
 
-/// An object that is defined tentatively is complete by the end of the module (C90 6.7.2).
+/// What is asked at the end of the module of a name with linkage: that its type is complete, where it must be.
 fn end_cause(state: &State<'_>, linked: &LinkedName<'_>) -> Finding
     ensures { result.least ≡ found (spec.end_cause (view_state state.now) (view_linked linked.now) ∷ []) }
 {
-    if !is_tentative_alone(linked) {
+    let ty = final_type(state, linked);
+    if !must_be_complete(linked, &ty.ty) {
         return Finding::none();
     }
     let spot = Spot {
@@ -75,7 +79,6 @@ fn end_cause(state: &State<'_>, linked: &LinkedName<'_>) -> Finding
         specifier: linked.token,
         tag: linked.tag,
     };
-    let ty = final_type(state, linked);
     completed(state.records(), &spot, CheckKind::Typing, &ty.ty)
 }
 

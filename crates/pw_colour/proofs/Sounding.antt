@@ -17,11 +17,11 @@ use Rattle.pw_graph.proofs.Lists.{has_at}
 use Rattle.pw_webs.specs.declared.web.RawWeb.{RawWeb}
 use Rattle.pw_webs.specs.Webs.{Region, IsClosed}
 use Rattle.pw_webs.proofs.Closed.{closed, along, in_region}
-use Rattle.pw_sound.specs.CallGraphs.{Graph}
-use Rattle.pw_sound.specs.CallGraphs as Named
-use Rattle.pw_sound.specs.CallGraphs.{call as named_call, on as named_on}
-use Rattle.pw_sound.specs.Sound.{In, Needs, refers, keeps, Sound}
-use Rattle.pw_sound.specs.Sound.{Has as HasRole}
+use Rattle.pw_db_sound.specs.CallGraphs.{Graph}
+use Rattle.pw_db_sound.specs.CallGraphs as Named
+use Rattle.pw_db_sound.specs.CallGraphs.{call as named_call, on as named_on}
+use Rattle.pw_db_sound.specs.Sound.{In, Needs, refers, keeps, Sound}
+use Rattle.pw_db_sound.specs.Sound.{Has as HasRole}
 use Rattle.pw_colour.specs.Colours.{global_of, web_of, has_number, webs_of, directives_of}
 use Rattle.pw_colour.specs.Naming.{IsNamed}
 use Rattle.pw_colour.proofs.GraphOne.{map_same}

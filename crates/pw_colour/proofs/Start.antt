@@ -11,8 +11,8 @@ use Rattle.pw_summary.specs.Summary.{IsSummary, IsUses}
 use Rattle.pw_graph.specs.declared.graph.CallGraph.{CallGraph}
 use Rattle.pw_graph.specs.CallGraph.{Calls}
 use Rattle.pw_graph.specs.Program.{IsGraphOf, IsCall, by_name, through_value}
-use Rattle.pw_sound.specs.CallGraphs.{Graph}
-use Rattle.pw_sound.specs.Sound.{Sound}
+use Rattle.pw_db_sound.specs.CallGraphs.{Graph}
+use Rattle.pw_db_sound.specs.Sound.{Sound}
 use Rattle.pw_colour.specs.Colours.{numbered, IsDatabaseOf}
 use Rattle.pw_colour.specs.Naming.{IsNamed}
 use Rattle.pw_colour.proofs.GraphOne.{item_there, each_at, graph_one}

@@ -3,8 +3,8 @@ use Rattle.std.specs.Prelude.{ℕ, ◌≡◌, ◌↔◌, Some, List, Contains, s
 use Rattle.pw_value.specs.declared.value.Kind.{Kind}
 use Rattle.pw_graph.specs.declared.graph.CallGraph.{CallGraph}
 use Rattle.pw_graph.specs.CallGraph.{Calls, References, Writes}
-use Rattle.pw_sound.specs.CallGraphs.{Graph}
-use Rattle.pw_sound.specs.CallGraphs as Named
+use Rattle.pw_db_sound.specs.CallGraphs.{Graph}
+use Rattle.pw_db_sound.specs.CallGraphs as Named
 
 -- the function a calls the function b
 pub record CallsByName (g : CallGraph) (a b : List ℕ) : Type 0 where

@@ -14,7 +14,7 @@ use crate::directing::{database, numbered};
 use crate::ranking::ranked;
 use pw_db::Database;
 use pw_graph::{CallGraph, build_graph};
-use pw_refs::ref_sets;
+use pw_graph_refs::ref_sets;
 use pw_summary::Summary;
 use pw_value::LinkFault;
 use pw_webs::webs;

@@ -9,7 +9,7 @@ ghost use Rattle.pw_db.specs.Limits.{colour_limit};
 
 use pw_db::FIRST_REGISTER;
 use pw_fix::{BitRow, BitRows};
-use pw_refs::join;
+use pw_graph_refs::join;
 use pw_webs::RawWeb;
 use std::alloc::{AllocError, Global};
 

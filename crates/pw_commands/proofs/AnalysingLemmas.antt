@@ -4,18 +4,18 @@ use Rattle.std.specs.Prelude.{IfSome, Vec}
 use Rattle.std.specs.declared.alloc.Global.{Global}
 use Rattle.pw_io.specs.Files.{Told, Keeps}
 use Rattle.pw_value.specs.declared.fault.LinkFault.{LinkFault}
-use Rattle.pw_program.specs.declared.interface.Interface.{Interface}
-use Rattle.pw_program.specs.Linking.{Links, Refusal}
+use Rattle.pw_link_rules.specs.declared.interface.Interface.{Interface}
+use Rattle.pw_link_rules.specs.Linking.{Links, Refusal}
 use Rattle.pw_summary.specs.declared.summary.Summary.{Summary}
 use Rattle.pw_db.specs.declared.database.Directives.{Directives}
 use Rattle.pw_db.specs.Database.{IsDatabaseFile}
 use Rattle.pw_graph.specs.Program.{AreLinked, AreRefused, interface_of}
 use Rattle.pw_colour.specs.Colours.{IsDatabaseOf}
-use Rattle.pw_modules.specs.FileNames.{database_name}
-use Rattle.pw_answer.specs.declared.answer.Answer.{Answer}
-use Rattle.pw_answer.specs.declared.answer.Answer.TheVariants.{LinkRefused, StoreFault, NoMemory}
-use Rattle.pw_answer.specs.Effects.{Effect, PutsFiles, answers_alone, puts_files}
-use Rattle.pw_answer.specs.Outcomes.{Answers}
+use Rattle.pw_store_modules.specs.FileNames.{database_name}
+use Rattle.pw_top_answer.specs.declared.answer.Answer.{Answer}
+use Rattle.pw_top_answer.specs.declared.answer.Answer.TheVariants.{LinkRefused, StoreFault, NoMemory}
+use Rattle.pw_top_answer.specs.Effects.{Effect, PutsFiles, answers_alone, puts_files}
+use Rattle.pw_top_answer.specs.Outcomes.{Answers}
 use Rattle.pw_commands.specs.Needed.{StopsAs}
 use Rattle.pw_commands.specs.Outcome.{IsPutAnswer, IsStop, Obeys}
 use Rattle.pw_commands.specs.Analysing.{AnalyseComes, AnalyseOver, AnalysedFile, AnalysesInto, AnalysesOver, ComesOfSummaries, IsDatabaseFileOf, RefusesSummaries, summaries_of}

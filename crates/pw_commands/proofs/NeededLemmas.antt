@@ -5,8 +5,8 @@ use Rattle.std.proofs.lemmas.List.{drop-map}
 use Rattle.std.proofs.Math.Seq.{drop-cons}
 use Rattle.pw_commands.specs.Linking.{few_names, of_names}
 use Rattle.pw_io.specs.Files.{Files, Told, Keeps}
-use Rattle.pw_answer.specs.declared.answer.Answer.{Answer}
-use Rattle.pw_answer.specs.declared.answer.Answer.TheVariants.{StoreFault, NoMemory}
+use Rattle.pw_top_answer.specs.declared.answer.Answer.{Answer}
+use Rattle.pw_top_answer.specs.declared.answer.Answer.TheVariants.{StoreFault, NoMemory}
 use Rattle.pw_commands.specs.Needed.{Adds, StopsAs, Needs, all_needed, before_others, needed}
 
 -- what was read, before what the files that are left hold

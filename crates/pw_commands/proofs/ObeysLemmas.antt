@@ -8,11 +8,11 @@ use Rattle.pw_object.specs.declared.object.Object.{Object}
 use Rattle.pw_image.specs.declared.image.Image.{Image}
 use Rattle.pw_image.specs.Image.{Contents, IsImageFile}
 use Rattle.pw_link.specs.Linking.{linked, AreLinked, IsRefusal}
-use Rattle.pw_modules.specs.FileNames.{image_name}
-use Rattle.pw_answer.specs.declared.answer.Answer.{Answer}
-use Rattle.pw_answer.specs.declared.answer.Answer.TheVariants.{Done, LinkRefused, ReadFault, WriteFault, StoreFault, NoMemory, BadFile}
-use Rattle.pw_answer.specs.Effects.{Effect, NamedFile, PutsFiles, PutPart, PutFront, IsLeft, answers_alone, puts_files}
-use Rattle.pw_answer.specs.Outcomes.{Answers}
+use Rattle.pw_store_modules.specs.FileNames.{image_name}
+use Rattle.pw_top_answer.specs.declared.answer.Answer.{Answer}
+use Rattle.pw_top_answer.specs.declared.answer.Answer.TheVariants.{Done, LinkRefused, ReadFault, WriteFault, StoreFault, NoMemory, BadFile}
+use Rattle.pw_top_answer.specs.Effects.{Effect, NamedFile, PutsFiles, PutPart, PutFront, IsLeft, answers_alone, puts_files}
+use Rattle.pw_top_answer.specs.Outcomes.{Answers}
 use Rattle.pw_commands.specs.Needed.{StopsAs}
 use Rattle.pw_commands.specs.Outcome.{IsFound, IsPutAnswer, IsStop, Obeys}
 use Rattle.pw_commands.specs.Linking.{ComesOfObjects, IsImageOf, LinkComes, LinkOver, LinkedFile, LinksInto, LinksOver, RefusesLink, objects_of}

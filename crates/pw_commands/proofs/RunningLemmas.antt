@@ -9,12 +9,12 @@ use Rattle.pw_image.specs.Reading.{image_file_at}
 use Rattle.pw_machine.specs.Core.{Core}
 use Rattle.pw_machine.specs.Start.{image_start}
 use Rattle.pw_machine.specs.Stops.{Snapshot, loaded}
-use Rattle.pw_modules.specs.FileNames.{image_name}
-use Rattle.pw_answer.specs.declared.answer.Answer.{Answer}
-use Rattle.pw_answer.specs.declared.answer.Answer.TheVariants.{StoreFault, NoMemory, BadFile}
-use Rattle.pw_answer.specs.Outcomes.{LeavesInput, WasReadInPart}
-use Rattle.pw_running.specs.Running.{started}
-use Rattle.pw_running.proofs.RunLemmas.{Ends, ends_itself, run_ends}
+use Rattle.pw_store_modules.specs.FileNames.{image_name}
+use Rattle.pw_top_answer.specs.declared.answer.Answer.{Answer}
+use Rattle.pw_top_answer.specs.declared.answer.Answer.TheVariants.{StoreFault, NoMemory, BadFile}
+use Rattle.pw_top_answer.specs.Outcomes.{LeavesInput, WasReadInPart}
+use Rattle.pw_commands_run.specs.Running.{started}
+use Rattle.pw_commands_run.proofs.RunLemmas.{Ends, ends_itself, run_ends}
 use Rattle.pw_commands.specs.Needed.{IsBadFile, StopsAs, found_in, needed_bytes, read_by}
 use Rattle.pw_commands.specs.Outcome.{IsFileStop}
 use Rattle.pw_commands.specs.Running.{IsRunOrStop, core_at, core_in, run_effect, runs}

@@ -1,35 +1,25 @@
 -- What a command that prints answered and put out.
-use Rattle.std.proofs.Common.{◌≡◌, ℕ, ◌<◌, List, [], ◌∷◌, length, take, drop, Option, Some, None, Result, Ok, Err, refl, sym, ap, ◌∙◌, subst, append-nil}
+use Rattle.std.proofs.Common.{◌≡◌, ℕ, ◌<◌, List, [], ◌∷◌, length, Option, Some, None, Result, Ok, Err, refl, sym, ap, ◌∙◌, subst, append-nil}
 use Rattle.std.specs.Prelude.{IfSome, Vec}
 use Rattle.std.specs.declared.alloc.Global.{Global}
-use Rattle.std.proofs.lemmas.List.{take-append-drop}
 use Rattle.pw_io.specs.Files.{Files, Told, Keeps}
-use Rattle.pw_io.specs.Streams.{Appends, AppendsPart}
+use Rattle.pw_io.specs.Streams.{Appends}
 use Rattle.pw_files.specs.Contents.{value_of}
 use Rattle.pw_image.specs.declared.image.Image.{Image}
 use Rattle.pw_image.specs.Image.{Contents}
-use Rattle.pw_image.specs.Reading.{image_file_at}
-use Rattle.pw_modules.specs.FileNames.{image_name}
+use Rattle.pw_image.specs.Reading.{image_at, image_file_at}
+use Rattle.pw_store_modules.specs.FileNames.{image_name}
 use Rattle.pw_list.specs.Listing.{IsListing, IsListingOf}
-use Rattle.pw_answer.specs.declared.answer.Answer.{Answer}
-use Rattle.pw_answer.specs.declared.answer.Answer.TheVariants.{Done, WriteFault, ReadFault, StoreFault, NoMemory, BadFile}
-use Rattle.pw_answer.specs.Effects.{Effect, answers_alone, prints}
-use Rattle.pw_answer.specs.Outcomes.{Answers, IsWhole, PutsOut}
+use Rattle.pw_top_answer.specs.declared.answer.Answer.{Answer}
+use Rattle.pw_top_answer.specs.declared.answer.Answer.TheVariants.{Done, WriteFault, ReadFault, StoreFault, NoMemory, BadFile}
+use Rattle.pw_top_answer.specs.Effects.{Effect, answers_alone, prints}
+use Rattle.pw_top_answer.specs.Outcomes.{Answers, IsPrintAnswer, IsWhole, PutsOut}
 use Rattle.pw_commands.specs.Needed.{IsBadFile, StopsAs, found_in, needed_bytes, read_by}
 use Rattle.pw_commands.specs.Outcome.{IsFileStop, IsFound}
-use Rattle.pw_commands.specs.Showing.{DatabaseComes, IsListed, IsPrintAnswer, IsShowAnswer, ListComes, ListOver, Shows, database_text, image_at, image_in, printed}
+use Rattle.pw_commands.specs.Showing.{DatabaseComes, IsListed, IsShowAnswer, ListComes, ListOver, Shows, database_text, image_in, printed}
 
--- ---- one put
+-- ---- nothing put out
 
-pub puts_all : (text : List ℕ) (old new : Option (List ℕ)) → Appends old new text → PutsOut text Done old new
-puts_all text old new h = record { output = text; more = []; taken = h; front = sym (append-nil text); whole = refl }
-
-pub puts_part : (text : List ℕ) (old new : Option (List ℕ)) → AppendsPart old new text → PutsOut text WriteFault old new
-puts_part text old None h = record { output = []; more = text; taken = tt; front = refl; whole = tt }
-puts_part text None (Some after) h = absurd h
-puts_part text (Some before) (Some after) h = record { output = take h.0 text; more = drop h.0 text; taken = h.2; front = sym (take-append-drop h.0 text); whole = tt }
-
--- nothing was put out
 appends_none : (taken : Option (List ℕ)) → Appends taken taken []
 appends_none None = tt
 appends_none (Some xs) = sym (append-nil xs)
@@ -59,6 +49,7 @@ shows_one comes one answer old new c same h out = record {
 print_answers : (answer : Answer) → IsPrintAnswer answer → Answers Done answer
 print_answers Done h = refl
 print_answers WriteFault h = tt
+print_answers NoMemory h = tt
 print_answers _ h = absurd h
 
 -- a stop, whatever the command comes to

@@ -2,8 +2,8 @@
 use Rattle.std.specs.Prelude.{ℕ, Result, Ok, Err, IfErr}
 use Rattle.pw_value.specs.declared.fault.LinkFault.TheVariants as link
 use Rattle.pw_value.specs.declared.fault.What.{What}
-use Rattle.pw_answer.specs.declared.answer.Answer.{Answer}
-use Rattle.pw_answer.specs.declared.answer.Answer.TheVariants.{LinkRefused, StoreFault, NoMemory, BadFile}
+use Rattle.pw_top_answer.specs.declared.answer.Answer.{Answer}
+use Rattle.pw_top_answer.specs.declared.answer.Answer.TheVariants.{LinkRefused, StoreFault, NoMemory, BadFile}
 use Rattle.pw_commands.specs.Outcome.{IsStop, IsFileStop}
 
 pub file_stop_stops : (answer : Answer) → IsFileStop answer → IsStop answer

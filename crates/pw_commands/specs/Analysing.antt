@@ -10,10 +10,10 @@ use Rattle.pw_db.specs.declared.database.Directives.{Directives}
 use Rattle.pw_db.specs.Database.{IsDatabaseFile}
 use Rattle.pw_graph.specs.Program.{AreLinked, AreRefused}
 use Rattle.pw_colour.specs.Colours.{IsDatabaseOf}
-use Rattle.pw_modules.specs.FileNames.{database_name, summary_ending}
-use Rattle.pw_answer.specs.declared.answer.Answer.{Answer}
-use Rattle.pw_answer.specs.declared.answer.Answer.TheVariants.{LinkRefused, StoreFault, NoMemory}
-use Rattle.pw_answer.specs.Effects.{Effect, answers_alone, puts_files}
+use Rattle.pw_store_modules.specs.FileNames.{database_name, summary_ending}
+use Rattle.pw_top_answer.specs.declared.answer.Answer.{Answer}
+use Rattle.pw_top_answer.specs.declared.answer.Answer.TheVariants.{LinkRefused, StoreFault, NoMemory}
+use Rattle.pw_top_answer.specs.Effects.{Effect, answers_alone, puts_files}
 use Rattle.pw_commands.specs.Linking.{few_names, of_names}
 
 -- what stands in a summary's file

@@ -11,11 +11,11 @@ use Rattle.pw_object.specs.declared.object.Object.{Object}
 use Rattle.pw_object.specs.Reading.{object_file_at}
 use Rattle.pw_image.specs.Image.{IsImageFile}
 use Rattle.pw_link.specs.Linking.{linked, AreLinked, IsRefusal}
-use Rattle.pw_modules.specs.FileNames.{image_name, object_ending}
-use Rattle.pw_modules.specs.Modules.{names_of_modules}
-use Rattle.pw_answer.specs.declared.answer.Answer.{Answer}
-use Rattle.pw_answer.specs.declared.answer.Answer.TheVariants.{LinkRefused, StoreFault, NoMemory}
-use Rattle.pw_answer.specs.Effects.{Effect, answers_alone, puts_files}
+use Rattle.pw_store_modules.specs.FileNames.{image_name, object_ending}
+use Rattle.pw_store_modules.specs.Modules.{names_of_modules}
+use Rattle.pw_top_answer.specs.declared.answer.Answer.{Answer}
+use Rattle.pw_top_answer.specs.declared.answer.Answer.TheVariants.{LinkRefused, StoreFault, NoMemory}
+use Rattle.pw_top_answer.specs.Effects.{Effect, answers_alone, puts_files}
 use Rattle.pw_commands.specs.Needed.{all_needed}
 
 -- the modules' names, in byte order, where there are not too many

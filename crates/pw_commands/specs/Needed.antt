@@ -6,8 +6,8 @@ use Rattle.pw_value.specs.Limits.{kept_limit}
 use Rattle.pw_value.specs.declared.fault.FileError.{FileError}
 use Rattle.pw_value.specs.declared.fault.FileError.TheVariants as file
 use Rattle.pw_value.specs.declared.fault.FileError.TheVariants.{FileFault}
-use Rattle.pw_answer.specs.declared.answer.Answer.{Answer}
-use Rattle.pw_answer.specs.declared.answer.Answer.TheVariants.{BadFile, StoreFault, NoMemory}
+use Rattle.pw_top_answer.specs.declared.answer.Answer.{Answer}
+use Rattle.pw_top_answer.specs.declared.answer.Answer.TheVariants.{BadFile, StoreFault, NoMemory}
 
 -- the bytes of a file, as far as they count: of a kept file the first so many
 abbrev pub counted_in : List ℕ → Option (List ℕ) → Result (List ℕ) Answer

@@ -2,10 +2,10 @@
 use Rattle.std.specs.Prelude.{◌≡◌, ◌≢◌, ℕ, List, Option, Result, Ok, Err}
 use Rattle.pw_io.specs.Files.{Told}
 use Rattle.pw_value.specs.declared.fault.LinkFault.TheVariants as link
-use Rattle.pw_answer.specs.declared.answer.Answer.{Answer}
-use Rattle.pw_answer.specs.declared.answer.Answer.TheVariants.{Done, LinkRefused, ReadFault, WriteFault, StoreFault, NoMemory, BadFile}
-use Rattle.pw_answer.specs.Effects.{Effect, PutsFiles}
-use Rattle.pw_answer.specs.Outcomes.{Answers, StoreCount}
+use Rattle.pw_top_answer.specs.declared.answer.Answer.{Answer}
+use Rattle.pw_top_answer.specs.declared.answer.Answer.TheVariants.{Done, LinkRefused, ReadFault, WriteFault, StoreFault, NoMemory, BadFile}
+use Rattle.pw_top_answer.specs.Effects.{Effect, PutsFiles}
+use Rattle.pw_top_answer.specs.Outcomes.{Answers, StoreCount}
 
 -- the answers of a command that touches the store alone; a refusal is none for want of memory
 abbrev pub IsStoreAnswer : Answer → Type 0

@@ -6,11 +6,11 @@ use Rattle.pw_image.specs.Loading.{loaded_as}
 use Rattle.pw_machine.specs.Core.{Core}
 use Rattle.pw_machine.specs.Start.{image_start}
 use Rattle.pw_machine.specs.Run.{run_of}
-use Rattle.pw_modules.specs.FileNames.{image_name}
-use Rattle.pw_answer.specs.declared.answer.Answer.{Answer}
-use Rattle.pw_answer.specs.declared.answer.Answer.TheVariants.{Done, Usage, Refused, LinkRefused}
-use Rattle.pw_answer.specs.Effects.{Effect, answers_alone}
-use Rattle.pw_running.specs.Running.{ran, started}
+use Rattle.pw_store_modules.specs.FileNames.{image_name}
+use Rattle.pw_top_answer.specs.declared.answer.Answer.{Answer}
+use Rattle.pw_top_answer.specs.declared.answer.Answer.TheVariants.{Done, Usage, Refused, LinkRefused}
+use Rattle.pw_top_answer.specs.Effects.{Effect, answers_alone}
+use Rattle.pw_commands_run.specs.Running.{ran, started}
 use Rattle.pw_commands.specs.Needed.{needed}
 
 -- the machine at the start of the image that stands in a file

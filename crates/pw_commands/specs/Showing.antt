@@ -4,23 +4,20 @@ use Rattle.std.specs.declared.alloc.Global.{Global}
 use Rattle.pw_io.specs.Files.{Files}
 use Rattle.pw_files.specs.Contents.{value_of}
 use Rattle.pw_image.specs.declared.image.Image.{Image}
-use Rattle.pw_image.specs.Reading.{image_file_at}
+use Rattle.pw_image.specs.Reading.{image_at}
 use Rattle.pw_db.specs.declared.database.Directives.{Directives}
 use Rattle.pw_db.specs.Reading.{database_file_at}
-use Rattle.pw_modules.specs.FileNames.{database_name, image_name}
+use Rattle.pw_store_modules.specs.FileNames.{database_name, image_name}
 use Rattle.pw_list.specs.Listing.{IsListing}
 use Rattle.pw_list.specs.DatabaseText.{text_of}
-use Rattle.pw_answer.specs.declared.answer.Answer.{Answer}
-use Rattle.pw_answer.specs.declared.answer.Answer.TheVariants.{Done, WriteFault, StoreFault, NoMemory, BadFile}
-use Rattle.pw_answer.specs.Effects.{Effect, answers_alone, prints}
-use Rattle.pw_answer.specs.Outcomes.{Answers, PutsOut}
+use Rattle.pw_top_answer.specs.declared.answer.Answer.{Answer}
+use Rattle.pw_top_answer.specs.declared.answer.Answer.TheVariants.{Done, WriteFault, StoreFault, NoMemory, BadFile}
+use Rattle.pw_top_answer.specs.Effects.{Effect, answers_alone, prints}
+use Rattle.pw_top_answer.specs.Outcomes.{Answers, PutsOut}
 use Rattle.pw_commands.specs.Needed.{StopsAs, needed}
 use Rattle.pw_commands.specs.Outcome.{IsFound}
 
 -- the program that stands in `prog.img`
-abbrev pub image_at : List ℕ → Result Image ℕ
-image_at bytes = value_of (image_file_at bytes)
-
 abbrev pub image_in : Files → Result Image Answer
 image_in files = needed image_at files image_name
 
@@ -67,12 +64,6 @@ IsShowAnswer (BadFile name at) = Unit {0}
 IsShowAnswer _ = ⊥
 
 -- ---- inside
-
--- the answers of a print
-abbrev pub IsPrintAnswer : Answer → Type 0
-IsPrintAnswer Done = Unit {0}
-IsPrintAnswer WriteFault = Unit {0}
-IsPrintAnswer _ = ⊥
 
 -- the listing of the program that is wanted
 abbrev pub IsListed : Result Image Answer → List ℕ → Type 0

@@ -2,8 +2,8 @@
 
 ghost use Rattle.std.specs.Prelude.{◌≤◌, ℕ, List, [], ◌∷◌, All, IfErr, IfSome};
 ghost use Rattle.pw_io.specs.Files.{Keeps};
-ghost use Rattle.pw_modules.specs.FileNames.{database_name};
-ghost use Rattle.pw_answer.specs.Outcomes.{StoreCount};
+ghost use Rattle.pw_store_modules.specs.FileNames.{database_name};
+ghost use Rattle.pw_top_answer.specs.Outcomes.{StoreCount};
 ghost use Rattle.pw_summary.specs.Summary.{IsSummary};
 ghost use Rattle.pw_commands.specs.Analysing.{AnalyseComes, AnalysesInto, AnalysesOver, summaries_of};
 ghost use Rattle.pw_commands.specs.Others.{KeepsOthers};
@@ -12,14 +12,14 @@ ghost use Rattle.pw_db.specs.Limits.{colour_limit};
 
 use crate::kept::kept_of_modules;
 use crate::linking::put_file;
-use pw_answer::Answer;
 use pw_colour::analyse;
 use pw_colour::laws::{databases_are_lawful, databases_are_one};
 use pw_db::laws::databases_and_files_are_one_to_one;
 use pw_io::Store;
-use pw_modules::{DATABASE_NAME, SUMMARY_ENDING};
-use pw_program::laws::modules_have_one_answer;
+use pw_link_rules::laws::modules_have_one_answer;
+use pw_store_modules::{DATABASE_NAME, SUMMARY_ENDING};
 use pw_summary::Summary;
+use pw_top_answer::Answer;
 use pw_value::LinkFault;
 use std::alloc::Global;
 

@@ -11,6 +11,6 @@ mod showing;
 
 pub use analysing::analyse_modules;
 pub use linking::{link_modules, put_file};
-pub use needed::{file_of, read_needed, refused};
+pub use needed::{read_needed, refused};
 pub use running::run_image;
 pub use showing::{list_image, show_database};

@@ -5,22 +5,22 @@ ghost use Rattle.std.specs.List.{AllByRecursion};
 ghost use Rattle.pw_io.specs.Files.{Keeps};
 ghost use Rattle.pw_value.specs.Limits.{stack_least, stack_most};
 ghost use Rattle.pw_object.specs.Object.{IsObject};
-ghost use Rattle.pw_modules.specs.FileNames.{image_name};
-ghost use Rattle.pw_answer.specs.Effects.{PutsFiles};
-ghost use Rattle.pw_answer.specs.Outcomes.{StoreCount};
+ghost use Rattle.pw_store_modules.specs.FileNames.{image_name};
+ghost use Rattle.pw_top_answer.specs.Effects.{PutsFiles};
+ghost use Rattle.pw_top_answer.specs.Outcomes.{StoreCount};
 ghost use Rattle.pw_commands.specs.Linking.{LinkComes, LinksInto, LinksOver, objects_of};
 ghost use Rattle.pw_commands.specs.Others.{KeepsOthers};
 ghost use Rattle.pw_commands.specs.Outcome.{IsPutAnswer, IsStop, IsStoreAnswer, Obeys, StopCount};
 
 use crate::kept::kept_of_modules;
-use pw_answer::Answer;
 use pw_image::laws::images_and_files_are_one_to_one;
 use pw_image::write_image;
 use pw_io::{Store, StoreError};
+use pw_law_link::laws::{linked_images_are_lawful, objects_have_one_answer};
 use pw_link::link;
-use pw_link_laws::laws::{linked_images_are_lawful, objects_have_one_answer};
-use pw_modules::{IMAGE_NAME, OBJECT_ENDING};
 use pw_object::Object;
+use pw_store_modules::{IMAGE_NAME, OBJECT_ENDING};
+use pw_top_answer::Answer;
 use pw_value::LinkFault;
 use std::alloc::Global;
 

@@ -1,13 +1,13 @@
 //! The files that a command needs: what stands in them, or the answer in its place.
 
-ghost use Rattle.std.specs.Prelude.{◌≡◌, ◌++◌, IfErr, IfOk, IfSome, length, string_bytes};
+ghost use Rattle.std.specs.Prelude.{IfErr, IfSome, length};
 ghost use Rattle.pw_io.specs.Files.{Keeps};
 ghost use Rattle.pw_value.specs.Names.{IsNameLength};
 ghost use Rattle.pw_commands.specs.Needed.{IsBadFile, IsRefusedFile, Needs, needed_bytes};
 ghost use Rattle.pw_commands.specs.Outcome.{IsFileStop, StopCount};
 
-use pw_answer::Answer;
 use pw_io::{Store, StoreError};
+use pw_top_answer::Answer;
 use pw_value::limits::KEPT_LIMIT;
 use pw_value::{FileError, Name};
 use std::alloc::{AllocError, Global};
@@ -49,13 +49,4 @@ pub fn read_needed<S: Store>(alloc: Global, store: &mut S, name: &str) -> Result
         Err(StoreError::Failed) => Err(Answer::StoreFault),
         Err(StoreError::NoMemory) => Err(Answer::NoMemory),
     }
-}
-
-/// The file of a module of one kind.
-pub fn file_of(alloc: Global, stem: &str, ending: &str) -> Result<String, AllocError>
-    ensures { IfOk result (λ name. string_bytes name ≡ stem.now ++ ending.now) }
-{
-    let mut name = String::from_str(alloc, stem)?;
-    name.push_str(ending)?;
-    Ok(name)
 }

@@ -2,18 +2,18 @@
 
 ghost use Rattle.std.specs.Prelude.{IfErr, IfSome};
 ghost use Rattle.pw_io.specs.Files.{Keeps};
-ghost use Rattle.pw_answer.specs.Outcomes.{Answers, InputCount, LeavesInput, LeavesStreams, OutputCount, PutsOut, StoreCount};
+ghost use Rattle.pw_top_answer.specs.Outcomes.{Answers, InputCount, LeavesInput, LeavesStreams, OutputCount, PutsOut, StoreCount};
 ghost use Rattle.pw_commands.specs.Needed.{Needs};
 ghost use Rattle.pw_commands.specs.Outcome.{IsFileStop, StopCount};
 ghost use Rattle.pw_commands.specs.Running.{IsRunOrStop, core_in, run_effect};
 
 use crate::needed::{bad_file, read_needed};
-use pw_answer::Answer;
+use pw_commands_run::run_machine;
 use pw_image::LoadError;
 use pw_io::{Sink, Source, Store};
 use pw_machine::Machine;
-use pw_modules::IMAGE_NAME;
-use pw_running::run_machine;
+use pw_store_modules::IMAGE_NAME;
+use pw_top_answer::Answer;
 use std::alloc::Global;
 
 /// The machine at the start of the program that stands in `prog.img`.

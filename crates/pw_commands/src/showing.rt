@@ -2,32 +2,20 @@
 
 ghost use Rattle.std.specs.Prelude.{ℕ, List, Option, IfErr, IfSome};
 ghost use Rattle.pw_io.specs.Files.{Keeps};
-ghost use Rattle.pw_answer.specs.Outcomes.{LeavesStreams, OutputCount, PutsOut, StoreCount};
+ghost use Rattle.pw_top_answer.specs.Outcomes.{LeavesStreams, OutputCount, StoreCount};
 ghost use Rattle.pw_commands.specs.Needed.{Needs};
 ghost use Rattle.pw_commands.specs.Outcome.{IsFileStop, StopCount};
-ghost use Rattle.pw_commands.specs.Showing.{DatabaseComes, IsPrintAnswer, IsShowAnswer, ListComes, ListsOver, Shows, database_text, image_in};
+ghost use Rattle.pw_commands.specs.Showing.{DatabaseComes, IsShowAnswer, ListComes, ListsOver, Shows, database_text, image_in};
 
 use crate::needed::{bad_file, read_needed, refused};
-use pw_answer::Answer;
 use pw_image::LoadError;
-use pw_io::{Failed, Sink, Store};
+use pw_io::{Sink, Store};
 use pw_list::laws::an_image_has_one_listing;
 use pw_list::{db_text, listing};
-use pw_modules::{DATABASE_NAME, IMAGE_NAME};
+use pw_store_modules::{DATABASE_NAME, IMAGE_NAME};
+use pw_top_answer::{Answer, print};
 use pw_value::Name;
 use std::alloc::Global;
-
-/// Puts a text out.
-fn print<O: Sink>(out: &mut O, text: &[u8]) -> Answer
-    ensures output { PutsOut text.now result (O.taken out.old) (O.taken out.new) }
-    ensures write { OutputCount (O.faults out.old) (O.faults out.new) result }
-    ensures answer { IsPrintAnswer result }
-{
-    match out.put(text) {
-        Ok(()) => Answer::Done,
-        Err(Failed) => Answer::WriteFault,
-    }
-}
 
 /// The listing of the program that stands in `prog.img`.
 fn listed<S: Store>(alloc: Global, store: &mut S) -> Result<Vec<u8>, Answer>

@@ -48,8 +48,8 @@ fields_keep : (names : List (List ℕ)) (rule : List (List ℕ × Directives) �
 unfolding fields_at
 fields_keep names rule = keeps_behind here _ _ (λ count. keeps_behind (functions_at names) _ _ (λ functions. keeps_ended (rule functions count) (contents names functions)))
 
-pub faults_stay : FaultsStay kind database_version fields_at (λ bytes. value_of (database_file_at bytes))
-faults_stay = files.faults_stay kind database_version fields_at unused_rule (contents_onward fields_at fields_onward) (contents_keep fields_at unused_rule fields_keep)
+pub faults_stay : FaultsStay kind database_version database_version (λ version. fields_at) (λ bytes. value_of (database_file_at bytes))
+faults_stay = files.faults_stay kind database_version database_version (λ version. fields_at) unused_rule (λ version. contents_onward fields_at fields_onward) (λ version. contents_keep fields_at unused_rule fields_keep)
 
 pub payload_faults_stay : PayloadFaultsStay fields_at (λ bytes. value_of (placed (length bytes) (payload_at bytes)))
 payload_faults_stay = files.payload_faults_stay fields_at unused_rule (contents_onward fields_at fields_onward) (contents_keep fields_at unused_rule fields_keep)

@@ -263,11 +263,11 @@ contents_spells = contents_spell fields_at unused_rule spelling body Steps IsDat
 -- ---- the file
 
 pub found_by : (bytes : List ℕ) (r : Result Database FileError) → AreBytes bytes → GivesFile (λ db. db.functions) r (value_of (database_file_at bytes)) → IfOk r (λ db. IsDatabaseFile bytes db.functions)
-found_by bytes (Ok db) fits given = files.found_by kind database_version fields_at unused_rule spelling IsDatabaseContents contents_spells bytes (Ok db.functions) fits given
+found_by bytes (Ok db) fits given = files.found_by kind database_version database_version (λ version. fields_at) unused_rule (λ version. spelling) (λ version. IsDatabaseContents) (λ version from to. contents_spells) bytes (Ok db.functions) fits given
 found_by bytes (Err e) fits given = tt
 
 pub only_by : (bytes : List ℕ) (r : Result Database FileError) → GivesFile (λ db. db.functions) r (value_of (database_file_at bytes)) → (fs : Functions) → IsDatabaseFile bytes fs → GivesFile (λ db. db.functions) r (Ok fs)
-only_by bytes r given fs is = subst (GivesFile (λ db. db.functions) r) (files.value_again kind database_version fields_at unused_rule spelling IsDatabaseContents contents_spells (lit< tt) (lit< tt) bytes fs is) given
+only_by bytes r given fs is = subst (GivesFile (λ db. db.functions) r) (files.value_again kind database_version database_version (λ version. fields_at) unused_rule (λ version. spelling) (λ version. IsDatabaseContents) (λ version from to. contents_spells) (lit< tt) (lit< tt) bytes fs is) given
 
 -- ---- the payload alone
 
@@ -299,10 +299,10 @@ payload_only_by bytes r given fs is = subst (GivesFile (λ gs. gs) r) (payload_a
 -- ---- one for each, and each for one
 
 pub one_database : (bytes : List ℕ) (fs gs : Functions) → IsDatabaseFile bytes fs → IsDatabaseFile bytes gs → fs ≡ gs
-one_database = files.one_value kind database_version fields_at unused_rule spelling IsDatabaseContents contents_spells (lit< tt) (lit< tt)
+one_database = files.one_value kind database_version database_version (λ version. fields_at) unused_rule (λ version. spelling) (λ version. IsDatabaseContents) (λ version from to. contents_spells) (lit< tt) (lit< tt)
 
 pub one_file : (bytes others : List ℕ) (fs : Functions) → IsDatabaseFile bytes fs → IsDatabaseFile others fs → bytes ≡ others
-one_file = files.one_file kind database_version spelling IsDatabaseContents names_of (λ c is. is.names)
+one_file = files.one_file kind database_version database_version (λ version. spelling) (λ version. IsDatabaseContents) names_of (files.one_version database_version (λ version. IsDatabaseContents)) (λ n c is. is.names)
 
 abbrev value : Functions → Result Functions ℕ
 value fs = Ok fs

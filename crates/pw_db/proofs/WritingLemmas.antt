@@ -1,5 +1,5 @@
 -- What writing asks of a database's parts, and what it gives.
-use Rattle.std.proofs.Common.{◌≡◌, ℕ, List, [], ◌∷◌, length, map, All, Result, Ok, Err, subst}
+use Rattle.std.proofs.Common.{◌≡◌, ℕ, List, [], ◌∷◌, length, map, All, Result, Ok, Err, subst, arith}
 use Rattle.std.specs.Prelude.{Contains, IfOk, OnOk}
 use Rattle.std.specs.Global.{Vec}
 use Rattle.std.specs.List.{AllByRecursion}
@@ -43,4 +43,4 @@ is_payload names fs (Ok v) is count table fits written = (names, record { lawful
 is_payload names fs (Err e) is count table fits written = tt
 
 pub is_file : {E : Type 0} (fs : List (List ℕ × Directives)) (payload : List ℕ) (r : Result (Vec ℕ) E) → IsPayload payload fs → OnOk r (FitsFile payload) → IfOk r (λ v. v.items ≡ file kind database_version payload) → IfOk r (λ v. IsDatabaseFile v.items fs)
-is_file fs payload r is room made = files.is_file kind database_version spelling IsDatabaseContents (record { names = is.0; value = fs }) payload r is.1 is.2 room made
+is_file fs payload r is room made = files.is_file kind database_version database_version database_version (λ version. spelling) (λ version. IsDatabaseContents) (record { names = is.0; value = fs }) payload r (omega arith) (omega arith) is.1 is.2 room made

@@ -102,7 +102,7 @@ IsDatabaseContents = IsContents IsDatabase FitsDatabase names_of
 
 -- the bytes are the file of the database
 abbrev pub IsDatabaseFile : List ℕ → List (List ℕ × Directives) → Type 0
-IsDatabaseFile = IsFileWith kind database_version spelling IsDatabaseContents
+IsDatabaseFile = IsFileWith kind database_version database_version (λ version. spelling) (λ version. IsDatabaseContents)
 
 -- the bytes are the payload of the database, alone
 abbrev pub IsPayload : List ℕ → List (List ℕ × Directives) → Type 0

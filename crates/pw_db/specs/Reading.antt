@@ -127,4 +127,4 @@ abbrev pub payload_at : List ℕ → Result (Contents (List (List ℕ × Directi
 payload_at = contents_at fields_at unused_rule
 
 abbrev pub database_file_at : List ℕ → Result (Contents (List (List ℕ × Directives))) ℕ
-database_file_at = contents_file_at kind database_version fields_at unused_rule
+database_file_at = contents_file_at kind database_version database_version (λ version. fields_at) unused_rule

@@ -42,7 +42,7 @@ pub fn directives_are_one()
 /// A fault of a file lies within the bytes, and one of the fields rests on the bytes up to the faulty field's
 /// end.
 pub fn faults_stay()
-    ensures { FaultsStay kind database_version fields_at (λ bytes. value_of (database_file_at bytes)) }
+    ensures { FaultsStay kind database_version database_version (λ version. fields_at) (λ bytes. value_of (database_file_at bytes)) }
 {}
 
 /// The same of payloads.

@@ -371,16 +371,21 @@ impl Format for DatabaseFormat {
 
     ghost KIND = { kind_of_file };
 
+    const FIRST: u32 = VERSION;
+
+    ghost FIRST = { database_version };
+
     const VERSION: u32 = VERSION;
 
     ghost VERSION = { database_version };
 
-    ghost fields = { fields_at };
+    ghost fields = { λ version. fields_at };
 
     ghost late = { unused_rule };
 
     fn read_parts<'a>(
         alloc: Global,
+        _version: u32,
         names: &[Name],
         bytes: &'a [u8],
     ) -> Result<(Items<(Name, Directives)>, usize, &'a [u8]), FieldError> {
@@ -423,7 +428,7 @@ pub fn read(alloc: Global, bytes: &[u8]) -> Result<Database, FileError>
 fn read_payload_alone(alloc: Global, bytes: &[u8]) -> Result<Items<(Name, Directives)>, FileError>
     ensures { GivesFile (λ fs. fs) result (value_of (placed (length bytes.now) (payload_at bytes.now))) }
 {
-    match read_contents::<DatabaseFormat>(alloc, bytes) {
+    match read_contents::<DatabaseFormat>(alloc, VERSION, bytes) {
         Err(e) => Err(e.at(bytes.len())),
         Ok(((_names, functions), _)) => Ok(functions),
     }

@@ -1,6 +1,6 @@
 -- What is read is the file of a value, and the file of a value is read: of every file whose value stands
 -- behind a table of its names.
-use Rattle.std.proofs.Common.{◌≡◌, ℕ, suc, ◌<◌, ◌^◌, Bool, true, List, [], ◌∷◌, ◌++◌, length, Result, Ok, Err, refl, sym, ap, subst, ◌∙◌, arith}
+use Rattle.std.proofs.Common.{◌≡◌, ℕ, suc, ◌<◌, ◌≤◌, ◌^◌, Bool, true, List, [], ◌∷◌, ◌++◌, length, Result, Ok, Err, refl, sym, ap, subst, ◌∙◌, arith}
 use Rattle.std.specs.Prelude.{◌==◌, IfOk, OnOk, Option, None, Some}
 use Rattle.std.specs.Global.{Vec}
 use Rattle.std.proofs.lemmas.Bool.{eqb-true}
@@ -67,12 +67,12 @@ contents_spell {V = V} fields late spelling body Steps Is laws alike to from = p
 
 -- ---- the file
 
-module _ {V : Type 0} (kind version : ℕ) (fields : FieldsReader V) (late : List (List ℕ) → ℕ → V → ℕ → Option ℕ) (spelling : Contents V → List ℕ) (Is : Contents V → Type 0) (laws : SpellsWhole spelling Is (contents_at fields late)) where
-  pub value_takes : (bytes : List ℕ) (c : Contents V) → AreBytes bytes → contents_file_at kind version fields late bytes ≡ Ok c → IsFileWith kind version spelling Is bytes c.value
-  value_takes bytes c fits e = (c.names, file_takes kind version version (λ v. spelling) (λ v. Is) (λ v. contents_at fields late) (λ v f l. laws) bytes c fits e)
+module _ {V : Type 0} (kind first last : ℕ) (fields : ℕ → FieldsReader V) (late : List (List ℕ) → ℕ → V → ℕ → Option ℕ) (spelling : ℕ → Contents V → List ℕ) (Is : ℕ → Contents V → Type 0) (laws : (v : ℕ) → first ≤ v → v ≤ last → SpellsWhole (spelling v) (Is v) (contents_at (fields v) late)) where
+  pub value_takes : (bytes : List ℕ) (c : Contents V) → AreBytes bytes → contents_file_at kind first last fields late bytes ≡ Ok c → IsFileWith kind first last spelling Is bytes c.value
+  value_takes bytes c fits e = (c.names, file_takes kind first last spelling Is (λ v. contents_at (fields v) late) laws bytes c fits e)
 
-  pub value_again : kind < 2 ^ 32 → version < 2 ^ 32 → (bytes : List ℕ) (v : V) → IsFileWith kind version spelling Is bytes v → value_of (contents_file_at kind version fields late bytes) ≡ Ok v
-  value_again kind_fits version_fits bytes v is = ap value_of (file_again kind version version (λ v. spelling) (λ v. Is) (λ v. contents_at fields late) kind_fits version_fits (λ v f l. laws) bytes (record { names = is.0; value = v }) is.1)
+  pub value_again : kind < 2 ^ 32 → last < 2 ^ 32 → (bytes : List ℕ) (v : V) → IsFileWith kind first last spelling Is bytes v → value_of (contents_file_at kind first last fields late bytes) ≡ Ok v
+  value_again kind_fits last_fits bytes v is = ap value_of (file_again kind first last spelling Is (λ v. contents_at (fields v) late) kind_fits last_fits laws bytes (record { names = is.0; value = v }) is.1)
 
   value_found : (v : V) (r : Result (Contents V) ℕ) → value_of r ≡ Ok v → (c : Contents V) × (r ≡ Ok c) × (c.value ≡ v)
   value_found v (Ok c) e = (c, refl, cc)
@@ -80,34 +80,42 @@ module _ {V : Type 0} (kind version : ℕ) (fields : FieldsReader V) (late : Lis
 
   -- the same of what a function returned
 
-  pub found_by : (bytes : List ℕ) (r : Result V FileError) → AreBytes bytes → GivesFile (λ v. v) r (value_of (contents_file_at kind version fields late bytes)) → IfOk r (IsFileWith kind version spelling Is bytes)
+  pub found_by : (bytes : List ℕ) (r : Result V FileError) → AreBytes bytes → GivesFile (λ v. v) r (value_of (contents_file_at kind first last fields late bytes)) → IfOk r (IsFileWith kind first last spelling Is bytes)
   found_by bytes (Ok v) fits given =
-      let p = value_found v (contents_file_at kind version fields late bytes) given in
-      subst (IsFileWith kind version spelling Is bytes) p.2 (value_takes bytes p.0 fits p.1)
+      let p = value_found v (contents_file_at kind first last fields late bytes) given in
+      subst (IsFileWith kind first last spelling Is bytes) p.2 (value_takes bytes p.0 fits p.1)
   found_by bytes (Err e) fits given = tt
 
-  pub only_by : kind < 2 ^ 32 → version < 2 ^ 32 → (bytes : List ℕ) (r : Result V FileError) → GivesFile (λ v. v) r (value_of (contents_file_at kind version fields late bytes)) → (v : V) → IsFileWith kind version spelling Is bytes v → GivesFile (λ v. v) r (Ok v)
-  only_by kind_fits version_fits bytes r given v is = subst (GivesFile (λ v. v) r) (value_again kind_fits version_fits bytes v is) given
+  pub only_by : kind < 2 ^ 32 → last < 2 ^ 32 → (bytes : List ℕ) (r : Result V FileError) → GivesFile (λ v. v) r (value_of (contents_file_at kind first last fields late bytes)) → (v : V) → IsFileWith kind first last spelling Is bytes v → GivesFile (λ v. v) r (Ok v)
+  only_by kind_fits last_fits bytes r given v is = subst (GivesFile (λ v. v) r) (value_again kind_fits last_fits bytes v is) given
 
   -- one value for each file
 
   abbrev value : V → Result V ℕ
   value v = Ok v
 
-  pub one_value : kind < 2 ^ 32 → version < 2 ^ 32 → (bytes : List ℕ) (v w : V) → IsFileWith kind version spelling Is bytes v → IsFileWith kind version spelling Is bytes w → v ≡ w
-  one_value kind_fits version_fits bytes v w p q = let both : value v ≡ value w = sym (value_again kind_fits version_fits bytes v p) ∙ value_again kind_fits version_fits bytes w q in cc
+  pub one_value : kind < 2 ^ 32 → last < 2 ^ 32 → (bytes : List ℕ) (v w : V) → IsFileWith kind first last spelling Is bytes v → IsFileWith kind first last spelling Is bytes w → v ≡ w
+  one_value kind_fits last_fits bytes v w p q = let both : value v ≡ value w = sym (value_again kind_fits last_fits bytes v p) ∙ value_again kind_fits last_fits bytes w q in cc
+
+-- the version of a file is known by its value
+abbrev pub IsVersionKnown : {V : Type 0} → ℕ → ℕ → (ℕ → Contents V → Type 0) → Type 0
+IsVersionKnown {V = V} first last Is = (m n : ℕ) (c d : Contents V) → first ≤ m → m ≤ last → first ≤ n → n ≤ last → Is m c → Is n d → c.value ≡ d.value → m ≡ n
+
+-- as it is where there is no other
+pub one_version : {V : Type 0} (version : ℕ) (Is : ℕ → Contents V → Type 0) → IsVersionKnown version version Is
+one_version version Is m n c d m_from m_to n_from n_to one two same = omega (arith, m_from, m_to, n_from, n_to)
 
 -- one file for each value
-pub one_file : {V : Type 0} (kind version : ℕ) (spelling : Contents V → List ℕ) (Is : Contents V → Type 0) (used : V → List (List ℕ)) → ((c : Contents V) → Is c → IsTableOf c.names (used c.value))
-    → (bytes others : List ℕ) (v : V) → IsFileWith kind version spelling Is bytes v → IsFileWith kind version spelling Is others v → bytes ≡ others
-one_file {V = V} kind version spelling Is used tables bytes others v p q =
-    let names : p.0 ≡ q.0 = one_table p.0 q.0 (used v) (tables _ p.1.fits) (tables _ q.1.fits) in
-    let same_version : p.1.version ≡ q.1.version = omega (arith, p.1.not_below, p.1.not_above, q.1.not_below, q.1.not_above) in
-    p.1.spelled ∙ ap (λ n. file kind n (spelling (record { names = p.0; value = v }))) same_version ∙ ap (λ (ns : List (List ℕ)). file kind q.1.version (spelling (record { names = ns; value = v }))) names ∙ sym q.1.spelled
+pub one_file : {V : Type 0} (kind first last : ℕ) (spelling : ℕ → Contents V → List ℕ) (Is : ℕ → Contents V → Type 0) (used : V → List (List ℕ)) → IsVersionKnown first last Is → ((n : ℕ) (c : Contents V) → Is n c → IsTableOf c.names (used c.value))
+    → (bytes others : List ℕ) (v : V) → IsFileWith kind first last spelling Is bytes v → IsFileWith kind first last spelling Is others v → bytes ≡ others
+one_file {V = V} kind first last spelling Is used known tables bytes others v p q =
+    let names : p.0 ≡ q.0 = one_table p.0 q.0 (used v) (tables _ _ p.1.fits) (tables _ _ q.1.fits) in
+    let same_version : p.1.version ≡ q.1.version = known _ _ _ _ p.1.not_below p.1.not_above q.1.not_below q.1.not_above p.1.fits q.1.fits refl in
+    p.1.spelled ∙ ap (λ n. file kind n (spelling n (record { names = p.0; value = v }))) same_version ∙ ap (λ (ns : List (List ℕ)). file kind q.1.version (spelling q.1.version (record { names = ns; value = v }))) names ∙ sym q.1.spelled
 
 -- what a writer made
-pub is_file : {V E : Type 0} (kind version : ℕ) (spelling : Contents V → List ℕ) (Is : Contents V → Type 0) (c : Contents V) (payload : List ℕ) (r : Result (Vec ℕ) E) → Is c
-    → payload ≡ spelling c → OnOk r (FitsFile payload) → IfOk r (λ v. v.items ≡ file kind version payload) → IfOk r (λ v. IsFileWith kind version spelling Is v.items c.value)
-is_file kind version spelling Is c payload (Ok v) is same room made =
-    (c.names, record { version = version; not_below = omega arith; not_above = omega arith; fits = is; room = subst FitsFile same room; spelled = made ∙ ap (file kind version) same })
-is_file kind version spelling Is c payload (Err e) is same room made = tt
+pub is_file : {V E : Type 0} (kind first last version : ℕ) (spelling : ℕ → Contents V → List ℕ) (Is : ℕ → Contents V → Type 0) (c : Contents V) (payload : List ℕ) (r : Result (Vec ℕ) E) → first ≤ version → version ≤ last → Is version c
+    → payload ≡ spelling version c → OnOk r (FitsFile payload) → IfOk r (λ v. v.items ≡ file kind version payload) → IfOk r (λ v. IsFileWith kind first last spelling Is v.items c.value)
+is_file kind first last version spelling Is c payload (Ok v) from to is same room made =
+    (c.names, record { version = version; not_below = from; not_above = to; fits = is; room = subst FitsFile same room; spelled = made ∙ ap (file kind version) same })
+is_file kind first last version spelling Is c payload (Err e) from to is same room made = tt

@@ -100,24 +100,24 @@ placed_fault {X = X} end at (Err left) e = (left, refl, at_is {X = X} (end - lef
 
 -- ---- a fault of the header
 
--- A payload has fields, read by `plain`, and rules that are looked at besides, with which `full` reads it. Where this holds of
+-- A payload of a version has fields, read by `plain`, and rules that are looked at besides, with which `full` reads it. Where this holds of
 -- a payload, a fault of its fields is one of the whole.
-module _ {X : Type 0} (kind version : ℕ) (plain full : List ℕ → Result (X × List ℕ) ℕ) (Holds : List ℕ → Type 0) (onward : Onward plain)
-    (keeps : (payload : List ℕ) (left : ℕ) → Holds payload → plain payload ≡ Err left → full payload ≡ Err left) where
+module _ {X : Type 0} (kind first last : ℕ) (plain full : ℕ → List ℕ → Result (X × List ℕ) ℕ) (Holds : List ℕ → Type 0) (onward : (v : ℕ) → Onward (plain v))
+    (keeps : (v : ℕ) (payload : List ℕ) (left : ℕ) → Holds payload → plain v payload ≡ Err left → full v payload ≡ Err left) where
   abbrev whole : List ℕ → Result X ℕ
-  whole = file_at kind version version (λ v. full)
+  whole = file_at kind first last full
 
   abbrev head : ℕ → List ℕ → Result (ℕ × List ℕ) ℕ
-  head total = header_at kind version version total
+  head total = header_at kind first last total
 
   -- what is read of a file whose header is known
-  by_header : (bytes : List ℕ) (r : Result (ℕ × List ℕ) ℕ) → head (length bytes) bytes ≡ r → whole bytes ≡ framed (λ v. full) bytes (opened (length bytes) r)
+  by_header : (bytes : List ℕ) (r : Result (ℕ × List ℕ) ℕ) → head (length bytes) bytes ≡ r → whole bytes ≡ framed full bytes (opened (length bytes) r)
   unfolding file_at opened_at
-  by_header bytes r is = ap (λ s. framed (λ v. full) bytes (opened (length bytes) s)) is
+  by_header bytes r is = ap (λ s. framed full bytes (opened (length bytes) s)) is
 
-  in_header : (bytes : List ℕ) (at left : ℕ) → head (length bytes) bytes ≡ Err left → length bytes - left ≡ at → StaysFault (OfPayload kind version Holds) whole bytes at
+  in_header : (bytes : List ℕ) (at left : ℕ) → head (length bytes) bytes ≡ Err left → length bytes - left ≡ at → StaysFault (OfPayload kind first last Holds) whole bytes at
   in_header bytes at left is place =
-      let f = (header_onward kind version version (length bytes)).fault bytes left is in
+      let f = (header_onward kind first last (length bytes)).fault bytes left is in
       let begins : length f.before ≡ at = omega (arith, ap length f.parts, length-append f.before f.tail, f.begins, place) in
       record {
         count = f.count;
@@ -130,12 +130,12 @@ module _ {X : Type 0} (kind version : ℕ) (plain full : List ℕ → Result (X 
 
   -- ---- a fault of the fields behind it
 
-  in_payload : (bytes : List ℕ) (at left v : ℕ) (rest : List ℕ) → head (length bytes) bytes ≡ Ok (v, rest) → plain (payload_of rest) ≡ Err left → (length bytes - length (digest_of rest)) - left ≡ at
-      → StaysFault (OfPayload kind version Holds) whole bytes at
+  in_payload : (bytes : List ℕ) (at left v : ℕ) (rest : List ℕ) → head (length bytes) bytes ≡ Ok (v, rest) → plain v (payload_of rest) ≡ Err left → (length bytes - length (digest_of rest)) - left ≡ at
+      → StaysFault (OfPayload kind first last Holds) whole bytes at
   unfolding opened_at
   in_payload bytes at left v rest is fault place =
-      let h = (header_onward kind version version (length bytes)).found bytes v rest is in
-      let q = onward.fault (payload_of rest) left fault in
+      let h = (header_onward kind first last (length bytes)).found bytes v rest is in
+      let q = (onward v).fault (payload_of rest) left fault in
       let d = digest_of rest in
       let parts : rest ≡ q.before ++ (q.tail ++ d) = sym (take-append-drop (length rest - digest_size) rest) ∙ ap (λ (w : List ℕ). w ++ d) q.parts ∙ append_assoc q.before q.tail d in
       let whole : bytes ≡ (h.front ++ q.before) ++ (q.tail ++ d) = h.parts ∙ ap (λ (w : List ℕ). h.front ++ w) parts ∙ sym (append_assoc h.front q.before (q.tail ++ d)) in
@@ -158,7 +158,7 @@ module _ {X : Type 0} (kind version : ℕ) (plain full : List ℕ → Result (X 
             let payload : payload_of ((q.before ++ t) ++ e) ≡ q.before ++ t = take_at (q.before ++ t) e _ cut in
             let digest : digest_of ((q.before ++ t) ++ e) ≡ e = drop_at (q.before ++ t) e _ cut in
             let true_there : Holds (q.before ++ t) = subst Holds payload (holds (v, payload_of ((q.before ++ t) ++ e), length others - length (digest_of ((q.before ++ t) ++ e))) (ap (opened (length others)) header)) in
-            let again : full (payload_of ((q.before ++ t) ++ e)) ≡ Err left = ap full payload ∙ keeps (q.before ++ t) left true_there (q.same t t_len t_same) in
+            let again : full v (payload_of ((q.before ++ t) ++ e)) ≡ Err left = ap (full v) payload ∙ keeps v (q.before ++ t) left true_there (q.same t t_len t_same) in
             let end : length others - length (digest_of ((q.before ++ t) ++ e)) ≡ length bytes - length d = ap (λ (w : List ℕ). length others - length w) digest ∙ omega (arith, len, e_len) in
             by_header others (Ok (v, (q.before ++ t) ++ e)) header
             ∙ ap (λ r. sealed others (length others - length (digest_of ((q.before ++ t) ++ e))) (placed (length others - length (digest_of ((q.before ++ t) ++ e))) r)) again
@@ -167,12 +167,12 @@ module _ {X : Type 0} (kind version : ℕ) (plain full : List ℕ → Result (X 
 
   -- ---- both
 
-  stays_by : (bytes : List ℕ) (at : ℕ) (r : Result (ℕ × List ℕ) ℕ) → head (length bytes) bytes ≡ r → unsealed (λ v. plain) (opened (length bytes) r) ≡ Err at → OfPayload kind version Holds bytes
-      → (whole bytes ≡ Err at) × StaysFault (OfPayload kind version Holds) whole bytes at
+  stays_by : (bytes : List ℕ) (at : ℕ) (r : Result (ℕ × List ℕ) ℕ) → head (length bytes) bytes ≡ r → unsealed plain (opened (length bytes) r) ≡ Err at → OfPayload kind first last Holds bytes
+      → (whole bytes ≡ Err at) × StaysFault (OfPayload kind first last Holds) whole bytes at
   unfolding opened_at
   stays_by bytes at (Ok h) is e holds =
-      let p = placed_fault (length bytes - length (digest_of h.1)) at (plain (payload_of h.1)) e in
-      let late_fault = keeps (payload_of h.1) p.0 (holds (h.0, payload_of h.1, length bytes - length (digest_of h.1)) (ap (opened (length bytes)) is)) p.1 in (
+      let p = placed_fault (length bytes - length (digest_of h.1)) at (plain h.0 (payload_of h.1)) e in
+      let late_fault = keeps h.0 (payload_of h.1) p.0 (holds (h.0, payload_of h.1, length bytes - length (digest_of h.1)) (ap (opened (length bytes)) is)) p.1 in (
         by_header bytes (Ok h) is ∙ ap (λ r. sealed bytes (length bytes - length (digest_of h.1)) (placed (length bytes - length (digest_of h.1)) r)) late_fault ∙ ap failed p.2,
         in_payload bytes at p.0 h.0 h.1 is p.1 p.2,
       )
@@ -188,22 +188,22 @@ module _ {X : Type 0} (kind version : ℕ) (plain full : List ℕ → Result (X 
   sealed_within bytes total end at (Ok x) le e = omega (arith, le, digest_within (is_sealed bytes end) x.0 end at e)
   sealed_within {A = A} bytes total end at (Err left) le e = omega (arith, le, at_is {X = A} (end - left) at e)
 
-  within_by : (bytes : List ℕ) (at : ℕ) (r : Result (ℕ × List ℕ) ℕ) → framed (λ v. full) bytes (opened (length bytes) r) ≡ Err at → at ≤ length bytes
-  within_by bytes at (Ok h) e = sealed_within bytes (length bytes) (length bytes - length (digest_of h.1)) at (full (payload_of h.1)) (omega arith) e
+  within_by : (bytes : List ℕ) (at : ℕ) (r : Result (ℕ × List ℕ) ℕ) → framed full bytes (opened (length bytes) r) ≡ Err at → at ≤ length bytes
+  within_by bytes at (Ok h) e = sealed_within bytes (length bytes) (length bytes - length (digest_of h.1)) at (full h.0 (payload_of h.1)) (omega arith) e
   within_by bytes at (Err left) e = omega (arith, at_is {X = X} (length bytes - left) at e)
 
   pub lies_within : (bytes : List ℕ) (at : ℕ) → whole bytes ≡ Err at → at ≤ length bytes
   lies_within bytes at e = within_by bytes at (head (length bytes) bytes) (sym (by_header bytes (head (length bytes) bytes) refl) ∙ e)
 
-  pub fault_stays : (bytes : List ℕ) (at : ℕ) → unsealed (λ v. plain) (opened_at kind version version bytes) ≡ Err at → OfPayload kind version Holds bytes
-      → (whole bytes ≡ Err at) × StaysFault (OfPayload kind version Holds) whole bytes at
+  pub fault_stays : (bytes : List ℕ) (at : ℕ) → unsealed plain (opened_at kind first last bytes) ≡ Err at → OfPayload kind first last Holds bytes
+      → (whole bytes ≡ Err at) × StaysFault (OfPayload kind first last Holds) whole bytes at
   unfolding opened_at
   fault_stays bytes at e holds = stays_by bytes at (head (length bytes) bytes) refl e holds
 
 -- ---- a file with a table of names first
 
-module _ {V : Type 0} (kind version : ℕ) (fields : FieldsReader V) (late : List (List ℕ) → ℕ → V → ℕ → Option ℕ)
-    (onward : Onward (contents_at fields no_rule)) (keeps : Keeps (contents_at fields no_rule) (contents_at fields late)) where
+module _ {V : Type 0} (kind first last : ℕ) (fields : ℕ → FieldsReader V) (late : List (List ℕ) → ℕ → V → ℕ → Option ℕ)
+    (onward : (v : ℕ) → Onward (contents_at (fields v) no_rule)) (keeps : (v : ℕ) → Keeps (contents_at (fields v) no_rule) (contents_at (fields v) late)) where
   value_fault : (r : Result (Contents V) ℕ) (at : ℕ) → value_of r ≡ Err at → r ≡ Err at
   value_fault (Ok c) at e = absurd cc
   value_fault (Err d) at e = ap failed (at_is {X = V} d at e)
@@ -211,14 +211,14 @@ module _ {V : Type 0} (kind version : ℕ) (fields : FieldsReader V) (late : Lis
   abbrev anywhere : List ℕ → Type 0
   anywhere payload = Unit {0}
 
-  still : (bytes : List ℕ) (at : ℕ) → StaysFault (OfPayload kind version anywhere) (contents_file_at kind version fields late) bytes at → StaysFault Anything (λ b. value_of (contents_file_at kind version fields late b)) bytes at
+  still : (bytes : List ℕ) (at : ℕ) → StaysFault (OfPayload kind first last anywhere) (contents_file_at kind first last fields late) bytes at → StaysFault Anything (λ b. value_of (contents_file_at kind first last fields late b)) bytes at
   still bytes at f = record { count = f.count; field = f.field; same = λ others len same holds. ap value_of (f.same others len same (λ o e. tt)) }
 
-  pub faults_stay : FaultsStay kind version fields (λ b. value_of (contents_file_at kind version fields late b))
+  pub faults_stay : FaultsStay kind first last fields (λ b. value_of (contents_file_at kind first last fields late b))
   faults_stay = record {
-    within = λ bytes at e. lies_within kind version (contents_at fields no_rule) (contents_at fields late) anywhere onward (λ payload left t e. keeps.same payload left e) bytes at (value_fault (contents_file_at kind version fields late bytes) at e);
+    within = λ bytes at e. lies_within kind first last (λ v. contents_at (fields v) no_rule) (λ v. contents_at (fields v) late) anywhere onward (λ v payload left t e. (keeps v).same payload left e) bytes at (value_fault (contents_file_at kind first last fields late bytes) at e);
     stays = λ bytes at e.
-        let both = fault_stays kind version (contents_at fields no_rule) (contents_at fields late) anywhere onward (λ payload left t e. keeps.same payload left e) bytes at e (λ o e. tt) in
+        let both = fault_stays kind first last (λ v. contents_at (fields v) no_rule) (λ v. contents_at (fields v) late) anywhere onward (λ v payload left t e. (keeps v).same payload left e) bytes at e (λ o e. tt) in
         (ap value_of both.0, still bytes at both.1);
   }
 

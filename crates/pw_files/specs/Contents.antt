@@ -18,9 +18,9 @@ pub record IsContents {V : Type 0} (IsLawful Fits : V → Type 0) (names_of : V 
   pub name_count : FitsU32 (length c.names)
   pub names : IsTableOf c.names (names_of c.value)
 
--- the bytes are the file of the value, of this kind and version
-abbrev pub IsFileWith : {V : Type 0} → ℕ → ℕ → (Contents V → List ℕ) → (Contents V → Type 0) → List ℕ → V → Type 0
-IsFileWith {V = V} kind version spelling Is bytes v = (names : List (List ℕ)) × IsFileOf {X = Contents V} kind version version (λ v. spelling) (λ v. Is) bytes (record { names = names; value = v })
+-- the bytes are a file of the value, of this kind and in one of the versions from the first to the last
+abbrev pub IsFileWith : {V : Type 0} → ℕ → ℕ → ℕ → (ℕ → Contents V → List ℕ) → (ℕ → Contents V → Type 0) → List ℕ → V → Type 0
+IsFileWith {V = V} kind first last spelling Is bytes v = (names : List (List ℕ)) × IsFileOf {X = Contents V} kind first last spelling Is bytes (record { names = names; value = v })
 
 -- the bytes are the contents of the value, alone
 abbrev pub IsContentsOf : {V : Type 0} → (Contents V → List ℕ) → (Contents V → Type 0) → List ℕ → V → Type 0
@@ -51,9 +51,9 @@ contents_at fields late = do
   behind ← here
   fields names (late names behind)
 
--- a file of this kind and version
-abbrev pub contents_file_at : {V : Type 0} → ℕ → ℕ → FieldsReader V → (List (List ℕ) → ℕ → V → ℕ → Option ℕ) → List ℕ → Result (Contents V) ℕ
-contents_file_at kind version fields late = file_at kind version version (λ v. contents_at fields late)
+-- a file of this kind, whose fields are read by its version, one of those from the first to the last
+abbrev pub contents_file_at : {V : Type 0} → ℕ → ℕ → ℕ → (ℕ → FieldsReader V) → (List (List ℕ) → ℕ → V → ℕ → Option ℕ) → List ℕ → Result (Contents V) ℕ
+contents_file_at kind first last fields late = file_at kind first last (λ version. contents_at (fields version) late)
 
 -- the value alone
 abbrev pub value_of : {V : Type 0} → Result (Contents V) ℕ → Result V ℕ

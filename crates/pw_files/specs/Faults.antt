@@ -20,8 +20,8 @@ abbrev pub Anything : List ℕ → Type 0
 Anything bytes = Unit {0}
 
 -- this holds of the payload, where the header is lawful
-abbrev pub OfPayload : ℕ → ℕ → (List ℕ → Type 0) → List ℕ → Type 0
-OfPayload kind version Holds bytes = (o : ℕ × List ℕ × ℕ) → opened_at kind version version bytes ≡ Ok o → Holds o.1
+abbrev pub OfPayload : ℕ → ℕ → ℕ → (List ℕ → Type 0) → List ℕ → Type 0
+OfPayload kind first last Holds bytes = (o : ℕ × List ℕ × ℕ) → opened_at kind first last bytes ≡ Ok o → Holds o.1
 
 -- ---- the fields of a file, without the rules that are looked at last and without the digest
 
@@ -32,14 +32,14 @@ abbrev pub unsealed : {X : Type 0} → (ℕ → List ℕ → Result (X × List �
 unsealed payload (Ok o) = placed o.2 (payload o.0 o.1)
 unsealed payload (Err at) = Err at
 
-abbrev pub fields_file_at : {V : Type 0} → ℕ → ℕ → FieldsReader V → List ℕ → Result (Contents V) ℕ
-fields_file_at kind version fields bytes = unsealed (λ v. contents_at fields no_rule) (opened_at kind version version bytes)
+abbrev pub fields_file_at : {V : Type 0} → ℕ → ℕ → ℕ → (ℕ → FieldsReader V) → List ℕ → Result (Contents V) ℕ
+fields_file_at kind first last fields bytes = unsealed (λ version. contents_at (fields version) no_rule) (opened_at kind first last bytes)
 
 -- A fault lies within the bytes. A fault of the fields is the file's, and rests on the bytes up to the
 -- faulty field's end.
-pub record FaultsStay {V : Type 0} (kind version : ℕ) (fields : FieldsReader V) (read : List ℕ → Result V ℕ) : Type 0 where
+pub record FaultsStay {V : Type 0} (kind first last : ℕ) (fields : ℕ → FieldsReader V) (read : List ℕ → Result V ℕ) : Type 0 where
   pub within : (bytes : List ℕ) (at : ℕ) → read bytes ≡ Err at → at ≤ length bytes
-  pub stays : (bytes : List ℕ) (at : ℕ) → fields_file_at kind version fields bytes ≡ Err at → (read bytes ≡ Err at) × StaysFault Anything read bytes at
+  pub stays : (bytes : List ℕ) (at : ℕ) → fields_file_at kind first last fields bytes ≡ Err at → (read bytes ≡ Err at) × StaysFault Anything read bytes at
 
 -- The same of bytes that are a payload alone, without a header and a digest.
 pub record PayloadFaultsStay {V : Type 0} (fields : FieldsReader V) (read : List ℕ → Result V ℕ) : Type 0 where

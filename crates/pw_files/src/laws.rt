@@ -2,7 +2,7 @@
 //! `proofs/RisingLaws`, `proofs/NameLists`, `proofs/KindLaws`, `proofs/ContentsLaws` and
 //! `proofs/FaultLaws`.
 
-ghost use Rattle.pw_fields.specs.FieldLaws.{Spells};
+ghost use Rattle.pw_fields.specs.FieldLaws.{AreBytes, Spells};
 ghost use Rattle.pw_files.specs.Kinds.{kind, scalar, kind_at, scalar_at};
 
 /// What is read of a kind is spelled so, and what is spelled so is read again, whatever follows.
@@ -10,4 +10,9 @@ ghost use Rattle.pw_files.specs.Kinds.{kind, scalar, kind_at, scalar_at};
 pub fn kinds_are_spelled()
     ensures any { Spells kind (λ k. Unit {0}) kind_at }
     ensures of_scalars { Spells scalar (λ k. Unit {0}) scalar_at }
+{}
+
+/// What stands in bytes are numbers that a byte can hold.
+pub fn are_bytes(bytes: &[u8])
+    ensures { AreBytes bytes.now }
 {}

@@ -24,7 +24,7 @@ use Rattle.pw_flow.specs.ValidFlow.{IsGlobal, IsFunction, IsValid}
 use Rattle.pw_flow.proofs.Lists.{all_flat, all_flat_back, all_both, all_first, all_second, all_append, all_left, all_right}
 use Rattle.pw_flowfile.specs.FlowFile.{all_in_global, all_in_function, names_of, global, function, spelling, FitsGlobal, FitsFunction, FitsModule}
 use Rattle.pw_flowfile.specs.Reading.{global_at, next_global, declared_at, next_declared, function_at, next_function, seen_after, list_at, parts_at, fields_at, late_rules}
-use Rattle.pw_flowops.proofs.FieldChains.{Takes, takes_field, takes_here, takes_done, ended_is, again_field}
+use Rattle.pw_flow_ops.proofs.FieldChains.{Takes, takes_field, takes_here, takes_done, ended_is, again_field}
 use Rattle.pw_flowfile.proofs.GraphLaws.{FunctionFits, FunctionStands, function_spells, GlobalFits, GlobalStands, global_spells, DeclaredStands, declared_spells}
 use Rattle.pw_flowfile.proofs.Turns.{InTurn, turn_forth, turn_back, turn_append, turn_left, turn_right, turn_distinct, distinct_turn}
 

@@ -12,8 +12,8 @@ use Rattle.pw_files.proofs.OnwardLaws.{Onward, OneField, one_onward, behind, don
 use Rattle.pw_files.proofs.FaultLaws.{Keeps, keeps_behind, keeps_ended, contents_onward, contents_keep}
 use Rattle.pw_files.proofs.FaultLaws as files
 use Rattle.pw_flow.specs.declared.flow.FlowModule.{FlowModule}
-use Rattle.pw_flowops.specs.Reading.{one_of_at, op_at}
-use Rattle.pw_flowops.proofs.OnwardLaws.{choice_of_one, named_one, op_onward, end_onward}
+use Rattle.pw_flow_ops.specs.Reading.{one_of_at, op_at}
+use Rattle.pw_flow_ops.proofs.OnwardLaws.{choice_of_one, named_one, op_onward, end_onward}
 use Rattle.pw_flowfile.specs.declared.globals.ItemForm.{ItemForm}
 use Rattle.pw_flowfile.specs.declared.globals.ItemForm.TheVariants as form
 use Rattle.pw_flowfile.specs.FlowFile.{item_forms, kind_of_file, flow_version}
@@ -105,5 +105,5 @@ fields_keep : (names : List (List ℕ)) (rule : FlowModule → ℕ → Option �
 unfolding fields_at
 fields_keep names rule = keeps_behind (parts_at names) _ _ (λ p. keeps_ended {X = Contents FlowModule} (rule p.0 p.1) (record { names = names; value = p.0 }))
 
-pub faults_stay : FaultsStay kind_of_file flow_version fields_at (λ bytes. value_of (flow_file_at bytes))
-faults_stay = files.faults_stay kind_of_file flow_version fields_at late_rules (contents_onward fields_at fields_onward) (contents_keep fields_at late_rules fields_keep)
+pub faults_stay : FaultsStay kind_of_file flow_version flow_version (λ version. fields_at) (λ bytes. value_of (flow_file_at bytes))
+faults_stay = files.faults_stay kind_of_file flow_version flow_version (λ version. fields_at) late_rules (λ version. contents_onward fields_at fields_onward) (λ version. contents_keep fields_at late_rules fields_keep)

@@ -30,13 +30,13 @@ use Rattle.pw_value.specs.Rounding.{slot_room}
 use Rattle.pw_flow.specs.ValidFlow.{kind_size, item_size, IsItem, AreItems, IsGlobal, IsOp, IsEnd, IsBlock, rooms, HasFewParts, IsFunction}
 use Rattle.pw_flow.proofs.Lists.{all_flat, all_flat_back, all_both, all_first, all_second}
 use Rattle.pw_flow.proofs.Rooms.{grows}
-use Rattle.pw_flowops.specs.Operations.{op, ending, FitsOp, Named, OpFits}
-use Rattle.pw_flowops.specs.Reading.{one_of_at, op_at, end_at, named_at}
-use Rattle.pw_flowops.proofs.FieldChains.{Takes, takes_field, takes_done, again_field, chained}
-use Rattle.pw_flowops.proofs.ChoiceLaws.{Any, one_spells}
-use Rattle.pw_flowops.proofs.PartLaws.{ruled_spells, named_spells}
-use Rattle.pw_flowops.proofs.OpLaws.{op_spells}
-use Rattle.pw_flowops.proofs.EndLaws.{end_spells}
+use Rattle.pw_flow_ops.specs.Operations.{op, ending, FitsOp, Named, OpFits}
+use Rattle.pw_flow_ops.specs.Reading.{one_of_at, op_at, end_at, named_at}
+use Rattle.pw_flow_ops.proofs.FieldChains.{Takes, takes_field, takes_done, again_field, chained}
+use Rattle.pw_flow_ops.proofs.ChoiceLaws.{Any, one_spells}
+use Rattle.pw_flow_ops.proofs.PartLaws.{ruled_spells, named_spells}
+use Rattle.pw_flow_ops.proofs.OpLaws.{op_spells}
+use Rattle.pw_flow_ops.proofs.EndLaws.{end_spells}
 use Rattle.pw_flowfile.specs.declared.globals.ItemForm.{ItemForm}
 use Rattle.pw_flowfile.specs.declared.globals.ItemForm.TheVariants as form
 use Rattle.pw_flowfile.specs.FlowFile.{item_forms, form_number, item, placed_item, global_body, global, block, function, FitsBlock, FitsFunction, FitsGlobal}

@@ -10,7 +10,7 @@ use Rattle.pw_fields.specs.FieldFaults.{Fails}
 use Rattle.pw_fields.specs.Fields.{◌>>=◌}
 use Rattle.pw_fields.specs.FieldNames.{is_among, name_at, place_of, IsRisingFrom}
 use Rattle.pw_fields.proofs.NameLaws.{place-get}
-use Rattle.pw_flowops.specs.Reading.{below_at}
+use Rattle.pw_flow_ops.specs.Reading.{below_at}
 use Rattle.pw_flowfile.specs.Reading.{fresh_at, seen_after}
 use Rattle.pw_flowfile.specs.Marks.{Marks}
 

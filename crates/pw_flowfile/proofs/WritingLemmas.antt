@@ -23,7 +23,7 @@ use Rattle.pw_flow.specs.declared.flow.FlowFn.{FlowFn}
 use Rattle.pw_flow.specs.declared.flow.FlowModule.{FlowModule}
 use Rattle.pw_flow.specs.declared.flow.Op.TheVariants.{Const, Copy, Un, Bin, Ext, AddrGlobal, AddrSlot, AddrFn, LoadG, StoreG, Load, Store, Move, Call, CallInd}
 use Rattle.pw_flow.specs.ValidFlow.{IsValid}
-use Rattle.pw_flowops.specs.Operations.{result, arguments, op, ending, FitsOp}
+use Rattle.pw_flow_ops.specs.Operations.{result, arguments, op, ending, FitsOp}
 use Rattle.pw_flowfile.specs.FlowFile.{names_of, item, placed_item, global_body, global, block, function, spelling, FitsBlock, FitsFunction, FitsGlobal, FitsModule, IsFlowFile, kind_of_file, flow_version}
 
 -- ---- what has room fits
@@ -187,7 +187,7 @@ pub written : {E : Type 0} (names used : List (List ℕ)) (m : FlowModule) (payl
     → payload ≡ spelling (record { names = names; value = m }) → OnOk r (FitsFile payload) → IfOk r (λ v. v.items ≡ file kind_of_file flow_version payload) → IfOk r (λ v. IsFlowFile v.items m)
 written {E} names used m payload (Ok v) valid table same count made room sealed =
     let fits : FitsFile (spelling (record { names = names; value = m })) = subst FitsFile made room in
-    is_file {E = E} kind_of_file flow_version spelling (IsContents IsValid FitsModule names_of) (record { names = names; value = m }) payload (Ok v)
+    is_file {E = E} kind_of_file flow_version flow_version flow_version (λ version. spelling) (λ version. IsContents IsValid FitsModule names_of) (record { names = names; value = m }) payload (Ok v) (omega arith) (omega arith)
     (record { lawful = valid; fits = module_fits names m (omega (arith, fits)); name_count = count; names = subst (IsTableOf names) same table }) made room sealed
 written names used m payload (Err e) valid table same count made room sealed = tt
 

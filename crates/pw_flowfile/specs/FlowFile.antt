@@ -16,7 +16,7 @@ use Rattle.pw_flow.specs.declared.flow.FlowFn.{FlowFn}
 use Rattle.pw_flow.specs.declared.flow.Item.TheVariants.{Bytes, Address}
 use Rattle.pw_flow.specs.FlowGraph.{names_in_global, names_in_function, declared_names}
 use Rattle.pw_flow.specs.ValidFlow.{IsValid}
-use Rattle.pw_flowops.specs.Operations.{place, op, ending, FitsOp}
+use Rattle.pw_flow_ops.specs.Operations.{place, op, ending, FitsOp}
 use Rattle.pw_flowfile.specs.contracts.globals.ItemForm.{the_type as the_item_forms}
 use Rattle.pw_flowfile.specs.declared.globals.ItemForm.{ItemForm}
 use Rattle.pw_flowfile.specs.declared.globals.ItemForm.TheVariants as form
@@ -104,4 +104,4 @@ flow_version = 1
 
 -- the bytes are the file of the flow graph
 abbrev pub IsFlowFile : List ℕ → FlowModule → Type 0
-IsFlowFile = IsFileWith kind_of_file flow_version spelling (IsContents IsValid FitsModule names_of)
+IsFlowFile = IsFileWith kind_of_file flow_version flow_version (λ version. spelling) (λ version. IsContents IsValid FitsModule names_of)

@@ -19,7 +19,7 @@ use Rattle.pw_flow.specs.declared.flow.Item.TheVariants.{Bytes, Address}
 use Rattle.pw_flow.specs.FlowGraph.{global_names, function_names}
 use Rattle.pw_value.specs.Rounding.{slot_room}
 use Rattle.pw_flow.specs.ValidFlow.{kind_size, item_size}
-use Rattle.pw_flowops.specs.Reading.{one_of_at, named_at, op_at, end_at}
+use Rattle.pw_flow_ops.specs.Reading.{one_of_at, named_at, op_at, end_at}
 use Rattle.pw_flowfile.specs.declared.globals.ItemForm.{ItemForm}
 use Rattle.pw_flowfile.specs.declared.globals.ItemForm.TheVariants as form
 use Rattle.pw_flowfile.specs.FlowFile.{item_forms, names_of, kind_of_file, flow_version}
@@ -158,4 +158,4 @@ abbrev pub late_rules : List (List ℕ) → ℕ → FlowModule → ℕ → Optio
 late_rules names behind m place = module_rules names (names_of m) behind (function_names m) (global_names m) place
 
 abbrev pub flow_file_at : List ℕ → Result (Contents FlowModule) ℕ
-flow_file_at = contents_file_at kind_of_file flow_version fields_at late_rules
+flow_file_at = contents_file_at kind_of_file flow_version flow_version (λ version. fields_at) late_rules

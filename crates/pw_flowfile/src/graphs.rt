@@ -11,7 +11,7 @@ ghost use Rattle.pw_flowfile.specs.Marks.{Marks};
 use crate::met::read_fresh;
 use pw_fields::{FieldError, read_text_in_place, read_u32};
 use pw_flow::{Block, FlowFn};
-use pw_flowops::{Counts, read_end, read_few, read_ops};
+use pw_flow_ops::{Counts, read_end, read_few, read_ops};
 use pw_items::Items;
 use pw_value::limits::ROOM_LIMIT;
 use pw_value::{Name, Shape, slot_room};

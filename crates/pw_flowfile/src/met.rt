@@ -7,7 +7,7 @@ ghost use Rattle.pw_flowfile.specs.Reading.{fresh_at};
 ghost use Rattle.pw_flowfile.specs.Marks.{Marks};
 
 use pw_fields::FieldError;
-use pw_flowops::read_below;
+use pw_flow_ops::read_below;
 use pw_value::Name;
 use std::alloc::{AllocError, Global};
 

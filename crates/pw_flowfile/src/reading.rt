@@ -148,16 +148,21 @@ impl Format for FlowFormat {
 
     ghost KIND = { kind_of_file };
 
+    const FIRST: u32 = VERSION;
+
+    ghost FIRST = { flow_version };
+
     const VERSION: u32 = VERSION;
 
     ghost VERSION = { flow_version };
 
-    ghost fields = { fields_at };
+    ghost fields = { λ version. fields_at };
 
     ghost late = { late_rules };
 
     fn read_parts<'a>(
         alloc: Global,
+        _version: u32,
         names: &[Name],
         bytes: &'a [u8],
     ) -> Result<(FlowModule, usize, &'a [u8]), FieldError> {

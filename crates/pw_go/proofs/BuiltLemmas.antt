@@ -3,20 +3,20 @@ use Rattle.std.proofs.Common.{◌≡◌, ◌%◌, ℕ, List, [], ◌∷◌, Opti
 use Rattle.std.specs.Prelude.{IfSome, ◌↔◌, ◌≤◌}
 use Rattle.pw_io.specs.Files.{Files, Told}
 use Rattle.pw_machine.proofs.Runs.{run_of-stays_at}
-use Rattle.pw_sum.specs.SumProgram.{IsSumProgram, numbers_in}
-use Rattle.pw_sum.specs.SourceRun.{source_run}
-use Rattle.pw_sum.specs.Code.{words_of}
-use Rattle.pw_sum.specs.Built.{EndsWithin, FramesFit, core_of, frames_of, rooms_of, sum_steps}
-use Rattle.pw_agreement.specs.Agreement.{Agree}
-use Rattle.pw_front.specs.declared.refusal.Refusal.{Refusal}
-use Rattle.pw_modules.specs.Modules.{Source, modules_of}
-use Rattle.pw_answer.specs.declared.answer.Answer.{Answer}
-use Rattle.pw_answer.specs.declared.answer.Answer.TheVariants.{Ended}
+use Rattle.pw_go_sum.specs.SumProgram.{IsSumProgram, numbers_in}
+use Rattle.pw_go_sum.specs.SourceRun.{source_run}
+use Rattle.pw_go_sum.specs.Code.{words_of}
+use Rattle.pw_go_sum.specs.Built.{EndsWithin, FramesFit, core_of, frames_of, rooms_of, sum_steps}
+use Rattle.pw_run_agreement.specs.Agreement.{Agree}
+use Rattle.pw_front_end.specs.declared.refusal.Refusal.{Refusal}
+use Rattle.pw_store_modules.specs.Modules.{Source, modules_of}
+use Rattle.pw_top_answer.specs.declared.answer.Answer.{Answer}
+use Rattle.pw_top_answer.specs.declared.answer.Answer.TheVariants.{Ended}
 use Rattle.pw_go.specs.FullBuild as build
 use Rattle.pw_go.specs.FullBuild.{Build, alone, by_numbers, by_refused, build_of_sources, first_refused, full_build, together}
 use Rattle.pw_go.specs.Going.{run_built, build_effect, BuiltAgrees, ReturnsSum}
-use Rattle.pw_running.specs.Running.{run_answer}
-use Rattle.pw_answer.specs.Outcomes.{Answers}
+use Rattle.pw_commands_run.specs.Running.{run_answer}
+use Rattle.pw_top_answer.specs.Outcomes.{Answers}
 
 -- what the public laws say of each sum program
 pub record Laws : Type 0 where

@@ -2,10 +2,10 @@
 use Rattle.std.proofs.Common.{◌≡◌, ℕ, ◌+◌, ◌<◌, ◌≤◌, List, ◌∷◌, length, map, get_or, drop, Option, Some, None, Ok, Err, refl, sym, ap, ◌∙◌}
 use Rattle.std.proofs.lemmas.List.{at_drop_more, at_drop_all}
 use Rattle.std.specs.Option.{option_map}
-use Rattle.pw_front.specs.declared.refusal.Refusal.{Refusal}
-use Rattle.pw_modules.specs.Modules.{Source}
-use Rattle.pw_modules.specs.Views.{source}
-use Rattle.pw_modules.specs.declared.modules.Module.{Module}
+use Rattle.pw_front_end.specs.declared.refusal.Refusal.{Refusal}
+use Rattle.pw_store_modules.specs.Modules.{Source}
+use Rattle.pw_store_modules.specs.Views.{source}
+use Rattle.pw_store_modules.specs.declared.modules.Module.{Module}
 use Rattle.pw_phase_one.specs.FirstPhase.{Phase, compiled}
 use Rattle.pw_go.specs.BuildViews.{refusal_in, refused_build}
 use Rattle.pw_go.specs.FullBuild.{Build, build_of_sources, by_refused, first_refused, refused_or, refused_source, together}

@@ -2,13 +2,13 @@
 use Rattle.std.proofs.Common.{ℕ, List, Option, Some, None}
 use Rattle.std.specs.Prelude.{IfSome}
 use Rattle.pw_io.specs.Files.{Told}
-use Rattle.pw_answer.specs.declared.answer.Answer.{Answer}
-use Rattle.pw_answer.specs.declared.answer.Answer.TheVariants.{Usage, Refused, LinkRefused, StoreFault, BadFile}
-use Rattle.pw_answer.specs.Outcomes.{WasReadInPart, LeavesStreams}
-use Rattle.pw_sum.specs.Code.{words_of}
-use Rattle.pw_sum.specs.Built.{start_of}
-use Rattle.pw_running.proofs.RunLemmas.{Ends, ends_itself, run_ends, untouched}
-use Rattle.pw_running.specs.Running.{IsRunAnswer}
+use Rattle.pw_top_answer.specs.declared.answer.Answer.{Answer}
+use Rattle.pw_top_answer.specs.declared.answer.Answer.TheVariants.{Usage, Refused, LinkRefused, StoreFault, BadFile}
+use Rattle.pw_top_answer.specs.Outcomes.{WasReadInPart, LeavesStreams}
+use Rattle.pw_go_sum.specs.Code.{words_of}
+use Rattle.pw_go_sum.specs.Built.{start_of}
+use Rattle.pw_commands_run.proofs.RunLemmas.{Ends, ends_itself, run_ends, untouched}
+use Rattle.pw_commands_run.specs.Running.{IsRunAnswer}
 use Rattle.pw_go.specs.FullBuild as build
 use Rattle.pw_go.specs.FullBuild.{Build, full_build}
 use Rattle.pw_go.specs.Going.{IsNoUsage, IsObeyed, run_built, build_effect}

@@ -3,17 +3,17 @@ use Rattle.std.proofs.Common.{◌≡◌, ℕ, inl, inr, List, [], ◌∷◌, ◌
 use Rattle.std.specs.Prelude.{◌↔◌}
 use Rattle.std.specs.List.{AllByRecursion}
 use Rattle.pw_io.specs.Files.{Files}
-use Rattle.pw_front.specs.Places.{refusal_line}
-use Rattle.pw_front.specs.declared.refusal.Refusal.{Refusal}
+use Rattle.pw_front_end.specs.Places.{refusal_line}
+use Rattle.pw_front_end.specs.declared.refusal.Refusal.{Refusal}
 use Rattle.pw_phase_one.specs.FirstPhase.{Compiles, Phase, compiled}
-use Rattle.pw_answer.specs.declared.answer.Answer.{Answer}
-use Rattle.pw_answer.specs.declared.answer.Answer.TheVariants.{Refused, LinkRefused}
+use Rattle.pw_top_answer.specs.declared.answer.Answer.{Answer}
+use Rattle.pw_top_answer.specs.declared.answer.Answer.TheVariants.{Refused, LinkRefused}
 use Rattle.pw_go.specs.FullBuild as build
 use Rattle.pw_go.specs.FullBuild.{Build, alone, by_numbers, by_refused, build_of_sources, first_refused, full_build, not_yet, refused_or, refused_source, together}
-use Rattle.pw_modules.specs.Modules.{Source, modules_of}
+use Rattle.pw_store_modules.specs.Modules.{Source, modules_of}
 use Rattle.pw_value.specs.declared.fault.LinkFault.TheVariants.{NoMain}
 use Rattle.pw_go.specs.Refusals.{IsAccepted, IsFirstRefused, IsOtherForm, IsSecond, RefusesOne, RefusalIs, RefusalComes, NoMainIs, NoMainComes}
-use Rattle.pw_sum.specs.SumProgram.{IsSumProgram, numbers_in}
+use Rattle.pw_go_sum.specs.SumProgram.{IsSumProgram, numbers_in}
 use Rattle.pw_go.specs.Going.{AnswersBuild}
 
 -- what the public laws of the first phase and of the form say

@@ -1,7 +1,7 @@
 -- What the code's builds stand for.
 use Rattle.std.specs.Prelude.{Option, Some, None, Ok, Err}
-use Rattle.pw_front.specs.declared.refusal.Refusal.{Refusal}
-use Rattle.pw_modules.specs.Modules.{Source}
+use Rattle.pw_front_end.specs.declared.refusal.Refusal.{Refusal}
+use Rattle.pw_store_modules.specs.Modules.{Source}
 use Rattle.pw_phase_one.specs.FirstPhase.{Phase}
 use Rattle.pw_go.specs.declared.build.Built.{Built}
 use Rattle.pw_go.specs.declared.build.Built.TheVariants as built

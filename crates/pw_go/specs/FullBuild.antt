@@ -2,14 +2,14 @@
 use Rattle.std.specs.Prelude.{ℕ, List, [], ◌∷◌, Option, Some, None, Ok, Err}
 use Rattle.pw_io.specs.Files.{Files}
 use Rattle.pw_token.specs.declared.token.Feature.TheVariants.{NotYet}
-use Rattle.pw_front.specs.Places.{refusal_line}
-use Rattle.pw_front.specs.declared.refusal.Refusal.{Refusal}
-use Rattle.pw_front.specs.declared.refusal.Refusal.TheVariants.{Unsupported}
+use Rattle.pw_front_end.specs.Places.{refusal_line}
+use Rattle.pw_front_end.specs.declared.refusal.Refusal.{Refusal}
+use Rattle.pw_front_end.specs.declared.refusal.Refusal.TheVariants.{Unsupported}
 use Rattle.pw_phase_one.specs.FirstPhase.{Phase, compiled}
 use Rattle.pw_value.specs.declared.fault.LinkFault.{LinkFault}
 use Rattle.pw_value.specs.declared.fault.LinkFault.TheVariants.{NoMain}
-use Rattle.pw_sum.specs.SumProgram.{numbers_in}
-use Rattle.pw_modules.specs.Modules.{Source, modules_of}
+use Rattle.pw_go_sum.specs.SumProgram.{numbers_in}
+use Rattle.pw_store_modules.specs.Modules.{Source, modules_of}
 
 -- what a build comes to
 pub data Build : Type 0 where

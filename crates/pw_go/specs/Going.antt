@@ -1,17 +1,17 @@
 -- What `go` answers, puts out and leaves: the run of what was built.
 use Rattle.std.specs.Prelude.{◌≡◌, ℕ, ◌≤◌, ◌%◌, List, sum}
 use Rattle.pw_machine.specs.Run.{Progress, run_of}
-use Rattle.pw_answer.specs.Effects.{Effect, answers_alone}
-use Rattle.pw_answer.specs.Outcomes.{Answers, IsLineDue, IsNoRefusal, RefusesAs}
-use Rattle.pw_running.specs.Running.{ran}
-use Rattle.pw_answer.specs.declared.answer.Answer.{Answer}
-use Rattle.pw_answer.specs.declared.answer.Answer.TheVariants.{Ended, Usage, Refused, LinkRefused, StoreFault}
+use Rattle.pw_top_answer.specs.Effects.{Effect, answers_alone}
+use Rattle.pw_top_answer.specs.Outcomes.{Answers, IsLineDue, IsNoRefusal, RefusesAs}
+use Rattle.pw_commands_run.specs.Running.{ran}
+use Rattle.pw_top_answer.specs.declared.answer.Answer.{Answer}
+use Rattle.pw_top_answer.specs.declared.answer.Answer.TheVariants.{Ended, Usage, Refused, LinkRefused, StoreFault}
 use Rattle.pw_go.specs.FullBuild as build
 use Rattle.pw_go.specs.FullBuild.{Build}
-use Rattle.pw_sum.specs.Code.{words_of}
-use Rattle.pw_agreement.specs.Agreement.{Agree}
-use Rattle.pw_sum.specs.SourceRun.{source_run}
-use Rattle.pw_sum.specs.Built.{EndsWithin, FramesFit, core_of, start_of, frames_of, rooms_of, sum_steps}
+use Rattle.pw_go_sum.specs.Code.{words_of}
+use Rattle.pw_run_agreement.specs.Agreement.{Agree}
+use Rattle.pw_go_sum.specs.SourceRun.{source_run}
+use Rattle.pw_go_sum.specs.Built.{EndsWithin, FramesFit, core_of, start_of, frames_of, rooms_of, sum_steps}
 
 -- ---- the built program's run
 

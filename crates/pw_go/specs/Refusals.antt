@@ -2,18 +2,18 @@
 use Rattle.std.specs.Prelude.{◌≡◌, ℕ, ◌⊎◌, List, [], ◌∷◌, ◌++◌, Ok, Err}
 use Rattle.std.specs.List.{AllByRecursion}
 use Rattle.pw_flow.specs.declared.flow.FlowModule.{FlowModule}
-use Rattle.pw_front.specs.Fronts.{HoldsNoWant}
-use Rattle.pw_front.specs.declared.refusal.Refusal.{Refusal}
+use Rattle.pw_front_end.specs.Fronts.{HoldsNoWant}
+use Rattle.pw_front_end.specs.declared.refusal.Refusal.{Refusal}
 use Rattle.pw_phase_one.specs.FirstPhase.{Compiles}
 use Rattle.pw_value.specs.declared.fault.LinkFault.{LinkFault}
 use Rattle.pw_value.specs.declared.fault.LinkFault.TheVariants as link
-use Rattle.pw_answer.specs.declared.answer.Answer.{Answer}
-use Rattle.pw_answer.specs.declared.answer.Answer.TheVariants.{Refused, LinkRefused}
+use Rattle.pw_top_answer.specs.declared.answer.Answer.{Answer}
+use Rattle.pw_top_answer.specs.declared.answer.Answer.TheVariants.{Refused, LinkRefused}
 use Rattle.pw_go.specs.FullBuild as build
 use Rattle.pw_go.specs.FullBuild.{Build, not_yet}
-use Rattle.pw_modules.specs.Modules.{Source}
-use Rattle.pw_sum.specs.SumProgram.{IsSumProgram}
-use Rattle.pw_answer.specs.Outcomes.{RefusesAs}
+use Rattle.pw_store_modules.specs.Modules.{Source}
+use Rattle.pw_go_sum.specs.SumProgram.{IsSumProgram}
+use Rattle.pw_top_answer.specs.Outcomes.{RefusesAs}
 
 -- the first phase accepts the module: it lexes, nothing in it is left out or too deep, it has a tree, and checking accepts that
 abbrev pub IsAccepted : Source → Type 0

@@ -2,18 +2,18 @@
 
 ghost use Rattle.std.specs.Prelude.{◌≡◌, IfSome};
 ghost use Rattle.pw_io.specs.Files.{Keeps};
-ghost use Rattle.pw_answer.specs.Outcomes.{Answers, InputCount, LeavesInput, LeavesStreams, OutputCount, PutsOut, StoreCount};
+ghost use Rattle.pw_top_answer.specs.Outcomes.{Answers, InputCount, LeavesInput, LeavesStreams, OutputCount, PutsOut, StoreCount};
 ghost use Rattle.pw_go.specs.BuildViews.{build_view};
 ghost use Rattle.pw_go.specs.FullBuild.{full_build};
 ghost use Rattle.pw_go.specs.Going.{AnswersBuild, IsLineOf, IsNoUsage, IsObeyed, build_effect, run_built};
 ghost use Rattle.pw_go.specs.Refusals.{HoldsNoWantOfMemory, IsProper};
-ghost use Rattle.pw_running.specs.Running.{IsRunAnswer, run_answer, run_output, run_rest};
+ghost use Rattle.pw_commands_run.specs.Running.{IsRunAnswer, run_answer, run_output, run_rest};
 
 use crate::build::{Built, build};
 use crate::run::run_words;
-use pw_answer::{Answer, Reply};
+use pw_go_sum::{Sum, words_of};
 use pw_io::{Sink, Source, Store, StoreError};
-use pw_sum::{Sum, words_of};
+use pw_top_answer::{Answer, Reply};
 use std::alloc::{AllocError, Global};
 
 /// What the build came to: the answer to a refusal, or to the run of the program.

@@ -2,15 +2,15 @@
 
 ghost use Rattle.std.specs.Prelude.{ℕ, List};
 ghost use Rattle.pw_io.specs.Files.{Files};
-ghost use Rattle.pw_modules.specs.Modules.{modules_of};
-ghost use Rattle.pw_answer.specs.Outcomes.{Answers};
-ghost use Rattle.pw_answer.specs.declared.answer.Answer.{Answer};
+ghost use Rattle.pw_store_modules.specs.Modules.{modules_of};
+ghost use Rattle.pw_top_answer.specs.Outcomes.{Answers};
+ghost use Rattle.pw_top_answer.specs.declared.answer.Answer.{Answer};
 ghost use Rattle.pw_go.specs.FullBuild.{full_build};
 ghost use Rattle.pw_go.specs.Going.{AnswersBuild, BuiltAgrees, ReturnsSum, build_effect};
 ghost use Rattle.pw_go.specs.Refusals.{NoMainComes, NoMainIs, RefusalComes, RefusalIs};
 
+use pw_go_sum::{form_is_exact, words_agree};
 use pw_phase_one::laws::phase_one_is_exact;
-use pw_sum::{form_is_exact, words_agree};
 
 /// An answer that names a module is the refusal of one of the modules, and each refusal that is due is the answer; the
 /// modules are refused together exactly where there is none.

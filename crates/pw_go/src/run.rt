@@ -3,14 +3,14 @@
 ghost use Rattle.std.specs.Prelude.{◌≡◌, ◌<◌, ◌≤◌, IfSome, length};
 ghost use Rattle.pw_machine.specs.Run.{run_of};
 ghost use Rattle.pw_value.specs.Limits.{word_limit};
-ghost use Rattle.pw_sum.specs.Built.{start_of};
-ghost use Rattle.pw_answer.specs.Outcomes.{Answers, InputCount, LeavesInput, OutputCount, PutsOut};
-ghost use Rattle.pw_running.specs.Running.{IsRunAnswer, run_answer, run_output, run_rest};
+ghost use Rattle.pw_go_sum.specs.Built.{start_of};
+ghost use Rattle.pw_top_answer.specs.Outcomes.{Answers, InputCount, LeavesInput, OutputCount, PutsOut};
+ghost use Rattle.pw_commands_run.specs.Running.{IsRunAnswer, run_answer, run_output, run_rest};
 
-use pw_answer::Answer;
+use pw_commands_run::run_machine;
 use pw_io::{Sink, Source};
 use pw_machine::Machine;
-use pw_running::run_machine;
+use pw_top_answer::Answer;
 use pw_value::limits::STACK_LEAST;
 use std::alloc::{AllocError, Global};
 

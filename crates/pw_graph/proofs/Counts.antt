@@ -2,13 +2,13 @@
 use Rattle.std.proofs.Common.{◌≡◌, ℕ, suc, ◌+◌, ◌≤◌, List, [], ◌∷◌, length, map, refl, ap, arith, length-append}
 use Rattle.std.proofs.lemmas.List.{length-map}
 use Rattle.std.proofs.lemmas.List.Sums.{sum_by-cons}
-use Rattle.pw_program.specs.declared.interface.Interface.{Interface}
+use Rattle.pw_link_rules.specs.declared.interface.Interface.{Interface}
 use Rattle.std.specs.List.{flat_map}
 use Rattle.std.proofs.lemmas.List.Concat.{flat_map-cons}
 use Rattle.pw_value.specs.Limits.{function_limit, global_limit}
 use Rattle.pw_summary.specs.declared.summary.Summary.{Summary}
 use Rattle.pw_summary.specs.declared.summary.Uses.{Uses}
-use Rattle.pw_program.specs.Linking.{library_declarations, function_count, global_count, few_functions, few_globals}
+use Rattle.pw_link_rules.specs.Linking.{library_declarations, function_count, global_count, few_functions, few_globals}
 use Rattle.pw_graph.specs.Program.{interface_of, AreLinked}
 use Rattle.pw_graph.specs.Making.{homes_in, module_homes, all_homes, eligible_one, eligible_in, all_eligible}
 use Rattle.pw_graph.proofs.Lists.{length_filtered}

@@ -9,7 +9,7 @@ use Rattle.pw_fields.proofs.NameLaws.{among_contains, contains_among}
 use Rattle.pw_files.proofs.Standing.{Has, has_by, contains_by, has_left, has_right, has_split, has_flat, has_flat_back}
 use Rattle.pw_summary.specs.declared.summary.Summary.{Summary}
 use Rattle.pw_summary.specs.declared.summary.Uses.{Uses}
-use Rattle.pw_program.specs.Linking.{library_declarations}
+use Rattle.pw_link_rules.specs.Linking.{library_declarations}
 use Rattle.pw_graph.specs.Program.{functions_of, IsUseOf, IsTaken, IsEscaped, IsEligible}
 use Rattle.pw_graph.specs.Making.{homes_in, module_homes, all_homes, all_taken, all_escaped, with_kind, eligible_one, eligible_in, all_eligible, targets_from}
 use Rattle.pw_graph.proofs.Lists.{has_at, has_filtered, has_filtered_back}

@@ -13,7 +13,7 @@ use Rattle.pw_files.specs.Rising.{IsRising}
 use Rattle.pw_summary.specs.declared.summary.Summary.{Summary}
 use Rattle.pw_summary.specs.declared.summary.Uses.{Uses}
 use Rattle.pw_summary.specs.Summary.{IsSummary}
-use Rattle.pw_program.specs.Linking.{library, library_declarations, defined_in, definitions, defined_once}
+use Rattle.pw_link_rules.specs.Linking.{library, library_declarations, defined_in, definitions, defined_once}
 use Rattle.pw_graph.specs.Program.{interface_of, AreLinked}
 use Rattle.pw_graph.specs.Making.{homes_in, module_homes, all_homes, eligible_one, eligible_in, all_eligible, with_kind}
 use Rattle.pw_graph.proofs.Lists.{Apart, distinct, apart_append, rising_apart, at_has, has_filtered_back}

@@ -9,7 +9,7 @@ use Rattle.pw_fields.specs.FieldNames.{is_among, place_of, IsTableOf}
 use Rattle.pw_files.specs.Rising.{IsRising}
 use Rattle.pw_summary.specs.declared.summary.Summary.{Summary}
 use Rattle.pw_summary.specs.declared.summary.Uses.{Uses}
-use Rattle.pw_program.specs.Linking.{library_declarations}
+use Rattle.pw_link_rules.specs.Linking.{library_declarations}
 use Rattle.pw_graph.specs.declared.homes.Home.{Home}
 use Rattle.pw_graph.specs.declared.eligible.Scalar.{Scalar}
 use Rattle.pw_graph.specs.declared.calls.Target.{Target}

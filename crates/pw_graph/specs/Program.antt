@@ -10,8 +10,8 @@ use Rattle.pw_summary.specs.declared.summary.Summary.{Summary}
 use Rattle.pw_summary.specs.declared.summary.Uses.{Uses}
 use Rattle.std.specs.Str.{bytes_eq}
 use Rattle.pw_value.specs.ProgramNames.{main_name}
-use Rattle.pw_program.specs.declared.interface.Interface.{Interface}
-use Rattle.pw_program.specs.Linking.{library_declarations, Links, Refusal}
+use Rattle.pw_link_rules.specs.declared.interface.Interface.{Interface}
+use Rattle.pw_link_rules.specs.Linking.{library_declarations, Links, Refusal}
 use Rattle.pw_graph.specs.declared.graph.CallGraph.{CallGraph}
 use Rattle.pw_graph.specs.CallGraph.{Calls, Weighs}
 

@@ -16,7 +16,7 @@ use crate::homes::{Home, home_names, sorted_homes};
 use crate::references::ref_rows;
 use crate::views::views;
 use pw_items::Items;
-use pw_program::{built_in, check_program};
+use pw_link_rules::{built_in, check_program};
 use pw_summary::Summary;
 use pw_value::{LinkFault, Name};
 use std::alloc::{AllocError, Global};

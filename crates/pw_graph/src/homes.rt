@@ -4,11 +4,11 @@ ghost use Rattle.std.specs.Prelude.{ℕ, ◌≡◌, ◌<◌, ◌++◌, List, len
 ghost use Rattle.std.specs.List.{IsDistinct};
 ghost use Rattle.std.specs.Str.{bytes_eq};
 ghost use Rattle.pw_fields.specs.FieldNames.{IsTableOf};
-ghost use Rattle.pw_program.specs.Linking.{library as the_library};
+ghost use Rattle.pw_link_rules.specs.Linking.{library as the_library};
 ghost use Rattle.pw_graph.specs.Making.{IsOrdered, home, homes_in, all_homes};
 
 use pw_fields::names::table_of;
-use pw_program::Interface;
+use pw_link_rules::Interface;
 use pw_summary::{Summary, Uses};
 use pw_value::{Name, Shape};
 use std::alloc::{AllocError, Global};

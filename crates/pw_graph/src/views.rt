@@ -4,7 +4,7 @@ ghost use Rattle.std.specs.Prelude.{◌≡◌, map, option_map, IfOk};
 ghost use Rattle.pw_graph.specs.Program.{main_in, interface_of};
 
 use pw_items::Items;
-use pw_program::Interface;
+use pw_link_rules::Interface;
 use pw_summary::Summary;
 use pw_value::program_names::MAIN;
 use pw_value::{Kind, Name, Shape, copied_shapes};

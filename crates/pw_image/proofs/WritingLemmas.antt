@@ -43,4 +43,4 @@ table_is names used count table = record { count = count; rising = table.rising 
 -- what is written is the image's file
 pub written : {E : Type 0} (names : List (List ℕ)) (v : Image) (payload : List ℕ) (r : Result (Vec ℕ) E) → IsContents (record { names = names; value = v }) → payload ≡ spelling (record { names = names; value = v }) → OnOk r (FitsFile payload)
     → IfOk r (λ w. w.items ≡ file kind image_version payload) → IfOk r (λ w. (ns : List (List ℕ)) × IsImageFile w.items (record { names = ns; value = v }))
-written names v payload r is same room made = is_file kind image_version spelling IsContents (record { names = names; value = v }) payload r is same room made
+written names v payload r is same room made = is_file kind image_version image_version image_version (λ version. spelling) (λ version. IsContents) (record { names = names; value = v }) payload r (omega arith) (omega arith) is same room made

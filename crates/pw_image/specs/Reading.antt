@@ -4,6 +4,7 @@ use Rattle.pw_value.specs.Limits.{text_start, word_limit, memory_size}
 use Rattle.pw_fields.specs.Fields.{◌>>=◌, done, checked, u32_at, bytes_at, items_at, repeated}
 use Rattle.pw_fields.specs.FieldFrame.{here, ended, file_at}
 use Rattle.pw_fields.specs.FieldNames.{names_at, name_at, first_unused}
+use Rattle.pw_files.specs.Contents.{value_of}
 use Rattle.pw_files.specs.Places.{offset_at, item_bytes_at}
 use Rattle.pw_image.specs.declared.image.DataItem.{DataItem}
 use Rattle.pw_image.specs.declared.image.Memory.{Memory}
@@ -89,3 +90,7 @@ payload_at bytes = if is_lawful_start (start_at bytes) then contents_at bytes el
 
 unfoldable pub image_file_at : List ℕ → Result (Contents Image) ℕ
 image_file_at bytes = file_at kind image_version image_version (λ version. payload_at) bytes
+
+-- the image that stands in a file
+abbrev pub image_at : List ℕ → Result Image ℕ
+image_at bytes = value_of (image_file_at bytes)

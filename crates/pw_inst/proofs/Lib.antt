@@ -1,3 +1,4 @@
+pub mod ActionLaws
 pub mod FieldLemmas
 pub mod Found
 pub mod HexadecimalLemmas

@@ -1,3 +1,4 @@
+pub mod Computing
 pub mod Fields
 pub mod InstructionTable
 pub mod Limits

@@ -3,6 +3,7 @@
 //! between instructions and words: the lines of a function, and relocations.
 #![tactic(auto)]
 
+mod computing;
 mod decoding;
 mod encoding;
 mod fields;
@@ -13,6 +14,7 @@ mod registers;
 mod relocation;
 mod setting;
 
+pub use computing::actions_go_by_registers;
 pub use decoding::{decode, word_is_decoded_again, words_differ};
 pub use encoding::{NOP, encode, nop_is_an_instruction};
 pub use limits::{NEAR_LEAST, NEAR_MOST, ROUTINE_COUNT, limits_of_instructions};

@@ -9,12 +9,12 @@ use Rattle.pw_cmean.specs.Acts as acts
 use Rattle.pw_cmean.specs.Acts.{Act, State, Outcome, Gives, Ends, Wrong, give, need, stop, go_on, wrong, undefined, ◌>>=◌}
 use Rattle.pw_cmean.specs.Evaluation.{call}
 use Rattle.pw_cmean.specs.SourceRun.{Run, seen, finish, start_state, calls, run_main}
-use Rattle.pw_cstate.specs.Shown.{Shown, shown}
-use Rattle.pw_cstate.specs.Runs.{Runs, Shows}
-use Rattle.pw_ccalls.specs.declared.ending.Stop.{Stop}
-use Rattle.pw_ccalls.specs.declared.ending.Stop.TheVariants as S
-use Rattle.pw_ccalls.specs.Endings.{view_ending}
-use Rattle.pw_ccalls.specs.Answers.{Answers}
+use Rattle.pw_interp_state.specs.Shown.{Shown, shown}
+use Rattle.pw_interp_state.specs.Runs.{Runs, Shows}
+use Rattle.pw_interp_calls.specs.declared.ending.Stop.{Stop}
+use Rattle.pw_interp_calls.specs.declared.ending.Stop.TheVariants as S
+use Rattle.pw_interp_calls.specs.Endings.{view_ending}
+use Rattle.pw_interp_calls.specs.Answers.{Answers}
 use Rattle.pw_interp.specs.Ends.{end_of, finished}
 
 pub run_seen : {world : World} {act : Act (Unit {0})} {w u : Shown} {r : Result (Unit {0}) Stop} (s : State) (end : acts.Ending)

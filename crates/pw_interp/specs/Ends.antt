@@ -5,9 +5,9 @@ use Rattle.pw_value.specs.declared.value.Value.TheVariants as V
 use Rattle.pw_cmean.specs.declared.undefined.Undef.TheVariants.{MissingResult}
 use Rattle.pw_cmean.specs.Worlds.{Body, Defined, Library}
 use Rattle.pw_cmean.specs.Acts as acts
-use Rattle.pw_ccalls.specs.Endings.{view_ending}
-use Rattle.pw_ccalls.specs.declared.ending.Stop.{Stop}
-use Rattle.pw_ccalls.specs.declared.ending.Stop.TheVariants as S
+use Rattle.pw_interp_calls.specs.Endings.{view_ending}
+use Rattle.pw_interp_calls.specs.declared.ending.Stop.{Stop}
+use Rattle.pw_interp_calls.specs.declared.ending.Stop.TheVariants as S
 use Rattle.pw_cmean.specs.SourceRun.{Run}
 use Rattle.pw_interp.specs.declared.run.PlainRun.{PlainRun}
 use Rattle.pw_interp.specs.declared.run.RunEnd.{RunEnd}

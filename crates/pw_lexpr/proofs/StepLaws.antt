@@ -21,7 +21,7 @@ use Rattle.pw_typed.specs.declared.tree.TExpr.{TExpr}
 use Rattle.pw_typed.specs.declared.tree.TForm.{TForm}
 use Rattle.pw_typed.specs.declared.tree.TForm as node
 use Rattle.pw_typed.proofs.Rows.{call_view, call_value_view}
-use Rattle.pw_lforms.specs.Steps.{target_at, address_at, call_named, call_value}
+use Rattle.pw_lower_forms.specs.Steps.{target_at, address_at, call_named, call_value}
 use Rattle.pw_lexpr.specs.Finish.{address_in, addressed_in, first_evaluated, first_part, lower_first, finish, finish_node, finish_all}
 
 module _ (h : Home) where

@@ -12,7 +12,7 @@ use Rattle.pw_lower.specs.declared.code.Code.{Code}
 use Rattle.pw_lower.specs.Codes.{Lowered, temp_of, cut_here, lowered_as}
 use Rattle.pw_lower.specs.Operators.{combined}
 use Rattle.pw_lower.specs.Expressions.{Home, read, stored, copied, scalar_kind, updated, fork, in_result, decides, says, lower, arguments, Arguments}
-use Rattle.pw_lforms.specs.Steps.{target_at, results, given, told, alone, call_named, call_value}
+use Rattle.pw_lower_forms.specs.Steps.{target_at, results, given, told, alone, call_named, call_value}
 
 -- ---- what is evaluated first
 

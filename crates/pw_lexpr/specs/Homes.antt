@@ -1,2 +1,2 @@
 -- What expressions are lowered in, as plain data.
-pub use Rattle.pw_lforms.specs.Homes.{view_home}
+pub use Rattle.pw_lower_forms.specs.Homes.{view_home}

@@ -5,8 +5,8 @@ ghost use Rattle.std.specs.Prelude.{◌≡◌, IfOk, OnOk};
 ghost use Rattle.pw_lower.specs.Codes.{lowered_as, temp_of, cut_here};
 ghost use Rattle.pw_lower.specs.Operators.{combined as combination};
 ghost use Rattle.pw_lower.specs.Expressions as spec;
-ghost use Rattle.pw_lforms.specs.Homes.{view_home};
-ghost use Rattle.pw_lforms.specs.Steps as forms;
+ghost use Rattle.pw_lower_forms.specs.Homes.{view_home};
+ghost use Rattle.pw_lower_forms.specs.Steps as forms;
 ghost use Rattle.pw_lexpr.specs.Finish as steps;
 ghost use Rattle.pw_typed.specs.Views.{view_expr, view_exprs, view_form, view_symbol};
 ghost use Rattle.pw_types.specs.Views.{view_type, view_qtype};
@@ -14,16 +14,16 @@ ghost use Rattle.pw_types.specs.Views.{view_type, view_qtype};
 use crate::edges::edge_below;
 use pw_flow::End;
 use pw_items::Items;
-use pw_lforms::Home;
-use pw_lforms::alone::{alone, target_at};
-use pw_lforms::calls::{call_named, call_value};
-use pw_lforms::choices::{
-    Choice, and_joined, cond_forked, cond_joined, cond_turned, fork, or_forked, or_joined,
-};
-use pw_lforms::stores::{copied, scalar_kind, stored, updated, working_in};
-use pw_lforms::targets::read;
 use pw_lower::Code;
 use pw_lower::operators::{combined, side_of};
+use pw_lower_forms::Home;
+use pw_lower_forms::alone::{alone, target_at};
+use pw_lower_forms::calls::{call_named, call_value};
+use pw_lower_forms::choices::{
+    Choice, and_joined, cond_forked, cond_joined, cond_turned, fork, or_forked, or_joined,
+};
+use pw_lower_forms::stores::{copied, scalar_kind, stored, updated, working_in};
+use pw_lower_forms::targets::read;
 use pw_typed::{BinaryOperator, LogicOperator, Symbol, TExpr, TForm};
 use pw_types::{CType, QType, is_record};
 use pw_value::NoMemory;

@@ -5,6 +5,6 @@ pub mod edges;
 pub mod expressions;
 
 pub use expressions::lower;
-pub use pw_lforms::{
+pub use pw_lower_forms::{
     Home, address_of_local, copied, full_name, hidden_name, home, stored, stores, target_of_local,
 };

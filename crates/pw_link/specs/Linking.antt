@@ -22,8 +22,8 @@ use Rattle.pw_image.specs.declared.image.Memory.{Memory}
 use Rattle.pw_image.specs.declared.image.Image.{Image}
 use Rattle.pw_image.specs.declared.image.Function.{Function}
 use Rattle.pw_image.specs.declared.image.GlobalObject.{GlobalObject}
-use Rattle.pw_interface.specs.Interface.{interface}
-use Rattle.pw_program.specs.Linking.{Links, Refusal}
+use Rattle.pw_link_interface.specs.Interface.{interface}
+use Rattle.pw_link_rules.specs.Linking.{Links, Refusal}
 use Rattle.pw_link.specs.Layout.{Placed, text_of, word_count, Standing, data_of, data_size, data_begin, stack_end, address_in, Sites, sites_by}
 
 -- ---- relocations

@@ -1,15 +1,15 @@
 //! The linker.
 
 ghost use Rattle.std.specs.Prelude.{◌≡◌, ◌⊎◌, map, IfOk, IfErr, OnOk};
-ghost use Rattle.pw_interface.specs.Interface.{interface};
-ghost use Rattle.pw_program.specs.Linking.{Links, Refusal};
+ghost use Rattle.pw_link_interface.specs.Interface.{interface};
+ghost use Rattle.pw_link_rules.specs.Linking.{Links, Refusal};
 ghost use Rattle.pw_link.specs.Linking.{linked, AreLinked, IsRefusal};
 
 use crate::layout::laid_out;
 use pw_image::Image;
-use pw_interface::interfaces;
+use pw_link_interface::interfaces;
+use pw_link_rules::check_program;
 use pw_object::Object;
-use pw_program::check_program;
 use pw_value::LinkFault;
 use std::alloc::Global;
 

@@ -7,6 +7,11 @@ use Rattle.pw_types.specs.TypedTrees.{Expression, Node, Form, Local, Unary, Bina
 use Rattle.pw_lower.specs.declared.place.LocalPlace.{LocalPlace}
 use Rattle.pw_lower.specs.declared.place.LocalPlace.TheVariants.{Temp, Slot}
 
+-- the local that an expression names
+abbrev pub local_in : Expression → List ℕ
+local_in (Node t ty (Local k)) = k ∷ []
+local_in _ = []
+
 -- ---- the locals whose address is taken
 
 abbrev mutual

@@ -11,7 +11,7 @@ ghost use Rattle.pw_typed.specs.Views.{view_expr, view_function};
 use crate::functions::entered;
 use pw_lexpr::{Home, lower};
 use pw_lower::{Code, LocalPlace};
-use pw_lplaces::places_of;
+use pw_lower_places::places_of;
 use pw_typed::{TExpr, TFunction};
 use pw_types::Types;
 use pw_value::{Name, NoMemory};

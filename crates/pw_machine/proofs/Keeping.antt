@@ -1,17 +1,16 @@
 -- No instruction changes whether the run has stopped.
-use Rattle.std.specs.Prelude.{ℕ, ◌≡◌, Bool, true, false, not, ◌&&◌, ◌==◌, if◌then◌else◌, Option, Some, None, List, ◌+◌, ◌*◌, ◌/◌, ◌%◌, ◌^◌, bit_and, bit_or, bit_xor}
-use Rattle.std.specs.Int.{cast_unsigned, w32}
+use Rattle.std.specs.Prelude.{ℕ, ◌≡◌, Bool, true, false, not, ◌&&◌, ◌==◌, if◌then◌else◌, Option, Some, None, List, ◌%◌, ◌^◌}
 use Rattle.std.proofs.Common.{refl, subst}
 use Rattle.pw_inst.specs.declared.Inst.{Inst}
-use Rattle.pw_inst.specs.declared.Inst.TheVariants.{Ldb, Ldh, Ldw, Ldo, Stb, Sth, Stw, Ldil, And, Or, Xor, Sub, Addl, Vshd, Mtctl, Comclr, Subi, Extru, Extrs, Zdep, Combt, Combf, Bl, Bv, Ble, Break}
 use Rattle.pw_inst.specs.InstructionTable.{decoded}
 use Rattle.pw_machine.specs.declared.ends.End.{End}
 use Rattle.pw_machine.specs.declared.ends.End.TheVariants.{Ended, StackStop}
 use Rattle.pw_machine.specs.declared.ends.Halt.{Halt}
 use Rattle.pw_machine.specs.declared.ends.Halt.TheVariants.{BadBranch, BadBreak}
-use Rattle.pw_machine.specs.Core.{Core, register, with_register, next, moved, advanced, byte_at, half_at, word_at, with_byte, with_half, with_word}
-use Rattle.pw_value.specs.Words.{unsigned_difference}
-use Rattle.pw_machine.specs.Effect.{Effect, Goes, Reads, Writes, Stops, executed, effect_of, effect_of_inst, unless, puts, loads, stores, breaks, halts, address, access_fault, condition, extracted, sign_extended, deposited, is_in_text, target}
+use Rattle.pw_machine.specs.Core.{Core, register, with_register, next, moved, advanced, word_at}
+use Rattle.pw_inst.specs.Computing.{Action, Puts, Loads, Stores, Shifts, Clears, Branches, Links, Jumps, Calls, Asks, bytes_of_width, action}
+use Rattle.pw_inst.specs.Registers.{routine_link}
+use Rattle.pw_machine.specs.Effect.{Effect, Goes, Reads, Writes, Stops, executed, effect_of, effect_of_inst, effect_of_action, unless, puts, loads, stores, breaks, halts, access_fault, is_in_text, target, memory_at, memory_with}
 
 -- where the step goes on, `stopped` is as it was
 abbrev pub KeepsStopped : Option End → Effect → Type 0
@@ -58,35 +57,20 @@ breaks-keeps core im5 im13 =
     (if_keeps s ((im5 == 0) && (im13 == 3)) (Stops (Ended byte)) fourth tt
     (if_keeps s ((im5 == 0) && (im13 == 4)) (Stops StackStop) last tt tt)))
 
+pub action-keeps : (core : Core) (x : Action) → KeepsStopped core.stopped (effect_of_action core x)
+action-keeps core (Puts t word) = puts-keeps core t word
+action-keeps core (Loads width a t) = loads-keeps core a (bytes_of_width width) t (memory_at width core.memory a)
+action-keeps core (Stores width a word) = stores-keeps core a (bytes_of_width width) (memory_with width core.memory a word)
+action-keeps core (Shifts n) = refl
+action-keeps core (Clears t skips) = with_register-stopped (moved core (next core) skips) t 0
+action-keeps core (Branches taken disp) = refl
+action-keeps core (Links disp t n) = with_register-stopped (moved core (target core disp) n) t (next core)
+action-keeps core (Jumps a n) = refl
+action-keeps core (Calls a n) = with_register-stopped (moved core a n) routine_link (next core)
+action-keeps core (Asks im5 im13) = breaks-keeps core im5 im13
+
 pub executed-keeps : (core : Core) (inst : Inst) → KeepsStopped core.stopped (executed core inst)
-executed-keeps core (Ldb im b t) = let a = address core b im in loads-keeps core a 1 t (byte_at core.memory a)
-executed-keeps core (Ldh im b t) = let a = address core b im in loads-keeps core a 2 t (half_at core.memory a)
-executed-keeps core (Ldw im b t) = let a = address core b im in loads-keeps core a 4 t (word_at core.memory a)
-executed-keeps core (Ldo im b t) = puts-keeps core t (address core b im)
-executed-keeps core (Stb r im b) = let a = address core b im in stores-keeps core a 1 (with_byte core.memory a (register core r))
-executed-keeps core (Sth r im b) = let a = address core b im in stores-keeps core a 2 (with_half core.memory a (register core r))
-executed-keeps core (Stw r im b) = let a = address core b im in stores-keeps core a 4 (with_word core.memory a (register core r))
-executed-keeps core (Ldil im t) = puts-keeps core t (im * 2048)
-executed-keeps core (And r1 r2 t) = puts-keeps core t (bit_and (register core r1) (register core r2))
-executed-keeps core (Or r1 r2 t) = puts-keeps core t (bit_or (register core r1) (register core r2))
-executed-keeps core (Xor r1 r2 t) = puts-keeps core t (bit_xor (register core r1) (register core r2))
-executed-keeps core (Sub r1 r2 t) = puts-keeps core t (unsigned_difference (register core r1) (register core r2))
-executed-keeps core (Addl r1 r2 t) = puts-keeps core t ((register core r1 + register core r2) % 2 ^ 32)
-executed-keeps core (Vshd r1 r2 t) = puts-keeps core t ((register core r1 * 2 ^ 32 + register core r2) / 2 ^ core.shift % 2 ^ 32)
-executed-keeps core (Mtctl r) = refl
-executed-keeps core (Comclr c f r1 r2 t) =
-    let holds = condition c (register core r1) (register core r2) in
-    with_register-stopped (moved core (next core) (if f then not holds else holds)) t 0
-executed-keeps core (Subi im r t) = puts-keeps core t (unsigned_difference (cast_unsigned w32 im) (register core r))
-executed-keeps core (Extru r p len t) = puts-keeps core t (extracted (register core r) p len)
-executed-keeps core (Extrs r p len t) = puts-keeps core t (sign_extended len (extracted (register core r) p len))
-executed-keeps core (Zdep r p len t) = puts-keeps core t (deposited (register core r) p len)
-executed-keeps core (Combt c r1 r2 disp) = refl
-executed-keeps core (Combf c r1 r2 disp) = refl
-executed-keeps core (Bl disp t n) = with_register-stopped (moved core (target core disp) n) t (next core)
-executed-keeps core (Bv b n) = refl
-executed-keeps core (Ble b n) = with_register-stopped (moved core (register core b) n) 31 (next core)
-executed-keeps core (Break im5 im13) = breaks-keeps core im5 im13
+executed-keeps core inst = action-keeps core (action (λ r. register core r) core.shift inst)
 
 pub effect_of_inst-keeps : (core : Core) (inst : Option Inst) → KeepsStopped core.stopped (effect_of_inst core inst)
 effect_of_inst-keeps core None = tt

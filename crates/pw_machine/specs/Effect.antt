@@ -1,12 +1,11 @@
--- The effect of each form of instruction on the machine, and of the step at front. All registers are
--- read before one is written.
-use Rattle.std.specs.Prelude.{ℕ, ℤ, ◌+◌, ◌-◌, ◌*◌, ◌/◌, ◌%◌, ◌^◌, List, Option, Some, None, Bool, true, false, not, ◌&&◌, ◌||◌, ◌==◌, nat_lt, nat_le, bit_and, bit_or, bit_xor, if◌then◌else◌}
+-- The effect of what an instruction does on the machine, and of the step at front. All registers are read before
+-- one is written.
+use Rattle.std.specs.Prelude.{ℕ, ℤ, ◌+◌, ◌*◌, ◌%◌, ◌^◌, List, Option, Some, None, Bool, true, false, not, ◌&&◌, ◌||◌, ◌==◌, nat_lt, nat_le, if◌then◌else◌}
 use Rattle.std.specs.Int.{cast_unsigned, w32}
 use Rattle.pw_value.specs.Limits.{text_start, memory_size}
-use Rattle.pw_value.specs.Words.{signed_less, signed_at_most, unsigned_less, unsigned_at_most, unsigned_difference}
 use Rattle.pw_inst.specs.Registers.{argument_register, routine_link}
 use Rattle.pw_inst.specs.declared.Inst.{Inst}
-use Rattle.pw_inst.specs.declared.Inst.TheVariants.{Ldb, Ldh, Ldw, Ldo, Stb, Sth, Stw, Ldil, And, Or, Xor, Sub, Addl, Vshd, Mtctl, Comclr, Subi, Extru, Extrs, Zdep, Combt, Combf, Bl, Bv, Ble, Break}
+use Rattle.pw_inst.specs.Computing.{Action, Puts, Loads, Stores, Shifts, Clears, Branches, Links, Jumps, Calls, Asks, Width, OneByte, HalfWord, WholeWord, bytes_of_width, offset_by, action}
 use Rattle.pw_inst.specs.InstructionTable.{decoded}
 use Rattle.pw_machine.specs.declared.ends.End.{End}
 use Rattle.pw_machine.specs.declared.ends.End.TheVariants.{Ended, StackStop, Halted}
@@ -21,31 +20,6 @@ pub data Effect : Type 0 where
   Writes : ℕ → Effect
   Stops : End → Effect
 
--- ---- words
-
--- Conditions on two words: 1 equal, 2 signed less, 3 signed less or equal, 4 unsigned less,
--- 5 unsigned less or equal, and 0 never.
-abbrev pub condition : ℕ → ℕ → ℕ → Bool
-condition c a b =
-    if c == 1 then a == b
-    else if c == 2 then signed_less a b
-    else if c == 3 then signed_at_most a b
-    else if c == 4 then unsigned_less a b
-    else if c == 5 then unsigned_at_most a b
-    else false
-
--- the `len` bits of a word that end at bit p, bit 31 being the last
-abbrev pub extracted : ℕ → ℕ → ℕ → ℕ
-extracted word p len = word / 2 ^ (31 - p) % 2 ^ len
-
--- `len` bits, extended to a word by their sign
-abbrev pub sign_extended : ℕ → ℕ → ℕ
-sign_extended len bits = if nat_lt bits (2 ^ (len - 1)) then bits else 2 ^ 32 - 2 ^ len + bits
-
--- the low `len` bits of a word so that they end at bit p, the rest 0
-abbrev pub deposited : ℕ → ℕ → ℕ → ℕ
-deposited word p len = word % 2 ^ len * 2 ^ (31 - p)
-
 -- ---- registers and memory
 
 -- The instruction puts a word into a register, and the next one follows.
@@ -54,7 +28,7 @@ puts core t value = Goes (with_register (advanced core) t value)
 
 -- a base register plus a displacement, modulo 2^32
 abbrev pub address : Core → ℕ → ℤ → ℕ
-address core b im = (register core b + cast_unsigned w32 im) % 2 ^ 32
+address core b im = offset_by (register core b) im
 
 -- The instruction at front halts the run.
 abbrev pub halts : Core → Halt → Effect
@@ -102,37 +76,34 @@ breaks core im5 im13 =
     else if im5 == 0 && im13 == 4 then Stops StackStop
     else halts core BadBreak
 
--- ---- the table, from form to effect
+-- ---- from what an instruction does to its effect
+
+-- what stands at an address
+abbrev pub memory_at : Width → List ℕ → ℕ → ℕ
+memory_at OneByte memory a = byte_at memory a
+memory_at HalfWord memory a = half_at memory a
+memory_at WholeWord memory a = word_at memory a
+
+-- the memory after a word is stored there, or the low part of it
+abbrev pub memory_with : Width → List ℕ → ℕ → ℕ → List ℕ
+memory_with OneByte memory a word = with_byte memory a word
+memory_with HalfWord memory a word = with_half memory a word
+memory_with WholeWord memory a word = with_word memory a word
+
+abbrev pub effect_of_action : Core → Action → Effect
+effect_of_action core (Puts t word) = puts core t word
+effect_of_action core (Loads width a t) = loads core a (bytes_of_width width) t (memory_at width core.memory a)
+effect_of_action core (Stores width a word) = stores core a (bytes_of_width width) (memory_with width core.memory a word)
+effect_of_action core (Shifts n) = Goes (record (advanced core) { shift = n })
+effect_of_action core (Clears t skips) = Goes (with_register (moved core (next core) skips) t 0)
+effect_of_action core (Branches taken disp) = branches_if core taken disp
+effect_of_action core (Links disp t n) = Goes (with_register (moved core (target core disp) n) t (next core))
+effect_of_action core (Jumps a n) = Goes (moved core a n)
+effect_of_action core (Calls a n) = Goes (with_register (moved core a n) routine_link (next core))
+effect_of_action core (Asks im5 im13) = breaks core im5 im13
 
 abbrev pub executed : Core → Inst → Effect
-executed core (Ldb im b t) = let a = address core b im in loads core a 1 t (byte_at core.memory a)
-executed core (Ldh im b t) = let a = address core b im in loads core a 2 t (half_at core.memory a)
-executed core (Ldw im b t) = let a = address core b im in loads core a 4 t (word_at core.memory a)
-executed core (Ldo im b t) = puts core t (address core b im)
-executed core (Stb r im b) = let a = address core b im in stores core a 1 (with_byte core.memory a (register core r))
-executed core (Sth r im b) = let a = address core b im in stores core a 2 (with_half core.memory a (register core r))
-executed core (Stw r im b) = let a = address core b im in stores core a 4 (with_word core.memory a (register core r))
-executed core (Ldil im t) = puts core t (im * 2048)
-executed core (And r1 r2 t) = puts core t (bit_and (register core r1) (register core r2))
-executed core (Or r1 r2 t) = puts core t (bit_or (register core r1) (register core r2))
-executed core (Xor r1 r2 t) = puts core t (bit_xor (register core r1) (register core r2))
-executed core (Sub r1 r2 t) = puts core t (unsigned_difference (register core r1) (register core r2))
-executed core (Addl r1 r2 t) = puts core t ((register core r1 + register core r2) % 2 ^ 32)
-executed core (Vshd r1 r2 t) = puts core t ((register core r1 * 2 ^ 32 + register core r2) / 2 ^ core.shift % 2 ^ 32)
-executed core (Mtctl r) = Goes (record (advanced core) { shift = register core r % 32 })
-executed core (Comclr c f r1 r2 t) =
-    let holds = condition c (register core r1) (register core r2) in
-    Goes (with_register (moved core (next core) (if f then not holds else holds)) t 0)
-executed core (Subi im r t) = puts core t (unsigned_difference (cast_unsigned w32 im) (register core r))
-executed core (Extru r p len t) = puts core t (extracted (register core r) p len)
-executed core (Extrs r p len t) = puts core t (sign_extended len (extracted (register core r) p len))
-executed core (Zdep r p len t) = puts core t (deposited (register core r) p len)
-executed core (Combt c r1 r2 disp) = branches_if core (condition c (register core r1) (register core r2)) disp
-executed core (Combf c r1 r2 disp) = branches_if core (not (condition c (register core r1) (register core r2))) disp
-executed core (Bl disp t n) = Goes (with_register (moved core (target core disp) n) t (next core))
-executed core (Bv b n) = Goes (moved core (register core b) n)
-executed core (Ble b n) = Goes (with_register (moved core (register core b) n) routine_link (next core))
-executed core (Break im5 im13) = breaks core im5 im13
+executed core i = effect_of_action core (action (λ r. register core r) core.shift i)
 
 -- ---- the step at front
 

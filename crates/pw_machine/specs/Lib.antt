@@ -1,5 +1,5 @@
 -- Core: the machine's own state, its registers and its memory.
--- Effect: the table from each form of instruction to its effect.
+-- Effect: the effect of what an instruction does, and of a step.
 -- Run: one step over input and output, and runs of many steps.
 -- Start: the state in which a program begins.
 -- Stops: what a call of `run` answers.

@@ -1,14 +1,14 @@
 // Shifts, fields and conditions on words.
 
 ghost use Rattle.std.specs.Prelude.{◌≡◌, ◌+◌, ◌-◌, ◌*◌, ◌/◌, ◌%◌, ◌^◌, ◌<◌, ◌≤◌};
-ghost use Rattle.pw_machine.specs.Effect as effect;
+ghost use Rattle.pw_inst.specs.Computing as computing;
 
 use pw_value::words::{signed_at_most, signed_less};
 
 /// Whether a condition holds of two words.
 #[inline(always)]
 pub(crate) fn condition(c: u8, a: u32, b: u32) -> bool
-    ensures { result ≡ effect.condition c a b }
+    ensures { result ≡ computing.condition c a b }
 {
     match c {
         1 => a == b,
@@ -46,7 +46,7 @@ pub(crate) fn shifted(high: u32, low: u32, by: u32) -> u32
 pub(crate) fn extracted(word: u32, p: u8, len: u8) -> u32
     requires place { p < 32 }
     requires short { len ≤ 32 }
-    ensures { result ≡ effect.extracted word p len }
+    ensures { result ≡ computing.extracted word p len }
 {
     (u64::from(word >> (31 - p)) % power(len)) as u32
 }
@@ -57,7 +57,7 @@ pub(crate) fn extracted_signed(word: u32, p: u8, len: u8) -> u32
     requires place { p < 32 }
     requires some { 0 < len }
     requires short { len ≤ 32 }
-    ensures { result ≡ effect.sign_extended len (effect.extracted word p len) }
+    ensures { result ≡ computing.sign_extended len (computing.extracted word p len) }
 {
     let bits = u64::from(word >> (31 - p)) % power(len);
     if bits < power(len - 1) {
@@ -73,7 +73,7 @@ pub(crate) fn extracted_signed(word: u32, p: u8, len: u8) -> u32
 pub(crate) fn deposited(word: u32, p: u8, len: u8) -> u32
     requires place { p < 32 }
     requires short { len ≤ p + 1 }
-    ensures { result ≡ effect.deposited word p len }
+    ensures { result ≡ computing.deposited word p len }
 {
     let moved = u64::from(word) % power(len) * power(31 - p);
     moved as u32

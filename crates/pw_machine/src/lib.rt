@@ -1,7 +1,7 @@
 //! The machine: a simulator of 26 instructions of PA-RISC 1.1 over 64 MiB of memory, one source of
 //! input and one sink of output.
 //!
-//! `specs/` says what the machine is: its state (`Core`), the effect of each instruction (`Effect`),
+//! `specs/` says what the machine is: its state (`Core`), the effect of what an instruction does (`Effect`),
 //! steps and runs (`Run`), the start of an image's program (`Start`) and what `run` answers (`Stops`).
 #![tactic(auto)]
 

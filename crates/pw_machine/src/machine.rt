@@ -131,6 +131,13 @@ impl Machine {
         self.processor.front()
     }
 
+    /// Whether the next instruction is nullified: its step does nothing but clear the bit. Takes no memory.
+    pub fn is_nullified(&self) -> bool
+        ensures { result ≡ self.now.core.nullify }
+    {
+        self.processor.is_nullified()
+    }
+
     /// How many steps the machine took since the start; the count stays at the greatest 128-bit number.
     /// Takes no memory.
     pub fn steps(&self) -> u128

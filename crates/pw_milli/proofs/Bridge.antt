@@ -14,7 +14,8 @@ use Rattle.pw_inst.specs.declared.Inst.TheVariants.{Ldb, Ldh, Ldw, Ldo, Stb, Sth
 use Rattle.pw_inst.specs.InstructionTable.{decoded}
 use Rattle.pw_machine.specs.Core.{Core, register, with_register, next, moved, advanced, word_at}
 use Rattle.pw_value.specs.Words.{unsigned_difference}
-use Rattle.pw_machine.specs.Effect.{Effect, Goes, puts, extracted, sign_extended, deposited, executed, effect_of, is_in_text, branches_if}
+use Rattle.pw_inst.specs.Computing.{extracted, sign_extended, deposited}
+use Rattle.pw_machine.specs.Effect.{Effect, Goes, puts, executed, effect_of, is_in_text, branches_if}
 use Rattle.pw_machine.specs.Run.{State, Running, goes_on, taken, run_of}
 use Rattle.pw_milli.specs.Calls.{is_scratch, is_access, IsInside, StaysInside}
 use Rattle.pw_milli.proofs.Small.{Small, at, read, set, when, writes, hop, jumps, skips, is_field, does, inst_at, does_some, passed, small_step, then_run, small_run}

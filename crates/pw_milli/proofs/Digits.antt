@@ -3,7 +3,7 @@ use Rattle.std.proofs.Common.{ℕ, zero, suc, ◌+◌, ◌*◌, ◌%◌, ◌^◌
 use Rattle.std.specs.Prelude.{◌==◌, if◌then◌else◌}
 use Rattle.pw_inst.specs.declared.Inst.TheVariants.{Bv}
 use Rattle.pw_value.specs.Words.{unsigned_difference}
-use Rattle.pw_machine.specs.Effect.{extracted, deposited}
+use Rattle.pw_inst.specs.Computing.{extracted, deposited}
 use Rattle.pw_milli.proofs.Small.{at, small_run, run_on, inst_at}
 use Rattle.pw_milli.proofs.Codes.{multiplying}
 

@@ -8,7 +8,7 @@ use Rattle.std.specs.Int.Bits.{or_zero_r}
 use Rattle.std.proofs.lemmas.Bool.{ltb-true, ltb-false, leb-true, leb-false, eqb-true, eqb-false, eq-eqb, ne_eqb}
 use Rattle.std.proofs.Math.Nat.{add-mul, mul_assoc, zero-mul, le-mul_of_pos_right}
 use Rattle.pw_value.specs.Words.{unsigned_difference}
-use Rattle.pw_machine.specs.Effect.{extracted, deposited}
+use Rattle.pw_inst.specs.Computing.{extracted, deposited}
 use Rattle.pw_milli.proofs.Small.{at, Arrives, after, there, and_on, weaker, scaled}
 use Rattle.pw_milli.proofs.Codes.{dividing}
 use Rattle.pw_milli.proofs.Stretches.{zero_divisor, some_divisor, sixteenth, short_quotient, long_quotient, lesser_part, shift_on, shift_last, halved, first_bit, second_on, second_bit, third_on, third_bit, fourth_on, eights_clear, eights_set, fours_clear, fours_set, twos_clear, twos_set, ones_clear, ones_set, digit_last, digit_on}

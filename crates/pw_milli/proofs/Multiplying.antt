@@ -6,7 +6,7 @@ use Rattle.std.proofs.lemmas.Nat.{mul-mod_second}
 use Rattle.std.proofs.Math.Nat.{add-mul, mul_assoc, zero-mul}
 use Rattle.pw_inst.specs.declared.Inst.TheVariants.{Bv}
 use Rattle.pw_machine.specs.Run.{State}
-use Rattle.pw_machine.specs.Effect.{extracted, deposited}
+use Rattle.pw_inst.specs.Computing.{extracted, deposited}
 use Rattle.pw_milli.proofs.Small.{at, small_run, inst_at, scaled}
 use Rattle.pw_milli.proofs.Codes.{multiplying}
 use Rattle.pw_milli.proofs.Digits.{turns}

@@ -7,7 +7,7 @@ use Rattle.std.specs.Int.{cast_unsigned, w32}
 use Rattle.pw_inst.specs.declared.Inst.{Inst}
 use Rattle.pw_inst.specs.declared.Inst.TheVariants.{Ldb, Ldh, Ldw, Ldo, Stb, Sth, Stw, Ldil, And, Or, Xor, Sub, Addl, Vshd, Mtctl, Comclr, Subi, Extru, Extrs, Zdep, Combt, Combf, Bl, Bv, Ble, Break}
 use Rattle.pw_value.specs.Words.{unsigned_difference}
-use Rattle.pw_machine.specs.Effect.{condition, extracted, sign_extended, deposited}
+use Rattle.pw_inst.specs.Computing.{condition, extracted, sign_extended, deposited}
 use Rattle.pw_milli.specs.Calls.{is_scratch}
 
 pub record Small : Type 0 where

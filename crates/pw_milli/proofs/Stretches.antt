@@ -3,7 +3,7 @@
 use Rattle.std.proofs.Common.{ℕ, ◌+◌, ◌%◌, ◌^◌, ◌≡◌, Bool, true, false, not, Some, refl, ap, ◌∙◌}
 use Rattle.std.specs.Prelude.{◌==◌, nat_lt, nat_le, bit_or, if◌then◌else◌}
 use Rattle.pw_value.specs.Words.{unsigned_difference}
-use Rattle.pw_machine.specs.Effect.{extracted, deposited}
+use Rattle.pw_inst.specs.Computing.{extracted, deposited}
 use Rattle.pw_milli.proofs.Small.{at, small_run, run_on}
 use Rattle.pw_milli.proofs.Codes.{dividing}
 

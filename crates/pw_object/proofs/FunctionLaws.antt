@@ -12,9 +12,9 @@ use Rattle.pw_fields.proofs.FieldSteps.{finish, step, step_where, format}
 use Rattle.pw_fields.proofs.NameLaws.{name_spells, AllUsed}
 use Rattle.pw_files.specs.Rising.{counted, counted_at, FitsList}
 use Rattle.pw_files.proofs.RisingLaws.{counted_spells, each_weaker, used_append, used_front, used_back}
-use Rattle.pw_flowops.specs.Reading.{one_of_at}
-use Rattle.pw_flowops.proofs.FieldChains.{Takes, takes_field, takes_done, again_field, chained}
-use Rattle.pw_flowops.proofs.ChoiceLaws.{Any, one_spells}
+use Rattle.pw_flow_ops.specs.Reading.{one_of_at}
+use Rattle.pw_flow_ops.proofs.FieldChains.{Takes, takes_field, takes_done, again_field, chained}
+use Rattle.pw_flow_ops.proofs.ChoiceLaws.{Any, one_spells}
 use Rattle.pw_inst.specs.Limits.{routine_count}
 use Rattle.pw_inst.specs.declared.relocation.FixKind.{FixKind}
 use Rattle.pw_inst.specs.declared.relocation.FixKind.TheVariants as kind

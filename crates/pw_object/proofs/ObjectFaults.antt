@@ -14,7 +14,7 @@ use Rattle.pw_files.proofs.FaultLaws.{Keeps, keeps_behind, keeps_ended, contents
 use Rattle.pw_files.proofs.FaultLaws as files
 use Rattle.pw_inst.specs.Limits.{routine_count}
 use Rattle.pw_inst.specs.declared.relocation.Symbol.TheVariants as symbol
-use Rattle.pw_flowops.proofs.OnwardLaws.{choice_of_one}
+use Rattle.pw_flow_ops.proofs.OnwardLaws.{choice_of_one}
 use Rattle.pw_flowfile.proofs.FlowFaults.{global_body_onward}
 use Rattle.pw_object.specs.declared.functions.ObjectFn.{ObjectFn}
 use Rattle.pw_object.specs.declared.functions.SymbolForm.{SymbolForm}
@@ -78,5 +78,5 @@ fields_keep names rule =
     keeps_behind (counted_at (global_at names)) _ _ (λ globals. keeps_behind here _ _ (λ count. keeps_behind (counted_at (function_at names)) _ _ (λ functions.
     keeps_ended (rule (whole_object m flow directives declared used globals functions) count) (contents names (whole_object m flow directives declared used globals functions))))))))))
 
-pub faults_stay : FaultsStay kind object_version fields_at (λ bytes. value_of (object_file_at bytes))
-faults_stay = files.faults_stay kind object_version fields_at last_rules (contents_onward fields_at fields_onward) (contents_keep fields_at last_rules fields_keep)
+pub faults_stay : FaultsStay kind object_version object_version (λ version. fields_at) (λ bytes. value_of (object_file_at bytes))
+faults_stay = files.faults_stay kind object_version object_version (λ version. fields_at) last_rules (λ version. contents_onward fields_at fields_onward) (λ version. contents_keep fields_at last_rules fields_keep)

@@ -26,7 +26,7 @@ use Rattle.pw_flow.specs.FlowGraph.{names_in_global}
 use Rattle.pw_flow.specs.ValidFlow.{IsGlobal}
 use Rattle.pw_flowfile.specs.FlowFile.{global, global_body, all_in_global, FitsGlobal}
 use Rattle.pw_flowfile.specs.Reading.{global_body_at}
-use Rattle.pw_flowops.specs.Operations.{Named}
+use Rattle.pw_flow_ops.specs.Operations.{Named}
 use Rattle.pw_flowfile.proofs.GraphLaws.{GlobalFits, body_spells}
 use Rattle.pw_object.specs.declared.functions.ObjectFn.{ObjectFn}
 use Rattle.pw_object.specs.declared.object.Object.{Object}
@@ -244,13 +244,13 @@ contents_spells = contents_spell fields_at last_rules spelling body BodySteps Is
 -- ---- the file
 
 pub found_by : (bytes : List ℕ) (r : Result Object FileError) → AreBytes bytes → GivesFile (λ o. o) r (value_of (object_file_at bytes)) → IfOk r (IsObjectFile bytes)
-found_by = files.found_by kind object_version fields_at last_rules spelling IsRight contents_spells
+found_by = files.found_by kind object_version object_version (λ version. fields_at) last_rules (λ version. spelling) (λ version. IsRight) (λ version from to. contents_spells)
 
 pub only_by : (bytes : List ℕ) (r : Result Object FileError) → GivesFile (λ o. o) r (value_of (object_file_at bytes)) → (o : Object) → IsObjectFile bytes o → GivesFile (λ o. o) r (Ok o)
-only_by = files.only_by kind object_version fields_at last_rules spelling IsRight contents_spells (lit< tt) (lit< tt)
+only_by = files.only_by kind object_version object_version (λ version. fields_at) last_rules (λ version. spelling) (λ version. IsRight) (λ version from to. contents_spells) (lit< tt) (lit< tt)
 
 pub one_object : (bytes : List ℕ) (o p : Object) → IsObjectFile bytes o → IsObjectFile bytes p → o ≡ p
-one_object = files.one_value kind object_version fields_at last_rules spelling IsRight contents_spells (lit< tt) (lit< tt)
+one_object = files.one_value kind object_version object_version (λ version. fields_at) last_rules (λ version. spelling) (λ version. IsRight) (λ version from to. contents_spells) (lit< tt) (lit< tt)
 
 pub one_file : (bytes others : List ℕ) (o : Object) → IsObjectFile bytes o → IsObjectFile others o → bytes ≡ others
-one_file = files.one_file kind object_version spelling IsRight names_of (λ c is. is.names)
+one_file = files.one_file kind object_version object_version (λ version. spelling) (λ version. IsRight) names_of (files.one_version object_version (λ version. IsRight)) (λ n c is. is.names)

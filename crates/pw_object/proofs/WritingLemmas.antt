@@ -1,5 +1,5 @@
 -- What writing asks of an object's parts, and what it gives.
-use Rattle.std.proofs.Common.{◌≡◌, ℕ, List, [], ◌∷◌, length, map, Result, subst}
+use Rattle.std.proofs.Common.{◌≡◌, ℕ, List, [], ◌∷◌, length, map, Result, subst, arith}
 use Rattle.std.specs.Prelude.{Contains, IfOk, OnOk}
 use Rattle.std.specs.Global.{Vec}
 use Rattle.std.specs.List.{flat_map, AllByRecursion}
@@ -70,4 +70,4 @@ named_by names p table =
 pub made : {E : Type 0} (names : List (List ℕ)) (o : Object) (payload : List ℕ) (r : Result (Vec ℕ) E) → IsObject o → FitsObject o → FitsU32 (length names) → IsTableOf names (names_of o)
     → payload ≡ spelling (record { names = names; value = o }) → OnOk r (FitsFile payload) → IfOk r (λ v. v.items ≡ file kind object_version payload) → IfOk r (λ v. IsObjectFile v.items o)
 made names o payload r is fits count table same room sealed =
-    is_file kind object_version spelling (IsContents IsObject FitsObject names_of) (record { names = names; value = o }) payload r (record { lawful = is; fits = fits; name_count = count; names = table }) same room sealed
+    is_file kind object_version object_version object_version (λ version. spelling) (λ version. IsContents IsObject FitsObject names_of) (record { names = names; value = o }) payload r (omega arith) (omega arith) (record { lawful = is; fits = fits; name_count = count; names = table }) same room sealed

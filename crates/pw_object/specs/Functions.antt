@@ -5,7 +5,7 @@ use denote.Enum.Bare.{sameb}
 use Rattle.pw_fields.specs.Fields.{u8, u32, parts, FitsU32}
 use Rattle.pw_fields.specs.FieldNames.{name_index}
 use Rattle.pw_files.specs.Rising.{counted}
-use Rattle.pw_flowops.specs.Operations.{place}
+use Rattle.pw_flow_ops.specs.Operations.{place}
 use Rattle.pw_inst.specs.contracts.relocation.FixKind.{the_type as the_fix_kinds}
 use Rattle.pw_inst.specs.declared.relocation.FixKind.{FixKind}
 use Rattle.pw_inst.specs.declared.relocation.FixKind.TheVariants as kind

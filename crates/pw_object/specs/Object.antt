@@ -84,4 +84,4 @@ kind = 0x5041574f
 
 -- the bytes are the file of the object
 abbrev pub IsObjectFile : List ℕ → Object → Type 0
-IsObjectFile = IsFileWith kind object_version spelling (IsContents IsObject FitsObject names_of)
+IsObjectFile = IsFileWith kind object_version object_version (λ version. spelling) (λ version. IsContents IsObject FitsObject names_of)

@@ -8,7 +8,7 @@ use Rattle.pw_files.specs.Names.{name_list_at, shaped_list_at}
 use Rattle.pw_files.specs.Contents.{Contents, module_rules, contents_file_at}
 use Rattle.pw_value.specs.declared.program_names.StartName.TheVariants.{Allowed}
 use Rattle.pw_flow.specs.declared.flow.FlowGlobal.{FlowGlobal}
-use Rattle.pw_flowops.specs.Reading.{one_of_at}
+use Rattle.pw_flow_ops.specs.Reading.{one_of_at}
 use Rattle.pw_flowfile.specs.Reading.{global_body_at}
 use Rattle.pw_inst.specs.Limits.{routine_count}
 use Rattle.pw_inst.specs.declared.relocation.Symbol.{Symbol}
@@ -92,4 +92,4 @@ abbrev pub last_rules : List (List ℕ) → ℕ → Object → ℕ → Option �
 last_rules names behind o count = module_rules names (names_of o) behind (function_names o) (global_names o) count
 
 abbrev pub object_file_at : List ℕ → Result (Contents Object) ℕ
-object_file_at = contents_file_at kind_of_file object_version fields_at last_rules
+object_file_at = contents_file_at kind_of_file object_version object_version (λ version. fields_at) last_rules

@@ -4,13 +4,13 @@ ghost use Rattle.std.specs.Prelude.{◌≡◌, ◌≢◌, List, length, IfErr};
 ghost use Rattle.pw_fields.specs.Fields.{u32_at, repeated};
 ghost use Rattle.pw_fields.specs.FieldFaults.{Gives};
 ghost use Rattle.pw_files.specs.Rising.{counted_at};
-ghost use Rattle.pw_flowops.specs.Reading.{one_of_at};
+ghost use Rattle.pw_flow_ops.specs.Reading.{one_of_at};
 ghost use Rattle.pw_object.specs.Functions.{fix_kinds, symbol_forms};
 ghost use Rattle.pw_object.specs.Reading.{named_at, word_at, routine_at, symbol_of_form_at, symbol_at, fix_at, function_at};
 
 use pw_fields::names::read_name;
 use pw_fields::{FieldError, read_choice, read_u32};
-use pw_flowops::{read_below, read_one_of};
+use pw_flow_ops::{read_below, read_one_of};
 use pw_inst::{Fix, FixKind, ROUTINE_COUNT, Symbol};
 use pw_items::Items;
 use pw_value::Name;

@@ -34,5 +34,5 @@ pub fn objects_and_files_are_one_to_one()
 
 /// A fault lies within the bytes, and one of the fields rests on the bytes up to the faulty field's end.
 pub fn faults_stay()
-    ensures { FaultsStay kind object_version fields_at (λ bytes. value_of (object_file_at bytes)) }
+    ensures { FaultsStay kind object_version object_version (λ version. fields_at) (λ bytes. value_of (object_file_at bytes)) }
 {}

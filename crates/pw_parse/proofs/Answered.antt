@@ -8,10 +8,10 @@ use Rattle.pw_token.specs.Nesting.{nests_of}
 use Rattle.pw_token.specs.declared.token.Token.{Token}
 use Rattle.pw_tree.specs.Symbols.{Symbol}
 use Rattle.pw_tree.specs.Trees.{External, Module}
-use Rattle.pw_cursor.specs.declared.stop.Stop.{Stop}
-use Rattle.pw_cursor.specs.declared.stop.Stop.TheVariants as stop
-use Rattle.pw_grammar.specs.Input.{Input, Outcome, and_then}
-use Rattle.pw_grammar.specs.Modules.{externals, read, start}
+use Rattle.pw_parse_cursor.specs.declared.stop.Stop.{Stop}
+use Rattle.pw_parse_cursor.specs.declared.stop.Stop.TheVariants as stop
+use Rattle.pw_parse_grammar.specs.Input.{Input, Outcome, and_then}
+use Rattle.pw_parse_grammar.specs.Modules.{externals, read, start}
 use Rattle.pw_parse.specs.Parsing.{answer_of, fault_gives, parsed, symbol_in, unless_too_deep}
 use Rattle.pw_parse.specs.declared.parser.ParseFault.{ParseFault}
 use Rattle.pw_parse.specs.declared.parser.ParseFault.TheVariants.{Syntax, NoMemory}

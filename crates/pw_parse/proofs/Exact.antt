@@ -5,9 +5,9 @@ use Rattle.pw_token.specs.declared.token.Token.{Token}
 use Rattle.pw_tree.specs.Grammar.{spelled_all}
 use Rattle.pw_tree.specs.Symbols.{Spelled, symbol_of}
 use Rattle.pw_tree.specs.Trees.{Module}
-use Rattle.pw_grammar.specs.Answers.{IsAnswer, answer_in}
-use Rattle.pw_grammar.specs.Input.{Outcome}
-use Rattle.pw_grammar.specs.Modules.{read}
+use Rattle.pw_parse_grammar.specs.Answers.{IsAnswer, answer_in}
+use Rattle.pw_parse_grammar.specs.Input.{Outcome}
+use Rattle.pw_parse_grammar.specs.Modules.{read}
 use Rattle.pw_parse.specs.declared.parser.ParseFault.{ParseFault}
 use Rattle.pw_parse.specs.declared.parser.ParseFault.TheVariants.{TooDeep, Syntax, NoMemory}
 use Rattle.pw_parse.specs.Parsing.{symbol_in, answer_of, unless_too_deep, first_too_deep, read_in, parsed, Parses, ParsesAs, Answers}

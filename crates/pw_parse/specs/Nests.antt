@@ -2,9 +2,9 @@
 use Rattle.std.specs.Prelude.{ℕ, Result}
 use Rattle.std.specs.declared.alloc.Global.{Global}
 use denote.Ref.{MutBor}
-use Rattle.pw_cursor.specs.declared.stop.Stop.{Stop}
-use Rattle.pw_grammar.specs.Input.{Input, Parser}
-use Rattle.pw_cursor.specs.Reads.{Reads}
+use Rattle.pw_parse_cursor.specs.declared.stop.Stop.{Stop}
+use Rattle.pw_parse_grammar.specs.Input.{Input, Parser}
+use Rattle.pw_parse_cursor.specs.Reads.{Reads}
 
 -- What is read, seen by a view, is what the parser reads that has the limit of expressions and declarations and the depth.
 pub record Nests {V A : Type 0} (view : V → A) (parser : ℕ → ℕ → Parser A) (limit depth : ℕ)

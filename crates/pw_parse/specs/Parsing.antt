@@ -10,10 +10,10 @@ use Rattle.pw_tree.specs.Symbols.{Symbol, symbol_of}
 use Rattle.pw_tree.specs.Trees.{Module}
 use Rattle.pw_parse.specs.declared.parser.ParseFault.{ParseFault}
 use Rattle.pw_parse.specs.declared.parser.ParseFault.TheVariants.{TooDeep, Syntax, NoMemory}
-use Rattle.pw_cursor.specs.declared.stop.Stop.{Stop}
-use Rattle.pw_cursor.specs.declared.stop.Stop.TheVariants as stop
-use Rattle.pw_grammar.specs.Input.{Outcome}
-use Rattle.pw_grammar.specs.Modules.{read}
+use Rattle.pw_parse_cursor.specs.declared.stop.Stop.{Stop}
+use Rattle.pw_parse_cursor.specs.declared.stop.Stop.TheVariants as stop
+use Rattle.pw_parse_grammar.specs.Input.{Outcome}
+use Rattle.pw_parse_grammar.specs.Modules.{read}
 
 -- a token of a text, as the grammar knows it
 abbrev pub symbol_in : List ℕ → Token → Option Symbol

@@ -1,10 +1,10 @@
 //! The parsers of the parts of declarations, to a depth.
 
 use crate::init::init;
-use pw_cursor::{Stop, Tokens};
-use pw_declarations::DeclParts;
-use pw_grammar::Place;
-use pw_phrase::{Declared, read_declarator, read_specifiers};
+use pw_parse_cursor::{Stop, Tokens};
+use pw_parse_decl::DeclParts;
+use pw_parse_grammar::Place;
+use pw_parse_knot::{Declared, read_declarator, read_specifiers};
 use pw_tree::{Init, Specifier};
 use std::alloc::Global;
 

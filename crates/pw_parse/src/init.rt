@@ -1,13 +1,13 @@
 //! The knot of initializers, which hold one another: each is read with the parser of the smaller ones, to a depth.
 
-ghost use Rattle.pw_cursor.specs.Reads.{Reads};
-ghost use Rattle.pw_grammar.specs.Declarations as spec;
+ghost use Rattle.pw_parse_cursor.specs.Reads.{Reads};
+ghost use Rattle.pw_parse_grammar.specs.Declarations as spec;
 ghost use Rattle.pw_parse.specs.Nests.{Nests};
 ghost use Rattle.pw_tree.specs.Views.{view_init};
 
-use pw_cursor::{Stop, Tokens};
-use pw_declarations::{InitParts, init_of};
-use pw_phrase::read_expr;
+use pw_parse_cursor::{Stop, Tokens};
+use pw_parse_decl::{InitParts, init_of};
+use pw_parse_knot::read_expr;
 use pw_tree::{Expr, Init};
 use std::alloc::{AllocError, Global};
 

@@ -1,20 +1,20 @@
 //! Translation units (C90 6.7).
 
 ghost use Rattle.std.specs.Prelude.{◌≡◌, map};
-ghost use Rattle.pw_grammar.specs.Input.{declare_all};
-ghost use Rattle.pw_grammar.specs.Modules as spec;
-ghost use Rattle.pw_cursor.specs.Reads.{Reads, unit};
-ghost use Rattle.pw_cursor.specs.Views.{view_binding};
-ghost use Rattle.pw_parts.specs.Views.{view_behind, view_declared, view_specifier_list};
+ghost use Rattle.pw_parse_grammar.specs.Input.{declare_all};
+ghost use Rattle.pw_parse_grammar.specs.Modules as spec;
+ghost use Rattle.pw_parse_cursor.specs.Reads.{Reads, unit};
+ghost use Rattle.pw_parse_cursor.specs.Views.{view_binding};
+ghost use Rattle.pw_parse_parts.specs.Views.{view_behind, view_declared, view_specifier_list};
 ghost use Rattle.pw_parse.specs.Views.{external_first, view_external_list};
 ghost use Rattle.pw_tree.specs.Views.{view_external};
 
 use crate::decl::ToDepth;
 use crate::stmt::body;
-use pw_cursor::{Binding, Stop, Tokens, has_type, has_typedef};
-use pw_declarations::{declaration_with, declarations};
-use pw_grammar::Place;
-use pw_phrase::{Declared, declare_name, read_declarator, read_specifiers};
+use pw_parse_cursor::{Binding, Stop, Tokens, has_type, has_typedef};
+use pw_parse_decl::{declaration_with, declarations};
+use pw_parse_grammar::Place;
+use pw_parse_knot::{Declared, declare_name, read_declarator, read_specifiers};
 use pw_tree::{Decl, External, Function, Mark, Specifier};
 use std::alloc::Global;
 
@@ -37,7 +37,7 @@ fn declare_behind<'a>(tokens: &mut Tokens<'a>, behind: Option<Vec<Binding<'a>>>)
 }
 
 /// Behind the first declarator stands what makes a declaration.
-#[tactic(auto, unfolding(pw_grammar::specs::Modules::goes_on_as_declaration))]
+#[tactic(auto, unfolding(pw_parse_grammar::specs::Modules::goes_on_as_declaration))]
 fn goes_on_as_declaration(tokens: &Tokens<'_>) -> bool
     ensures { result ≡ spec.goes_on_as_declaration tokens.now }
 {
@@ -45,7 +45,7 @@ fn goes_on_as_declaration(tokens: &Tokens<'_>) -> bool
 }
 
 /// A function from the declarations behind its declarator on (C90 6.7.1). The parameters in the suffix nearest to its name are visible in its body.
-#[tactic(auto, unfolding(pw_grammar::specs::Modules::function))]
+#[tactic(auto, unfolding(pw_parse_grammar::specs::Modules::function))]
 fn function<'a>(
     alloc: Global,
     tokens: &mut Tokens<'a>,
@@ -70,7 +70,7 @@ fn function<'a>(
     }))
 }
 
-#[tactic(auto, unfolding(pw_grammar::specs::Modules::external_with))]
+#[tactic(auto, unfolding(pw_parse_grammar::specs::Modules::external_with))]
 fn external_with<'a>(
     alloc: Global,
     tokens: &mut Tokens<'a>,
@@ -88,7 +88,7 @@ fn external_with<'a>(
 }
 
 /// An external declaration from its first declarator on.
-#[tactic(auto, unfolding(pw_grammar::specs::Modules::external_named))]
+#[tactic(auto, unfolding(pw_parse_grammar::specs::Modules::external_named))]
 fn external_named<'a>(
     alloc: Global,
     tokens: &mut Tokens<'a>,
@@ -103,7 +103,7 @@ fn external_named<'a>(
 }
 
 /// C90 6.7
-#[tactic(auto, unfolding(pw_grammar::specs::Modules::external, pw_grammar::specs::Modules::external_behind))]
+#[tactic(auto, unfolding(pw_parse_grammar::specs::Modules::external, pw_parse_grammar::specs::Modules::external_behind))]
 fn external<'a>(alloc: Global, tokens: &mut Tokens<'a>, limit: usize) -> Result<External, Stop>
     ensures { Reads external_first (spec.external limit tokens.old) result tokens.new }
 {
@@ -121,7 +121,7 @@ fn external<'a>(alloc: Global, tokens: &mut Tokens<'a>, limit: usize) -> Result<
 }
 
 /// External declarations, one or more, up to the end of the text.
-#[tactic(auto, unfolding(pw_grammar::specs::Modules::externals))]
+#[tactic(auto, unfolding(pw_parse_grammar::specs::Modules::externals))]
 pub fn externals<'a>(
     alloc: Global,
     tokens: &mut Tokens<'a>,

@@ -1,15 +1,15 @@
 //! The knot of statements, which hold one another: each is read with the parser of the smaller ones, to a depth.
 
-ghost use Rattle.pw_cursor.specs.Reads.{Reads};
-ghost use Rattle.pw_grammar.specs.Statements as spec;
+ghost use Rattle.pw_parse_cursor.specs.Reads.{Reads};
+ghost use Rattle.pw_parse_grammar.specs.Statements as spec;
 ghost use Rattle.pw_parse.specs.Nests.{Nests};
 ghost use Rattle.pw_tree.specs.Views.{view_block, view_stmt};
 
 use crate::decl::ToDepth;
-use pw_cursor::{Stop, Tokens};
-use pw_declarations::declarations;
-use pw_phrase::read_expr;
-use pw_statements::{StmtParts, block, stmt_of};
+use pw_parse_cursor::{Stop, Tokens};
+use pw_parse_decl::declarations;
+use pw_parse_knot::read_expr;
+use pw_parse_stmt::{StmtParts, block, stmt_of};
 use pw_tree::{Block, Decl, Expr, Stmt};
 use std::alloc::{AllocError, Global};
 

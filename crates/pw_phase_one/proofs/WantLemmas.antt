@@ -1,15 +1,15 @@
 -- No refusal is for want of memory.
 use Rattle.std.proofs.Common.{◌≡◌, ℕ, List, Ok, Err, sym, ap, ◌∙◌}
 use Rattle.std.specs.Prelude.{◌↔◌, ◌≢◌}
-use Rattle.pw_front.specs.Fronts.{Front, Fronts, HoldsNoWant, front_of}
-use Rattle.pw_front.specs.declared.refusal.Refusal.{Refusal}
-use Rattle.pw_front.specs.declared.refusal.Refusal.TheVariants.{Lex, Unsupported, Parse, Check}
+use Rattle.pw_front_end.specs.Fronts.{Front, Fronts, HoldsNoWant, front_of}
+use Rattle.pw_front_end.specs.declared.refusal.Refusal.{Refusal}
+use Rattle.pw_front_end.specs.declared.refusal.Refusal.TheVariants.{Lex, Unsupported, Parse, Check}
 use Rattle.pw_phase_one.specs.FirstPhase.{Compiles, Phase, compiled}
-use Rattle.pw_walk.specs.declared.fault.CheckFault.{CheckFault}
-use Rattle.pw_walk.specs.declared.fault.CheckKind.TheVariants.{NoMemory}
-use Rattle.pw_walk.specs.Causes.{Constraint, DeclaredIdentifier, Within, kind_of}
-use Rattle.pw_walk.specs.Walks.{Walk}
-use Rattle.pw_walk.specs.Answers.{Stops, AtPoint, AtEnd}
+use Rattle.pw_check_walk.specs.declared.fault.CheckFault.{CheckFault}
+use Rattle.pw_check_walk.specs.declared.fault.CheckKind.TheVariants.{NoMemory}
+use Rattle.pw_check_walk.specs.Causes.{Constraint, DeclaredIdentifier, Within, kind_of}
+use Rattle.pw_check_walk.specs.Walks.{Walk}
+use Rattle.pw_check_walk.specs.Answers.{Stops, AtPoint, AtEnd}
 
 -- ---- a constraint that is broken is no want of memory
 

@@ -1,15 +1,15 @@
 -- The first phase: from a module's text to its flow graph, or to its first refusal.
 use Rattle.std.specs.Prelude.{◌≡◌, ℕ, List, Result, Ok, Err}
 use Rattle.pw_tree.specs.Trees.{Module}
-use Rattle.pw_front.specs.Fronts.{Front, Fronts, HasTree, front_of}
-use Rattle.pw_front.specs.declared.refusal.FrontError.{FrontError}
-use Rattle.pw_front.specs.declared.refusal.FrontError.TheVariants.{Refused, NoMemory}
-use Rattle.pw_front.specs.declared.refusal.Refusal.{Refusal}
-use Rattle.pw_front.specs.declared.refusal.Refusal.TheVariants.{Check}
-use Rattle.pw_walk.specs.declared.fault.CheckFault.{CheckFault}
-use Rattle.pw_walk.specs.declared.fault.CheckKind.{CheckKind}
-use Rattle.pw_walk.specs.declared.fault.CheckKind.TheVariants as check
-use Rattle.pw_rules.specs.Checks.{Checks, checked}
+use Rattle.pw_front_end.specs.Fronts.{Front, Fronts, HasTree, front_of}
+use Rattle.pw_front_end.specs.declared.refusal.FrontError.{FrontError}
+use Rattle.pw_front_end.specs.declared.refusal.FrontError.TheVariants.{Refused, NoMemory}
+use Rattle.pw_front_end.specs.declared.refusal.Refusal.{Refusal}
+use Rattle.pw_front_end.specs.declared.refusal.Refusal.TheVariants.{Check}
+use Rattle.pw_check_walk.specs.declared.fault.CheckFault.{CheckFault}
+use Rattle.pw_check_walk.specs.declared.fault.CheckKind.{CheckKind}
+use Rattle.pw_check_walk.specs.declared.fault.CheckKind.TheVariants as check
+use Rattle.pw_check_rules.specs.Checks.{Checks, checked}
 use Rattle.pw_types.specs.TypedTrees.{ModuleValue}
 use Rattle.pw_flow.specs.declared.flow.FlowModule.{FlowModule}
 use Rattle.pw_lower.specs.Modules.{lowered}

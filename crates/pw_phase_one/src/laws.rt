@@ -1,12 +1,12 @@
 //! Laws of the first phase.
 
 ghost use Rattle.std.specs.Prelude.{◌≡◌, ◌↔◌, ℕ, List, Err};
-ghost use Rattle.pw_front.specs.Fronts.{HoldsNoWant};
-ghost use Rattle.pw_front.specs.declared.refusal.Refusal.{Refusal};
+ghost use Rattle.pw_front_end.specs.Fronts.{HoldsNoWant};
+ghost use Rattle.pw_front_end.specs.declared.refusal.Refusal.{Refusal};
 ghost use Rattle.pw_phase_one.specs.FirstPhase.{Compiles, Phase, compiled};
 
-use pw_front::front_is_exact;
-use pw_rules::checks_is_exact;
+use pw_check_rules::checks_is_exact;
+use pw_front_end::front_is_exact;
 
 /// A module has one answer, and it is that of the function.
 pub fn phase_one_is_exact()

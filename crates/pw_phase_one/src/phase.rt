@@ -4,20 +4,20 @@ ghost use Rattle.std.specs.Prelude.{◌≡◌, IfOk};
 ghost use Rattle.pw_flow.specs.ValidFlow.{IsValid};
 ghost use Rattle.pw_lower.specs.Modules.{lowered};
 ghost use Rattle.pw_phase_one.specs.FirstPhase.{Gives, by_checking, compiled, error_of, told};
-ghost use Rattle.pw_rules.specs.Checks.{checked};
+ghost use Rattle.pw_check_rules.specs.Checks.{checked};
 ghost use Rattle.pw_tree.specs.Views.{view_module};
 ghost use Rattle.pw_typed.specs.Views as typed;
 
 use pw_check::check;
+use pw_check_rules::checks_is_exact;
+use pw_check_walk::{CheckFault, CheckKind};
 use pw_flow::FlowModule;
-use pw_front::{FrontError, Refusal, front};
-use pw_lawful::is_valid;
+use pw_flow_valid::is_valid;
+use pw_front_end::{FrontError, Refusal, front};
 use pw_lstmt::lower_module;
-use pw_rules::checks_is_exact;
 use pw_tree::Module;
 use pw_typed::TModule;
 use pw_value::{Name, NoMemory};
-use pw_walk::{CheckFault, CheckKind};
 use std::alloc::Global;
 
 /// Why the first phase gives no flow graph: the text is refused, or memory ran out.

@@ -1,14 +1,14 @@
 -- What a build did, in the words of sessions.
 use Rattle.std.proofs.Common.{Option, Result, Ok, Err}
 use Rattle.pw_io.specs.Files.{Files, Told}
-use Rattle.pw_answer.specs.Effects.{PutsFiles}
-use Rattle.pw_driving.specs.FromBuild.BuildFault.{BuildFault}
-use Rattle.pw_driving.specs.FromBuild.BuildFault.TheVariants as build
-use Rattle.pw_driving.specs.FromBuild.Unbuilt.{Unbuilt}
-use Rattle.pw_driving.specs.FromBuilding.Opts.{Opts}
-use Rattle.pw_driving.specs.FromBuilding.Report.{Report}
-use Rattle.pw_driving.specs.FromBuilding.Building.{BuildComes, Outcome, puts_of}
-use Rattle.pw_driving.specs.FromBuilding.Outcomes.{AnswersBuild, FaultFound, IsBuildFound, ObeysBuild, Reports, build_answer}
+use Rattle.pw_top_answer.specs.Effects.{PutsFiles}
+use Rattle.pw_build_command.specs.FromBuild.BuildFault.{BuildFault}
+use Rattle.pw_build_command.specs.FromBuild.BuildFault.TheVariants as build
+use Rattle.pw_build_command.specs.FromBuild.Unbuilt.{Unbuilt}
+use Rattle.pw_build_command.specs.FromBuilding.Opts.{Opts}
+use Rattle.pw_build_command.specs.FromBuilding.Report.{Report}
+use Rattle.pw_build_command.specs.FromBuilding.Building.{BuildComes, Outcome, puts_of}
+use Rattle.pw_build_command.specs.FromBuilding.Outcomes.{AnswersBuild, FaultFound, IsBuildFound, ObeysBuild, Reports, build_answer}
 use Rattle.pw_session.specs.Builds.{BuildsTo}
 
 to_build : (files : Files) (opts : Opts) (comes : Result Outcome BuildFault) → BuildComes files opts.colours opts.stack comes → BuildsTo files opts comes

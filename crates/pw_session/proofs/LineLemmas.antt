@@ -5,23 +5,23 @@ use Rattle.pw_io.specs.declared.StoreError.{StoreError}
 use Rattle.pw_io.specs.declared.StoreError.TheVariants as store
 use Rattle.pw_io.specs.Faults.{HasStoreCause, OnFailed, OnNoMemory}
 use Rattle.pw_io.specs.Files.{Files, Keeps, Told, LeavesFile, PutsPart}
-use Rattle.pw_modules.specs.Modules.{is_module_file, modules_of}
-use Rattle.pw_answer.specs.declared.answer.Answer.{Answer}
-use Rattle.pw_answer.specs.declared.answer.Answer.TheVariants.{Done, Refused, LinkRefused, StoreFault, NoMemory}
-use Rattle.pw_answer.specs.Answers.{line_text}
-use Rattle.pw_answer.specs.Effects.{PutsFiles}
-use Rattle.pw_answer.specs.Outcomes.{IsWhole, OutputCount, PutsOut, StoreCount, store_answer}
-use Rattle.pw_driving.specs.FromBuild.BuildFault.{BuildFault}
-use Rattle.pw_driving.specs.FromBuild.BuildFault.TheVariants as build
-use Rattle.pw_driving.specs.FromBuild.Unbuilt.{Unbuilt}
-use Rattle.pw_driving.specs.FromBuild.Phases.{IsLine, refused_line}
-use Rattle.pw_driving.specs.FromBuilding.Opts.{Opts}
-use Rattle.pw_driving.specs.FromBuilding.Report.{Report}
-use Rattle.pw_driving.specs.FromBuilding.Building.{Outcome, puts_of}
-use Rattle.pw_driving.specs.FromBuilding.Lines.{report_lines, report_text}
-use Rattle.pw_driving.specs.FromBuilding.Outcomes.{AnswersBuild, FaultComes, ObeysBuild, PutsSome, Reports, fault_answer}
-use Rattle.pw_driving.specs.Driving.{IsPrintAnswer, outcome_lines}
-use Rattle.pw_script.specs.Script.{LineValue, PutText, RemoveText, BuildProgram, RunProgram}
+use Rattle.pw_store_modules.specs.Modules.{is_module_file, modules_of}
+use Rattle.pw_top_answer.specs.declared.answer.Answer.{Answer}
+use Rattle.pw_top_answer.specs.declared.answer.Answer.TheVariants.{Done, Refused, LinkRefused, StoreFault, NoMemory}
+use Rattle.pw_top_answer.specs.Answers.{line_text}
+use Rattle.pw_top_answer.specs.Effects.{PutsFiles}
+use Rattle.pw_top_answer.specs.Outcomes.{IsPrintAnswer, IsWhole, OutputCount, PutsOut, StoreCount, store_answer}
+use Rattle.pw_build_command.specs.FromBuild.BuildFault.{BuildFault}
+use Rattle.pw_build_command.specs.FromBuild.BuildFault.TheVariants as build
+use Rattle.pw_build_command.specs.FromBuild.Unbuilt.{Unbuilt}
+use Rattle.pw_build_command.specs.FromBuild.Phases.{IsLine, refused_line}
+use Rattle.pw_build_command.specs.FromBuilding.Opts.{Opts}
+use Rattle.pw_build_command.specs.FromBuilding.Report.{Report}
+use Rattle.pw_build_command.specs.FromBuilding.Building.{Outcome, puts_of}
+use Rattle.pw_build_command.specs.FromBuilding.Lines.{report_lines, report_text}
+use Rattle.pw_build_command.specs.FromBuilding.Outcomes.{AnswersBuild, FaultComes, ObeysBuild, PutsSome, Reports, fault_answer}
+use Rattle.pw_build_command.specs.Driving.{outcome_lines}
+use Rattle.pw_session_script.specs.Script.{LineValue, PutText, RemoveText, BuildProgram, RunProgram}
 use Rattle.pw_session.specs.declared.opts.SessionOpts.{SessionOpts}
 use Rattle.pw_session.specs.Builds.{BuildsTo}
 use Rattle.pw_session.specs.Changes.{AreOwnChanges, Change, MakesChanges, MakesSome, Puts, Removes, after_changes}

@@ -1,9 +1,9 @@
 -- What was put out, piece by piece.
 use Rattle.std.proofs.Common.{◌≡◌, ℕ, List, [], ◌++◌, Option, Some, None, refl, sym, ap, ◌∙◌, subst, append_assoc, append-nil}
 use Rattle.pw_io.specs.Streams.{Appends}
-use Rattle.pw_answer.specs.declared.answer.Answer.{Answer}
-use Rattle.pw_answer.specs.declared.answer.Answer.TheVariants.{ReadFault, WriteFault, StoreFault, NoMemory}
-use Rattle.pw_answer.specs.Outcomes.{IsWhole, PutsOut}
+use Rattle.pw_top_answer.specs.declared.answer.Answer.{Answer}
+use Rattle.pw_top_answer.specs.declared.answer.Answer.TheVariants.{ReadFault, WriteFault, StoreFault, NoMemory}
+use Rattle.pw_top_answer.specs.Outcomes.{IsWhole, PutsOut}
 
 -- nothing need be whole
 abbrev pub MayStop : Answer → Type 0

@@ -3,14 +3,14 @@ use Rattle.std.proofs.Common.{◌≡◌, ◌≢◌, ℕ, zero, suc, ◌+◌, ◌
 use Rattle.std.specs.Prelude.{IfSome}
 use Rattle.std.specs.Option.{option_map_or}
 use Rattle.pw_io.specs.Files.{Told}
-use Rattle.pw_answer.specs.declared.answer.Answer.{Answer}
-use Rattle.pw_answer.specs.declared.answer.Answer.TheVariants.{Done, ReadFault, WriteFault, StoreFault, NoMemory, BadScript}
-use Rattle.pw_answer.specs.Outcomes.{Answers, PutsOut}
-use Rattle.pw_script.specs.declared.line.TakenLine.{TakenLine}
-use Rattle.pw_script.specs.declared.line.ScriptFault.{ScriptFault}
-use Rattle.pw_script.specs.declared.line.ScriptFault.TheVariants as script
-use Rattle.pw_script.specs.Reading.{ReadsLine, line_view}
-use Rattle.pw_script.specs.Script.{LineValue, first_line}
+use Rattle.pw_top_answer.specs.declared.answer.Answer.{Answer}
+use Rattle.pw_top_answer.specs.declared.answer.Answer.TheVariants.{Done, ReadFault, WriteFault, StoreFault, NoMemory, BadScript}
+use Rattle.pw_top_answer.specs.Outcomes.{Answers, PutsOut}
+use Rattle.pw_session_script.specs.declared.line.TakenLine.{TakenLine}
+use Rattle.pw_session_script.specs.declared.line.ScriptFault.{ScriptFault}
+use Rattle.pw_session_script.specs.declared.line.ScriptFault.TheVariants as script
+use Rattle.pw_session_script.specs.Reading.{ReadsLine, line_view}
+use Rattle.pw_session_script.specs.Script.{LineValue, first_line}
 use Rattle.pw_session.specs.declared.opts.SessionOpts.{SessionOpts}
 use Rattle.pw_session.specs.declared.session.Turn.{Turn}
 use Rattle.pw_session.specs.declared.session.Turn.TheVariants.{Over, Obeyed}

@@ -4,16 +4,15 @@ use Rattle.std.specs.Prelude.{IfSome}
 use Rattle.pw_io.specs.Files.{Told}
 use Rattle.pw_io.specs.Streams.{TakesNext}
 use Rattle.pw_io.specs.declared.Failed.{Failed}
-use Rattle.pw_answer.specs.declared.answer.Answer.{Answer}
-use Rattle.pw_answer.specs.declared.answer.Answer.TheVariants.{Done, ReadFault, WriteFault, StoreFault, NoMemory, BadScript}
-use Rattle.pw_answer.specs.Outcomes.{InputCount, OutputCount, StoreCount}
-use Rattle.pw_driving.specs.FromBuilding.Genuine.{KeepsGenuine}
-use Rattle.pw_driving.specs.Driving.{IsPrintAnswer}
-use Rattle.pw_script.specs.declared.line.TakenLine.{TakenLine}
-use Rattle.pw_script.specs.declared.line.ScriptFault.{ScriptFault}
-use Rattle.pw_script.specs.declared.line.ScriptFault.TheVariants as script
-use Rattle.pw_script.specs.Reading.{IsReadInPart, ReadsLine, ScriptCount}
-use Rattle.pw_script.specs.Script.{taken_limit}
+use Rattle.pw_top_answer.specs.declared.answer.Answer.{Answer}
+use Rattle.pw_top_answer.specs.declared.answer.Answer.TheVariants.{Done, ReadFault, WriteFault, StoreFault, NoMemory, BadScript}
+use Rattle.pw_top_answer.specs.Outcomes.{InputCount, IsPrintAnswer, OutputCount, StoreCount}
+use Rattle.pw_build_command.specs.FromBuilding.Genuine.{KeepsGenuine}
+use Rattle.pw_session_script.specs.declared.line.TakenLine.{TakenLine}
+use Rattle.pw_session_script.specs.declared.line.ScriptFault.{ScriptFault}
+use Rattle.pw_session_script.specs.declared.line.ScriptFault.TheVariants as script
+use Rattle.pw_session_script.specs.Reading.{IsReadInPart, ReadsLine, ScriptCount}
+use Rattle.pw_session_script.specs.Script.{taken_limit}
 use Rattle.pw_session.specs.declared.session.Turn.{Turn}
 use Rattle.pw_session.specs.declared.session.Turn.TheVariants.{Over, Obeyed}
 use Rattle.pw_session.specs.Changes.{MakesSome, after_changes}

@@ -4,24 +4,24 @@ use Rattle.std.specs.Fmt.{decimal}
 use Rattle.std.specs.FinMap as finite
 use Rattle.pw_fields.specs.Fields.{parts}
 use Rattle.pw_value.specs.declared.fault.LinkFault.TheVariants as link
-use Rattle.pw_front.specs.Fronts.{HoldsNoWant}
+use Rattle.pw_front_end.specs.Fronts.{HoldsNoWant}
 use Rattle.hex.specs.Hex.{encode_lower}
 use Rattle.sha2.specs.Sha256.{sha256}
 use Rattle.pw_io.specs.Files.{Files}
 use Rattle.pw_image.specs.declared.image.Image.{Image}
 use Rattle.pw_image.specs.Image.{Contents, IsImageFile}
 use Rattle.pw_machine.specs.Start.{image_start}
-use Rattle.pw_modules.specs.Modules.{modules_of}
-use Rattle.pw_answer.specs.declared.answer.Answer.{Answer}
-use Rattle.pw_answer.specs.declared.answer.Answer.TheVariants.{Done, Refused, LinkRefused, WriteFault, NoMemory}
-use Rattle.pw_answer.specs.Effects.{Effect, answers_alone, prints}
-use Rattle.pw_answer.specs.Outcomes.{Answers, IsLineDue, PutsOut}
+use Rattle.pw_store_modules.specs.Modules.{modules_of}
+use Rattle.pw_top_answer.specs.declared.answer.Answer.{Answer}
+use Rattle.pw_top_answer.specs.declared.answer.Answer.TheVariants.{Done, Refused, LinkRefused, WriteFault, NoMemory}
+use Rattle.pw_top_answer.specs.Effects.{Effect, answers_alone, prints}
+use Rattle.pw_top_answer.specs.Outcomes.{Answers, IsLineDue, PutsOut}
 use Rattle.pw_gen.specs.Generator.{functions_of_a_module, generated}
-use Rattle.pw_driving.specs.FromBuild.BuildFault.{BuildFault}
-use Rattle.pw_driving.specs.FromBuild.Phases.{refused_line}
-use Rattle.pw_driving.specs.FromBuilding.Building.{Outcome}
-use Rattle.pw_driving.specs.FromBuilding.Outcomes.{fault_answer}
-use Rattle.pw_running.specs.Running.{run_answer}
+use Rattle.pw_build_command.specs.FromBuild.BuildFault.{BuildFault}
+use Rattle.pw_build_command.specs.FromBuild.Phases.{refused_line}
+use Rattle.pw_build_command.specs.FromBuilding.Building.{Outcome}
+use Rattle.pw_build_command.specs.FromBuilding.Outcomes.{fault_answer}
+use Rattle.pw_commands_run.specs.Running.{run_answer}
 use Rattle.pw_session.specs.declared.opts.SessionOpts.{SessionOpts}
 use Rattle.pw_session.specs.Builds.{BuildsTo}
 use Rattle.pw_session.specs.Runs.{is_stop, runs_as, stop_text}

@@ -2,11 +2,11 @@
 use Rattle.std.specs.Prelude.{◌≡◌, ℕ, ◌⊎◌, List, [], ◌∷◌, ◌++◌, Option, Some, IsSomeAnd}
 use Rattle.std.specs.List.{AllByRecursion}
 use Rattle.pw_io.specs.Files.{Told, after_put, after_remove, LeavesFile}
-use Rattle.pw_modules.specs.Modules.{IsModuleFile}
-use Rattle.pw_answer.specs.declared.answer.Answer.{Answer}
-use Rattle.pw_answer.specs.declared.answer.Answer.TheVariants.{ReadFault, WriteFault, StoreFault, NoMemory}
-use Rattle.pw_answer.specs.Effects.{NamedFile}
-use Rattle.pw_driving.specs.FromBuilding.Genuine.{IsBuiltName}
+use Rattle.pw_store_modules.specs.Modules.{IsModuleFile}
+use Rattle.pw_top_answer.specs.declared.answer.Answer.{Answer}
+use Rattle.pw_top_answer.specs.declared.answer.Answer.TheVariants.{ReadFault, WriteFault, StoreFault, NoMemory}
+use Rattle.pw_top_answer.specs.Effects.{NamedFile}
+use Rattle.pw_build_command.specs.FromBuilding.Genuine.{IsBuiltName}
 
 -- a file is put, or the one of a name is removed
 pub data Change : Type 0 where

@@ -1,2 +1,2 @@
--- The definitions of pw_driving that crates above name.
-pub use Rattle.pw_driving.specs.Driving
+-- The definitions of pw_build_command that crates above name.
+pub use Rattle.pw_build_command.specs.Driving

@@ -2,20 +2,19 @@
 use Rattle.std.specs.Prelude.{◌≡◌, ℕ, ◌+◌, ◌≤◌, suc, List, [], ◌++◌, length, Option, Some, None, IfSome, IsSomeAnd, Vec, option_map}
 use Rattle.std.specs.declared.alloc.Global.{Global}
 use Rattle.pw_io.specs.Files.{Told}
-use Rattle.pw_answer.specs.declared.answer.Answer.{Answer}
-use Rattle.pw_answer.specs.declared.answer.Answer.TheVariants.{Done, ReadFault, WriteFault, StoreFault, NoMemory, BadScript}
-use Rattle.pw_answer.specs.Outcomes.{Answers, PutsOut}
-use Rattle.pw_answer.specs.Answers.{line_text}
-use Rattle.pw_driving.specs.FromBuild.BuildFault.{BuildFault}
-use Rattle.pw_driving.specs.FromBuild.BuildFault.TheVariants as build
-use Rattle.pw_driving.specs.FromBuilding.Outcomes.{HoldsImage, fault_answer}
-use Rattle.pw_driving.specs.Driving.{IsPrintAnswer}
-use Rattle.pw_script.specs.declared.line.TakenLine.{TakenLine}
-use Rattle.pw_script.specs.declared.line.ScriptFault.{ScriptFault}
-use Rattle.pw_script.specs.declared.line.ScriptFault.TheVariants as script
-use Rattle.pw_script.specs.declared.line.ScriptFault.TheVariants.{BadLine}
-use Rattle.pw_script.specs.Reading.{IsReadInPart}
-use Rattle.pw_script.specs.Script.{LineValue, first_line, taken_limit}
+use Rattle.pw_top_answer.specs.declared.answer.Answer.{Answer}
+use Rattle.pw_top_answer.specs.declared.answer.Answer.TheVariants.{Done, ReadFault, WriteFault, StoreFault, NoMemory, BadScript}
+use Rattle.pw_top_answer.specs.Outcomes.{Answers, IsPrintAnswer, PutsOut}
+use Rattle.pw_top_answer.specs.Answers.{line_text}
+use Rattle.pw_build_command.specs.FromBuild.BuildFault.{BuildFault}
+use Rattle.pw_build_command.specs.FromBuild.BuildFault.TheVariants as build
+use Rattle.pw_build_command.specs.FromBuilding.Outcomes.{HoldsImage, fault_answer}
+use Rattle.pw_session_script.specs.declared.line.TakenLine.{TakenLine}
+use Rattle.pw_session_script.specs.declared.line.ScriptFault.{ScriptFault}
+use Rattle.pw_session_script.specs.declared.line.ScriptFault.TheVariants as script
+use Rattle.pw_session_script.specs.declared.line.ScriptFault.TheVariants.{BadLine}
+use Rattle.pw_session_script.specs.Reading.{IsReadInPart}
+use Rattle.pw_session_script.specs.Script.{LineValue, first_line, taken_limit}
 use Rattle.pw_session.specs.declared.opts.SessionOpts.{SessionOpts}
 use Rattle.pw_session.specs.declared.session.Turn.{Turn}
 use Rattle.pw_session.specs.declared.session.Turn.TheVariants.{Over, Obeyed}

@@ -1,7 +1,7 @@
 -- Which files a session may remove.
 use Rattle.std.specs.Prelude.{◌≡◌, ℕ, List, Option, Some, None, Contains}
-use Rattle.pw_modules.specs.Modules.{IsModuleFile}
-use Rattle.pw_script.specs.Script.{LineValue, RemoveText, first_line}
+use Rattle.pw_store_modules.specs.Modules.{IsModuleFile}
+use Rattle.pw_session_script.specs.Script.{LineValue, RemoveText, first_line}
 use Rattle.pw_session.specs.Session.{lines_of}
 
 -- the line removes the file, which is a module's

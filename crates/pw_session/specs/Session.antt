@@ -2,16 +2,16 @@
 use Rattle.std.specs.Prelude.{◌≡◌, ℕ, zero, suc, ◌+◌, ◌-◌, List, [], ◌∷◌, ◌++◌, codes, length, map, Option, Some, None, Result, Ok, Err}
 use Rattle.std.specs.Option.{option_map_or}
 use Rattle.pw_io.specs.Files.{Told}
-use Rattle.pw_modules.specs.Modules.{modules_of}
-use Rattle.pw_answer.specs.declared.answer.Answer.{Answer}
-use Rattle.pw_answer.specs.declared.answer.Answer.TheVariants.{Done, BadScript}
-use Rattle.pw_answer.specs.Answers.{line_text}
-use Rattle.pw_driving.specs.FromBuild.BuildFault.{BuildFault}
-use Rattle.pw_driving.specs.FromBuild.Phases.{refused_line}
-use Rattle.pw_driving.specs.FromBuilding.Building.{Outcome}
-use Rattle.pw_driving.specs.FromBuilding.Outcomes.{fault_answer}
-use Rattle.pw_driving.specs.Driving.{outcome_lines}
-use Rattle.pw_script.specs.Script.{LineValue, PutText, RemoveText, BuildProgram, RunProgram, first_line}
+use Rattle.pw_store_modules.specs.Modules.{modules_of}
+use Rattle.pw_top_answer.specs.declared.answer.Answer.{Answer}
+use Rattle.pw_top_answer.specs.declared.answer.Answer.TheVariants.{Done, BadScript}
+use Rattle.pw_top_answer.specs.Answers.{line_text}
+use Rattle.pw_build_command.specs.FromBuild.BuildFault.{BuildFault}
+use Rattle.pw_build_command.specs.FromBuild.Phases.{refused_line}
+use Rattle.pw_build_command.specs.FromBuilding.Building.{Outcome}
+use Rattle.pw_build_command.specs.FromBuilding.Outcomes.{fault_answer}
+use Rattle.pw_build_command.specs.Driving.{outcome_lines}
+use Rattle.pw_session_script.specs.Script.{LineValue, PutText, RemoveText, BuildProgram, RunProgram, first_line}
 use Rattle.pw_session.specs.declared.opts.SessionOpts.{SessionOpts}
 use Rattle.pw_session.specs.Builds.{BuildsTo}
 use Rattle.pw_session.specs.Changes.{Change, Puts, Removes, after_changes}

@@ -1,27 +1,26 @@
 //! What a line of a session's script does.
 
 ghost use Rattle.std.specs.Prelude.{◌≡◌, [], ◌∷◌, IfSome, Some, codes, true};
-ghost use Rattle.pw_modules.specs.Modules.{is_module_file};
-ghost use Rattle.pw_answer.specs.Answers.{line_text};
-ghost use Rattle.pw_answer.specs.Outcomes.{OutputCount, PutsOut, StoreCount};
-ghost use Rattle.pw_driving.specs.FromBuilding.Genuine.{KeepsGenuine};
-ghost use Rattle.pw_driving.specs.FromBuilding.Outcomes.{AreOpts};
-ghost use Rattle.pw_driving.specs.Driving.{IsPrintAnswer};
-ghost use Rattle.pw_script.specs.Reading.{line_view};
-ghost use Rattle.pw_script.specs.Script.{BuildProgram, NamesModule};
+ghost use Rattle.pw_store_modules.specs.Modules.{is_module_file};
+ghost use Rattle.pw_top_answer.specs.Answers.{line_text};
+ghost use Rattle.pw_top_answer.specs.Outcomes.{IsPrintAnswer, OutputCount, PutsOut, StoreCount};
+ghost use Rattle.pw_build_command.specs.FromBuilding.Genuine.{KeepsGenuine};
+ghost use Rattle.pw_build_command.specs.FromBuilding.Outcomes.{AreOpts};
+ghost use Rattle.pw_session_script.specs.Reading.{line_view};
+ghost use Rattle.pw_session_script.specs.Script.{BuildProgram, NamesModule};
 ghost use Rattle.pw_session.specs.Changes.{MakesSome, Puts, Removes, after_changes};
 ghost use Rattle.pw_session.specs.Removals.{IsRemovedBy};
 ghost use Rattle.pw_session.specs.Outcomes.{Does, IsLineAnswer, IsObeyed, KeepsImage, ObeysLine, SaysFault, image_view};
 
 use crate::opts::SessionOpts;
 use crate::runs::run_image;
-use pw_answer::{Answer, line_of};
-use pw_driving::{
-    BuildFault, Unbuilt, answer_of, build_uncounted, module_texts_are_no_objects, print, put_report,
+use pw_build_command::{
+    BuildFault, Unbuilt, answer_of, build_uncounted, module_texts_are_no_objects, put_report,
 };
 use pw_io::laws::other_files;
 use pw_io::{Sink, Store};
-use pw_script::Line;
+use pw_session_script::Line;
+use pw_top_answer::{Answer, line_of, print};
 use std::alloc::{AllocError, Global};
 
 /// Puts a text into a module's file.

@@ -1,16 +1,14 @@
 //! The run of an image, as a session and `bench` tell it.
 
 ghost use Rattle.std.specs.Prelude.{◌≡◌, IfOk, option_map};
-ghost use Rattle.pw_answer.specs.Outcomes.{OutputCount, PutsOut};
-ghost use Rattle.pw_driving.specs.Driving.{IsPrintAnswer};
+ghost use Rattle.pw_top_answer.specs.Outcomes.{IsPrintAnswer, OutputCount, PutsOut};
 ghost use Rattle.pw_session.specs.Outcomes.{KeepsImage, ObeysRun};
 ghost use Rattle.pw_session.specs.Runs.{is_stop, ran_text, runs_as, stop_line, stop_text};
 
-use pw_answer::{Answer, halt_name};
-use pw_driving::print;
+use pw_commands_run::run_machine;
 use pw_io::{Sink, SureSource};
 use pw_machine::{Halt, LoadError, Machine};
-use pw_running::run_machine;
+use pw_top_answer::{Answer, halt_name, print};
 use pw_value::Word;
 use std::alloc::{AllocError, Global};
 

@@ -1,11 +1,11 @@
 //! Sessions.
 
 ghost use Rattle.std.specs.Prelude.{◌≡◌, IfSome};
-ghost use Rattle.pw_answer.specs.Outcomes.{InputCount, OutputCount, StoreCount};
-ghost use Rattle.pw_driving.specs.FromBuilding.Genuine.{KeepsGenuine};
-ghost use Rattle.pw_driving.specs.FromBuilding.Outcomes.{AreOpts};
-ghost use Rattle.pw_script.specs.Reading.{IsReadInPart, line_view};
-ghost use Rattle.pw_script.specs.Script.{NamesModule};
+ghost use Rattle.pw_top_answer.specs.Outcomes.{InputCount, OutputCount, StoreCount};
+ghost use Rattle.pw_build_command.specs.FromBuilding.Genuine.{KeepsGenuine};
+ghost use Rattle.pw_build_command.specs.FromBuilding.Outcomes.{AreOpts};
+ghost use Rattle.pw_session_script.specs.Reading.{IsReadInPart, line_view};
+ghost use Rattle.pw_session_script.specs.Script.{NamesModule};
 ghost use Rattle.pw_session.specs.Changes.{MakesSome};
 ghost use Rattle.pw_session.specs.Session.{lines_limit};
 ghost use Rattle.pw_session.specs.Removals.{IsRemovedBy, MayRemove, MayRemoveFirst};
@@ -13,9 +13,9 @@ ghost use Rattle.pw_session.specs.Outcomes.{EndsAs, EndsTurn, IsLastAnswer, IsRe
 
 use crate::lines::obey_line;
 use crate::opts::SessionOpts;
-use pw_answer::Answer;
 use pw_io::{Failed, Sink, Source, Store};
-use pw_script::{ScriptFault, TakenLine, next_line};
+use pw_session_script::{ScriptFault, TakenLine, next_line};
+use pw_top_answer::Answer;
 use std::alloc::Global;
 
 /// The greatest count of lines of a script.

@@ -2,12 +2,13 @@
 use Rattle.std.proofs.Common.{◌≡◌, ℕ, ◌<◌, Bool, true, false, cond, List, [], ◌∷◌, length, get_or, map, refl, sym, ap, subst, ◌∙◌, inl, inr}
 use Rattle.std.specs.Prelude.{Contains, Option, Some, None}
 use Rattle.std.specs.List.{HoldsAt}
+use Rattle.std.specs.Option.{option_or}
 use Rattle.std.proofs.lemmas.List.{get_or_default}
 use Rattle.std.specs.Str.{bytes_eq}
 use Rattle.std.proofs.lemmas.Slice.Eq.{bytes_eq-Decides}
 use Rattle.pw_fields.specs.FieldNames.{IsTableOf}
 use Rattle.pw_files.specs.Rising.{IsRising, IsRisingBehind}
-use Rattle.pw_summarise.specs.Summarises.{IsOrdered, shape_in, if_function, or_else, function_shape, as_taken, as_escaped, taken_of, escaped_of}
+use Rattle.pw_summarise.specs.Summarises.{IsOrdered, shape_in, if_function, function_shape, as_taken, as_escaped, taken_of, escaped_of}
 use Rattle.pw_files.proofs.Standing.{Has, contains_by, has_by, has_map}
 use Rattle.pw_files.proofs.ByteOrder.{differ, behind, less_differs}
 use Rattle.pw_summarise.proofs.Orders.{IsPick, picked_ordered, flat_same}
@@ -81,8 +82,8 @@ same_shape source fs is name = same_by source fs is name (shape_in fs name) (sha
 
 same_function_shape : (functions declared fs ds : List (List ℕ × List ℕ)) → IsOrdered (λ f. f.0) functions fs → IsOrdered (λ d. d.0) declared ds → (name : List ℕ) → function_shape fs ds name ≡ function_shape functions declared name
 same_function_shape functions declared fs ds one two name =
-    ap (λ (o : Option (List ℕ)). or_else o (if_function (shape_in ds name))) (same_shape functions fs one name)
-    ∙ ap (λ (o : Option (List ℕ)). or_else (shape_in functions name) (if_function o)) (same_shape declared ds two name)
+    ap (λ (o : Option (List ℕ)). option_or o (if_function (shape_in ds name))) (same_shape functions fs one name)
+    ∙ ap (λ (o : Option (List ℕ)). option_or (shape_in functions name) (if_function o)) (same_shape declared ds two name)
 
 -- ---- names whose address is taken
 

@@ -1,6 +1,7 @@
 -- What a summary says of a module's flow graph.
 use Rattle.std.specs.Prelude.{ℕ, ◌≡◌, ◌*◌, ◌-◌, ◌^◌, ◌↔◌, ◌==◌, Bool, false, if◌then◌else◌, Option, Some, None, List, [], ◌∷◌, ◌++◌, map, min, count_by, Contains}
 use Rattle.std.specs.List.{flat_map, sum_by}
+use Rattle.std.specs.Option.{option_or}
 use Rattle.std.specs.Str.{bytes_eq}
 use Rattle.pw_value.specs.declared.value.Kind.{Kind}
 pub use Rattle.pw_flow.specs.Addressed.{addressed}
@@ -92,13 +93,9 @@ abbrev pub if_function : Option (List ℕ) → Option (List ℕ)
 if_function None = None
 if_function (Some shape) = if is_function_shape shape then Some shape else None
 
-abbrev pub or_else : Option (List ℕ) → Option (List ℕ) → Option (List ℕ)
-or_else None other = other
-or_else (Some shape) other = Some shape
-
 -- the shape of a function: of its definition, or else of its declaration
 abbrev pub function_shape : List (List ℕ × List ℕ) → List (List ℕ × List ℕ) → List ℕ → Option (List ℕ)
-function_shape functions declared name = or_else (shape_in functions name) (if_function (shape_in declared name))
+function_shape functions declared name = option_or (shape_in functions name) (if_function (shape_in declared name))
 
 abbrev pub as_taken : List ℕ → Option (List ℕ) → List (List ℕ × List ℕ)
 as_taken name None = []

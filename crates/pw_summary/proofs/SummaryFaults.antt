@@ -57,5 +57,5 @@ fields_keep names rule =
     keeps_behind (name_at names) _ _ (λ name. keeps_behind (defined_at names) _ _ (λ d. keeps_behind (used_at names (length d.0.functions)) _ _ (λ u.
     keeps_ended (rule (whole_summary name d.0 u) d.1) (contents names name d.0 u))))
 
-pub faults_stay : FaultsStay kind summary_version fields_at (λ bytes. value_of (summary_file_at bytes))
-faults_stay = files.faults_stay kind summary_version fields_at last_rules (contents_onward fields_at fields_onward) (contents_keep fields_at last_rules fields_keep)
+pub faults_stay : FaultsStay kind summary_version summary_version (λ version. fields_at) (λ bytes. value_of (summary_file_at bytes))
+faults_stay = files.faults_stay kind summary_version summary_version (λ version. fields_at) last_rules (λ version. contents_onward fields_at fields_onward) (λ version. contents_keep fields_at last_rules fields_keep)

@@ -306,13 +306,13 @@ contents_spells = contents_spell fields_at last_rules spelling body BodySteps (I
 -- ---- the file
 
 pub found_by : (bytes : List ℕ) (r : Result Summary FileError) → AreBytes bytes → GivesFile (λ s. s) r (value_of (summary_file_at bytes)) → IfOk r (IsSummaryFile bytes)
-found_by = files.found_by kind summary_version fields_at last_rules spelling (IsContents IsSummary FitsSummary names_of) contents_spells
+found_by = files.found_by kind summary_version summary_version (λ version. fields_at) last_rules (λ version. spelling) (λ version. IsContents IsSummary FitsSummary names_of) (λ version from to. contents_spells)
 
 pub only_by : (bytes : List ℕ) (r : Result Summary FileError) → GivesFile (λ s. s) r (value_of (summary_file_at bytes)) → (s : Summary) → IsSummaryFile bytes s → GivesFile (λ s. s) r (Ok s)
-only_by = files.only_by kind summary_version fields_at last_rules spelling (IsContents IsSummary FitsSummary names_of) contents_spells (lit< tt) (lit< tt)
+only_by = files.only_by kind summary_version summary_version (λ version. fields_at) last_rules (λ version. spelling) (λ version. IsContents IsSummary FitsSummary names_of) (λ version from to. contents_spells) (lit< tt) (lit< tt)
 
 pub one_summary : (bytes : List ℕ) (s t : Summary) → IsSummaryFile bytes s → IsSummaryFile bytes t → s ≡ t
-one_summary = files.one_value kind summary_version fields_at last_rules spelling (IsContents IsSummary FitsSummary names_of) contents_spells (lit< tt) (lit< tt)
+one_summary = files.one_value kind summary_version summary_version (λ version. fields_at) last_rules (λ version. spelling) (λ version. IsContents IsSummary FitsSummary names_of) (λ version from to. contents_spells) (lit< tt) (lit< tt)
 
 pub one_file : (bytes others : List ℕ) (s : Summary) → IsSummaryFile bytes s → IsSummaryFile others s → bytes ≡ others
-one_file = files.one_file kind summary_version spelling (IsContents IsSummary FitsSummary names_of) names_of (λ c is. is.names)
+one_file = files.one_file kind summary_version summary_version (λ version. spelling) (λ version. IsContents IsSummary FitsSummary names_of) names_of (files.one_version summary_version (λ version. IsContents IsSummary FitsSummary names_of)) (λ n c is. is.names)

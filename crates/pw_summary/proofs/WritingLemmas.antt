@@ -1,5 +1,5 @@
 -- What writing asks of a summary's parts, and what it gives.
-use Rattle.std.proofs.Common.{◌≡◌, ℕ, List, [], ◌∷◌, length, map, All, Result, subst}
+use Rattle.std.proofs.Common.{◌≡◌, ℕ, List, [], ◌∷◌, length, map, All, Result, subst, arith}
 use Rattle.std.specs.Prelude.{Contains, IfOk, OnOk}
 use Rattle.std.specs.Global.{Vec}
 use Rattle.std.specs.List.{flat_map, AllByRecursion}
@@ -60,4 +60,4 @@ named_by names s table =
 
 pub is_file : {E : Type 0} (names : List (List ℕ)) (s : Summary) (payload : List ℕ) (r : Result (Vec ℕ) E) → IsSummary s → FitsSummary s → FitsU32 (length names) → IsTableOf names (names_of s)
     → payload ≡ spelling (record { names = names; value = s }) → OnOk r (FitsFile payload) → IfOk r (λ v. v.items ≡ file kind summary_version payload) → IfOk r (λ v. IsSummaryFile v.items s)
-is_file names s payload r is fits count table same room made = files.is_file kind summary_version spelling (IsContents IsSummary FitsSummary names_of) (record { names = names; value = s }) payload r (record { lawful = is; fits = fits; name_count = count; names = table }) same room made
+is_file names s payload r is fits count table same room made = files.is_file kind summary_version summary_version summary_version (λ version. spelling) (λ version. IsContents IsSummary FitsSummary names_of) (record { names = names; value = s }) payload r (omega arith) (omega arith) (record { lawful = is; fits = fits; name_count = count; names = table }) same room made

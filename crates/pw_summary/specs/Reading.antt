@@ -77,4 +77,4 @@ fields_at names late = do
   let summary = whole_summary name defined.0 used in ended (late summary defined.1) (record { names = names; value = summary })
 
 abbrev pub summary_file_at : List ℕ → Result (Contents Summary) ℕ
-summary_file_at = contents_file_at kind summary_version fields_at last_rules
+summary_file_at = contents_file_at kind summary_version summary_version (λ version. fields_at) last_rules

@@ -120,4 +120,4 @@ summary_version = 1
 
 -- the bytes are the file of the summary
 abbrev pub IsSummaryFile : List ℕ → Summary → Type 0
-IsSummaryFile = IsFileWith kind summary_version spelling (IsContents IsSummary FitsSummary names_of)
+IsSummaryFile = IsFileWith kind summary_version summary_version (λ version. spelling) (λ version. IsContents IsSummary FitsSummary names_of)

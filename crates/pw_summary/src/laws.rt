@@ -23,5 +23,5 @@ pub fn summaries_and_files_are_one_to_one()
 
 /// A fault lies within the bytes, and one of the fields rests on the bytes up to the faulty field's end.
 pub fn faults_stay()
-    ensures { FaultsStay kind summary_version fields_at (λ bytes. value_of (summary_file_at bytes)) }
+    ensures { FaultsStay kind summary_version summary_version (λ version. fields_at) (λ bytes. value_of (summary_file_at bytes)) }
 {}

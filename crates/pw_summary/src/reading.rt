@@ -284,16 +284,21 @@ impl Format for SummaryFormat {
 
     ghost KIND = { kind_of_file };
 
+    const FIRST: u32 = VERSION;
+
+    ghost FIRST = { summary_version };
+
     const VERSION: u32 = VERSION;
 
     ghost VERSION = { summary_version };
 
-    ghost fields = { fields_at };
+    ghost fields = { λ version. fields_at };
 
     ghost late = { last_rules };
 
     fn read_parts<'a>(
         alloc: Global,
+        _version: u32,
         names: &[Name],
         bytes: &'a [u8],
     ) -> Result<(Summary, usize, &'a [u8]), FieldError> {

@@ -1,9 +1,9 @@
 //! Whether flow graphs are lawful.
 
 use pw_flow::{FlowFn, FlowModule};
+use pw_flow_valid::is_valid;
 use pw_flowfile::read;
 use pw_items::Items;
-use pw_lawful::is_valid;
 use pw_rows::Text;
 use pw_value::{Name, Shape};
 use std::alloc::{AllocError, Global};

@@ -1,7 +1,7 @@
 //! Texts with their refusals and the lines of these, read by hand.
 
 use crate::modules::{Parts, text_of};
-use pw_front::{FrontError, Refusal, front, refusal_line};
+use pw_front_end::{FrontError, Refusal, front, refusal_line};
 use pw_parse::ParseFault;
 use pw_token::{Feature, LexFault};
 use std::alloc::{AllocError, Global};

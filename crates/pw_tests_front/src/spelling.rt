@@ -1,13 +1,13 @@
-//! Texts whose trees are spelled out again: each form of a tree stands in one of them. The table of `pw_texts` has the
+//! Texts whose trees are spelled out again: each form of a tree stands in one of them. The table of `pw_tests_texts` has the
 //! shapes of such trees.
 
 ghost use Rattle.pw_token.specs.Tokenization.{IsLexed};
 
 use crate::modules::{CALCULATOR, Parts, text_of, tokens_of};
 use pw_parse::parse;
-use pw_spell::{Spelled, spell};
 use pw_token::Token;
 use pw_tree::Module;
+use pw_tree_spell::{Spelled, spell};
 use std::alloc::Global;
 use std::test::Fail;
 

@@ -2,7 +2,7 @@
 
 use crate::stores::words_of;
 use pw_rows::Text;
-use pw_words::{Command, WordsFault, command};
+use pw_top_words::{Command, WordsFault, command};
 
 /// The word of a command.
 fn word_of(command: &Command) -> &'static str {

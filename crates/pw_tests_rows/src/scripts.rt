@@ -2,7 +2,7 @@
 
 use pw_io::{MemSource, Source};
 use pw_rows::Text;
-use pw_script::{ScriptFault, next_line};
+use pw_session_script::{ScriptFault, next_line};
 use std::alloc::{AllocError, Global};
 
 /// More lines than a row has.

@@ -6,7 +6,7 @@ mod failing;
 
 use failing::{Call, Failing, Fault};
 use pw_io::{Sink, Source, Store, StoreError};
-use pw_system::{CurrentFolder, FileStore, StdSink, StdSource};
+use pw_io_system::{CurrentFolder, FileStore, StdSink, StdSource};
 use std::fs;
 use std::io::{self, BufWriter, ErrorKind, Write};
 use std::os::unix::fs::symlink;

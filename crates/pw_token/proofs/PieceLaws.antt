@@ -7,7 +7,7 @@ use Rattle.pw_token.proofs.LineLaws.{comment-front, comment-reaches, marker-begi
 use Rattle.pw_token.proofs.Runs.{either}
 use Rattle.pw_token.proofs.ByteFacts.{and-split, and-left, and-right}
 use Rattle.pw_token.proofs.TokenLaws.{token-complete, token-sound}
-use Rattle.pw_token.specs.Pieces.{piece_at, token_at, line_at, found_piece, longest_at, begins_marker, is_blank}
+use Rattle.pw_token.specs.Pieces.{piece_at, token_at, hash_line_at, found_piece, longest_at, begins_marker, is_blank}
 use Rattle.pw_token.specs.Scanning.{run, comment_len, is_splice}
 use Rattle.pw_token.specs.Tokenization.{Stands, IsComment, IsHashLine, IsMarker, IsTokenHere, IsTokenPlace, NothingStands}
 use Rattle.pw_token.specs.declared.bytes.Class.TheVariants as class
@@ -39,7 +39,7 @@ comment-piece : (ls : Bool) (t : List ℕ) → piece_at ls (47 ∷ 42 ∷ t) ≡
 unfolding piece_at
 comment-piece ls t = refl
 
-hash-piece : (t : List ℕ) → piece_at true (35 ∷ t) ≡ line_at (35 ∷ t)
+hash-piece : (t : List ℕ) → piece_at true (35 ∷ t) ≡ hash_line_at (35 ∷ t)
 unfolding piece_at
 hash-piece t = refl
 
@@ -88,7 +88,7 @@ line-stands : (s after : List ℕ) (marker : Bool) → IsHashLine s after → be
 line-stands s after marker h m =
     let e : s ++ after ≡ 35 ∷ (h.0 ++ after) = ap (λ x. x ++ after) h.1 in
     let len = hash-len s after h in
-    ap (piece_at true) e ∙ hash-piece (h.0 ++ after) ∙ ap line_at (sym e)
+    ap (piece_at true) e ∙ hash-piece (h.0 ++ after) ∙ ap hash_line_at (sym e)
     ∙ ap (λ x. Some (cond x piece.LineMarker (piece.Token Directive), run class.InLine (s ++ after))) m
     ∙ ap (λ n. Some (cond marker piece.LineMarker (piece.Token Directive), n)) len
 
@@ -175,7 +175,7 @@ comment-sounds ls t h k = sound-found ls t piece.Comment (comment_len t) (λ l.
     let b = comment-front t h k l in
     record { front = b.front; rest = b.rest; split = b.split; len = b.len; stands = b.holds })
 
-line-sounds : (b : ℕ) (t : List ℕ) → b ≡ 35 → Sound true (b ∷ t) (line_at (b ∷ t))
+line-sounds : (b : ℕ) (t : List ℕ) → b ≡ 35 → Sound true (b ∷ t) (hash_line_at (b ∷ t))
 line-sounds b t e =
     let h = hash-line b t e in
     sound-some true (b ∷ t) _ (record {
@@ -210,14 +210,14 @@ place-here ls b [] h k = k
 place-here ls b (c ∷ t) h k = (h, k)
 
 rest-sounds : (ls : Bool) (b : ℕ) (t : List ℕ) → (eqb b 47 && eqb (slice_index t 0) 42) ≡ false
-    → Sound ls (b ∷ t) (cond (ls && eqb b 35) (line_at (b ∷ t)) (token_at (b ∷ t)))
+    → Sound ls (b ∷ t) (cond (ls && eqb b 35) (hash_line_at (b ∷ t)) (token_at (b ∷ t)))
 rest-sounds ls b t n =
     elim (either (ls && eqb b 35)) [
       | inl h ↦
           let both = and-split ls (eqb b 35) h in
-          subst (λ x. Sound ls (b ∷ t) (cond x (line_at (b ∷ t)) (token_at (b ∷ t)))) (sym h)
-          (subst (λ x. Sound x (b ∷ t) (line_at (b ∷ t))) (sym both.0) (line-sounds b t (eqb-true b 35 both.1)))
-      | inr k ↦ subst (λ x. Sound ls (b ∷ t) (cond x (line_at (b ∷ t)) (token_at (b ∷ t)))) (sym k) (token-sounds ls (b ∷ t) (place-here ls b t n k))
+          subst (λ x. Sound ls (b ∷ t) (cond x (hash_line_at (b ∷ t)) (token_at (b ∷ t)))) (sym h)
+          (subst (λ x. Sound x (b ∷ t) (hash_line_at (b ∷ t))) (sym both.0) (line-sounds b t (eqb-true b 35 both.1)))
+      | inr k ↦ subst (λ x. Sound ls (b ∷ t) (cond x (hash_line_at (b ∷ t)) (token_at (b ∷ t)))) (sym k) (token-sounds ls (b ∷ t) (place-here ls b t n k))
     ]
 
 pub piece-sound : (ls : Bool) (b : ℕ) (t : List ℕ) (p : Piece) → piece_at ls (b ∷ t) ≡ Some p → StandsHere ls (b ∷ t) p

@@ -1,5 +1,5 @@
 -- Classes of bytes that the spelling rules of C90 name.
-use Rattle.std.specs.Prelude.{◌≡◌, ℕ, Bool, true, not, ◌||◌, ◌==◌, List, [], ◌∷◌, nat_le, ◌&&◌}
+use Rattle.std.specs.Prelude.{◌≡◌, ℕ, Bool, true, not, ◌||◌, ◌==◌, if◌then◌else◌, List, [], ◌∷◌, nat_le, ◌&&◌, Option, Some, None, is_some}
 use Rattle.std.specs.Char.{is_ascii_digit, is_ascii_hexdigit, is_ascii_alphabetic}
 use Rattle.pw_token.specs.declared.bytes.Class.{Class}
 use Rattle.pw_token.specs.declared.bytes.Class.TheVariants.{Gap, Digit, OctalDigit, HexDigit, Word, InLine}
@@ -37,6 +37,19 @@ is_u b = is_either b 117 85
 abbrev pub is_l : ℕ → Bool
 is_l b = is_either b 108 76
 
--- one of ' " `?` \ a b f n r t v, which stand behind a backslash
+-- What an escape of one byte behind the backslash stands for (6.1.3.4): a quote, `?` and a backslash for themselves, and
+-- a, b, f, n, r, t, v for alert, backspace, form feed, newline, carriage return, tab and vertical tab.
+abbrev pub simple_escape : ℕ → Option ℕ
+simple_escape b =
+    if b == 39 || b == 34 || b == 63 || b == 92 then Some b else
+    if b == 97 then Some 7 else
+    if b == 98 then Some 8 else
+    if b == 102 then Some 12 else
+    if b == 110 then Some 10 else
+    if b == 114 then Some 13 else
+    if b == 116 then Some 9 else
+    if b == 118 then Some 11 else
+    None
+
 abbrev pub is_simple_escape : ℕ → Bool
-is_simple_escape b = b == 39 || b == 34 || b == 63 || b == 92 || b == 97 || b == 98 || b == 102 || b == 110 || b == 114 || b == 116 || b == 118
+is_simple_escape b = is_some (simple_escape b)

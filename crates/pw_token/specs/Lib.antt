@@ -4,6 +4,7 @@ pub mod Levels
 pub mod Limits
 pub mod Nesting
 pub mod Pieces
+pub mod Places
 pub mod Roles
 pub mod Scanning
 pub mod Spelling

@@ -38,8 +38,8 @@ token_at t = found_piece (Token (longest_at t).0) (longest_at t).1
 abbrev pub begins_marker : List ℕ → Bool
 begins_marker t = is_in class.Digit (slice_index t (1 + run class.Gap (drop 1 t)))
 
-abbrev pub line_at : List ℕ → Option (PieceKind × ℕ)
-line_at t = Some (if begins_marker t then LineMarker else Token Directive, run class.InLine t)
+abbrev pub hash_line_at : List ℕ → Option (PieceKind × ℕ)
+hash_line_at t = Some (if begins_marker t then LineMarker else Token Directive, run class.InLine t)
 
 abbrev pub is_blank : ℕ → Bool
 is_blank b = is_in class.Gap b || b == 10
@@ -49,5 +49,5 @@ piece_at line_start t =
     if is_blank (slice_index t 0) then Some (Blank, 1)
     else (if is_splice t then Some (Blank, 2)
     else (if slice_index t 0 == 47 && slice_index t 1 == 42 then found_piece Comment (comment_len t)
-    else (if line_start && slice_index t 0 == 35 then line_at t
+    else (if line_start && slice_index t 0 == 35 then hash_line_at t
     else token_at t)))

@@ -1,5 +1,5 @@
 -- Tokenization: a text is cut into blanks, comments, line markers and tokens.
-use Rattle.std.specs.Prelude.{◌≡◌, ℕ, ◌+◌, ◌<◌, ◌≤◌, Bool, true, false, ◌&&◌, ◌||◌, ◌==◌, ◌⊎◌, List, [], ◌∷◌, ◌++◌, length, Result, Ok, Err, ⊤}
+use Rattle.std.specs.Prelude.{◌≡◌, ℕ, ◌+◌, ◌<◌, ◌≤◌, Bool, true, false, ◌&&◌, ◌||◌, ◌==◌, ◌⊎◌, List, [], ◌∷◌, ◌++◌, length, take, drop, Result, Ok, Err, ⊤}
 use Rattle.pw_token.specs.Limits.{text_limit, token_limit}
 use Rattle.std.specs.List.{list_any}
 use Rattle.pw_token.specs.Bytes.{is_in, AllIn}
@@ -61,6 +61,10 @@ Stands line_start piece.Comment s after = IsComment s
 Stands line_start piece.LineMarker s after = (line_start ≡ true) × IsHashLine s after × IsMarker s
 Stands line_start (piece.Token Directive) s after = (line_start ≡ true) × IsHashLine s after × (IsMarker s → ⊥)
 Stands line_start (piece.Token kind) s after = IsTokenHere line_start kind s after
+
+-- The first bytes of the text, `len` of them, are a piece of the kind.
+abbrev pub BeginsWith : Bool → PieceKind → ℕ → List ℕ → Type 0
+BeginsWith line_start kind len text = (len ≤ length text) × Stands line_start kind (take len text) (drop len text)
 
 -- Nothing of the kinds above stands at the front of the text.
 abbrev pub NothingStands : Bool → List ℕ → Type 0

@@ -18,6 +18,7 @@ pub enum Class {
     InLine,
 }
 
+/// Whether a byte is of a class.
 pub fn is_in(class: Class, byte: u8) -> bool
     ensures { result ≡ spec.is_in class byte }
 {
@@ -43,6 +44,23 @@ pub fn is_either(byte: u8, lower: u8, upper: u8) -> bool
     ensures { result ≡ spec.is_either byte lower upper }
 {
     byte == lower || byte == upper
+}
+
+/// What an escape of one byte behind the backslash stands for (C90 6.1.3.4), or None where there is no such escape.
+pub fn simple_escape(byte: u8) -> Option<u8>
+    ensures { result ≡ spec.simple_escape byte }
+{
+    match byte {
+        b'\'' | b'"' | b'?' | b'\\' => Some(byte),
+        b'a' => Some(7),
+        b'b' => Some(8),
+        b'f' => Some(12),
+        b'n' => Some(10),
+        b'r' => Some(13),
+        b't' => Some(9),
+        b'v' => Some(11),
+        _ => None,
+    }
 }
 
 /// The byte at a place, or 0 past the end.

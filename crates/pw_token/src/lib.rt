@@ -12,11 +12,15 @@ mod literals;
 mod marks;
 mod nesting;
 mod piece;
+mod place;
 mod roles;
 mod token;
 
+pub use bytes::{Class, is_in, simple_escape};
 pub use features::unsupported;
-pub use laws::{limits_of_a_text, one_cutting, tokens_stand_in_order};
+pub use laws::{limits_of_a_text, one_cutting, piece_at_is_exact, tokens_stand_in_order};
 pub use lexer::{MAX_TEXT, MAX_TOKENS, lex};
 pub use nesting::{MAX_NEST, nest_fault};
+pub use piece::{PieceKind, piece_at};
+pub use place::line_at;
 pub use token::{Feature, LexFault, Token, TokenKind};

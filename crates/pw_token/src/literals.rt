@@ -3,7 +3,7 @@
 ghost use Rattle.std.specs.Prelude.{◌≡◌, ◌≢◌, ◌<◌, ◌≤◌, ◌+◌, ◌^◌, length, slice_index, true};
 ghost use Rattle.pw_token.specs.Scanning as spec;
 
-use crate::bytes::{Class, byte_at, is_in, text_from};
+use crate::bytes::{Class, byte_at, is_in, simple_escape, text_from};
 
 /// Where a reader of a constant stands.
 #[derive(Clone, Copy)]
@@ -20,22 +20,6 @@ pub enum Mode {
     Broken,
 }
 
-fn is_simple_escape(byte: u8) -> bool
-    ensures { result ≡ spec.is_simple_escape byte }
-{
-    byte == b'\''
-        || byte == b'"'
-        || byte == b'?'
-        || byte == b'\\'
-        || byte == b'a'
-        || byte == b'b'
-        || byte == b'f'
-        || byte == b'n'
-        || byte == b'r'
-        || byte == b't'
-        || byte == b'v'
-}
-
 fn next_mode(quote: u8, mode: Mode, byte: u8) -> Mode
     ensures { result ≡ spec.next_mode quote mode byte }
 {
@@ -44,7 +28,8 @@ fn next_mode(quote: u8, mode: Mode, byte: u8) -> Mode
         Mode::Plain if byte == b'\\' => Mode::Escaped,
         Mode::Plain if byte == b'\n' => Mode::Broken,
         Mode::Plain => Mode::Plain,
-        Mode::Escaped if is_simple_escape(byte) || is_in(Class::OctalDigit, byte) => Mode::Plain,
+        Mode::Escaped if simple_escape(byte).is_some() || is_in(Class::OctalDigit, byte) =>
+            Mode::Plain,
         Mode::Escaped if byte == b'x' => Mode::Hexadecimal,
         Mode::Hexadecimal if is_in(Class::HexDigit, byte) => Mode::Plain,
         Mode::Closed => Mode::Closed,

@@ -1,7 +1,9 @@
 //! The piece at the front of a text: a blank, a comment, a line marker or a token.
 
-ghost use Rattle.std.specs.Prelude.{◌≡◌, ◌<◌, ◌≤◌, IfSome, length};
+ghost use Rattle.std.specs.Prelude.{◌≡◌, ◌<◌, ◌≤◌, ◌↔◌, ℕ, Some, IfSome, length};
 ghost use Rattle.pw_token.specs.Pieces as spec;
+ghost use Rattle.pw_token.specs.Tokenization.{BeginsWith};
+ghost use Rattle.pw_token.specs.declared.piece.PieceKind.{PieceKind};
 
 use crate::bytes::{Class, byte_at, is_in, run_of, text_from};
 use crate::constants::{floating_len, integer_len, word_len};
@@ -75,8 +77,8 @@ fn token_at(text: &[u8]) -> Option<(PieceKind, usize)>
     found_piece(PieceKind::Token(kind), len)
 }
 
-fn line_at(text: &[u8]) -> Option<(PieceKind, usize)>
-    ensures { result ≡ spec.line_at text.now }
+fn hash_line_at(text: &[u8]) -> Option<(PieceKind, usize)>
+    ensures { result ≡ spec.hash_line_at text.now }
 {
     let gap = run_of(Class::Gap, text_from(text, 1));
     let kind = if is_in(Class::Digit, byte_at(text, 1 + gap)) {
@@ -99,16 +101,19 @@ fn find_piece(line_start: bool, text: &[u8]) -> Option<(PieceKind, usize)>
     } else if first == b'/' && second == b'*' {
         found_piece(PieceKind::Comment, comment_len(text))
     } else if line_start && first == b'#' {
-        line_at(text)
+        hash_line_at(text)
     } else {
         token_at(text)
     }
 }
 
-/// The piece at the front of a text and its length. `line_start` says that only blanks stand before it in its line.
+/// The piece at the front of a text and its length in bytes, or None where nothing that C90 knows stands there, as in
+/// an empty text. `line_start` says that only blanks stand before it in its line.
 pub fn piece_at(line_start: bool, text: &[u8]) -> Option<(PieceKind, usize)>
-    requires { 0 < length text.now }
     ensures value { result ≡ spec.piece_at line_start text.now }
+
+    // A kind and a length are answered exactly where a piece of that kind and length stands.
+    ensures exact { (kind : PieceKind) (len : ℕ) → (result ≡ Some (kind, len)) ↔ BeginsWith line_start kind len text.now }
     ensures within { IfSome result (λ found. (0 < found.1) × (found.1 ≤ length text.now)) }
 {
     find_piece(line_start, text)

@@ -5,34 +5,34 @@ use Rattle.pw_io.specs.Files.{Files, Told, Keeps}
 use Rattle.pw_object.specs.declared.object.Object.{Object}
 use Rattle.pw_db.specs.declared.database.Directives.{Directives}
 use Rattle.pw_flow.specs.declared.flow.FlowModule.{FlowModule}
-use Rattle.pw_modules.specs.FileNames.{database_name, text_name, flow_name}
-use Rattle.pw_compiling.specs.FromPhaseOne.FirstPhase.{Phase, compiled}
+use Rattle.pw_store_modules.specs.FileNames.{database_name, text_name, flow_name}
+use Rattle.pw_commands_phases.specs.FromPhaseOne.FirstPhase.{Phase, compiled}
 use Rattle.pw_summary.specs.declared.summary.Summary.{Summary}
 use Rattle.pw_image.specs.declared.image.Image.{Image}
 use Rattle.pw_machine.specs.Core.{Core}
-use Rattle.pw_answer.specs.declared.answer.Answer.{Answer}
-use Rattle.pw_answer.specs.declared.answer.Answer.TheVariants.{Usage, Refused, LinkRefused, ReadFault, WriteFault, StoreFault, NoMemory, BadFile}
-use Rattle.pw_answer.specs.Effects.{Effect, NamedFile, PutsFiles, answers_alone, prints}
-use Rattle.pw_answer.specs.Outcomes.{Answers, InputCount, IsLineDue, LeavesInput, LeavesStreams, OutputCount, PutsOut}
-use Rattle.pw_run_laws.specs.Ends.{Ends}
-use Rattle.pw_session_laws.specs.FromBuild.BuildFault.{BuildFault}
-use Rattle.pw_session_laws.specs.FromBuilding.Building.{Outcome}
-use Rattle.pw_session_laws.specs.FromDriving.Driving.{BuildComesTo, IsBuildAnswer, built_effect}
-use Rattle.pw_run_laws.specs.FromGo.FullBuild.{Build, full_build}
-use Rattle.pw_run_laws.specs.FromGo.FullBuild as build
-use Rattle.pw_run_laws.specs.FromGo.Going.{IsLineOf, IsNoUsage, build_effect, refused_line}
-use Rattle.pw_run_laws.specs.FromCommands.Analysing.{AnalyseComes, AnalyseOver, summaries_of}
-use Rattle.pw_run_laws.specs.FromCommands.Linking.{LinkComes, LinkOver, objects_of}
-use Rattle.pw_run_laws.specs.FromCommands.Needed.{needed, needed_bytes}
-use Rattle.pw_run_laws.specs.FromCommands.Outcome.{IsStoreAnswer, Obeys}
-use Rattle.pw_run_laws.specs.FromCommands.Running.{IsRunOrStop, core_in, run_effect, runs}
-use Rattle.pw_run_laws.specs.FromCommands.Showing.{DatabaseComes, IsShowAnswer, ListComes, ListOver, Shows, database_text, image_in, printed}
-use Rattle.pw_session_laws.specs.FromSession.Bench.{BenchComes}
-use Rattle.pw_words.specs.declared.commands.Command.{Command}
-use Rattle.pw_words.specs.declared.commands.Command.TheVariants.{Go, Build as BuildAll, Session, PhaseOne, Analyse, PhaseTwo, Link, Run, List as ListImage, Db, Bench}
-use Rattle.pw_compiling.specs.First.{ComesOfPhase, PhaseOneComes, PhaseOneOver}
-use Rattle.pw_compiling.specs.Made.{IsPhaseAnswer}
-use Rattle.pw_compiling.specs.Second.{PhaseTwoComes, PhaseTwoOver, database_at, flow_at}
+use Rattle.pw_top_answer.specs.declared.answer.Answer.{Answer}
+use Rattle.pw_top_answer.specs.declared.answer.Answer.TheVariants.{Usage, Refused, LinkRefused, ReadFault, WriteFault, StoreFault, NoMemory, BadFile}
+use Rattle.pw_top_answer.specs.Effects.{Effect, NamedFile, PutsFiles, answers_alone, prints}
+use Rattle.pw_top_answer.specs.Outcomes.{Answers, InputCount, IsLineDue, LeavesInput, LeavesStreams, OutputCount, PutsOut}
+use Rattle.pw_law_runs.specs.Ends.{Ends}
+use Rattle.pw_law_session.specs.FromBuild.BuildFault.{BuildFault}
+use Rattle.pw_law_session.specs.FromBuilding.Building.{Outcome}
+use Rattle.pw_law_session.specs.FromDriving.Driving.{BuildComesTo, IsBuildAnswer, built_effect}
+use Rattle.pw_law_runs.specs.FromGo.FullBuild.{Build, full_build}
+use Rattle.pw_law_runs.specs.FromGo.FullBuild as build
+use Rattle.pw_law_runs.specs.FromGo.Going.{IsLineOf, IsNoUsage, build_effect, refused_line}
+use Rattle.pw_law_runs.specs.FromCommands.Analysing.{AnalyseComes, AnalyseOver, summaries_of}
+use Rattle.pw_law_runs.specs.FromCommands.Linking.{LinkComes, LinkOver, objects_of}
+use Rattle.pw_law_runs.specs.FromCommands.Needed.{needed, needed_bytes}
+use Rattle.pw_law_runs.specs.FromCommands.Outcome.{IsStoreAnswer, Obeys}
+use Rattle.pw_law_runs.specs.FromCommands.Running.{IsRunOrStop, core_in, run_effect, runs}
+use Rattle.pw_law_runs.specs.FromCommands.Showing.{DatabaseComes, IsShowAnswer, ListComes, ListOver, Shows, database_text, image_in, printed}
+use Rattle.pw_law_session.specs.FromSession.Bench.{BenchComes}
+use Rattle.pw_top_words.specs.declared.commands.Command.{Command}
+use Rattle.pw_top_words.specs.declared.commands.Command.TheVariants.{Go, Build as BuildAll, Session, PhaseOne, Analyse, PhaseTwo, Link, Run, List as ListImage, Db, Bench}
+use Rattle.pw_commands_phases.specs.First.{ComesOfPhase, PhaseOneComes, PhaseOneOver}
+use Rattle.pw_commands_phases.specs.Made.{IsPhaseAnswer}
+use Rattle.pw_commands_phases.specs.Second.{PhaseTwoComes, PhaseTwoOver, database_at, flow_at}
 use Rattle.pw_top.specs.Commands.{opts_of}
 use Rattle.pw_top.specs.Does.{Does}
 use Rattle.pw_top.proofs.SessionLemmas.{bench_prints}

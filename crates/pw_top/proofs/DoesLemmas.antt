@@ -3,13 +3,13 @@ use Rattle.std.proofs.Common.{◌≡◌, ℕ, List, [], Option, Some, None, refl
 use Rattle.std.specs.Prelude.{IfSome}
 use Rattle.pw_io.specs.Files.{Told}
 use Rattle.pw_io.specs.Streams.{Appends}
-use Rattle.pw_answer.specs.declared.answer.Answer.{Answer}
-use Rattle.pw_answer.specs.declared.answer.Answer.TheVariants.{Usage, ReadFault, WriteFault, StoreFault, NoMemory}
-use Rattle.pw_answer.specs.Effects.{Effect, NamedFile, PutsFiles, answers_alone}
-use Rattle.pw_answer.specs.Outcomes.{Answers, IsWhole, LeavesInput, PutsOut, WasReadInPart}
-use Rattle.pw_run_laws.specs.Ends.{Ends}
-use Rattle.pw_run_laws.specs.FromCommands.Outcome.{IsFound, Obeys}
-use Rattle.pw_run_laws.specs.FromCommands.Showing.{Shows}
+use Rattle.pw_top_answer.specs.declared.answer.Answer.{Answer}
+use Rattle.pw_top_answer.specs.declared.answer.Answer.TheVariants.{Usage, ReadFault, WriteFault, StoreFault, NoMemory}
+use Rattle.pw_top_answer.specs.Effects.{Effect, NamedFile, PutsFiles, answers_alone}
+use Rattle.pw_top_answer.specs.Outcomes.{Answers, IsWhole, LeavesInput, PutsOut, WasReadInPart}
+use Rattle.pw_law_runs.specs.Ends.{Ends}
+use Rattle.pw_law_runs.specs.FromCommands.Outcome.{IsFound, Obeys}
+use Rattle.pw_law_runs.specs.FromCommands.Showing.{Shows}
 use Rattle.pw_top.specs.Does.{Does}
 
 -- ---- nothing was put, put out or read

@@ -4,20 +4,20 @@ use Rattle.std.specs.Prelude.{IfSome, IsSomeAnd}
 use Rattle.std.specs.List.{AllByRecursion}
 use Rattle.pw_io.specs.Files.{Told, Keeps}
 use Rattle.pw_object.specs.declared.object.Object.{Object}
-use Rattle.pw_modules.specs.FileNames.{database_name, image_name, flow_name, summary_name, object_name}
-use Rattle.pw_answer.specs.declared.answer.Answer.{Answer}
-use Rattle.pw_answer.specs.declared.answer.Answer.TheVariants.{NoMemory}
-use Rattle.pw_answer.specs.Effects.{NamedFile, PutPart}
-use Rattle.pw_making.specs.Kept.{IsGenuine}
-use Rattle.pw_run_laws.specs.FromCommands.Others.{IsNoneOf, IsOneOf, KeepsOthers, PutsOnly}
-use Rattle.pw_kept.specs.Kept.{counted, object_in}
-use Rattle.pw_session_laws.specs.FromBuilding.Genuine.{IsGenuineFile, KeepsGenuine}
-use Rattle.pw_compiling.specs.First.{phase_one_puts}
-use Rattle.pw_compiling.specs.Second.{IsMade, IsMadeFile, PutsMade}
-use Rattle.pw_session_laws.specs.FromDriving.Driving.{KeepsUnput}
-use Rattle.pw_words.specs.declared.commands.Command.{Command}
-use Rattle.pw_words.specs.declared.commands.Command.TheVariants.{Build as BuildAll, Session, PhaseOne, Analyse, PhaseTwo, Link}
-use Rattle.pw_session_laws.specs.FromSession.Removals.{MayRemove}
+use Rattle.pw_store_modules.specs.FileNames.{database_name, image_name, flow_name, summary_name, object_name}
+use Rattle.pw_top_answer.specs.declared.answer.Answer.{Answer}
+use Rattle.pw_top_answer.specs.declared.answer.Answer.TheVariants.{NoMemory}
+use Rattle.pw_top_answer.specs.Effects.{NamedFile, PutPart}
+use Rattle.pw_build_objects.specs.Kept.{IsGenuine}
+use Rattle.pw_law_runs.specs.FromCommands.Others.{IsNoneOf, IsOneOf, KeepsOthers, PutsOnly}
+use Rattle.pw_store_kept.specs.Kept.{counted, object_in}
+use Rattle.pw_law_session.specs.FromBuilding.Genuine.{IsGenuineFile, KeepsGenuine}
+use Rattle.pw_commands_phases.specs.First.{phase_one_puts}
+use Rattle.pw_commands_phases.specs.Second.{IsMade, IsMadeFile, PutsMade}
+use Rattle.pw_law_session.specs.FromDriving.Driving.{KeepsUnput}
+use Rattle.pw_top_words.specs.declared.commands.Command.{Command}
+use Rattle.pw_top_words.specs.declared.commands.Command.TheVariants.{Build as BuildAll, Session, PhaseOne, Analyse, PhaseTwo, Link}
+use Rattle.pw_law_session.specs.FromSession.Removals.{MayRemove}
 use Rattle.pw_top.specs.Commands.{KeepsTheRest, files_put}
 use Rattle.pw_top.proofs.SessionLemmas.{changes_none, rest_none}
 

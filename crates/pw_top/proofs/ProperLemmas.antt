@@ -2,16 +2,16 @@
 use Rattle.std.specs.Prelude.{◌≢◌, refl}
 use Rattle.pw_value.specs.declared.fault.LinkFault.{LinkFault}
 use Rattle.pw_value.specs.declared.fault.LinkFault.TheVariants as link
-use Rattle.pw_answer.specs.declared.answer.Answer.{Answer}
-use Rattle.pw_answer.specs.declared.answer.Answer.TheVariants.{Refused, LinkRefused}
-use Rattle.pw_run_laws.specs.FromGo.Refusals.{HoldsNoLinkWant, HoldsNoWantOfMemory}
-use Rattle.pw_run_laws.specs.FromCommands.Outcome.{IsStoreAnswer}
-use Rattle.pw_run_laws.specs.FromCommands.Running.{IsRunOrStop}
-use Rattle.pw_run_laws.specs.FromCommands.Showing.{IsShowAnswer}
-use Rattle.pw_compiling.specs.Made.{IsPhaseAnswer}
-use Rattle.pw_session_laws.specs.FromDriving.Driving.{IsBuildAnswer}
-use Rattle.pw_session_laws.specs.FromSession.Bench.{IsBenchAnswer}
-use Rattle.pw_session_laws.specs.FromSession.Outcomes.{IsSessionAnswer}
+use Rattle.pw_top_answer.specs.declared.answer.Answer.{Answer}
+use Rattle.pw_top_answer.specs.declared.answer.Answer.TheVariants.{Refused, LinkRefused}
+use Rattle.pw_law_runs.specs.FromGo.Refusals.{HoldsNoLinkWant, HoldsNoWantOfMemory}
+use Rattle.pw_law_runs.specs.FromCommands.Outcome.{IsStoreAnswer}
+use Rattle.pw_law_runs.specs.FromCommands.Running.{IsRunOrStop}
+use Rattle.pw_law_runs.specs.FromCommands.Showing.{IsShowAnswer}
+use Rattle.pw_commands_phases.specs.Made.{IsPhaseAnswer}
+use Rattle.pw_law_session.specs.FromDriving.Driving.{IsBuildAnswer}
+use Rattle.pw_law_session.specs.FromSession.Bench.{IsBenchAnswer}
+use Rattle.pw_law_session.specs.FromSession.Outcomes.{IsSessionAnswer}
 
 link_proper : (fault : LinkFault) → fault ≢ link.NoMemory → HoldsNoLinkWant fault
 link_proper link.NoMemory h = h refl

@@ -2,22 +2,22 @@
 use Rattle.std.proofs.Common.{◌≡◌, ℕ, List, [], Option, Some, None, Result, Ok, Err, refl, sym, subst, arith, append-nil}
 use Rattle.std.specs.Prelude.{IfSome, IsSomeAnd}
 use Rattle.pw_io.specs.Files.{Told}
-use Rattle.pw_answer.specs.declared.answer.Answer.{Answer}
-use Rattle.pw_answer.specs.declared.answer.Answer.TheVariants.{Done, Usage, Refused, LinkRefused, Halted, ReadFault, WriteFault, StoreFault, NoMemory, BadFile, BadScript}
-use Rattle.pw_answer.specs.Answers.{NeedsMemory}
-use Rattle.pw_answer.specs.Effects.{Effect, NamedFile, PutsFiles}
-use Rattle.pw_answer.specs.Outcomes.{InputCount, IsLineDue, StoreCount}
-use Rattle.pw_modules.specs.Modules.{modules_of}
-use Rattle.pw_session_laws.specs.FromBuild.Phases.{refused_line}
-use Rattle.pw_session_laws.specs.FromBuild.BuildFault.{BuildFault}
-use Rattle.pw_session_laws.specs.FromBuilding.Building.{Outcome}
-use Rattle.pw_run_laws.specs.FromCommands.Outcome.{IsFound}
-use Rattle.pw_run_laws.specs.FromGo.Going.{IsNoUsage}
-use Rattle.pw_session_laws.specs.FromSession.SessionOpts.{SessionOpts}
-use Rattle.pw_session_laws.specs.FromSession.Bench.{BenchComes, BenchOver, IsBenchAnswer, IsBenchFound, IsBenchLine, ObeysBench, bench_files}
-use Rattle.pw_session_laws.specs.FromSession.Changes.{Change, ChangeFront, MakesChanges, MakesSome}
+use Rattle.pw_top_answer.specs.declared.answer.Answer.{Answer}
+use Rattle.pw_top_answer.specs.declared.answer.Answer.TheVariants.{Done, Usage, Refused, LinkRefused, Halted, ReadFault, WriteFault, StoreFault, NoMemory, BadFile, BadScript}
+use Rattle.pw_top_answer.specs.Answers.{NeedsMemory}
+use Rattle.pw_top_answer.specs.Effects.{Effect, NamedFile, PutsFiles}
+use Rattle.pw_top_answer.specs.Outcomes.{InputCount, IsLineDue, StoreCount}
+use Rattle.pw_store_modules.specs.Modules.{modules_of}
+use Rattle.pw_law_session.specs.FromBuild.Phases.{refused_line}
+use Rattle.pw_law_session.specs.FromBuild.BuildFault.{BuildFault}
+use Rattle.pw_law_session.specs.FromBuilding.Building.{Outcome}
+use Rattle.pw_law_runs.specs.FromCommands.Outcome.{IsFound}
+use Rattle.pw_law_runs.specs.FromGo.Going.{IsNoUsage}
+use Rattle.pw_law_session.specs.FromSession.SessionOpts.{SessionOpts}
+use Rattle.pw_law_session.specs.FromSession.Bench.{BenchComes, BenchOver, IsBenchAnswer, IsBenchFound, IsBenchLine, ObeysBench, bench_files}
+use Rattle.pw_law_session.specs.FromSession.Changes.{Change, ChangeFront, MakesChanges, MakesSome}
 use Rattle.pw_top.specs.Rest.{LeavesRest}
-use Rattle.pw_session_laws.specs.FromSession.Outcomes.{IsSessionAnswer, LeavesScript, ObeysSession}
+use Rattle.pw_law_session.specs.FromSession.Outcomes.{IsSessionAnswer, LeavesScript, ObeysSession}
 use Rattle.pw_top.specs.Does.{Does, DoesSession}
 use Rattle.pw_top.proofs.DoesLemmas.{Prints, left_so, none_out_yet, nothing_put, out_part}
 

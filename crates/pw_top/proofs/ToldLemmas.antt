@@ -2,22 +2,22 @@
 use Rattle.std.proofs.Common.{◌≡◌, ℕ, ◌⊎◌, ⊎_elim, inl, inr, List, [], Option, Some, None, refl, sym, ap, ◌∙◌, subst, append-nil}
 use Rattle.std.specs.Prelude.{IfSome}
 use Rattle.pw_io.specs.Files.{Files, Told}
-use Rattle.pw_front.specs.declared.refusal.Refusal.{Refusal}
-use Rattle.pw_answer.specs.declared.answer.Answer.{Answer}
-use Rattle.pw_answer.specs.declared.answer.Answer.TheVariants.{Usage, Refused, LinkRefused, Halted, StoreFault, NoMemory, BadFile, BadScript}
-use Rattle.pw_answer.specs.Answers.{line_text, NeedsMemory}
-use Rattle.pw_answer.specs.Effects.{Effect, NamedFile, PutsFiles, PutFront}
-use Rattle.pw_answer.specs.Outcomes.{Answers, InputCount, IsLineDue, LeavesInput, LeavesStreams, OutputCount, StoreCount, ToldAs, WasReadInPart}
-use Rattle.pw_run_laws.specs.Ends.{Ends}
-use Rattle.pw_run_laws.specs.FromCommands.Others.{KeepsOthers}
-use Rattle.pw_run_laws.specs.FromGo.FullBuild as build
-use Rattle.pw_run_laws.specs.FromGo.FullBuild.{Build, full_build}
-use Rattle.pw_run_laws.specs.FromGo.Going.{AnswersBuild, ReturnsSum, build_effect}
-use Rattle.pw_run_laws.specs.FromGo.Refusals.{HoldsNoWantOfMemory}
-use Rattle.pw_words.specs.declared.commands.Command.{Command}
-use Rattle.pw_words.specs.declared.commands.Command.TheVariants.{Go, Build as BuildAll, Session}
-use Rattle.pw_session_laws.specs.FromDriving.Driving.{KeepsUnput, Unput}
-use Rattle.pw_session_laws.specs.FromSession.Removals.{MayRemove}
+use Rattle.pw_front_end.specs.declared.refusal.Refusal.{Refusal}
+use Rattle.pw_top_answer.specs.declared.answer.Answer.{Answer}
+use Rattle.pw_top_answer.specs.declared.answer.Answer.TheVariants.{Usage, Refused, LinkRefused, Halted, StoreFault, NoMemory, BadFile, BadScript}
+use Rattle.pw_top_answer.specs.Answers.{line_text, NeedsMemory}
+use Rattle.pw_top_answer.specs.Effects.{Effect, NamedFile, PutsFiles, PutFront}
+use Rattle.pw_top_answer.specs.Outcomes.{Answers, InputCount, IsLineDue, LeavesInput, LeavesStreams, OutputCount, StoreCount, ToldAs, WasReadInPart}
+use Rattle.pw_law_runs.specs.Ends.{Ends}
+use Rattle.pw_law_runs.specs.FromCommands.Others.{KeepsOthers}
+use Rattle.pw_law_runs.specs.FromGo.FullBuild as build
+use Rattle.pw_law_runs.specs.FromGo.FullBuild.{Build, full_build}
+use Rattle.pw_law_runs.specs.FromGo.Going.{AnswersBuild, ReturnsSum, build_effect}
+use Rattle.pw_law_runs.specs.FromGo.Refusals.{HoldsNoWantOfMemory}
+use Rattle.pw_top_words.specs.declared.commands.Command.{Command}
+use Rattle.pw_top_words.specs.declared.commands.Command.TheVariants.{Go, Build as BuildAll, Session}
+use Rattle.pw_law_session.specs.FromDriving.Driving.{KeepsUnput, Unput}
+use Rattle.pw_law_session.specs.FromSession.Removals.{MayRemove}
 use Rattle.pw_top.specs.Commands.{EndsScript, KeepsTheRest, files_put, opts_of}
 use Rattle.pw_top.specs.Does.{Does, DoesAs}
 use Rattle.pw_top.proofs.DoesLemmas.{memory_here, out_part}

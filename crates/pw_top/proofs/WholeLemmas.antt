@@ -2,21 +2,21 @@
 use Rattle.std.proofs.Common.{◌≡◌, ℕ, List, Option, Some, None, Result, Ok, Err, sym, ap, ◌∙◌, subst}
 use Rattle.std.specs.Prelude.{IfSome, IsSomeAnd}
 use Rattle.pw_io.specs.Files.{Told}
-use Rattle.pw_modules.specs.Modules.{module_map}
-use Rattle.pw_answer.specs.declared.answer.Answer.{Answer}
-use Rattle.pw_answer.specs.declared.answer.Answer.TheVariants.{Done}
-use Rattle.pw_answer.specs.Effects.{Effect, PutsFiles, after_puts}
-use Rattle.pw_session_laws.specs.FromBuild.BuildFault.{BuildFault}
-use Rattle.pw_session_laws.specs.FromBuild.BuildFault.TheVariants as build
-use Rattle.pw_session_laws.specs.FromBuilding.Building.{BuildComes, Outcome}
-use Rattle.pw_session_laws.specs.FromBuilding.Genuine.{KeepsGenuine}
-use Rattle.pw_session_laws.specs.FromBuilding.Outcomes.{fault_answer}
-use Rattle.pw_session_laws.specs.FromBuildLaws.Whole.{HoldsFullBuild}
-use Rattle.pw_session_laws.specs.FromDriving.Driving.{BuildComesTo, built_effect}
-use Rattle.pw_words.specs.declared.commands.Command.{Command}
-use Rattle.pw_session_laws.specs.Full.{SessionBuildsInFull}
-use Rattle.pw_session_laws.specs.FromSession.SessionOpts.{SessionOpts}
-use Rattle.pw_words.specs.declared.commands.Command.TheVariants.{Build as BuildAll, Session}
+use Rattle.pw_store_modules.specs.Modules.{module_map}
+use Rattle.pw_top_answer.specs.declared.answer.Answer.{Answer}
+use Rattle.pw_top_answer.specs.declared.answer.Answer.TheVariants.{Done}
+use Rattle.pw_top_answer.specs.Effects.{Effect, PutsFiles, after_puts}
+use Rattle.pw_law_session.specs.FromBuild.BuildFault.{BuildFault}
+use Rattle.pw_law_session.specs.FromBuild.BuildFault.TheVariants as build
+use Rattle.pw_law_session.specs.FromBuilding.Building.{BuildComes, Outcome}
+use Rattle.pw_law_session.specs.FromBuilding.Genuine.{KeepsGenuine}
+use Rattle.pw_law_session.specs.FromBuilding.Outcomes.{fault_answer}
+use Rattle.pw_law_session.specs.FromBuildLaws.Whole.{HoldsFullBuild}
+use Rattle.pw_law_session.specs.FromDriving.Driving.{BuildComesTo, built_effect}
+use Rattle.pw_top_words.specs.declared.commands.Command.{Command}
+use Rattle.pw_law_session.specs.Full.{SessionBuildsInFull}
+use Rattle.pw_law_session.specs.FromSession.SessionOpts.{SessionOpts}
+use Rattle.pw_top_words.specs.declared.commands.Command.TheVariants.{Build as BuildAll, Session}
 use Rattle.pw_top.specs.Commands.{BuildsWhole, IfDone, opts_of}
 use Rattle.pw_top.specs.Does.{Does, DoesAs}
 

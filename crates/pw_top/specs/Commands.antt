@@ -1,28 +1,28 @@
 -- Kinds of commands, and what each leaves alone.
 use Rattle.std.specs.Prelude.{ℕ, Bool, true, false, List, [], ◌∷◌, Option, Some, IfSome, IsSomeAnd}
 use Rattle.pw_io.specs.Files.{Files, Told}
-use Rattle.pw_modules.specs.FileNames.{database_name, image_name}
-use Rattle.pw_answer.specs.declared.answer.Answer.{Answer}
-use Rattle.pw_answer.specs.declared.answer.Answer.TheVariants.{Done}
-use Rattle.pw_modules.specs.Modules.{module_map, modules_of}
-use Rattle.pw_session_laws.specs.FromBuild.Phases as phases
-use Rattle.pw_run_laws.specs.FromGo.FullBuild.{full_build}
-use Rattle.pw_run_laws.specs.FromGo.Going.{refused_line}
-use Rattle.pw_run_laws.specs.FromCommands.Others.{KeepsOthers}
-use Rattle.pw_session_laws.specs.FromBuilding.Genuine.{KeepsGenuine}
-use Rattle.pw_session_laws.specs.FromBuildLaws.Whole.{HoldsFullBuild}
-use Rattle.pw_session_laws.specs.FromSession.SessionOpts.{SessionOpts}
-use Rattle.pw_session_laws.specs.FromSession.Bench.{bench_files}
-use Rattle.pw_session_laws.specs.FromSession.Changes.{MakesSome}
-use Rattle.pw_session_laws.specs.FromSession.Outcomes.{EndsAs}
-use Rattle.pw_session_laws.specs.FromSession.Removals.{MayRemove}
-use Rattle.pw_session_laws.specs.FromDriving.Driving.{KeepsUnput}
-use Rattle.pw_session_laws.specs.Full.{SessionBuildsInFull}
+use Rattle.pw_store_modules.specs.FileNames.{database_name, image_name}
+use Rattle.pw_top_answer.specs.declared.answer.Answer.{Answer}
+use Rattle.pw_top_answer.specs.declared.answer.Answer.TheVariants.{Done}
+use Rattle.pw_store_modules.specs.Modules.{module_map, modules_of}
+use Rattle.pw_law_session.specs.FromBuild.Phases as phases
+use Rattle.pw_law_runs.specs.FromGo.FullBuild.{full_build}
+use Rattle.pw_law_runs.specs.FromGo.Going.{refused_line}
+use Rattle.pw_law_runs.specs.FromCommands.Others.{KeepsOthers}
+use Rattle.pw_law_session.specs.FromBuilding.Genuine.{KeepsGenuine}
+use Rattle.pw_law_session.specs.FromBuildLaws.Whole.{HoldsFullBuild}
+use Rattle.pw_law_session.specs.FromSession.SessionOpts.{SessionOpts}
+use Rattle.pw_law_session.specs.FromSession.Bench.{bench_files}
+use Rattle.pw_law_session.specs.FromSession.Changes.{MakesSome}
+use Rattle.pw_law_session.specs.FromSession.Outcomes.{EndsAs}
+use Rattle.pw_law_session.specs.FromSession.Removals.{MayRemove}
+use Rattle.pw_law_session.specs.FromDriving.Driving.{KeepsUnput}
+use Rattle.pw_law_session.specs.Full.{SessionBuildsInFull}
 use Rattle.pw_top.specs.Rest.{LeavesRest}
-use Rattle.pw_compiling.specs.First.{phase_line, phase_one_puts}
-use Rattle.pw_compiling.specs.Second.{phase_two_puts}
-use Rattle.pw_words.specs.declared.commands.Command.{Command}
-use Rattle.pw_words.specs.declared.commands.Command.TheVariants.{Go, Build, Session, PhaseOne, Analyse, PhaseTwo, Link, Run, List as ListImage, Db, Bench}
+use Rattle.pw_commands_phases.specs.First.{phase_line, phase_one_puts}
+use Rattle.pw_commands_phases.specs.Second.{phase_two_puts}
+use Rattle.pw_top_words.specs.declared.commands.Command.{Command}
+use Rattle.pw_top_words.specs.declared.commands.Command.TheVariants.{Go, Build, Session, PhaseOne, Analyse, PhaseTwo, Link, Run, List as ListImage, Db, Bench}
 
 -- how a session and `bench` build, and for how many instructions they run a program at most
 abbrev pub opts_of : ℕ → ℕ → ℕ → SessionOpts

@@ -2,25 +2,25 @@
 -- left of its input by that.
 use Rattle.std.specs.Prelude.{◌≡◌, ℕ, List, Option, Some, None}
 use Rattle.pw_io.specs.Files.{Told}
-use Rattle.pw_answer.specs.declared.answer.Answer.{Answer}
-use Rattle.pw_answer.specs.declared.answer.Answer.TheVariants.{Usage}
-use Rattle.pw_answer.specs.Effects.{Effect, PutsFiles, answers_alone}
-use Rattle.pw_answer.specs.Outcomes.{Answers, LeavesInput, PutsOut}
-use Rattle.pw_run_laws.specs.FromGo.FullBuild.{full_build}
-use Rattle.pw_run_laws.specs.FromGo.Going.{build_effect}
-use Rattle.pw_run_laws.specs.FromCommands.Analysing.{AnalyseComes}
-use Rattle.pw_run_laws.specs.FromCommands.Linking.{LinkComes}
-use Rattle.pw_run_laws.specs.FromCommands.Outcome.{IsFound}
-use Rattle.pw_run_laws.specs.FromCommands.Running.{run_effect}
-use Rattle.pw_run_laws.specs.FromCommands.Showing.{DatabaseComes, ListComes}
-use Rattle.pw_compiling.specs.First.{PhaseOneComes}
-use Rattle.pw_compiling.specs.Second.{PhaseTwoComes}
-use Rattle.pw_session_laws.specs.FromDriving.Driving.{BuildComesTo}
-use Rattle.pw_session_laws.specs.FromSession.SessionOpts.{SessionOpts}
-use Rattle.pw_session_laws.specs.FromSession.Bench.{BenchComes}
-use Rattle.pw_session_laws.specs.FromSession.Outcomes.{LeavesScript, ObeysSession}
-use Rattle.pw_words.specs.declared.commands.Command.{Command}
-use Rattle.pw_words.specs.declared.commands.Command.TheVariants.{Go, Build, Session, PhaseOne, Analyse, PhaseTwo, Link, Run, List as ListImage, Db, Bench}
+use Rattle.pw_top_answer.specs.declared.answer.Answer.{Answer}
+use Rattle.pw_top_answer.specs.declared.answer.Answer.TheVariants.{Usage}
+use Rattle.pw_top_answer.specs.Effects.{Effect, PutsFiles, answers_alone}
+use Rattle.pw_top_answer.specs.Outcomes.{Answers, LeavesInput, PutsOut}
+use Rattle.pw_law_runs.specs.FromGo.FullBuild.{full_build}
+use Rattle.pw_law_runs.specs.FromGo.Going.{build_effect}
+use Rattle.pw_law_runs.specs.FromCommands.Analysing.{AnalyseComes}
+use Rattle.pw_law_runs.specs.FromCommands.Linking.{LinkComes}
+use Rattle.pw_law_runs.specs.FromCommands.Outcome.{IsFound}
+use Rattle.pw_law_runs.specs.FromCommands.Running.{run_effect}
+use Rattle.pw_law_runs.specs.FromCommands.Showing.{DatabaseComes, ListComes}
+use Rattle.pw_commands_phases.specs.First.{PhaseOneComes}
+use Rattle.pw_commands_phases.specs.Second.{PhaseTwoComes}
+use Rattle.pw_law_session.specs.FromDriving.Driving.{BuildComesTo}
+use Rattle.pw_law_session.specs.FromSession.SessionOpts.{SessionOpts}
+use Rattle.pw_law_session.specs.FromSession.Bench.{BenchComes}
+use Rattle.pw_law_session.specs.FromSession.Outcomes.{LeavesScript, ObeysSession}
+use Rattle.pw_top_words.specs.declared.commands.Command.{Command}
+use Rattle.pw_top_words.specs.declared.commands.Command.TheVariants.{Go, Build, Session, PhaseOne, Analyse, PhaseTwo, Link, Run, List as ListImage, Db, Bench}
 use Rattle.pw_top.specs.Commands.{opts_of}
 
 -- The answer, the files that were put, what was put out and what is left of the input are those to which the command

@@ -2,11 +2,11 @@
 use Rattle.std.specs.Prelude.{◌≡◌, ◌≢◌, ◌≤◌, ℕ, ◌⊎◌, List, [], ◌++◌, length}
 use Rattle.std.specs.List.{AllByRecursion}
 use Rattle.pw_io.specs.Files.{Told}
-use Rattle.pw_modules.specs.Modules.{IsModuleFile}
-use Rattle.pw_answer.specs.declared.answer.Answer.{Answer}
-use Rattle.pw_answer.specs.declared.answer.Answer.TheVariants.{StoreFault}
-use Rattle.pw_session_laws.specs.FromBuilding.Genuine.{IsBuiltName}
-use Rattle.pw_run_laws.specs.FromCommands.Others.{IsSameBut}
+use Rattle.pw_store_modules.specs.Modules.{IsModuleFile}
+use Rattle.pw_top_answer.specs.declared.answer.Answer.{Answer}
+use Rattle.pw_top_answer.specs.declared.answer.Answer.TheVariants.{StoreFault}
+use Rattle.pw_law_session.specs.FromBuilding.Genuine.{IsBuiltName}
+use Rattle.pw_law_runs.specs.FromCommands.Others.{IsSameBut}
 
 -- a file of a module, or one of a build's
 abbrev pub IsPutName : List ℕ → Type 0

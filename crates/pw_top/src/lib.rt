@@ -3,5 +3,5 @@
 
 mod top;
 
-pub use pw_answer::{Answer, status};
+pub use pw_top_answer::{Answer, status};
 pub use top::pawc_top;

@@ -2,33 +2,33 @@
 
 ghost use Rattle.std.specs.Prelude.{◌≡◌, ◌⊎◌, ℕ, IfSome, List, None, Option, Some, map, string_bytes, true};
 ghost use Rattle.pw_io.specs.Files.{Keeps};
-ghost use Rattle.pw_answer.specs.Answers.{line_text};
-ghost use Rattle.pw_answer.specs.Outcomes.{InputCount, LeavesStreams, OutputCount, StoreCount, Tells, TellsSome};
-ghost use Rattle.pw_run_laws.specs.FromGo.FullBuild.{full_build};
-ghost use Rattle.pw_run_laws.specs.FromGo.Going.{AnswersBuild, BuiltAgrees, IsNoUsage, ReturnsSum};
-ghost use Rattle.pw_run_laws.specs.FromGo.Refusals.{HoldsNoWantOfMemory, NoMainComes, NoMainIs, RefusalComes, RefusalIs};
-ghost use Rattle.pw_modules.specs.Modules.{modules_of};
-ghost use Rattle.pw_session_laws.specs.FromBuilding.Genuine.{KeepsGenuine};
+ghost use Rattle.pw_top_answer.specs.Answers.{line_text};
+ghost use Rattle.pw_top_answer.specs.Outcomes.{InputCount, LeavesStreams, OutputCount, StoreCount, Tells, TellsSome};
+ghost use Rattle.pw_law_runs.specs.FromGo.FullBuild.{full_build};
+ghost use Rattle.pw_law_runs.specs.FromGo.Going.{AnswersBuild, BuiltAgrees, IsNoUsage, ReturnsSum};
+ghost use Rattle.pw_law_runs.specs.FromGo.Refusals.{HoldsNoWantOfMemory, NoMainComes, NoMainIs, RefusalComes, RefusalIs};
+ghost use Rattle.pw_store_modules.specs.Modules.{modules_of};
+ghost use Rattle.pw_law_session.specs.FromBuilding.Genuine.{KeepsGenuine};
 ghost use Rattle.pw_top.specs.Commands.{BuildsWhole, EndsScript, IsGo, IsNoSession, KeepsTheRest, OnlyReads, is_builder, is_phase, is_reader, line_of, opts_of};
 ghost use Rattle.pw_top.specs.Does.{DoesAs};
 ghost use Rattle.pw_top.specs.Obeying.{CarriesOut, outside_of};
-ghost use Rattle.pw_words.specs.CommandLine.{command_of};
-ghost use Rattle.pw_words.specs.Limits.{IsWithin};
+ghost use Rattle.pw_top_words.specs.CommandLine.{command_of};
+ghost use Rattle.pw_top_words.specs.Limits.{IsWithin};
 
-use pw_answer::{Answer, Reply, tell};
-use pw_compiling::{compile_flow, compile_text};
+use pw_commands_phases::{compile_flow, compile_text};
 use pw_io::laws::other_files;
 use pw_io::{Sink, Source, Store};
-use pw_run_laws::{
+use pw_law_runs::{
     analyse_modules, builds_agree, go, link_modules, list_image, refusals_are_due, run_image,
     runs_leave_an_end, show_database,
 };
-use pw_session_laws::{
+use pw_law_session::{
     Opts, SessionOpts, a_build_leaves_the_whole_program, bench, build_modules,
     genuine_files_keep_genuine, run_session, sessions_build_in_full,
 };
-use pw_words::laws::commands_are_within;
-use pw_words::{Command, WordsFault, command};
+use pw_top_answer::{Answer, Reply, tell};
+use pw_top_words::laws::commands_are_within;
+use pw_top_words::{Command, WordsFault, command};
 use std::alloc::Global;
 
 /// How a session and `bench` build, and for how many instructions they run a program at most.

@@ -3,6 +3,7 @@
 
 mod copying;
 mod directing;
+pub mod laws;
 mod web;
 
 pub use directing::direct;

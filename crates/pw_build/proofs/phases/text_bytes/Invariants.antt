@@ -1,8 +1,8 @@
 use Rattle.std.proofs.Common.{◌≡◌, ◌*◌, ◌≤◌, map, take}
-use Rattle.pw_modules.specs.Views.{source}
+use Rattle.pw_store_modules.specs.Views.{source}
 use Rattle.pw_build.specs.Builds.{text_bytes}
 use Rattle.pw_build.proofs.phases.text_bytes.Given as goal
-use Rattle.pw_modules.specs.Modules.{text_read}
+use Rattle.pw_store_modules.specs.Modules.{text_read}
 
 abbrev pub invariant-loop-which : goal.invariant-loop-which
 invariant-loop-which l = record {

@@ -1,4 +1,4 @@
-use Rattle.pw_checking.specs.StateViews.{view_state}
+use Rattle.pw_check_state.specs.StateViews.{view_state}
 use Rattle.pw_tree.specs.Views.{view_module}
 use Rattle.pw_typed.specs.Views as typed
 use Rattle.pw_check.proofs.ModuleLaws.{refused_behind, typed_behind}

@@ -1,4 +1,4 @@
-use Rattle.pw_rules.specs.Checks.{checking}
+use Rattle.pw_check_rules.specs.Checks.{checking}
 use Rattle.pw_tree.specs.Views.{view_module}
 use Rattle.pw_typed.specs.Views as typed
 use Rattle.pw_check.proofs.RefusalLaws.{names_told, declarations_told, types_told, constants_told, features_told, limits_told, made_told}

@@ -1,9 +1,9 @@
 use Rattle.std.proofs.Common.{refl, ap, rules}
-use Rattle.pw_checking.specs.StateViews.{view_state}
+use Rattle.pw_check_state.specs.StateViews.{view_state}
 use Rattle.pw_tree.specs.Views.{view_external}
-use Rattle.pw_walk.proofs.CallLaws.{step_ok, step_err}
-use Rattle.pw_labels.proofs.Steps.{ends, same}
-use Rattle.pw_rules.specs.Modules.{external_rule}
+use Rattle.pw_check_walk.proofs.CallLaws.{step_ok, step_err}
+use Rattle.pw_check_labels.proofs.Steps.{ends, same}
+use Rattle.pw_check_rules.specs.Modules.{external_rule}
 use Rattle.pw_check.proofs.modules.external_rule.Goals as goal
 
 pub returns-in-Function : goal.returns-in-Function

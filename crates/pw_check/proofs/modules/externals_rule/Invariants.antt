@@ -1,8 +1,8 @@
 use Rattle.std.proofs.Common.{◌≡◌, drop}
-use Rattle.pw_checking.specs.StateViews.{view_state}
-use Rattle.pw_rules.specs.Modules.{externals_rule}
+use Rattle.pw_check_state.specs.StateViews.{view_state}
+use Rattle.pw_check_rules.specs.Modules.{externals_rule}
 use Rattle.pw_tree.specs.Views.{view_externals}
-use Rattle.pw_walk.specs.Walks.{outcome}
+use Rattle.pw_check_walk.specs.Walks.{outcome}
 use Rattle.pw_check.proofs.modules.externals_rule.Given as goal
 
 -- what is left comes to what the whole does

@@ -1,6 +1,6 @@
 use Rattle.std.proofs.Common.{refl, rules}
-use Rattle.pw_walk.proofs.CallLaws.{step_ok, step_err}
-use Rattle.pw_labels.proofs.Steps.{from, regroup}
+use Rattle.pw_check_walk.proofs.CallLaws.{step_ok, step_err}
+use Rattle.pw_check_labels.proofs.Steps.{from, regroup}
 use Rattle.pw_check.specs.Parts.{met_rule}
 use Rattle.pw_check.proofs.modules.met_rule.Goals as goal
 

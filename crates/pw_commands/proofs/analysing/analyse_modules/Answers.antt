@@ -1,5 +1,5 @@
 use Rattle.std.proofs.Common.{[], ◌∷◌}
-use Rattle.pw_modules.specs.FileNames.{database_name}
+use Rattle.pw_store_modules.specs.FileNames.{database_name}
 use Rattle.pw_commands.proofs.AnalysingLemmas.{obeys_analysed, obeys_not_analysed}
 use Rattle.pw_commands.proofs.OthersLemmas.{kept_others, put_others}
 use Rattle.pw_commands.proofs.analysing.analyse_modules.Goals as goal

@@ -1,5 +1,5 @@
 use Rattle.std.proofs.Common.{[], ◌∷◌}
-use Rattle.pw_modules.specs.FileNames.{image_name}
+use Rattle.pw_store_modules.specs.FileNames.{image_name}
 use Rattle.pw_commands.proofs.ObeysLemmas.{obeys_linked, obeys_refused}
 use Rattle.pw_commands.proofs.OthersLemmas.{kept_others, put_others}
 use Rattle.pw_commands.proofs.linking.link_modules.Goals as goal

@@ -6,7 +6,7 @@ use Rattle.pw_flowfile.proofs.ContentLaws.{IsRight, payload_spells}
 use Rattle.pw_flowfile.proofs.reading.read.Goals as goal
 
 pub returns-clause-found : goal.returns-clause-found
-returns-clause-found c = found_by kind_of_file flow_version fields_at late_rules spelling IsRight payload_spells c.args.bytes.now c.read_value.result (λ i. omega (arith, c.type_inv.bytes i)) c.read_value.ensures
+returns-clause-found c = found_by kind_of_file flow_version flow_version (λ version. fields_at) late_rules (λ version. spelling) (λ version. IsRight) (λ version from to. payload_spells) c.args.bytes.now c.read_value.result (λ i. omega (arith, c.type_inv.bytes i)) c.read_value.ensures
 
 pub returns-clause-only : goal.returns-clause-only
-returns-clause-only c = only_by kind_of_file flow_version fields_at late_rules spelling IsRight payload_spells (lit< tt) (lit< tt) c.args.bytes.now c.read_value.result c.read_value.ensures
+returns-clause-only c = only_by kind_of_file flow_version flow_version (λ version. fields_at) late_rules (λ version. spelling) (λ version. IsRight) (λ version from to. payload_spells) (lit< tt) (lit< tt) c.args.bytes.now c.read_value.result c.read_value.ensures

@@ -1,5 +1,5 @@
 use Rattle.std.proofs.Common.{map}
-use Rattle.pw_modules.specs.Views.{source}
+use Rattle.pw_store_modules.specs.Views.{source}
 use Rattle.pw_go.specs.BuildViews.{build_view}
 use Rattle.pw_go.proofs.BuiltLemmas.{built_of_modules}
 use Rattle.pw_go.proofs.build.build.Goals as goal

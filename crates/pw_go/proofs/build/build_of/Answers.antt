@@ -1,6 +1,6 @@
 use Rattle.std.proofs.Common.{◌∙◌, ap, map, subst, sym}
 use Rattle.std.specs.Option.{option_map}
-use Rattle.pw_modules.specs.Views.{source}
+use Rattle.pw_store_modules.specs.Views.{source}
 use Rattle.pw_go.specs.BuildViews.{build_view}
 use Rattle.pw_go.specs.Refusals.{IsProper}
 use Rattle.pw_go.proofs.FoundLemmas.{of_refused}

@@ -1,5 +1,5 @@
 use Rattle.std.proofs.Common.{◌≡◌, drop, map}
-use Rattle.pw_modules.specs.Views.{source}
+use Rattle.pw_store_modules.specs.Views.{source}
 use Rattle.pw_go.specs.FullBuild.{first_refused}
 use Rattle.pw_go.proofs.build.first_refused.Given as goal
 

@@ -1,5 +1,5 @@
 use Rattle.std.proofs.Common.{ap, sym, ◌∙◌}
-use Rattle.pw_ccalls.specs.Functions.{callable_of}
+use Rattle.pw_interp_calls.specs.Functions.{callable_of}
 use Rattle.pw_interp.specs.Ends.{finished}
 use Rattle.pw_interp.proofs.run.finish.Goals as goal
 

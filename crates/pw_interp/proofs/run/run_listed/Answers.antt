@@ -1,8 +1,8 @@
 use Rattle.std.proofs.Common.{ap, ◌∙◌}
 use Rattle.std.proofs.lemmas.Result.{IfOk-weaker}
 use Rattle.pw_cmean.specs.SourceRun.{source_run}
-use Rattle.pw_cworld.specs.Views.{view_program}
-use Rattle.pw_ccalls.specs.Frames.{frame_among}
+use Rattle.pw_interp_world.specs.Views.{view_program}
+use Rattle.pw_interp_calls.specs.Frames.{frame_among}
 use Rattle.pw_interp.proofs.run.run_listed.Goals as goal
 
 pub returns : goal.returns

@@ -1,9 +1,9 @@
 use Rattle.std.proofs.Common.{ap, sym, ◌∙◌, rules, refl}
 use Rattle.std.specs.Prelude.{option_map}
 use Rattle.pw_cmean.specs.Acts.{stop}
-use Rattle.pw_ccalls.specs.Functions.{callable_of}
-use Rattle.pw_ccalls.specs.WorldViews.{view_world}
-use Rattle.pw_ccalls.proofs.AnswerLaws.{then_ok, then_err, same, same_at, ends_so}
+use Rattle.pw_interp_calls.specs.Functions.{callable_of}
+use Rattle.pw_interp_calls.specs.WorldViews.{view_world}
+use Rattle.pw_interp_calls.proofs.AnswerLaws.{then_ok, then_err, same, same_at, ends_so}
 use Rattle.pw_interp.proofs.RunLaws.{finish_is, main_there, no_main}
 use Rattle.pw_interp.proofs.run.run_main.Goals as goal
 

@@ -1,6 +1,6 @@
 use Rattle.std.proofs.Common.{ap, sym, ◌∙◌}
 use Rattle.pw_cmean.specs.SourceRun.{start_state}
-use Rattle.pw_ccalls.specs.WorldViews.{view_world}
+use Rattle.pw_interp_calls.specs.WorldViews.{view_world}
 use Rattle.pw_interp.proofs.RunLaws.{run_seen}
 use Rattle.pw_interp.proofs.run.run_world.Goals as goal
 

@@ -1,4 +1,4 @@
-use Rattle.pw_ccalls.specs.WorldViews.{view_world}
+use Rattle.pw_interp_calls.specs.WorldViews.{view_world}
 use Rattle.pw_interp.proofs.RunLaws.{start_shows}
 use Rattle.pw_interp.proofs.run.start.Goals as goal
 

@@ -5,7 +5,7 @@ use Rattle.pw_lower.specs.Expressions.{lower, arguments}
 use Rattle.pw_typed.specs.Views.{view_expr, view_exprs}
 use Rattle.pw_types.specs.Views.{view_qtype}
 use Rattle.pw_typed.specs.declared.tree.TForm.{size-TForm}
-use Rattle.pw_lforms.specs.Homes.{view_home}
+use Rattle.pw_lower_forms.specs.Homes.{view_home}
 use Rattle.pw_lexpr.proofs.ArgumentLaws.{args_further, args_done}
 use Rattle.pw_lexpr.proofs.StepLaws.{edge_back, finish_call, finish_call_value}
 use Rattle.pw_lexpr.proofs.expressions.+lower.Goals as goal

@@ -3,7 +3,7 @@ use Rattle.pw_lower.specs.Codes.{lowered_as}
 use Rattle.pw_lower.specs.Expressions.{lower, arguments}
 use Rattle.pw_typed.specs.Views.{view_expr, view_exprs}
 use Rattle.pw_typed.specs.declared.tree.TForm.{size-TForm}
-use Rattle.pw_lforms.specs.Homes.{view_home}
+use Rattle.pw_lower_forms.specs.Homes.{view_home}
 use Rattle.pw_lexpr.specs.Finish.{finish_node, finish_all, with_temps}
 use Rattle.pw_lexpr.proofs.expressions.+lower.Given as goal
 

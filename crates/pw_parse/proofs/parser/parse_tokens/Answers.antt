@@ -3,7 +3,7 @@ use Rattle.std.proofs.lemmas.Grind.{common_steps}
 use Rattle.pw_token.proofs.TokenBounds.{tokens_within}
 use Rattle.pw_tree.specs.Lexemes.{view_lexeme}
 use Rattle.pw_tree.specs.Views.{view_externals}
-use Rattle.pw_grammar.specs.Modules.{externals, read, start}
+use Rattle.pw_parse_grammar.specs.Modules.{externals, read, start}
 use Rattle.pw_parse.specs.Parsing.{parsed, symbol_in, unless_too_deep}
 use Rattle.pw_parse.proofs.Answered.{tree_answered, fault_answered, told}
 use Rattle.pw_parse.proofs.parser.parse_tokens.Goals as goal

@@ -1,5 +1,5 @@
 use Rattle.std.proofs.Common.{refl}
-use Rattle.pw_script.specs.Script.{BuildProgram}
+use Rattle.pw_session_script.specs.Script.{BuildProgram}
 use Rattle.pw_session.specs.Outcomes.{image_view}
 use Rattle.pw_session.specs.Removals.{IsRemovedBy}
 use Rattle.pw_session.proofs.LineLemmas.{fault_count, line_built, line_refused, made_built, made_refused}

@@ -1,7 +1,7 @@
 use Rattle.std.proofs.Common.{ℕ, List, refl, sym, ap, ◌∙◌}
 use Rattle.std.specs.Prelude.{codes, string_bytes}
-use Rattle.pw_script.specs.Reading.{line_view}
-use Rattle.pw_script.specs.Script.{RemoveText}
+use Rattle.pw_session_script.specs.Reading.{line_view}
+use Rattle.pw_session_script.specs.Script.{RemoveText}
 use Rattle.pw_session.specs.Outcomes.{image_view}
 use Rattle.pw_session.specs.Removals.{IsRemovedBy}
 use Rattle.pw_session.proofs.LineLemmas.{line_put_so, line_removed_so, line_run_so, put_some, removed_some, same_some}

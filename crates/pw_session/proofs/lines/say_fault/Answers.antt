@@ -1,7 +1,7 @@
 use Rattle.std.proofs.Common.{subst}
-use Rattle.pw_answer.specs.declared.answer.Answer.{Answer}
-use Rattle.pw_answer.specs.Answers.{line_text}
-use Rattle.pw_answer.specs.Outcomes.{PutsOut}
+use Rattle.pw_top_answer.specs.declared.answer.Answer.{Answer}
+use Rattle.pw_top_answer.specs.Answers.{line_text}
+use Rattle.pw_top_answer.specs.Outcomes.{PutsOut}
 use Rattle.pw_session.proofs.LineLemmas.{says_refusal}
 use Rattle.pw_session.proofs.TurnLemmas.{say_is_line}
 use Rattle.pw_session.proofs.lines.say_fault.Goals as goal

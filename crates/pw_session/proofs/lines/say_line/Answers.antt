@@ -1,6 +1,6 @@
 use Rattle.std.proofs.Common.{refl}
-use Rattle.pw_answer.specs.declared.answer.Answer.TheVariants.{NoMemory}
-use Rattle.pw_answer.specs.Answers.{line_text}
+use Rattle.pw_top_answer.specs.declared.answer.Answer.TheVariants.{NoMemory}
+use Rattle.pw_top_answer.specs.Answers.{line_text}
 use Rattle.pw_session.proofs.OutputLemmas.{puts_alone}
 use Rattle.pw_session.proofs.lines.say_line.Goals as goal
 

@@ -1,5 +1,5 @@
 use Rattle.std.proofs.Common.{refl, sym, ◌∙◌}
-use Rattle.pw_answer.specs.declared.answer.Answer.TheVariants.{NoMemory}
+use Rattle.pw_top_answer.specs.declared.answer.Answer.TheVariants.{NoMemory}
 use Rattle.pw_session.specs.Runs.{ran_text, runs_as}
 use Rattle.pw_session.proofs.OutputLemmas.{puts_alone}
 use Rattle.pw_session.proofs.RunLemmas.{fault_says, ran_fault, ran_then, stop_writes}

@@ -1,4 +1,4 @@
-use Rattle.pw_answer.specs.declared.answer.Answer.TheVariants.{NoMemory}
+use Rattle.pw_top_answer.specs.declared.answer.Answer.TheVariants.{NoMemory}
 use Rattle.pw_session.specs.Runs.{stop_line}
 use Rattle.pw_session.proofs.OutputLemmas.{puts_alone}
 use Rattle.pw_session.proofs.runs.say_stop.Goals as goal

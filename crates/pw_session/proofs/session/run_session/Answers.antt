@@ -1,5 +1,5 @@
 use Rattle.std.proofs.Common.{◌+◌, ◌-◌, ◌∙◌, refl, arith}
-use Rattle.pw_answer.specs.declared.answer.Answer.TheVariants.{Done}
+use Rattle.pw_top_answer.specs.declared.answer.Answer.TheVariants.{Done}
 use Rattle.pw_session.specs.Outcomes.{image_view}
 use Rattle.pw_session.specs.Removals.{MayRemove}
 use Rattle.pw_session.specs.Session.{lines_limit}

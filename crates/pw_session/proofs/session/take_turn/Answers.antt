@@ -1,4 +1,4 @@
-use Rattle.pw_answer.specs.declared.answer.Answer.TheVariants.{Done}
+use Rattle.pw_top_answer.specs.declared.answer.Answer.TheVariants.{Done}
 use Rattle.pw_session.specs.Outcomes.{image_view, turn_answer}
 use Rattle.pw_session.specs.Removals.{MayRemoveFirst}
 use Rattle.pw_session.proofs.SessionLemmas.{turn_ends_so, turn_taken_so, turn_unread_so}

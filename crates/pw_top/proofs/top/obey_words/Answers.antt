@@ -1,7 +1,7 @@
 use Rattle.std.proofs.Common.{[], map, inr, refl}
 use Rattle.std.specs.Prelude.{string_bytes}
-use Rattle.pw_answer.specs.declared.answer.Answer.TheVariants.{Usage}
-use Rattle.pw_words.specs.CommandLine.{command_of}
+use Rattle.pw_top_answer.specs.declared.answer.Answer.TheVariants.{Usage}
+use Rattle.pw_top_words.specs.CommandLine.{command_of}
 use Rattle.pw_top.proofs.DoesLemmas.{usage_does}
 use Rattle.pw_top.proofs.CommandLemmas.{kept_alone, left_alone, no_command, no_line, of_other, usage_apart}
 use Rattle.pw_top.proofs.GenuineLemmas.{genuine_alone, others_alone, rest_alone}

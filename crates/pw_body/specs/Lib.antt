@@ -1,2 +1,0 @@
-pub mod Items
-pub use Rattle.pw_branches.specs.Views

@@ -1,0 +1,58 @@
+-- What the command `build` comes to, and what it leaves alone.
+use Rattle.std.specs.Prelude.{◌≡◌, ◌≢◌, ◌≤◌, ℕ, List, [], ◌++◌, length, Option, IsSomeAnd, Result, Ok, Err}
+use Rattle.std.specs.List.{AllByRecursion}
+use Rattle.sha2.specs.Sha256.{sha256}
+use Rattle.pw_io.specs.Files.{Files, Told}
+use Rattle.pw_value.specs.declared.fault.LinkFault.TheVariants as link
+use Rattle.pw_front_end.specs.Fronts.{HoldsNoWant}
+use Rattle.pw_top_answer.specs.declared.answer.Answer.{Answer}
+use Rattle.pw_top_answer.specs.declared.answer.Answer.TheVariants.{Done, Refused, LinkRefused, WriteFault, StoreFault, NoMemory}
+use Rattle.pw_top_answer.specs.Effects.{Effect, answers_alone}
+use Rattle.pw_build_files.specs.FromBuild.BuildFault.{BuildFault}
+use Rattle.pw_build_files.specs.Building.{BuildComes, Outcome}
+use Rattle.pw_build_files.specs.Genuine.{IsBuiltName}
+use Rattle.pw_build_files.specs.Lines.{report_lines}
+use Rattle.pw_build_files.specs.Outcomes.{fault_answer}
+use Rattle.pw_commands.specs.Others.{IsSameBut}
+
+-- ---- what the command comes to
+
+-- the two lines of a build's report
+abbrev pub outcome_lines : Outcome → List ℕ
+outcome_lines outcome = report_lines (length outcome.rebuilt) outcome.modules (length outcome.image) (sha256 outcome.image)
+
+-- A build is done, its files are put and its two lines put out; a refusal is told.
+abbrev pub built_effect : Result Outcome BuildFault → List ℕ → Effect
+built_effect (Ok outcome) input = record { answer = Done; puts = outcome.puts; output = outcome_lines outcome; rest = input }
+built_effect (Err fault) input = answers_alone (fault_answer fault) input
+
+-- `build` over a store's files, for so many registers and such a stack
+abbrev pub BuildComesTo : Files → ℕ → ℕ → List ℕ → Effect → Type 0
+BuildComesTo files colours stack input effect =
+    (comes : Result Outcome BuildFault) × BuildComes files colours stack comes × (effect ≡ built_effect comes input)
+
+-- the answers of the command, whose refusals are none for want of memory
+abbrev pub IsBuildAnswer : Answer → Type 0
+IsBuildAnswer Done = Unit {0}
+IsBuildAnswer (Refused name refusal) = HoldsNoWant refusal
+IsBuildAnswer (LinkRefused fault) = fault ≢ link.NoMemory
+IsBuildAnswer WriteFault = Unit {0}
+IsBuildAnswer StoreFault = Unit {0}
+IsBuildAnswer NoMemory = Unit {0}
+IsBuildAnswer _ = ⊥
+
+-- ---- what it leaves alone
+
+-- The store tells the names that were put besides, all of a build, and every file has its old bytes, or is absent as
+-- before, but those of these names and, where the store failed, perhaps of one more, whose put failed.
+pub record Unput (answer : Answer) (told left : Told) : Type 0 where
+  pub put : List (List ℕ)
+  pub failed : List (List ℕ)
+  pub own : AllByRecursion IsBuiltName (put ++ failed)
+  pub one : length failed ≤ 1
+  pub none : answer ≢ StoreFault → failed ≡ []
+  pub told_so : left.puts ≡ told.puts ++ put
+  pub same : IsSameBut (put ++ failed) told.files left.files
+
+abbrev pub KeepsUnput : Answer → Told → Option Told → Type 0
+KeepsUnput answer told new = IsSomeAnd new (Unput answer told)

@@ -1,0 +1,79 @@
+//! Laws of builds over the files of a store. A function here does nothing: its clauses are facts about all values.
+
+ghost use Rattle.std.specs.Prelude.{◌≡◌, ◌≢◌, ◌≤◌, ℕ, List, [], Ok, Err, IfSome, Option, Result, true};
+ghost use Rattle.std.specs.List.{AllByRecursion};
+ghost use Rattle.std.specs.FinMap as finite;
+ghost use Rattle.pw_io.specs.Files.{Files, Told};
+ghost use Rattle.pw_store_modules.specs.Modules.{is_module_file, module_map, modules_of};
+ghost use Rattle.pw_top_answer.specs.Effects.{NamedFile, PutPart, after_puts};
+ghost use Rattle.pw_build_objects.specs.Programs.{Parts};
+ghost use Rattle.pw_build_program.specs.FromBuild.BuildFault.{BuildFault};
+ghost use Rattle.pw_build_program.specs.FromBuild.Builds.{Builds, Texts};
+ghost use Rattle.pw_build_program.specs.FromBuild.Full.{built_anew};
+ghost use Rattle.pw_build_files.specs.Building.{BuildComes, Outcome, kept_objects};
+ghost use Rattle.pw_build_files.specs.Full.{BuildsImage, image_of};
+ghost use Rattle.pw_build_files.specs.Genuine.{IsGenuineFile, KeepsGenuine};
+ghost use Rattle.pw_db.specs.Limits.{colour_limit};
+
+use pw_build_program::build_laws;
+use pw_build_program::build_laws::modules_have_one_build;
+use pw_db::laws::databases_and_files_are_one_to_one;
+use pw_image::laws::images_and_files_are_one_to_one;
+use pw_io::laws::{names, other_files};
+use pw_object::laws::objects_and_files_are_one_to_one;
+use pw_store_modules::modules_are_exact;
+
+/// The files of a store come to one build.
+pub fn a_store_has_one_build()
+    ensures { (files : Files) (colours stack : ℕ) (a b : Result Outcome BuildFault) → colours ≤ colour_limit → BuildComes files colours stack a → BuildComes files colours stack b → a ≡ b }
+{
+    modules_have_one_build();
+    databases_and_files_are_one_to_one();
+    images_and_files_are_one_to_one();
+    objects_and_files_are_one_to_one();
+}
+
+/// Where the kept objects are genuine, a build over a store's files is the full build, but for which objects are made anew.
+pub fn genuine_objects_give_the_full_build()
+    ensures { (files : Files) (colours stack : ℕ) (a : Result Parts BuildFault) → KeepsGenuine files → Builds (modules_of files) (kept_objects files) colours stack a → Builds (modules_of files) [] colours stack (built_anew a) }
+{
+    names();
+    modules_are_exact();
+    build_laws::genuine_objects_give_the_full_build();
+}
+
+/// The full build of texts comes to the bytes of one image, or to one fault.
+pub fn texts_have_one_image()
+    ensures { (texts : Texts) (colours stack : ℕ) (a b : Result (List ℕ) BuildFault) → colours ≤ colour_limit → BuildsImage texts colours stack a → BuildsImage texts colours stack b → a ≡ b }
+{
+    modules_have_one_build();
+    images_and_files_are_one_to_one();
+}
+
+/// Where the kept objects are genuine, a build over a store's files comes to the image of the full build of their texts,
+/// byte for byte, or to its fault.
+pub fn genuine_objects_give_the_full_image()
+    ensures { (files : Files) (colours stack : ℕ) (comes : Result Outcome BuildFault) → KeepsGenuine files → BuildComes files colours stack comes → BuildsImage (module_map files) colours stack (image_of comes) }
+{
+    genuine_objects_give_the_full_build();
+}
+
+/// A build over a store whose kept objects are genuine leaves it so.
+pub fn builds_leave_genuine_objects()
+    ensures { (told : Told) (colours stack : ℕ) (outcome : Outcome) → KeepsGenuine told.files → BuildComes told.files colours stack (Ok outcome) → KeepsGenuine (after_puts told outcome.puts).files }
+{
+    other_files();
+}
+
+/// Where no file but a module's text changed, genuine kept objects stay so.
+pub fn module_texts_are_no_objects()
+    ensures { (file : List ℕ) (old new : Files) → is_module_file file ≡ true → ((other : List ℕ) → other ≢ file → finite.get new other ≡ finite.get old other) → KeepsGenuine old → KeepsGenuine new }
+{}
+
+/// Kept objects that are genuine stay so where files are put, the last of them perhaps in part, if each that has the name of an
+/// object's file is that of a genuine object.
+pub fn genuine_files_keep_genuine()
+    ensures { (told : Told) (files : List NamedFile) (new : Option Told) → KeepsGenuine told.files → AllByRecursion IsGenuineFile files → PutPart told files new → IfSome new (λ now. KeepsGenuine now.files) }
+{
+    other_files();
+}

@@ -1,0 +1,80 @@
+//! A build as far as its puts.
+
+ghost use Rattle.std.specs.Prelude.{◌≡◌, ◌+◌, Ok, IfErr, IfOk, IfSome, length, map};
+ghost use Rattle.std.specs.List.{AllByRecursion};
+ghost use Rattle.pw_io.specs.Files.{Keeps};
+ghost use Rattle.pw_store_modules.specs.Modules.{modules_of};
+ghost use Rattle.pw_store_modules.specs.Views.{source};
+ghost use Rattle.pw_value.specs.Limits.{module_limit};
+ghost use Rattle.pw_build_objects.specs.Counting.{CountsUpTo};
+ghost use Rattle.pw_build_program.specs.FromBuild.Builds.{first_phases};
+ghost use Rattle.pw_build_program.specs.FromBuild.Phases.{IsLine, refused_line};
+ghost use Rattle.pw_store_kept.specs.Files.{changed_files};
+ghost use Rattle.pw_build_files.specs.Building.{BuildComes};
+ghost use Rattle.pw_build_files.specs.Genuine.{IsOwnFile};
+ghost use Rattle.pw_build_files.specs.Outcomes.{AreOpts, CountsAtMost, CountsFound, FaultCount, FaultFound, HoldsImage, IsNoWant, outcome_of};
+
+use crate::report::Opts;
+use pw_build_objects::Steps;
+use pw_build_program::{Unbuilt, few_modules, program_of};
+use pw_io::Store;
+use pw_store_kept::{Prepared, compared};
+use pw_store_modules::Module;
+use std::alloc::Global;
+use std::sync::ledger::Ledger;
+
+/// What modules come to, where they are those of the store, before the files are put.
+#[tactic(auto, using(crate::proofs::FileLemmas::stored_no_want))]
+fn prepared_of<S: Store, L: Ledger>(
+    alloc: Global,
+    store: &mut S,
+    modules: &[Module],
+    opts: &Opts,
+    steps: &mut Steps<L>,
+) -> Result<Prepared, Unbuilt>
+    requires { AreOpts opts.now }
+    ensures comes { IfSome (S.told store.old) (λ told. map source modules.now ≡ modules_of told.files → IfOk result (λ prepared. BuildComes told.files opts.now.colours opts.now.stack (Ok (outcome_of prepared)))) }
+    ensures own { IfSome (S.told store.old) (λ told. IfOk result (λ prepared. AllByRecursion IsOwnFile (changed_files prepared))) }
+    ensures image { IfOk result (λ prepared. HoldsImage prepared.image.items) }
+    ensures fault { IfSome (S.told store.old) (λ told. map source modules.now ≡ modules_of told.files → IfErr result (λ unbuilt. FaultFound told.files opts.now unbuilt.fault)) }
+    ensures line { IfSome (S.told store.old) (λ told. map source modules.now ≡ modules_of told.files → IfErr result (λ unbuilt. IsLine (refused_line (modules_of told.files)) unbuilt.fault unbuilt.line)) }
+    ensures counted { IfOk result (λ prepared. steps.new ≡ steps.old + length prepared.rebuilt.items) }
+    ensures counted_fault { IfSome (S.told store.old) (λ told. map source modules.now ≡ modules_of told.files → IfErr result (λ unbuilt. CountsFound told.files opts.now unbuilt.fault steps.old steps.new)) }
+    ensures bound { CountsAtMost (first_phases (map source modules.now)) steps.old steps.new }
+    ensures most { CountsUpTo module_limit steps.old steps.new }
+    ensures proper { IfErr result (λ unbuilt. IsNoWant unbuilt.fault) }
+    ensures same { Keeps (S.told store.old) (S.told store.new) }
+    ensures count { FaultCount (S.faults store.old) (S.faults store.new) result }
+{
+    match program_of(alloc, store, modules, opts.colours, opts.stack, steps) {
+        Ok(files) => Ok(compared(alloc, store, modules.len() as u32, files)?),
+        Err(unbuilt) => Err(unbuilt),
+    }
+}
+
+/// What the modules of a store come to, before the files are put.
+pub fn prepare<S: Store, L: Ledger>(
+    alloc: Global,
+    store: &mut S,
+    opts: &Opts,
+    steps: &mut Steps<L>,
+) -> Result<Prepared, Unbuilt>
+    requires { AreOpts opts.now }
+    ensures comes { IfSome (S.told store.old) (λ told. IfOk result (λ prepared. BuildComes told.files opts.now.colours opts.now.stack (Ok (outcome_of prepared)))) }
+    ensures own { IfSome (S.told store.old) (λ told. IfOk result (λ prepared. AllByRecursion IsOwnFile (changed_files prepared))) }
+    ensures image { IfOk result (λ prepared. HoldsImage prepared.image.items) }
+    ensures fault { IfSome (S.told store.old) (λ told. IfErr result (λ unbuilt. FaultFound told.files opts.now unbuilt.fault)) }
+    ensures line { IfSome (S.told store.old) (λ told. IfErr result (λ unbuilt. IsLine (refused_line (modules_of told.files)) unbuilt.fault unbuilt.line)) }
+    ensures counted { IfOk result (λ prepared. steps.new ≡ steps.old + length prepared.rebuilt.items) }
+    ensures counted_fault { IfSome (S.told store.old) (λ told. IfErr result (λ unbuilt. CountsFound told.files opts.now unbuilt.fault steps.old steps.new)) }
+    ensures bound { IfSome (S.told store.old) (λ told. CountsAtMost (first_phases (modules_of told.files)) steps.old steps.new) }
+    ensures most { CountsUpTo module_limit steps.old steps.new }
+    ensures proper { IfErr result (λ unbuilt. IsNoWant unbuilt.fault) }
+    ensures same { Keeps (S.told store.old) (S.told store.new) }
+    ensures count { FaultCount (S.faults store.old) (S.faults store.new) result }
+{
+    match few_modules(alloc, store) {
+        Ok(modules) => prepared_of(alloc, store, &modules, opts, steps),
+        Err(unbuilt) => Err(unbuilt),
+    }
+}

@@ -1,0 +1,109 @@
+-- From the flow graphs of modules to their program. What was kept of a module stands at its place in a list, which may
+-- end early: a kept object stays where it was made of the same flow graph under the same directives.
+use Rattle.std.specs.Prelude.{◌≡◌, ℕ, ◌⊎◌, Bool, true, false, List, [], ◌∷◌, All, Option, Some, None, Result, Ok, Err}
+use Rattle.std.specs.List.{AllByRecursion}
+use Rattle.pw_value.specs.declared.fault.LinkFault.{LinkFault}
+use Rattle.pw_flow.specs.declared.flow.FlowModule.{FlowModule}
+use Rattle.pw_flow.specs.ValidFlow.{IsValid}
+use Rattle.pw_flowfile.specs.FlowFile.{IsFlowFile}
+use Rattle.pw_summary.specs.declared.summary.Summary.{Summary}
+use Rattle.pw_summarise.specs.Summarises.{Summarises}
+use Rattle.pw_graph.specs.Program as graph
+use Rattle.pw_colour.specs.Colours.{IsDatabaseOf}
+use Rattle.pw_db.specs.declared.database.Directives.{Directives}
+use Rattle.pw_db.specs.Database.{HasDirectives}
+use Rattle.pw_object.specs.declared.object.Object.{Object}
+use Rattle.pw_phase_two.specs.Phases.{AreDirectivesOf, IsObjectOf, IsPayloadOf}
+use Rattle.pw_link.specs.Linking.{AreLinked, IsRefusal}
+
+-- functions by name, each with its directives
+abbrev pub DirectivesList : Type 0
+DirectivesList = List (List ℕ × Directives)
+
+-- ---- the database
+
+abbrev pub AreSummariesOf : List FlowModule → List Summary → Type 0
+AreSummariesOf [] [] = Unit {0}
+AreSummariesOf [] (s ∷ ss) = ⊥
+AreSummariesOf (f ∷ fs) [] = ⊥
+AreSummariesOf (f ∷ fs) (s ∷ ss) = Summarises f s × AreSummariesOf fs ss
+
+-- the modules keep the rules of linking, and this is their database for so many registers
+pub record HasDatabase (flows : List FlowModule) (colours : ℕ) (db : DirectivesList) : Type 0 where
+  pub summaries : List Summary
+  pub of_flows : AreSummariesOf flows summaries
+  pub linked : graph.AreLinked summaries
+  pub database : IsDatabaseOf summaries colours db
+
+-- the modules break a rule of linking
+pub record BreakRule (flows : List FlowModule) (fault : LinkFault) : Type 0 where
+  pub summaries : List Summary
+  pub of_flows : AreSummariesOf flows summaries
+  pub refused : graph.AreRefused summaries fault
+
+-- ---- the object of a module
+
+-- The object was made of this flow graph under these directives: their file and their payload stand in it.
+pub record IsMadeOf (flow : FlowModule) (directives : DirectivesList) (o : Object) : Type 0 where
+  pub flow_file : IsFlowFile o.flow flow
+  pub payload : IsPayloadOf o.directives directives
+
+-- what was kept of a module stays
+abbrev pub Stays : FlowModule → DirectivesList → Option Object → Type 0
+Stays flow directives None = ⊥
+Stays flow directives (Some o) = IsMadeOf flow directives o
+
+-- the object of a module under directives, and whether it is made anew
+abbrev pub IsObjectFrom : FlowModule → DirectivesList → Option Object → Object → Bool → Type 0
+IsObjectFrom flow directives old o true = (¬ Stays flow directives old) × IsObjectOf flow directives o
+IsObjectFrom flow directives old o false = (old ≡ Some o) × IsMadeOf flow directives o
+
+-- the functions of a module in its order, each with its directives in a database, which are empty where it lacks the function
+pub record AreDirectivesIn (db : DirectivesList) (flow : FlowModule) (directives : DirectivesList) : Type 0 where
+  pub of_module : AreDirectivesOf flow directives
+  pub each : All (HasDirectives db) directives
+
+-- the object of a module under its directives in a database, and whether it is made anew
+pub record IsModuleFrom (db : DirectivesList) (flow : FlowModule) (old : Option Object) (o : Object) (fresh : Bool) : Type 0 where
+  pub directives : DirectivesList
+  pub in_database : AreDirectivesIn db flow directives
+  pub object : IsObjectFrom flow directives old o fresh
+
+-- what was kept of the first module, and of those behind it
+abbrev pub first_kept : List (Option Object) → Option Object
+first_kept [] = None
+first_kept (old ∷ more) = old
+
+abbrev pub kept_behind : List (Option Object) → List (Option Object)
+kept_behind [] = []
+kept_behind (old ∷ more) = more
+
+-- the objects of all modules in their order, and which of them are made anew
+abbrev pub AreObjectsFrom : DirectivesList → List FlowModule → List (Option Object) → List Object → List Bool → Type 0
+AreObjectsFrom db [] kept [] [] = Unit {0}
+AreObjectsFrom db (flow ∷ flows) kept (o ∷ os) (fresh ∷ more) = IsModuleFrom db flow (first_kept kept) o fresh × AreObjectsFrom db flows (kept_behind kept) os more
+AreObjectsFrom db [] kept [] (fresh ∷ more) = ⊥
+AreObjectsFrom db [] kept (o ∷ os) more = ⊥
+AreObjectsFrom db (flow ∷ flows) kept [] more = ⊥
+AreObjectsFrom db (flow ∷ flows) kept (o ∷ os) [] = ⊥
+
+-- ---- the program
+
+-- what a program is linked of: its database, the objects of its modules, and which of them are made anew
+pub record Parts : Type 0 where
+  pub database : DirectivesList
+  pub objects : List Object
+  pub fresh : List Bool
+
+pub record AreParts (flows : List FlowModule) (kept : List (Option Object)) (colours : ℕ) (parts : Parts) : Type 0 where
+  pub lawful : AllByRecursion IsValid flows
+  pub database : HasDatabase flows colours parts.database
+  pub objects : AreObjectsFrom parts.database flows kept parts.objects parts.fresh
+
+-- The one answer to flow graphs and kept objects, for so many registers and such a stack: the parts of a program that can
+-- be linked; or why there is none, by the modules' summaries or else by their objects.
+abbrev pub Completes : List FlowModule → List (Option Object) → ℕ → ℕ → Result Parts LinkFault → Type 0
+Completes flows kept colours stack (Ok parts) = AreParts flows kept colours parts × AreLinked parts.objects stack
+Completes flows kept colours stack (Err fault) =
+    (AllByRecursion IsValid flows × BreakRule flows fault)
+    ⊎ ((parts : Parts) × AreParts flows kept colours parts × IsRefusal parts.objects stack fault)

@@ -1,0 +1,46 @@
+//! The database of modules, by their flow graphs.
+
+ghost use Rattle.std.specs.Prelude.{◌≡◌, ◌⊎◌, ◌≤◌, All, IfErr, IfOk, IfSome};
+ghost use Rattle.std.specs.List.{AllByRecursion};
+ghost use Rattle.pw_flow.specs.ValidFlow.{IsValid};
+ghost use Rattle.pw_summary.specs.Summary.{IsSummary};
+ghost use Rattle.pw_db.specs.Database.{IsDatabase};
+ghost use Rattle.pw_build_objects.specs.Programs.{AreSummariesOf, BreakRule, HasDatabase};
+ghost use Rattle.pw_db.specs.Limits.{colour_limit};
+
+use pw_colour::analyse;
+use pw_colour::laws::databases_are_lawful;
+use pw_db::Database;
+use pw_flow::FlowModule;
+use pw_summarise::summarise;
+use pw_summary::Summary;
+use pw_value::LinkFault;
+use std::alloc::{AllocError, Global};
+
+/// The summaries of flow graphs, in their order.
+fn summaries_of(alloc: Global, flows: &[FlowModule]) -> Result<Vec<Summary>, AllocError>
+    requires { AllByRecursion IsValid flows.now }
+    ensures summaries { IfOk result (λ summaries. AreSummariesOf flows.now summaries.items) }
+    ensures lawful { IfOk result (λ summaries. AllByRecursion IsSummary summaries.items) }
+{
+    let mut summaries = Vec::new(alloc);
+    let mut rest = flows;
+    while let [flow, after @ ..] = rest {
+        summaries.push(summarise(alloc, flow)?)?;
+        rest = after;
+    }
+    Ok(summaries)
+}
+
+/// The database of the modules with these flow graphs, for so many registers; or which rule of linking they break.
+pub fn database_of(alloc: Global, flows: &[FlowModule], colours: u8) -> Result<Database, LinkFault>
+    requires lawful { AllByRecursion IsValid flows.now }
+    requires few { colours ≤ colour_limit }
+    ensures database { IfOk result (λ db. HasDatabase flows.now colours db.functions) }
+    ensures lawful { IfOk result (λ db. IsDatabase db.functions) }
+    ensures refused { IfErr result (λ fault. (fault ≡ LinkFault.NoMemory) ⊎ BreakRule flows.now fault) }
+{
+    databases_are_lawful();
+    let summaries = summaries_of(alloc, flows)?;
+    analyse(alloc, &summaries, colours)
+}

@@ -1,0 +1,42 @@
+//! Laws of programs. A function here does nothing: its clauses are facts about all values.
+
+ghost use Rattle.std.specs.Prelude.{◌≡◌, ◌≤◌, ℕ, List, [], Option, Result};
+ghost use Rattle.std.specs.List.{AllByRecursion};
+ghost use Rattle.pw_value.specs.declared.fault.LinkFault.{LinkFault};
+ghost use Rattle.pw_flow.specs.declared.flow.FlowModule.{FlowModule};
+ghost use Rattle.pw_object.specs.declared.object.Object.{Object};
+ghost use Rattle.pw_build_objects.specs.Programs.{Completes, Parts};
+ghost use Rattle.pw_build_objects.specs.Counting.{MakesAnew};
+ghost use Rattle.pw_build_objects.specs.Kept.{IsGenuineIfKept, anew};
+ghost use Rattle.pw_db.specs.Limits.{colour_limit};
+
+use pw_colour::laws::{databases_are_lawful, databases_are_one};
+use pw_db::laws::{databases_and_payloads_are_one_to_one, directives_are_one};
+use pw_flowfile::laws::flow_graphs_and_files_are_one_to_one;
+use pw_law_link::laws::objects_have_one_answer;
+use pw_link_rules::laws::modules_have_one_answer;
+use pw_phase_two::laws::a_module_has_one_object;
+use pw_summarise::laws::a_module_has_one_summary;
+
+/// Flow graphs and kept objects come to one answer, and so many objects of theirs are made anew.
+pub fn flow_graphs_have_one_answer()
+    ensures answer { (flows : List FlowModule) (kept : List (Option Object)) (colours stack : ℕ) (a b : Result Parts LinkFault) → colours ≤ colour_limit → Completes flows kept colours stack a → Completes flows kept colours stack b → a ≡ b }
+    ensures count { (flows : List FlowModule) (kept : List (Option Object)) (colours made other : ℕ) → colours ≤ colour_limit → MakesAnew flows kept colours made → MakesAnew flows kept colours other → made ≡ other }
+{
+    databases_are_lawful();
+    databases_are_one();
+    directives_are_one();
+    objects_have_one_answer();
+    a_module_has_one_object();
+    modules_have_one_answer();
+    a_module_has_one_summary();
+}
+
+/// Kept objects that the second phase made change nothing but which objects are made anew.
+pub fn genuine_objects_change_nothing()
+    ensures { (flows : List FlowModule) (kept : List (Option Object)) (colours stack : ℕ) (a : Result Parts LinkFault) → AllByRecursion IsGenuineIfKept kept → Completes flows kept colours stack a → Completes flows [] colours stack (anew a) }
+{
+    databases_and_payloads_are_one_to_one();
+    directives_are_one();
+    flow_graphs_and_files_are_one_to_one();
+}

@@ -1,7 +1,0 @@
-use Rattle.std.proofs.Common.{◌≡◌, drop}
-use Rattle.std.specs.Prelude.{slice_get}
-use Rattle.pw_ccalls.specs.Functions.{defined_in}
-use Rattle.pw_ccalls.proofs.world.defined_at.Given as goal
-
-abbrev pub invariant-loop-part : goal.invariant-loop-part
-invariant-loop-part l = slice_get (defined_in l.parts) l.place ≡ slice_get (defined_in (drop l.part-index l.parts)) l.left

@@ -1,0 +1,4 @@
+mod PointLaws
+mod TextLemmas
+mod ParameterLemmas
+mod EnumeratorLaws

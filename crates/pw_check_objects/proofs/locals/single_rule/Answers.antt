@@ -1,0 +1,15 @@
+use Rattle.std.proofs.Common.{rules, refl}
+use Rattle.pw_check_state.specs.StateViews.{view_state}
+use Rattle.pw_tree.specs.Views.{view_init, view_word}
+use Rattle.pw_types.specs.Views.{view_qtype}
+use Rattle.pw_check_walk.proofs.CallLaws.{step_ok, step_err}
+use Rattle.pw_check_init_values.proofs.WalkLemmas.{same_walk, done_with}
+use Rattle.pw_check_objects.proofs.ObjectLemmas.{single_joined}
+use Rattle.pw_check_objects.proofs.locals.single_rule.Goals as goal
+
+pub returns-in_err-made : goal.returns-in_err-made
+returns-in_err-made g c = same_walk (single_joined (view_word c.args.word.now) c.args.place (view_qtype c.args.q) (view_init c.args.init.now) (view_state c.args.state.now)) (step_err _ c.object_rule.ensures c.in_err-made.was (search rules))
+
+pub returns : goal.returns
+returns g c =
+    same_walk (single_joined (view_word c.args.word.now) c.args.place (view_qtype c.args.q) (view_init c.args.init.now) (view_state c.args.state.now)) (step_ok _ c.object_rule.ensures c.in_ok-made.was (done_with refl (cc (c.in_ok-ty.ensures, c.in_ok-initialisers.ensures)) refl))

@@ -1,0 +1,22 @@
+use Rattle.std.proofs.Common.{ap, ◌∙◌}
+use Rattle.pw_types.specs.Views.{view_qtype}
+use Rattle.pw_check_state.specs.PhraseViews.{view_spot}
+use Rattle.pw_check_state.specs.StateViews.{view_state}
+use Rattle.pw_check_finding.specs.Found.{found}
+use Rattle.pw_check_walk.specs.Walks.{bind}
+use Rattle.pw_check_rules.specs.States.{records_in}
+use Rattle.pw_check_records.specs.Parts.{member_point}
+use Rattle.pw_check_records.specs.Views.{view_member_list}
+use Rattle.pw_check_finding.proofs.FindingLaws.{point_end}
+use Rattle.pw_check_records.proofs.member.member_met.Goals as goal
+
+pub returns : goal.returns
+unfolding bind
+returns c =
+    let s = view_state c.args.state.now in
+    let spot = view_spot c.args.spot.now in
+    let q = view_qtype c.args.ty.now in
+    let members = view_member_list c.args.members.now in
+    point_end (member_point (records_in s) spot c.args.name.now q members) s _ _
+    (c.in_ok-member_found.ensures ∙ ap (λ rs. found (member_point rs spot c.args.name.now q members)) c.records.ensures)
+    c.end.ensures

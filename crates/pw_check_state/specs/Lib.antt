@@ -1,0 +1,7 @@
+pub mod Views
+pub mod PhraseViews
+pub mod StateViews
+pub mod Follows
+pub mod Changes
+pub use Rattle.pw_check_entities.specs.EntityViews
+pub use Rattle.pw_check_entities.specs.LinkedViews

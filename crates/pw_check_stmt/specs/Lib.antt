@@ -1,0 +1,2 @@
+pub mod Items
+pub use Rattle.pw_check_choice.specs.Views

@@ -1,8 +1,0 @@
-use Rattle.std.proofs.Common.{◌≡◌, take}
-use Rattle.pw_index.specs.Scoping.{found_names}
-use Rattle.pw_checking.specs.Changes.{tags_again}
-use Rattle.pw_checking.proofs.names.declare_tags.Given as goal
-
--- those so far are declared
-abbrev pub invariant-loop-entry : goal.invariant-loop-entry
-invariant-loop-entry l = l.names ≡ tags_again (found_names (take l.entry-index l.tags)) l.initial.names

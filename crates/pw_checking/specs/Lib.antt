@@ -1,7 +1,0 @@
-pub mod Views
-pub mod PhraseViews
-pub mod StateViews
-pub mod Follows
-pub mod Changes
-pub use Rattle.pw_entities.specs.EntityViews
-pub use Rattle.pw_entities.specs.LinkedViews

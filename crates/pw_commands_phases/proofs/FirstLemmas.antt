@@ -1,0 +1,191 @@
+-- What `phase1` answered and put, by the one flow graph of the text.
+use Rattle.std.proofs.Common.{◌≡◌, ℕ, List, Option, Some, None, Result, Ok, Err, refl, sym, ap, ◌∙◌, subst}
+use Rattle.std.specs.Prelude.{IfOk, IfSome, Vec}
+use Rattle.std.specs.declared.alloc.Global.{Global}
+use Rattle.pw_io.specs.Files.{Told, Keeps}
+use Rattle.pw_front_end.specs.Fronts.{HoldsNoWant}
+use Rattle.pw_front_end.specs.Places.{refusal_line}
+use Rattle.pw_front_end.specs.declared.refusal.Refusal.{Refusal}
+use Rattle.pw_flow.specs.declared.flow.FlowModule.{FlowModule}
+use Rattle.pw_flow.specs.ValidFlow.{IsValid}
+use Rattle.pw_flowfile.specs.FlowFile.{IsFlowFile}
+use Rattle.pw_summary.specs.declared.summary.Summary.{Summary}
+use Rattle.pw_summary.specs.Summary.{IsSummaryFile}
+use Rattle.pw_summarise.specs.Summarises.{Summarises}
+use Rattle.pw_phase_one.specs.FirstPhase.{Phase, compiled}
+use Rattle.pw_store_modules.specs.FileNames.{text_name}
+use Rattle.pw_top_answer.specs.declared.answer.Answer.{Answer}
+use Rattle.pw_top_answer.specs.declared.answer.Answer.TheVariants.{Done, Refused, StoreFault, NoMemory, BadFile}
+use Rattle.pw_top_answer.specs.Effects.{Effect, PutsFiles, answers_alone, puts_files}
+use Rattle.pw_top_answer.specs.Outcomes.{Answers, IsLineDue, StoreCount}
+use Rattle.pw_commands.specs.Needed.{StopsAs, needed_bytes}
+use Rattle.pw_commands.specs.Outcome.{IsFileStop, IsPutAnswer, Obeys}
+use Rattle.pw_commands.proofs.ObeysLemmas.{obeys_fault, obeys_no_memory, obeys_one, put_answers, puts_none}
+use Rattle.pw_commands_phases.specs.First.{AreBytesOf, ComesOfPhase, IsSumOf, PhaseOneComes, PhaseOneOver, line_in, line_over, phase_line, two_files}
+use Rattle.pw_commands_phases.specs.Made.{AnswersPhase, AreOfPhase, IsPhaseAnswer, IsTextStop, RefusesPhase, TellsReply, line_of}
+
+-- the laws on which it stands: one file of a flow graph, one summary, one file of it
+pub record Laws : Type 0 where
+  pub flow_file : (bytes others : List ℕ) (m : FlowModule) → IsFlowFile bytes m → IsFlowFile others m → bytes ≡ others
+  pub summary : (m : FlowModule) (s t : Summary) → IsValid m → Summarises m s → Summarises m t → s ≡ t
+  pub summary_file : (bytes others : List ℕ) (s : Summary) → IsSummaryFile bytes s → IsSummaryFile others s → bytes ≡ others
+
+one_sum : Laws → (flow : FlowModule) (sum sum' : List ℕ) → IsValid flow → IsSumOf flow sum → IsSumOf flow sum' → sum' ≡ sum
+one_sum laws flow sum sum' lawful a b =
+    let same : b.summary ≡ a.summary = laws.summary flow b.summary a.summary lawful b.summarises a.summarises in
+    laws.summary_file sum' sum a.summary (subst (IsSummaryFile sum') same b.file) a.file
+
+made_alone : Laws → (name : List ℕ) (flow : FlowModule) (input bytes sum : List ℕ) → AreBytesOf flow bytes sum → (e : Effect) → ComesOfPhase name (Ok flow) input e → e ≡ puts_files (two_files name bytes sum) input
+made_alone laws name flow input bytes sum are e (bytes', sum', are', is) =
+    is ∙ ap (λ (b : List ℕ). puts_files (two_files name b sum') input) (laws.flow_file bytes' bytes flow are'.flow_file are.flow_file)
+    ∙ ap (λ (s : List ℕ). puts_files (two_files name bytes s) input) (one_sum laws flow sum sum' are.lawful are.sum_file are'.sum_file)
+
+phase_made : Laws → (name : List ℕ) (phase : Phase) (bytes sum : List ℕ) (answer : Answer) (told : Told) (new : Option Told) (input : List ℕ) → AreOfPhase phase bytes sum → IsPutAnswer answer
+    → PutsFiles (two_files name bytes sum) answer told new → Obeys (ComesOfPhase name phase input) answer told new
+phase_made laws name (Ok flow) bytes sum answer told new input are h puts =
+    obeys_one (ComesOfPhase name (Ok flow) input) (puts_files (two_files name bytes sum) input) answer told new (bytes, sum, are, refl) (made_alone laws name flow input bytes sum are) (put_answers answer h) puts
+phase_made laws name (Err refusal) bytes sum answer told new input are h puts = absurd are
+
+-- the files were put, as far as the store put them
+pub obeys_made : Laws → (first new : Option Told) (name text bytes sum : List ℕ) (answer : Answer) → AreOfPhase (compiled name text) bytes sum → IsPutAnswer answer
+    → IfSome first (λ t. PutsFiles (two_files name bytes sum) answer t new) → IfSome first (λ t. (input : List ℕ) → Obeys (ComesOfPhase name (compiled name text) input) answer t new)
+obeys_made laws None new name text bytes sum answer are h puts = tt
+obeys_made laws (Some told) new name text bytes sum answer are h puts = λ input. phase_made laws name (compiled name text) bytes sum answer told new input are h puts
+
+-- ---- a reply in place of files
+
+-- the refusal with its line
+abbrev pub RepliesPhase : List ℕ → List ℕ → Phase → Answer → ℕ → Type 0
+RepliesPhase name text (Ok flow) answer line = ⊥
+RepliesPhase name text (Err refusal) answer line = (answer ≡ Refused name refusal) × (line ≡ refusal_line text refusal)
+
+-- want of memory may come in its place
+abbrev pub Replies : List ℕ → List ℕ → Phase → Answer → ℕ → Type 0
+Replies name text phase NoMemory line = Unit {0}
+Replies name text phase answer line = RepliesPhase name text phase answer line
+
+refused_reply : (name text : List ℕ) (phase : Phase) (answer : Answer) (line : ℕ) → RefusesPhase name phase answer → line ≡ line_of text answer → RepliesPhase name text phase answer line
+refused_reply name text (Ok flow) answer line h e = absurd h
+refused_reply name text (Err refusal) answer line h e = (h, e ∙ ap (line_of text) h)
+
+pub replies : (name text : List ℕ) (phase : Phase) (answer told : Answer) (line : ℕ) → AnswersPhase name phase answer → TellsReply text answer told line → Replies name text phase told line
+replies name text phase answer NoMemory line h t = tt
+replies name text phase answer _ line h t = refused_reply name text phase _ line (subst (AnswersPhase name phase) (sym t.0) h) (t.1 ∙ sym (ap (line_of text) t.0))
+
+phase_replied : (name text : List ℕ) (phase : Phase) (answer : Answer) (line : ℕ) (told : Told) (input : List ℕ) → RepliesPhase name text phase answer line → Obeys (ComesOfPhase name phase input) answer told (Some told)
+phase_replied name text (Ok flow) answer line told input h = absurd h
+phase_replied name text (Err refusal) answer line told input h =
+    subst (λ (a : Answer). Obeys (ComesOfPhase name (Err refusal) input) a told (Some told)) (sym h.0)
+    (obeys_one (ComesOfPhase name (Err refusal) input) (answers_alone (Refused name refusal) input) (Refused name refusal) told (Some told) refl (λ x d. d) refl refl)
+
+so_replied : (name text : List ℕ) (phase : Phase) (answer : Answer) (line : ℕ) (told : Told) (input : List ℕ) → Replies name text phase answer line → Obeys (ComesOfPhase name phase input) answer told (Some told)
+so_replied name text phase NoMemory line told input h = obeys_no_memory (ComesOfPhase name phase input) told (Some told) refl
+so_replied name text phase _ line told input h = phase_replied name text phase _ line told input h
+
+pub obeys_replied : (first : Option Told) (name text : List ℕ) (answer : Answer) (line : ℕ) → Replies name text (compiled name text) answer line
+    → IfSome first (λ t. (input : List ℕ) → Obeys (ComesOfPhase name (compiled name text) input) answer t first)
+obeys_replied None name text answer line h = tt
+obeys_replied (Some told) name text answer line h = λ input. so_replied name text (compiled name text) answer line told input h
+
+-- its kind
+phase_kind : (name text : List ℕ) (phase : Phase) (answer : Answer) (line : ℕ) → ((refusal : Refusal) → phase ≡ Err refusal → HoldsNoWant refusal) → RepliesPhase name text phase answer line → IsTextStop answer
+phase_kind name text (Ok flow) answer line law h = absurd h
+phase_kind name text (Err refusal) answer line law h = subst IsTextStop (sym h.0) (law refusal refl)
+
+-- no refusal of a module is one for want of memory
+abbrev pub NoPhaseWants : Type 0
+NoPhaseWants = (name text : List ℕ) (refusal : Refusal) → compiled name text ≡ Err refusal → HoldsNoWant refusal
+
+pub reply_kind : NoPhaseWants → (name text : List ℕ) (answer : Answer) (line : ℕ) → Replies name text (compiled name text) answer line → IsTextStop answer
+reply_kind law name text NoMemory line h = tt
+reply_kind law name text _ line h = phase_kind name text (compiled name text) _ line (law name text) h
+
+pub text_stop_is : (answer : Answer) → IsTextStop answer → IsPhaseAnswer answer
+text_stop_is (Refused name refusal) h = h
+text_stop_is NoMemory h = tt
+text_stop_is _ h = absurd h
+
+pub text_stop_count : (n : ℕ) (answer : Answer) → IsTextStop answer → StoreCount n n answer
+text_stop_count n StoreFault h = absurd h
+text_stop_count n _ h = refl
+
+-- its line
+phase_due : (name text : List ℕ) (phase : Phase) (answer : Answer) (line : ℕ) → RepliesPhase name text phase answer line → line ≡ line_in text phase
+phase_due name text (Ok flow) answer line h = absurd h
+phase_due name text (Err refusal) answer line h = h.1
+
+pub reply_due : (name text : List ℕ) (phase : Phase) (answer : Answer) (line : ℕ) → Replies name text phase answer line → IsLineDue (line_in text phase) answer line
+reply_due name text phase (Refused own refusal) line h = phase_due name text phase (Refused own refusal) line h
+reply_due name text phase _ line h = tt
+
+-- ---- answers that name no module
+
+pub put_line : (due : ℕ) (answer : Answer) (line : ℕ) → IsPutAnswer answer → IsLineDue due answer line
+put_line due (Refused own refusal) line h = absurd h
+put_line due _ line h = tt
+
+pub put_is_phase : (answer : Answer) → IsPutAnswer answer → IsPhaseAnswer answer
+put_is_phase Done h = tt
+put_is_phase StoreFault h = tt
+put_is_phase NoMemory h = tt
+put_is_phase _ h = absurd h
+
+pub file_stop_is : (answer : Answer) → IsFileStop answer → IsPhaseAnswer answer
+file_stop_is StoreFault h = tt
+file_stop_is NoMemory h = tt
+file_stop_is (BadFile name at) h = tt
+file_stop_is _ h = absurd h
+
+stop_line : (due : ℕ) (answer : Answer) (line : ℕ) → IsFileStop answer → IsLineDue due answer line
+stop_line due (Refused own refusal) line h = absurd h
+stop_line due _ line h = tt
+
+pub file_stop_line : (first : Option Told) (name : List ℕ) (answer : Answer) (line : ℕ) → IsFileStop answer → IfSome first (λ t. IsLineDue (phase_line t.files name) answer line)
+file_stop_line None name answer line h = tt
+file_stop_line (Some t) name answer line h = stop_line (phase_line t.files name) answer line h
+
+-- ---- over the text that is needed
+
+stop_answers : (answer : Answer) → IsFileStop answer → Answers answer answer
+stop_answers StoreFault h = tt
+stop_answers NoMemory h = tt
+stop_answers (BadFile name at) h = refl
+stop_answers _ h = absurd h
+
+stopped_by : (name : List ℕ) (wanted : Result (List ℕ) Answer) (answer : Answer) (told : Told) (new : Option Told) (input : List ℕ) → IsFileStop answer → wanted ≡ Err answer → new ≡ Some told
+    → Obeys (PhaseOneOver name wanted input) answer told new
+stopped_by name wanted answer told new input k h e =
+    subst (λ (w : Result (List ℕ) Answer). Obeys (PhaseOneOver name w input) answer told new) (sym h)
+    (obeys_one (PhaseOneOver name (Err answer) input) (answers_alone answer input) answer told new refl (λ x d. d) (stop_answers answer k) (puts_none answer told new e))
+
+over_stopped : (name : List ℕ) (wanted : Result (List ℕ) Answer) (answer : Answer) (told : Told) (new : Option Told) (input : List ℕ) → IsFileStop answer → StopsAs answer wanted → new ≡ Some told
+    → Obeys (PhaseOneOver name wanted input) answer told new
+over_stopped name wanted StoreFault told new input k h e = obeys_fault (PhaseOneOver name wanted input) told new e
+over_stopped name wanted NoMemory told new input k h e = obeys_no_memory (PhaseOneOver name wanted input) told new e
+over_stopped name wanted _ told new input k h e = stopped_by name wanted _ told new input k h e
+
+-- the text is absent, or was not read
+pub obeys_stopped : (first new : Option Told) (name : List ℕ) (answer : Answer) → IfSome first (λ t. StopsAs answer (needed_bytes t.files (text_name name))) → Keeps first new → IsFileStop answer
+    → IfSome first (λ t. (input : List ℕ) → Obeys (PhaseOneComes t.files name input) answer t new)
+obeys_stopped None new name answer h same k = tt
+obeys_stopped (Some told) new name answer h same k = λ input. over_stopped name (needed_bytes told.files (text_name name)) answer told new input k h same
+
+-- it was read
+pub obeys_text : (first now new : Option Told) (name text : List ℕ) (answer : Answer) → IfSome first (λ t. needed_bytes t.files (text_name name) ≡ Ok text) → Keeps first now
+    → IfSome now (λ t. (input : List ℕ) → Obeys (ComesOfPhase name (compiled name text) input) answer t new) → IfSome first (λ t. (input : List ℕ) → Obeys (PhaseOneComes t.files name input) answer t new)
+obeys_text None now new name text answer e same h = tt
+obeys_text (Some told) now new name text answer e same h =
+    let P : Option Told → Type 0 = λ o. IfSome o (λ t. (input : List ℕ) → Obeys (ComesOfPhase name (compiled name text) input) answer t new) in
+    λ input. subst (λ (w : Result (List ℕ) Answer). Obeys (PhaseOneOver name w input) answer told new) (sym e) (subst P same h input)
+
+pub text_line : (first : Option Told) (name text : List ℕ) (answer : Answer) (line : ℕ) → IfSome first (λ t. needed_bytes t.files (text_name name) ≡ Ok text) → IsLineDue (line_in text (compiled name text)) answer line
+    → IfSome first (λ t. IsLineDue (phase_line t.files name) answer line)
+text_line None name text answer line e h = tt
+text_line (Some t) name text answer line e h = subst (λ (w : Result (List ℕ) Answer). IsLineDue (line_over name w) answer line) (sym e) h
+
+-- ---- inside
+
+-- the bytes of a summary's file are those of the flow graph's
+pub sum_made : {E : Type 0} → (flow : FlowModule) (summary : Summary) (result : Result (Vec ℕ Global) E) → Summarises flow summary → IfOk result (λ sum. IsSummaryFile sum.items summary) → IfOk result (λ sum. IsSumOf flow sum.items)
+sum_made flow summary (Ok sum) says file = record { summary = summary; summarises = says; file = file }
+sum_made flow summary (Err error) says file = tt

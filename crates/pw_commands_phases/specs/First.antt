@@ -1,0 +1,62 @@
+-- What `phase1` comes to: the flow graph of a module's text and its summary.
+use Rattle.std.specs.Prelude.{◌≡◌, ℕ, List, [], ◌∷◌, Result, Ok, Err}
+use Rattle.pw_io.specs.Files.{Files}
+use Rattle.pw_front_end.specs.Places.{refusal_line}
+use Rattle.pw_flow.specs.declared.flow.FlowModule.{FlowModule}
+use Rattle.pw_flow.specs.ValidFlow.{IsValid}
+use Rattle.pw_flowfile.specs.FlowFile.{IsFlowFile}
+use Rattle.pw_summary.specs.declared.summary.Summary.{Summary}
+use Rattle.pw_summary.specs.Summary.{IsSummaryFile}
+use Rattle.pw_summarise.specs.Summarises.{Summarises}
+use Rattle.pw_phase_one.specs.FirstPhase.{Phase, compiled}
+use Rattle.pw_store_modules.specs.FileNames.{text_name, flow_name, summary_name}
+use Rattle.pw_top_answer.specs.declared.answer.Answer.{Answer}
+use Rattle.pw_top_answer.specs.declared.answer.Answer.TheVariants.{Refused}
+use Rattle.pw_top_answer.specs.Effects.{Effect, NamedFile, answers_alone, puts_files}
+use Rattle.pw_commands.specs.Needed.{needed_bytes}
+
+-- the bytes of the file of a flow graph's summary
+pub record IsSumOf (flow : FlowModule) (sum : List ℕ) : Type 0 where
+  pub summary : Summary
+  pub summarises : Summarises flow summary
+  pub file : IsSummaryFile sum summary
+
+-- the bytes of the flow file of a flow graph, and of the file of its summary
+pub record AreBytesOf (flow : FlowModule) (bytes sum : List ℕ) : Type 0 where
+  pub lawful : IsValid flow
+  pub flow_file : IsFlowFile bytes flow
+  pub sum_file : IsSumOf flow sum
+
+-- the two files, in the order in which they are put
+abbrev pub two_files : List ℕ → List ℕ → List ℕ → List NamedFile
+two_files name bytes sum = (flow_name name, bytes) ∷ (summary_name name, sum) ∷ []
+
+-- the names of the files that `phase1 NAME` puts
+abbrev pub phase_one_puts : List ℕ → List (List ℕ)
+phase_one_puts name = flow_name name ∷ summary_name name ∷ []
+
+-- a flow graph comes to its two files, which are put; a refusal is told
+abbrev pub ComesOfPhase : List ℕ → Phase → List ℕ → Effect → Type 0
+ComesOfPhase name (Err refusal) input effect = effect ≡ answers_alone (Refused name refusal) input
+ComesOfPhase name (Ok flow) input effect = (bytes : List ℕ) × (sum : List ℕ) × AreBytesOf flow bytes sum × (effect ≡ puts_files (two_files name bytes sum) input)
+
+abbrev pub PhaseOneOver : List ℕ → Result (List ℕ) Answer → List ℕ → Effect → Type 0
+PhaseOneOver name (Err answer) input effect = effect ≡ answers_alone answer input
+PhaseOneOver name (Ok text) input effect = ComesOfPhase name (compiled name text) input effect
+
+-- `phase1 NAME` over a store's files
+abbrev pub PhaseOneComes : Files → List ℕ → List ℕ → Effect → Type 0
+PhaseOneComes files name input effect = PhaseOneOver name (needed_bytes files (text_name name)) input effect
+
+-- ---- the line on which the module is refused
+
+abbrev pub line_in : List ℕ → Phase → ℕ
+line_in text (Err refusal) = refusal_line text refusal
+line_in text (Ok flow) = 1
+
+abbrev pub line_over : List ℕ → Result (List ℕ) Answer → ℕ
+line_over name (Err answer) = 1
+line_over name (Ok text) = line_in text (compiled name text)
+
+abbrev pub phase_line : Files → List ℕ → ℕ
+phase_line files name = line_over name (needed_bytes files (text_name name))

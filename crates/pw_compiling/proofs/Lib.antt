@@ -1,4 +1,0 @@
-pub mod PutLemmas
-pub mod FirstLemmas
-pub mod SecondLemmas
-pub mod NameLemmas

@@ -1,4 +1,0 @@
-use Rattle.pw_declarators.proofs.declarator.enclosing.Goals as goal
-
-pub returns : goal.returns
-returns c = c.declarators_show_their_lists.ensures.enclosed c.args.token c.args.inner

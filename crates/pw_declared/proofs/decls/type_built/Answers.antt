@@ -1,5 +1,0 @@
-use Rattle.pw_filled.proofs.WalkLemmas.{same_walk}
-use Rattle.pw_declared.proofs.decls.type_built.Goals as goal
-
-pub returns : goal.returns
-returns c = same_walk (cc (c.in_ok-base.ensures)) c.built.ensures

@@ -1,9 +1,0 @@
-use Rattle.std.proofs.Common.{arith}
-use Rattle.std.proofs.lemmas.Grind.{common_steps}
-use Rattle.pw_grammar.specs.Expressions.{call}
-use Rattle.pw_expressions.proofs.Shown.{call_shown}
-use Rattle.pw_expressions.proofs.expr.call.Goals as goal
-
-pub returns : goal.returns
-unfolding call
-returns g c = grind (arith, common_steps, call_shown c.expressions_show_their_lists.ensures.call)

@@ -1,0 +1,8 @@
+use Rattle.std.proofs.Common.{◌≡◌, ℕ, List, ◌-◌}
+use Rattle.pw_fields.specs.Fields.{repeated}
+use Rattle.pw_fields.proofs.FieldLoops.{with_front}
+use Rattle.pw_flow_ops.specs.Reading.{below_at}
+use Rattle.pw_flow_ops.proofs.parts.check_temps.Given as goal
+
+abbrev pub invariant-loop : goal.invariant-loop
+invariant-loop l = (front : List ℕ) × (with_front front (repeated (below_at l.temps) (l.count - l.counter) l.rest) ≡ repeated (below_at l.temps) l.count l.bytes)

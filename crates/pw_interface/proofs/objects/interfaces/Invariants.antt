@@ -1,6 +1,0 @@
-use Rattle.std.proofs.Common.{◌≡◌, map, take}
-use Rattle.pw_interface.specs.Interface.{interface}
-use Rattle.pw_interface.proofs.objects.interfaces.Given as goal
-
-abbrev pub invariant-loop-object : goal.invariant-loop-object
-invariant-loop-object l = l.all.items ≡ map interface (take l.object-index l.objects)

@@ -1,0 +1,31 @@
+use Rattle.std.proofs.Common.{◌+◌, drop, rules, arith}
+use Rattle.pw_cmean.specs.Evaluation.{site}
+use Rattle.pw_cmean.specs.SourceRun.{set_parameters}
+use Rattle.pw_interp_calls.specs.Views.{view_env}
+use Rattle.pw_interp_calls.proofs.AnswerLaws.{gives, same, then_err, no_memory}
+use Rattle.pw_interp_lists.proofs.Answering.{whole, further, followed, named, rest_after}
+use Rattle.pw_interp_bodies.proofs.BodyLaws.{parameters_at, parameters_past}
+use Rattle.pw_interp_bodies.proofs.bodies.set_parameters.Goals as goal
+
+pub loop-k-init : goal.loop-k-init
+loop-k-init c = whole
+
+pub returns-in_err-local : goal.returns-in_err-local
+returns-in_err-local c = no_memory (search rules)
+
+pub returns-in_err-set_local : goal.returns-in_err-set_local
+returns-in_err-set_local c =
+    let e = view_env c.args.env.now in
+    let at = site e c.args.token in
+    followed (further c.loop-k.invariant (named (parameters_at at e c.args.args.now c.loop-k.k c.in_ok-local.local _ (omega arith) (search rules) (search rules))))
+    (then_err (λ done. set_parameters at (c.loop-k.k + 1) (drop (c.loop-k.k + 1) c.args.args.now) e) c.set_local.ensures c.in_err-set_local.was (search rules))
+
+pub loop-k-preserved : goal.loop-k-preserved
+loop-k-preserved c =
+    let e = view_env c.args.env.now in
+    let at = site e c.args.token in
+    further (further c.loop-k.invariant (named (parameters_at at e c.args.args.now c.loop-k.k c.in_ok-local.local _ (omega arith) (search rules) (search rules))))
+    (rest_after (λ done. set_parameters at (c.loop-k.k + 1) (drop (c.loop-k.k + 1) c.args.args.now) e) c.set_local.ensures c.in_ok-set_local.was)
+
+pub returns : goal.returns
+returns c = followed c.loop-k.invariant (same (parameters_past _ _ _ _ _ c.loop-k-test.false) (gives tt))

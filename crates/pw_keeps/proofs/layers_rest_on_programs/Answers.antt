@@ -1,5 +1,0 @@
-use Rattle.pw_keeps.proofs.layers_rest_on_programs.Goals as goal
-
-pub returns : goal.returns
-returns c = λ keeps owes p frame_of stack input checked accepted none bytes.
-    keeps p frame_of stack input (owes p frame_of stack checked accepted) none bytes

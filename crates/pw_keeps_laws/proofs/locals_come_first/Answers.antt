@@ -1,9 +1,0 @@
-use Rattle.pw_keeps_laws.proofs.Fresh.{temp_below}
-use Rattle.pw_keeps_laws.proofs.Binary.{known}
-use Rattle.pw_keeps_laws.proofs.locals_come_first.Goals as goal
-
-pub returns-clause-below : goal.returns-clause-below
-returns-clause-below c = temp_below
-
-pub returns-clause-assigned : goal.returns-clause-assigned
-returns-clause-assigned c = known

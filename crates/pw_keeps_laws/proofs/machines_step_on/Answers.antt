@@ -1,8 +1,0 @@
-use Rattle.pw_keeps_laws.proofs.Steps.{steps-more, events-rise}
-use Rattle.pw_keeps_laws.proofs.machines_step_on.Goals as goal
-
-pub returns-clause-steps : goal.returns-clause-steps
-returns-clause-steps c = steps-more
-
-pub returns-clause-events : goal.returns-clause-events
-returns-clause-events c = events-rise

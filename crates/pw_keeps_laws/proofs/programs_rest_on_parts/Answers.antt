@@ -1,6 +1,0 @@
-use Rattle.pw_keeps_laws.proofs.Starting.{programs_keep}
-use Rattle.pw_keeps_laws.proofs.programs_rest_on_parts.Goals as goal
-
-pub returns : goal.returns
-returns c = λ parts starts p frame_of stack input lowerable none bytes.
-    programs_keep (λ n. (parts n).calls) starts p frame_of stack input lowerable none bytes

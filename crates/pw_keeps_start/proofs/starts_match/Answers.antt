@@ -1,5 +1,0 @@
-use Rattle.pw_keeps_start.proofs.Starts as starts
-use Rattle.pw_keeps_start.proofs.starts_match.Goals as goal
-
-pub returns : goal.returns
-returns c = starts.starts_match

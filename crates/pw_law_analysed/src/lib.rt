@@ -1,0 +1,70 @@
+//! Laws of the analyser's database, without code: it is lawful and sound, and what it gives the layers between C and
+//! words.
+#![tactic(auto)]
+
+ghost use Rattle.pw_law_analyses.specs.Laws.{DatabaseIsLawful, DatabaseIsSound, ColouredIsCovered};
+ghost use Rattle.pw_law_analysed.specs.Laws.{NamedGraphsSayTheSame, DatabasesServe, DirectionKeepsWithoutRegisters, LayersGiveAll};
+
+use pw_colour::laws;
+use pw_law_analyses::{all_laws_compose, analyses_compose};
+use pw_law_undirected::undirected_runs_keep_theirs;
+
+/// The graph of summaries by the names of functions and globals says of calls, references, writes and eligible globals
+/// what their call graph says by places.
+pub fn named_graphs_say_the_same()
+    ensures { NamedGraphsSayTheSame }
+{}
+
+/// The database of summaries that make a program is lawful, for as many registers as a callee keeps.
+pub fn databases_are_lawful()
+    ensures { DatabaseIsLawful }
+{
+    laws::databases_are_lawful();
+}
+
+/// It is sound for the graph of its summaries by names, for however many registers.
+pub fn databases_are_sound_by_name()
+    ensures { DatabaseIsSound }
+{
+    laws::databases_are_sound();
+    named_graphs_say_the_same();
+}
+
+/// Every function that refers to a global all of whose webs have a register is in one of these webs.
+pub fn coloured_globals_are_covered()
+    ensures { ColouredIsCovered }
+{
+    named_graphs_say_the_same();
+}
+
+/// The database of the summaries of an accepted program is lawful, and sound for the program's flow graphs; what obeys
+/// the law of traffic over the flow graphs obeys it over the summaries; and of a global all of whose webs have a register,
+/// that law speaks.
+pub fn databases_serve()
+    ensures { DatabasesServe }
+{
+    analyses_compose();
+    databases_are_lawful();
+    databases_are_sound_by_name();
+    coloured_globals_are_covered();
+}
+
+/// From the laws of the layers follows of each program that was built with the database that the analyser makes of it: what
+/// holds of built programs; and where the source is defined, the law of traffic holds over the summaries, which speaks of
+/// each global all of whose webs have a register.
+pub fn layers_give_all()
+    ensures { LayersGiveAll }
+{
+    all_laws_compose();
+    databases_are_lawful();
+    databases_are_sound_by_name();
+    coloured_globals_are_covered();
+}
+
+/// For no register the database of summaries is empty, so that the law of direction holds: the directed run keeps the flow
+/// run, with each global in its place at each call and return, keeps the registers, and obeys the law of traffic.
+pub fn direction_keeps_without_registers()
+    ensures { DirectionKeepsWithoutRegisters }
+{
+    undirected_runs_keep_theirs();
+}

@@ -1,0 +1,128 @@
+-- The laws of the layers, one after another, give what holds of a built program.
+use Rattle.std.specs.Prelude.{ℕ, ◌≤◌, List}
+use Rattle.std.proofs.Common.{arith, subst}
+use Rattle.pw_value.specs.declared.value.Value.{Value}
+use Rattle.pw_value.specs.Limits.{stack_least}
+use Rattle.pw_value.specs.ProgramNames.{start_name}
+use Rattle.pw_value.specs.declared.value.Byte.{Byte}
+use Rattle.pw_db.specs.declared.database.Directives.{Directives}
+use Rattle.pw_alloc.specs.declared.located.Located.{Located}
+use Rattle.pw_image.specs.declared.image.Image.{Image}
+use Rattle.pw_machine.specs.Start.{image_start}
+use Rattle.pw_cmean.specs.Worlds as source
+use Rattle.pw_cmean.specs.Acts.{Moment}
+use Rattle.pw_run.specs.Runs.{Stage, Refines, Same, Through}
+use Rattle.pw_run_agreement.specs.Agreement.{Agree, IsDefined}
+use Rattle.pw_db_sound.specs.CallGraphs.{Graph}
+use Rattle.pw_run_trace.specs.Traces.{Event, EventAlike, calls_alone, calls_of, Notes, KeepRegisters}
+use Rattle.pw_run_trace.specs.Traffic.{ObeysTraffic}
+use Rattle.pw_run_trace.specs.Meeting.{MetWith}
+use Rattle.pw_run_trace.proofs.Meeting.{met_with, met_through, of_shown, carried}
+use Rattle.pw_run_trace.proofs.Traffic.{traffic_alike}
+use Rattle.pw_run_flow.specs.Programs.{Program}
+use Rattle.pw_run_flow.specs.FlowRun.{flow_run}
+use Rattle.pw_run_webs.specs.Programs.{graph_of}
+use Rattle.pw_run_webs.specs.PlacedRun.{placed_run}
+use Rattle.pw_run_webs.specs.Direction.{web_run, with_functions, MomentAlike}
+use Rattle.pw_run_webs.specs.Laws.{DirectionKeeps, PlacesKeep}
+use Rattle.pw_run_lines.specs.Standing.{EventInWords}
+use Rattle.pw_run_lines.specs.LineRun.{line_run}
+use Rattle.pw_run_lines.specs.Laws.{line_program, SelectionKeeps}
+use Rattle.pw_run_machine.specs.Laws.{LinkKeeps, address_of, frame_in, map_of, image_run}
+use Rattle.pw_law_layers.specs.Source.{source_stages, source_runs}
+use Rattle.pw_law_layers.specs.Lowering.{MomentKept}
+use Rattle.pw_law_layers.specs.Whole.{InMachine, image_of, program_of, LayersCompose}
+use Rattle.pw_law_layers.specs.Rooms.{MapHasFrames}
+use Rattle.pw_law_layers.proofs.Fitting.{places_fit}
+use Rattle.pw_law_layers.proofs.Starts.{starts, start_fits}
+use Rattle.pw_law_layers.proofs.Agreement.{source_to_machine, source_to_webs, source_to_places, agrees, places_kind, words_kind, same_kind}
+use Rattle.pw_law_layers.proofs.Noted.{defined_notes, registers_closed, traffic_closed, same_logs, same_kinds}
+
+-- what the lines note of registers holds of the machine
+registers_down : (d : List (List ℕ × Directives)) (s : Stage Moment) (lines machine : ℕ → Stage (Event ℕ ℕ))
+    → Refines Same lines machine → MetWith (KeepRegisters d) s lines → MetWith (KeepRegisters d) s machine
+registers_down d s lines machine r m =
+    carried Same (KeepRegisters d) (KeepRegisters d) (λ l k a h. subst (KeepRegisters d) (same_logs l k a) h) s lines machine r m
+
+-- what the directed run notes of traffic holds of the machine
+traffic_down : (p : Program) (named : List ℕ → ℕ) (g : Graph) (d : List (List ℕ × Directives)) (s : Stage Moment)
+    (webs places : ℕ → Stage (Event Byte Value)) (lines machine : ℕ → Stage (Event ℕ ℕ))
+    → Refines (EventAlike Same Same) webs places → Refines (EventInWords p named) places lines → Refines Same lines machine
+    → MetWith (ObeysTraffic g d) s webs → MetWith (ObeysTraffic g d) s machine
+traffic_down p named g d s webs places lines machine a b c m =
+    carried Same (ObeysTraffic g d) (ObeysTraffic g d)
+    (λ l k q. traffic_alike g d l k (same_kinds Same same_kind l k q)) s lines machine c
+    (carried (EventInWords p named) (ObeysTraffic g d) (ObeysTraffic g d)
+    (λ l k q. traffic_alike g d l k (same_kinds (EventInWords p named) (words_kind p named) l k q)) s places lines b
+    (carried (EventAlike Same Same) (ObeysTraffic g d) (ObeysTraffic g d)
+    (λ l k q. traffic_alike g d l k (same_kinds (EventAlike Same Same) places_kind l k q)) s webs places a m))
+
+record Holding (p : source.Program) (q : Program) (d : List (List ℕ × Directives)) (functions : List Located) (v : Image) (frame_of : List ℕ → ℕ) (stack : ℕ) (input : List ℕ) : Type 0 where
+  agree : Agree (source_runs p frame_of stack input) (image_start v.memory) input
+  places : Refines (InMachine q (address_of v)) (source_stages p frame_of stack input) (calls_of (image_run q functions v input))
+  registers : IsDefined (source_runs p frame_of stack input) → (n : ℕ) → Notes (KeepRegisters d) (image_run q functions v input n)
+  traffic : IsDefined (source_runs p frame_of stack input) → (n : ℕ) → Notes (ObeysTraffic (graph_of q) d) (image_run q functions v input n)
+
+-- the runs of a built program, and what each layer keeps
+record Layers (p : source.Program) (q : Program) (d : List (List ℕ × Directives)) (functions : List Located) (v : Image) (frame_of : List ℕ → ℕ) (stack : ℕ) (input : List ℕ) : Type 0 where
+  low : Refines (MomentKept q) (source_stages p frame_of stack input) (flow_run q input)
+  direction : DirectionKeeps q d input
+  places : PlacesKeep q d functions input
+  link : LinkKeeps q functions v input
+  selection : SelectionKeeps q d functions link.addresses link.scratch input
+
+whole : (p : source.Program) (q : Program) (d : List (List ℕ × Directives)) (functions : List Located) (v : Image) (frame_of : List ℕ → ℕ) (stack : ℕ) (input : List ℕ)
+    → (l : Layers p q d functions v frame_of stack input)
+    → Refines (EventInWords q (address_of v)) (placed_run (with_functions q functions) input) (line_run (line_program q functions) l.link.addresses l.link.scratch input)
+    → Holding p q d functions v frame_of stack input
+whole p q d functions v frame_of stack input l words =
+    let source = source_stages p frame_of stack input in
+    let webs = web_run q d input in
+    let places = placed_run (with_functions q functions) input in
+    let lines = line_run (line_program q functions) l.link.addresses l.link.scratch input in
+    let machine = image_run q functions v input in
+    let all = source_to_machine q (address_of v) source (flow_run q input) webs places lines machine
+    l.low l.direction.runs l.places.runs words l.link.runs in
+    let to_webs = source_to_webs q source (flow_run q input) webs l.low l.direction.runs in
+    let to_places = source_to_places q source webs places to_webs l.places.runs in
+    record {
+      agree = agrees p frame_of stack input q (address_of v) (map_of q functions v) (image_start v.memory) all;
+      places = all;
+      registers = λ defined n. defined_notes (KeepRegisters d) (registers_closed d) p frame_of stack input (map_of q functions v) (image_start v.memory) defined
+          (λ k. registers_down d (source k) lines machine l.link.runs
+          (met_through (Through (Through (MomentKept q) (MomentAlike q)) (EventAlike Same Same)) (KeepRegisters d) (source k) (calls_of places) lines
+          (to_places k) (λ j. of_shown (KeepRegisters d) calls_alone (places j) lines (l.selection.registers j)))) n;
+      traffic = λ defined n. defined_notes (ObeysTraffic (graph_of q) d) (traffic_closed (graph_of q) d) p frame_of stack input (map_of q functions v) (image_start v.memory) defined
+          (λ k. traffic_down q (address_of v) (graph_of q) d (source k) webs places lines machine l.places.runs words l.link.runs
+          (met_with (Through (MomentKept q) (MomentAlike q)) (ObeysTraffic (graph_of q) d) calls_alone (source k) webs l.direction.traffic (to_webs k))) n;
+    }
+
+-- by the law on the map
+pub composes : MapHasFrames → LayersCompose
+composes map sense low direction places selection link p d functions objects stack input built bytes =
+    let q = program_of p objects stack in
+    let v = image_of objects stack in
+    let program = built.accepted.program in
+    let frames = map q d functions objects program built.serve built.made in
+    let first : frame_in v start_name ≤ stack_least =
+    start_fits places_fit q d functions frames built.serve program.modules built.database.directives (starts p.modules program.modules program.start) in
+    let enough : stack_least ≤ stack = built.enough in
+    let start : frame_in v start_name ≤ stack = omega (arith, first, enough) in
+    let l = link q d functions objects input program built.names built.database built.sound built.serve frames start built.made built.fits bytes in
+    let s = selection q d functions l.addresses l.scratch input program built.database built.sound built.serve frames start l.lawful bytes in
+    let h = whole p q d functions v (frame_in v) stack input
+    (record {
+      low = low p (frame_in v) stack input built.checked built.accepted frames.library bytes;
+      direction = direction q d input program built.database built.sound;
+      places = places q d functions input program built.database built.sound built.serve;
+      link = l;
+      selection = s;
+    })
+    (subst (λ named. Refines (EventInWords q named) (placed_run (with_functions q functions) input) (line_run (line_program q functions) l.addresses l.scratch input)) l.named s.runs) in
+    record {
+      sense = sense p (frame_in v) stack input built.checked built.accepted bytes;
+      agree = h.agree;
+      places = h.places;
+      registers = h.registers;
+      traffic = h.traffic;
+    }

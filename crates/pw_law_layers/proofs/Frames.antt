@@ -1,0 +1,158 @@
+-- Frames are within rooms, by the laws of lowering, places and the map.
+use Rattle.std.specs.Prelude.{ℕ, ◌≡◌, ◌≤◌, ◌<◌, Bool, true, false, if◌then◌else◌, List, [], ◌∷◌, map, Contains}
+use Rattle.std.specs.List.{flat_map, AllByRecursion}
+use Rattle.std.specs.Str.{bytes_eq}
+use Rattle.std.proofs.Common.{arith, subst, sym, ap, refl, inl, inr, ◌∙◌}
+use Rattle.std.proofs.lemmas.List.Elements.{All-contains, All-from_recursion, Contains-append_left, Contains-append_right, Contains-append_cases, Contains-push_cases}
+use Rattle.std.proofs.lemmas.List.Concat.{flat_map-cons}
+use Rattle.pw_value.specs.ProgramNames.{start_name}
+use Rattle.pw_types.specs.TypedTrees.{FunctionValue, ModuleValue}
+use Rattle.pw_types.specs.Rooms.{room_of}
+use Rattle.pw_types.specs.TypedModules.{WellTyped, IsFunction as IsSourceFunction}
+use Rattle.pw_types.specs.Rooms.{start_room}
+use Rattle.pw_db.specs.declared.database.Directives.{Directives}
+use Rattle.pw_db.specs.Database.{IsDirectives}
+use Rattle.pw_flow.specs.declared.flow.FlowFn.{FlowFn}
+use Rattle.pw_flow.specs.declared.flow.FlowModule.{FlowModule}
+use Rattle.pw_flow.specs.ValidFlow.{IsFunction, IsValid}
+use Rattle.pw_webflow.specs.declared.web.WebFn.{WebFn}
+use Rattle.pw_webflow.specs.Direction.{directed}
+use Rattle.pw_flow.specs.FrameRooms.{flow_room}
+use Rattle.pw_lower.specs.Modules.{lowered, lowered_function, start_of, start_function}
+use Rattle.pw_alloc.specs.declared.located.Located.{Located}
+use Rattle.pw_cmean.specs.Worlds.{ProgramModule, full_name}
+use Rattle.pw_run_flow.specs.Programs as flows
+use Rattle.pw_run_flow.specs.Programs.{functions_of}
+use Rattle.pw_run_webs.specs.Direction.{directives_of, directed_by}
+use Rattle.pw_run_webs.specs.Serving.{Serves, AllServe}
+use Rattle.pw_run_lines.specs.Laws.{FramesAre}
+use Rattle.pw_run_machine.specs.Laws.{frame_in}
+use Rattle.pw_law_lower.specs.Parts.{partless}
+use Rattle.pw_law_layers.specs.Rooms.{MapHasFrames, PlacesFit}
+use Rattle.pw_law_layers.specs.Whole.{image_of, program_of, AllFramesFit}
+
+-- ---- elements
+
+pub nowhere : {X : Type 0} (x : X) → Contains [] x → ⊥
+nowhere x c = let h : c.0 < 0 = c.1 in omega (arith, h)
+
+pub first_there : {X : Type 0} (x : X) (xs : List X) → Contains (x ∷ xs) x
+first_there x xs = Contains-append_left (x ∷ []) xs x (0, omega arith, refl)
+
+pub map_there : {X Y : Type 0} (h : X → Y) (xs : List X) (x : X) → Contains xs x → Contains (map h xs) (h x)
+map_there h [] x c = absurd (nowhere x c)
+map_there h (y ∷ ys) x c = elim (Contains-append_cases (y ∷ []) ys x c) [
+  | inl first ↦ elim (Contains-push_cases [] y x first) [
+    | inl none ↦ absurd (nowhere x none)
+    | inr e ↦ subst (λ x. Contains (map h (y ∷ ys)) (h x)) e (first_there (h y) (map h ys))
+  ]
+  | inr later ↦ Contains-append_right (h y ∷ []) (map h ys) (h x) (map_there h ys x later)
+]
+
+-- ---- the place of each function
+
+record Served (f : WebFn) (ls : List Located) : Type 0 where
+  located : Located
+  there : Contains ls located
+  serves : Serves f located
+
+served : (g : FlowFn → WebFn) (fs : List FlowFn) (ls : List Located) (f : FlowFn) → AllServe (map g fs) ls → Contains fs f → Served (g f) ls
+served g [] ls f s c = absurd (nowhere f c)
+served g (h ∷ fs) [] f s c = absurd s
+served g (h ∷ fs) (l ∷ ls) f s c = elim (Contains-append_cases (h ∷ []) fs f c) [
+  | inl first ↦ elim (Contains-push_cases [] h f first) [
+    | inl none ↦ absurd (nowhere f none)
+    | inr e ↦ record { located = l; there = first_there l ls; serves = subst (λ f. Serves (g f) l) e s.0 }
+  ]
+  | inr later ↦ let k = served g fs ls f s.1 later in
+      record { located = k.located; there = Contains-append_right (l ∷ []) ls k.located k.there; serves = k.serves }
+]
+
+-- ---- lawful functions and directives
+
+is_function : (ms : List FlowModule) → AllByRecursion IsValid ms → (f : FlowFn) → Contains (flat_map (λ m. m.functions) ms) f → IsFunction f
+is_function [] v f c = absurd (nowhere f c)
+is_function (m ∷ ms) v f c = elim (Contains-append_cases m.functions (flat_map (λ m. m.functions) ms) f (subst (λ l. Contains l f) (flat_map-cons (λ m. m.functions) m ms) c)) [
+  | inl here ↦ All-contains IsFunction m.functions f (All-from_recursion IsFunction m.functions v.0.parts.functions) here
+  | inr later ↦ is_function ms v.1 f later
+]
+
+chosen : (b : Bool) (x y : Directives) → IsDirectives x → IsDirectives y → IsDirectives (if b then x else y)
+chosen true x y h k = h
+chosen false x y h k = k
+
+are_directives : (d : List (List ℕ × Directives)) → AllByRecursion (λ f. IsDirectives f.1) d → (name : List ℕ) → IsDirectives (directives_of d name)
+are_directives [] all name = record { each = tt; numbers = tt; globals = tt; registers = tt; free = refl }
+are_directives (g ∷ rest) all name = chosen (bytes_eq g.0 name) g.1 (directives_of rest name) all.0 (are_directives rest all.1 name)
+
+pub directed_name : (f : FlowFn) (d : Directives) → (directed f d).name ≡ f.name
+unfolding directed
+directed_name f d = refl
+
+-- the frame of a function in the map is at most the room of its flow graph
+pub frame_fits : PlacesFit → (q : flows.Program) (d : List (List ℕ × Directives)) (functions : List Located)
+    → FramesAre q functions → AllServe (map (directed_by d) (functions_of q)) functions
+    → AllByRecursion IsValid q.modules → AllByRecursion (λ f. IsDirectives f.1) d
+    → (f : FlowFn) → Contains (functions_of q) f → q.frame_of f.name ≤ flow_room f
+frame_fits fit q d functions frames serve valid lawful f c =
+    let s = served (directed_by d) (functions_of q) functions f serve c in
+    let named : s.located.body.name ≡ f.name = ap (λ b. b.name) s.serves.body ∙ directed_name f (directives_of d f.name) in
+    let framed : q.frame_of f.name ≡ s.located.frame = subst (λ n. q.frame_of n ≡ s.located.frame) named (frames.defined s.located s.there) in
+    subst (λ n. n ≤ flow_room f) (sym framed)
+    (fit f (directives_of d f.name) s.located (is_function q.modules valid f c) (are_directives d lawful f.name) s.serves)
+
+-- ---- functions of the source
+
+in_modules : (ms : List ProgramModule) (m : ProgramModule) (f : FlowFn) → Contains ms m → Contains (lowered m.name m.tree).functions f
+    → Contains (flat_map (λ m. m.functions) (map (λ m. lowered m.name m.tree) ms)) f
+in_modules [] m f c h = absurd (nowhere m c)
+in_modules (n ∷ ns) m f c h =
+    subst (λ l. Contains l f) (sym (flat_map-cons (λ m. m.functions) (lowered n.name n.tree) (map (λ m. lowered m.name m.tree) ns)))
+    (elim (Contains-append_cases (n ∷ []) ns m c) [
+      | inl first ↦ elim (Contains-push_cases [] n m first) [
+        | inl none ↦ absurd (nowhere m none)
+        | inr e ↦ Contains-append_left (lowered n.name n.tree).functions (flat_map (λ m. m.functions) (map (λ m. lowered m.name m.tree) ns)) f
+            (subst (λ m. Contains (lowered m.name m.tree).functions f) (sym e) h)
+      ]
+      | inr later ↦ Contains-append_right (lowered n.name n.tree).functions (flat_map (λ m. m.functions) (map (λ m. lowered m.name m.tree) ns)) f
+          (in_modules ns m f later h)
+    ])
+
+in_module : (name : List ℕ) (m : ModuleValue) (f : FunctionValue) → Contains m.functions f
+    → Contains (lowered name m).functions (lowered_function name m.records f)
+unfolding lowered
+in_module name m f c =
+    Contains-append_left (map (lowered_function name m.records) m.functions) (start_of m.functions) (lowered_function name m.records f)
+    (map_there (lowered_function name m.records) m.functions f c)
+
+start_in_module : (name : List ℕ) (m : ModuleValue) → Contains (start_of m.functions) start_function → Contains (lowered name m).functions start_function
+unfolding lowered
+start_in_module name m c = Contains-append_right (map (lowered_function name m.records) m.functions) (start_of m.functions) start_function c
+
+pub lowered_name : (name : List ℕ) (m : ModuleValue) (f : FunctionValue) → (lowered_function name m.records f).name ≡ full_name name f.name
+unfolding lowered_function
+lowered_name name m f = refl
+
+-- by the laws on the rooms of flow graphs, on places and on the map
+pub all_fit : ((home : List ℕ) (m : ModuleValue) (f : FunctionValue) → IsSourceFunction m f → partless f.body ≡ 0
+    → flow_room (lowered_function home m.records f) ≤ room_of m.records f)
+    → flow_room start_function ≤ start_room → PlacesFit → MapHasFrames → AllFramesFit
+all_fit lowering starts fit map p d functions objects stack built =
+    let q = program_of p objects stack in
+    let frames = map q d functions objects built.accepted.program built.serve built.made in
+    let fits = frame_fits fit q d functions frames built.serve built.accepted.program.modules built.database.directives in
+    record {
+      functions = λ m f c h.
+          let g = lowered_function m.name m.tree.records f in
+          let a : frame_in (image_of objects stack) g.name ≤ flow_room g = fits g (in_modules p.modules m g c (in_module m.name m.tree f h)) in
+          let typed = All-contains (λ m. WellTyped m.tree) p.modules m built.accepted.typed.modules c in
+          let b : flow_room g ≤ room_of m.tree.records f =
+          lowering m.name m.tree f (All-contains (IsSourceFunction m.tree) m.tree.functions f typed.functions h) (built.parts m f c h) in
+          let both : frame_in (image_of objects stack) g.name ≤ room_of m.tree.records f = omega (arith, a, b) in
+          subst (λ n. frame_in (image_of objects stack) n ≤ room_of m.tree.records f) (lowered_name m.name m.tree f) both;
+      start = λ m c h.
+          let a : frame_in (image_of objects stack) start_name ≤ flow_room start_function =
+          fits start_function (in_modules p.modules m start_function c (start_in_module m.name m.tree h)) in
+          let b : flow_room start_function ≤ start_room = starts in
+          omega (arith, a, b);
+    }

@@ -1,0 +1,110 @@
+-- What acceptance of texts owes: modules that checking and linking accept make an accepted program.
+use Rattle.std.specs.Prelude.{ℕ, ◌≡◌, ◌≢◌, ◌≤◌, ◌↔◌, ◌==◌, not, All, Some, List, [], ◌∷◌, ◌++◌, map, filter, slice_get, Contains}
+use Rattle.std.specs.List.{AllByRecursion, list_any}
+use Rattle.pw_value.specs.Limits.{stack_most}
+use Rattle.pw_files.specs.Rising.{IsRising}
+use Rattle.pw_types.specs.TypeTrees.{type_of}
+use Rattle.pw_types.specs.TypedTrees.{Initialiser, Value, Bytes, Statement, Empty, Evaluate, Block, If, While, Do, For, Switch, Label, Goto, Break, Continue, Return, Arms, NoArm, Arm, Otherwise, NoElse, Else, Statements, NoStatement, OneStatement, LocalValue, FunctionValue}
+use Rattle.pw_types.specs.Labels.{labels_in, cases_in}
+use Rattle.pw_types.specs.WellTyped.{IsScalar}
+use Rattle.pw_flow.specs.declared.flow.Item.TheVariants.{Address}
+use Rattle.pw_flow.specs.declared.flow.FlowGlobal.{FlowGlobal}
+use Rattle.pw_flow.specs.declared.flow.FlowModule.{FlowModule}
+use Rattle.pw_flow.specs.FlowGraph.{function_names, named_in}
+use Rattle.pw_object.specs.declared.object.Object.{Object}
+use Rattle.pw_object.specs.Object as object
+use Rattle.pw_link_interface.specs.Interface.{interface}
+use Rattle.pw_link_rules.specs.Linking.{Links}
+use Rattle.pw_cmean.specs.Worlds.{Program, ProgramModule}
+use Rattle.pw_run_flow.specs.Programs as flows
+use Rattle.pw_run_flow.specs.Programs.{globals_of}
+use Rattle.pw_run_machine.specs.Laws.{AreNamesApart}
+use Rattle.pw_law_layers.specs.Lowering.{flow_program, IsAccepted, AreChecked, HaveParts}
+
+-- ---- what checking makes of a function, beyond what is well typed
+
+-- the initialisers of locals that stand in a statement, in the order of the text
+abbrev mutual
+  pub initialisers_in : Statement → List Initialiser
+  initialisers_in (Empty t) = []
+  initialisers_in (Evaluate t e) = []
+  initialisers_in (Block t first count initialisers items) = initialisers ++ initialisers_among items
+  initialisers_in (If t arms otherwise) = initialisers_of_arms arms ++ initialisers_behind otherwise
+  initialisers_in (While t e body) = initialisers_in body
+  initialisers_in (Do t body e) = initialisers_in body
+  initialisers_in (For t a b c body) = initialisers_in body
+  initialisers_in (Switch t e cases default body) = initialisers_in body
+  initialisers_in (Label t labels body) = initialisers_in body
+  initialisers_in (Goto t n) = []
+  initialisers_in (Break t) = []
+  initialisers_in (Continue t) = []
+  initialisers_in (Return t e) = []
+
+  pub initialisers_among : Statements → List Initialiser
+  initialisers_among NoStatement = []
+  initialisers_among (OneStatement s rest) = initialisers_in s ++ initialisers_among rest
+
+  pub initialisers_of_arms : Arms → List Initialiser
+  initialisers_of_arms NoArm = []
+  initialisers_of_arms (Arm t e body rest) = initialisers_in body ++ initialisers_of_arms rest
+
+  pub initialisers_behind : Otherwise → List Initialiser
+  initialisers_behind NoElse = []
+  initialisers_behind (Else s) = initialisers_in s
+
+-- a hidden object gives its bytes to no scalar (6.5.7)
+abbrev pub SuitsLocal : List LocalValue → Initialiser → Type 0
+SuitsLocal locals (Value k e) = Unit {0}
+SuitsLocal locals (Bytes k hidden parts) = (l : LocalValue) → slice_get locals k ≡ Some l → ¬ IsScalar (type_of l.ty)
+
+-- The labels that a `goto` can name are those of the body that are no case's, in the order of the text.
+pub record IsFormed (f : FunctionValue) : Type 0 where
+  pub initialisers : All (SuitsLocal f.locals) (initialisers_in f.body)
+  pub named : f.named ≡ filter (λ l. not (list_any (λ c. c == l) (cases_in f.body))) (labels_in f.body)
+
+abbrev pub AreFormed : Program → Type 0
+AreFormed p = (m : ProgramModule) (f : FunctionValue) → Contains p.modules m → Contains m.tree.functions f → IsFormed f
+
+-- an address in an object's initialiser leads into the object that it names, or directly behind it
+abbrev pub LeadInside : flows.Program → Type 0
+LeadInside p =
+    (g h : FlowGlobal) (at offset : ℕ) → Contains (globals_of p) g → Contains (globals_of p) h →
+    Contains g.items (at, Address h.name offset) → offset ≤ h.size
+
+-- ---- the law
+
+-- an object shows to linking what its module has
+pub record Shows (m : FlowModule) (o : Object) : Type 0 where
+  pub name : o.module ≡ m.name
+  pub functions : object.function_names o ≡ function_names m
+  pub globals : o.globals ≡ m.globals
+  pub declared : (d : List ℕ × List ℕ) → Contains m.declared d ↔ Contains o.declared d
+  pub used : (name : List ℕ) → Contains (named_in m) name → Contains o.used name
+
+abbrev pub AllShow : List FlowModule → List Object → Type 0
+AllShow [] [] = Unit {0}
+AllShow (m ∷ ms) (o ∷ os) = Shows m o × AllShow ms os
+AllShow ms os = ⊥
+
+-- what is accepted, with all that built programs want of it
+pub record IsWhole (p : Program) (frame_of : List ℕ → ℕ) (stack : ℕ) : Type 0 where
+  pub accepted : IsAccepted p frame_of stack
+  pub parts : HaveParts p
+  pub formed : AreFormed p
+  pub inside : LeadInside (flow_program p frame_of stack)
+  pub names : AreNamesApart (flow_program p frame_of stack)
+
+-- No module has a colon in its name, as no module of a store has: in the full name of what a module has for itself, one
+-- stands between the two.
+abbrev pub HasNoColon : List ℕ → Type 0
+HasNoColon name = AllByRecursion (λ b. b ≢ 58) name
+
+abbrev pub AreNamedPlainly : Program → Type 0
+AreNamedPlainly p = (m : ProgramModule) → Contains p.modules m → HasNoColon m.name
+
+-- checked modules in the order of their names, whose objects link, with a stack that may be asked for
+abbrev pub CheckedIsAccepted : Type 0
+CheckedIsAccepted =
+    (p : Program) (frame_of : List ℕ → ℕ) (stack : ℕ) (objects : List Object) →
+    AreChecked p → AreNamedPlainly p → IsRising (map (λ m. m.name) p.modules) → stack ≤ stack_most →
+    AllShow (flow_program p frame_of stack).modules objects → Links (map interface objects) → IsWhole p frame_of stack

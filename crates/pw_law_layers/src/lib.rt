@@ -1,0 +1,44 @@
+//! The main law from C to words, without code: the laws of all layers give the agreement of source and machine.
+#![tactic(auto)]
+
+ghost use Rattle.pw_law_layers.specs.Rooms.{PlacesFit, MapHasFrames};
+ghost use Rattle.pw_law_layers.specs.Whole.{LayersCompose, AllFramesFit, RefinementGoesThrough};
+
+use pw_law_link::laws::modules_stand_in_order;
+use pw_law_lower::frames_fit;
+
+/// Where each run from the source to the machine refines the one before it, the machine's refines the source's.
+pub fn refinement_goes_through()
+    ensures { RefinementGoesThrough }
+{}
+
+/// The frame of a function whose places serve it is at most the room of its flow graph.
+#[tactic(auto, using(crate::proofs::Fitting::places_fit))]
+pub fn places_fit_their_rooms()
+    ensures { PlacesFit }
+{}
+
+/// The map of a linked image has the frames that its functions take, and none for the library's.
+pub fn maps_have_frames()
+    ensures { MapHasFrames }
+{
+    modules_stand_in_order();
+}
+
+/// From the laws of the meaning of C, of lowering, direction, places, selection and linking follows of each built
+/// program: the source agrees with the machine; each global has its value in its place at each call and return; and
+/// where the source is defined, each return keeps the registers, and the traffic law holds.
+pub fn layers_compose()
+    ensures { LayersCompose }
+{
+    maps_have_frames();
+}
+
+/// Of each built program the frame of each function in the image's map is at most the function's room.
+pub fn frames_are_within_rooms()
+    ensures { AllFramesFit }
+{
+    frames_fit();
+    places_fit_their_rooms();
+    maps_have_frames();
+}

@@ -1,0 +1,149 @@
+-- Calls of the program's functions, and returns from them.
+use Rattle.std.specs.Prelude.{ℕ, suc, ◌≡◌, ◌+◌, ◌%◌, ◌^◌, ◌≤◌, ◌==◌, ◌&&◌, Bool, true, false, if◌then◌else◌, Some, None, List, [], ◌∷◌, ◌++◌, map, find, Contains, length}
+use Rattle.std.specs.List.{AllByRecursion, flat_map}
+use Rattle.std.specs.Str.{bytes_eq}
+use Rattle.std.proofs.Common.{arith, subst, sym, ap, refl, ◌∙◌, inl, inr}
+use Rattle.std.proofs.lemmas.Bool.{and_parts, eqb-true}
+use Rattle.pw_inst.specs.declared.Inst.TheVariants.{Bv}
+use Rattle.pw_delay.specs.declared.items.Turn.TheVariants.{Leave}
+use Rattle.pw_delay.specs.declared.items.Item.{Item}
+use Rattle.pw_delay.specs.declared.items.Item.TheVariants.{Turns}
+use Rattle.pw_alloc.specs.declared.located.Located.{Located}
+use Rattle.pw_run_trace.specs.Traces.{Standing, Called, Returned}
+use Rattle.pw_run_lines.specs.Acts as lines
+use Rattle.pw_run_lines.specs.Acts.{settled, symbol_address}
+use Rattle.pw_run_lines.specs.Standing.{globals_now}
+use Rattle.pw_run_lines.specs.LineRun.{LineFn, Frame, Machine, On, Astray, name_of, active, kept, left_behind, globals_in, return_address, enters, returns}
+use Rattle.pw_run_machine.specs.MachineRun.{Map, Call, active_as, function_at}
+use Rattle.pw_law_link_run.specs.Steps.{Setting, map_in, At, Arrives, is_back, globals_by, with_call, with_return, AreInData}
+use Rattle.pw_law_link_run.specs.Placing.{name_in, own_address, IsLeft}
+use Rattle.pw_law_link_run.specs.Simulating.{call_from, calls_behind, calls_from, noted_by, IsLinked, IsCaller, Simulates, IsCalm, IsCalmBehind, leaving}
+use Rattle.pw_law_link_run.proofs.Noting.{enters_at, returns_at}
+use Rattle.pw_law_link_run.proofs.Stepping.{starts_at}
+use Rattle.pw_law_link_run.proofs.Placed.{left_stands, all_left}
+use Rattle.pw_law_link_run.proofs.Turning.{IsTurn, text_small, return_turn}
+use Rattle.pw_law_link_run.proofs.Items.{here_in_text, later_in_text, on_same}
+
+-- ---- the globals by the frames
+
+pub found_as : (m : Map) (call : Call) (f : Located) → find (λ g. bytes_eq g.body.name call.function) m.functions ≡ Some f
+    → active_as m call ≡ record { function = f; stack = call.stack; before = call.before } ∷ []
+found_as m call f e = rw e refl
+
+behind_active : (x : Setting) → IsLinked x → (callers : List Frame) → AllByRecursion (IsCaller x) callers
+    → flat_map (active_as (map_in x)) (calls_behind x callers) ≡ map active callers
+behind_active x l [] h = refl
+behind_active x l (caller ∷ callers) h =
+    ap (λ r. r ++ flat_map (active_as (map_in x)) (calls_behind x callers))
+    (found_as (map_in x) (call_from x caller callers) caller.function.located (l.found caller.function h.0.there))
+    ∙ ap (λ r. active caller ∷ r) (behind_active x l callers h.1)
+
+pub globals_are : (x : Setting) → IsLinked x → (c : lines.Core) (f : Frame) (callers : List Frame) → Contains x.program.functions f.function
+    → AllByRecursion (IsCaller x) callers → globals_by x c (calls_from x f callers) ≡ globals_in x.program x.addresses c (f ∷ callers)
+globals_are x l c f callers there h =
+    ap (λ r. globals_now x.program.flow x.addresses.named c.memory c.registers r)
+    (ap (λ r. r ++ flat_map (active_as (map_in x)) (calls_behind x callers))
+    (found_as (map_in x) (call_from x f callers) f.function.located (l.found f.function there))
+    ∙ ap (λ r. active f ∷ r) (behind_active x l callers h))
+
+-- ---- a function is entered
+
+with_call_is : (x : Setting) → IsLinked x → (g : LineFn) (m : Machine) → Contains x.program.functions m.frame.function → AllByRecursion (IsCaller x) m.callers
+    → lines.register m.core 2 ≡ return_address x.addresses m.frame m.frame.left
+    → with_call x m.core (name_in g) (noted_by x m) ≡ noted_by x (enters x.program x.addresses g m)
+with_call_is x l g m there callers link =
+    ap (λ (v : ℕ). record {
+      calls = record { function = name_in g; link = v; stack = lines.register m.core 30; before = kept m.core } ∷ calls_from x m.frame m.callers;
+      log = Called (name_in g) (globals_by x m.core (calls_from x m.frame m.callers)) (kept m.core) ∷ m.trace;
+    }) link
+    ∙ ap (λ (gs : List (Standing ℕ ℕ)). record {
+      calls = record { function = name_in g; link = return_address x.addresses m.frame m.frame.left; stack = lines.register m.core 30; before = kept m.core } ∷ calls_from x m.frame m.callers;
+      log = Called (name_in g) gs (kept m.core) ∷ m.trace;
+    }) (globals_are x l m.core m.frame m.callers there callers)
+
+-- No call returns where the function begins.
+pub enters_simulates : (x : Setting) → IsLinked x → (k : ℕ) (g : LineFn) (m : Machine) → Contains x.program.functions g → IsCaller x m.frame
+    → AllByRecursion (IsCaller x) m.callers → lines.register m.core 2 ≡ return_address x.addresses m.frame m.frame.left
+    → Arrives x k m.core (own_address x g) ((own_address x g + 4) % 2 ^ 32) m.rest m.out (noted_by x m) → m.events + 1 ≤ k → m.read + length m.rest ≡ length x.start.rest → m.core.skip ≡ false
+    → AllByRecursion (λ call. is_back m.core (own_address x g) call ≡ false) (calls_from x m.frame m.callers) → AreInData x (calls_from x m.frame m.callers)
+    → Simulates x (enters x.program x.addresses g m) k
+enters_simulates x l k g m there caller callers link h count read run none are =
+    let own = own_address x g in
+    let back : (own + 4) % 2 ^ 32 ≡ own + 4 = omega (arith, text_small x own l.few (here_in_text x l g there g.items own (all_left x g))) in
+    let at = enters_at x k m.core own ((own + 4) % 2 ^ 32) m.rest m.out (noted_by x m) (name_in g) h
+    (starts_at x k m.core own ((own + 4) % 2 ^ 32) m.rest m.out (noted_by x m) l.setting h) none run (l.entries g there) are in
+    record {
+      address = own;
+      at = subst (λ n. At x k m.core own (own + 4) m.rest m.out n) (with_call_is x l g m caller.there callers link)
+          (subst (λ b. At x k m.core own b m.rest m.out (with_call x m.core (name_in g) (noted_by x m))) back at);
+      there = there;
+      left = all_left x g;
+      callers = (caller, callers);
+      events = count;
+      read = read;
+    }
+
+-- ---- a function returns
+
+abbrev pub after_return : Setting → Machine → Frame → List Frame → Machine
+after_return x m caller callers = record m {
+  frame = caller;
+  callers = callers;
+  trace = Returned (name_of m.frame) 0 (globals_in x.program x.addresses m.core (caller ∷ callers)) m.frame.before (kept m.core) ∷ m.trace;
+}
+
+returned_if : (x : Setting) (m t : Machine) (caller : Frame) (callers : List Frame) (b : Bool)
+    → (if b then On (after_return x m caller callers) else Astray) ≡ On t → (b ≡ true) × (t ≡ after_return x m caller callers)
+returned_if x m t caller callers true e = (refl, on_same (after_return x m caller callers) t e)
+returned_if x m t caller callers false e = absurd cc
+
+pub calm_there : (x : Setting) (t : Machine) (a : ℕ) → IsCalm x t → t.core.skip ≡ false → IsLeft x t.frame.function t.frame.left a
+    → AllByRecursion (λ call. is_back t.core a call ≡ false) (calls_from x t.frame t.callers) × (function_at (map_in x) a ≡ None)
+calm_there x t a calm run left =
+    let q = calm a left in
+    (q.returns, elim q.enters [ inl skip ↦ absurd (let e : true ≡ false = sym skip ∙ run in cc) | inr none ↦ none ])
+
+pub return_simulates : (x : Setting) → IsLinked x → (k : ℕ) (m t : Machine) (rest : List Item) (caller : Frame) (callers : List Frame)
+    → Simulates x (leaving m rest caller callers) k → m.core.skip ≡ false
+    → returns x.program x.addresses (lines.register m.core 2) (left_behind rest (leaving m rest caller callers)) ≡ On t
+    → IsCalmBehind x (leaving m rest caller callers) → IsCalm x t → AreInData x (calls_from x caller callers) → Simulates x t (suc (suc k))
+return_simulates x l k m t rest caller callers h run e behind calm are =
+    let f = m.frame.function in
+    let c = m.core in
+    let a = h.address in
+    let s = left_behind rest (leaving m rest caller callers) in
+    let link = return_address x.addresses caller caller.left in
+    let n = noted_by x (leaving m rest caller callers) in
+    let is = returned_if x s t caller callers ((lines.register c 2 == link) && (lines.register c 30 == m.frame.stack)) e in
+    let to : lines.register c 2 ≡ link = eqb-true (lines.register c 2) link (and_parts (lines.register c 2 == link) (lines.register c 30 == m.frame.stack) is.0).0 in
+    let stands = left_stands x f (l.stands f h.there) (Turns Leave None ∷ rest) a h.left in
+    let one = h.callers.0 in
+    let text = here_in_text x l caller.function one.there caller.left link one.left in
+    let turn : IsTurn x a (Bv 2 true) = record {
+      here = here_in_text x l f h.there (Turns Leave None ∷ rest) a h.left;
+      slot = later_in_text x l f h.there (Turns Leave None) rest a 1 (a + 4) h.left (omega arith) (omega arith);
+      is = stands.0;
+    } in
+    let arrives = return_turn x k c a 2 m.rest m.out n l.setting h.at turn run (record { returns = behind a h.left; enters = inl refl }) in
+    let same : record c { skip = false } ≡ c = ap (λ b. record c { skip = b }) (sym run) in
+    let there = subst (λ b. Arrives x (suc (suc k)) c (lines.register c 2) b m.rest m.out n)
+    (let v : (lines.register c 2 + 4) % 2 ^ 32 ≡ link + 4 = omega (arith, to, text_small x link l.few text) in v)
+    (subst (λ d. Arrives x (suc (suc k)) d (lines.register c 2) ((lines.register c 2 + 4) % 2 ^ 32) m.rest m.out n) same arrives) in
+    let at_link = subst (λ v. Arrives x (suc (suc k)) c v (link + 4) m.rest m.out n) to there in
+    let quiet = calm_there x (after_return x s caller callers) link (subst (λ (t : Machine). IsCalm x t) is.1 calm) run one.left in
+    let back : is_back c link (call_from x (left_behind rest (leaving m rest caller callers)).frame (caller ∷ callers)) ≡ true =
+    ap (λ v. (v == link) && (lines.register c 30 == m.frame.stack)) (sym to) ∙ is.0 in
+    let at = returns_at x (suc (suc k)) c link (link + 4) m.rest m.out (call_from x s.frame (caller ∷ callers)) (calls_from x caller callers) m.trace at_link
+    (starts_at x (suc (suc k)) c link (link + 4) m.rest m.out n l.setting at_link) back quiet.0 quiet.1 are in
+    let noted : with_return x c (call_from x s.frame (caller ∷ callers)) (calls_from x caller callers) m.trace ≡ noted_by x (after_return x s caller callers) =
+    ap (λ gs. record { calls = calls_from x caller callers; log = Returned (name_of m.frame) 0 gs m.frame.before (kept c) ∷ m.trace })
+    (globals_are x l c caller callers one.there h.callers.1) in
+    subst (λ (t : Machine). Simulates x t (suc (suc k))) (sym is.1) (record {
+      address = link;
+      at = subst (λ n. At x (suc (suc k)) c link (link + 4) m.rest m.out n) noted at;
+      there = one.there;
+      left = one.left;
+      callers = h.callers.1;
+      events = omega (arith, h.events);
+      read = h.read;
+    })

@@ -1,0 +1,90 @@
+-- Lines that words can be made of, with the links of the calling convention, are items that fit.
+use Rattle.std.specs.Prelude.{ℕ, pos, ◌≡◌, ◌+◌, ◌/◌, ◌%◌, ◌^◌, ◌<◌, Bool, true, false, if◌then◌else◌, Option, Some, None, List, [], ◌∷◌}
+use Rattle.std.specs.List.{AllByRecursion}
+use Rattle.std.proofs.Common.{arith, subst, sym, refl, ◌∙◌}
+use Rattle.std.proofs.lemmas.Int.{ints}
+use Rattle.pw_inst.specs.declared.Inst.{Inst}
+use Rattle.pw_inst.specs.declared.Inst.TheVariants as i
+use Rattle.pw_inst.specs.InstructionTable.{IsInRange}
+use Rattle.pw_inst.specs.declared.line.Line.{Line}
+use Rattle.pw_inst.specs.declared.line.Line.TheVariants as line
+use Rattle.pw_inst.specs.declared.relocation.FixKind.{FixKind}
+use Rattle.pw_inst.specs.declared.relocation.FixKind.TheVariants as kind
+use Rattle.pw_inst.specs.declared.relocation.Symbol.TheVariants as symbol
+use Rattle.pw_delay.specs.declared.items.Relocation.{Relocation}
+use Rattle.pw_delay.specs.declared.items.Turn.TheVariants as turn
+use Rattle.pw_delay.specs.declared.items.Item.{Item}
+use Rattle.pw_delay.specs.declared.items.Item.TheVariants.{Plain, Turns, Mark}
+use Rattle.pw_delay.specs.Items.{link_moved, begins_next, plain_item, item_of, before, slotted}
+use Rattle.pw_run_lines.specs.Acts.{with_address, settled, symbol_address}
+use Rattle.pw_run_machine.specs.CodeStands.{IsReady}
+use Rattle.pw_law_link_run.specs.Steps.{Setting}
+use Rattle.pw_law_link_run.specs.Simulating.{IsFit}
+use Rattle.pw_law_link_run.specs.Conventional.{IsConventional}
+
+-- ---- an address in a word keeps its fields in range
+
+left_range : (a t : ℕ) → a < 2 ^ 32 → t < 32 → IsInRange (i.Ldil (a / 2 ^ 11) t)
+unfolding IsInRange
+left_range a t small below = (omega (arith, small), below)
+
+address_range : (k : FixKind) (a : ℕ) (x y : Inst) → a < 2 ^ 32 → IsInRange x → with_address k a x ≡ Some y → IsInRange y
+unfolding IsInRange
+address_range kind.Ldil a (i.Ldil im t) y small r e = let same : i.Ldil (a / 2 ^ 11) t ≡ y = cc in subst (λ y. IsInRange y) same (omega (arith, small), r.1)
+address_range kind.Im14 a (i.Ldb im b t) y small r e = let same : i.Ldb (pos (a % 2 ^ 11)) b t ≡ y = cc in subst (λ y. IsInRange y) same ((omega (arith, ints), omega (arith, ints)), r.1, r.2)
+address_range kind.Im14 a (i.Ldh im b t) y small r e = let same : i.Ldh (pos (a % 2 ^ 11)) b t ≡ y = cc in subst (λ y. IsInRange y) same ((omega (arith, ints), omega (arith, ints)), r.1, r.2)
+address_range kind.Im14 a (i.Ldw im b t) y small r e = let same : i.Ldw (pos (a % 2 ^ 11)) b t ≡ y = cc in subst (λ y. IsInRange y) same ((omega (arith, ints), omega (arith, ints)), r.1, r.2)
+address_range kind.Im14 a (i.Ldo im b t) y small r e = let same : i.Ldo (pos (a % 2 ^ 11)) b t ≡ y = cc in subst (λ y. IsInRange y) same ((omega (arith, ints), omega (arith, ints)), r.1, r.2)
+address_range kind.Im14 a (i.Stb q im b) y small r e = let same : i.Stb q (pos (a % 2 ^ 11)) b ≡ y = cc in subst (λ y. IsInRange y) same ((omega (arith, ints), omega (arith, ints)), r.1, r.2)
+address_range kind.Im14 a (i.Sth q im b) y small r e = let same : i.Sth q (pos (a % 2 ^ 11)) b ≡ y = cc in subst (λ y. IsInRange y) same ((omega (arith, ints), omega (arith, ints)), r.1, r.2)
+address_range kind.Im14 a (i.Stw q im b) y small r e = let same : i.Stw q (pos (a % 2 ^ 11)) b ≡ y = cc in subst (λ y. IsInRange y) same ((omega (arith, ints), omega (arith, ints)), r.1, r.2)
+address_range _ a _ y small r e = absurd cc
+
+some_same : (x y : Inst) → Some x ≡ Some y → x ≡ y
+some_same x y e = cc
+
+settled_range : (z : Setting) (x y : Inst) (o : Option Relocation) → IsInRange x → settled z.addresses (record { inst = x; relocation = o }) ≡ Some y → IsInRange y
+settled_range z x y None r e = subst IsInRange (some_same x y e) r
+settled_range z x y (Some l) r e = by (symbol_address z.addresses l.symbol) refl e
+  where
+    by : (o : Option ℕ) → symbol_address z.addresses l.symbol ≡ o → settled z.addresses (record { inst = x; relocation = Some l }) ≡ Some y → IsInRange y
+    by None s e = absurd (let none : settled z.addresses (record { inst = x; relocation = Some l }) ≡ None = rw s refl in let same : None ≡ Some y = sym none ∙ e in cc)
+    by (Some a) s e =
+        let is : settled z.addresses (record { inst = x; relocation = Some l }) ≡ with_address l.kind ((a + l.addend) % 2 ^ 32) x = rw s refl in
+        address_range l.kind ((a + l.addend) % 2 ^ 32) x y (omega arith) r (sym is ∙ e)
+
+-- ---- lines as items
+
+plain_fits : (z : Setting) (x : Inst) → IsInRange x → IsFit z (plain_item x)
+plain_fits z (i.Combf c r1 r2 disp) r = (r, refl)
+plain_fits z _ r = λ y e. settled_range z _ y None r e
+
+before_all : (z : Setting) (o : Option Item) (rest : List Item) → ((item : Item) → o ≡ Some item → IsFit z item) → AllByRecursion (IsFit z) rest → AllByRecursion (IsFit z) (before o rest)
+before_all z None rest one all = all
+before_all z (Some item) rest one all = (one item refl, all)
+
+fit_same : (z : Setting) (a b : Item) → Some a ≡ Some b → IsFit z a → IsFit z b
+fit_same z a b e h = let same : a ≡ b = cc in subst (λ item. IsFit z item) same h
+
+jump_fits : (z : Setting) (b : ℕ) (n : Bool) (item : Item) → (if n then None else Some (Turns (turn.Goto b) None)) ≡ Some item → IsFit z item
+jump_fits z b true item e = absurd cc
+jump_fits z b false item e = fit_same z (Turns (turn.Goto b) None) item e refl
+
+line_fits : (z : Setting) (l : Line) (rest : List Line) → IsReady l → IsConventional l → (item : Item) → item_of l rest ≡ Some item → IsFit z item
+line_fits z (line.Plain x) rest ready conv item e = fit_same z (plain_item x) item e (plain_fits z x ready)
+line_fits z (line.Fixed x k s n) rest ready conv item e =
+    fit_same z (Plain (record { inst = x; relocation = Some (record { kind = k; symbol = s; addend = n }) })) item e
+    (λ y e. settled_range z x y (Some (record { kind = k; symbol = s; addend = n })) ready.0 e)
+line_fits z (line.Jump b) rest ready conv item e = jump_fits z b (begins_next b rest) item e
+line_fits z (line.BranchNonZero r b) rest ready conv item e = fit_same z (Turns (turn.If r b) None) item e refl
+line_fits z (line.Label b) rest ready conv item e = fit_same z (Mark b) item e tt
+line_fits z (line.CallTo (symbol.Named f) r) rest ready conv item e = fit_same z (Turns (turn.CallTo (symbol.Named f) r) None) item e (conv, refl)
+line_fits z (line.CallTo (symbol.Routine k) r) rest ready conv item e = fit_same z (Turns (turn.CallTo (symbol.Routine k) r) None) item e (conv.0, refl, conv.1)
+line_fits z (line.CallTo symbol.StackLimit r) rest ready conv item e = absurd conv
+line_fits z (line.CallTo (symbol.Word k) r) rest ready conv item e = absurd conv
+line_fits z line.CallReg rest ready conv item e = fit_same z (Turns turn.CallReg (Some link_moved)) item e refl
+line_fits z line.Leave rest ready conv item e = fit_same z (Turns turn.Leave None) item e refl
+
+pub lines_fit : (z : Setting) (lines : List Line) → AllByRecursion IsReady lines → AllByRecursion IsConventional lines → AllByRecursion (IsFit z) (slotted lines)
+lines_fit z [] ready conv = tt
+lines_fit z (l ∷ rest) ready conv = before_all z (item_of l rest) (slotted rest) (line_fits z l rest ready.0 conv.0) (lines_fit z rest ready.1 conv.1)

@@ -1,0 +1,170 @@
+//! What the machine does where the items of the program's functions stand in its text.
+
+ghost use Rattle.std.specs.Prelude.{ℕ, suc, ℤ, ◌≡◌, ◌≢◌, ◌*◌, [], ◌++◌, ◌+◌, ◌%◌, ◌^◌, ◌≤◌, ◌<◌, ◌==◌, Bool, true, false, if◌then◌else◌, Some, None, List, ◌∷◌, Contains, length};
+ghost use Rattle.std.specs.List.{AllByRecursion};
+ghost use Rattle.pw_inst.specs.declared.Inst.{Inst};
+ghost use Rattle.pw_inst.specs.declared.Inst.TheVariants.{Combf};
+ghost use Rattle.pw_inst.specs.InstructionTable.{decoded, IsInRange};
+ghost use Rattle.pw_machine.specs.Core.{Core, word_at};
+ghost use Rattle.pw_machine.specs.Run.{State};
+ghost use Rattle.pw_machine.specs.Start.{stack_start_of, image_start};
+ghost use Rattle.pw_image.specs.declared.image.Memory.{Memory};
+ghost use Rattle.pw_value.specs.ProgramNames.{start_name};
+ghost use Rattle.pw_inst.specs.Computing.{condition};
+ghost use Rattle.pw_machine.specs.Effect.{is_in_text, effect_of};
+ghost use Rattle.pw_law_machine.specs.Lawful.{IsLawfulCore, IsLawful};
+ghost use Rattle.pw_delay.specs.declared.items.Word.{Word};
+ghost use Rattle.pw_delay.specs.declared.items.Item.{Item};
+ghost use Rattle.pw_delay.specs.declared.items.Item.TheVariants.{Plain, Turns, Mark};
+ghost use Rattle.pw_delay.specs.declared.items.Turn.TheVariants.{Back, Goto, If};
+ghost use Rattle.pw_delay.specs.Placement.{size};
+ghost use Rattle.pw_run_lines.specs.Addresses.{Addresses};
+ghost use Rattle.pw_run_lines.specs.Acts as lines;
+ghost use Rattle.pw_run_lines.specs.Acts.{acts};
+ghost use Rattle.pw_run_lines.specs.LineRun.{LineFn, Frame, Machine, On, function_named, left_behind, counted, does, to_block, words_back, goes_back, return_address, enters, returns, start, line_run};
+ghost use Rattle.pw_run.specs.Runs.{Refines, Same};
+ghost use Rattle.pw_milli.specs.Words.{divs_words, divu_words, mul_words, rems_words, remu_words};
+ghost use Rattle.pw_milli.specs.Calls.{Enters};
+ghost use Rattle.pw_run_machine.specs.MachineRun.{start_state, traced_run};
+ghost use Rattle.pw_run_machine.specs.CodeStands.{IsReady};
+ghost use Rattle.pw_inst.specs.declared.line.Line.{Line};
+ghost use Rattle.pw_delay.specs.Items.{slotted};
+ghost use Rattle.pw_alloc.specs.declared.located.Located.{Located};
+ghost use Rattle.pw_select.specs.Selection.{selected};
+ghost use Rattle.pw_alloc.specs.Frames.{head_size, slots_begin, last_reach};
+ghost use Rattle.pw_webflow.specs.declared.web.WebBlock.{WebBlock};
+ghost use Rattle.pw_law_link_run.specs.Showing.{Shows, DoesSo};
+ghost use Rattle.pw_law_link_run.specs.Steps.{Setting, map_in, IsSetting, Arrives, is_back, AreInData};
+ghost use Rattle.pw_law_link_run.specs.Placing.{name_in, own_address, words_of};
+ghost use Rattle.pw_law_link_run.specs.Simulating.{calls_from, noted_by, IsLinked, IsCaller, Simulates, IsCalm, IsCalmInside, IsCalmBehind, leaving, HasLibrary, IsFit};
+ghost use Rattle.pw_law_link_run.specs.Meeting.{Meets};
+ghost use Rattle.pw_law_link_run.specs.Routines.{HasRoutines, AreLeftWords, IsSteadyRun, Makes};
+ghost use Rattle.pw_law_link_run.specs.Leveled.{AreFramed, IsPassing, Parts};
+ghost use Rattle.pw_law_link_run.specs.Starting.{IsStart, HasData};
+ghost use Rattle.pw_law_link_run.specs.Conventional.{IsConventional};
+
+use pw_law_machine::{runs_keep_lawful_states, words_of_the_text_stay};
+use pw_machine::{runs_add_up, runs_go_on};
+use pw_milli::{divs_divides, divu_divides, mul_multiplies, rems_divides, remu_divides};
+
+/// Where an instruction of a word is next, the machine does what the word does in the run of lines: it goes on to a
+/// core that shows the word's result, or stops for want of stack. Where the word may not act, nothing is said.
+#[tactic(auto, using(crate::proofs::Words::word_done))]
+pub fn words_are_done()
+    ensures { (w : Addresses) (c : lines.Core) (core : Core) (i : Inst) → core.data_start ≡ w.data_start → IsLawfulCore core → IsInRange i → Shows c core →
+        is_in_text core core.front ≡ true → decoded (word_at core.memory core.front) ≡ Some i → DoesSo core (effect_of core) (acts w (Some i) c) }
+{}
+
+/// From a state of the lines that the machine shows, a word leads to one that it shows after one step more, with what
+/// it notes; the beginning of a block takes no step. Nothing returns and nothing is called where the lines are then.
+#[tactic(auto, using(crate::proofs::Items::word_simulates, crate::proofs::Items::mark_simulates))]
+pub fn words_are_met()
+    ensures word { (x : Setting) → IsLinked x → (k : ℕ) (m t : Machine) (word : Word) (rest : List Item) →
+        Simulates x (left_behind (Plain word ∷ rest) m) k → does x.program x.addresses word (left_behind rest m) ≡ On t → IsCalm x t → Simulates x t (suc k) }
+    ensures block { (x : Setting) (k b : ℕ) (m : Machine) (rest : List Item) → Simulates x (left_behind (Mark b ∷ rest) m) k → Simulates x (left_behind rest m) k }
+{}
+
+/// So do a jump to a block, a conditional branch, short or long, and a loop inside a block.
+#[tactic(auto, using(crate::proofs::Items::goto_simulates, crate::proofs::Items::if_simulates, crate::proofs::Items::back_simulates))]
+pub fn branches_are_met()
+    ensures jump { (x : Setting) → IsLinked x → (k b : ℕ) (m t : Machine) (rest : List Item) →
+        Simulates x (left_behind (Turns (Goto b) None ∷ rest) m) k → m.core.skip ≡ false → to_block b (counted (left_behind (Turns (Goto b) None ∷ rest) m)) ≡ On t →
+        IsCalmInside x (left_behind (Turns (Goto b) None ∷ rest) m) 2 → IsCalm x t → Simulates x t (suc (suc k)) }
+    ensures branch { (x : Setting) → IsLinked x → (k r b : ℕ) (m t : Machine) (rest : List Item) →
+        Simulates x (left_behind (Turns (If r b) None ∷ rest) m) k → m.core.skip ≡ false →
+        (if lines.register m.core r == 0 then On (left_behind rest m) else to_block b (counted (left_behind (Turns (If r b) None ∷ rest) m))) ≡ On t →
+        IsCalmInside x (left_behind (Turns (If r b) None ∷ rest) m) (size (x.long (name_in m.frame.function)) (Turns (If r b) None)) → IsCalm x t → (j : ℕ) × Simulates x t j }
+    ensures back { (x : Setting) → IsLinked x → (k j r u : ℕ) (disp : ℤ) (m t : Machine) (rest : List Item) →
+        Simulates x (left_behind (Turns (Back (Combf j r u disp)) None ∷ rest) m) k → m.core.skip ≡ false →
+        (if (if condition j (lines.register m.core r) (lines.register m.core u) then false else true)
+        then goes_back (words_back disp) (Turns (Back (Combf j r u disp)) None ∷ rest) (counted (left_behind (Turns (Back (Combf j r u disp)) None ∷ rest) m))
+        else On (left_behind rest m)) ≡ On t →
+        IsCalmInside x (left_behind (Turns (Back (Combf j r u disp)) None ∷ rest) m) 2 → IsCalm x t → Simulates x t (suc (suc k)) }
+{}
+
+/// Where the machine arrives at a function's address, with the return address in register 2, it shows the state of the
+/// lines in which the function is entered; and after a return that in which the caller goes on. It notes the call and
+/// the return as the lines do.
+#[tactic(auto, using(crate::proofs::Calls::enters_simulates, crate::proofs::Calls::return_simulates))]
+pub fn calls_are_met()
+    ensures entry { (x : Setting) → IsLinked x → (k : ℕ) (g : LineFn) (m : Machine) → Contains x.program.functions g → IsCaller x m.frame → AllByRecursion (IsCaller x) m.callers →
+        lines.register m.core 2 ≡ return_address x.addresses m.frame m.frame.left →
+        Arrives x k m.core (own_address x g) ((own_address x g + 4) % 2 ^ 32) m.rest m.out (noted_by x m) → m.events + 1 ≤ k → m.read + length m.rest ≡ length x.start.rest → m.core.skip ≡ false →
+        AllByRecursion (λ call. is_back m.core (own_address x g) call ≡ false) (calls_from x m.frame m.callers) → AreInData x (calls_from x m.frame m.callers) →
+        Simulates x (enters x.program x.addresses g m) k }
+    ensures exit { (x : Setting) → IsLinked x → (k : ℕ) (m t : Machine) (rest : List Item) (caller : Frame) (callers : List Frame) →
+        Simulates x (leaving m rest caller callers) k → m.core.skip ≡ false →
+        returns x.program x.addresses (lines.register m.core 2) (left_behind rest (leaving m rest caller callers)) ≡ On t →
+        IsCalmBehind x (leaving m rest caller callers) → IsCalm x t → AreInData x (calls_from x caller callers) → Simulates x t (suc (suc k)) }
+{}
+
+/// A routine that is entered leaves the result that the run of lines has, in register 29, and changes scratch registers
+/// alone.
+pub fn routines_leave_results()
+    ensures divs { (address : ℕ) (s : State) → Enters divs_words address s → Makes divs_words address s 0 }
+    ensures divu { (address : ℕ) (s : State) → Enters divu_words address s → Makes divu_words address s 1 }
+    ensures mul { (address : ℕ) (s : State) → Enters mul_words address s → Makes mul_words address s 2 }
+    ensures rems { (address : ℕ) (s : State) → Enters rems_words address s → Makes rems_words address s 3 }
+    ensures remu { (address : ℕ) (s : State) → Enters remu_words address s → Makes remu_words address s 4 }
+{
+    divs_divides();
+    divu_divides();
+    mul_multiplies();
+    rems_divides();
+    remu_divides();
+}
+
+/// The run of lines is met by the machine's run, with the same log, where the machine shows its start, and each of its
+/// states is steady: nothing seems to return or to be called but what the lines return from and call, and the words
+/// that routines leave are those that the lines take.
+
+pub fn steady_runs_are_met()
+    ensures { (x : Setting) → IsLinked x → HasLibrary x → HasRoutines x → (scratch : ℕ → ℕ → ℕ) (core : Core) (input : List ℕ) → x.start ≡ start_state core input →
+        Meets x (start x.program x.addresses input) → IsSteadyRun x scratch (start x.program x.addresses input) →
+        Refines Same (line_run x.program x.addresses scratch input) (traced_run (map_in x) core input) }
+{}
+
+/// So it is met where the items of each function keep the stack pointer: at its end at every block and turn but a
+/// return, and as at the call before a return, with no return address where it is lower; where the machine starts at the
+/// entry with the core of the lines; and where the words that routines leave are those that the lines take.
+pub fn framed_runs_are_met()
+    ensures { (x : Setting) → IsLinked x → HasLibrary x → HasRoutines x → AreFramed x → (scratch : ℕ → ℕ → ℕ) (core : Core) (input : List ℕ) (f : LineFn) →
+        x.start ≡ start_state core input → IsStart x f input → AreLeftWords x scratch (start x.program x.addresses input) →
+        Refines Same (line_run x.program x.addresses scratch input) (traced_run (map_in x) core input) }
+{}
+
+/// A lawful state whose data begin where the lines have them is one from which the machine's run keeps its text.
+pub fn lawful_starts_are_settings()
+    ensures { (x : Setting) → IsLawful x.start → x.start.core.data_start ≡ x.addresses.data_start → IsSetting x }
+{
+    runs_keep_lawful_states();
+    words_of_the_text_stay();
+    runs_add_up();
+    runs_go_on();
+}
+
+/// Lines that words can be made of, and that call as the convention has it, are items that fit.
+pub fn ready_lines_fit()
+    ensures { (x : Setting) (lines : List Line) → AllByRecursion IsReady lines → AllByRecursion IsConventional lines → AllByRecursion (IsFit x) (slotted lines) }
+{}
+
+/// What is selected of a function calls by the convention: functions by register 2, routines by register 31.
+pub fn selected_calls_are_conventional()
+    ensures { (f : Located) → AllByRecursion IsConventional (selected f) }
+{}
+
+/// The state in which the program of an image begins is the start of the lines, where its entry, its stack and its data
+/// are those of the lines.
+pub fn images_start_as_lines()
+    ensures { (x : Setting) (m : Memory) (f : LineFn) (input : List ℕ) → x.start ≡ start_state (image_start m) input → function_named x.program start_name ≡ Some f →
+        m.entry ≡ own_address x f → x.addresses.base ≡ stack_start_of m.words m.data_size → x.addresses.base < 2 ^ 32 → HasData x m → IsStart x f input }
+{}
+
+/// The items of a selected function begin with a word, and go on behind all but jumps and returns; its frame holds the
+/// saved registers and what stands nearest to the stack pointer.
+pub fn selected_items_are_shaped()
+    ensures begin { (x : Setting) (g : LineFn) (f : Located) → g.items ≡ slotted (selected f) → (before left : List Item) → Parts g before left → before ≢ [] → 1 ≤ words_of x g before }
+    ensures go_on { (x : Setting) (g : LineFn) (f : Located) (b : WebBlock) (blocks : List WebBlock) → g.items ≡ slotted (selected f) → f.body.blocks ≡ b ∷ blocks →
+        (before rest : List Item) (item : Item) → Parts g before (item ∷ rest) → IsPassing item → 1 ≤ words_of x g rest }
+    ensures frame { (f : Located) (n : ℕ) → f.frame ≡ last_reach (slots_begin (head_size f.body) (length f.saved) n) f.body.slots → 4 * length f.saved + head_size f.body ≤ f.frame }
+{}

@@ -1,0 +1,137 @@
+-- What checking keeps of a module beside its types: names are of letters, no part of an object's bytes is empty, and
+-- sizes, arguments, parameters and rooms keep their limits.
+use Rattle.std.specs.Prelude.{ℕ, suc, ◌≡◌, ◌<◌, ◌≤◌, ◌^◌, ◌⊎◌, Option, None, Some, List, All}
+use Rattle.std.specs.List.{AllByRecursion}
+use Rattle.pw_value.specs.Limits.{parameter_limit, room_limit}
+use Rattle.pw_types.specs.Layouts.{content_at}
+use Rattle.pw_types.specs.Rooms.{room_of}
+use Rattle.pw_types.specs.Sizes.{oversize_of}
+use Rattle.pw_types.specs.TypeTrees.{CType, Record, type_of, ContentValue, RecordValue}
+use Rattle.pw_types.specs.TypedModules.{item_size}
+use Rattle.pw_types.specs.TypedTrees.{Symbol, External, Internal, Hidden, Expression, Node, Form, Unary, Binary, Logic, Cond, Comma, Assign, Compound, Step, Cast, Decay, Member, Deref, Address, Call, CallValue, Expressions, NoExpression, OneExpression, Initialiser, Value, Bytes, Statement, Empty, Evaluate, Block, If, While, Do, For, Switch, Label, Goto, Break, Continue, Return, Arms, NoArm, Arm, Otherwise, NoElse, Else, Statements, NoStatement, OneStatement, FunctionValue, GlobalValue, ModuleValue}
+use Rattle.pw_flow.specs.ValidFlow.{IsMoved}
+use Rattle.pw_lower.specs.Operators.{bytes_of, unit_of}
+use Rattle.pw_law_lower.specs.Parts.{partless}
+
+-- ---- names
+
+-- a digit, a letter or an underscore (C90 6.1.2)
+abbrev pub IsLetter : ℕ → Type 0
+IsLetter b = ((48 ≤ b) × (b ≤ 57)) ⊎ ((65 ≤ b) × (b ≤ 90)) ⊎ (b ≡ 95) ⊎ ((97 ≤ b) × (b ≤ 122))
+
+-- the bytes of names, whichever of them is first: an identifier is more, it begins with no digit and is no keyword
+abbrev pub AreLetters : List ℕ → Type 0
+AreLetters name = AllByRecursion IsLetter name
+
+-- a name that a text can give, or the number of a hidden object
+abbrev pub IsNamed : Symbol → Type 0
+IsNamed (External name) = AreLetters name
+IsNamed (Internal name) = AreLetters name
+IsNamed (Hidden k) = k < 2 ^ 32
+
+-- ---- types
+
+-- an object of the type has a positive number of units of its alignment, 1, 2 or 4, and keeps the limit on sizes
+abbrev pub IsCopied : List RecordValue → CType → Type 0
+IsCopied records ty = IsMoved (bytes_of records ty) (unit_of records ty)
+
+-- a structure or union type that is defined
+pub record IsRecordWithin (records : List RecordValue) (number : ℕ) (c : ContentValue) : Type 0 where
+  pub copied : IsCopied records (Record number)
+  pub offsets : All (λ o. o < 2 ^ 32) c.offsets
+
+abbrev pub AreRecordsWithin : List RecordValue → Type 0
+AreRecordsWithin records = (number : ℕ) (c : ContentValue) → content_at records number ≡ Some c → IsRecordWithin records number c
+
+-- the type, and each that it is made of, keeps the limit on sizes
+abbrev pub IsSized : List RecordValue → CType → Type 0
+IsSized records ty = oversize_of records ty ≡ None
+
+-- ---- expressions and statements: their types keep the limit on sizes, and their calls that on arguments
+
+abbrev pub count_of : Expressions → ℕ
+count_of NoExpression = 0
+count_of (OneExpression e rest) = suc (count_of rest)
+
+abbrev mutual
+  pub IsSmall : List RecordValue → Expression → Type 0
+  IsSmall records (Node t y form) = IsSized records (type_of y) × HasSmall records form
+
+  pub HasSmall : List RecordValue → Form → Type 0
+  HasSmall records (Unary o a) = IsSmall records a
+  HasSmall records (Binary o a b) = IsSmall records a × IsSmall records b
+  HasSmall records (Logic o a b) = IsSmall records a × IsSmall records b
+  HasSmall records (Cond a b c) = IsSmall records a × IsSmall records b × IsSmall records c
+  HasSmall records (Comma a b) = IsSmall records a × IsSmall records b
+  HasSmall records (Assign a b) = IsSmall records a × IsSmall records b
+  HasSmall records (Compound o work a b) = IsSmall records a × IsSmall records b × IsSized records work
+  HasSmall records (Step o a) = IsSmall records a
+  HasSmall records (Cast a) = IsSmall records a
+  HasSmall records (Decay a) = IsSmall records a
+  HasSmall records (Member a offset) = IsSmall records a
+  HasSmall records (Deref a) = IsSmall records a
+  HasSmall records (Address a) = IsSmall records a
+  HasSmall records (Call s args) = (count_of args ≤ parameter_limit) × AreSmall records args
+  HasSmall records (CallValue a args) = (count_of args ≤ parameter_limit) × IsSmall records a × AreSmall records args
+  HasSmall records _ = Unit {0}
+
+  pub AreSmall : List RecordValue → Expressions → Type 0
+  AreSmall records NoExpression = Unit {0}
+  AreSmall records (OneExpression e rest) = IsSmall records e × AreSmall records rest
+
+abbrev pub IsSmallOrAbsent : List RecordValue → Option Expression → Type 0
+IsSmallOrAbsent records None = Unit {0}
+IsSmallOrAbsent records (Some e) = IsSmall records e
+
+abbrev pub IsSmallIn : List RecordValue → Initialiser → Type 0
+IsSmallIn records (Value k e) = IsSmall records e
+IsSmallIn records (Bytes k hidden parts) = Unit {0}
+
+abbrev mutual
+  pub KeepsLimits : List RecordValue → Statement → Type 0
+  KeepsLimits records (Empty t) = Unit {0}
+  KeepsLimits records (Evaluate t e) = IsSmall records e
+  KeepsLimits records (Block t first count initialisers items) = AllByRecursion (IsSmallIn records) initialisers × KeepLimits records items
+  KeepsLimits records (If t arms otherwise) = ArmsKeepLimits records arms × ElseKeepsLimits records otherwise
+  KeepsLimits records (While t e body) = IsSmall records e × KeepsLimits records body
+  KeepsLimits records (Do t body e) = IsSmall records e × KeepsLimits records body
+  KeepsLimits records (For t first e third body) =
+      IsSmallOrAbsent records first × IsSmallOrAbsent records e × IsSmallOrAbsent records third × KeepsLimits records body
+  KeepsLimits records (Switch t e cases default body) = IsSmall records e × KeepsLimits records body
+  KeepsLimits records (Label t labels body) = KeepsLimits records body
+  KeepsLimits records (Goto t n) = Unit {0}
+  KeepsLimits records (Break t) = Unit {0}
+  KeepsLimits records (Continue t) = Unit {0}
+  KeepsLimits records (Return t e) = IsSmallOrAbsent records e
+
+  pub KeepLimits : List RecordValue → Statements → Type 0
+  KeepLimits records NoStatement = Unit {0}
+  KeepLimits records (OneStatement s rest) = KeepsLimits records s × KeepLimits records rest
+
+  pub ArmsKeepLimits : List RecordValue → Arms → Type 0
+  ArmsKeepLimits records NoArm = Unit {0}
+  ArmsKeepLimits records (Arm t e s rest) = IsSmall records e × KeepsLimits records s × ArmsKeepLimits records rest
+
+  pub ElseKeepsLimits : List RecordValue → Otherwise → Type 0
+  ElseKeepsLimits records NoElse = Unit {0}
+  ElseKeepsLimits records (Else s) = KeepsLimits records s
+
+-- ---- objects, functions, modules
+
+pub record IsObjectWithin (g : GlobalValue) : Type 0 where
+  pub name : IsNamed g.name
+  pub items : All (λ p. 0 < item_size p.item) g.items
+
+pub record IsFunctionWithin (m : ModuleValue) (f : FunctionValue) : Type 0 where
+  pub name : IsNamed f.name
+  pub params : f.params ≤ parameter_limit
+  pub locals : All (λ l. IsCopied m.records (type_of l.ty)) f.locals
+  pub body : KeepsLimits m.records f.body
+  pub parts : partless f.body ≡ 0
+  pub room : room_of m.records f ≤ room_limit
+
+pub record IsWithin (m : ModuleValue) : Type 0 where
+  pub records : AreRecordsWithin m.records
+  pub declared : All (λ d. AreLetters d.name) m.declared
+  pub globals : All IsObjectWithin m.globals
+  pub functions : All (IsFunctionWithin m) m.functions

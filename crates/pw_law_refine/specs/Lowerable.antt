@@ -1,0 +1,21 @@
+-- What lowering asks of a program for its flow graphs to do what it means. Checking and linking see to all of it.
+use Rattle.std.specs.Prelude.{ℕ, List, Contains}
+use Rattle.pw_law_lowered.specs.Within.{IsWithin}
+use Rattle.pw_cmean.specs.Worlds.{Program, ProgramModule, World}
+use Rattle.pw_run_flow.specs.Programs.{NoneForLibrary}
+use Rattle.pw_law_layers.specs.Lowering.{flow_program, IsAccepted}
+use Rattle.pw_law_layers.specs.Accepting.{AreFormed, LeadInside}
+
+-- The program is accepted. Its labels stand in the order of the text, and no scalar local gets the bytes of a hidden
+-- object. Addresses in initialisers lead into the objects that they name. Names are identifiers, and sizes keep their
+-- limits.
+pub record IsLowerable (p : Program) (frame_of : List ℕ → ℕ) (stack : ℕ) : Type 0 where
+  pub accepted : IsAccepted p frame_of stack
+  pub formed : AreFormed p
+  pub inside : LeadInside (flow_program p frame_of stack)
+  pub within : (m : ProgramModule) → Contains p.modules m → IsWithin m.tree
+
+-- the same of a run's world, where besides the library's functions need no stack
+pub record IsLowerableWorld (world : World) : Type 0 where
+  pub program : IsLowerable world.program world.frame_of world.stack
+  pub library : NoneForLibrary world.frame_of

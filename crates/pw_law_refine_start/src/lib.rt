@@ -1,0 +1,67 @@
+//! Laws of lowering's refinement, without code: both runs of a program start in states that match.
+#![tactic(auto)]
+
+ghost use Rattle.std.specs.Prelude.{◌≡◌, ◌<◌, ◌≤◌, ℕ, List, [], Some, All, length};
+ghost use Rattle.pw_value.specs.Limits.{size_limit};
+ghost use Rattle.pw_value.specs.ProgramNames.{main_name};
+ghost use Rattle.pw_value.specs.Objects.{Object};
+ghost use Rattle.pw_cmean.specs.Worlds.{World, Callable, function_number, function_named, global_number, start_objects};
+ghost use Rattle.pw_cmean.specs.Typed.{IsByte};
+ghost use Rattle.pw_run_flow.specs.Programs as flows;
+ghost use Rattle.pw_run_flow.specs.FlowRun.{On, start};
+ghost use Rattle.pw_law_refine.specs.Lowerable.{IsLowerableWorld};
+ghost use Rattle.pw_law_refine.specs.Activations.{graphs};
+ghost use Rattle.pw_law_refine.specs.Standing.{MemoryStands};
+ghost use Rattle.pw_law_refine.specs.Matching.{IsGlobalAt};
+ghost use Rattle.pw_law_refine.specs.Calls.{FitShape};
+ghost use Rattle.pw_law_refine.specs.Whole.{AllPartsKeep, ProgramsKeepRuns, StartsMatch, start_machine};
+ghost use Rattle.pw_law_refine_start.specs.Start.{start_spots};
+
+use pw_law_refine_steps::programs_rest_on_parts;
+
+/// A name has the same number in the meaning of C as in the flow graphs: that of a function its place among all names of
+/// functions, that of an object its place among the objects.
+pub fn names_have_one_number()
+    ensures functions { (world : World) (name : List ℕ) → IsLowerableWorld world →
+        function_number world.program name ≡ flows.function_number (graphs world) name }
+    ensures objects { (world : World) (name : List ℕ) → global_number world.program name ≡ flows.global_number (graphs world) name }
+{}
+
+/// The objects at the start: each stands in the object of its own number, has the bytes that stand for its own there,
+/// and lives; a number in a byte is one of 8 bits, and an object keeps the limit on sizes. An address in an initialiser
+/// leads to the same place of the same object, or to the same function.
+pub fn objects_stand_at_start()
+    ensures memory { (world : World) → IsLowerableWorld world →
+        MemoryStands (start_spots (graphs world)) (start_objects world.program) (flows.start_objects (graphs world)) }
+    ensures globals { (world : World) (g : ℕ) → IsLowerableWorld world → g < length (flows.globals_of (graphs world)) →
+        IsGlobalAt (start_spots (graphs world)) (start_objects world.program) g }
+    ensures bytes { (world : World) → IsLowerableWorld world →
+        All (λ (o : Object). All IsByte o.bytes) (start_objects world.program) }
+    ensures sizes { (world : World) → IsLowerableWorld world →
+        All (λ (o : Object). length o.bytes ≤ size_limit) (start_objects world.program) }
+{}
+
+/// The run of the flow graphs begins in `$start`.
+pub fn runs_begin_in_start()
+    ensures { (world : World) (input : List ℕ) → IsLowerableWorld world →
+        start (graphs world) input ≡ On (start_machine (graphs world) input) }
+{}
+
+/// `main` takes nothing.
+pub fn main_takes_nothing()
+    ensures { (world : World) (main : Callable) → IsLowerableWorld world → function_named world.program main_name ≡ Some main →
+        FitShape main.shape [] }
+{}
+
+/// Both runs of a lowerable program start in states that match, and `main` takes nothing.
+pub fn starts_match()
+    ensures { StartsMatch }
+{}
+
+/// Where the parts of programs keep their promises at each bound, programs keep their runs.
+pub fn parts_make_programs()
+    ensures { AllPartsKeep → ProgramsKeepRuns }
+{
+    programs_rest_on_parts();
+    starts_match();
+}

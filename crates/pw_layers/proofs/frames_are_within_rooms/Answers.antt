@@ -1,6 +1,0 @@
-use Rattle.pw_layers.proofs.Frames.{all_fit}
-use Rattle.pw_layers.proofs.frames_are_within_rooms.Goals as goal
-
-pub returns : goal.returns
-returns c =
-    all_fit c.frames_fit.ensures.functions c.frames_fit.ensures.start c.places_fit_their_rooms.ensures c.maps_have_frames.ensures

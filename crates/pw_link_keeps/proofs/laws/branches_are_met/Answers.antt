@@ -1,5 +1,0 @@
-use Rattle.pw_link_keeps.proofs.Items.{if_simulates}
-use Rattle.pw_link_keeps.proofs.laws.branches_are_met.Goals as goal
-
-pub returns-clause-branch : goal.returns-clause-branch
-returns-clause-branch c = if_simulates

@@ -1,4 +1,0 @@
-pub mod ModuleLemmas
-pub mod Exact
-pub mod Order
-pub mod ReadingLemmas

@@ -1,6 +1,0 @@
-use Rattle.pw_phases.proofs.ObjectLaws.{object_lawful}
-use Rattle.pw_phases.proofs.phases.phase_two.Goals as goal
-
-pub returns-clause-lawful : goal.returns-clause-lawful
-returns-clause-lawful c =
-    object_lawful c.args.flow.now c.args.directives.now c.in_ok-object.object c.requires.lawful c.requires.directives c.in_ok-object.ensures.object c.in_ok-object.ensures.functions

@@ -1,7 +1,0 @@
-use Rattle.std.proofs.Common.{◌≡◌, length, take}
-use Rattle.std.specs.List.{sum_by}
-use Rattle.pw_value.specs.Caps.{capped}
-use Rattle.pw_program.proofs.names.count_functions.Given as goal
-
-abbrev pub invariant-loop-each : goal.invariant-loop-each
-invariant-loop-each l = l.count ≡ capped (sum_by (λ i. length i.functions) (take l.each-index l.modules))

@@ -1,6 +1,0 @@
-use Rattle.std.proofs.Common.{◌≡◌, take}
-use Rattle.pw_refs.specs.Flows.{turned}
-use Rattle.pw_refs.proofs.flows.reversed.Given as goal
-
-abbrev pub invariant-loop-from : goal.invariant-loop-from
-invariant-loop-from l = l.back.items ≡ turned (take l.from-index l.edges)

@@ -1,0 +1,13 @@
+use Rattle.std.proofs.Common.{map}
+use Rattle.std.specs.Prelude.{string_bytes}
+use Rattle.std.proofs.lemmas.List.Elements.{All-same}
+use Rattle.std.proofs.lemmas.Result.{IfOk-weaker}
+use Rattle.pw_store_modules.specs.Modules.{IsModuleFile}
+use Rattle.pw_store_modules.proofs.ModuleLemmas.{all_are_modules, all_mapped}
+use Rattle.pw_store_modules.proofs.modules.module_files.Goals as goal
+
+pub returns-clause-modules : goal.returns-clause-modules
+returns-clause-modules c =
+    IfOk-weaker c.placed_modules.result _ _
+    (λ files e. all_mapped IsModuleFile string_bytes files.items (All-same IsModuleFile _ _ e (all_are_modules (map string_bytes c.args.names.now))))
+    c.placed_modules.ensures

@@ -1,0 +1,136 @@
+//! The texts of a store's modules, in the order of their names.
+
+ghost use Rattle.std.specs.Prelude.{◌≡◌, ◌≤◌, IfOk, OnOk, IfSome, All, map, ◌++◌, true, option_to_list, length, string_bytes};
+ghost use Rattle.std.specs.Option.{option_map};
+ghost use Rattle.pw_io.specs.Files.{Keeps};
+ghost use Rattle.pw_io.specs.Faults.{HasStoreCause};
+ghost use Rattle.pw_store_modules.specs.Modules.{IsModuleFile, is_module_name, modules_of, names_of_modules, stem};
+ghost use Rattle.pw_store_modules.specs.Reading.{source_of, sources_of};
+ghost use Rattle.pw_store_modules.specs.Views.{source};
+
+use crate::modules::{Module, module_files, stem};
+use pw_io::{Store, StoreError};
+use pw_token::MAX_TEXT;
+use pw_value::Name;
+use std::alloc::{AllocError, Global};
+
+/// The greatest count of bytes that is read of a module's text: one more than a text may have.
+const TEXT_READ: usize = MAX_TEXT + 1;
+
+/// Reads a module's text.
+fn read_source<S: Store>(
+    alloc: Global,
+    store: &mut S,
+    file: &str,
+) -> Result<Option<Module>, StoreError>
+    requires { IsModuleFile file.now }
+    ensures read { IfSome (S.told store.old) (λ told. IfOk result (λ found. option_map source found ≡ source_of told.files file.now)) }
+    ensures same { Keeps (S.told store.old) (S.told store.new) }
+    ensures cause { HasStoreCause (S.faults store.old) (S.faults store.new) result }
+{
+    let Some(mut text) = store.get(alloc, file, TEXT_READ)? else {
+        return Ok(None);
+    };
+    text.truncate(TEXT_READ);
+    match Name::within(alloc, stem(file)) {
+        Ok(name) => Ok(Some(Module { name, text })),
+        Err(_) => Err(StoreError::NoMemory),
+    }
+}
+
+/// Reads a module's text and puts the module behind others. A file that is gone is left out.
+fn add_source<S: Store>(
+    alloc: Global,
+    store: &mut S,
+    modules: &mut Vec<Module>,
+    file: &str,
+) -> Result<(), StoreError>
+    requires { IsModuleFile file.now }
+    ensures read { IfSome (S.told store.old) (λ told. OnOk result (map source modules.new.items ≡ map source modules.old.items ++ option_to_list (source_of told.files file.now))) }
+    ensures same { Keeps (S.told store.old) (S.told store.new) }
+    ensures cause { HasStoreCause (S.faults store.old) (S.faults store.new) result }
+{
+    match read_source(alloc, store, file)? {
+        None => Ok(()),
+        Some(found) => match modules.push(found) {
+            Ok(()) => Ok(()),
+            Err(_) => Err(StoreError::NoMemory),
+        },
+    }
+}
+
+/// Reads the modules of these files in order, each text up to one byte more than a text may have. A file that is gone is
+/// left out. The store stays as it is.
+pub fn read_sources<S: Store>(
+    alloc: Global,
+    store: &mut S,
+    files: &[String],
+) -> Result<Vec<Module>, StoreError>
+    requires { All (λ file. IsModuleFile (string_bytes file)) files.now }
+    ensures read { IfSome (S.told store.old) (λ told. IfOk result (λ modules. map source modules.items ≡ sources_of told.files (map string_bytes files.now))) }
+    ensures same { Keeps (S.told store.old) (S.told store.new) }
+    ensures cause { HasStoreCause (S.faults store.old) (S.faults store.new) result }
+{
+    let mut modules = Vec::new(alloc);
+    for file in files {
+        add_source(alloc, store, &mut modules, file.as_str())?;
+    }
+    Ok(modules)
+}
+
+/// The files of the modules of a store, in the byte order of the modules' names: `read_sources` reads them. The store
+/// stays as it is.
+pub fn module_files_of<S: Store>(alloc: Global, store: &mut S) -> Result<Vec<String>, StoreError>
+    ensures names { IfSome (S.told store.old) (λ told. IfOk result (λ files. map stem (map string_bytes files.items) ≡ names_of_modules told.files)) }
+    ensures sources { IfSome (S.told store.old) (λ told. IfOk result (λ files. sources_of told.files (map string_bytes files.items) ≡ modules_of told.files)) }
+    ensures modules { IfOk result (λ files. All (λ file. IsModuleFile (string_bytes file)) files.items) }
+    ensures same { Keeps (S.told store.old) (S.told store.new) }
+    ensures cause { HasStoreCause (S.faults store.old) (S.faults store.new) result }
+{
+    let names = store.names(alloc)?;
+    Ok(module_files(alloc, &names)?)
+}
+
+/// The modules of a store: each file `NAME.i` whose name a module may have, in the byte order of the names, with its text
+/// up to one byte more than a text may have. The store stays as it is.
+pub fn read_modules<S: Store>(alloc: Global, store: &mut S) -> Result<Vec<Module>, StoreError>
+    ensures read { IfSome (S.told store.old) (λ told. IfOk result (λ modules. map source modules.items ≡ modules_of told.files)) }
+    ensures same { Keeps (S.told store.old) (S.told store.new) }
+    ensures cause { HasStoreCause (S.faults store.old) (S.faults store.new) result }
+{
+    let files = module_files_of(alloc, store)?;
+    read_sources(alloc, store, &files)
+}
+
+/// A module's name, from its file's.
+fn name_of(file: &String) -> Result<String, AllocError>
+    requires { IsModuleFile (string_bytes file.now) }
+    ensures { IfOk result (λ name. string_bytes name ≡ stem (string_bytes file.now)) }
+{
+    let mut name = file.clone()?;
+    name.truncate(name.len() - 2);
+    Ok(name)
+}
+
+/// The names of modules, from their files' names.
+fn names_of(alloc: Global, files: &[String]) -> Result<Vec<String>, AllocError>
+    requires { All (λ file. IsModuleFile (string_bytes file)) files.now }
+    ensures { IfOk result (λ names. map string_bytes names.items ≡ map stem (map string_bytes files.now)) }
+{
+    let mut names = Vec::new(alloc);
+    for file in files {
+        names.push(name_of(file)?)?;
+    }
+    Ok(names)
+}
+
+/// The names of the modules of a store, in byte order. The store stays as it is.
+pub fn module_names<S: Store>(alloc: Global, store: &mut S) -> Result<Vec<String>, StoreError>
+    ensures names { IfSome (S.told store.old) (λ told. IfOk result (λ names. map string_bytes names.items ≡ names_of_modules told.files)) }
+    ensures named { IfOk result (λ names. All (λ name. is_module_name (string_bytes name) ≡ true) names.items) }
+    ensures same { Keeps (S.told store.old) (S.told store.new) }
+    ensures cause { HasStoreCause (S.faults store.old) (S.faults store.new) result }
+{
+    let files = module_files_of(alloc, store)?;
+    Ok(names_of(alloc, &files)?)
+}

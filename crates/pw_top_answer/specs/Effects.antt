@@ -1,0 +1,62 @@
+-- What a command comes to where nothing fails, and what may come of it where something does.
+use Rattle.std.specs.Prelude.{◌≡◌, ℕ, ◌⊎◌, List, [], ◌∷◌, ◌++◌, Option, Some, IsSomeAnd}
+use Rattle.pw_io.specs.Files.{Told, after_put, LeavesFile}
+use Rattle.pw_top_answer.specs.declared.answer.Answer.{Answer}
+use Rattle.pw_top_answer.specs.declared.answer.Answer.TheVariants.{Done, StoreFault, NoMemory}
+
+-- a file: its name and its bytes
+abbrev pub NamedFile : Type 0
+NamedFile = List ℕ × List ℕ
+
+-- What a command comes to over the files of a store and an input: its answer, the files that it puts, in order, what it
+-- puts out, and what it leaves of the input.
+pub record Effect : Type 0 where
+  pub answer : Answer
+  pub puts : List NamedFile
+  pub output : List ℕ
+  pub rest : List ℕ
+
+-- it answers so, and neither puts a file nor touches input and output
+abbrev pub answers_alone : Answer → List ℕ → Effect
+answers_alone answer input = record { answer = answer; puts = []; output = []; rest = input }
+
+-- it puts these files
+abbrev pub puts_files : List NamedFile → List ℕ → Effect
+puts_files files input = record { answer = Done; puts = files; output = []; rest = input }
+
+-- it puts these bytes out
+abbrev pub prints : List ℕ → List ℕ → Effect
+prints bytes input = record { answer = Done; puts = []; output = bytes; rest = input }
+
+-- ---- the store after it
+
+-- a store after these puts
+abbrev pub after_puts : Told → List NamedFile → Told
+after_puts told [] = told
+after_puts told (file ∷ files) = after_puts (after_put told file.0 file.1) files
+
+-- The store tells this, or the next of the files that were left to put was put in part.
+abbrev pub IsLeft : Told → List NamedFile → Option Told → Type 0
+IsLeft told [] new = new ≡ Some told
+IsLeft told (file ∷ files) new =
+    (new ≡ Some told) ⊎ IsSomeAnd new (λ left. (left.puts ≡ told.puts) × LeavesFile told.files left.files file.0 file.1)
+
+-- a front of the files was put, whole
+pub record PutFront (told : Told) (files : List NamedFile) (new : Option Told) : Type 0 where
+  pub done : List NamedFile
+  pub more : List NamedFile
+  pub split : files ≡ done ++ more
+  pub left : new ≡ Some (after_puts told done)
+
+-- a front of the files was put, and of the next perhaps a part
+pub record PutPart (told : Told) (files : List NamedFile) (new : Option Told) : Type 0 where
+  pub done : List NamedFile
+  pub more : List NamedFile
+  pub split : files ≡ done ++ more
+  pub left : IsLeft (after_puts told done) more new
+
+-- The files were put, in order, and no others; where the store failed or memory ran out, a front of them.
+abbrev pub PutsFiles : List NamedFile → Answer → Told → Option Told → Type 0
+PutsFiles files StoreFault told new = PutPart told files new
+PutsFiles files NoMemory told new = PutFront told files new
+PutsFiles files _ told new = new ≡ Some (after_puts told files)

@@ -1,0 +1,114 @@
+//! What a call of the program answers.
+
+ghost use Rattle.std.specs.Prelude.{◌≡◌};
+ghost use Rattle.std.specs.Process.{exit_status};
+ghost use Rattle.pw_top_answer.specs.Answers.{is_untold, status_of};
+
+use pw_front_end::Refusal;
+use pw_io::StoreError;
+use pw_machine::Halt;
+use pw_value::{LinkFault, Name, Word};
+use std::alloc::AllocError;
+use std::process::ExitCode;
+
+/// What a call of the program answers.
+#[derive(Drop)]
+pub enum Answer {
+    /// The command did what it is for.
+    Done,
+    /// The program ran and ended with this status.
+    Ended(u8),
+    /// The words are no command line.
+    Usage,
+    /// The module of this name is refused.
+    Refused(Name, Refusal),
+    /// The modules are refused together.
+    LinkRefused(LinkFault),
+    /// The program stopped for want of stack.
+    StackStop,
+    /// The budget of instructions was spent.
+    Spent,
+    /// The instruction at this address halted the program.
+    Halted(Halt, Word),
+    /// The input had a fault.
+    ReadFault,
+    /// The output had a fault.
+    WriteFault,
+    /// The store had a fault.
+    StoreFault,
+    /// Memory ran out.
+    NoMemory,
+    /// The file of this name, which the command needs, is absent, or is refused at this offset.
+    BadFile(Name, Option<usize>),
+    /// The script has no lawful line at this offset.
+    BadScript(u64),
+}
+
+/// What came of a command, and the line on which a refused module is refused.
+#[derive(Drop)]
+pub struct Reply {
+    pub answer: Answer,
+    pub line: usize,
+}
+
+impl From<AllocError> for Answer {
+    ghost use Rattle.std.specs.Prelude.{◌≡◌};
+    ghost use Rattle.pw_top_answer.specs.declared.answer.Answer.TheVariants.{NoMemory};
+
+    ghost from_gives = { λ _ answer. answer ≡ NoMemory };
+
+    fn from(_none: AllocError) -> Answer {
+        Answer::NoMemory
+    }
+}
+
+impl From<StoreError> for Answer {
+    ghost use Rattle.std.specs.Prelude.{◌≡◌};
+    ghost use Rattle.pw_top_answer.specs.Outcomes.{store_answer};
+
+    ghost from_gives = { λ error answer. answer ≡ store_answer error };
+
+    fn from(error: StoreError) -> Answer {
+        match error {
+            StoreError::Failed => Answer::StoreFault,
+            StoreError::NoMemory => Answer::NoMemory,
+        }
+    }
+}
+
+/// The status with which the process ends: 0 where the command did what it is for, that of the run where it ended, else
+/// one from 112 on.
+pub fn status(answer: &Answer) -> u8
+    ensures { result ≡ status_of answer.now }
+{
+    match answer {
+        Answer::Done => 0,
+        Answer::Ended(status) => *status,
+        Answer::Usage => 112,
+        Answer::Refused(_, _) => 113,
+        Answer::LinkRefused(_) => 114,
+        Answer::StackStop => 115,
+        Answer::Spent => 116,
+        Answer::Halted(_, _) => 117,
+        Answer::ReadFault => 118,
+        Answer::WriteFault => 119,
+        Answer::StoreFault => 120,
+        Answer::NoMemory => 121,
+        Answer::BadFile(_, _) => 122,
+        Answer::BadScript(_) => 123,
+    }
+}
+
+/// What the process ends with, by the answer.
+pub fn exit_of(answer: &Answer) -> ExitCode
+    ensures { exit_status result ≡ status_of answer.now }
+{
+    ExitCode::from(status(answer))
+}
+
+/// Whether no line tells the answer: the command did what it is for, or the program ended.
+pub fn is_untold(answer: &Answer) -> bool
+    ensures { result ≡ is_untold answer.now }
+{
+    matches!(answer, Answer::Done | Answer::Ended(_))
+}

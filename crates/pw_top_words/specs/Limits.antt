@@ -1,0 +1,25 @@
+-- The limits within which a command's numbers lie.
+use Rattle.std.specs.Prelude.{◌≡◌, ℕ, ◌≤◌, true}
+use Rattle.pw_value.specs.Limits.{stack_least, stack_most}
+use Rattle.pw_store_modules.specs.Modules.{is_module_name}
+use Rattle.pw_top_words.specs.declared.commands.Command.{Command}
+use Rattle.pw_top_words.specs.declared.commands.Command.TheVariants.{Go, Build, Session, PhaseOne, Analyse, PhaseTwo, Link, Run, List as ListImage, Db, Bench}
+use Rattle.pw_db.specs.Limits.{colour_limit}
+
+-- the bytes of a stack
+abbrev pub IsStack : ℕ → Type 0
+IsStack stack = (stack_least ≤ stack) × (stack ≤ stack_most)
+
+-- Webs have so many registers at most, a stack lies within its limits, and a module's name is one.
+abbrev pub IsWithin : Command → Type 0
+IsWithin (Go colours stack steps) = (colours ≤ colour_limit) × IsStack stack
+IsWithin (Build colours stack) = (colours ≤ colour_limit) × IsStack stack
+IsWithin (Session colours stack steps) = (colours ≤ colour_limit) × IsStack stack
+IsWithin (PhaseOne name) = is_module_name name ≡ true
+IsWithin (Analyse colours) = colours ≤ colour_limit
+IsWithin (PhaseTwo name) = is_module_name name ≡ true
+IsWithin (Link stack) = IsStack stack
+IsWithin (Run steps) = Unit {0}
+IsWithin ListImage = Unit {0}
+IsWithin Db = Unit {0}
+IsWithin (Bench number colours stack steps) = (colours ≤ colour_limit) × IsStack stack

@@ -1,5 +1,0 @@
-use Rattle.pw_words.proofs.Within.{words_within}
-use Rattle.pw_words.proofs.laws.commands_are_within.Goals as goal
-
-pub returns : goal.returns
-returns c = λ words command e. words_within words command e
