@@ -1,12 +1,13 @@
 //! The files of what a build made.
 
-ghost use Rattle.std.specs.Prelude.{◌≡◌, ◌++◌, ◌∷◌, [], ℕ, List, IfOk, OnOk, map};
+ghost use Rattle.std.specs.Prelude.{◌≡◌, ◌++◌, ◌∷◌, [], ℕ, List, IfOk, OnOk, map, true};
 ghost use Rattle.std.specs.List.{AllByRecursion};
 ghost use Rattle.pw_fields.specs.FieldLaws.{AreBytes};
 ghost use Rattle.pw_db.specs.Database.{IsDatabase, IsDatabaseFile};
 ghost use Rattle.pw_object.specs.Object.{IsObject, IsObjectFile};
 ghost use Rattle.pw_image.specs.Image.{IsImage, IsImageFile};
 ghost use Rattle.pw_store_modules.specs.FileNames.{object_name};
+ghost use Rattle.pw_store_modules.specs.Modules.{is_module_name};
 ghost use Rattle.pw_store_kept.specs.Files.{AreObjectFiles, HoldBytes, file_view, made_anew};
 
 use crate::kept::object_name;
@@ -43,7 +44,8 @@ fn add_file(
     name: &Name,
     object: &Object,
 ) -> Result<(), AllocError>
-    requires { IsObject object.now }
+    requires name { is_module_name name.now ≡ true }
+    requires object { IsObject object.now }
     ensures name { OnOk result (made.new.names.items ≡ made.old.names.items ++ name.now ∷ []) }
     ensures file { OnOk result ((bytes : List ℕ) × IsObjectFile bytes object.now × AreBytes bytes × (map file_view made.new.files.items ≡ map file_view made.old.files.items ++ (object_name name.now, bytes) ∷ [])) }
 {

@@ -1,6 +1,6 @@
 //! What a store keeps of builds before.
 
-ghost use Rattle.std.specs.Prelude.{◌≡◌, ◌≢◌, ◌↔◌, ◌++◌, ◌∷◌, [], None, Some, Ok, Err, IfErr, IfOk, IfSome, IsErr, OnOk, map, not, string_bytes};
+ghost use Rattle.std.specs.Prelude.{◌≡◌, ◌≢◌, ◌↔◌, ◌++◌, ◌∷◌, [], None, Some, Ok, Err, IfErr, IfOk, IfSome, IsErr, OnOk, map, not, string_bytes, true};
 ghost use Rattle.std.specs.Option.{option_map};
 ghost use Rattle.std.specs.List.{AllByRecursion};
 ghost use Rattle.pw_io.specs.Files.{Keeps};
@@ -9,11 +9,12 @@ ghost use Rattle.pw_object.specs.Object.{IsObject};
 ghost use Rattle.pw_files.specs.Contents.{value_of};
 ghost use Rattle.pw_object.specs.Reading.{object_file_at};
 ghost use Rattle.pw_store_modules.specs.FileNames.{object_name};
+ghost use Rattle.pw_store_modules.specs.Modules.{is_module_name};
 ghost use Rattle.pw_store_kept.specs.Kept.{if_object, is_same, kept_bytes, kept_object};
 
 use pw_io::{Store, StoreError};
 use pw_object::Object;
-use pw_store_modules::{Module, OBJECT_ENDING, file_of};
+use pw_store_modules::{Module, OBJECT_ENDING, module_file};
 use pw_value::limits::KEPT_LIMIT;
 use pw_value::{FileError, Name};
 use std::alloc::{AllocError, Global};
@@ -32,14 +33,12 @@ pub fn kept_bytes<S: Store>(
     store.get(alloc, name, KEPT_LIMIT)
 }
 
-/// The name of a module's object's file. A module's name is always text; one that is not would be told as want of memory.
+/// The name of a module's object's file.
 pub fn object_name(alloc: Global, name: &Name) -> Result<String, AllocError>
+    requires { is_module_name name.now ≡ true }
     ensures { IfOk result (λ file. string_bytes file ≡ object_name name.now) }
 {
-    match str::from_utf8(name.as_bytes()) {
-        Ok(text) => file_of(alloc, text, OBJECT_ENDING),
-        Err(_bad) => Err(AllocError),
-    }
+    module_file(alloc, name, OBJECT_ENDING)
 }
 
 /// What a file that was read comes to: its object, or none where its bytes are no object's file.
@@ -69,6 +68,7 @@ fn kept_object<S: Store>(
     store: &mut S,
     name: &Name,
 ) -> Result<Option<Object>, StoreError>
+    requires { is_module_name name.now ≡ true }
     ensures object { IfSome (S.told store.old) (λ told. IfOk result (λ found. found ≡ kept_object told.files name.now)) }
     ensures lawful { IfOk result (λ found. IfSome found IsObject) }
     ensures same { Keeps (S.told store.old) (S.told store.new) }
@@ -93,6 +93,7 @@ fn add_kept<S: Store>(
     kept: &mut VecDeque<Option<Object>>,
     name: &Name,
 ) -> Result<(), StoreError>
+    requires { is_module_name name.now ≡ true }
     ensures object { IfSome (S.told store.old) (λ told. OnOk result (kept.new.items ≡ kept.old.items ++ kept_object told.files name.now ∷ [])) }
     ensures lawful { OnOk result (AllByRecursion (λ found. IfSome found IsObject) kept.old.items → AllByRecursion (λ found. IfSome found IsObject) kept.new.items) }
     ensures same { Keeps (S.told store.old) (S.told store.new) }

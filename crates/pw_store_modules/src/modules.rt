@@ -1,6 +1,6 @@
 //! Modules and their files: which files are theirs, and their order.
 
-ghost use Rattle.std.specs.Prelude.{◌≡◌, ◌≤◌, map, IfOk, OnOk, IfSome, string_bytes, length, take, ◌-◌, fold, [], count_by, All, vec_len};
+ghost use Rattle.std.specs.Prelude.{◌≡◌, ◌≤◌, true, map, IfOk, OnOk, IfSome, string_bytes, length, take, ◌-◌, fold, [], count_by, All, vec_len};
 ghost use Rattle.std.specs.List.{list_all, position_or_len};
 ghost use Rattle.pw_store_modules.specs.Modules.{is_name_byte, is_module_name, is_module_file, IsModuleFile, stem, text_read};
 ghost use Rattle.pw_store_modules.specs.Reading.{is_file_before, placed, with_file, module_files};
@@ -16,6 +16,7 @@ pub struct Module {
     pub name: Name,
     pub text: Vec<u8>,
     ghost read: { length text.items ≤ text_read },
+    ghost named: { is_module_name name ≡ true },
 }
 
 /// Whether a byte may stand in a module's name.
