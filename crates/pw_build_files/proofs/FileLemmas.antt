@@ -15,20 +15,20 @@ use Rattle.pw_store_modules.specs.Modules.{Source, modules_of, names_of_modules}
 use Rattle.pw_store_modules.specs.Views.{source}
 use Rattle.pw_top_answer.specs.Effects.{NamedFile}
 use Rattle.pw_flow.specs.declared.flow.FlowModule.{FlowModule}
-use Rattle.pw_build_program.specs.FromBuild.BuildFault.{BuildFault}
-use Rattle.pw_build_program.specs.FromBuild.BuildFault.TheVariants as build
-use Rattle.pw_build_program.specs.FromBuild.Unbuilt.{Unbuilt}
-use Rattle.pw_build_program.specs.FromBuild.Builds.{Builds, BuildsBy, first_phases}
-use Rattle.pw_build_program.specs.FromBuild.Phases.{IsLine, refused_line}
-use Rattle.pw_build_program.specs.FromBuild.Stores.{store_fault}
+use Rattle.pw_build_files.specs.FromBuild.BuildFault.{BuildFault}
+use Rattle.pw_build_files.specs.FromBuild.BuildFault.TheVariants as build
+use Rattle.pw_build_files.specs.FromBuild.Unbuilt.{Unbuilt}
+use Rattle.pw_build_files.specs.FromBuild.Builds.{Builds, BuildsBy, first_phases}
+use Rattle.pw_build_files.specs.FromBuild.Phases.{IsLine, refused_line}
+use Rattle.pw_build_files.specs.FromBuild.Stores.{store_fault}
 use Rattle.pw_build_files.specs.declared.report.Opts.{Opts}
 use Rattle.pw_store_kept.specs.declared.files.ProgramFiles.{ProgramFiles}
 use Rattle.pw_store_kept.specs.declared.prepared.Prepared.{Prepared}
 use Rattle.pw_store_kept.specs.Kept.{is_same, kept_bytes, kept_object}
 use Rattle.pw_store_kept.specs.Files.{AreObjectFiles, HoldBytes, IsCompared, file_view, made_anew, one_if}
 use Rattle.pw_build_files.specs.Building.{BuildComes, if_changed, kept_objects}
-use Rattle.pw_build_program.specs.Programs.{BuildsFiles, FaultBuilds, FaultComes}
-use Rattle.pw_build_program.proofs.ProgramLemmas.{names_by, no_line, stored}
+use Rattle.pw_build_files.specs.Programs.{BuildsFiles, FaultBuilds, FaultComes}
+use Rattle.pw_build_files.proofs.ProgramLemmas.{names_by, no_line, stored}
 use Rattle.pw_build_objects.specs.Counting.{CountsUpTo}
 use Rattle.pw_build_files.specs.Outcomes.{CountsAtMost, FaultFound, IsNoWant, IsOfStore, outcome_of}
 

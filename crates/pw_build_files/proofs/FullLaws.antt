@@ -12,9 +12,9 @@ use Rattle.pw_store_modules.specs.Modules.{Source, Texts, module_map, modules_of
 use Rattle.pw_top_answer.specs.Effects.{after_puts}
 use Rattle.pw_build_objects.specs.Programs.{Parts}
 use Rattle.pw_build_objects.specs.Kept.{all_fresh}
-use Rattle.pw_build_program.specs.FromBuild.BuildFault.{BuildFault}
-use Rattle.pw_build_program.specs.FromBuild.Builds.{Builds, first_phases}
-use Rattle.pw_build_program.specs.FromBuild.Full.{built_anew}
+use Rattle.pw_build_files.specs.FromBuild.BuildFault.{BuildFault}
+use Rattle.pw_build_files.specs.FromBuild.Builds.{Builds, first_phases}
+use Rattle.pw_build_files.specs.FromBuild.Full.{built_anew}
 use Rattle.pw_store_kept.specs.Kept.{is_same, kept_bytes}
 use Rattle.pw_store_kept.specs.Files.{made_anew}
 use Rattle.pw_build_files.specs.Building.{BuildComes, IsOutcome, Outcome, if_changed, kept_objects}

@@ -18,16 +18,16 @@ use Rattle.pw_store_modules.specs.Modules.{Source}
 use Rattle.pw_top_answer.specs.Effects.{NamedFile, PutPart, PutsFiles, IsLeft, after_puts}
 use Rattle.pw_build_objects.specs.Programs.{AreObjectsFrom, DirectivesList, Parts, kept_behind}
 use Rattle.pw_build_objects.specs.Kept.{IsGenuine, IsGenuineIfKept}
-use Rattle.pw_build_program.specs.FromBuild.BuildFault.{BuildFault}
-use Rattle.pw_build_program.specs.FromBuild.Unbuilt.{Unbuilt}
-use Rattle.pw_build_program.specs.FromBuild.Builds.{BuildsBy, first_phases}
+use Rattle.pw_build_files.specs.FromBuild.BuildFault.{BuildFault}
+use Rattle.pw_build_files.specs.FromBuild.Unbuilt.{Unbuilt}
+use Rattle.pw_build_files.specs.FromBuild.Builds.{BuildsBy, first_phases}
 use Rattle.pw_store_kept.specs.declared.files.ProgramFiles.{ProgramFiles}
 use Rattle.pw_store_kept.specs.declared.prepared.Prepared.{Prepared}
 use Rattle.pw_store_kept.specs.Kept.{counted, kept_object, object_in}
 use Rattle.pw_store_kept.specs.Files.{AreObjectFiles, HoldBytes, IsCompared, changed_files, file_view, made_anew, one_if}
 use Rattle.pw_build_files.specs.declared.report.Opts.{Opts}
 use Rattle.pw_build_files.specs.declared.report.Report.{Report}
-use Rattle.pw_build_program.specs.Programs.{BuildsFiles}
+use Rattle.pw_build_files.specs.Programs.{BuildsFiles}
 use Rattle.pw_build_files.specs.Genuine.{IsBuiltName, IsGenuineFile, IsOwnFile, KeepsGenuine}
 use Rattle.pw_build_files.specs.Outcomes.{IsOfStore, build_answer}
 use Rattle.pw_build_files.proofs.ObeysLemmas.{PutsAny, some_all, some_told}

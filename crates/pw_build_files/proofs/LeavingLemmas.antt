@@ -5,7 +5,7 @@ use Rattle.std.specs.List.{AllByRecursion}
 use Rattle.std.specs.FinMap as finite
 use Rattle.pw_io.specs.Files.{Files, Keeps, LeavesFile, Told, after_put}
 use Rattle.pw_top_answer.specs.Effects.{IsLeft, NamedFile, PutPart, PutsFiles, after_puts}
-use Rattle.pw_build_program.specs.FromBuild.Unbuilt.{Unbuilt}
+use Rattle.pw_build_files.specs.FromBuild.Unbuilt.{Unbuilt}
 use Rattle.pw_build_files.specs.declared.report.Report.{Report}
 use Rattle.pw_build_files.specs.Genuine.{IsBuiltName, IsOwnFile, LeavesOthers}
 use Rattle.pw_build_files.specs.Outcomes.{IsOfStore, build_answer}

@@ -1,3 +1,6 @@
+pub mod ProgramLemmas
+pub mod WantLemmas
+pub mod FaultCounts
 pub mod OutcomeLaws
 pub mod ObeysLemmas
 pub mod FileLemmas
@@ -7,4 +10,6 @@ pub mod FullLaws
 pub mod TextLaws
 pub mod LeavingLemmas
 pub mod NameLemmas
-pub mod CountLemmas
+pub mod BuildCounts
+pub mod OthersLemmas
+pub mod DrivingLemmas

@@ -7,10 +7,10 @@ use Rattle.pw_io.specs.declared.StoreError.{StoreError}
 use Rattle.pw_io.specs.declared.StoreError.TheVariants as store
 use Rattle.pw_top_answer.specs.declared.answer.Answer.{Answer}
 use Rattle.pw_top_answer.specs.Effects.{NamedFile, PutsFiles, PutPart, PutFront, after_puts}
-use Rattle.pw_build_program.specs.FromBuild.BuildFault.{BuildFault}
-use Rattle.pw_build_program.specs.FromBuild.BuildFault.TheVariants as build
-use Rattle.pw_build_program.specs.FromBuild.Unbuilt.{Unbuilt}
-use Rattle.pw_build_program.specs.FromBuild.Stores.{store_fault}
+use Rattle.pw_build_files.specs.FromBuild.BuildFault.{BuildFault}
+use Rattle.pw_build_files.specs.FromBuild.BuildFault.TheVariants as build
+use Rattle.pw_build_files.specs.FromBuild.Unbuilt.{Unbuilt}
+use Rattle.pw_build_files.specs.FromBuild.Stores.{store_fault}
 use Rattle.pw_build_files.specs.declared.report.Report.{Report}
 use Rattle.pw_build_files.specs.declared.report.Opts.{Opts}
 use Rattle.pw_build_files.specs.Building.{BuildComes, Outcome, puts_of}

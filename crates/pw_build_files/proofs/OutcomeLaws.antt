@@ -11,8 +11,8 @@ use Rattle.pw_store_modules.specs.FileNames.{database_name, image_name}
 use Rattle.pw_store_modules.specs.Modules.{Source, modules_of, names_of_modules}
 use Rattle.pw_top_answer.specs.Effects.{NamedFile}
 use Rattle.pw_build_objects.specs.Programs.{Parts}
-use Rattle.pw_build_program.specs.FromBuild.BuildFault.{BuildFault}
-use Rattle.pw_build_program.specs.FromBuild.Builds.{Builds}
+use Rattle.pw_build_files.specs.FromBuild.BuildFault.{BuildFault}
+use Rattle.pw_build_files.specs.FromBuild.Builds.{Builds}
 use Rattle.pw_store_kept.specs.Files.{AreObjectFiles, made_anew}
 use Rattle.pw_build_files.specs.Building.{BuildComes, IsOutcome, Outcome, if_changed, kept_objects}
 use Rattle.pw_db.specs.Limits.{colour_limit}

@@ -9,8 +9,8 @@ use Rattle.pw_store_modules.specs.FileNames.{database_name, image_name}
 use Rattle.pw_store_modules.specs.Modules.{modules_of, names_of_modules}
 use Rattle.pw_top_answer.specs.Effects.{NamedFile}
 use Rattle.pw_build_objects.specs.Programs.{Parts}
-use Rattle.pw_build_program.specs.FromBuild.BuildFault.{BuildFault}
-use Rattle.pw_build_program.specs.FromBuild.Builds.{Builds}
+use Rattle.pw_build_files.specs.FromBuild.BuildFault.{BuildFault}
+use Rattle.pw_build_files.specs.FromBuild.Builds.{Builds}
 use Rattle.pw_store_kept.specs.Kept.{is_same, kept_bytes}
 pub use Rattle.pw_store_kept.specs.Kept.{counted, kept_object, object_in}
 use Rattle.pw_store_kept.specs.Files.{AreObjectFiles, HoldBytes, made_anew}

@@ -1,7 +1,8 @@
 -- The definitions of pw_build that crates above name.
-pub use Rattle.pw_build_program.specs.FromBuild.BuildFault
-pub use Rattle.pw_build_program.specs.FromBuild.Builds
-pub use Rattle.pw_build_program.specs.FromBuild.FirstPhase
-pub use Rattle.pw_build_program.specs.FromBuild.Full
-pub use Rattle.pw_build_program.specs.FromBuild.Phases
-pub use Rattle.pw_build_program.specs.FromBuild.Unbuilt
+pub use Rattle.pw_build.specs.Builds
+pub use Rattle.pw_build.specs.FromPhaseOne.FirstPhase
+pub use Rattle.pw_build.specs.Full
+pub use Rattle.pw_build.specs.Phases
+pub use Rattle.pw_build.specs.Stores
+pub use Rattle.pw_build.specs.declared.fault.BuildFault
+pub use Rattle.pw_build.specs.declared.fault.Unbuilt

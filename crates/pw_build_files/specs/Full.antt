@@ -4,8 +4,8 @@ use Rattle.pw_image.specs.Image.{IsImageFile}
 use Rattle.pw_link.specs.Linking.{linked}
 use Rattle.pw_build_objects.specs.Programs.{Parts}
 use Rattle.pw_store_modules.specs.Modules.{Texts}
-use Rattle.pw_build_program.specs.FromBuild.BuildFault.{BuildFault}
-use Rattle.pw_build_program.specs.FromBuild.Builds.{FullBuild}
+use Rattle.pw_build_files.specs.FromBuild.BuildFault.{BuildFault}
+use Rattle.pw_build_files.specs.FromBuild.Builds.{FullBuild}
 use Rattle.pw_build_files.specs.Building.{Outcome}
 
 -- the bytes are the file of the image of a program of these parts

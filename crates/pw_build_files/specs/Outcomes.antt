@@ -8,16 +8,16 @@ use Rattle.pw_top_answer.specs.declared.answer.Answer.{Answer}
 use Rattle.pw_top_answer.specs.declared.answer.Answer.TheVariants as answer
 use Rattle.pw_top_answer.specs.Effects.{NamedFile, PutPart, PutsFiles, after_puts}
 use Rattle.pw_store_modules.specs.Modules.{modules_of}
-use Rattle.pw_build_program.specs.FromBuild.BuildFault.{BuildFault}
-use Rattle.pw_build_program.specs.FromBuild.BuildFault.TheVariants as build
-use Rattle.pw_build_program.specs.FromBuild.Unbuilt.{Unbuilt}
-use Rattle.pw_build_program.specs.FromBuild.Phases.{IsLine, refused_line}
+use Rattle.pw_build_files.specs.FromBuild.BuildFault.{BuildFault}
+use Rattle.pw_build_files.specs.FromBuild.BuildFault.TheVariants as build
+use Rattle.pw_build_files.specs.FromBuild.Unbuilt.{Unbuilt}
+use Rattle.pw_build_files.specs.FromBuild.Phases.{IsLine, refused_line}
 use Rattle.pw_build_files.specs.declared.report.Report.{Report}
 use Rattle.pw_build_files.specs.declared.report.Opts.{Opts}
 use Rattle.pw_store_kept.specs.declared.prepared.Prepared.{Prepared}
 use Rattle.pw_store_kept.specs.Files.{changed_files}
-pub use Rattle.pw_build_program.specs.Programs.{CountsAtMost, FaultComes, FaultCount, HoldsImage, IsNoWant, fault_answer}
-use Rattle.pw_build_program.specs.Programs.{IsCounted}
+pub use Rattle.pw_build_files.specs.Programs.{CountsAtMost, FaultComes, FaultCount, HoldsImage, IsNoWant, fault_answer}
+use Rattle.pw_build_files.specs.Programs.{IsCounted}
 use Rattle.pw_build_files.specs.Building.{BuildComes, Outcome, kept_objects, puts_of}
 use Rattle.pw_db.specs.Limits.{colour_limit}
 use Rattle.pw_build_files.specs.Genuine.{IsBuiltName}

@@ -1,17 +1,16 @@
-//! The build over the files of a store: from the modules and what is kept of them to the files that are put, and a
-//! report.
+//! The command `build` over the files of a store: the files of a program, what is put, and the lines of the report.
 #![tactic(auto)]
 
 mod building;
+mod driving;
 mod laws;
 mod prepared;
+mod program;
 mod report;
 
 pub use building::build;
-pub use laws::{
-    a_store_has_one_build, builds_leave_genuine_objects, genuine_files_keep_genuine,
-    genuine_objects_give_the_full_build, genuine_objects_give_the_full_image,
-    module_texts_are_no_objects, texts_have_one_image,
-};
-pub use pw_build_program::{BuildFault, Unbuilt};
+pub use driving::{answer_of, build_modules, build_uncounted, put_report};
+pub use laws::{a_store_has_one_build, builds_leave_genuine_objects, genuine_files_keep_genuine, genuine_objects_give_the_full_build, genuine_objects_give_the_full_image, module_texts_are_no_objects, texts_have_one_image};
+pub use program::{few_modules, program_of};
+pub use pw_build::{BuildFault, Unbuilt, laws as build_laws};
 pub use report::{Opts, Report, report_lines};

@@ -7,8 +7,8 @@ ghost use Rattle.pw_store_modules.specs.Modules.{modules_of};
 ghost use Rattle.pw_store_modules.specs.Views.{source};
 ghost use Rattle.pw_value.specs.Limits.{module_limit};
 ghost use Rattle.pw_build_objects.specs.Counting.{CountsUpTo};
-ghost use Rattle.pw_build_program.specs.FromBuild.Builds.{first_phases};
-ghost use Rattle.pw_build_program.specs.FromBuild.Phases.{IsLine, refused_line};
+ghost use Rattle.pw_build_files.specs.FromBuild.Builds.{first_phases};
+ghost use Rattle.pw_build_files.specs.FromBuild.Phases.{IsLine, refused_line};
 ghost use Rattle.pw_store_kept.specs.Files.{changed_files};
 ghost use Rattle.pw_build_files.specs.Building.{BuildComes};
 ghost use Rattle.pw_build_files.specs.Genuine.{IsOwnFile};
@@ -16,7 +16,8 @@ ghost use Rattle.pw_build_files.specs.Outcomes.{AreOpts, CountsAtMost, CountsFou
 
 use crate::report::Opts;
 use pw_build_objects::Steps;
-use pw_build_program::{Unbuilt, few_modules, program_of};
+use pw_build::Unbuilt;
+use crate::program::{few_modules, program_of};
 use pw_io::Store;
 use pw_store_kept::{Prepared, compared};
 use pw_store_modules::Module;

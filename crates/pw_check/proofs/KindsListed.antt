@@ -5,8 +5,8 @@ use Rattle.std.proofs.lemmas.List.Elements.{All-nil, All-cons}
 use Rattle.pw_token.specs.declared.token.Feature.{Feature}
 use Rattle.pw_token.specs.declared.token.Feature.TheVariants as F
 use Rattle.pw_check_walk.specs.Causes.{DeclaredIdentifier, DeclaredTag, DeclaredMember, DeclaredLabel, OneMeaning, OneType, OneLinkage, OneDefinition, OneKindOfTag, OneContent, OneMember, OneLabel, OneStorageClass, LawfulStorage, ListOfSpecifiers, OneQualifier, UnqualifiedFunction, DeclaresSomething, OnePointerQualifier, ElementType, ResultType, VoidAlone, CompleteMember, CompleteObject, CompleteAtEnd, BlockFunction, FunctionDeclarator, DefinitionStorage, NamedParameters, NoDeclarationList, DecayingArray, SubscriptOperands, CalledFunction, ArgumentCount, ArgumentTypes, RecordOperand, StepOperand, ModifiableLvalue, AddressOperand, PointerOperand, UnaryOperand, SizedOperand, CastTypes, BinaryOperands, LogicOperands, ConditionalOperands, AssignedType, CompoundOperands, InitialisedKind, InitialisedHere, InitialiserType, InitialiserForm, InitialiserCount, CaseInSwitch, OneDefault, ScalarCondition, IntegralSwitch, BreakInside, ContinueInside, ReturnedValue, ReturnedType, IntegerFits, OneCharacter, EscapeFits, ConstantExpression, PositiveLength, EnumeratorFits, OneCase, ConstantInitialiser, NoFloating, NoWide, NoVariadic, NoBitField, NoOldStyle, NoRecordByValue, NoPointerCast, Within, kind_of, Constraint}
-use Rattle.pw_check_walk.specs.declared.fault.CheckKind.{CheckKind}
-use Rattle.pw_check_walk.specs.declared.fault.CheckKind.TheVariants.{UnknownName, Redeclared, Typing, Constant, Unsupported, Limit, NoMemory}
+use Rattle.pw_check_walk.specs.declared.constraints.CheckKind.{CheckKind}
+use Rattle.pw_check_walk.specs.declared.constraints.CheckKind.TheVariants.{UnknownName, Redeclared, Typing, Constant, Unsupported, Limit, NoMemory}
 use Rattle.pw_check.specs.Refusals.{on_names, on_declarations, on_types, on_constants, on_feature, on_limit}
 
 abbrev pub constraints_of : CheckKind → List Constraint

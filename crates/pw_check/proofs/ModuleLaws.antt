@@ -7,12 +7,12 @@ use Rattle.pw_tree.specs.Trees.{Module}
 use Rattle.pw_tree.specs.Views.{view_external, view_externals}
 use Rattle.pw_tree.specs.declared.module.External.{External}
 use Rattle.pw_check_state.specs.EntityViews.{view_linked}
-use Rattle.pw_check_entities.specs.declared.entity.LinkedName.{LinkedName}
-use Rattle.pw_check_finding.specs.Found.{found, told}
-use Rattle.pw_check_finding.proofs.FindingLaws.{stopped_by_found, end_err}
+use Rattle.pw_check_names.specs.declared.entity.LinkedName.{LinkedName}
+use Rattle.pw_check_walk.specs.Found.{found, told}
+use Rattle.pw_check_walk.proofs.FindingLaws.{stopped_by_found, end_err}
 use Rattle.pw_types.specs.TypedTrees.{ModuleValue}
-use Rattle.pw_check_walk.specs.declared.fault.CheckFault.{CheckFault}
-use Rattle.pw_check_walk.specs.declared.fault.CheckKind.TheVariants.{NoMemory}
+use Rattle.pw_check_walk.specs.declared.constraints.CheckFault.{CheckFault}
+use Rattle.pw_check_walk.specs.declared.constraints.CheckKind.TheVariants.{NoMemory}
 use Rattle.pw_check_walk.specs.Calls.{Obeys}
 use Rattle.pw_check_walk.specs.Walks.{Walk, Done, bind, outcome, asks}
 use Rattle.pw_check_walk.proofs.BindLaws.{bind_made, bind_stopped}

@@ -7,10 +7,10 @@ use Rattle.pw_token.specs.declared.token.Feature.{Feature}
 use Rattle.pw_check_walk.specs.Answers.{Answers, Stops, AtPoint, AtEnd}
 use Rattle.pw_check_walk.specs.Causes.{Constraint, kind_of}
 use Rattle.pw_check_walk.specs.Walks.{Walk}
-use Rattle.pw_check_walk.specs.declared.fault.CheckFault.{CheckFault}
-use Rattle.pw_check_walk.specs.declared.fault.CheckKind.{CheckKind}
-use Rattle.pw_check_walk.specs.declared.fault.Which.{Which}
-use Rattle.pw_check_walk.specs.declared.fault.CheckKind.TheVariants.{UnknownName, Redeclared, Typing, Constant, Unsupported, Limit, NoMemory}
+use Rattle.pw_check_walk.specs.declared.constraints.CheckFault.{CheckFault}
+use Rattle.pw_check_walk.specs.declared.constraints.CheckKind.{CheckKind}
+use Rattle.pw_check_walk.specs.declared.constraints.Which.{Which}
+use Rattle.pw_check_walk.specs.declared.constraints.CheckKind.TheVariants.{UnknownName, Redeclared, Typing, Constant, Unsupported, Limit, NoMemory}
 use Rattle.pw_check_walk.proofs.WalkLaws.{one_answer}
 use Rattle.pw_check.specs.Refusals.{broken_where, RefusedFor, RefusedForOneOf, RanOut, IsMade, TellsExactly, on_names, on_declarations, on_types, on_constants, on_feature, on_limit}
 use Rattle.pw_check.proofs.KindsListed.{constraints_of, listed, of_kind}

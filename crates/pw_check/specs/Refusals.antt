@@ -6,10 +6,10 @@ use Rattle.pw_token.specs.declared.token.Feature.TheVariants as F
 use Rattle.pw_check_walk.specs.Answers.{Stops, AtPoint, AtEnd}
 use Rattle.pw_check_walk.specs.Causes.{Constraint, DeclaredIdentifier, DeclaredTag, DeclaredMember, DeclaredLabel, OneMeaning, OneType, OneLinkage, OneDefinition, OneKindOfTag, OneContent, OneMember, OneLabel, OneStorageClass, LawfulStorage, ListOfSpecifiers, OneQualifier, UnqualifiedFunction, DeclaresSomething, OnePointerQualifier, ElementType, ResultType, VoidAlone, CompleteMember, CompleteObject, CompleteAtEnd, BlockFunction, FunctionDeclarator, DefinitionStorage, NamedParameters, NoDeclarationList, DecayingArray, SubscriptOperands, CalledFunction, ArgumentCount, ArgumentTypes, RecordOperand, StepOperand, ModifiableLvalue, AddressOperand, PointerOperand, UnaryOperand, SizedOperand, CastTypes, BinaryOperands, LogicOperands, ConditionalOperands, AssignedType, CompoundOperands, InitialisedKind, InitialisedHere, InitialiserType, InitialiserForm, InitialiserCount, CaseInSwitch, OneDefault, ScalarCondition, IntegralSwitch, BreakInside, ContinueInside, ReturnedValue, ReturnedType, IntegerFits, OneCharacter, EscapeFits, ConstantExpression, PositiveLength, EnumeratorFits, OneCase, ConstantInitialiser, NoFloating, NoWide, NoVariadic, NoBitField, NoOldStyle, NoRecordByValue, NoPointerCast, Within}
 use Rattle.pw_check_walk.specs.Walks.{Walk}
-use Rattle.pw_check_walk.specs.declared.fault.CheckFault.{CheckFault}
-use Rattle.pw_check_walk.specs.declared.fault.CheckKind.{CheckKind}
-use Rattle.pw_check_walk.specs.declared.fault.CheckKind.TheVariants.{NoMemory}
-use Rattle.pw_check_walk.specs.declared.fault.Which.{Which}
+use Rattle.pw_check_walk.specs.declared.constraints.CheckFault.{CheckFault}
+use Rattle.pw_check_walk.specs.declared.constraints.CheckKind.{CheckKind}
+use Rattle.pw_check_walk.specs.declared.constraints.CheckKind.TheVariants.{NoMemory}
+use Rattle.pw_check_walk.specs.declared.constraints.Which.{Which}
 
 -- ---- the constraint that is broken
 

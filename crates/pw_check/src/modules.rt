@@ -3,14 +3,14 @@
 ghost use Rattle.std.specs.Prelude.{◌≡◌, ◌≢◌, ◌⊎◌, ℕ, [], ◌∷◌, Ok, Err, IfOk, IfErr, map};
 ghost use Rattle.pw_token.specs.declared.token.Feature.{Feature};
 ghost use Rattle.pw_types.specs.TypedTrees.{ModuleValue};
-ghost use Rattle.pw_check_walk.specs.declared.fault.CheckKind.TheVariants.{UnknownName, Redeclared, Typing, Constant, Unsupported, Limit, NoMemory};
-ghost use Rattle.pw_check_walk.specs.declared.fault.Which.{Which};
+ghost use Rattle.pw_check_walk.specs.declared.constraints.CheckKind.TheVariants.{UnknownName, Redeclared, Typing, Constant, Unsupported, Limit, NoMemory};
+ghost use Rattle.pw_check_walk.specs.declared.constraints.Which.{Which};
 ghost use Rattle.pw_check.specs.Parts.{met_rule};
 ghost use Rattle.pw_check.specs.Refusals.{IsMade, RanOut, TellsExactly, on_constants, on_declarations, on_feature, on_limit, on_names, on_types};
 ghost use Rattle.pw_check_state.specs.EntityViews.{view_linked};
 ghost use Rattle.pw_check_state.specs.Follows.{Follows, Leads};
 ghost use Rattle.pw_check_state.specs.StateViews.{view_state};
-ghost use Rattle.pw_check_finding.specs.Found.{found};
+ghost use Rattle.pw_check_walk.specs.Found.{found};
 ghost use Rattle.pw_check_rules.specs.Checks.{Checks, checking};
 ghost use Rattle.pw_check_rules.specs.Modules as spec;
 ghost use Rattle.pw_tree.specs.Views.{view_external, view_externals, view_module};

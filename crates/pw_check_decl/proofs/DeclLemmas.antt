@@ -19,7 +19,7 @@ use Rattle.pw_check_rules.specs.Phrases.{declarator_rule}
 use Rattle.pw_check_rules.specs.SpecifierLists.{Specified}
 use Rattle.pw_check_rules.specs.States.{State, is_file_scope}
 use Rattle.pw_check_rules.specs.Declarations.{bare_rule, decl_rule, declarators_rule, declare_rule, decls_rule, init_declarator_rule, init_declarators_rule, name_of, name_rule, sort_of, specified_rule, storage_rule}
-use Rattle.pw_check_init_values.proofs.WalkLemmas.{bind_end, same_behind}
+use Rattle.pw_check_init_parts.proofs.WalkLemmas.{bind_end, same_behind}
 use Rattle.pw_check_decl.specs.Parts.{decl_behind, declarator_behind, named_rule}
 
 pub initialisers_append : (xs ys : List Initialiser) → view_initialisers (xs ++ ys) ≡ view_initialisers xs ++ view_initialisers ys

@@ -8,7 +8,7 @@ ghost use Rattle.pw_check_decl.specs.Parts as part;
 ghost use Rattle.pw_check_decl.specs.Views.{view_made, view_tag_alone};
 ghost use Rattle.pw_check_rules.specs.Declarations as spec;
 ghost use Rattle.pw_tree.specs.Views.{view_specifier, view_specifiers};
-ghost use Rattle.pw_check_walk.specs.declared.fault.CheckKind.TheVariants.{NoMemory};
+ghost use Rattle.pw_check_walk.specs.declared.constraints.CheckKind.TheVariants.{NoMemory};
 
 use pw_check_decl_names::{is_auto, is_register};
 use pw_check_records::{alone_rule, record_kind};

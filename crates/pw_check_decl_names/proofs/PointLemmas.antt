@@ -1,7 +1,7 @@
 -- What is found at a point, one list of causes behind another.
 use Rattle.std.proofs.Common.{◌≡◌, Bool, true, false, if◌then◌else◌, [], ◌∷◌, Option, None, Some, Result, Ok, List, ◌++◌, append_assoc, ap, sym, subst, ◌∙◌}
 use mathlib.Core.Logic.{inr}
-use Rattle.pw_check_walk.specs.declared.fault.CheckFault.{CheckFault}
+use Rattle.pw_check_walk.specs.declared.constraints.CheckFault.{CheckFault}
 use Rattle.pw_types.specs.TypeTrees.{QType, RecordValue, type_of}
 use Rattle.pw_check_rules.specs.Declarations.{object_point}
 use Rattle.pw_check_rules.specs.Kinds.{is_open_array}
@@ -9,8 +9,8 @@ use Rattle.pw_check_rules.specs.Limits.{Spot, completed}
 use Rattle.pw_check_walk.specs.Causes.{Point, CompleteObject, InitialisedKind}
 use Rattle.pw_check_walk.specs.Calls.{Obeys}
 use Rattle.pw_check_walk.specs.Walks.{Done, Passing, outcome}
-use Rattle.pw_check_finding.specs.Found.{found, found_behind, lesser_found, told}
-use Rattle.pw_check_finding.proofs.FindingLaws.{found_after, found_append, stopped_by_found}
+use Rattle.pw_check_walk.specs.Found.{found, found_behind, lesser_found, told}
+use Rattle.pw_check_walk.proofs.FindingLaws.{found_after, found_append, stopped_by_found}
 
 module _ (a b : Point) (x r : Option CheckFault) where
   -- the causes of a second list are tested behind what was found in the first

@@ -5,7 +5,7 @@ ghost use Rattle.pw_check_state.specs.Follows.{Follows};
 ghost use Rattle.pw_check_state.specs.PhraseViews.{view_specified, view_spot};
 ghost use Rattle.pw_check_state.specs.StateViews.{view_state};
 ghost use Rattle.pw_check_decl_names.specs.Views.{view_sort};
-ghost use Rattle.pw_check_finding.specs.Found.{found, found_behind};
+ghost use Rattle.pw_check_walk.specs.Found.{found, found_behind};
 ghost use Rattle.pw_check_linkage.specs.Views.{view_asking};
 ghost use Rattle.pw_check_rules.specs.Declarations as spec;
 ghost use Rattle.pw_check_rules.specs.Linkage as linkage;

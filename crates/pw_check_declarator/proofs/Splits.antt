@@ -12,7 +12,7 @@ use Rattle.pw_check_walk.specs.Walks.{Walk, Done, Passing, Closed, bind, outcome
 use Rattle.pw_check_walk.proofs.BindLaws.{bind_made}
 use Rattle.pw_check_walk.proofs.CallLaws.{bind_assoc, bind_done, bind_closed, same_call, step_err}
 use Rattle.pw_check_walk.specs.Calls.{Obeys}
-use Rattle.pw_check_walk.specs.declared.fault.CheckFault.{CheckFault}
+use Rattle.pw_check_walk.specs.declared.constraints.CheckFault.{CheckFault}
 use Rattle.pw_check_rules.specs.Declarations.{specified_rule}
 use Rattle.pw_check_rules.specs.Derivations.{Suffixed, ParameterValue}
 use Rattle.pw_check_rules.specs.Leaves.{is_nil, is_last}

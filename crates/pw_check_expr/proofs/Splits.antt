@@ -19,7 +19,7 @@ use Rattle.pw_check_walk.specs.Walks.{Walk, Done, Passing, Closed, bind, outcome
 use Rattle.pw_check_walk.proofs.BindLaws.{bind_made}
 use Rattle.pw_check_walk.proofs.CallLaws.{bind_assoc, made_by}
 use Rattle.pw_check_walk.specs.Calls.{Obeys}
-use Rattle.pw_check_walk.specs.declared.fault.CheckFault.{CheckFault}
+use Rattle.pw_check_walk.specs.declared.constraints.CheckFault.{CheckFault}
 use Rattle.pw_check_state.specs.Views.{view_node}
 use Rattle.pw_check_rules.specs.Operands.{Operand}
 use Rattle.pw_check_rules.specs.Phrases.{arguments_rule, operations_rule, postfixes_rule}

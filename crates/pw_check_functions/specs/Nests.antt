@@ -11,7 +11,7 @@ use Rattle.pw_tree.specs.declared.stmt.Stmt.{Stmt}
 use Rattle.pw_tree.specs.Views.{view_stmt}
 use Rattle.pw_typed.specs.Views as typed
 use Rattle.pw_typed.specs.declared.tree.TStmt.{TStmt}
-use Rattle.pw_check_walk.specs.declared.fault.CheckFault.{CheckFault}
+use Rattle.pw_check_walk.specs.declared.constraints.CheckFault.{CheckFault}
 
 pub record Nests (depth : ℕ)
     (pre : Global → MutBor State → ℕ → Bor Stmt → Type 0)

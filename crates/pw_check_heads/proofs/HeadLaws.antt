@@ -8,7 +8,7 @@ use Rattle.pw_tree.specs.Views.{view_decls}
 use Rattle.pw_tree.specs.declared.decl.Decl.{Decl}
 use Rattle.pw_check_rules.specs.Leaves.{is_nil}
 use Rattle.pw_types.specs.TypeTrees.{QType}
-use Rattle.pw_check_walk.specs.declared.fault.CheckFault.{CheckFault}
+use Rattle.pw_check_walk.specs.declared.constraints.CheckFault.{CheckFault}
 use Rattle.pw_check_walk.specs.Calls.{Obeys}
 use Rattle.pw_check_rules.specs.Functions.{ends_in_function}
 use Rattle.pw_check_rules.specs.Derivations as spec

@@ -1,13 +1,13 @@
 -- What is found at the points of definitions: constraints one behind the other, and limits.
 use Rattle.std.specs.Prelude.{◌≢◌, if◌then◌else◌, IfErr}
 use Rattle.std.proofs.Common.{◌≡◌, nat_lt, ℕ, Bool, true, false, Option, None, Some, Result, Ok, [], ◌∷◌, ◌++◌, ap, sym, subst, ◌∙◌}
-use Rattle.pw_check_walk.specs.declared.fault.CheckFault.{CheckFault}
+use Rattle.pw_check_walk.specs.declared.constraints.CheckFault.{CheckFault}
 use Rattle.pw_value.specs.Limits.{node_limit, room_limit}
-use Rattle.pw_check_walk.specs.declared.fault.CheckKind.TheVariants.{Limit, NoMemory}
-use Rattle.pw_check_walk.specs.declared.fault.Which.TheVariants.{Nodes, Room}
+use Rattle.pw_check_walk.specs.declared.constraints.CheckKind.TheVariants.{Limit, NoMemory}
+use Rattle.pw_check_walk.specs.declared.constraints.Which.TheVariants.{Nodes, Room}
 use Rattle.pw_check_walk.specs.Causes.{Cause, Point, keeps, rank_of_kind}
-use Rattle.pw_check_finding.specs.Found.{found, found_behind, lesser_found, told, with_cause}
-use Rattle.pw_check_finding.proofs.FindingLaws.{found_after, found_append}
+use Rattle.pw_check_walk.specs.Found.{found, found_behind, lesser_found, told, with_cause}
+use Rattle.pw_check_walk.proofs.FindingLaws.{found_after, found_append}
 
 -- ---- constraints found one behind the other
 

@@ -5,7 +5,7 @@ ghost use Rattle.std.specs.List.{list_all};
 ghost use Rattle.pw_check_state.specs.Follows.{Follows, Leads};
 ghost use Rattle.pw_check_state.specs.PhraseViews.{view_bindings, view_bound, view_declared, view_derivation, view_derivations, view_parameter, view_parameters, view_specified};
 ghost use Rattle.pw_check_state.specs.StateViews.{view_state};
-ghost use Rattle.pw_check_finding.specs.Found.{found, found_behind};
+ghost use Rattle.pw_check_walk.specs.Found.{found, found_behind};
 ghost use Rattle.pw_check_heads.specs.Parts as part;
 ghost use Rattle.pw_check_heads.specs.Views.{view_head};
 ghost use Rattle.pw_check_linkage.specs.Views.{view_asking};

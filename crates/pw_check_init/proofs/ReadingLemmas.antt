@@ -17,7 +17,7 @@ use Rattle.pw_check_rules.specs.Leaves.{is_nil}
 use Rattle.pw_check_rules.specs.States.{State, records_in}
 use Rattle.pw_check_rules.specs.Initialisers.{Context, Cursor, Filled, Target, braced_by, braced_string, braced_target, fills_characters, frame_of, init_rule, inits_rule, listed_form, passed, string_filled, string_form, words_in}
 use Rattle.pw_check_init.specs.Readings.{Around, Reading, around_at, behind_list, braces_turn, count_of_inits, entered_turn, inward, is_none_left, is_over, item_turn, left_of, lists_rule, outward, outward_of, reading_rule, string_turn, turn_of, turn_rule, value_turn}
-use Rattle.pw_check_init_values.proofs.WalkLemmas.{same_behind}
+use Rattle.pw_check_init_parts.proofs.WalkLemmas.{same_behind}
 
 -- ---- a list, and the lists around
 

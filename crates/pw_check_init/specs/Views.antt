@@ -2,9 +2,9 @@
 use Rattle.std.specs.Prelude.{List, map, reverse}
 use Rattle.pw_tree.specs.Views.{view_inits}
 use Rattle.pw_types.specs.Views.{view_qtype}
-use Rattle.pw_check_init_values.specs.Views.{view_filled}
+use Rattle.pw_check_init_parts.specs.FilledViews.{view_filled}
 use Rattle.pw_check_rules.specs.Initialisers as rules
-use Rattle.pw_check_init_places.specs.Views.{view_cursor}
+use Rattle.pw_check_init_parts.specs.PlaceViews.{view_cursor}
 use Rattle.pw_check_init.specs.declared.lists.Listed.{Listed}
 use Rattle.pw_check_init.specs.Readings as readings
 use Rattle.pw_check_init.specs.declared.readings.Around.{Around}

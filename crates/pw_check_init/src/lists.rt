@@ -5,16 +5,13 @@ ghost use Rattle.pw_check_state.specs.Follows.{Follows, Leads};
 ghost use Rattle.pw_check_state.specs.StateViews.{view_state};
 ghost use Rattle.pw_check_state.specs.Views.{view_node};
 ghost use Rattle.pw_check_init.specs.Placing.{comes_whole, reached_rule};
-ghost use Rattle.pw_check_init_values.specs.Views.{view_context, view_filled, view_string_form};
+ghost use Rattle.pw_check_init_parts.specs.FilledViews.{view_context, view_filled, view_string_form};
 ghost use Rattle.pw_check_init.specs.Views.{view_listed};
-ghost use Rattle.pw_check_init_places.specs.Views.{view_cursor, view_reached, view_takes, view_target};
+ghost use Rattle.pw_check_init_parts.specs.PlaceViews.{view_cursor, view_reached, view_takes, view_target};
 ghost use Rattle.pw_check_rules.specs.Initialisers as spec;
 ghost use Rattle.pw_tree.specs.Views.{view_expr, view_words};
 
-use pw_check_init_places::{
-    Frame, Reached, Takes, Target, behind, meets_characters, next_target, reach, takes_braces,
-};
-use pw_check_init_values::{Context, Filled, string_filled, string_form, value_filled};
+use pw_check_init_parts::{Context, Filled, Frame, Reached, Takes, Target, behind, meets_characters, next_target, reach, string_filled, string_form, takes_braces, value_filled};
 use pw_check_state::{Phrases, State, typing, whole_rule};
 use pw_check_walk::CheckFault;
 use pw_tree::{Expr, Word};

@@ -3,7 +3,7 @@
 ghost use Rattle.std.specs.Prelude.{◌≡◌, [], ◌∷◌, IfOk};
 ghost use Rattle.pw_check_state.specs.Follows.{Follows, Leads};
 ghost use Rattle.pw_check_state.specs.StateViews.{view_state};
-ghost use Rattle.pw_check_init_values.specs.Views.{view_context};
+ghost use Rattle.pw_check_init_parts.specs.FilledViews.{view_context};
 ghost use Rattle.pw_check_init.specs.Views.{view_initialised, view_listed};
 ghost use Rattle.pw_check_rules.specs.Initialisers as spec;
 ghost use Rattle.pw_tree.specs.Trees as tree;
@@ -12,10 +12,7 @@ ghost use Rattle.pw_types.specs.Views.{view_qtype, view_type};
 
 use crate::lists::Listed;
 use crate::readings::inits_rule;
-use pw_check_init_places::{Target, elements_given, within_braces};
-use pw_check_init_values::{
-    Context, Filled, braced_string, bytes_filled, filling_string, string_form, value_filled,
-};
+use pw_check_init_parts::{Context, Filled, Target, braced_string, bytes_filled, elements_given, filling_string, string_form, value_filled, within_braces};
 use pw_check_leaves::string_bytes;
 use pw_check_state::{Phrases, State, whole_rule};
 use pw_check_types::{boxed_copy, copy_qtype, is_scalar};

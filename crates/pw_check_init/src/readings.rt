@@ -4,16 +4,15 @@ ghost use Rattle.std.specs.Prelude.{◌≡◌, ◌+◌, ◌<◌, ◌≤◌, fals
 ghost use Rattle.pw_check_state.specs.Follows.{Follows, Leads};
 ghost use Rattle.pw_check_state.specs.StateViews.{view_state};
 ghost use Rattle.pw_check_init.specs.Readings as reading;
-ghost use Rattle.pw_check_init_values.specs.Views.{view_context, view_filled};
+ghost use Rattle.pw_check_init_parts.specs.FilledViews.{view_context, view_filled};
 ghost use Rattle.pw_check_init.specs.Views.{view_around, view_listed, view_outer, view_reading};
-ghost use Rattle.pw_check_init_places.specs.Views.{view_cursor, view_target};
+ghost use Rattle.pw_check_init_parts.specs.PlaceViews.{view_cursor, view_target};
 ghost use Rattle.pw_check_rules.specs.Initialisers as spec;
 ghost use Rattle.pw_check_rules.specs.Leaves.{is_nil};
 ghost use Rattle.pw_tree.specs.Views.{view_expr, view_inits, view_words};
 
 use crate::lists::{Listed, braced_target, listed_form};
-use pw_check_init_places::{Frame, Target, passed, within_braces};
-use pw_check_init_values::{Context, Filled, braced_string, filling_string, string_filled};
+use pw_check_init_parts::{Context, Filled, Frame, Target, braced_string, filling_string, passed, string_filled, within_braces};
 use pw_check_state::{Phrases, State};
 use pw_check_walk::CheckFault;
 use pw_tree::{Expr, Init, Word, statements_show_their_lists};

@@ -7,7 +7,7 @@ use Rattle.pw_tree.specs.Views.{view_declarator, view_expr, view_specifiers}
 use Rattle.pw_tree.specs.declared.expr.Declarator.{Declarator}
 use Rattle.pw_tree.specs.declared.expr.Expr.{Expr}
 use Rattle.pw_tree.specs.declared.expr.Specifier.{Specifier}
-use Rattle.pw_check_walk.specs.declared.fault.CheckFault.{CheckFault}
+use Rattle.pw_check_walk.specs.declared.constraints.CheckFault.{CheckFault}
 use Rattle.pw_check_rules.specs.Declarations.{specified_rule}
 use Rattle.pw_check_rules.specs.Phrases.{declarator_rule, expr_rule}
 use Rattle.pw_check_state.specs.Follows.{Leads}

@@ -2,7 +2,7 @@
 -- where it ends.
 use Rattle.std.proofs.Common.{◌≡◌, ℕ, Bool, true, false, Result, Ok, Err, [], ◌∷◌, refl, sym, subst}
 use mathlib.Core.Logic.{inr}
-use Rattle.pw_check_walk.specs.declared.fault.CheckFault.{CheckFault}
+use Rattle.pw_check_walk.specs.declared.constraints.CheckFault.{CheckFault}
 use Rattle.pw_check_walk.specs.Calls.{Obeys}
 use Rattle.pw_check_walk.specs.Causes.{Constraint, needs, kind_of}
 use Rattle.pw_check_walk.specs.Walks.{Walk, Done, Passing, bind, outcome}

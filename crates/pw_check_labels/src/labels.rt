@@ -91,7 +91,7 @@ fn default_rule(state: &mut State<'_>, token: usize) -> Result<u32, CheckFault>
 }
 
 /// A name labels one statement of a function (C90 6.6.1). The answer is its place among the names.
-#[tactic(auto, unfolding(pw_check_walk::specs::Walks::bind, pw_check_walk::specs::Walks::outcome, pw_check_rules::specs::Statements::name_label_rule), using(pw_check_finding::proofs::FindingLaws::point_ok, pw_check_finding::proofs::FindingLaws::point_err))]
+#[tactic(auto, unfolding(pw_check_walk::specs::Walks::bind, pw_check_walk::specs::Walks::outcome, pw_check_rules::specs::Statements::name_label_rule), using(pw_check_walk::proofs::FindingLaws::point_ok, pw_check_walk::proofs::FindingLaws::point_err))]
 fn name_label_rule<'a>(state: &mut State<'a>, word: &'a Word) -> Result<u32, CheckFault>
     ensures { Leads (λ n. n) (spec.name_label_rule (view_word word.now)) (view_state state.old) result (view_state state.new) }
 {

@@ -5,7 +5,7 @@ ghost use Rattle.pw_check_rules.specs.Statements as spec;
 ghost use Rattle.pw_tree.specs.Trees.{NoElse};
 ghost use Rattle.pw_tree.specs.Views.{view_block, view_else_ifs, view_labels, view_stmt, view_stmts};
 
-use pw_check_index::NameList;
+use pw_check_names::NameList;
 use pw_tree::{Block, ElseIf, Label, Stmt, statements_show_their_lists};
 use std::alloc::{AllocError, Global};
 

@@ -1,14 +1,14 @@
 -- An enumerator behind the point of its name, with a value and without one.
 use Rattle.std.proofs.Common.{◌≡◌, ℕ, Option, None, Some, Result, Ok, Err, true, false, [], ◌∷◌, refl, sym, subst}
-use Rattle.pw_check_walk.specs.declared.fault.CheckFault.{CheckFault}
-use Rattle.pw_check_walk.specs.declared.fault.CheckKind.TheVariants.{Constant}
+use Rattle.pw_check_walk.specs.declared.constraints.CheckFault.{CheckFault}
+use Rattle.pw_check_walk.specs.declared.constraints.CheckKind.TheVariants.{Constant}
 use Rattle.pw_check_walk.specs.Calls.{Obeys}
 use Rattle.pw_check_walk.specs.Causes.{needs, EnumeratorFits}
 use Rattle.pw_check_walk.specs.Walks.{bind, change, pure, ◌>>◌}
 use Rattle.pw_tree.specs.Trees.{Word}
 use Rattle.pw_check_rules.specs.Leaves.{value_after}
 use Rattle.pw_check_rules.specs.States.{State, EnumerationConstant, enter}
-use Rattle.pw_check_finding.proofs.FindingLaws.{point_ok}
+use Rattle.pw_check_walk.proofs.FindingLaws.{point_ok}
 use Rattle.pw_check_leaves.specs.Parts.{counted_enumerator}
 use Rattle.pw_check_leaves.proofs.PointLaws.{done, point_broken}
 

@@ -1,13 +1,13 @@
 -- A point, and what is made behind it.
 use Rattle.std.proofs.Common.{◌≡◌, Option, None, Some, Result, Ok, Err, [], ◌∷◌, ◌++◌, refl, ap, sym, subst, ◌∙◌}
-use Rattle.pw_check_walk.specs.declared.fault.CheckFault.{CheckFault}
+use Rattle.pw_check_walk.specs.declared.constraints.CheckFault.{CheckFault}
 use Rattle.pw_check_walk.specs.Calls.{Obeys}
 use Rattle.pw_check_walk.specs.Causes.{Cause, Point, fault_of}
 use Rattle.pw_check_walk.specs.Walks.{Walk, Done, outcome, pure, meets, ◌>>◌}
 use Rattle.pw_check_rules.specs.Limits.{Spot}
 use Rattle.pw_check_rules.specs.States.{State}
-use Rattle.pw_check_finding.specs.Found.{found, found_behind, lesser_found, with_cause}
-use Rattle.pw_check_finding.proofs.FindingLaws.{found_after, point_ok, point_err}
+use Rattle.pw_check_walk.specs.Found.{found, found_behind, lesser_found, with_cause}
+use Rattle.pw_check_walk.proofs.FindingLaws.{found_after, point_ok, point_err}
 
 pub made_there : {S A R : Type 0} {view : R → A} {r : Result R CheckFault} {made : R} (x : A) (s : S)
     → r ≡ Ok made → view made ≡ x → Obeys view (pure x s) r s

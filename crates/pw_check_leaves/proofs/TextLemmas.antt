@@ -14,10 +14,10 @@ use Rattle.pw_types.specs.TypedTrees.{Node, Number}
 use Rattle.pw_check_rules.specs.Kinds.{plain}
 use Rattle.pw_check_rules.specs.Leaves.{texts_of}
 use Rattle.pw_check_rules.specs.Operands.{Operand, value_operand}
-use Rattle.pw_check_walk.specs.declared.fault.CheckFault.{CheckFault}
-use Rattle.pw_check_walk.specs.declared.fault.CheckKind.TheVariants.{Constant}
+use Rattle.pw_check_walk.specs.declared.constraints.CheckFault.{CheckFault}
+use Rattle.pw_check_walk.specs.declared.constraints.CheckKind.TheVariants.{Constant}
 use Rattle.pw_check_walk.specs.Causes.{Point, OneCharacter, EscapeFits, IntegerFits, needs}
-use Rattle.pw_check_finding.specs.Found.{found}
+use Rattle.pw_check_walk.specs.Found.{found}
 
 -- ---- one character
 

@@ -4,7 +4,7 @@ ghost use Rattle.std.specs.Prelude.{◌≡◌, ◌≢◌, Some, IfErr};
 ghost use Rattle.pw_check_state.specs.Follows.{Follows, Leads};
 ghost use Rattle.pw_check_state.specs.PhraseViews.{view_name};
 ghost use Rattle.pw_check_state.specs.StateViews.{view_state};
-ghost use Rattle.pw_check_finding.specs.Found.{found};
+ghost use Rattle.pw_check_walk.specs.Found.{found};
 ghost use Rattle.pw_check_leaves.specs.Parts.{enumerating_point};
 ghost use Rattle.pw_check_rules.specs.Leaves as spec;
 ghost use Rattle.pw_tree.specs.Views.{view_word};

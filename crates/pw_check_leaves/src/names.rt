@@ -5,7 +5,7 @@ ghost use Rattle.pw_check_state.specs.EntityViews.{view_entity};
 ghost use Rattle.pw_check_state.specs.Follows.{Follows};
 ghost use Rattle.pw_check_state.specs.PhraseViews.{view_declared, view_specified};
 ghost use Rattle.pw_check_state.specs.StateViews.{view_state};
-ghost use Rattle.pw_check_finding.specs.Found.{found};
+ghost use Rattle.pw_check_walk.specs.Found.{found};
 ghost use Rattle.pw_check_rules.specs.Kinds as kinds;
 ghost use Rattle.pw_check_rules.specs.Leaves as spec;
 ghost use Rattle.pw_check_rules.specs.Phrases as phrases;

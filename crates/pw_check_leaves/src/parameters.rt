@@ -5,7 +5,7 @@ ghost use Rattle.pw_check_state.specs.EntityViews.{view_entity};
 ghost use Rattle.pw_check_state.specs.Follows.{Follows, Leads};
 ghost use Rattle.pw_check_state.specs.PhraseViews.{view_bindings, view_declared, view_name, view_parameters, view_specified, view_spot};
 ghost use Rattle.pw_check_state.specs.StateViews.{view_state};
-ghost use Rattle.pw_check_finding.specs.Found.{found};
+ghost use Rattle.pw_check_walk.specs.Found.{found};
 ghost use Rattle.pw_check_leaves.specs.Parts.{alone_is_void, parameter_type};
 ghost use Rattle.pw_check_rules.specs.Kinds.{is_void};
 ghost use Rattle.pw_check_rules.specs.Leaves as spec;

@@ -2,14 +2,14 @@
 use Rattle.std.proofs.Common.{◌≡◌, ℕ, ◌+◌, ◌<◌, ◌≤◌, Option, None, Some, Result, Ok, Err, List, [], ◌∷◌, length, get_or, drop, refl, ap, sym, subst, ◌∙◌}
 use Rattle.std.proofs.lemmas.List.{at_drop_more, at_drop_all}
 use Rattle.pw_types.specs.TypeTrees.{QType}
-use Rattle.pw_check_walk.specs.declared.fault.CheckFault.{CheckFault}
+use Rattle.pw_check_walk.specs.declared.constraints.CheckFault.{CheckFault}
 use mathlib.Core.Logic.{inr}
 use Rattle.pw_check_walk.specs.Calls.{Obeys}
 use Rattle.pw_check_walk.specs.Walks.{Walk, bind, outcome}
 use Rattle.pw_check_state.specs.PhraseViews.{view_derivation, view_derivations}
 use Rattle.pw_check_state.specs.declared.phrase.Derivation as code
-use Rattle.pw_check_finding.specs.Found.{found, told}
-use Rattle.pw_check_finding.proofs.FindingLaws.{stopped_by_found, end_err}
+use Rattle.pw_check_walk.specs.Found.{found, told}
+use Rattle.pw_check_walk.proofs.FindingLaws.{stopped_by_found, end_err}
 use Rattle.pw_check_rules.specs.Derivations.{Derivation, built, step_point, step_type}
 use Rattle.pw_check_rules.specs.Limits.{Spot}
 use Rattle.pw_check_rules.specs.States.{State, records_in}

@@ -4,8 +4,8 @@ use Rattle.std.proofs.lemmas.Option.{same_Some}
 use Rattle.pw_check_walk.specs.Causes.{Cause, Constraint, Point, needs, DeclaredTag}
 use Rattle.pw_value.specs.Caps.{capped}
 use Rattle.pw_types.specs.TypeTrees.{CType, RecordValue}
-use Rattle.pw_check_finding.specs.Found.{found, lesser_found}
-use Rattle.pw_check_finding.proofs.FindingLaws.{found_append}
+use Rattle.pw_check_walk.specs.Found.{found, lesser_found}
+use Rattle.pw_check_walk.proofs.FindingLaws.{found_append}
 use Rattle.pw_check_rules.specs.Kinds.{is_complete}
 use Rattle.pw_check_rules.specs.Limits.{Spot, completed, lacks_content}
 

@@ -2,16 +2,15 @@
 
 ghost use Rattle.std.specs.Prelude.{◌≡◌, if◌then◌else◌, None, [], ◌∷◌};
 ghost use Rattle.pw_check_state.specs.PhraseViews.{view_name, view_spot};
-ghost use Rattle.pw_check_finding.specs.Found.{found};
+ghost use Rattle.pw_check_walk.specs.Found.{found};
 ghost use Rattle.pw_check_rules.specs.Derivations as derivations;
 ghost use Rattle.pw_check_rules.specs.Limits as spec;
 ghost use Rattle.pw_types.specs.Views.{view_type};
 ghost use Rattle.pw_check_walk.specs.Causes.{Constraint, kind_of};
 
-use pw_check_finding::Finding;
+use pw_check_walk::{CheckKind, Finding};
 use pw_check_state::Spot;
 use pw_check_types::{innermost, is_complete, is_record};
-use pw_check_walk::CheckKind;
 use pw_tree::Word;
 use pw_types::{CType, Types};
 

@@ -4,16 +4,15 @@ ghost use Rattle.std.specs.Prelude.{◌≡◌, count_by, IfOk};
 ghost use Rattle.pw_check_state.specs.Follows.{Follows};
 ghost use Rattle.pw_check_state.specs.PhraseViews.{view_declared, view_derivation, view_derivations, view_spot};
 ghost use Rattle.pw_check_state.specs.StateViews.{view_state};
-ghost use Rattle.pw_check_finding.specs.Found.{found};
+ghost use Rattle.pw_check_walk.specs.Found.{found};
 ghost use Rattle.pw_check_limits.specs.Steps.{steps_max};
 ghost use Rattle.pw_check_rules.specs.Derivations as spec;
 ghost use Rattle.pw_types.specs.Views.{view_qtype};
 
 use crate::completeness::completed;
-use pw_check_finding::{Finding, fault};
+use pw_check_walk::{CheckFault, CheckKind, Finding, fault};
 use pw_check_state::{Declared, Derivation, Specified, Spot, State};
 use pw_check_types::{copy_qtype, is_array, is_function, is_record, plain};
-use pw_check_walk::{CheckFault, CheckKind};
 use pw_token::Feature;
 use pw_tree::Qualifier;
 use pw_types::{CType, QType, Signature, Types};

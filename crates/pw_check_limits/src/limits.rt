@@ -1,16 +1,15 @@
 //! The limits on types and names that are declared (C90 5.2.4.1).
 
 ghost use Rattle.std.specs.Prelude.{◌≡◌, ◌-◌, ◌≤◌, ◌^◌, [], ◌∷◌, length, IfOk, OnErr};
-ghost use Rattle.pw_check_finding.specs.Found.{found, found_behind};
+ghost use Rattle.pw_check_walk.specs.Found.{found, found_behind};
 ghost use Rattle.pw_check_rules.specs.Limits as spec;
 ghost use Rattle.pw_types.specs.Records.{depth_of};
 ghost use Rattle.pw_types.specs.Shapes.{shape_of};
 ghost use Rattle.pw_types.specs.Views.{view_type, view_qtype};
 ghost use Rattle.pw_value.specs.Limits.{shape_limit};
 
-use pw_check_finding::Finding;
+use pw_check_walk::{CheckKind, Finding, Which};
 use pw_check_types::count_of_types;
-use pw_check_walk::{CheckKind, Which};
 use pw_types::{CType, QType, Types, depth, oversize, shape};
 use pw_value::limits::{DEPTH_LIMIT, PARAMETER_LIMIT, SHAPE_LIMIT};
 use std::alloc::{AllocError, Global};

@@ -1,7 +1,7 @@
 -- What is found in three constraints of one kind at one token.
 use Rattle.std.proofs.Common.{◌≡◌, Bool, not, Option, None, ap, ◌∙◌}
-use Rattle.pw_check_walk.specs.declared.fault.CheckFault.{CheckFault}
-use Rattle.pw_check_finding.specs.Found.{with_cause}
+use Rattle.pw_check_walk.specs.declared.constraints.CheckFault.{CheckFault}
+use Rattle.pw_check_walk.specs.Found.{with_cause}
 
 pub three_needed : (n o p r : Option CheckFault) (a b c x y z : Bool) (f : CheckFault) → n ≡ None
     → o ≡ with_cause n (not a) f → p ≡ with_cause o (not b) f → r ≡ with_cause p (not c) f → a ≡ x → b ≡ y → c ≡ z

@@ -4,7 +4,7 @@ ghost use Rattle.std.specs.Prelude.{◌≡◌, [], ◌∷◌, true, false, optio
 ghost use Rattle.std.specs.Option.{option_copied, option_map_or};
 ghost use Rattle.pw_check_state.specs.EntityViews.{view_linked};
 ghost use Rattle.pw_check_state.specs.StateViews.{view_state};
-ghost use Rattle.pw_check_finding.specs.Found.{found, found_behind};
+ghost use Rattle.pw_check_walk.specs.Found.{found, found_behind};
 ghost use Rattle.pw_check_rules.specs.Compatible as compatible_spec;
 ghost use Rattle.pw_check_rules.specs.Linkage as spec;
 ghost use Rattle.pw_check_rules.specs.States as states;

@@ -16,7 +16,7 @@ use Rattle.pw_check_rules.specs.SpecifierLists.{Specified}
 use Rattle.pw_check_rules.specs.States.{State, add_hidden, next_hidden, next_local, put_hidden}
 use Rattle.pw_check_rules.specs.Initialisers.{Context, is_by_bytes, object_rule}
 use Rattle.pw_check_rules.specs.Declarations.{AGlobal, asking_of, bytes_rule, completed_rule, context_of, first_part, fitting_rule, global_rule, hidden_of, is_tentative, local_initialiser, local_rule, place_here, single_rule, static_rule}
-use Rattle.pw_check_init_values.proofs.WalkLemmas.{same_behind}
+use Rattle.pw_check_init_parts.proofs.WalkLemmas.{same_behind}
 use Rattle.pw_check_objects.specs.Parts.{global_filled, global_rest, linked_only, local_begun, local_filled, local_rest, object_completed, object_fitted, static_begun, static_filled, static_rest}
 
 pub object_joined : (w : Word) (cx : Context) (q : QType) (i : Init) (s : State)

@@ -6,7 +6,7 @@ ghost use Rattle.pw_check_state.specs.PhraseViews.{view_specified};
 ghost use Rattle.pw_check_state.specs.StateViews.{view_state};
 ghost use Rattle.pw_check_objects.specs.Parts as part;
 ghost use Rattle.pw_check_objects.specs.Views.{view_made};
-ghost use Rattle.pw_check_init_values.specs.Views.{view_context};
+ghost use Rattle.pw_check_init_parts.specs.FilledViews.{view_context};
 ghost use Rattle.pw_check_init.specs.Views.{view_initialised};
 ghost use Rattle.pw_check_linkage.specs.Views.{view_asking};
 ghost use Rattle.pw_check_rules.specs.Declarations as spec;
@@ -16,7 +16,7 @@ ghost use Rattle.pw_types.specs.Views.{view_qtype};
 
 use pw_check_decl_names::{Sort, asking_of, fitting_rule, is_tentative};
 use pw_check_init::{Initialised, object_rule};
-use pw_check_init_values::Context;
+use pw_check_init_parts::Context;
 use pw_check_linkage::{
     Asking, declare_linked, define_object, define_tentatively, initialise_linked, note_here,
 };

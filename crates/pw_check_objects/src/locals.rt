@@ -18,7 +18,7 @@ ghost use Rattle.pw_types.specs.Views.{view_qtype};
 use crate::statics::{hidden_begun, hidden_filled, object_completed, place_here};
 use pw_check_decl_names::is_register;
 use pw_check_init::{Initialised, is_by_bytes, object_rule};
-use pw_check_init_values::{Context, Filled};
+use pw_check_init_parts::{Context, Filled};
 use pw_check_state::{Entity, Phrases, Specified, State};
 use pw_check_types::{copy_qtype, is_const_object};
 use pw_check_walk::CheckFault;

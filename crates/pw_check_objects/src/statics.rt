@@ -6,7 +6,7 @@ ghost use Rattle.pw_check_state.specs.Follows.{Leads};
 ghost use Rattle.pw_check_state.specs.StateViews.{view_state};
 ghost use Rattle.pw_check_objects.specs.Parts as part;
 ghost use Rattle.pw_check_objects.specs.Views.{view_made};
-ghost use Rattle.pw_check_init_values.specs.Views.{view_context};
+ghost use Rattle.pw_check_init_parts.specs.FilledViews.{view_context};
 ghost use Rattle.pw_check_init.specs.Views.{view_initialised};
 ghost use Rattle.pw_check_rules.specs.Declarations as spec;
 ghost use Rattle.pw_check_rules.specs.States as states;
@@ -16,7 +16,7 @@ ghost use Rattle.pw_types.specs.Views.{view_qtype};
 
 use pw_check_decl_names::completed_rule;
 use pw_check_init::{Initialised, object_rule};
-use pw_check_init_values::Context;
+use pw_check_init_parts::Context;
 use pw_check_state::{Entity, HiddenObject, Phrases, State};
 use pw_check_types::{copy_qtype, is_const_object};
 use pw_check_walk::CheckFault;

@@ -2,7 +2,7 @@
 use Rattle.std.proofs.Common.{◌≡◌, ℕ, Bool, true, false, Ok, Err, [], ◌∷◌, ap, sym, inr, refl}
 use Rattle.pw_check_walk.specs.Calls.{Obeys}
 use Rattle.pw_check_walk.specs.Causes.{Constraint, ModifiableLvalue, CompoundOperands, needs, kind_of}
-use Rattle.pw_check_walk.specs.declared.fault.CheckKind.TheVariants.{Typing}
+use Rattle.pw_check_walk.specs.declared.constraints.CheckKind.TheVariants.{Typing}
 use Rattle.pw_check_walk.specs.Walks.{bind, outcome, meets, pure, ◌>>◌}
 use Rattle.pw_check_rules.proofs.Booleans.{no}
 

@@ -2,7 +2,7 @@
 use Rattle.std.specs.Prelude.{◌≡◌, Bool, false, Result, Ok, Err, refl}
 use Rattle.std.proofs.Common.{ap, sym, ◌∙◌}
 use Rattle.std.proofs.Math.Path.{subst}
-use Rattle.pw_check_walk.specs.declared.fault.CheckFault.{CheckFault}
+use Rattle.pw_check_walk.specs.declared.constraints.CheckFault.{CheckFault}
 use Rattle.pw_check_walk.specs.Calls.{Obeys}
 use Rattle.pw_check_walk.specs.Walks.{Done, bind, outcome}
 use Rattle.pw_check_walk.proofs.BindLaws.{bind_made}

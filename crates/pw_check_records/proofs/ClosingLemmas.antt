@@ -12,11 +12,11 @@ use Rattle.pw_types.specs.declared.contents.RecordFault.{RecordFault}
 use Rattle.pw_types.specs.declared.contents.RecordFault.TheVariants.{TooLarge, ShapeTooLong, TooDeep, NoMemory as WithoutMemory}
 use Rattle.pw_types.specs.declared.record.Layout.{Layout}
 use Rattle.pw_types.specs.declared.record.RecordKind.{RecordKind}
-use Rattle.pw_check_walk.specs.declared.fault.CheckFault.{CheckFault}
-use Rattle.pw_check_walk.specs.declared.fault.CheckKind.TheVariants.{Limit, NoMemory}
-use Rattle.pw_check_walk.specs.declared.fault.Which.{Which}
-use Rattle.pw_check_walk.specs.declared.fault.Which.TheVariants.{ObjectSize, ShapeLength, TypeDepth}
-use Rattle.pw_check_finding.specs.Found.{found, with_cause}
+use Rattle.pw_check_walk.specs.declared.constraints.CheckFault.{CheckFault}
+use Rattle.pw_check_walk.specs.declared.constraints.CheckKind.TheVariants.{Limit, NoMemory}
+use Rattle.pw_check_walk.specs.declared.constraints.Which.{Which}
+use Rattle.pw_check_walk.specs.declared.constraints.Which.TheVariants.{ObjectSize, ShapeLength, TypeDepth}
+use Rattle.pw_check_walk.specs.Found.{found, with_cause}
 use Rattle.pw_check_rules.specs.Leaves.{content_by, content_point}
 use Rattle.pw_check_records.specs.Parts.{fault_of_record, told_limit}
 

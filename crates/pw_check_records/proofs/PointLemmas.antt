@@ -1,9 +1,9 @@
 -- What is found of a member.
 use Rattle.std.proofs.Common.{◌≡◌, Bool, not, Option, None, [], ◌∷◌, ap, sym, ◌∙◌}
 use Rattle.pw_check_walk.specs.Causes.{Cause, Point, fault_of}
-use Rattle.pw_check_walk.specs.declared.fault.CheckFault.{CheckFault}
-use Rattle.pw_check_finding.specs.Found.{found, found_behind, lesser_found, with_cause}
-use Rattle.pw_check_finding.proofs.FindingLaws.{found_after}
+use Rattle.pw_check_walk.specs.declared.constraints.CheckFault.{CheckFault}
+use Rattle.pw_check_walk.specs.Found.{found, found_behind, lesser_found, with_cause}
+use Rattle.pw_check_walk.proofs.FindingLaws.{found_after}
 
 -- two constraints by what their tests say
 pub two_needed : (n o p : Option CheckFault) (a b x y : Bool) (f g : CheckFault) → n ≡ None → o ≡ with_cause n (not a) f → p ≡ with_cause o (not b) g

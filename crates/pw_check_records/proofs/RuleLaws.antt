@@ -4,11 +4,11 @@ use mathlib.Core.Logic.{inl, inr}
 use Rattle.pw_check_walk.specs.Calls.{Obeys}
 use Rattle.pw_check_walk.specs.Causes.{Point}
 use Rattle.pw_check_walk.specs.Walks.{Walk, Done, Passing, outcome}
-use Rattle.pw_check_walk.specs.declared.fault.CheckFault.{CheckFault}
-use Rattle.pw_check_walk.specs.declared.fault.CheckKind.TheVariants.{NoMemory}
+use Rattle.pw_check_walk.specs.declared.constraints.CheckFault.{CheckFault}
+use Rattle.pw_check_walk.specs.declared.constraints.CheckKind.TheVariants.{NoMemory}
 use Rattle.pw_check_walk.proofs.CallLaws.{same_call}
-use Rattle.pw_check_finding.specs.Found.{found, told}
-use Rattle.pw_check_finding.proofs.FindingLaws.{stopped_by_found}
+use Rattle.pw_check_walk.specs.Found.{found, told}
+use Rattle.pw_check_walk.proofs.FindingLaws.{stopped_by_found}
 
 -- something is made
 pub made_ok : {S A R : Type 0} (view : R → A) (x : R) (a : A) (s left : S) → a ≡ view x → s ≡ left → Obeys view (Done (a, s)) (Ok x) left

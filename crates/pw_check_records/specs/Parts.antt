@@ -4,10 +4,10 @@ use Rattle.pw_types.specs.TypeTrees.{QType, type_of, MemberValue, RecordValue}
 use Rattle.pw_types.specs.declared.record.Member.{Member}
 use Rattle.pw_types.specs.declared.contents.RecordFault.{RecordFault}
 use Rattle.pw_types.specs.declared.contents.RecordFault.TheVariants as refused
-use Rattle.pw_check_walk.specs.declared.fault.CheckFault.{CheckFault}
-use Rattle.pw_check_walk.specs.declared.fault.CheckKind.TheVariants.{Limit, NoMemory}
-use Rattle.pw_check_walk.specs.declared.fault.Which.{Which}
-use Rattle.pw_check_walk.specs.declared.fault.Which.TheVariants.{ObjectSize, ShapeLength, TypeDepth}
+use Rattle.pw_check_walk.specs.declared.constraints.CheckFault.{CheckFault}
+use Rattle.pw_check_walk.specs.declared.constraints.CheckKind.TheVariants.{Limit, NoMemory}
+use Rattle.pw_check_walk.specs.declared.constraints.Which.{Which}
+use Rattle.pw_check_walk.specs.declared.constraints.Which.TheVariants.{ObjectSize, ShapeLength, TypeDepth}
 use Rattle.pw_check_walk.specs.Causes.{Point, needs, OneMember, CompleteMember}
 use Rattle.pw_check_walk.specs.Walks.{asks, meets, pure, ◌>>=◌, ◌>>◌}
 use Rattle.pw_check_rules.specs.Kinds.{is_function}

@@ -4,7 +4,7 @@ ghost use Rattle.std.specs.Prelude.{◌≡◌, IfOk};
 ghost use Rattle.pw_check_state.specs.Follows.{Follows};
 ghost use Rattle.pw_check_state.specs.PhraseViews.{view_declared, view_name, view_specified, view_spot};
 ghost use Rattle.pw_check_state.specs.StateViews.{view_state};
-ghost use Rattle.pw_check_finding.specs.Found.{found};
+ghost use Rattle.pw_check_walk.specs.Found.{found};
 ghost use Rattle.pw_check_records.specs.Parts.{member_asks, member_behind, member_point};
 ghost use Rattle.pw_check_records.specs.Views.{view_member_list};
 ghost use Rattle.pw_check_rules.specs.Leaves as spec;

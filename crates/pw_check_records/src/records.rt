@@ -4,7 +4,7 @@ ghost use Rattle.std.specs.Prelude.{◌≡◌, ◌≢◌, None, Some, [], ◌∷
 ghost use Rattle.pw_check_state.specs.Follows.{Follows, Leads};
 ghost use Rattle.pw_check_state.specs.PhraseViews.{view_name};
 ghost use Rattle.pw_check_state.specs.StateViews.{view_state};
-ghost use Rattle.pw_check_finding.specs.Found.{found_behind};
+ghost use Rattle.pw_check_walk.specs.Found.{found_behind};
 ghost use Rattle.pw_check_records.specs.Views.{view_tagged};
 ghost use Rattle.pw_check_rules.specs.Leaves as spec;
 ghost use Rattle.pw_check_rules.specs.declared.names.Tag.TheVariants as named;

@@ -3,11 +3,11 @@ use Rattle.std.proofs.Common.{◌≡◌, ℕ, ◌+◌, ◌<◌, length, get_or, 
 use Rattle.std.proofs.lemmas.List.{get_or_default}
 use Rattle.std.specs.Option.{option_map_or}
 use Rattle.pw_check_state.specs.EntityViews.{view_linked}
-use Rattle.pw_check_entities.specs.declared.entity.LinkedName.{LinkedName}
+use Rattle.pw_check_names.specs.declared.entity.LinkedName.{LinkedName}
 use Rattle.pw_types.specs.TypedTrees.{DeclaredValue}
 use Rattle.pw_check_state.proofs.PlaceLemmas.{map_push}
 use Rattle.pw_check_labels.proofs.LabelNames.{names_on}
-use Rattle.pw_check_entities.specs.declared.entity.HiddenObject.{HiddenObject}
+use Rattle.pw_check_names.specs.declared.entity.HiddenObject.{HiddenObject}
 use Rattle.pw_types.specs.TypedTrees.{GlobalValue}
 use Rattle.pw_typed.specs.Views.{view_global}
 use Rattle.pw_typed.specs.declared.tree.TGlobal.{TGlobal}

@@ -2,7 +2,7 @@
 use Rattle.std.specs.Prelude.{◌≡◌, ◌↔◌, Result}
 use Rattle.pw_tree.specs.Trees.{Module}
 use Rattle.pw_types.specs.TypedTrees.{ModuleValue}
-use Rattle.pw_check_walk.specs.declared.fault.CheckFault.{CheckFault}
+use Rattle.pw_check_walk.specs.declared.constraints.CheckFault.{CheckFault}
 use Rattle.pw_check_walk.proofs.WalkLaws.{one_answer}
 use Rattle.pw_check_rules.specs.Checks.{Checks, checked, checking}
 

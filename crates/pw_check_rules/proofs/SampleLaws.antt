@@ -1,6 +1,6 @@
 -- The rules on tiny modules, by computation.
 use Rattle.std.specs.Prelude.{◌≡◌, Ok, Err, refl}
-use Rattle.pw_check_walk.specs.declared.fault.CheckKind.TheVariants.{UnknownName}
+use Rattle.pw_check_walk.specs.declared.constraints.CheckKind.TheVariants.{UnknownName}
 use Rattle.pw_check_walk.specs.Walks.{bind, outcome}
 use Rattle.pw_check_rules.specs.Checks.{checked, checking}
 use Rattle.pw_check_rules.specs.Declarations.{decls_rule, specified_rule}

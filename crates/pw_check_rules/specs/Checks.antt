@@ -3,7 +3,7 @@
 use Rattle.std.specs.Prelude.{Result}
 use Rattle.pw_tree.specs.Trees.{Module}
 use Rattle.pw_types.specs.TypedTrees.{ModuleValue}
-use Rattle.pw_check_walk.specs.declared.fault.CheckFault.{CheckFault}
+use Rattle.pw_check_walk.specs.declared.constraints.CheckFault.{CheckFault}
 use Rattle.pw_check_walk.specs.Walks.{Walk, Done, bind, outcome}
 use Rattle.pw_check_walk.specs.Answers.{Answers}
 use Rattle.pw_check_rules.specs.States.{start}

@@ -8,7 +8,7 @@ use Rattle.pw_types.specs.TypedTrees.{FunctionValue, LocalValue, Statement}
 use Rattle.pw_types.specs.Rooms.{nodes_of, room_of}
 use Rattle.pw_value.specs.Limits.{node_limit, room_limit}
 use Rattle.pw_check_walk.specs.Causes.{Point, needs, keeps, FunctionDeclarator, DefinitionStorage, NamedParameters, NoDeclarationList}
-use Rattle.pw_check_walk.specs.declared.fault.Which.TheVariants.{Nodes, Room}
+use Rattle.pw_check_walk.specs.declared.constraints.Which.TheVariants.{Nodes, Room}
 use Rattle.pw_check_walk.specs.Walks.{meets, asks, change, ◌>>=◌, ◌>>◌}
 use Rattle.pw_check_rules.specs.Kinds.{result_of, is_const_object}
 use Rattle.pw_check_rules.specs.States.{Rule, State, ScopeState, no_body, records_in, one_deeper, leave_scope, with_body, with_scopes, with_made}

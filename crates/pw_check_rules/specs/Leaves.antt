@@ -22,7 +22,7 @@ use Rattle.pw_types.specs.Shapes.{record_shape, member_shapes}
 use Rattle.pw_value.specs.Limits.{depth_limit, shape_limit, size_limit}
 use Rattle.pw_value.specs.Words.{int_most, is_negative, unsigned_sum}
 use Rattle.pw_check_walk.specs.Causes.{Point, Cause, needs, keeps, DeclaredIdentifier, DeclaredTag, OneKindOfTag, OneContent, OneMember, LawfulStorage, VoidAlone, CompleteMember, IntegerFits, OneCharacter, EscapeFits, ConstantExpression, PositiveLength, EnumeratorFits, NoRecordByValue}
-use Rattle.pw_check_walk.specs.declared.fault.Which.TheVariants.{ObjectSize, ShapeLength, TypeDepth}
+use Rattle.pw_check_walk.specs.declared.constraints.Which.TheVariants.{ObjectSize, ShapeLength, TypeDepth}
 use Rattle.pw_check_walk.specs.Walks.{meets, granted, refused, pure, asks, change, ◌>>=◌, ◌>>◌}
 use Rattle.pw_check_rules.specs.Kinds.{plain, int_type, is_function, is_record, is_void, types_in, kind_in}
 use Rattle.pw_check_rules.specs.Constants.{constant_value}

@@ -7,8 +7,8 @@ use Rattle.pw_value.specs.Limits.{depth_limit, shape_limit, parameter_limit}
 use Rattle.pw_types.specs.Shapes.{shape_of}
 use Rattle.pw_types.specs.Sizes.{oversize_of}
 use Rattle.pw_check_walk.specs.Causes.{Constraint, Cause, Point, Within, needs, keeps, DeclaredTag}
-use Rattle.pw_check_walk.specs.declared.fault.Which.{Which}
-use Rattle.pw_check_walk.specs.declared.fault.Which.TheVariants.{NameLength, ObjectSize, ShapeLength, TypeDepth, Parameters}
+use Rattle.pw_check_walk.specs.declared.constraints.Which.{Which}
+use Rattle.pw_check_walk.specs.declared.constraints.Which.TheVariants.{NameLength, ObjectSize, ShapeLength, TypeDepth, Parameters}
 use Rattle.pw_check_rules.specs.Kinds.{count_of_types, innermost, is_complete, is_record}
 
 -- bytes of an identifier

@@ -13,8 +13,8 @@ ghost use Rattle.pw_check_rules.specs.Linkage.{Asking, is_internal_by};
 ghost use Rattle.pw_check_rules.specs.States.{State};
 ghost use Rattle.pw_types.specs.TypeTrees.{CType, QType, RecordValue};
 ghost use Rattle.pw_types.specs.TypedTrees.{Expression, ModuleValue};
-ghost use Rattle.pw_check_walk.specs.declared.fault.CheckFault.{CheckFault};
-ghost use Rattle.pw_check_walk.specs.declared.fault.CheckKind.TheVariants.{UnknownName};
+ghost use Rattle.pw_check_walk.specs.declared.constraints.CheckFault.{CheckFault};
+ghost use Rattle.pw_check_walk.specs.declared.constraints.CheckKind.TheVariants.{UnknownName};
 
 /// What checking answers for a module is what the plain definition computes, and nothing else.
 pub fn checks_is_exact()

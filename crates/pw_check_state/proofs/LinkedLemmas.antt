@@ -1,7 +1,7 @@
 -- Changes of one of the names with linkage.
 use Rattle.std.proofs.Common.{◌≡◌, ℕ, Option, None, Some, slice_get, refl, ap, sym, ◌∙◌}
 use Rattle.std.specs.Option.{option_map_or}
-use Rattle.pw_check_entities.specs.LinkedViews.{changed_at}
+use Rattle.pw_check_names.specs.LinkedViews.{changed_at}
 use Rattle.pw_check_rules.specs.States as states
 use Rattle.pw_check_rules.specs.States.{State, linked_at, with_types}
 use Rattle.pw_check_rules.specs.Linkage.{change_linked}

@@ -3,7 +3,7 @@ use Rattle.std.proofs.Common.{◌≡◌, ℕ, zero, suc, ◌<◌, ◌≤◌, Lis
 use Rattle.std.proofs.lemmas.List.{reverse-append}
 use Rattle.std.specs.Option.{option_map_or}
 use Rattle.pw_check_rules.specs.States.{put_at}
-use Rattle.pw_check_entities.specs.LinkedViews.{changed_at}
+use Rattle.pw_check_names.specs.LinkedViews.{changed_at}
 
 module _ {X : Type 0} where
   pub put_within : (i : ℕ) (x : X) (xs : List X) → set xs i x ≡ put_at i x xs

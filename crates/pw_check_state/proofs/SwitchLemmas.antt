@@ -7,7 +7,7 @@ use Rattle.std.specs.Option.{option_copied}
 use Rattle.pw_check_rules.specs.States.{SwitchState}
 use Rattle.pw_check_rules.specs.Leaves.{is_nil}
 use Rattle.pw_check_rules.specs.Statements.{change_switches, first_switch}
-use Rattle.pw_check_index.proofs.NestingLaws.{last_split}
+use Rattle.pw_check_names.proofs.NestingLaws.{last_split}
 use Rattle.pw_check_state.proofs.PlaceLemmas.{reverse_push}
 
 set_end : {X : Type 0} (xs : List X) (w new : X) → set (xs ++ w ∷ []) (length xs) new ≡ xs ++ new ∷ []

@@ -8,7 +8,7 @@ use Rattle.pw_check_rules.specs.Statements.{with_switch}
 use Rattle.pw_check_rules.specs.Functions.{declared_again}
 use Rattle.pw_check_rules.specs.Derivations.{Bindings, ParameterValue}
 use Rattle.pw_check_rules.specs.declared.names.Tag.{Tag}
-use Rattle.pw_check_index.specs.Scoping.{NamesInScope}
+use Rattle.pw_check_names.specs.Scoping.{NamesInScope}
 
 -- ---- names with linkage
 

@@ -1,6 +1,6 @@
 -- What code that follows a rule answers, where the rule leaves the state as it is.
 use Rattle.std.specs.Prelude.{Result}
-use Rattle.pw_check_walk.specs.declared.fault.CheckFault.{CheckFault}
+use Rattle.pw_check_walk.specs.declared.constraints.CheckFault.{CheckFault}
 use Rattle.pw_check_walk.specs.Calls.{Obeys}
 use Rattle.pw_check_walk.specs.Walks.{RuleOver}
 

@@ -5,7 +5,7 @@ use Rattle.pw_tree.specs.declared.expr.Word.{Word}
 use Rattle.pw_tree.specs.Trees as tree
 use Rattle.pw_tree.specs.Views.{view_word}
 use Rattle.pw_types.specs.Views.{view_qtype, view_types}
-use Rattle.pw_check_index.specs.Scoping.{found_names}
+use Rattle.pw_check_names.specs.Scoping.{found_names}
 use Rattle.pw_check_rules.specs.Limits as limits
 use Rattle.pw_check_rules.specs.SpecifierLists as specifiers
 use Rattle.pw_check_rules.specs.Derivations as derivations

@@ -3,8 +3,8 @@ use Rattle.std.specs.Prelude.{map, reverse}
 use Rattle.pw_typed.specs.Views.{view_function, view_locals}
 use Rattle.pw_types.specs.Views.{view_qtype}
 use Rattle.pw_check_rules.specs.States as states
-use Rattle.pw_check_entities.specs.EntityViews.{view_entity, view_hidden, view_switch}
-use Rattle.pw_check_entities.specs.LinkedViews.{linked_names}
+use Rattle.pw_check_names.specs.EntityViews.{view_entity, view_hidden, view_switch}
+use Rattle.pw_check_names.specs.LinkedViews.{linked_names}
 use Rattle.pw_check_state.specs.declared.state.TypeState.{TypeState}
 use Rattle.pw_check_state.specs.declared.state.ScopeState.{ScopeState}
 use Rattle.pw_check_state.specs.declared.state.MadeState.{MadeState}

@@ -7,7 +7,7 @@ ghost use Rattle.pw_check_rules.specs.Leaves as leaves;
 ghost use Rattle.pw_check_rules.specs.Functions.{add_function};
 ghost use Rattle.pw_check_rules.specs.Linkage as linkage;
 ghost use Rattle.pw_check_state.specs.Changes.{with_type, with_items};
-ghost use Rattle.pw_check_entities.specs.EntityViews.{view_linked, view_hidden};
+ghost use Rattle.pw_check_names.specs.EntityViews.{view_linked, view_hidden};
 ghost use Rattle.pw_check_state.specs.StateViews.{view_state};
 ghost use Rattle.pw_types.specs.Records.{Follows, declared, defined};
 ghost use Rattle.pw_types.specs.Views.{view_content, view_qtype, view_record};
@@ -15,7 +15,7 @@ ghost use Rattle.pw_typed.specs.Views.{view_function, view_placed};
 
 use crate::places::put;
 use crate::state::State;
-use pw_check_entities::{HiddenObject, LinkedName};
+use pw_check_names::{HiddenObject, LinkedName};
 use pw_check_rules::Slot;
 use pw_typed::{TFunction, TItem};
 use pw_types::{Content, QType, RecordKind, RecordType, Types};

@@ -6,8 +6,7 @@ ghost use Rattle.pw_check_state.specs.StateViews.{view_body_state, view_state};
 ghost use Rattle.pw_typed.specs.Views.{view_locals};
 ghost use Rattle.pw_types.specs.Views.{view_qtype};
 
-use pw_check_entities::{Entity, HiddenObject, LinkedNames, SwitchState};
-use pw_check_index::{NameList, VisibleNames};
+use pw_check_names::{Entity, HiddenObject, LinkedNames, NameList, SwitchState, VisibleNames};
 use pw_check_rules::Slot;
 use pw_check_types::plain;
 use pw_typed::{Local, TFunction};

@@ -1,7 +1,7 @@
 -- Two walks, one behind the other: the second is met where the first made something, and the first's fault is that of both.
 use Rattle.std.specs.Prelude.{◌≡◌, Bool, Option, None, Some, Result, Ok, Err, refl}
 use Rattle.std.proofs.Common.{ap, sym, ◌∙◌}
-use Rattle.pw_check_walk.specs.declared.fault.CheckFault.{CheckFault}
+use Rattle.pw_check_walk.specs.declared.constraints.CheckFault.{CheckFault}
 use Rattle.pw_check_walk.specs.Causes.{Cause, Point, fault_of}
 use Rattle.pw_check_walk.specs.Walks.{Walk, Done, Passing, Closed, bind, least, stopped, outcome}
 

@@ -4,9 +4,9 @@ use Rattle.std.proofs.Common.{arith, ap, sym, ◌∙◌}
 use Rattle.pw_check_walk.specs.Causes.{Constraint, kind_of}
 use Rattle.pw_check_walk.specs.Walks.{Walk}
 use Rattle.pw_check_walk.specs.Answers.{Stops, StopsAtPoint, StopsClosed, AtPoint, AtEnd}
-use Rattle.pw_check_walk.specs.declared.fault.CheckFault.{CheckFault}
-use Rattle.pw_check_walk.specs.declared.fault.CheckKind.{CheckKind}
-use Rattle.pw_check_walk.specs.declared.fault.CheckKind.TheVariants.{NoMemory}
+use Rattle.pw_check_walk.specs.declared.constraints.CheckFault.{CheckFault}
+use Rattle.pw_check_walk.specs.declared.constraints.CheckKind.{CheckKind}
+use Rattle.pw_check_walk.specs.declared.constraints.CheckKind.TheVariants.{NoMemory}
 
 no_kind : (c : Constraint) → kind_of c ≡ NoMemory → ⊥
 no_kind Constraint.DeclaredIdentifier e = grind arith

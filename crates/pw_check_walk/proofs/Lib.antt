@@ -3,3 +3,5 @@ pub mod WalkLaws
 pub mod KindLaws
 pub mod BindLaws
 pub mod CallLaws
+pub mod FindingLaws
+pub mod Turns

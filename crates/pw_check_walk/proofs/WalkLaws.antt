@@ -1,7 +1,7 @@
 -- What a walk answers is its outcome, and nothing else.
 use Rattle.std.specs.Prelude.{◌≡◌, ◌↔◌, Option, None, Result, Ok, Err, List, [], ◌∷◌, All, refl}
 use Rattle.std.proofs.lemmas.List.Elements.{All-nil, All-cons, All-head, All-tail}
-use Rattle.pw_check_walk.specs.declared.fault.CheckFault.{CheckFault}
+use Rattle.pw_check_walk.specs.declared.constraints.CheckFault.{CheckFault}
 use Rattle.pw_check_walk.specs.Causes.{Cause, Point, fault_of}
 use Rattle.pw_check_walk.specs.Walks.{Walk, Done, Passing, Closed, least, stopped, outcome}
 use Rattle.pw_check_walk.specs.Answers.{IsMet, IsTold, by_points, Ends, Stops, AtPoint, AtEnd, Answers}

@@ -1,7 +1,7 @@
 -- What a walk answers, as a relation: what it makes where every point is met, or the fault of least rank at the first
 -- point that is not.
 use Rattle.std.specs.Prelude.{ℕ, ◌≡◌, ◌<◌, ◌≤◌, true, false, Result, Ok, Err, List, [], ◌∷◌, ◌++◌, All}
-use Rattle.pw_check_walk.specs.declared.fault.CheckFault.{CheckFault}
+use Rattle.pw_check_walk.specs.declared.constraints.CheckFault.{CheckFault}
 use Rattle.pw_check_walk.specs.Causes.{Constraint, Cause, Point, rank, fault_of}
 use Rattle.pw_check_walk.specs.Walks.{Walk, Done, Passing, Closed}
 

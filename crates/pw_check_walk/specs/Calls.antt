@@ -1,7 +1,7 @@
 -- What code that follows a rule answers.
 use Rattle.std.specs.Prelude.{◌≡◌, ◌⊎◌, Result, Ok, Err, IfOk, IfErr}
-use Rattle.pw_check_walk.specs.declared.fault.CheckFault.{CheckFault}
-use Rattle.pw_check_walk.specs.declared.fault.CheckKind.TheVariants.{NoMemory}
+use Rattle.pw_check_walk.specs.declared.constraints.CheckFault.{CheckFault}
+use Rattle.pw_check_walk.specs.declared.constraints.CheckKind.TheVariants.{NoMemory}
 use Rattle.pw_check_walk.specs.Walks.{Walk, outcome}
 
 -- What the rule makes, as plain data, with the state that it leaves; or the rule's fault; or want of memory, of which no

@@ -2,11 +2,11 @@
 -- that a broken one is.
 use Rattle.std.specs.Prelude.{ℕ, ◌+◌, Bool, not, nat_lt, List}
 use Rattle.pw_token.specs.declared.token.Feature.TheVariants as F
-use Rattle.pw_check_walk.specs.declared.fault.CheckFault.{CheckFault}
-use Rattle.pw_check_walk.specs.declared.fault.CheckKind.{CheckKind}
-use Rattle.pw_check_walk.specs.declared.fault.CheckKind.TheVariants.{UnknownName, Redeclared, Typing, Constant, Unsupported, Limit, NoMemory}
-use Rattle.pw_check_walk.specs.declared.fault.Which.{Which}
-use Rattle.pw_check_walk.specs.declared.fault.Which.TheVariants.{NameLength, Nodes, ObjectSize, ShapeLength, Room, TypeDepth, Parameters}
+use Rattle.pw_check_walk.specs.declared.constraints.CheckFault.{CheckFault}
+use Rattle.pw_check_walk.specs.declared.constraints.CheckKind.{CheckKind}
+use Rattle.pw_check_walk.specs.declared.constraints.CheckKind.TheVariants.{UnknownName, Redeclared, Typing, Constant, Unsupported, Limit, NoMemory}
+use Rattle.pw_check_walk.specs.declared.constraints.Which.{Which}
+use Rattle.pw_check_walk.specs.declared.constraints.Which.TheVariants.{NameLength, Nodes, ObjectSize, ShapeLength, Room, TypeDepth, Parameters}
 
 pub data Constraint : Type 0 where
   -- names

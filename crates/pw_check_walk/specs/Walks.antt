@@ -1,7 +1,7 @@
 -- Walks: what is checked on the way to what is made. A walk is a list of points that ends in a value, or where
 -- nothing can be made. It is refused at its first point with a broken constraint, with the fault of least rank there.
 use Rattle.std.specs.Prelude.{ℕ, true, nat_lt, if◌then◌else◌, Option, None, Some, Result, Ok, Err, [], ◌∷◌}
-use Rattle.pw_check_walk.specs.declared.fault.CheckFault.{CheckFault}
+use Rattle.pw_check_walk.specs.declared.constraints.CheckFault.{CheckFault}
 use Rattle.pw_check_walk.specs.Causes.{Constraint, Cause, Point, rank, fault_of}
 
 pub data Walk (A : Type 0) : Type 0 where

@@ -1,9 +1,13 @@
-//! The constraints of C90 by which the checker refuses a module, and walks: lists of points, each with the constraints
-//! that are to be met there, which say the order of a module's faults.
+//! The constraints of C90 with their clauses, the least fault among those of a point, walks, and rules that go over
+//! a list.
 #![tactic(auto)]
 
-mod fault;
-mod laws;
+mod constraints;
+mod finding;
+mod turn_laws;
+mod walk_laws;
 
-pub use fault::{CheckFault, CheckKind, Which};
-pub use laws::{memory_is_no_fault, one_answer, walks_follow};
+pub use constraints::{CheckFault, CheckKind, Which};
+pub use finding::{Finding, fault, typing};
+pub use turn_laws::turns_follow;
+pub use walk_laws::{memory_is_no_fault, one_answer, walks_follow};

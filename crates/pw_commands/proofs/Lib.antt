@@ -1,3 +1,4 @@
+pub mod RunLemmas
 pub mod StopLemmas
 pub mod NeededLemmas
 pub mod RunningLemmas

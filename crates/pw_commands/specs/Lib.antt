@@ -1,3 +1,4 @@
+pub mod MachineRun
 pub mod Needed
 pub mod Linking
 pub mod Running

@@ -10,7 +10,7 @@ use Rattle.pw_store_modules.specs.FileNames.{image_name}
 use Rattle.pw_top_answer.specs.declared.answer.Answer.{Answer}
 use Rattle.pw_top_answer.specs.declared.answer.Answer.TheVariants.{Done, Usage, Refused, LinkRefused}
 use Rattle.pw_top_answer.specs.Effects.{Effect, answers_alone}
-use Rattle.pw_commands_run.specs.Running.{ran, started}
+use Rattle.pw_commands.specs.MachineRun.{ran, started}
 use Rattle.pw_commands.specs.Needed.{needed}
 
 -- the machine at the start of the image that stands in a file

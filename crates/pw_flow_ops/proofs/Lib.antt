@@ -4,3 +4,4 @@ pub mod PartLaws
 pub mod OpLaws
 pub mod EndLaws
 pub mod OnwardLaws
+pub mod FlatLists

@@ -18,7 +18,7 @@ use pw_files::writing::{
     make_table, push_bytes, push_count, push_shaped_list, push_words, seal_payload,
 };
 use pw_flow::{Block, FlowFn, FlowGlobal, FlowModule, Item};
-use pw_flow_ops_writing::{push_end, push_ops};
+use pw_flow_ops::{push_end, push_ops};
 use pw_value::Name;
 use std::alloc::{AllocError, Global};
 

@@ -8,7 +8,7 @@ use Rattle.pw_token.specs.Tokenization.{IsLexed, Lexes}
 use Rattle.pw_token.specs.declared.token.Feature.{Feature}
 use Rattle.pw_token.specs.declared.token.LexFault.TheVariants as lex
 use Rattle.pw_token.specs.declared.token.Token.{Token}
-use Rattle.pw_check_walk.specs.declared.fault.CheckKind.TheVariants as check
+use Rattle.pw_check_walk.specs.declared.constraints.CheckKind.TheVariants as check
 use Rattle.pw_front_end.specs.First.{IsFirst, NonePasses}
 use Rattle.pw_front_end.specs.Lexed.{LexAnswer, lexed}
 use Rattle.pw_parse.specs.Parsing.{parsed}

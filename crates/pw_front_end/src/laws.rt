@@ -6,7 +6,7 @@ ghost use Rattle.pw_front_end.specs.Fronts.{Front, Fronts, HoldsNoWant, front_of
 ghost use Rattle.pw_front_end.specs.Lexed.{LexAnswer, lexed};
 ghost use Rattle.pw_front_end.specs.declared.refusal.Refusal.{Refusal};
 
-use pw_law_grammar::reading_is_exact;
+use pw_parse_grammar::reading_is_exact;
 
 /// The tokens or the fault that a text has by its cutting are those of the function.
 pub fn lexed_is_exact()

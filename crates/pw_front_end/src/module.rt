@@ -7,7 +7,7 @@ ghost use Rattle.pw_token.specs.Tokenization.{IsLexed};
 ghost use Rattle.pw_tree.specs.Views.{view_module};
 
 use crate::refusal::{FrontError, Refusal};
-use pw_law_grammar::reading_is_exact;
+use pw_parse_grammar::reading_is_exact;
 use pw_parse::parse;
 use pw_token::{Token, lex, unsupported};
 use pw_tree::Module;

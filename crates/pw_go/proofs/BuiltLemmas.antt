@@ -15,7 +15,7 @@ use Rattle.pw_top_answer.specs.declared.answer.Answer.TheVariants.{Ended}
 use Rattle.pw_go.specs.FullBuild as build
 use Rattle.pw_go.specs.FullBuild.{Build, alone, by_numbers, by_refused, build_of_sources, first_refused, full_build, together}
 use Rattle.pw_go.specs.Going.{run_built, build_effect, BuiltAgrees, ReturnsSum}
-use Rattle.pw_commands_run.specs.Running.{run_answer}
+use Rattle.pw_commands.specs.MachineRun.{run_answer}
 use Rattle.pw_top_answer.specs.Outcomes.{Answers}
 
 -- what the public laws say of each sum program

@@ -5,15 +5,15 @@ use Rattle.pw_front_end.specs.Fronts.{Front, Fronts, HoldsNoWant, front_of}
 use Rattle.pw_front_end.specs.declared.refusal.Refusal.{Refusal}
 use Rattle.pw_front_end.specs.declared.refusal.Refusal.TheVariants.{Lex, Unsupported, Parse, Check}
 use Rattle.pw_phase_one.specs.FirstPhase.{Compiles, Phase, compiled}
-use Rattle.pw_check_walk.specs.declared.fault.CheckFault.{CheckFault}
-use Rattle.pw_check_walk.specs.declared.fault.CheckKind.TheVariants.{NoMemory}
+use Rattle.pw_check_walk.specs.declared.constraints.CheckFault.{CheckFault}
+use Rattle.pw_check_walk.specs.declared.constraints.CheckKind.TheVariants.{NoMemory}
 use Rattle.pw_check_walk.specs.Causes.{Constraint, DeclaredIdentifier, Within, kind_of}
 use Rattle.pw_check_walk.specs.Walks.{Walk}
 use Rattle.pw_check_walk.specs.Answers.{Stops, AtPoint, AtEnd}
 use Rattle.pw_top_answer.specs.declared.answer.Answer.{Answer}
 use Rattle.pw_top_answer.specs.declared.answer.Answer.TheVariants.{Refused, LinkRefused}
 use Rattle.pw_store_modules.specs.Modules.{Source}
-use Rattle.pw_commands_run.specs.Running.{IsRunAnswer}
+use Rattle.pw_commands.specs.MachineRun.{IsRunAnswer}
 use Rattle.pw_go_sum.specs.SumProgram.{numbers_in}
 use Rattle.pw_go.specs.FullBuild.{alone, by_numbers, by_refused, build_of_sources, first_refused, refused_or, together}
 use Rattle.pw_go.specs.Refusals.{HoldsNoWantOfMemory, IsProper}

@@ -3,7 +3,7 @@ use Rattle.std.specs.Prelude.{◌≡◌, ℕ, ◌≤◌, ◌%◌, List, sum}
 use Rattle.pw_machine.specs.Run.{Progress, run_of}
 use Rattle.pw_top_answer.specs.Effects.{Effect, answers_alone}
 use Rattle.pw_top_answer.specs.Outcomes.{Answers, IsLineDue, IsNoRefusal, RefusesAs}
-use Rattle.pw_commands_run.specs.Running.{ran}
+use Rattle.pw_commands.specs.MachineRun.{ran}
 use Rattle.pw_top_answer.specs.declared.answer.Answer.{Answer}
 use Rattle.pw_top_answer.specs.declared.answer.Answer.TheVariants.{Ended, Usage, Refused, LinkRefused, StoreFault}
 use Rattle.pw_go.specs.FullBuild as build

@@ -7,7 +7,7 @@ ghost use Rattle.pw_go.specs.BuildViews.{build_view};
 ghost use Rattle.pw_go.specs.FullBuild.{full_build};
 ghost use Rattle.pw_go.specs.Going.{AnswersBuild, IsLineOf, IsNoUsage, IsObeyed, build_effect, run_built};
 ghost use Rattle.pw_go.specs.Refusals.{HoldsNoWantOfMemory, IsProper};
-ghost use Rattle.pw_commands_run.specs.Running.{IsRunAnswer, run_answer, run_output, run_rest};
+ghost use Rattle.pw_commands.specs.MachineRun.{IsRunAnswer, run_answer, run_output, run_rest};
 
 use crate::build::{Built, build};
 use crate::run::run_words;

@@ -5,9 +5,9 @@ ghost use Rattle.pw_machine.specs.Run.{run_of};
 ghost use Rattle.pw_value.specs.Limits.{word_limit};
 ghost use Rattle.pw_go_sum.specs.Built.{start_of};
 ghost use Rattle.pw_top_answer.specs.Outcomes.{Answers, InputCount, LeavesInput, OutputCount, PutsOut};
-ghost use Rattle.pw_commands_run.specs.Running.{IsRunAnswer, run_answer, run_output, run_rest};
+ghost use Rattle.pw_commands.specs.MachineRun.{IsRunAnswer, run_answer, run_output, run_rest};
 
-use pw_commands_run::run_machine;
+use pw_commands::run_machine;
 use pw_io::{Sink, Source};
 use pw_machine::Machine;
 use pw_top_answer::Answer;

@@ -14,14 +14,14 @@ use Rattle.pw_cmean.specs.Access.{fetch}
 use Rattle.pw_cmean.specs.Operators.{convert}
 use Rattle.pw_cmean.specs.Evaluation as meaning
 use Rattle.pw_cmean.specs.Evaluation.{Env, site}
-use Rattle.pw_interp_operators.specs.declared.category.Category.TheVariants as C
-use Rattle.pw_interp_operators.specs.declared.fault.Fault.{Fault}
-use Rattle.pw_interp_operators.specs.Answers.{answered, changed, Changes}
-use Rattle.pw_interp_operators.specs.Categories.{category_of}
-use Rattle.pw_interp_operators.specs.Accesses.{fetched}
-use Rattle.pw_interp_operators.specs.Operations.{converted_to}
-use Rattle.pw_interp_operators.proofs.AccessLaws.{fetch_is}
-use Rattle.pw_interp_operators.proofs.OperatorLaws.{convert_is}
+use Rattle.pw_interp_state.specs.declared.category.Category.TheVariants as C
+use Rattle.pw_interp_state.specs.declared.fault.Fault.{Fault}
+use Rattle.pw_interp_state.specs.Answers.{answered, changed, Changes}
+use Rattle.pw_interp_state.specs.Categories.{category_of}
+use Rattle.pw_interp_state.specs.Accesses.{fetched}
+use Rattle.pw_interp_state.specs.Operations.{converted_to}
+use Rattle.pw_interp_state.proofs.AccessLaws.{fetch_is}
+use Rattle.pw_interp_state.proofs.OperatorLaws.{convert_is}
 use Rattle.pw_interp_state.specs.Shown.{Shown}
 use Rattle.pw_interp_state.specs.Runs.{Runs, at_node, done_at, with_new}
 use Rattle.pw_interp_state.proofs.RunLaws.{answers_at, changes_at}

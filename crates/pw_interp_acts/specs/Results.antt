@@ -14,15 +14,15 @@ use Rattle.pw_cmean.specs.Acts.{Act, ◌>>=◌, give}
 use Rattle.pw_cmean.specs.Access.{load}
 use Rattle.pw_cmean.specs.Operators.{convert}
 use Rattle.pw_cmean.specs.Evaluation.{Env, site, update, step_result}
-use Rattle.pw_interp_operators.specs.declared.category.Category.{Category}
-use Rattle.pw_interp_operators.specs.declared.category.Category.TheVariants as C
-use Rattle.pw_interp_operators.specs.declared.fault.Fault.{Fault}
-use Rattle.pw_interp_operators.specs.declared.fault.Fault.TheVariants as F
-use Rattle.pw_interp_operators.specs.Accesses.{fetched}
+use Rattle.pw_interp_state.specs.declared.category.Category.{Category}
+use Rattle.pw_interp_state.specs.declared.category.Category.TheVariants as C
+use Rattle.pw_interp_state.specs.declared.fault.Fault.{Fault}
+use Rattle.pw_interp_state.specs.declared.fault.Fault.TheVariants as F
+use Rattle.pw_interp_state.specs.Accesses.{fetched}
 use Rattle.pw_interp_calls.specs.declared.ending.Ending.TheVariants as E
 use Rattle.pw_interp_calls.specs.declared.ending.Stop.{Stop}
 use Rattle.pw_interp_calls.specs.declared.ending.Stop.TheVariants as S
-use Rattle.pw_interp_operators.specs.Operations.{converted_to}
+use Rattle.pw_interp_state.specs.Operations.{converted_to}
 
 -- a result that is not to be missing
 abbrev pub present : Option Value → Result Value Fault

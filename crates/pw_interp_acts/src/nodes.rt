@@ -6,10 +6,10 @@ ghost use Rattle.pw_cmean.specs.Access as access;
 ghost use Rattle.pw_cmean.specs.Acts as acts;
 ghost use Rattle.pw_cmean.specs.Evaluation.{site, records_of};
 ghost use Rattle.pw_cmean.specs.Operators as operators;
-ghost use Rattle.pw_interp_operators.specs.Answers.{ending_of};
-ghost use Rattle.pw_interp_operators.specs.Categories.{view_purpose};
-ghost use Rattle.pw_interp_operators.specs.Elements as elements;
-ghost use Rattle.pw_interp_operators.specs.Moves.{bytes_by};
+ghost use Rattle.pw_interp_state.specs.Answers.{ending_of};
+ghost use Rattle.pw_interp_state.specs.Categories.{view_purpose};
+ghost use Rattle.pw_interp_state.specs.Elements as elements;
+ghost use Rattle.pw_interp_state.specs.Moves.{bytes_by};
 ghost use Rattle.pw_interp_state.specs.Runs.{at_node};
 ghost use Rattle.pw_interp_state.specs.Shown.{Shown, view_state};
 ghost use Rattle.pw_interp_calls.specs.Answers.{Answers};
@@ -18,8 +18,7 @@ ghost use Rattle.pw_interp_calls.specs.Views.{view_env};
 
 use pw_cmean::Undef;
 use pw_interp_calls::{Ending, Env, Stop};
-use pw_interp_operators::{Fault, Move, Purpose, categorise};
-use pw_interp_state::State;
+use pw_interp_state::{Fault, Move, Purpose, State, categorise};
 use pw_interp_world::{element_layout, put_value};
 use pw_types::{BinaryOperator, CType, UnaryOperator};
 use pw_value::Value;
@@ -59,7 +58,7 @@ pub fn truth<'a>(env: &Env<'a>, state: &State<'a>, token: usize, v: Value) -> Re
     ensures answers { Answers (λ x. x) (view_env env.now).world (operators.truth (site (view_env env.now) token) v) (view_state state.now) result (view_state state.now) }
     ensures no_memory { IfErr result (λ stop. stop ≢ Stop.NoMemory) }
 {
-    settle(env, token, pw_interp_operators::truth(&state.objects, v))
+    settle(env, token, pw_interp_state::truth(&state.objects, v))
 }
 
 /// A unary operator, whose result has the type.
@@ -74,7 +73,7 @@ pub fn unary<'a>(
     ensures answers { Answers (λ x. x) (view_env env.now).world (operators.unary (site (view_env env.now) token) op (view_type ty.now) v) (view_state state.now) result (view_state state.now) }
     ensures no_memory { IfErr result (λ stop. stop ≢ Stop.NoMemory) }
 {
-    let answer = pw_interp_operators::unary(&state.objects, op, categorise(ty), v);
+    let answer = pw_interp_state::unary(&state.objects, op, categorise(ty), v);
     settle(env, token, answer)
 }
 
@@ -95,7 +94,7 @@ pub fn binary<'a>(
     let (v, w) = values;
     let layout = element_layout(&env.home.tree.types, a, b)?;
     let objects = &state.objects;
-    let answer = pw_interp_operators::binary(
+    let answer = pw_interp_state::binary(
         objects,
         layout,
         op,
@@ -112,7 +111,7 @@ pub fn convert<'a>(env: &Env<'a>, token: usize, ty: &CType, v: Value) -> Result<
     ensures answers { (s : Shown) → Answers (λ x. x) (view_env env.now).world (operators.convert (site (view_env env.now) token) (view_type ty.now) v) s result s }
     ensures no_memory { IfErr result (λ stop. stop ≢ Stop.NoMemory) }
 {
-    settle(env, token, pw_interp_operators::convert(categorise(ty), v))
+    settle(env, token, pw_interp_state::convert(categorise(ty), v))
 }
 
 /// A pointer so many bytes on, as to the member of a structure.
@@ -126,7 +125,7 @@ pub fn advance<'a>(
     ensures answers { Answers (λ x. x) (view_env env.now).world (operators.advance (site (view_env env.now) token) p (pos offset)) (view_state state.now) result (view_state state.now) }
     ensures no_memory { IfErr result (λ stop. stop ≢ Stop.NoMemory) }
 {
-    let answer = pw_interp_operators::advance(&state.objects, p, Move::On(u64::from(offset)));
+    let answer = pw_interp_state::advance(&state.objects, p, Move::On(u64::from(offset)));
     settle(env, token, answer)
 }
 
@@ -141,7 +140,7 @@ pub fn load<'a>(
     ensures answers { Answers (λ x. x) (view_env env.now).world (access.load (site (view_env env.now) token) (view_type ty.now) place) (view_state state.now) result (view_state state.now) }
     ensures no_memory { IfErr result (λ stop. stop ≢ Stop.NoMemory) }
 {
-    let answer = pw_interp_operators::load(&state.objects, categorise(ty), place);
+    let answer = pw_interp_state::load(&state.objects, categorise(ty), place);
     settle(env, token, answer)
 }
 
@@ -156,7 +155,7 @@ pub fn fetch<'a>(
     ensures answers { Answers (λ x. x) (view_env env.now).world (access.fetch (site (view_env env.now) token) (view_type ty.now) place) (view_state state.now) result (view_state state.now) }
     ensures no_memory { IfErr result (λ stop. stop ≢ Stop.NoMemory) }
 {
-    let answer = pw_interp_operators::fetch(&state.objects, categorise(ty), place);
+    let answer = pw_interp_state::fetch(&state.objects, categorise(ty), place);
     settle(env, token, answer)
 }
 

@@ -12,9 +12,7 @@ ghost use Rattle.pw_interp_acts.specs.Results as spec;
 use crate::nodes::settle;
 use pw_cmean::Undef;
 use pw_interp_calls::{Env, Stop};
-use pw_interp_objects::Objects;
-use pw_interp_operators::{Category, Fault, categorise, convert, fetch};
-use pw_interp_state::State;
+use pw_interp_state::{Category, Fault, Objects, State, categorise, convert, fetch};
 use pw_types::{CType, QType};
 use pw_value::Value;
 

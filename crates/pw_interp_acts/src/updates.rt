@@ -10,8 +10,7 @@ ghost use Rattle.pw_interp_acts.specs.Results as spec;
 
 use crate::nodes::{binary, convert, load, put};
 use pw_interp_calls::{Env, Stop};
-use pw_interp_operators::Purpose;
-use pw_interp_state::State;
+use pw_interp_state::{Purpose, State};
 use pw_types::{BinaryOperator, CType, IntKind, StepOperator, promote, step_operator};
 use pw_value::Value;
 use std::alloc::Global;

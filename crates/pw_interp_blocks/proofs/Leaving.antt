@@ -6,7 +6,7 @@ use Rattle.pw_types.specs.TypeTrees.{type_of}
 use Rattle.pw_types.specs.TypedTrees.{LocalValue}
 use Rattle.pw_types.specs.declared.record.Layout.{Layout}
 use Rattle.pw_types.specs.Layouts.{layout_of}
-use Rattle.pw_interp_objects.specs.Views.{fresh}
+use Rattle.pw_interp_state.specs.Views.{fresh}
 use Rattle.pw_cmean.specs.Worlds.{World}
 use Rattle.pw_cmean.specs.Acts.{Act}
 use Rattle.pw_cmean.specs.Evaluation.{Env, records_of}

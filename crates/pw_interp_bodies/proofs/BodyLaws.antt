@@ -9,7 +9,7 @@ use Rattle.pw_types.specs.TypeTrees.{type_of}
 use Rattle.pw_types.specs.TypedTrees.{FunctionValue, LocalValue}
 use Rattle.pw_types.specs.declared.record.Layout.{Layout}
 use Rattle.pw_types.specs.Layouts.{layout_of}
-use Rattle.pw_interp_objects.specs.Views.{fresh}
+use Rattle.pw_interp_state.specs.Views.{fresh}
 use Rattle.pw_cmean.specs.Worlds.{World, ProgramModule, Callable, callable, full_name}
 use Rattle.pw_cmean.specs.Acts.{Act, Site, StackFull, give, wrong, during, ◌>>=◌, ◌>>◌}
 use Rattle.pw_cmean.specs.Evaluation.{Env, Calls, bounded_call, take_room, records_of}

@@ -7,9 +7,8 @@ ghost use Rattle.pw_interp_calls.specs.Frames.{frame_in, frame_among};
 ghost use Rattle.pw_interp_calls.specs.Functions.{callable_of, defined_in};
 ghost use Rattle.pw_interp_calls.specs.WorldViews.{view_world};
 
-use pw_check_index::NameList;
-use pw_interp_names::World as Names;
-use pw_interp_world::{Body, LibraryFunction, Part};
+use pw_check_names::NameList;
+use pw_interp_world::{Body, LibraryFunction, Part, World as Names};
 use pw_typed::TFunction;
 use pw_value::{Name, Pointer};
 use std::alloc::{AllocError, Global};

@@ -5,7 +5,7 @@ ghost use Rattle.pw_interp_calls.specs.Views.{view_env};
 ghost use Rattle.pw_interp_lists.specs.Places as spec;
 
 use pw_interp_calls::{Env, Stop};
-use pw_interp_objects::Objects;
+use pw_interp_state::Objects;
 use pw_interp_world::exact_layout;
 use std::alloc::{AllocError, Global};
 

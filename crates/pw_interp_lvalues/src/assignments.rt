@@ -11,8 +11,7 @@ ghost use Rattle.pw_interp_forms.specs.Behind.{Behind, answer_act, place_act, pl
 use pw_interp_acts::{assigned, old_value, put, update};
 use pw_interp_calls::{Env, Expressions, Stop};
 use pw_interp_forms::operands::operand;
-use pw_interp_operators::Purpose;
-use pw_interp_state::State;
+use pw_interp_state::{Purpose, State};
 use pw_typed::TExpr;
 use pw_types::{BinaryOperator, CType, QType, StepOperator};
 use pw_value::Value;

@@ -3,12 +3,12 @@ use Rattle.std.proofs.Common.{ℕ, ◌+◌, ◌≡◌, refl, sym, ap, subst, ◌
 use Rattle.std.specs.Prelude.{nat_lt}
 use Rattle.pw_value.specs.declared.value.Byte.{Byte}
 use Rattle.pw_value.specs.Objects.{Object, ended, written, with_object as with_new_object}
-use Rattle.pw_interp_objects.specs.Views.{fresh}
+use Rattle.pw_interp_state.specs.Views.{fresh}
 use Rattle.pw_cmean.specs.Worlds.{World, depth}
 use Rattle.pw_cmean.specs.Acts.{Act, State, Ending, StackFull, Outcome, Gives, Ends, Site, give, stop, go_on, ◌>>=◌, branch, look, make, end_object, write, next_byte, get_char, put_char, called, returned, during, with_object}
 use Rattle.pw_cmean.specs.Evaluation.{take_room}
-use Rattle.pw_interp_operators.specs.declared.fault.Fault.{Fault}
-use Rattle.pw_interp_operators.specs.Answers.{answered, changed}
+use Rattle.pw_interp_state.specs.declared.fault.Fault.{Fault}
+use Rattle.pw_interp_state.specs.Answers.{answered, changed}
 use Rattle.pw_interp_state.specs.Shown.{Shown, shown, byte_read, behind_read}
 use Rattle.pw_interp_state.specs.Runs.{Shows, Runs, at_node, done_at, with_new, behind_call, behind_block}
 

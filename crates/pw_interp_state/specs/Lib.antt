@@ -1,2 +1,9 @@
+pub mod Views
+pub mod Categories
+pub mod Answers
+pub mod Moves
+pub mod Accesses
+pub mod Operations
+pub mod Elements
 pub mod Shown
 pub mod Runs

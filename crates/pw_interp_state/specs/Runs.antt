@@ -3,8 +3,8 @@ use Rattle.std.specs.Prelude.{ℕ, ◌≡◌, Result, Ok, Err, List}
 use Rattle.pw_value.specs.Objects.{Object, ended}
 use Rattle.pw_cmean.specs.Worlds.{World}
 use Rattle.pw_cmean.specs.Acts.{Act, State, Ending, Outcome, Gives, Ends, Site}
-use Rattle.pw_interp_operators.specs.declared.fault.Fault.{Fault}
-use Rattle.pw_interp_operators.specs.Answers.{ending_of}
+use Rattle.pw_interp_state.specs.declared.fault.Fault.{Fault}
+use Rattle.pw_interp_state.specs.Answers.{ending_of}
 use Rattle.pw_interp_state.specs.Shown.{Shown, shown}
 
 -- an outcome gives the value, or ends so, and its state shows this

@@ -3,7 +3,7 @@
 ghost use Rattle.std.specs.Prelude.{◌≡◌, ◌+◌, ◌++◌, ◌∷◌, [], not, nat_lt, OnOk};
 ghost use Rattle.pw_interp_state.specs.Shown.{view_state, byte_read, behind_read};
 
-use pw_interp_objects::Objects;
+use crate::objects::Objects;
 use pw_value::words::END_OF_INPUT;
 use std::alloc::AllocError;
 

@@ -8,8 +8,7 @@ ghost use Rattle.pw_interp_calls.specs.Views.{view_env};
 
 use pw_interp_acts::{local_place, put};
 use pw_interp_calls::{Ending, Env, Stop};
-use pw_interp_operators::Purpose;
-use pw_interp_state::State;
+use pw_interp_state::{Purpose, State};
 use pw_value::Value;
 use std::alloc::Global;
 

@@ -1,3 +1,4 @@
 pub mod Views
 pub mod Names
 pub mod Told
+pub mod Lookups

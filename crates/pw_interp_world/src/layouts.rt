@@ -3,14 +3,13 @@
 ghost use Rattle.std.specs.Prelude.{IfOk};
 ghost use Rattle.pw_types.specs.Layouts.{layout_of};
 ghost use Rattle.pw_types.specs.Views.{view_type};
-ghost use Rattle.pw_interp_operators.specs.Answers.{Changes};
-ghost use Rattle.pw_interp_operators.specs.Accesses.{value_put};
-ghost use Rattle.pw_interp_operators.specs.Categories.{category_of, view_purpose};
-ghost use Rattle.pw_interp_operators.specs.Elements as elements;
+ghost use Rattle.pw_interp_state.specs.Answers.{Changes};
+ghost use Rattle.pw_interp_state.specs.Accesses.{value_put};
+ghost use Rattle.pw_interp_state.specs.Categories.{category_of, view_purpose};
+ghost use Rattle.pw_interp_state.specs.Elements as elements;
 ghost use Rattle.pw_interp_world.specs.Told.{TellsLayout};
 
-use pw_interp_objects::Objects;
-use pw_interp_operators::{Fault, Purpose, categorise, put};
+use pw_interp_state::{Fault, Objects, Purpose, categorise, put};
 use pw_types::{CType, Layout, Types, layout};
 use pw_value::Value;
 use std::alloc::{AllocError, Global};

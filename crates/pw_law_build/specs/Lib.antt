@@ -1,2 +1,4 @@
+pub mod Alike
 pub mod Whole
 pub mod Kept
+pub mod Complete

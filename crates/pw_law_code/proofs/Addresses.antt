@@ -28,12 +28,12 @@ use Rattle.pw_link.specs.Layout as link
 use Rattle.pw_link.specs.Linking.{function_of, global_of, size_fault, linked}
 use Rattle.pw_law_link.proofs.Ordered.{modules_stay}
 use Rattle.pw_law_link.proofs.Lawful.{Sized, sized}
-use Rattle.pw_run_flow.specs.Programs.{Program, functions_of, globals_of, names_of}
-use Rattle.pw_run_webs.specs.Programs.{IsProgram}
-use Rattle.pw_run_webs.specs.Direction.{directed_by, directed_functions}
-use Rattle.pw_run_webs.specs.Serving.{AllServe}
-use Rattle.pw_run_lines.specs.Addresses.{AreLawful}
-use Rattle.pw_run_machine.specs.Laws.{compiled, AreObjectsOf, AreNamesApart, address_of}
+use Rattle.pw_run_languages.specs.Programs.{Program, functions_of, globals_of, names_of}
+use Rattle.pw_run_languages.specs.LawfulPrograms.{IsProgram}
+use Rattle.pw_run_languages.specs.Direction.{directed_by, directed_functions}
+use Rattle.pw_run_languages.specs.Serving.{AllServe}
+use Rattle.pw_run_languages.specs.Addresses.{AreLawful}
+use Rattle.pw_run_languages.specs.LinkingLaws.{compiled, AreObjectsOf, AreNamesApart, address_of}
 use Rattle.pw_law_code.specs.LinkedAddresses.{linked_addresses}
 use Rattle.pw_law_code.proofs.NamedAddresses.{piece_names, function_found, any_named, one_function, behind_functions, global_names, offset_of, global_found, Stands, global_stands, globals_apart, name_there, others_before}
 

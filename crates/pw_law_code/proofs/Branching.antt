@@ -12,7 +12,7 @@ use Rattle.pw_inst.specs.Setting.{with_branch}
 use Rattle.pw_inst.proofs.SettingLaws.{branch_encoding}
 use Rattle.pw_inst.proofs.Words.{decoded-word_of}
 use Rattle.pw_link.specs.Linking.{branch_distance, settled}
-use Rattle.pw_run_lines.specs.Words.{Leads}
+use Rattle.pw_run_languages.specs.Words.{Leads}
 
 -- the address behind the greatest text
 abbrev pub text_end : ℕ

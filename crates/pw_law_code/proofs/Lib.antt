@@ -7,3 +7,7 @@ pub mod SelectedLines
 pub mod ServedLines
 pub mod NamedAddresses
 pub mod Addresses
+pub mod StoreLaws
+pub mod StepLaws
+pub mod RunLaws
+pub mod Starts

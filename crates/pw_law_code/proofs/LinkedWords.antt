@@ -11,8 +11,8 @@ use Rattle.pw_delay.specs.declared.items.Relocation.{Relocation}
 use Rattle.pw_delay.specs.Placement.{fix_at, fixes_from}
 use Rattle.pw_link.specs.Layout.{Sites}
 use Rattle.pw_link.specs.Linking.{word_address, symbol_address, settled, with_fix, with_fixes}
-use Rattle.pw_run_lines.specs.Words.{Text}
-use Rattle.pw_run_machine.specs.CodeStands.{IsKnown}
+use Rattle.pw_run_languages.specs.Words.{Text}
+use Rattle.pw_run_languages.specs.CodeStands.{IsKnown}
 
 -- the word of a number in a function at an address, with its relocation done
 abbrev pub relocated : Sites → ℕ → ℕ → ℕ → Option Relocation → ℕ

@@ -28,10 +28,10 @@ use Rattle.pw_delay.proofs.Sizes.{item_length}
 use Rattle.pw_delay.proofs.MarkLaws.{mark_at_within}
 use Rattle.pw_link.specs.Layout.{Sites}
 use Rattle.pw_link.specs.Linking.{word_address, symbol_address, settled}
-use Rattle.pw_run_lines.specs.Acts as lines
-use Rattle.pw_run_lines.specs.LineRun.{turns, IsCalling}
-use Rattle.pw_run_lines.specs.Words.{Text, JumpsTo, TestsShort, Tests, CallsSymbol, SlotStands, TurnStands, StandsAt}
-use Rattle.pw_run_machine.specs.CodeStands.{IsOfProgram, AreApart, AreReady, is_long, Reaches, IsKnown, StandAt, PlacedCodeStands}
+use Rattle.pw_run_languages.specs.Acts as lines
+use Rattle.pw_run_languages.specs.LineRun.{turns, IsCalling}
+use Rattle.pw_run_languages.specs.Words.{Text, JumpsTo, TestsShort, Tests, CallsSymbol, SlotStands, TurnStands, StandsAt}
+use Rattle.pw_run_languages.specs.CodeStands.{IsOfProgram, AreApart, AreReady, is_long, Reaches, IsKnown, StandAt, PlacedCodeStands}
 use Rattle.pw_law_code.proofs.Branching.{hop, lands, text_end}
 use Rattle.pw_law_code.proofs.Taking.{taken}
 use Rattle.pw_law_code.proofs.LinkedWords.{fixes_act, WordHolds, WordsHold, hold_from, hold_split}

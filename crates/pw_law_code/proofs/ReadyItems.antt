@@ -13,8 +13,8 @@ use Rattle.pw_delay.specs.declared.items.Turn.TheVariants.{Back, Goto, If, CallT
 use Rattle.pw_delay.specs.declared.items.Item.{Item}
 use Rattle.pw_delay.specs.declared.items.Item.TheVariants.{Plain, Turns, Mark}
 use Rattle.pw_delay.specs.Items.{begins_next, plain_item, item_of, before, slotted}
-use Rattle.pw_run_lines.specs.Acts.{with_address}
-use Rattle.pw_run_machine.specs.CodeStands.{IsOfProgram, IsReady, labels}
+use Rattle.pw_run_languages.specs.Acts.{with_address}
+use Rattle.pw_run_languages.specs.CodeStands.{IsOfProgram, IsReady, labels}
 
 -- a word takes the address that is to go into it
 abbrev pub IsReadyBy : Inst → Option Relocation → Type 0

@@ -17,13 +17,13 @@ use Rattle.pw_alloc.specs.declared.located.Located.{Located}
 use Rattle.pw_alloc.specs.Allocation.{slots_from, in_frame}
 use Rattle.pw_alloc.specs.Frames.{below, head_size, slots_begin, last_reach, reaches_from}
 use Rattle.pw_alloc.proofs.FrameLaws.{frame_fits}
-use Rattle.pw_select_registers.proofs.Placeable.{Fits, below_fits, PlaceGood}
-use Rattle.pw_select_ops.specs.Operations.{Layout, layout}
+use Rattle.pw_select_lines.proofs.Placeable.{Fits, below_fits, PlaceGood}
+use Rattle.pw_select_lines.specs.Operations.{Layout, layout}
 use Rattle.pw_select.specs.Selection.{slot_offsets}
 use Rattle.pw_select.proofs.PlaceableFn.{Good, LayoutGood, all_below_fit, selected_good}
 use Rattle.pw_alloc.proofs.SavedLaws.{few_between}
-use Rattle.pw_run_webs.specs.Serving.{slots_alone, Changes, places, enters, Serves}
-use Rattle.pw_run_machine.specs.CodeStands.{AreReady, SelectionIsReady}
+use Rattle.pw_run_languages.specs.Serving.{slots_alone, Changes, places, enters, Serves}
+use Rattle.pw_run_languages.specs.CodeStands.{AreReady, SelectionIsReady}
 use Rattle.pw_law_code.proofs.SelectedLines.{ready_by}
 
 -- ---- saved registers

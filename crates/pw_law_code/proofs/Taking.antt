@@ -12,7 +12,7 @@ use Rattle.pw_inst.specs.Setting.{left_part, right_part}
 use Rattle.pw_inst.proofs.SettingLaws.{long_encoding, displacement_encoding}
 use Rattle.pw_inst.proofs.Words.{decoded-word_of}
 use Rattle.pw_link.specs.Linking.{settled}
-use Rattle.pw_run_lines.specs.Acts.{with_address}
+use Rattle.pw_run_languages.specs.Acts.{with_address}
 
 right_fits : (a : ℕ) → IsSigned 14 (pos (right_part a))
 right_fits a = (omega (arith, ints), omega (arith, ints))

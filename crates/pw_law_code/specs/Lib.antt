@@ -1,1 +1,2 @@
 pub mod LinkedAddresses
+pub mod Lawful

@@ -4,8 +4,8 @@ use Rattle.pw_value.specs.Rounding.{stack_start}
 use Rattle.pw_object.specs.declared.object.Object.{Object}
 use Rattle.pw_link.specs.Layout.{text_of, routine_addresses, data_begin, data_size, stack_end}
 use Rattle.pw_link.specs.Linking.{linked}
-use Rattle.pw_run_lines.specs.Addresses.{Addresses}
-use Rattle.pw_run_machine.specs.Laws.{address_of}
+use Rattle.pw_run_languages.specs.Addresses.{Addresses}
+use Rattle.pw_run_languages.specs.LinkingLaws.{address_of}
 
 -- those of linked objects with a stack of so many bytes; the return addresses are given
 abbrev pub linked_addresses : List Object → ℕ → (List ℕ → ℕ → ℕ) → Addresses

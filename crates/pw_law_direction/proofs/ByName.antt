@@ -19,18 +19,18 @@ use Rattle.pw_flow.specs.ValidFlow.{kind_size}
 use Rattle.pw_webflow.specs.Direction.{register_of, read_of}
 use Rattle.pw_db_sound.specs.CallGraphs.{Graph, Reads}
 use Rattle.pw_db_sound.specs.Sound.{In, Needs, refers, Sound}
-use Rattle.pw_run_trace.specs.Traces.{Loaded}
-use Rattle.pw_run_flow.specs.Programs.{Program, functions_of, global_number}
-use Rattle.pw_run_flow.specs.Memory.{scalar_of, look_in}
-use Rattle.pw_run_flow.specs.FlowRun as flow
-use Rattle.pw_run_flow.specs.FlowRun.{is_own_kind, get_global}
-use Rattle.pw_run_flow.specs.Commands.{command}
-use Rattle.pw_run_webs.specs.Programs.{graph_of, node_of, read_by, ops_of, eligible_of, eligible_names}
-use Rattle.pw_run_webs.specs.PlacedRun as web
-use Rattle.pw_run_webs.specs.PlacedRun.{is_eligible}
+use Rattle.pw_run_languages.specs.Traces.{Loaded}
+use Rattle.pw_run_languages.specs.Programs.{Program, functions_of, global_number}
+use Rattle.pw_run_languages.specs.Memory.{scalar_of, look_in}
+use Rattle.pw_run_languages.specs.FlowRun as flow
+use Rattle.pw_run_languages.specs.FlowRun.{is_own_kind, get_global}
+use Rattle.pw_run_languages.specs.Commands.{command}
+use Rattle.pw_run_languages.specs.LawfulPrograms.{graph_of, node_of, read_by, ops_of, eligible_of, eligible_names}
+use Rattle.pw_run_languages.specs.PlacedRun as web
+use Rattle.pw_run_languages.specs.PlacedRun.{is_eligible}
 use Rattle.pw_law_direction.specs.Pairs.{Active, Pair, flow_side, web_side, webs_of, under}
 use Rattle.pw_law_direction.specs.Alike.{IsPlain, FineValue, AreTameBytes, Linked, names_active, IsWritten, IsAlike, Follows}
-use Rattle.pw_law_direction.specs.Laws.{StepsFollow, LoadsFollow}
+use Rattle.pw_law_direction.specs.SideBySide.{StepsFollow, LoadsFollow}
 use Rattle.pw_law_direction.proofs.Elements.{first-there, later-there, the-first, map-there, map-back, flat-there}
 use Rattle.pw_law_direction.proofs.Names.{name-eligible, one-number, has-there}
 use Rattle.pw_law_direction.proofs.Memory.{look-in-tame}

@@ -17,9 +17,9 @@ use Rattle.pw_value.specs.Values.{encoding, extended, pieces_of, same_pointer}
 use Rattle.pw_flow.specs.declared.flow.Item.{Item}
 use Rattle.pw_flow.specs.declared.flow.Item.TheVariants.{Bytes, Address}
 use Rattle.pw_flow.specs.ValidFlow.{kind_size, item_size, AreItems}
-use Rattle.pw_run_flow.specs.Programs.{Program, pointer_to, item_bytes, with_items}
-use Rattle.pw_run_flow.specs.Memory.{scalar_of, is_of_kind, may_stand, same_value, word_or_pointer}
-use Rattle.pw_run_webs.specs.Programs.{IsItem}
+use Rattle.pw_run_languages.specs.Programs.{Program, pointer_to, item_bytes, with_items}
+use Rattle.pw_run_languages.specs.Memory.{scalar_of, is_of_kind, may_stand, same_value, word_or_pointer}
+use Rattle.pw_run_languages.specs.LawfulPrograms.{IsItem}
 use Rattle.pw_law_direction.proofs.Registers.{itself}
 use Rattle.pw_law_direction.proofs.WebWrites.{with-all}
 

@@ -7,10 +7,10 @@ use Rattle.pw_db.specs.declared.database.Directives.{Directives}
 use Rattle.pw_flow.specs.declared.flow.FlowFn.{FlowFn}
 use Rattle.pw_webflow.specs.Direction.{directed, directed_block}
 use Rattle.pw_alloc.specs.declared.located.Located.{Located}
-use Rattle.pw_run_flow.specs.Programs.{functions_of}
-use Rattle.pw_run_webs.specs.Direction.{directed_by, unplaced}
+use Rattle.pw_run_languages.specs.Programs.{functions_of}
+use Rattle.pw_run_languages.specs.Direction.{directed_by, unplaced}
 use Rattle.pw_law_direction.specs.Pairs.{webs_of}
-use Rattle.pw_law_direction.specs.Laws.{SameFunctions}
+use Rattle.pw_law_direction.specs.SideBySide.{SameFunctions}
 
 found-by : {X Y : Type 0} (h : X → Y) (b : Bool) (f : X) (x : Option Y) (y : Option X) → x ≡ option_map h y → cond b (Some (h f)) x ≡ option_map h (cond b (Some f) y)
 found-by h true f x y e = refl

@@ -29,21 +29,21 @@ use Rattle.pw_alloc.specs.Allocation.{saved_of}
 use Rattle.pw_db_sound.specs.CallGraphs.{Calls}
 use Rattle.pw_db_sound.specs.Sound.{Has, Sound}
 use Rattle.pw_run.specs.Runs as run
-use Rattle.pw_run_trace.specs.Traces.{Event, Called, Refused, is_of_source, calls_alone}
-use Rattle.pw_run_flow.specs.Programs.{Program, Library, library_at, functions_of, block_at, global_number}
-use Rattle.pw_run_flow.specs.Programs as programs
-use Rattle.pw_run_flow.specs.Memory.{scalar_of}
-use Rattle.pw_run_flow.specs.Commands as command
-use Rattle.pw_run_flow.specs.FlowRun as flow
-use Rattle.pw_run_flow.specs.FlowRun.{get_global, with_slots, start_temps}
-use Rattle.pw_run_webs.specs.Programs.{IsProgram, graph_of, eligible_of}
-use Rattle.pw_run_webs.specs.PlacedRun as web
-use Rattle.pw_run_webs.specs.PlacedRun.{held}
-use Rattle.pw_run_webs.specs.Direction.{MomentAlike, directed_by, unplaced}
-use Rattle.pw_law_directed.specs.Laws.{StartIsNotCalled}
+use Rattle.pw_run_languages.specs.Traces.{Event, Called, Refused, is_of_source, calls_alone}
+use Rattle.pw_run_languages.specs.Programs.{Program, Library, library_at, functions_of, block_at, global_number}
+use Rattle.pw_run_languages.specs.Programs as programs
+use Rattle.pw_run_languages.specs.Memory.{scalar_of}
+use Rattle.pw_run_languages.specs.Commands as command
+use Rattle.pw_run_languages.specs.FlowRun as flow
+use Rattle.pw_run_languages.specs.FlowRun.{get_global, with_slots, start_temps}
+use Rattle.pw_run_languages.specs.LawfulPrograms.{IsProgram, graph_of, eligible_of}
+use Rattle.pw_run_languages.specs.PlacedRun as web
+use Rattle.pw_run_languages.specs.PlacedRun.{held}
+use Rattle.pw_run_languages.specs.Direction.{MomentAlike, directed_by, unplaced}
+use Rattle.pw_law_direction.specs.DirectedLaws.{StartIsNotCalled}
 use Rattle.pw_law_direction.specs.Pairs.{Active, Pair, active_of, flow_side, web_side, webs_of, web_frames, under}
 use Rattle.pw_law_direction.specs.Alike.{FineValue, Linked, Saves, names_active, GlobalStands, ObjectsAlike, IsAlike, Follows}
-use Rattle.pw_law_direction.specs.Laws.{StepsFollow, AfterSaving, IsCall, CallsFollow}
+use Rattle.pw_law_direction.specs.SideBySide.{StepsFollow, AfterSaving, IsCall, CallsFollow}
 use Rattle.pw_law_direction.proofs.Elements.{nowhere, later-there, first-there, at-there, flat-there}
 use Rattle.pw_law_direction.proofs.Names.{IsEligible, is-eligible}
 use Rattle.pw_law_direction.proofs.Globals.{kind-of, number-of-eligible, found-there}

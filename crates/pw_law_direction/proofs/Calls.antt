@@ -13,10 +13,10 @@ use Rattle.pw_db.specs.Database.{IsDatabase}
 use Rattle.pw_webflow.specs.Direction.{register_of, directed}
 use Rattle.pw_db_sound.specs.CallGraphs.{Graph, Calls, Path, call, on}
 use Rattle.pw_db_sound.specs.Sound.{Has, In, keeps, Sound}
-use Rattle.pw_run_webs.specs.PlacedRun.{with_register, with_registers, held}
+use Rattle.pw_run_languages.specs.PlacedRun.{with_register, with_registers, held}
 use Rattle.pw_law_direction.specs.Pairs.{Active, webs_of, web_frames}
 use Rattle.pw_law_direction.specs.Alike.{Linked, Saves, names_active}
-use Rattle.pw_law_direction.specs.Laws.{StandsAtCalls, StandsAtReturns, EntriesAreAlone, AfterSaving}
+use Rattle.pw_law_direction.specs.SideBySide.{StandsAtCalls, StandsAtReturns, EntriesAreAlone, AfterSaving}
 use Rattle.pw_law_direction.proofs.Elements.{nowhere, first-there, later-there, the-first}
 use Rattle.pw_law_direction.proofs.Registers.{Agree, if-same, if-other, names-saved, held-agree, member-not-saved, kept-in}
 use Rattle.pw_law_direction.proofs.Webs.{one-web, register-in}

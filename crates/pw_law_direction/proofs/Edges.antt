@@ -13,13 +13,13 @@ use Rattle.pw_flow.specs.declared.flow.Op.TheVariants as op
 use Rattle.pw_flow.specs.declared.flow.FlowFn.{FlowFn}
 use Rattle.pw_flow.specs.ValidFlow.{AreDistinct}
 use Rattle.pw_db_sound.specs.CallGraphs.{Calls}
-use Rattle.pw_run_trace.specs.Traces.{is_of_source}
-use Rattle.pw_run_flow.specs.Programs.{Program, functions_of, globals_of, names_of, function_number, function_at, shape_of}
-use Rattle.pw_run_flow.specs.Commands as command
-use Rattle.pw_run_webs.specs.Programs.{IsProgram, ops_of, taken_names, has_name, has_shape, called, node_of, graph_of}
-use Rattle.pw_law_directed.specs.Values.{IsTaken}
+use Rattle.pw_run_languages.specs.Traces.{is_of_source}
+use Rattle.pw_run_languages.specs.Programs.{Program, functions_of, globals_of, names_of, function_number, function_at, shape_of}
+use Rattle.pw_run_languages.specs.Commands as command
+use Rattle.pw_run_languages.specs.LawfulPrograms.{IsProgram, ops_of, taken_names, has_name, has_shape, called, node_of, graph_of}
+use Rattle.pw_law_direction.specs.Values.{IsTaken}
 use Rattle.pw_law_direction.specs.Alike.{FineValue}
-use Rattle.pw_law_direction.specs.Laws.{IsCall}
+use Rattle.pw_law_direction.specs.SideBySide.{IsCall}
 use Rattle.pw_law_direction.proofs.Elements.{first-there, map-there, flat-there}
 use Rattle.pw_law_direction.proofs.Globals.{all-hold, found-there}
 use Rattle.pw_law_direction.proofs.WebWrites.{filter-there}

@@ -25,13 +25,13 @@ use Rattle.pw_flow.specs.ValidFlow.{kind_size}
 use Rattle.pw_alloc.specs.Allocation.{is_entry}
 use Rattle.pw_db_sound.specs.CallGraphs.{Graph}
 use Rattle.pw_db_sound.specs.Sound.{Has, Sound}
-use Rattle.pw_run_trace.specs.Traces.{Event, Loaded, calls_alone}
-use Rattle.pw_run_flow.specs.Programs.{Program, globals_of, names_of, global_named, global_number}
-use Rattle.pw_run_flow.specs.Memory.{scalar_of}
-use Rattle.pw_run_flow.specs.FlowRun.{is_own_kind, get_global}
-use Rattle.pw_run_webs.specs.Programs.{IsProgram}
-use Rattle.pw_run_webs.specs.PlacedRun as web
-use Rattle.pw_run_webs.specs.PlacedRun.{with_register, is_eligible}
+use Rattle.pw_run_languages.specs.Traces.{Event, Loaded, calls_alone}
+use Rattle.pw_run_languages.specs.Programs.{Program, globals_of, names_of, global_named, global_number}
+use Rattle.pw_run_languages.specs.Memory.{scalar_of}
+use Rattle.pw_run_languages.specs.FlowRun.{is_own_kind, get_global}
+use Rattle.pw_run_languages.specs.LawfulPrograms.{IsProgram}
+use Rattle.pw_run_languages.specs.PlacedRun as web
+use Rattle.pw_run_languages.specs.PlacedRun.{with_register, is_eligible}
 use Rattle.pw_law_direction.specs.Pairs.{webs_of, under}
 use Rattle.pw_law_direction.proofs.Elements.{nowhere, first-there, later-there, the-first, flat-there, flat-back}
 use Rattle.pw_law_direction.proofs.Names.{IsEligible, named}

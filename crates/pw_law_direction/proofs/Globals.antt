@@ -15,10 +15,10 @@ use Rattle.pw_value.specs.declared.value.Byte.{Byte}
 use Rattle.pw_value.specs.Objects.{Object, object_at, byte_at, bytes_from}
 use Rattle.pw_flow.specs.declared.flow.FlowGlobal.{FlowGlobal}
 use Rattle.pw_flow.specs.ValidFlow.{AreDistinct, kind_size}
-use Rattle.pw_run_flow.specs.Programs.{Program, globals_of, names_of, global_named, global_number}
-use Rattle.pw_run_flow.specs.Memory.{scalar_of, is_open, look_in}
-use Rattle.pw_run_flow.specs.FlowRun.{is_own_kind, get_global}
-use Rattle.pw_run_webs.specs.Programs.{IsProgram}
+use Rattle.pw_run_languages.specs.Programs.{Program, globals_of, names_of, global_named, global_number}
+use Rattle.pw_run_languages.specs.Memory.{scalar_of, is_open, look_in}
+use Rattle.pw_run_languages.specs.FlowRun.{is_own_kind, get_global}
+use Rattle.pw_run_languages.specs.LawfulPrograms.{IsProgram}
 use Rattle.pw_law_direction.proofs.Elements.{nowhere, first-there, later-there, the-first, map-there}
 use Rattle.pw_law_direction.proofs.Names.{IsEligible, has-number}
 

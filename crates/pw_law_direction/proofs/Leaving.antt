@@ -13,13 +13,13 @@ use Rattle.pw_value.specs.Values.{encoding}
 use Rattle.pw_db.specs.declared.database.Web.{Web}
 use Rattle.pw_db.specs.declared.database.Directives.{Directives}
 use Rattle.pw_flow.specs.ValidFlow.{kind_size}
-use Rattle.pw_run_trace.specs.Traces.{Event, Stored, calls_alone}
-use Rattle.pw_run_flow.specs.Programs.{Program, global_number}
-use Rattle.pw_run_flow.specs.Memory.{scalar_of, is_of_kind, may_stand, same_value}
-use Rattle.pw_run_flow.specs.FlowRun.{put_global, end_from}
-use Rattle.pw_run_webs.specs.Programs.{IsProgram, eligible_of}
-use Rattle.pw_run_webs.specs.PlacedRun as web
-use Rattle.pw_run_webs.specs.PlacedRun.{held, is_eligible}
+use Rattle.pw_run_languages.specs.Traces.{Event, Stored, calls_alone}
+use Rattle.pw_run_languages.specs.Programs.{Program, global_number}
+use Rattle.pw_run_languages.specs.Memory.{scalar_of, is_of_kind, may_stand, same_value}
+use Rattle.pw_run_languages.specs.FlowRun.{put_global, end_from}
+use Rattle.pw_run_languages.specs.LawfulPrograms.{IsProgram, eligible_of}
+use Rattle.pw_run_languages.specs.PlacedRun as web
+use Rattle.pw_run_languages.specs.PlacedRun.{held, is_eligible}
 use Rattle.pw_law_direction.specs.Pairs.{Active, web_frames, under}
 use Rattle.pw_law_direction.specs.Alike.{IsPlain, AreTameBytes, names_active, IsWritten, GlobalStands, ObjectsAlike}
 use Rattle.pw_law_direction.proofs.Elements.{first-there, later-there, the-first}

@@ -1,3 +1,18 @@
+mod Lists
+mod Values
+mod Numbers
+mod Objects
+mod Starts
+mod Trails
+mod Commands
+mod Running
+mod Following
+pub mod Directives
+mod Traffic
+pub mod Banks
+mod Likeness
+mod Stepping
+mod Webless
 mod Elements
 mod Names
 mod Tame
@@ -25,3 +40,6 @@ mod Leaving
 mod Returning
 mod Starting
 mod Refining
+pub mod FirstForm
+mod Words
+mod Keeping

@@ -18,15 +18,15 @@ use Rattle.pw_flow.specs.declared.flow.FlowFn.{FlowFn}
 use Rattle.pw_webflow.specs.Direction.{register_of, directed}
 use Rattle.pw_alloc.specs.declared.located.Located.{Located}
 use Rattle.pw_run.specs.Runs as run
-use Rattle.pw_run_trace.specs.Traces.{Event, Called, Returned, Refused}
-use Rattle.pw_run_flow.specs.Programs.{Program, Library, GetChar, PutChar, Exit, library_at}
-use Rattle.pw_run_flow.specs.Programs as programs
-use Rattle.pw_run_flow.specs.FlowRun as flow
-use Rattle.pw_run_webs.specs.PlacedRun as web
-use Rattle.pw_run_webs.specs.PlacedRun.{with_register, with_registers, held, without_scratch}
+use Rattle.pw_run_languages.specs.Traces.{Event, Called, Returned, Refused}
+use Rattle.pw_run_languages.specs.Programs.{Program, Library, GetChar, PutChar, Exit, library_at}
+use Rattle.pw_run_languages.specs.Programs as programs
+use Rattle.pw_run_languages.specs.FlowRun as flow
+use Rattle.pw_run_languages.specs.PlacedRun as web
+use Rattle.pw_run_languages.specs.PlacedRun.{with_register, with_registers, held, without_scratch}
 use Rattle.pw_law_direction.specs.Pairs.{Active, Pair, active_of, flow_frame, flow_side, web_side, web_frame, web_frames, webs_of, under}
 use Rattle.pw_law_direction.specs.Alike.{names_active, GlobalStands, IsAlike, Follows}
-use Rattle.pw_law_direction.specs.Laws.{LibraryFollows}
+use Rattle.pw_law_direction.specs.SideBySide.{LibraryFollows}
 use Rattle.pw_law_direction.proofs.Registers.{kept-in}
 use Rattle.pw_law_direction.proofs.Webs.{is-web}
 use Rattle.pw_law_direction.proofs.Steps.{with-value, value-alike}

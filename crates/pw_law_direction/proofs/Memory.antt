@@ -15,11 +15,11 @@ use Rattle.pw_db.specs.declared.database.Directives.{Directives}
 use Rattle.pw_flow.specs.declared.flow.BinKind.{BinKind}
 use Rattle.pw_flow.specs.declared.flow.BinKind.TheVariants.{Eq, Ne, LtU, LeU}
 use Rattle.pw_flow.specs.ValidFlow.{kind_size}
-use Rattle.pw_run_flow.specs.Programs.{Program, global_number}
-use Rattle.pw_run_flow.specs.Values.{truth, same_place, is_near, is_somewhere, on_pointers, pointer_and_number, number_and_pointer, binary}
-use Rattle.pw_run_flow.specs.Memory.{scalar_of, is_open, look_in, look}
-use Rattle.pw_run_webs.specs.Programs.{eligible_of, eligible_names}
-use Rattle.pw_run_webs.specs.PlacedRun.{held}
+use Rattle.pw_run_languages.specs.Programs.{Program, global_number}
+use Rattle.pw_run_languages.specs.Values.{truth, same_place, is_near, is_somewhere, on_pointers, pointer_and_number, number_and_pointer, binary}
+use Rattle.pw_run_languages.specs.Memory.{scalar_of, is_open, look_in, look}
+use Rattle.pw_run_languages.specs.LawfulPrograms.{eligible_of, eligible_names}
+use Rattle.pw_run_languages.specs.PlacedRun.{held}
 use Rattle.pw_law_direction.specs.Pairs.{Active, web_frames}
 use Rattle.pw_law_direction.specs.Alike.{IsPlain, FinePointer, FineValue, FineByte, AreTameBytes, names_active, GlobalStands, GlobalsStand, ObjectsAlike}
 use Rattle.pw_law_direction.proofs.Elements.{map-there}

@@ -15,8 +15,8 @@ use Rattle.pw_flow.specs.FlowGraph.{names_in_global}
 use Rattle.pw_flow.specs.declared.flow.Op.{Op}
 use Rattle.pw_flow.specs.declared.flow.FlowGlobal.{FlowGlobal}
 use Rattle.pw_flow.specs.declared.flow.FlowFn.{FlowFn}
-use Rattle.pw_run_flow.specs.Programs.{Program, functions_of, globals_of, global_number, function_number, pointer_to}
-use Rattle.pw_run_webs.specs.Programs.{IsGlobalName, ops_of, taken_names, has_name, eligible_as, eligible_of, eligible_names}
+use Rattle.pw_run_languages.specs.Programs.{Program, functions_of, globals_of, global_number, function_number, pointer_to}
+use Rattle.pw_run_languages.specs.LawfulPrograms.{IsGlobalName, ops_of, taken_names, has_name, eligible_as, eligible_of, eligible_names}
 use Rattle.pw_law_direction.specs.Alike.{IsPlain, FinePointer}
 use Rattle.pw_law_direction.proofs.Elements.{nowhere, the-first, map-back, flat-back, flat-there}
 

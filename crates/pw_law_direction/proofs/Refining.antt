@@ -7,12 +7,12 @@ use Rattle.pw_flow.specs.declared.flow.Op.TheVariants.{Call, CallInd}
 use Rattle.pw_flow.specs.declared.flow.End.{End}
 use Rattle.pw_flow.specs.declared.flow.End.TheVariants.{Jump, Branch, Return}
 use Rattle.pw_db_sound.specs.Sound.{Sound}
-use Rattle.pw_run_flow.specs.Programs.{Program}
-use Rattle.pw_run_webs.specs.Programs.{IsProgram, graph_of}
-use Rattle.pw_law_directed.specs.Laws.{TakenFunctionsAreFine, StartIsNotCalled, DirectionRefines}
+use Rattle.pw_run_languages.specs.Programs.{Program}
+use Rattle.pw_run_languages.specs.LawfulPrograms.{IsProgram, graph_of}
+use Rattle.pw_law_direction.specs.DirectedLaws.{TakenFunctionsAreFine, StartIsNotCalled, DirectionRefines}
 use Rattle.pw_law_direction.specs.Pairs.{Pair}
 use Rattle.pw_law_direction.specs.Alike.{IsAlike}
-use Rattle.pw_law_direction.specs.Laws.{StepsFollow, IsCall, StaysInside, StaysInFunction}
+use Rattle.pw_law_direction.specs.SideBySide.{StepsFollow, IsCall, StaysInside, StaysInFunction}
 use Rattle.pw_law_direction.proofs.Runs.{inside-follows, runs-rest-on-steps}
 use Rattle.pw_law_direction.proofs.Calling.{calls-follow}
 use Rattle.pw_law_direction.proofs.Returning.{returns-follow}

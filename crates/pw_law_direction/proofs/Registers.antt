@@ -16,8 +16,8 @@ use Rattle.pw_db.specs.declared.database.Directives.{Directives}
 use Rattle.pw_webflow.specs.Direction.{register_of, directed}
 use Rattle.pw_db_sound.specs.CallGraphs.{Graph}
 use Rattle.pw_db_sound.specs.Sound.{Has, In, Sound}
-use Rattle.pw_run_webs.specs.PlacedRun.{with_register, with_registers, held}
-use Rattle.pw_run_webs.specs.Direction.{directives_of}
+use Rattle.pw_run_languages.specs.PlacedRun.{with_register, with_registers, held}
+use Rattle.pw_run_languages.specs.Direction.{directives_of}
 use Rattle.pw_law_direction.specs.Pairs.{Active, webs_of, web_frames}
 use Rattle.pw_law_direction.specs.Alike.{Linked, Saves}
 use Rattle.pw_law_direction.proofs.Elements.{nowhere, first-there, later-there, the-first}

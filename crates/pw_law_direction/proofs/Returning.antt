@@ -18,19 +18,19 @@ use Rattle.pw_webflow.specs.Direction.{register_of, directed}
 use Rattle.pw_db_sound.specs.CallGraphs.{Calls}
 use Rattle.pw_db_sound.specs.Sound.{Has, In, Sound}
 use Rattle.pw_run.specs.Runs as run
-use Rattle.pw_run_trace.specs.Traces.{Event, Returned, is_of_source, calls_alone}
-use Rattle.pw_run_flow.specs.Programs.{Program}
-use Rattle.pw_run_flow.specs.Memory.{scalar_of}
-use Rattle.pw_run_flow.specs.FlowRun as flow
-use Rattle.pw_run_flow.specs.FlowRun.{end_from}
-use Rattle.pw_run_webs.specs.Programs.{IsProgram, graph_of}
-use Rattle.pw_run_webs.specs.PlacedRun as web
-use Rattle.pw_run_webs.specs.PlacedRun.{held, with_registers, without_scratch}
-use Rattle.pw_run_webs.specs.Direction.{MomentAlike}
-use Rattle.pw_law_directed.specs.Laws.{StartIsNotCalled}
+use Rattle.pw_run_languages.specs.Traces.{Event, Returned, is_of_source, calls_alone}
+use Rattle.pw_run_languages.specs.Programs.{Program}
+use Rattle.pw_run_languages.specs.Memory.{scalar_of}
+use Rattle.pw_run_languages.specs.FlowRun as flow
+use Rattle.pw_run_languages.specs.FlowRun.{end_from}
+use Rattle.pw_run_languages.specs.LawfulPrograms.{IsProgram, graph_of}
+use Rattle.pw_run_languages.specs.PlacedRun as web
+use Rattle.pw_run_languages.specs.PlacedRun.{held, with_registers, without_scratch}
+use Rattle.pw_run_languages.specs.Direction.{MomentAlike}
+use Rattle.pw_law_direction.specs.DirectedLaws.{StartIsNotCalled}
 use Rattle.pw_law_direction.specs.Pairs.{Active, Pair, flow_frame, flow_side, web_side, webs_of, web_frames, under}
 use Rattle.pw_law_direction.specs.Alike.{FineValue, Linked, Saves, names_active, IsWritten, ObjectsAlike, IsAlike, GoesBoth, Follows}
-use Rattle.pw_law_direction.specs.Laws.{StepsFollow, ReturnsFollow}
+use Rattle.pw_law_direction.specs.SideBySide.{StepsFollow, ReturnsFollow}
 use Rattle.pw_law_direction.proofs.Elements.{nowhere, first-there, the-first}
 use Rattle.pw_law_direction.proofs.Names.{is-eligible}
 use Rattle.pw_law_direction.proofs.Globals.{number-of-eligible}

@@ -10,17 +10,17 @@ use Rattle.pw_flow.specs.declared.flow.Op.TheVariants as op
 use Rattle.pw_webflow.specs.Direction.{register_of}
 use Rattle.pw_db_sound.specs.Sound.{Sound}
 use Rattle.pw_run.specs.Runs.{Stage, Met}
-use Rattle.pw_run_trace.specs.Traces.{Event, calls_of, shown_by, calls_alone}
-use Rattle.pw_run_flow.specs.Programs.{Program}
-use Rattle.pw_run_flow.specs.FlowRun as flow
-use Rattle.pw_run_webs.specs.Programs.{IsProgram, graph_of}
-use Rattle.pw_run_webs.specs.PlacedRun as web
-use Rattle.pw_run_webs.specs.PlacedRun.{placed_run}
-use Rattle.pw_run_webs.specs.Direction.{web_run, MomentAlike}
-use Rattle.pw_law_directed.specs.Laws.{TakenFunctionsAreFine}
+use Rattle.pw_run_languages.specs.Traces.{Event, calls_of, shown_by, calls_alone}
+use Rattle.pw_run_languages.specs.Programs.{Program}
+use Rattle.pw_run_languages.specs.FlowRun as flow
+use Rattle.pw_run_languages.specs.LawfulPrograms.{IsProgram, graph_of}
+use Rattle.pw_run_languages.specs.PlacedRun as web
+use Rattle.pw_run_languages.specs.PlacedRun.{placed_run}
+use Rattle.pw_run_languages.specs.Direction.{web_run, MomentAlike}
+use Rattle.pw_law_direction.specs.DirectedLaws.{TakenFunctionsAreFine}
 use Rattle.pw_law_direction.specs.Pairs.{Pair, flow_side, webs_of, under}
 use Rattle.pw_law_direction.specs.Alike.{IsAlike, Follows}
-use Rattle.pw_law_direction.specs.Laws.{StepsFollow, StaysInFunction, InsideFollows, RunsRestOnSteps}
+use Rattle.pw_law_direction.specs.SideBySide.{StepsFollow, StaysInFunction, InsideFollows, RunsRestOnSteps}
 use Rattle.pw_law_direction.proofs.Steps.{operations-follow, blocks-follow}
 use Rattle.pw_law_direction.proofs.WebReads.{reads-follow}
 use Rattle.pw_law_direction.proofs.WebWrites.{writes-follow}

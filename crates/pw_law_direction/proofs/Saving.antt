@@ -13,9 +13,9 @@ use Rattle.pw_db.specs.Database.{IsDatabase}
 use Rattle.pw_webflow.specs.Direction.{directed}
 use Rattle.pw_alloc.specs.Allocation.{is_entry, is_entered, entered_from, saved_of}
 use Rattle.pw_db_sound.specs.Sound.{Has}
-use Rattle.pw_run_webs.specs.Direction.{directed_by}
+use Rattle.pw_run_languages.specs.Direction.{directed_by}
 use Rattle.pw_law_direction.specs.Pairs.{Active, webs_of}
-use Rattle.pw_law_direction.specs.Laws.{SavesAtStarts}
+use Rattle.pw_law_direction.specs.SideBySide.{SavesAtStarts}
 use Rattle.pw_law_direction.proofs.Elements.{nowhere, first-there, map-back}
 use Rattle.pw_law_direction.proofs.Registers.{itself, has-web}
 use Rattle.pw_law_direction.proofs.Webs.{web-there, is-web}

@@ -11,11 +11,11 @@ use Rattle.pw_db.specs.declared.database.Directives.{Directives}
 use Rattle.pw_flow.specs.declared.flow.FlowFn.{FlowFn}
 use Rattle.pw_flow.specs.declared.flow.FlowModule.{FlowModule}
 use Rattle.pw_flow.specs.ValidFlow.{IsValid, IsFunction}
-use Rattle.pw_run_flow.specs.Programs.{Program, functions_of}
-use Rattle.pw_run_flow.specs.FlowRun.{with_slots, start_temps}
-use Rattle.pw_run_webs.specs.Programs.{IsProgram, eligible_of}
-use Rattle.pw_run_webs.specs.PlacedRun as web
-use Rattle.pw_run_webs.specs.PlacedRun.{held}
+use Rattle.pw_run_languages.specs.Programs.{Program, functions_of}
+use Rattle.pw_run_languages.specs.FlowRun.{with_slots, start_temps}
+use Rattle.pw_run_languages.specs.LawfulPrograms.{IsProgram, eligible_of}
+use Rattle.pw_run_languages.specs.PlacedRun as web
+use Rattle.pw_run_languages.specs.PlacedRun.{held}
 use Rattle.pw_law_direction.specs.Pairs.{Active, Pair, web_side, web_frames}
 use Rattle.pw_law_direction.specs.Alike.{IsPlain, FineValue, FineByte, AreTame, AreTameBytes, names_active, GlobalStands, ObjectsAlike}
 use Rattle.pw_law_direction.proofs.Elements.{map-back, flat-back}

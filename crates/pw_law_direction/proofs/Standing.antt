@@ -17,10 +17,10 @@ use Rattle.pw_flow.specs.declared.flow.FlowGlobal.{FlowGlobal}
 use Rattle.pw_flow.specs.ValidFlow.{AreDistinct}
 use Rattle.pw_webflow.specs.Direction.{register_of}
 use Rattle.pw_db_sound.specs.Sound.{In, Sound}
-use Rattle.pw_run_flow.specs.Programs.{Program, globals_of, names_of, global_number}
-use Rattle.pw_run_webs.specs.Programs.{IsProgram, graph_of, has_name, eligible_of, eligible_names}
-use Rattle.pw_run_webs.specs.PlacedRun.{held, standing, standings, globals_now, with_registers}
-use Rattle.pw_run_webs.specs.Direction.{HoldsAs, StandsFor, AllStand}
+use Rattle.pw_run_languages.specs.Programs.{Program, globals_of, names_of, global_number}
+use Rattle.pw_run_languages.specs.LawfulPrograms.{IsProgram, graph_of, has_name, eligible_of, eligible_names}
+use Rattle.pw_run_languages.specs.PlacedRun.{held, standing, standings, globals_now, with_registers}
+use Rattle.pw_run_languages.specs.Direction.{HoldsAs, StandsFor, AllStand}
 use Rattle.pw_law_direction.specs.Pairs.{Active, webs_of, web_frames, under}
 use Rattle.pw_law_direction.specs.Alike.{IsPlain, names_active, IsWritten, GlobalStands, ObjectsAlike}
 use Rattle.pw_law_direction.proofs.Elements.{nowhere, first-there, the-first, map-back}

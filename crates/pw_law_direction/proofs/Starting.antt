@@ -32,21 +32,21 @@ use Rattle.pw_webflow.specs.Direction.{register_of, directed, directed_block}
 use Rattle.pw_alloc.specs.declared.located.Located.{Located}
 use Rattle.pw_db_sound.specs.Sound.{Has, Sound}
 use Rattle.pw_run.specs.Runs as run
-use Rattle.pw_run_trace.specs.Traces.{Event, Called, calls_alone}
-use Rattle.pw_run_flow.specs.Programs.{Program, functions_of, names_of, globals_of, block_at, global_number, pointer_to, item_bytes, with_items, object_of, start_objects}
-use Rattle.pw_run_flow.specs.Programs as programs
-use Rattle.pw_run_flow.specs.Memory.{scalar_of}
-use Rattle.pw_run_flow.specs.FlowRun as flow
-use Rattle.pw_run_flow.specs.FlowRun.{with_slots, start_temps}
-use Rattle.pw_run_webs.specs.Programs.{IsProgram, graph_of, taken_names, ops_of, eligible_of}
-use Rattle.pw_run_webs.specs.PlacedRun as web
-use Rattle.pw_run_webs.specs.PlacedRun.{held, with_registers}
-use Rattle.pw_run_webs.specs.Direction.{MomentAlike, directed_by, unplaced}
-use Rattle.pw_law_directed.specs.Values.{IsTaken}
-use Rattle.pw_law_directed.specs.Laws.{TakenFunctionsAreFine}
+use Rattle.pw_run_languages.specs.Traces.{Event, Called, calls_alone}
+use Rattle.pw_run_languages.specs.Programs.{Program, functions_of, names_of, globals_of, block_at, global_number, pointer_to, item_bytes, with_items, object_of, start_objects}
+use Rattle.pw_run_languages.specs.Programs as programs
+use Rattle.pw_run_languages.specs.Memory.{scalar_of}
+use Rattle.pw_run_languages.specs.FlowRun as flow
+use Rattle.pw_run_languages.specs.FlowRun.{with_slots, start_temps}
+use Rattle.pw_run_languages.specs.LawfulPrograms.{IsProgram, graph_of, taken_names, ops_of, eligible_of}
+use Rattle.pw_run_languages.specs.PlacedRun as web
+use Rattle.pw_run_languages.specs.PlacedRun.{held, with_registers}
+use Rattle.pw_run_languages.specs.Direction.{MomentAlike, directed_by, unplaced}
+use Rattle.pw_law_direction.specs.Values.{IsTaken}
+use Rattle.pw_law_direction.specs.DirectedLaws.{TakenFunctionsAreFine}
 use Rattle.pw_law_direction.specs.Pairs.{Active, Pair, flow_side, web_side, webs_of, under}
 use Rattle.pw_law_direction.specs.Alike.{FinePointer, FineByte, AreTameBytes, GlobalStands, ObjectsAlike, IsAlike, Follows}
-use Rattle.pw_law_direction.specs.Laws.{StartsFollow}
+use Rattle.pw_law_direction.specs.SideBySide.{StartsFollow}
 use Rattle.pw_law_direction.proofs.Elements.{nowhere, first-there, later-there, at-there, flat-there, flat-back}
 use Rattle.pw_law_direction.proofs.Names.{has-there, is-eligible, number-within, number-name, number-leads, has-number, pointer-by, behind-globals}
 use Rattle.pw_law_direction.proofs.Tame.{with-bytes-tame}

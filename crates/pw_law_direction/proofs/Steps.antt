@@ -23,17 +23,17 @@ use Rattle.pw_webflow.specs.declared.web.WebBlock.{WebBlock}
 use Rattle.pw_webflow.specs.declared.web.WebOp.{WebOp}
 use Rattle.pw_webflow.specs.declared.web.WebOp.TheVariants.{Flow}
 use Rattle.pw_webflow.specs.Direction.{directed, directed_op, directed_block}
-use Rattle.pw_run_flow.specs.Programs.{Program}
-use Rattle.pw_run_flow.specs.Values.{binary, is_somewhere}
-use Rattle.pw_run_flow.specs.Memory.{may_stand, is_open, is_apart, look, poke, copy}
-use Rattle.pw_run_flow.specs.Commands as command
-use Rattle.pw_run_flow.specs.FlowRun as flow
-use Rattle.pw_run_webs.specs.Programs.{IsProgram, ops_of}
-use Rattle.pw_run_webs.specs.PlacedRun as web
-use Rattle.pw_law_directed.specs.Laws.{TakenFunctionsAreFine}
+use Rattle.pw_run_languages.specs.Programs.{Program}
+use Rattle.pw_run_languages.specs.Values.{binary, is_somewhere}
+use Rattle.pw_run_languages.specs.Memory.{may_stand, is_open, is_apart, look, poke, copy}
+use Rattle.pw_run_languages.specs.Commands as command
+use Rattle.pw_run_languages.specs.FlowRun as flow
+use Rattle.pw_run_languages.specs.LawfulPrograms.{IsProgram, ops_of}
+use Rattle.pw_run_languages.specs.PlacedRun as web
+use Rattle.pw_law_direction.specs.DirectedLaws.{TakenFunctionsAreFine}
 use Rattle.pw_law_direction.specs.Pairs.{Active, Pair, active_of, flow_side, web_side, webs_of, under}
 use Rattle.pw_law_direction.specs.Alike.{FinePointer, FineValue, FineByte, IsActive, IsAlike, GoesBoth, Follows}
-use Rattle.pw_law_direction.specs.Laws.{OperationsFollow, BlocksFollow, LeavesGlobals, StepsFollow, StaysInside}
+use Rattle.pw_law_direction.specs.SideBySide.{OperationsFollow, BlocksFollow, LeavesGlobals, StepsFollow, StaysInside}
 use Rattle.pw_law_direction.proofs.Elements.{first-there, later-there, at-there, flat-there}
 use Rattle.pw_law_direction.proofs.Names.{global-leads, address-taken}
 use Rattle.pw_law_direction.proofs.Tame.{tame-not, unary-tame, extension-tame, binary-tame, bytes-from-tame, encoding-tame, set-tame}

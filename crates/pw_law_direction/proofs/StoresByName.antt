@@ -18,18 +18,18 @@ use Rattle.pw_flow.specs.declared.flow.Op.TheVariants.{StoreG}
 use Rattle.pw_flow.specs.ValidFlow.{kind_size}
 use Rattle.pw_webflow.specs.Direction.{register_of, write_of}
 use Rattle.pw_db_sound.specs.Sound.{In, Needs, refers, Sound}
-use Rattle.pw_run_trace.specs.Traces.{Stored}
-use Rattle.pw_run_flow.specs.Programs.{Program, global_number}
-use Rattle.pw_run_flow.specs.Memory.{scalar_of, is_of_kind, may_stand, same_value, is_open}
-use Rattle.pw_run_flow.specs.FlowRun as flow
-use Rattle.pw_run_flow.specs.FlowRun.{is_own_kind, put_global}
-use Rattle.pw_run_flow.specs.Commands.{command}
-use Rattle.pw_run_webs.specs.Programs.{IsProgram, graph_of, eligible_of, eligible_names}
-use Rattle.pw_run_webs.specs.PlacedRun as web
-use Rattle.pw_run_webs.specs.PlacedRun.{is_eligible, held, with_registers}
+use Rattle.pw_run_languages.specs.Traces.{Stored}
+use Rattle.pw_run_languages.specs.Programs.{Program, global_number}
+use Rattle.pw_run_languages.specs.Memory.{scalar_of, is_of_kind, may_stand, same_value, is_open}
+use Rattle.pw_run_languages.specs.FlowRun as flow
+use Rattle.pw_run_languages.specs.FlowRun.{is_own_kind, put_global}
+use Rattle.pw_run_languages.specs.Commands.{command}
+use Rattle.pw_run_languages.specs.LawfulPrograms.{IsProgram, graph_of, eligible_of, eligible_names}
+use Rattle.pw_run_languages.specs.PlacedRun as web
+use Rattle.pw_run_languages.specs.PlacedRun.{is_eligible, held, with_registers}
 use Rattle.pw_law_direction.specs.Pairs.{Active, Pair, active_of, flow_side, web_side, web_frames, webs_of, under}
 use Rattle.pw_law_direction.specs.Alike.{IsPlain, FineValue, names_active, GlobalStands, ObjectsAlike, IsAlike, Follows}
-use Rattle.pw_law_direction.specs.Laws.{StepsFollow, StoresFollow}
+use Rattle.pw_law_direction.specs.SideBySide.{StepsFollow, StoresFollow}
 use Rattle.pw_law_direction.proofs.Elements.{first-there, later-there, map-back}
 use Rattle.pw_law_direction.proofs.Names.{name-eligible, is-eligible, one-number, has-there}
 use Rattle.pw_law_direction.proofs.Tame.{encoding-tame}

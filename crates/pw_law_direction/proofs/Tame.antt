@@ -24,11 +24,11 @@ use Rattle.pw_flow.specs.declared.flow.BinKind.{BinKind}
 use Rattle.pw_flow.specs.declared.flow.BinKind.TheVariants.{Add, Sub, And, Or, Xor, Mul, DivS, DivU, RemS, RemU, Shl, ShrS, ShrU, Eq, Ne, LtS, LeS, LtU, LeU}
 use Rattle.pw_flow.specs.declared.flow.ExtKind.{ExtKind}
 use Rattle.pw_flow.specs.declared.flow.ExtKind.TheVariants as ext
-use Rattle.pw_run_flow.specs.Programs.{Program, global_number}
-use Rattle.pw_run_flow.specs.Values.{truth, unary, extension, number_of, on_numbers, same_place, on_pointers, pointer_and_number, number_and_pointer, binary}
-use Rattle.pw_run_flow.specs.Memory.{is_signed, word_or_pointer, scalar_of}
-use Rattle.pw_run_webs.specs.Programs.{eligible_names}
-use Rattle.pw_run_webs.specs.PlacedRun.{is_reserved}
+use Rattle.pw_run_languages.specs.Programs.{Program, global_number}
+use Rattle.pw_run_languages.specs.Values.{truth, unary, extension, number_of, on_numbers, same_place, on_pointers, pointer_and_number, number_and_pointer, binary}
+use Rattle.pw_run_languages.specs.Memory.{is_signed, word_or_pointer, scalar_of}
+use Rattle.pw_run_languages.specs.LawfulPrograms.{eligible_names}
+use Rattle.pw_run_languages.specs.PlacedRun.{is_reserved}
 use Rattle.pw_law_direction.specs.Pairs.{under}
 use Rattle.pw_law_direction.specs.Alike.{IsPlain, FinePointer, FineValue, FineByte, AreTame, AreTameBytes}
 

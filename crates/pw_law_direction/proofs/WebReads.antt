@@ -13,17 +13,17 @@ use Rattle.pw_flow.specs.declared.flow.Op.TheVariants.{LoadG}
 use Rattle.pw_flow.specs.ValidFlow.{kind_size}
 use Rattle.pw_webflow.specs.Direction.{register_of, read_of, directed}
 use Rattle.pw_db_sound.specs.Sound.{Sound, In}
-use Rattle.pw_run_flow.specs.Programs.{Program, global_number}
-use Rattle.pw_run_flow.specs.Memory.{scalar_of}
-use Rattle.pw_run_flow.specs.FlowRun as flow
-use Rattle.pw_run_flow.specs.FlowRun.{get_global}
-use Rattle.pw_run_flow.specs.Commands.{command}
-use Rattle.pw_run_webs.specs.Programs.{IsProgram, graph_of, eligible_of}
-use Rattle.pw_run_webs.specs.PlacedRun as web
-use Rattle.pw_run_webs.specs.PlacedRun.{held, with_registers}
+use Rattle.pw_run_languages.specs.Programs.{Program, global_number}
+use Rattle.pw_run_languages.specs.Memory.{scalar_of}
+use Rattle.pw_run_languages.specs.FlowRun as flow
+use Rattle.pw_run_languages.specs.FlowRun.{get_global}
+use Rattle.pw_run_languages.specs.Commands.{command}
+use Rattle.pw_run_languages.specs.LawfulPrograms.{IsProgram, graph_of, eligible_of}
+use Rattle.pw_run_languages.specs.PlacedRun as web
+use Rattle.pw_run_languages.specs.PlacedRun.{held, with_registers}
 use Rattle.pw_law_direction.specs.Pairs.{Pair, flow_side, web_side, webs_of, web_frames, under}
 use Rattle.pw_law_direction.specs.Alike.{FineValue, IsAlike, Follows}
-use Rattle.pw_law_direction.specs.Laws.{StepsFollow, ReadsFollow}
+use Rattle.pw_law_direction.specs.SideBySide.{StepsFollow, ReadsFollow}
 use Rattle.pw_law_direction.proofs.Elements.{later-there}
 use Rattle.pw_law_direction.proofs.Names.{IsEligible, is-eligible}
 use Rattle.pw_law_direction.proofs.Tame.{scalar-tame, bytes-from-tame}

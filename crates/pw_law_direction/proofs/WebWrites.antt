@@ -27,17 +27,17 @@ use Rattle.pw_flow.specs.ValidFlow.{kind_size}
 use Rattle.pw_webflow.specs.Direction.{register_of, write_of, directed}
 use Rattle.pw_db_sound.specs.CallGraphs.{Writes}
 use Rattle.pw_db_sound.specs.Sound.{Sound}
-use Rattle.pw_run_flow.specs.Programs.{Program, functions_of, global_number}
-use Rattle.pw_run_flow.specs.Memory.{scalar_of, is_of_kind, may_stand, same_value, is_open, poke_in}
-use Rattle.pw_run_flow.specs.FlowRun as flow
-use Rattle.pw_run_flow.specs.FlowRun.{is_own_kind, put_global}
-use Rattle.pw_run_flow.specs.Commands.{command}
-use Rattle.pw_run_webs.specs.Programs.{IsProgram, graph_of, node_of, written_by, ops_of, eligible_of, eligible_names}
-use Rattle.pw_run_webs.specs.PlacedRun as web
-use Rattle.pw_run_webs.specs.PlacedRun.{held, with_register, with_registers}
+use Rattle.pw_run_languages.specs.Programs.{Program, functions_of, global_number}
+use Rattle.pw_run_languages.specs.Memory.{scalar_of, is_of_kind, may_stand, same_value, is_open, poke_in}
+use Rattle.pw_run_languages.specs.FlowRun as flow
+use Rattle.pw_run_languages.specs.FlowRun.{is_own_kind, put_global}
+use Rattle.pw_run_languages.specs.Commands.{command}
+use Rattle.pw_run_languages.specs.LawfulPrograms.{IsProgram, graph_of, node_of, written_by, ops_of, eligible_of, eligible_names}
+use Rattle.pw_run_languages.specs.PlacedRun as web
+use Rattle.pw_run_languages.specs.PlacedRun.{held, with_register, with_registers}
 use Rattle.pw_law_direction.specs.Pairs.{Active, Pair, active_of, flow_side, web_side, webs_of, web_frames, under}
 use Rattle.pw_law_direction.specs.Alike.{FineValue, names_active, Saves, IsActive, GlobalStands, IsAlike, Follows}
-use Rattle.pw_law_direction.specs.Laws.{StepsFollow, WritesFollow}
+use Rattle.pw_law_direction.specs.SideBySide.{StepsFollow, WritesFollow}
 use Rattle.pw_law_direction.proofs.Elements.{nowhere, first-there, later-there, the-first, map-there, flat-there}
 use Rattle.pw_law_direction.proofs.Names.{is-eligible, one-number}
 use Rattle.pw_law_direction.proofs.Tame.{encoding-tame}

@@ -15,7 +15,7 @@ use Rattle.pw_db.specs.declared.database.Directives.{Directives}
 use Rattle.pw_db.specs.Database.{EachTwo, IsWeb, IsDirectives, IsDatabase}
 use Rattle.pw_webflow.specs.Direction.{register_of}
 use Rattle.pw_db_sound.specs.Sound.{Has, In}
-use Rattle.pw_run_webs.specs.Direction.{directives_of}
+use Rattle.pw_run_languages.specs.Direction.{directives_of}
 use Rattle.pw_law_direction.specs.Pairs.{Active, webs_of}
 use Rattle.pw_law_direction.proofs.Elements.{nowhere, the-first, map-there}
 use Rattle.pw_law_direction.proofs.Globals.{all-hold}

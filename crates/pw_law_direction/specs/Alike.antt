@@ -16,15 +16,15 @@ use Rattle.pw_flow.specs.ValidFlow.{kind_size}
 use Rattle.pw_run.specs.Runs as run
 use Rattle.pw_db_sound.specs.CallGraphs.{Graph, Calls}
 use Rattle.pw_db_sound.specs.Sound.{Has, In}
-use Rattle.pw_run_trace.specs.Traces.{calls_alone}
-use Rattle.pw_run_flow.specs.Memory.{scalar_of, is_of_kind}
-use Rattle.pw_run_flow.specs.Programs.{Program, functions_of, global_number}
-use Rattle.pw_run_flow.specs.FlowRun as flow
-use Rattle.pw_run_webs.specs.Programs.{graph_of, eligible_of, eligible_names, ops_of}
-use Rattle.pw_run_webs.specs.PlacedRun as web
-use Rattle.pw_run_webs.specs.PlacedRun.{held}
-use Rattle.pw_run_webs.specs.Direction.{MomentAlike}
-pub use Rattle.pw_law_directed.specs.Values.{FinePointer, FineValue, FineByte}
+use Rattle.pw_run_languages.specs.Traces.{calls_alone}
+use Rattle.pw_run_languages.specs.Memory.{scalar_of, is_of_kind}
+use Rattle.pw_run_languages.specs.Programs.{Program, functions_of, global_number}
+use Rattle.pw_run_languages.specs.FlowRun as flow
+use Rattle.pw_run_languages.specs.LawfulPrograms.{graph_of, eligible_of, eligible_names, ops_of}
+use Rattle.pw_run_languages.specs.PlacedRun as web
+use Rattle.pw_run_languages.specs.PlacedRun.{held}
+use Rattle.pw_run_languages.specs.Direction.{MomentAlike}
+pub use Rattle.pw_law_direction.specs.Values.{FinePointer, FineValue, FineByte}
 use Rattle.pw_law_direction.specs.Pairs.{Active, Pair, active_of, flow_side, web_side, web_frames}
 
 -- ---- values that lead to no eligible global, and to no function but one whose address is taken

@@ -1,3 +1,7 @@
+pub mod DirectedLaws
+pub mod Values
+pub mod UndirectedLaws
 pub mod Pairs
 pub mod Alike
+pub mod SideBySide
 pub mod Laws

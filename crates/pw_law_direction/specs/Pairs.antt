@@ -11,11 +11,11 @@ use Rattle.pw_flow.specs.declared.flow.Op.{Op}
 use Rattle.pw_flow.specs.declared.flow.End.{End}
 use Rattle.pw_flow.specs.declared.flow.FlowFn.{FlowFn}
 use Rattle.pw_webflow.specs.Direction.{directed_op}
-use Rattle.pw_run_trace.specs.Traces.{Event}
-use Rattle.pw_run_flow.specs.Programs.{Program}
-use Rattle.pw_run_flow.specs.FlowRun as flow
-use Rattle.pw_run_webs.specs.PlacedRun as web
-use Rattle.pw_run_webs.specs.Direction.{directives_of, directed_by, unplaced, directed_functions, with_functions}
+use Rattle.pw_run_languages.specs.Traces.{Event}
+use Rattle.pw_run_languages.specs.Programs.{Program}
+use Rattle.pw_run_languages.specs.FlowRun as flow
+use Rattle.pw_run_languages.specs.PlacedRun as web
+use Rattle.pw_run_languages.specs.Direction.{directives_of, directed_by, unplaced, directed_functions, with_functions}
 
 -- A function that is active, in both runs: what is left of its block, before direction; what its temporaries hold, the
 -- object of its first slot, and where its result goes. In the directed run also what it saved, and what the kept

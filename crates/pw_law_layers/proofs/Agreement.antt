@@ -13,16 +13,16 @@ use Rattle.pw_run.proofs.Composition.{refines_twice}
 use Rattle.pw_run_agreement.specs.MachineStages.{machine_run}
 use Rattle.pw_run_agreement.specs.Agreement as agreement
 use Rattle.pw_run_agreement.specs.Agreement.{Agree}
-use Rattle.pw_run_trace.specs.Traces.{Event, EventAlike, SameKind, calls_of, calls_alone, shown_by}
-use Rattle.pw_run_trace.proofs.Likeness.{kind_of_alike, met_shown, calls_refine}
-use Rattle.pw_run_lines.specs.Late.{RefinesLately}
-use Rattle.pw_run_lines.proofs.Late.{calls_in_time, same_kind}
-use Rattle.pw_run_flow.specs.Programs.{Program}
-use Rattle.pw_run_flow.specs.FlowRun as flow
-use Rattle.pw_run_webs.specs.Direction.{MomentAlike}
-use Rattle.pw_run_lines.specs.Standing.{EventInWords}
-use Rattle.pw_run_machine.specs.MachineRun.{Map, traced_run}
-use Rattle.pw_run_machine.proofs.Forgetting.{forgotten, run_forgets}
+use Rattle.pw_run_languages.specs.Traces.{Event, EventAlike, SameKind, calls_of, calls_alone, shown_by}
+use Rattle.pw_run_languages.proofs.Likeness.{kind_of_alike, met_shown, calls_refine}
+use Rattle.pw_run_languages.specs.Late.{RefinesLately}
+use Rattle.pw_run_languages.proofs.Late.{calls_in_time, same_kind}
+use Rattle.pw_run_languages.specs.Programs.{Program}
+use Rattle.pw_run_languages.specs.FlowRun as flow
+use Rattle.pw_run_languages.specs.Direction.{MomentAlike}
+use Rattle.pw_run_languages.specs.Standing.{EventInWords}
+use Rattle.pw_run_languages.specs.MachineRun.{Map, traced_run}
+use Rattle.pw_run_languages.proofs.Forgetting.{forgotten, run_forgets}
 use Rattle.pw_law_layers.specs.Source.{source_stages, source_runs, staged, end_of}
 use Rattle.pw_law_layers.specs.Lowering.{MomentKept}
 use Rattle.pw_law_layers.specs.Whole.{InMachine}

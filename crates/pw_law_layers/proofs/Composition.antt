@@ -14,23 +14,23 @@ use Rattle.pw_cmean.specs.Acts.{Moment}
 use Rattle.pw_run.specs.Runs.{Stage, Refines, Same, Through}
 use Rattle.pw_run_agreement.specs.Agreement.{Agree, IsDefined}
 use Rattle.pw_db_sound.specs.CallGraphs.{Graph}
-use Rattle.pw_run_trace.specs.Traces.{Event, EventAlike, calls_alone, calls_of, Notes, KeepRegisters}
-use Rattle.pw_run_trace.specs.Traffic.{ObeysTraffic}
-use Rattle.pw_run_trace.specs.Meeting.{MetWith}
-use Rattle.pw_run_lines.specs.Late.{RefinesLately}
-use Rattle.pw_run_trace.proofs.Meeting.{met_with, met_through, of_shown, carried}
-use Rattle.pw_run_lines.proofs.Late.{late_same, carried_late, same_kind}
-use Rattle.pw_run_trace.proofs.Traffic.{traffic_alike}
-use Rattle.pw_run_flow.specs.Programs.{Program}
-use Rattle.pw_run_flow.specs.FlowRun.{flow_run}
-use Rattle.pw_run_webs.specs.Programs.{graph_of}
-use Rattle.pw_run_webs.specs.PlacedRun.{placed_run}
-use Rattle.pw_run_webs.specs.Direction.{web_run, with_functions, MomentAlike}
-use Rattle.pw_run_webs.specs.Laws.{DirectionKeeps, PlacesKeep}
-use Rattle.pw_run_lines.specs.Standing.{EventInWords}
-use Rattle.pw_run_lines.specs.LineRun.{line_run}
-use Rattle.pw_run_lines.specs.Laws.{line_program, placed_program, SelectionKeeps, PlacementKeepsRuns}
-use Rattle.pw_run_machine.specs.Laws.{LinkKeeps, address_of, frame_in, map_of, image_run}
+use Rattle.pw_run_languages.specs.Traces.{Event, EventAlike, calls_alone, calls_of, Notes, KeepRegisters}
+use Rattle.pw_run_languages.specs.Traffic.{ObeysTraffic}
+use Rattle.pw_run_languages.specs.Meeting.{MetWith}
+use Rattle.pw_run_languages.specs.Late.{RefinesLately}
+use Rattle.pw_run_languages.proofs.Meeting.{met_with, met_through, of_shown, carried}
+use Rattle.pw_run_languages.proofs.Late.{late_same, carried_late, same_kind}
+use Rattle.pw_run_languages.proofs.Traffic.{traffic_alike}
+use Rattle.pw_run_languages.specs.Programs.{Program}
+use Rattle.pw_run_languages.specs.FlowRun.{flow_run}
+use Rattle.pw_run_languages.specs.LawfulPrograms.{graph_of}
+use Rattle.pw_run_languages.specs.PlacedRun.{placed_run}
+use Rattle.pw_run_languages.specs.Direction.{web_run, with_functions, MomentAlike}
+use Rattle.pw_run_languages.specs.PlacementLaws.{DirectionKeeps, PlacesKeep}
+use Rattle.pw_run_languages.specs.Standing.{EventInWords}
+use Rattle.pw_run_languages.specs.LineRun.{line_run}
+use Rattle.pw_run_languages.specs.SelectionLaws.{line_program, placed_program, SelectionKeeps, PlacementKeepsRuns}
+use Rattle.pw_run_languages.specs.LinkingLaws.{LinkKeeps, address_of, frame_in, map_of, image_run}
 use Rattle.pw_law_layers.specs.Source.{source_stages, source_runs}
 use Rattle.pw_law_layers.specs.Lowering.{MomentKept}
 use Rattle.pw_law_layers.specs.Whole.{InMachine, image_of, program_of, LayersHold, LayersCompose}

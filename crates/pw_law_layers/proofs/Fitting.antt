@@ -25,7 +25,7 @@ use Rattle.pw_alloc.specs.declared.located.Place.TheVariants.{Slot, Reg}
 use Rattle.pw_alloc.specs.declared.located.Located.{Located}
 use Rattle.pw_alloc.specs.Frames.{argument_count, most_arguments, ops_of, slots_begin}
 use Rattle.pw_alloc.proofs.RoomLaws.{reach_of_sizes}
-use Rattle.pw_run_webs.specs.Serving.{slots_alone, Changes, places, enters, Serves}
+use Rattle.pw_run_languages.specs.Serving.{slots_alone, Changes, places, enters, Serves}
 use Rattle.pw_law_layers.specs.Rooms.{PlacesFit}
 use Rattle.pw_law_layers.proofs.Frames.{first_there, map_there}
 

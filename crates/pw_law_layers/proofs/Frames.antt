@@ -21,12 +21,12 @@ use Rattle.pw_flow.specs.FrameRooms.{flow_room}
 use Rattle.pw_lower.specs.Modules.{lowered, lowered_function, start_of, start_function}
 use Rattle.pw_alloc.specs.declared.located.Located.{Located}
 use Rattle.pw_cmean.specs.Worlds.{ProgramModule, full_name}
-use Rattle.pw_run_flow.specs.Programs as flows
-use Rattle.pw_run_flow.specs.Programs.{functions_of}
-use Rattle.pw_run_webs.specs.Direction.{directives_of, directed_by}
-use Rattle.pw_run_webs.specs.Serving.{Serves, AllServe}
-use Rattle.pw_run_lines.specs.Laws.{FramesAre}
-use Rattle.pw_run_machine.specs.Laws.{frame_in}
+use Rattle.pw_run_languages.specs.Programs as flows
+use Rattle.pw_run_languages.specs.Programs.{functions_of}
+use Rattle.pw_run_languages.specs.Direction.{directives_of, directed_by}
+use Rattle.pw_run_languages.specs.Serving.{Serves, AllServe}
+use Rattle.pw_run_languages.specs.SelectionLaws.{FramesAre}
+use Rattle.pw_run_languages.specs.LinkingLaws.{frame_in}
 use Rattle.pw_law_lower.specs.Parts.{partless}
 use Rattle.pw_law_layers.specs.Rooms.{MapHasFrames, PlacesFit}
 use Rattle.pw_law_layers.specs.Whole.{image_of, program_of, AllFramesFit}

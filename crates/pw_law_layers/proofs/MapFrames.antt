@@ -18,10 +18,10 @@ use Rattle.pw_alloc.specs.declared.located.Located.{Located}
 use Rattle.pw_object.specs.declared.object.Object.{Object}
 use Rattle.pw_link.specs.Layout.{Piece, piece_of, routine_pieces, function_pieces, pieces_of, placed_from, in_order}
 use Rattle.pw_link.specs.Linking.{function_of, linked}
-use Rattle.pw_run_flow.specs.Programs.{functions_of, globals_of}
-use Rattle.pw_run_webs.specs.Direction.{directed_by}
-use Rattle.pw_run_webs.specs.Serving.{AllServe}
-use Rattle.pw_run_machine.specs.Laws.{compiled, frame_in}
+use Rattle.pw_run_languages.specs.Programs.{functions_of, globals_of}
+use Rattle.pw_run_languages.specs.Direction.{directed_by}
+use Rattle.pw_run_languages.specs.Serving.{AllServe}
+use Rattle.pw_run_languages.specs.LinkingLaws.{compiled, frame_in}
 use Rattle.pw_law_layers.specs.Rooms.{MapHasFrames}
 use Rattle.pw_law_layers.proofs.Frames.{nowhere, map_there, directed_name}
 

@@ -10,11 +10,11 @@ use Rattle.pw_run.specs.Runs.{Stage, AreAlike, none, also, Refines, Same, Ended}
 use Rattle.pw_run.specs.Runs as run
 use Rattle.pw_run_agreement.specs.Agreement.{IsMeaningful, IsDefined}
 use Rattle.pw_db_sound.specs.CallGraphs.{Graph}
-use Rattle.pw_run_trace.specs.Traces.{Event, Called, Refused, Returned, Loaded, Stored, SameKind, Notes, KeepRegisters, with_refusal}
-use Rattle.pw_run_trace.specs.Traffic.{ObeysTraffic}
-use Rattle.pw_run_trace.specs.Meeting.{MetWith}
-use Rattle.pw_run_machine.specs.MachineRun.{Map, traced_run}
-use Rattle.pw_run_machine.proofs.Growing.{IsClosed, notes_where_going, notes_where_over}
+use Rattle.pw_run_languages.specs.Traces.{Event, Called, Refused, Returned, Loaded, Stored, SameKind, Notes, KeepRegisters, with_refusal}
+use Rattle.pw_run_languages.specs.Traffic.{ObeysTraffic}
+use Rattle.pw_run_languages.specs.Meeting.{MetWith}
+use Rattle.pw_run_languages.specs.MachineRun.{Map, traced_run}
+use Rattle.pw_run_languages.proofs.Growing.{IsClosed, notes_where_going, notes_where_over}
 use Rattle.pw_law_layers.specs.Source.{source_stages, source_runs, staged, shown, end_of}
 
 -- ---- from a defined source

@@ -11,12 +11,12 @@ use Rattle.pw_value.specs.Objects.{Object, object_at}
 use Rattle.pw_flow.specs.declared.flow.FlowGlobal.{FlowGlobal}
 use Rattle.pw_cmean.specs.Acts as source
 use Rattle.pw_run.specs.Runs.{AreAlike, none, also, Through, Same}
-use Rattle.pw_run_trace.specs.Traces.{Standing, Event, StandAlike, in_memory, in_place, EventAlike, called, refused, returned, loaded, stored}
-use Rattle.pw_run_flow.specs.Memory.{scalar_of}
-use Rattle.pw_run_flow.specs.Programs.{Program, globals_of}
-use Rattle.pw_run_flow.specs.FlowRun as flow
-use Rattle.pw_run_webs.specs.Direction.{HoldsAs, StandsFor, AllStand, MomentAlike}
-use Rattle.pw_run_lines.specs.Standing.{pointer_address, ByteStands, ValueStands, GlobalsAreNamed, EventInWords}
+use Rattle.pw_run_languages.specs.Traces.{Standing, Event, StandAlike, in_memory, in_place, EventAlike, called, refused, returned, loaded, stored}
+use Rattle.pw_run_languages.specs.Memory.{scalar_of}
+use Rattle.pw_run_languages.specs.Programs.{Program, globals_of}
+use Rattle.pw_run_languages.specs.FlowRun as flow
+use Rattle.pw_run_languages.specs.Direction.{HoldsAs, StandsFor, AllStand, MomentAlike}
+use Rattle.pw_run_languages.specs.Standing.{pointer_address, ByteStands, ValueStands, GlobalsAreNamed, EventInWords}
 use Rattle.pw_law_layers.specs.Lowering.{ByteKept, ValueKept, ScalarKept, GlobalKept, GlobalsKept, SameGlobals, MomentKept}
 use Rattle.pw_law_layers.specs.Whole.{ByteInMachine, ValueInMachine, ScalarInMachine, GlobalInMachine, GlobalsInMachine, AllInMachine, InMachine}
 

@@ -19,11 +19,11 @@ use Rattle.pw_flow.specs.FrameRooms.{flow_room}
 use Rattle.pw_lower.specs.Modules.{lowered, lowered_function, start_of, start_function, is_main}
 use Rattle.pw_alloc.specs.declared.located.Located.{Located}
 use Rattle.pw_cmean.specs.Worlds.{ProgramModule, full_name}
-use Rattle.pw_run_flow.specs.Programs as flows
-use Rattle.pw_run_flow.specs.Programs.{functions_of}
-use Rattle.pw_run_webs.specs.Direction.{directed_by}
-use Rattle.pw_run_webs.specs.Serving.{AllServe}
-use Rattle.pw_run_lines.specs.Laws.{FramesAre}
+use Rattle.pw_run_languages.specs.Programs as flows
+use Rattle.pw_run_languages.specs.Programs.{functions_of}
+use Rattle.pw_run_languages.specs.Direction.{directed_by}
+use Rattle.pw_run_languages.specs.Serving.{AllServe}
+use Rattle.pw_run_languages.specs.SelectionLaws.{FramesAre}
 use Rattle.pw_law_layers.specs.Rooms.{PlacesFit}
 use Rattle.pw_law_layers.proofs.Frames.{nowhere, first_there, map_there, frame_fits, lowered_name}
 

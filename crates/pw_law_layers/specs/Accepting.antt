@@ -16,9 +16,9 @@ use Rattle.pw_object.specs.Object as object
 use Rattle.pw_link_interface.specs.Interface.{interface}
 use Rattle.pw_link_rules.specs.Linking.{Links}
 use Rattle.pw_cmean.specs.Worlds.{Program, ProgramModule}
-use Rattle.pw_run_flow.specs.Programs as flows
-use Rattle.pw_run_flow.specs.Programs.{globals_of}
-use Rattle.pw_run_machine.specs.Laws.{AreNamesApart}
+use Rattle.pw_run_languages.specs.Programs as flows
+use Rattle.pw_run_languages.specs.Programs.{globals_of}
+use Rattle.pw_run_languages.specs.LinkingLaws.{AreNamesApart}
 use Rattle.pw_law_layers.specs.Lowering.{flow_program, IsAccepted, AreChecked, HaveParts}
 
 -- ---- what checking makes of a function, beyond what is well typed

@@ -27,12 +27,12 @@ use Rattle.pw_cmean.specs.Acts as source
 use Rattle.pw_cmean.specs.Typed.{IsWellTyped}
 use Rattle.pw_cmean.specs.SourceRun.{source_run}
 use Rattle.pw_run.specs.Runs.{Refines, AreAlike}
-use Rattle.pw_run_flow.specs.Memory.{scalar_of}
-use Rattle.pw_run_flow.specs.Programs as flows
-use Rattle.pw_run_flow.specs.Programs.{Library, library_at, library_shape, globals_of, function_named, AreBytes, NoneForLibrary}
-use Rattle.pw_run_flow.specs.FlowRun as flow
-use Rattle.pw_run_flow.specs.FlowRun.{flow_run}
-use Rattle.pw_run_webs.specs.Programs.{IsProgram}
+use Rattle.pw_run_languages.specs.Memory.{scalar_of}
+use Rattle.pw_run_languages.specs.Programs as flows
+use Rattle.pw_run_languages.specs.Programs.{Library, library_at, library_shape, globals_of, function_named, AreBytes, NoneForLibrary}
+use Rattle.pw_run_languages.specs.FlowRun as flow
+use Rattle.pw_run_languages.specs.FlowRun.{flow_run}
+use Rattle.pw_run_languages.specs.LawfulPrograms.{IsProgram}
 use Rattle.pw_law_layers.specs.Source.{source_stages}
 
 -- ---- accepted programs

@@ -10,12 +10,12 @@ use Rattle.pw_flow.specs.FrameRooms.{flow_room}
 use Rattle.pw_alloc.specs.declared.located.Located.{Located}
 use Rattle.pw_object.specs.declared.object.Object.{Object}
 use Rattle.pw_link.specs.Linking.{linked}
-use Rattle.pw_run_flow.specs.Programs.{Program}
-use Rattle.pw_run_webs.specs.Programs.{IsProgram}
-use Rattle.pw_run_webs.specs.Direction.{directed_functions}
-use Rattle.pw_run_webs.specs.Serving.{Serves, AllServe}
-use Rattle.pw_run_lines.specs.Laws.{FramesAre}
-use Rattle.pw_run_machine.specs.Laws.{AreObjectsOf, frame_in}
+use Rattle.pw_run_languages.specs.Programs.{Program}
+use Rattle.pw_run_languages.specs.LawfulPrograms.{IsProgram}
+use Rattle.pw_run_languages.specs.Direction.{directed_functions}
+use Rattle.pw_run_languages.specs.Serving.{Serves, AllServe}
+use Rattle.pw_run_languages.specs.SelectionLaws.{FramesAre}
+use Rattle.pw_run_languages.specs.LinkingLaws.{AreObjectsOf, frame_in}
 
 -- the frame of a function whose places serve it is at most the room of its flow graph
 abbrev pub PlacesFit : Type 0

@@ -26,23 +26,23 @@ use Rattle.pw_cmean.specs.Acts as source
 use Rattle.pw_run.specs.Runs.{Stage, Refines, AreAlike, Same}
 use Rattle.pw_run_agreement.specs.Agreement.{Agree, IsDefined}
 use Rattle.pw_db_sound.specs.Sound.{Sound}
-use Rattle.pw_run_trace.specs.Traces.{Standing, InMemory, InPlace, Event, Called, Returned, EventAlike, calls_of, Notes, KeepRegisters}
-use Rattle.pw_run_trace.specs.Traffic.{ObeysTraffic}
-use Rattle.pw_run_lines.specs.Late.{RefinesLately}
-use Rattle.pw_run_flow.specs.Memory.{scalar_of}
-use Rattle.pw_run_flow.specs.Programs as flows
-use Rattle.pw_run_flow.specs.FlowRun as flow
-use Rattle.pw_run_flow.specs.Programs.{globals_of, AreBytes}
-use Rattle.pw_run_webs.specs.Programs.{graph_of}
-use Rattle.pw_run_webs.specs.Direction.{directed_functions, MomentAlike}
-use Rattle.pw_run_webs.specs.Serving.{AllServe}
-use Rattle.pw_run_lines.specs.Standing.{pointer_address, byte_of, EventInWords}
-use Rattle.pw_run_machine.specs.Laws.{AreObjectsOf, AreNamesApart, address_of, frame_in, image_run}
+use Rattle.pw_run_languages.specs.Traces.{Standing, InMemory, InPlace, Event, Called, Returned, EventAlike, calls_of, Notes, KeepRegisters}
+use Rattle.pw_run_languages.specs.Traffic.{ObeysTraffic}
+use Rattle.pw_run_languages.specs.Late.{RefinesLately}
+use Rattle.pw_run_languages.specs.Memory.{scalar_of}
+use Rattle.pw_run_languages.specs.Programs as flows
+use Rattle.pw_run_languages.specs.FlowRun as flow
+use Rattle.pw_run_languages.specs.Programs.{globals_of, AreBytes}
+use Rattle.pw_run_languages.specs.LawfulPrograms.{graph_of}
+use Rattle.pw_run_languages.specs.Direction.{directed_functions, MomentAlike}
+use Rattle.pw_run_languages.specs.Serving.{AllServe}
+use Rattle.pw_run_languages.specs.Standing.{pointer_address, byte_of, EventInWords}
+use Rattle.pw_run_languages.specs.LinkingLaws.{AreObjectsOf, AreNamesApart, address_of, frame_in, image_run}
 use Rattle.pw_law_layers.specs.Source.{source_stages, source_runs}
-use Rattle.pw_run_webs.specs.Laws.{DirectionKeeps, PlacesKeep}
-use Rattle.pw_run_lines.specs.LineRun.{line_run}
-use Rattle.pw_run_lines.specs.Laws.{line_program, placed_program, SelectionKeeps, SelectionKeepsRuns}
-use Rattle.pw_run_machine.specs.Laws.{LinkKeeps, LinkKeepsRuns}
+use Rattle.pw_run_languages.specs.PlacementLaws.{DirectionKeeps, PlacesKeep}
+use Rattle.pw_run_languages.specs.LineRun.{line_run}
+use Rattle.pw_run_languages.specs.SelectionLaws.{line_program, placed_program, SelectionKeeps, SelectionKeepsRuns}
+use Rattle.pw_run_languages.specs.LinkingLaws.{LinkKeeps, LinkKeepsRuns}
 use Rattle.pw_law_layers.specs.Lowering.{MomentKept, flow_program, IsAccepted, AreChecked, HaveParts, LoweringKeepsRuns}
 
 -- ---- C values in the machine's words

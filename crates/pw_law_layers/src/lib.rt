@@ -4,7 +4,7 @@
 ghost use Rattle.pw_law_layers.specs.Rooms.{PlacesFit, MapHasFrames};
 ghost use Rattle.pw_law_layers.specs.Whole.{LayersCompose, LayersHold, AllFramesFit, RefinementGoesThrough};
 
-use pw_law_code::laws::placement_keeps_runs;
+use pw_law_code::code::placement_keeps_runs;
 use pw_law_link::laws::modules_stand_in_order;
 use pw_law_lower::frames_fit;
 

@@ -7,8 +7,8 @@ use Rattle.pw_inst.specs.InstructionTable.{decoded, form_of, system, three_regis
 use Rattle.pw_machine.specs.Run.{State}
 use Rattle.pw_milli.specs.Words.{exit_words, getchar_words, putchar_words, divs_words, divu_words, mul_words, rems_words, remu_words}
 use Rattle.pw_milli.specs.Calls.{Enters}
-use Rattle.pw_run_lines.specs.LineRun.{Frame, return_address}
-use Rattle.pw_run_machine.specs.MachineRun.{function_at}
+use Rattle.pw_run_languages.specs.LineRun.{Frame, return_address}
+use Rattle.pw_run_languages.specs.MachineRun.{function_at}
 use Rattle.pw_law_link_run.specs.Steps.{Setting, map_in, fetched, IsInText}
 use Rattle.pw_law_link_run.specs.Simulating.{IsCaller, IsAsking, HasAsking, HasLibrary}
 use Rattle.pw_law_link_run.specs.Leaving.{AreByRegisters}

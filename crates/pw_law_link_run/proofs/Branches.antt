@@ -7,7 +7,7 @@ use Rattle.pw_machine.specs.Core.{Core, register, next, moved}
 use Rattle.pw_inst.specs.Computing.{condition}
 use Rattle.pw_machine.specs.Effect.{Effect, Goes, target, branches_if}
 use Rattle.pw_machine.specs.Effect as machine
-use Rattle.pw_run_lines.specs.Acts as lines
+use Rattle.pw_run_languages.specs.Acts as lines
 use Rattle.pw_law_link_run.specs.Showing.{Shows, Leads}
 use Rattle.pw_law_link_run.specs.Steps.{Setting}
 use Rattle.pw_law_link_run.proofs.Words.{read, compares_shown, linked_done, same_skip, skip_kept}

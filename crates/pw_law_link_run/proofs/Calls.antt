@@ -9,12 +9,12 @@ use Rattle.pw_delay.specs.declared.items.Turn.TheVariants.{Leave}
 use Rattle.pw_delay.specs.declared.items.Item.{Item}
 use Rattle.pw_delay.specs.declared.items.Item.TheVariants.{Turns}
 use Rattle.pw_alloc.specs.declared.located.Located.{Located}
-use Rattle.pw_run_trace.specs.Traces.{Standing, Called, Returned}
-use Rattle.pw_run_lines.specs.Acts as lines
-use Rattle.pw_run_lines.specs.Acts.{settled, symbol_address}
-use Rattle.pw_run_lines.specs.Standing.{globals_now}
-use Rattle.pw_run_lines.specs.LineRun.{LineFn, Frame, Machine, On, Astray, name_of, active, kept, left_behind, globals_in, return_address, enters, returns, IsCalling}
-use Rattle.pw_run_machine.specs.MachineRun.{Map, Call, active_as, function_at}
+use Rattle.pw_run_languages.specs.Traces.{Standing, Called, Returned}
+use Rattle.pw_run_languages.specs.Acts as lines
+use Rattle.pw_run_languages.specs.Acts.{settled, symbol_address}
+use Rattle.pw_run_languages.specs.Standing.{globals_now}
+use Rattle.pw_run_languages.specs.LineRun.{LineFn, Frame, Machine, On, Astray, name_of, active, kept, left_behind, globals_in, return_address, enters, returns, IsCalling}
+use Rattle.pw_run_languages.specs.MachineRun.{Map, Call, active_as, function_at}
 use Rattle.pw_law_link_run.specs.Steps.{Setting, map_in, At, Arrives, is_back, globals_by, with_call, with_return, AreInData}
 use Rattle.pw_law_link_run.specs.Placing.{name_in, own_address, IsLeft}
 use Rattle.pw_law_link_run.specs.Simulating.{call_from, calls_behind, calls_from, noted_by, IsLinked, IsCaller, Simulates, IsCalm, IsCalmBehind, leaving}

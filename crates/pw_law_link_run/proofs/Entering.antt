@@ -16,11 +16,11 @@ use Rattle.pw_delay.specs.declared.items.Item.{Item}
 use Rattle.pw_delay.specs.declared.items.Item.TheVariants.{Turns}
 use Rattle.pw_delay.specs.Items.{link_moved}
 use Rattle.pw_run.specs.Runs.{End, Ended}
-use Rattle.pw_run_trace.specs.Traces.{Called as CalledEvent}
-use Rattle.pw_run_flow.specs.Programs.{Library, GetChar, PutChar, Exit, library_at}
-use Rattle.pw_run_lines.specs.Acts as lines
-use Rattle.pw_run_lines.specs.Acts.{Acts, acts, settled, symbol_address}
-use Rattle.pw_run_lines.specs.LineRun.{LineFn, Machine, Step, On, Stopped, Astray, kept, left_behind, linked, return_address, notes_call, does, went_on, and_then, through_slot, function_named, function_at, calls, calls_at, library, enters}
+use Rattle.pw_run_languages.specs.Traces.{Called as CalledEvent}
+use Rattle.pw_run_languages.specs.Programs.{Library, GetChar, PutChar, Exit, library_at}
+use Rattle.pw_run_languages.specs.Acts as lines
+use Rattle.pw_run_languages.specs.Acts.{Acts, acts, settled, symbol_address}
+use Rattle.pw_run_languages.specs.LineRun.{LineFn, Machine, Step, On, Stopped, Astray, kept, left_behind, linked, return_address, notes_call, does, went_on, and_then, through_slot, function_named, function_at, calls, calls_at, library, enters}
 use Rattle.pw_law_link_run.specs.Steps.{Setting, At, Arrives, with_call, AreInData}
 use Rattle.pw_law_link_run.specs.Placing.{name_in, own_address}
 use Rattle.pw_law_link_run.specs.Simulating.{calls_from, noted_by, IsLinked, IsCaller, Simulates, IsCalm, IsCalmInside, HasAsking, HasLibrary, IsHigh}

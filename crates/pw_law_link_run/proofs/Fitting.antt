@@ -16,8 +16,8 @@ use Rattle.pw_delay.specs.declared.items.Turn.TheVariants as turn
 use Rattle.pw_delay.specs.declared.items.Item.{Item}
 use Rattle.pw_delay.specs.declared.items.Item.TheVariants.{Plain, Turns, Mark}
 use Rattle.pw_delay.specs.Items.{link_moved, begins_next, plain_item, item_of, before, slotted}
-use Rattle.pw_run_lines.specs.Acts.{with_address, settled, symbol_address}
-use Rattle.pw_run_machine.specs.CodeStands.{IsReady}
+use Rattle.pw_run_languages.specs.Acts.{with_address, settled, symbol_address}
+use Rattle.pw_run_languages.specs.CodeStands.{IsReady}
 use Rattle.pw_law_link_run.specs.Steps.{Setting}
 use Rattle.pw_law_link_run.specs.Simulating.{IsFit}
 use Rattle.pw_law_link_run.specs.Conventional.{IsConventional}

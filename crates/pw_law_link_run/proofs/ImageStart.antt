@@ -8,9 +8,9 @@ use Rattle.pw_machine.specs.Core.{Core}
 use Rattle.pw_machine.specs.Start.{data_start_of, stack_start_of, start_memory, image_start}
 use Rattle.pw_machine.specs.Start as machine
 use Rattle.pw_machine.specs.Run.{State}
-use Rattle.pw_run_lines.specs.Acts.{put}
-use Rattle.pw_run_lines.specs.LineRun.{LineFn, function_named, start_core}
-use Rattle.pw_run_machine.specs.MachineRun.{start_state}
+use Rattle.pw_run_languages.specs.Acts.{put}
+use Rattle.pw_run_languages.specs.LineRun.{LineFn, function_named, start_core}
+use Rattle.pw_run_languages.specs.MachineRun.{start_state}
 use Rattle.pw_law_link_run.specs.Showing.{Shows}
 use Rattle.pw_law_link_run.specs.Steps.{Setting}
 use Rattle.pw_law_link_run.specs.Placing.{own_address}

@@ -13,11 +13,11 @@ use Rattle.pw_delay.specs.declared.items.Turn.TheVariants.{Back, Goto, If}
 use Rattle.pw_delay.specs.declared.items.Item.{Item}
 use Rattle.pw_delay.specs.declared.items.Item.TheVariants.{Plain, Turns, Mark}
 use Rattle.pw_delay.specs.Placement.{size, in_slot}
-use Rattle.pw_run_lines.specs.Acts as lines
-use Rattle.pw_run_lines.specs.Acts.{Act, Acts, Full, Fails, acts, settled}
-use Rattle.pw_run_lines.specs.LineRun.{LineFn, Machine, On, left_behind, counted, accesses, went_on, does, from_mark, goes_to, to_block, back_over, words_back, goes_back}
-use Rattle.pw_run_lines.specs.Words.{TestsShort, TestsLong, Tests}
-use Rattle.pw_run_machine.specs.MachineRun.{Noted}
+use Rattle.pw_run_languages.specs.Acts as lines
+use Rattle.pw_run_languages.specs.Acts.{Act, Acts, Full, Fails, acts, settled}
+use Rattle.pw_run_languages.specs.LineRun.{LineFn, Machine, On, left_behind, counted, accesses, went_on, does, from_mark, goes_to, to_block, back_over, words_back, goes_back}
+use Rattle.pw_run_languages.specs.Words.{TestsShort, TestsLong, Tests}
+use Rattle.pw_run_languages.specs.MachineRun.{Noted}
 use Rattle.pw_law_link_run.specs.Steps.{Setting, fetched, IsInText, At, Arrives, IsQuiet}
 use Rattle.pw_law_link_run.specs.Placing.{name_in, text_of, IsLeft}
 use Rattle.pw_law_link_run.specs.Simulating.{calls_from, noted_by, IsFit, IsLinked, IsCaller, Simulates, IsCalm, IsCalmInside}

@@ -6,9 +6,9 @@ use Rattle.pw_delay.specs.declared.items.Word.{Word}
 use Rattle.pw_delay.specs.declared.items.Turn.TheVariants.{Back, Goto, If, CallTo, CallReg, Leave}
 use Rattle.pw_delay.specs.declared.items.Item.{Item}
 use Rattle.pw_delay.specs.declared.items.Item.TheVariants.{Plain, Turns, Mark}
-use Rattle.pw_run_lines.specs.Acts as lines
-use Rattle.pw_run_lines.specs.Acts.{Acts, acts, settled}
-use Rattle.pw_run_lines.specs.LineRun.{LineFn, Frame, Machine, On, left_behind, accesses, does, from_mark, back_over, turns, enters, IsCalling}
+use Rattle.pw_run_languages.specs.Acts as lines
+use Rattle.pw_run_languages.specs.Acts.{Acts, acts, settled}
+use Rattle.pw_run_languages.specs.LineRun.{LineFn, Frame, Machine, On, left_behind, accesses, does, from_mark, back_over, turns, enters, IsCalling}
 use Rattle.pw_law_link_run.specs.Steps.{Setting}
 use Rattle.pw_law_link_run.specs.Placing.{name_in, own_address, words_of, Parts}
 use Rattle.pw_law_link_run.specs.Simulating.{IsLinked, IsCalm}

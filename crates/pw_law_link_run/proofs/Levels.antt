@@ -9,9 +9,9 @@ use Rattle.pw_delay.specs.declared.items.Turn.TheVariants.{Back, Goto, If, CallT
 use Rattle.pw_delay.specs.declared.items.Item.{Item}
 use Rattle.pw_delay.specs.declared.items.Item.TheVariants.{Plain, Turns, Mark}
 use Rattle.pw_delay.specs.Placement.{size}
-use Rattle.pw_run_lines.specs.Acts as lines
-use Rattle.pw_run_lines.specs.LineRun.{LineFn, Frame, Machine, left_behind, return_address, IsCalling}
-use Rattle.pw_run_machine.specs.MachineRun.{Call, function_at, active_as}
+use Rattle.pw_run_languages.specs.Acts as lines
+use Rattle.pw_run_languages.specs.LineRun.{LineFn, Frame, Machine, left_behind, return_address, IsCalling}
+use Rattle.pw_run_languages.specs.MachineRun.{Call, function_at, active_as}
 use Rattle.pw_law_link_run.specs.Steps.{Setting, map_in, is_back, IsSavedFrom, AreInData}
 use Rattle.pw_law_link_run.specs.Placing.{name_in, own_address, words_of, Parts}
 use Rattle.pw_law_link_run.specs.Simulating.{link_of, call_from, calls_behind, calls_from, IsLinked, IsCalm, IsCalmInside, IsCalmBehind, IsHigh, IsCaller}

@@ -9,13 +9,13 @@ use Rattle.pw_machine.specs.Core.{Core}
 use Rattle.pw_machine.specs.Effect.{Effect, Reads, Writes, Stops, effect_of}
 use Rattle.pw_machine.specs.Effect as machine
 use Rattle.pw_machine.specs.Run.{State, Running, run_of, goes_on, taken, answered}
-use Rattle.pw_law_machine.specs.Lawful.{IsLawfulCore}
-use Rattle.pw_run_trace.specs.Traces.{Standing, Called, Returned}
-use Rattle.pw_run_flow.specs.Programs.{Library, GetChar, PutChar, Exit}
-use Rattle.pw_run_lines.specs.Acts as lines
-use Rattle.pw_run_lines.specs.LineRun.{Machine, On, kept, counted, globals_in, return_address, notes_call, library}
-use Rattle.pw_run_machine.specs.MachineRun.{Call, Noted, stepped, arrived, accesses_in, function_at}
-use Rattle.pw_run_machine.specs.MachineRun as noting
+use Rattle.pw_law_code.specs.Lawful.{IsLawfulCore}
+use Rattle.pw_run_languages.specs.Traces.{Standing, Called, Returned}
+use Rattle.pw_run_languages.specs.Programs.{Library, GetChar, PutChar, Exit}
+use Rattle.pw_run_languages.specs.Acts as lines
+use Rattle.pw_run_languages.specs.LineRun.{Machine, On, kept, counted, globals_in, return_address, notes_call, library}
+use Rattle.pw_run_languages.specs.MachineRun.{Call, Noted, stepped, arrived, accesses_in, function_at}
+use Rattle.pw_run_languages.specs.MachineRun as noting
 use Rattle.pw_law_link_run.specs.Showing.{Shows}
 use Rattle.pw_law_link_run.specs.Steps.{Setting, map_in, fetched, IsInText, IsSetting, At, Arrives, is_back, globals_by, call_of, with_call, with_return, with_accesses, AreInData}
 use Rattle.pw_law_link_run.specs.Placing.{IsLeft}

@@ -6,7 +6,7 @@ use Rattle.pw_machine.specs.Core.{register}
 use Rattle.pw_machine.specs.Run.{State}
 use Rattle.pw_milli.specs.Words.{divs_words, divu_words, mul_words, rems_words, remu_words}
 use Rattle.pw_milli.specs.Calls.{Computes, IsProduct, IsQuotient, IsRemainder, IsSignedQuotient, IsSignedRemainder}
-use Rattle.pw_run_lines.specs.LineRun.{of_signed, of_unsigned, result_of}
+use Rattle.pw_run_languages.specs.LineRun.{of_signed, of_unsigned, result_of}
 use Rattle.pw_law_link_run.specs.Routines.{ResultIs, Makes}
 
 makes_by : (words : List ℕ) (address : ℕ) (s : State) (j bound : ℕ) (IsResult : ℕ → Type 0) → Computes words address s bound IsResult

@@ -13,9 +13,9 @@ use Rattle.pw_delay.specs.declared.items.Item.TheVariants.{Plain, Turns, Mark}
 use Rattle.pw_delay.specs.Items.{link_moved}
 use Rattle.pw_delay.specs.Placement.{size}
 use Rattle.pw_run.specs.Runs.{End, StackFull}
-use Rattle.pw_run_lines.specs.Acts as lines
-use Rattle.pw_run_lines.specs.Acts.{Act, Acts, Full, Fails, acts, settled}
-use Rattle.pw_run_lines.specs.LineRun.{Frame, Machine, Step, On, Stopped, Astray, left_behind, counted, return_address, does, went_on, goes_to, to_block, from_mark, goes_back, words_back, returns, turned, step}
+use Rattle.pw_run_languages.specs.Acts as lines
+use Rattle.pw_run_languages.specs.Acts.{Act, Acts, Full, Fails, acts, settled}
+use Rattle.pw_run_languages.specs.LineRun.{Frame, Machine, Step, On, Stopped, Astray, left_behind, counted, return_address, does, went_on, goes_to, to_block, from_mark, goes_back, words_back, returns, turned, step}
 use Rattle.pw_law_link_run.specs.Steps.{Setting, AreInData}
 use Rattle.pw_law_link_run.specs.Placing.{name_in}
 use Rattle.pw_law_link_run.specs.Simulating.{calls_from, calls_behind, noted_by, IsFit, IsLinked, Simulates, IsCalm, IsCalmInside, IsCalmBehind, leaving, HasLibrary}

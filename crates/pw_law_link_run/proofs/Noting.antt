@@ -11,16 +11,16 @@ use Rattle.pw_inst.specs.Computing.{offset_by}
 use Rattle.pw_inst.specs.InstructionTable.{decoded}
 use Rattle.pw_flow.specs.declared.flow.FlowGlobal.{FlowGlobal}
 use Rattle.pw_machine.specs.Core.{Core, register, byte_at, word_at}
-use Rattle.pw_run_trace.specs.Traces.{Standing, Event, Called, Returned, Loaded, Stored, touches}
-use Rattle.pw_run_flow.specs.Programs.{Program, globals_of}
+use Rattle.pw_run_languages.specs.Traces.{Standing, Event, Called, Returned, Loaded, Stored, touches}
+use Rattle.pw_run_languages.specs.Programs.{Program, globals_of}
 use Rattle.pw_alloc.specs.Frames.{head_size}
 use Rattle.pw_db.specs.Limits.{kept_registers}
-use Rattle.pw_run_webs.specs.PlacedRun.{web_of}
-use Rattle.pw_run_lines.specs.Acts as lines
-use Rattle.pw_run_lines.specs.Acts.{put, number_at, bytes_at, loaded_at, stored_at}
-use Rattle.pw_run_lines.specs.Standing.{Active, given_back, without, held, standing, global_now, globals_now}
-use Rattle.pw_run_lines.specs.LineRun.{accesses}
-use Rattle.pw_run_machine.specs.MachineRun.{Map, Call, Noted, kept, active_as, globals_in, core_of, has_returned, with_returns, left, called, function_at, arrived, is_eligible, accesses_of, accesses_in}
+use Rattle.pw_run_languages.specs.PlacedRun.{web_of}
+use Rattle.pw_run_languages.specs.Acts as lines
+use Rattle.pw_run_languages.specs.Acts.{put, number_at, bytes_at, loaded_at, stored_at}
+use Rattle.pw_run_languages.specs.Standing.{Active, given_back, without, held, standing, global_now, globals_now}
+use Rattle.pw_run_languages.specs.LineRun.{accesses}
+use Rattle.pw_run_languages.specs.MachineRun.{Map, Call, Noted, kept, active_as, globals_in, core_of, has_returned, with_returns, left, called, function_at, arrived, is_eligible, accesses_of, accesses_in}
 use Rattle.pw_law_link_run.specs.Showing.{Shows}
 use Rattle.pw_law_link_run.specs.Steps.{Setting, map_in, Arrives, At, is_back, IsQuiet, IsSavedFrom, AreInData, globals_by, call_of, with_call, with_return}
 use Rattle.pw_law_link_run.proofs.Words.{read}

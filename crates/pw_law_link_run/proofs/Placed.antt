@@ -8,8 +8,8 @@ use Rattle.std.proofs.lemmas.List.Sums.{sum_by-cons, sum_by-append}
 use Rattle.pw_delay.specs.declared.items.Item.{Item}
 use Rattle.pw_delay.specs.declared.items.Item.TheVariants.{Plain, Turns, Mark}
 use Rattle.pw_delay.specs.Placement.{size, sizes, turn_size}
-use Rattle.pw_run_lines.specs.LineRun.{LineFn, from_mark, is_plain, back_over}
-use Rattle.pw_run_lines.specs.Words.{Text, StandsAt}
+use Rattle.pw_run_languages.specs.LineRun.{LineFn, from_mark, is_plain, back_over}
+use Rattle.pw_run_languages.specs.Words.{Text, StandsAt}
 use Rattle.pw_law_link_run.specs.Steps.{Setting, IsInText}
 use Rattle.pw_law_link_run.specs.Placing.{name_in, own_address, text_of, words_of, Stands, IsLeft}
 

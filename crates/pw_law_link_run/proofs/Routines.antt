@@ -13,12 +13,12 @@ use Rattle.pw_delay.specs.declared.items.Item.TheVariants.{Turns}
 use Rattle.pw_machine.specs.Core.{Core, register, word_at}
 use Rattle.pw_machine.specs.Run.{State, Progress, Running, Stopped, run_of, began, goes_on, continued}
 use Rattle.pw_milli.specs.Calls.{Enters, returned, is_scratch, is_access, IsInside, StaysInside}
-use Rattle.pw_run_flow.specs.Programs.{globals_of}
-use Rattle.pw_run_lines.specs.Acts as lines
-use Rattle.pw_run_lines.specs.Acts.{put}
-use Rattle.pw_run_lines.specs.LineRun.{Frame, Machine, left_behind, return_address, result_of, scratch_registers, with_scratch, with_result}
-use Rattle.pw_run_machine.specs.MachineRun.{Map, Call, Noted, has_returned, arrived, stepped, accesses_of, accesses_in, core_of, function_at}
-use Rattle.pw_run_machine.specs.MachineRun as noting
+use Rattle.pw_run_languages.specs.Programs.{globals_of}
+use Rattle.pw_run_languages.specs.Acts as lines
+use Rattle.pw_run_languages.specs.Acts.{put}
+use Rattle.pw_run_languages.specs.LineRun.{Frame, Machine, left_behind, return_address, result_of, scratch_registers, with_scratch, with_result}
+use Rattle.pw_run_languages.specs.MachineRun.{Map, Call, Noted, has_returned, arrived, stepped, accesses_of, accesses_in, core_of, function_at}
+use Rattle.pw_run_languages.specs.MachineRun as noting
 use Rattle.pw_law_link_run.specs.Steps.{Setting, map_in, IsSetting, At, Arrives, with_accesses}
 use Rattle.pw_law_link_run.specs.Simulating.{calls_from, noted_by, IsLinked, IsCaller, Simulates, IsCalm, IsCalmInside, IsHigh}
 use Rattle.pw_law_link_run.specs.Meeting.{ComesTo}

@@ -5,11 +5,11 @@ use Rattle.pw_machine.specs.declared.ends.End.TheVariants as machine
 use Rattle.pw_machine.specs.Core.{Core}
 use Rattle.pw_machine.specs.Run.{State, Progress, Running, Stopped, run_of}
 use Rattle.pw_run.specs.Runs.{End, Going, Ended, StackFull, AreAlike, none, also, Met, Refines, Same}
-use Rattle.pw_run_trace.specs.Traces.{Event, with_refusal}
-use Rattle.pw_run_lines.specs.LineRun.{Machine, Step, On, Astray, and_then, step, steps, start, line_run}
-use Rattle.pw_run_lines.specs.LineRun as lines
-use Rattle.pw_run_machine.specs.MachineRun.{Noted, start_state, traced_run}
-use Rattle.pw_run_machine.specs.MachineRun as noting
+use Rattle.pw_run_languages.specs.Traces.{Event, with_refusal}
+use Rattle.pw_run_languages.specs.LineRun.{Machine, Step, On, Astray, and_then, step, steps, start, line_run}
+use Rattle.pw_run_languages.specs.LineRun as lines
+use Rattle.pw_run_languages.specs.MachineRun.{Noted, start_state, traced_run}
+use Rattle.pw_run_languages.specs.MachineRun as noting
 use Rattle.pw_law_link_run.specs.Steps.{Setting, map_in}
 use Rattle.pw_law_link_run.specs.Simulating.{IsLinked, HasLibrary}
 use Rattle.pw_law_link_run.specs.Meeting.{ComesTo, Meets, IsSteady}

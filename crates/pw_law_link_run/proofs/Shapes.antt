@@ -9,8 +9,8 @@ use Rattle.pw_inst.specs.declared.line.Line.TheVariants as line
 use Rattle.pw_webflow.specs.declared.web.WebBlock.{WebBlock}
 use Rattle.pw_alloc.specs.declared.located.Located.{Located}
 use Rattle.pw_alloc.specs.Frames.{head_size, slots_begin, last_reach, below}
-use Rattle.pw_select_registers.specs.Registers.{place_of, operand_register, operand_lines, loaded, load_from}
-use Rattle.pw_select_ops.specs.Operations.{layout, web_op_lines}
+use Rattle.pw_select_lines.specs.Registers.{place_of, operand_register, operand_lines, loaded, load_from}
+use Rattle.pw_select_lines.specs.Operations.{layout, web_op_lines}
 use Rattle.pw_select.specs.Selection.{slot_offsets, saved_lines, webs_stored, frame_left, prologue, epilogue, end_lines, block_lines, blocks_lines, selected}
 use Rattle.pw_delay.specs.declared.items.Word.{Word}
 use Rattle.pw_delay.specs.declared.items.Turn.TheVariants.{Back, Goto, If, CallTo, CallReg, Leave}
@@ -18,7 +18,7 @@ use Rattle.pw_delay.specs.declared.items.Item.{Item}
 use Rattle.pw_delay.specs.declared.items.Item.TheVariants.{Plain, Turns, Mark}
 use Rattle.pw_delay.specs.Items.{item_of, before, slotted}
 use Rattle.pw_delay.specs.Placement.{size, sizes}
-use Rattle.pw_run_lines.specs.LineRun.{LineFn}
+use Rattle.pw_run_languages.specs.LineRun.{LineFn}
 use Rattle.pw_law_link_run.specs.Steps.{Setting}
 use Rattle.pw_law_link_run.specs.Placing.{name_in, words_of, Parts}
 use Rattle.pw_law_link_run.specs.Leveled.{IsPassing}

@@ -4,10 +4,10 @@ use Rattle.std.specs.Str.{bytes_eq}
 use Rattle.std.proofs.Common.{arith, subst, sym, ap, refl, ◌∙◌}
 use Rattle.pw_value.specs.ProgramNames.{start_name}
 use Rattle.pw_machine.specs.Run.{State, Running, began, run_of}
-use Rattle.pw_run_lines.specs.LineRun.{LineFn, Machine, On, kept, function_named, globals_in, start_core, start}
-use Rattle.pw_run_trace.specs.Traces.{Called}
-use Rattle.pw_run_machine.specs.MachineRun.{Noted, arrived}
-use Rattle.pw_run_machine.specs.MachineRun as noting
+use Rattle.pw_run_languages.specs.LineRun.{LineFn, Machine, On, kept, function_named, globals_in, start_core, start}
+use Rattle.pw_run_languages.specs.Traces.{Called}
+use Rattle.pw_run_languages.specs.MachineRun.{Noted, arrived}
+use Rattle.pw_run_languages.specs.MachineRun as noting
 use Rattle.pw_law_link_run.specs.Steps.{Setting, map_in, At, Arrives, with_call, AreInData}
 use Rattle.pw_law_link_run.specs.Placing.{name_in, own_address}
 use Rattle.pw_law_link_run.specs.Simulating.{noted_by, IsLinked, Simulates}

@@ -14,9 +14,9 @@ use Rattle.pw_delay.specs.declared.items.Turn.TheVariants.{Back, Goto, If, CallT
 use Rattle.pw_delay.specs.declared.items.Item.{Item}
 use Rattle.pw_delay.specs.declared.items.Item.TheVariants.{Plain, Turns, Mark}
 use Rattle.pw_delay.specs.Items.{link_moved}
-use Rattle.pw_run_flow.specs.Programs.{Library, GetChar, PutChar, Exit, library_at}
-use Rattle.pw_run_lines.specs.Acts as lines
-use Rattle.pw_run_lines.specs.LineRun.{LineFn, Frame, Machine, Step, On, Stopped, Astray, left_behind, counted, return_address, does, goes_to, to_block, from_mark, back_over, goes_back, words_back, library, calls, calls_at, function_at, function_named, and_then, through_slot, result_of, scratch_registers, with_scratch, with_result, returns, turned, step, steps, IsCalling}
+use Rattle.pw_run_languages.specs.Programs.{Library, GetChar, PutChar, Exit, library_at}
+use Rattle.pw_run_languages.specs.Acts as lines
+use Rattle.pw_run_languages.specs.LineRun.{LineFn, Frame, Machine, Step, On, Stopped, Astray, left_behind, counted, return_address, does, goes_to, to_block, from_mark, back_over, goes_back, words_back, library, calls, calls_at, function_at, function_named, and_then, through_slot, result_of, scratch_registers, with_scratch, with_result, returns, turned, step, steps, IsCalling}
 use Rattle.pw_law_link_run.specs.Steps.{Setting}
 use Rattle.pw_law_link_run.specs.Simulating.{IsFit, IsLinked, IsCalm, IsCalmBehind}
 use Rattle.pw_law_link_run.specs.Meeting.{StepCalm, IsTurning, IsReturn, IsSteady}

@@ -11,13 +11,13 @@ use Rattle.pw_machine.specs.Core.{Core, next, advanced, word_at}
 use Rattle.pw_machine.specs.Effect.{Effect, Goes, Stops, is_in_text, effect_of}
 use Rattle.pw_machine.specs.Effect as machine
 use Rattle.pw_machine.specs.Run.{State, Progress, Running, Stopped, run_of, goes_on, taken}
-use Rattle.pw_law_machine.specs.Lawful.{IsLawfulCore, IsLater, state_of}
-use Rattle.pw_run_trace.specs.Traces.{Event}
-use Rattle.pw_run_lines.specs.Acts as lines
-use Rattle.pw_run_lines.specs.Acts.{Act, Acts, Full, acts, loaded_at, stored_at}
-use Rattle.pw_run_lines.specs.LineRun.{accesses}
-use Rattle.pw_run_machine.specs.MachineRun.{Map, Noted, stepped, arrived, accesses_in}
-use Rattle.pw_run_machine.specs.MachineRun as noting
+use Rattle.pw_law_code.specs.Lawful.{IsLawfulCore, IsLater, state_of}
+use Rattle.pw_run_languages.specs.Traces.{Event}
+use Rattle.pw_run_languages.specs.Acts as lines
+use Rattle.pw_run_languages.specs.Acts.{Act, Acts, Full, acts, loaded_at, stored_at}
+use Rattle.pw_run_languages.specs.LineRun.{accesses}
+use Rattle.pw_run_languages.specs.MachineRun.{Map, Noted, stepped, arrived, accesses_in}
+use Rattle.pw_run_languages.specs.MachineRun as noting
 use Rattle.pw_law_link_run.specs.Showing.{Shows, Leads, DoesSo}
 use Rattle.pw_law_link_run.specs.Steps.{Setting, map_in, fetched, IsInText, IsSetting, At, Arrives, with_accesses}
 use Rattle.pw_law_link_run.proofs.Words.{word_done, effect_runs, effect_passes, leads_by}

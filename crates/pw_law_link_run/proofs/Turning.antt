@@ -9,10 +9,10 @@ use Rattle.pw_machine.specs.Core.{Core}
 use Rattle.pw_inst.specs.Computing.{condition}
 use Rattle.pw_machine.specs.Effect as machine
 use Rattle.pw_delay.specs.Placement.{in_slot}
-use Rattle.pw_run_lines.specs.Acts as lines
-use Rattle.pw_run_lines.specs.Acts.{Acts, acts, settled, loaded_at, stored_at}
-use Rattle.pw_run_lines.specs.LineRun.{accesses}
-use Rattle.pw_run_machine.specs.MachineRun.{Noted}
+use Rattle.pw_run_languages.specs.Acts as lines
+use Rattle.pw_run_languages.specs.Acts.{Acts, acts, settled, loaded_at, stored_at}
+use Rattle.pw_run_languages.specs.LineRun.{accesses}
+use Rattle.pw_run_languages.specs.MachineRun.{Noted}
 use Rattle.pw_law_link_run.specs.Showing.{Leads}
 use Rattle.pw_law_link_run.specs.Steps.{Setting, fetched, IsInText, IsSetting, At, Arrives, IsQuiet, with_accesses}
 use Rattle.pw_law_link_run.proofs.Noting.{settles, no_accesses}

@@ -2,10 +2,10 @@
 use Rattle.std.specs.Prelude.{ℕ, ◌≡◌, ◌+◌, ◌≤◌, None, List}
 use Rattle.pw_machine.specs.Core.{Core, word_at}
 use Rattle.pw_machine.specs.Run.{State, Running, run_of, continued}
-use Rattle.pw_law_machine.specs.Lawful.{IsLawful, IsLater, HasSameText, state_of}
+use Rattle.pw_law_code.specs.Lawful.{IsLawful, IsLater, HasSameText, state_of}
 use Rattle.pw_run.specs.Runs.{Refines, Same}
-use Rattle.pw_run_lines.specs.LineRun.{LineFn, start, line_run}
-use Rattle.pw_run_machine.specs.MachineRun.{start_state, traced_run}
+use Rattle.pw_run_languages.specs.LineRun.{LineFn, start, line_run}
+use Rattle.pw_run_languages.specs.MachineRun.{start_state, traced_run}
 use Rattle.pw_law_link_run.specs.Steps.{Setting, map_in, IsSetting}
 use Rattle.pw_law_link_run.specs.Simulating.{IsLinked, HasLibrary}
 use Rattle.pw_law_link_run.specs.Routines.{HasRoutines}

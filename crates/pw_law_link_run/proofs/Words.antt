@@ -13,10 +13,10 @@ use Rattle.pw_machine.specs.Core.{Core, register, with_register, next, moved, ad
 use Rattle.pw_inst.specs.Computing.{condition, extracted, sign_extended, deposited, offset_by}
 use Rattle.pw_machine.specs.Effect.{Effect, Goes, Stops, puts, access_fault, is_in_text, effect_of, effect_of_inst}
 use Rattle.pw_machine.specs.Effect as machine
-use Rattle.pw_law_machine.specs.Lawful.{IsLawfulCore}
-use Rattle.pw_run_lines.specs.Addresses.{Addresses}
-use Rattle.pw_run_lines.specs.Acts as lines
-use Rattle.pw_run_lines.specs.Acts.{put, number_at, with_number, is_open, Act, Acts, Full, Fails, acts}
+use Rattle.pw_law_code.specs.Lawful.{IsLawfulCore}
+use Rattle.pw_run_languages.specs.Addresses.{Addresses}
+use Rattle.pw_run_languages.specs.Acts as lines
+use Rattle.pw_run_languages.specs.Acts.{put, number_at, with_number, is_open, Act, Acts, Full, Fails, acts}
 use Rattle.pw_law_link_run.specs.Showing.{Shows, Leads, DoesSo}
 
 -- ---- registers

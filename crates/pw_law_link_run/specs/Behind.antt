@@ -3,8 +3,8 @@ use Rattle.std.specs.Prelude.{ℕ, ◌≡◌, ◌+◌, ◌*◌, ◌<◌, ◌≤�
 use Rattle.pw_value.specs.ProgramNames.{exit_name, getchar_name, putchar_name}
 use Rattle.pw_milli.specs.Words.{exit_words, getchar_words, putchar_words, divs_words, divu_words, mul_words, rems_words, remu_words}
 use Rattle.pw_milli.specs.Calls.{StandsAt}
-use Rattle.pw_run_lines.specs.LineRun.{LineFn}
-use Rattle.pw_run_machine.specs.MachineRun.{function_at}
+use Rattle.pw_run_languages.specs.LineRun.{LineFn}
+use Rattle.pw_run_languages.specs.MachineRun.{function_at}
 use Rattle.pw_law_link_run.specs.Steps.{Setting, map_in}
 use Rattle.pw_law_link_run.specs.Placing.{own_address, words_of}
 

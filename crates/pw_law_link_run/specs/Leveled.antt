@@ -7,11 +7,11 @@ use Rattle.pw_delay.specs.declared.items.Word.{Word}
 use Rattle.pw_delay.specs.declared.items.Turn.TheVariants.{Goto, Leave}
 use Rattle.pw_delay.specs.declared.items.Item.{Item}
 use Rattle.pw_delay.specs.declared.items.Item.TheVariants.{Plain, Turns, Mark}
-use Rattle.pw_run_flow.specs.Programs.{globals_of}
-use Rattle.pw_run_lines.specs.Acts as lines
-use Rattle.pw_run_lines.specs.Acts.{Acts, acts, settled}
-use Rattle.pw_run_lines.specs.LineRun.{LineFn, Frame, Machine, Step, On, Stopped, Astray, back_over, IsCalling}
-use Rattle.pw_run_machine.specs.MachineRun.{function_at}
+use Rattle.pw_run_languages.specs.Programs.{globals_of}
+use Rattle.pw_run_languages.specs.Acts as lines
+use Rattle.pw_run_languages.specs.Acts.{Acts, acts, settled}
+use Rattle.pw_run_languages.specs.LineRun.{LineFn, Frame, Machine, Step, On, Stopped, Astray, back_over, IsCalling}
+use Rattle.pw_run_languages.specs.MachineRun.{function_at}
 use Rattle.pw_law_link_run.specs.Steps.{Setting, map_in}
 use Rattle.pw_law_link_run.specs.Placing.{own_address, words_of, Parts}
 use Rattle.pw_law_link_run.specs.Meeting.{IsTurning}

@@ -11,11 +11,11 @@ use Rattle.pw_delay.specs.declared.items.Item.{Item}
 use Rattle.pw_delay.specs.declared.items.Item.TheVariants.{Turns}
 use Rattle.pw_delay.specs.Placement.{size}
 use Rattle.pw_run.specs.Runs.{End, Ended, StackFull}
-use Rattle.pw_run_flow.specs.Programs.{library_at}
-use Rattle.pw_run_lines.specs.Acts as lines
-use Rattle.pw_run_lines.specs.LineRun.{Machine, Step, On, Astray, function_at}
-use Rattle.pw_run_lines.specs.LineRun as run
-use Rattle.pw_run_machine.specs.MachineRun as noting
+use Rattle.pw_run_languages.specs.Programs.{library_at}
+use Rattle.pw_run_languages.specs.Acts as lines
+use Rattle.pw_run_languages.specs.LineRun.{Machine, Step, On, Astray, function_at}
+use Rattle.pw_run_languages.specs.LineRun as run
+use Rattle.pw_run_languages.specs.MachineRun as noting
 use Rattle.pw_law_link_run.specs.Steps.{Setting, map_in, AreInData}
 use Rattle.pw_law_link_run.specs.Placing.{name_in}
 use Rattle.pw_law_link_run.specs.Simulating.{calls_from, calls_behind, Simulates, IsCalm, IsCalmInside, IsCalmBehind, IsHigh}

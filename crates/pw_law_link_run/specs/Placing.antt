@@ -3,8 +3,8 @@ use Rattle.std.specs.Prelude.{ℕ, ◌≡◌, ◌+◌, ◌*◌, ◌%◌, ◌<◌
 use Rattle.pw_value.specs.Limits.{text_start}
 use Rattle.pw_delay.specs.declared.items.Item.{Item}
 use Rattle.pw_delay.specs.Placement.{sizes}
-use Rattle.pw_run_lines.specs.LineRun.{LineFn}
-use Rattle.pw_run_lines.specs.Words.{Text, StandsAt}
+use Rattle.pw_run_languages.specs.LineRun.{LineFn}
+use Rattle.pw_run_languages.specs.Words.{Text, StandsAt}
 use Rattle.pw_law_link_run.specs.Steps.{Setting, fetched}
 
 abbrev pub name_in : LineFn → List ℕ

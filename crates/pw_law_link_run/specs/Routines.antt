@@ -8,9 +8,9 @@ use Rattle.pw_milli.specs.Calls.{StandsAt, AreRegisters, Enters, returned, is_sc
 use Rattle.pw_delay.specs.declared.items.Turn.TheVariants.{CallTo}
 use Rattle.pw_delay.specs.declared.items.Item.{Item}
 use Rattle.pw_delay.specs.declared.items.Item.TheVariants.{Turns}
-use Rattle.pw_run_lines.specs.Acts as lines
-use Rattle.pw_run_lines.specs.LineRun.{Frame, Machine, Step, On, left_behind, linked, return_address, result_of, scratch_registers, with_scratch, with_result, step, steps}
-use Rattle.pw_run_machine.specs.MachineRun.{Call, function_at}
+use Rattle.pw_run_languages.specs.Acts as lines
+use Rattle.pw_run_languages.specs.LineRun.{Frame, Machine, Step, On, left_behind, linked, return_address, result_of, scratch_registers, with_scratch, with_result, step, steps}
+use Rattle.pw_run_languages.specs.MachineRun.{Call, function_at}
 use Rattle.pw_law_link_run.specs.Leaving.{AreByRegisters}
 use Rattle.pw_law_link_run.specs.Steps.{Setting, map_in, At}
 use Rattle.pw_law_link_run.specs.Placing.{IsLeft}

@@ -3,8 +3,8 @@ use Rattle.std.specs.Prelude.{ℕ, ◌≡◌, ◌≤◌}
 use Rattle.pw_machine.specs.declared.ends.End.TheVariants.{StackStop}
 use Rattle.pw_machine.specs.Core.{Core, register, next, byte_at}
 use Rattle.pw_machine.specs.Effect.{Effect, Goes, Stops}
-use Rattle.pw_run_lines.specs.Acts as lines
-use Rattle.pw_run_lines.specs.Acts.{Act, Acts, Full, Fails}
+use Rattle.pw_run_languages.specs.Acts as lines
+use Rattle.pw_run_languages.specs.Acts.{Act, Acts, Full, Fails}
 
 -- The registers are the same, and so is the memory from the start of the data on; below it the machine has its text.
 pub record Shows (c : lines.Core) (core : Core) : Type 0 where

@@ -12,10 +12,10 @@ use Rattle.pw_delay.specs.declared.items.Turn.TheVariants.{Back, Goto, If, CallT
 use Rattle.pw_delay.specs.declared.items.Item.{Item}
 use Rattle.pw_delay.specs.declared.items.Item.TheVariants.{Plain, Turns, Mark}
 use Rattle.pw_delay.specs.Items.{link_moved}
-use Rattle.pw_run_lines.specs.Acts.{settled}
-use Rattle.pw_run_lines.specs.Acts as lines
-use Rattle.pw_run_lines.specs.LineRun.{LineFn, Frame, Machine, name_of, left_behind, IsCalling, return_address}
-use Rattle.pw_run_machine.specs.MachineRun.{Call, Noted, function_at}
+use Rattle.pw_run_languages.specs.Acts.{settled}
+use Rattle.pw_run_languages.specs.Acts as lines
+use Rattle.pw_run_languages.specs.LineRun.{LineFn, Frame, Machine, name_of, left_behind, IsCalling, return_address}
+use Rattle.pw_run_languages.specs.MachineRun.{Call, Noted, function_at}
 use Rattle.pw_law_link_run.specs.Steps.{Setting, map_in, fetched, IsInText, IsSetting, At, is_back, IsQuiet}
 use Rattle.pw_law_link_run.specs.Placing.{name_in, own_address, words_of, Stands, Parts, IsLeft}
 

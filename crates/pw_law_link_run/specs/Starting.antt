@@ -4,7 +4,7 @@ use Rattle.pw_value.specs.ProgramNames.{start_name}
 use Rattle.pw_image.specs.declared.image.Memory.{Memory}
 use Rattle.pw_machine.specs.Core.{byte_at}
 use Rattle.pw_machine.specs.Start.{data_start_of, start_memory}
-use Rattle.pw_run_lines.specs.LineRun.{LineFn, function_named, start_core}
+use Rattle.pw_run_languages.specs.LineRun.{LineFn, function_named, start_core}
 use Rattle.pw_law_link_run.specs.Showing.{Shows}
 use Rattle.pw_law_link_run.specs.Steps.{Setting}
 use Rattle.pw_law_link_run.specs.Placing.{own_address}

@@ -6,17 +6,17 @@ use Rattle.pw_inst.specs.declared.Inst.{Inst}
 use Rattle.pw_inst.specs.InstructionTable.{decoded}
 use Rattle.pw_machine.specs.Core.{Core, word_at}
 use Rattle.pw_machine.specs.Run.{State, Running, run_of, continued}
-use Rattle.pw_law_machine.specs.Lawful.{HasSameText, IsLater, state_of}
+use Rattle.pw_law_code.specs.Lawful.{HasSameText, IsLater, state_of}
 use Rattle.pw_db.specs.Limits.{kept_registers}
-use Rattle.pw_run_trace.specs.Traces.{Event, Standing, Called, Returned}
-use Rattle.pw_run_flow.specs.Programs.{globals_of}
+use Rattle.pw_run_languages.specs.Traces.{Event, Standing, Called, Returned}
+use Rattle.pw_run_languages.specs.Programs.{globals_of}
 use Rattle.pw_alloc.specs.Frames.{head_size}
-use Rattle.pw_run_lines.specs.Addresses.{Addresses}
-use Rattle.pw_run_lines.specs.Acts as lines
-use Rattle.pw_run_lines.specs.Standing.{Active, globals_now}
-use Rattle.pw_run_lines.specs.LineRun.{LineProgram}
-use Rattle.pw_run_machine.specs.MachineRun as machine
-use Rattle.pw_run_machine.specs.MachineRun.{Map, Call, Noted, arrived, function_at}
+use Rattle.pw_run_languages.specs.Addresses.{Addresses}
+use Rattle.pw_run_languages.specs.Acts as lines
+use Rattle.pw_run_languages.specs.Standing.{Active, globals_now}
+use Rattle.pw_run_languages.specs.LineRun.{LineProgram}
+use Rattle.pw_run_languages.specs.MachineRun as machine
+use Rattle.pw_run_languages.specs.MachineRun.{Map, Call, Noted, arrived, function_at}
 use Rattle.pw_law_link_run.specs.Showing.{Shows}
 
 -- ---- a program that runs

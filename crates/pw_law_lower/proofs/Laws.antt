@@ -3,7 +3,7 @@ use Rattle.std.proofs.Common.{◌≡◌, ℕ, ◌≤◌, List, arith}
 use Rattle.pw_value.specs.Limits.{room_limit}
 use Rattle.pw_flow.specs.ValidFlow.{IsFunction as IsFlowFunction}
 use Rattle.pw_law_lower.specs.Bounds.{IsFunctionBounded}
-use Rattle.pw_law_lower.proofs.Lawful.{lawful_function}
+use Rattle.pw_law_lower.proofs.LawfulFunctions.{lawful_function}
 use Rattle.pw_types.specs.Rooms.{room_of, start_room}
 use Rattle.pw_types.specs.TypedModules.{IsFunction}
 use Rattle.pw_types.specs.TypedTrees.{Expression, Statement, FunctionValue, ModuleValue}

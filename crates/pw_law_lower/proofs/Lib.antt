@@ -1,7 +1,7 @@
 pub mod CaseLabels
 pub mod Expressions
 pub mod Growth
-pub mod Lawful
+pub mod LawfulFunctions
 pub mod Laws
 pub mod Rooms
 pub mod Sound
@@ -9,3 +9,8 @@ pub mod SoundExpressions
 pub mod SoundFunctions
 pub mod SoundStatements
 pub mod Statements
+pub mod LawfulModules
+pub mod Names
+pub mod Objects
+pub mod Plain
+pub mod PlainStatements

@@ -2,3 +2,4 @@ pub mod Bounds
 pub mod Kept
 pub mod Parts
 pub mod Ranges
+pub mod Within

@@ -14,11 +14,11 @@ use Rattle.pw_alloc.specs.declared.located.Place.{Place}
 use Rattle.pw_alloc.specs.declared.located.Place.TheVariants.{Slot, Reg}
 use Rattle.pw_alloc.specs.declared.located.Located.{Located}
 use Rattle.pw_alloc.specs.Allocation.{saved_of}
-use Rattle.pw_run_flow.specs.FlowRun.{with_slots}
-use Rattle.pw_run_webs.specs.PlacedRun.{kept, with_register, with_registers, without_places, entered}
-use Rattle.pw_run_webs.specs.Direction.{unplaced}
-use Rattle.pw_run_webs.specs.Serving.{Serves, Changes, places}
-use Rattle.pw_law_directed.proofs.Banks.{saved_same, saved_covered, has_or_not}
+use Rattle.pw_run_languages.specs.FlowRun.{with_slots}
+use Rattle.pw_run_languages.specs.PlacedRun.{kept, with_register, with_registers, without_places, entered}
+use Rattle.pw_run_languages.specs.Direction.{unplaced}
+use Rattle.pw_run_languages.specs.Serving.{Serves, Changes, places}
+use Rattle.pw_law_direction.proofs.Banks.{saved_same, saved_covered, has_or_not}
 use Rattle.pw_law_placed.specs.Twins.{Own, Active, Twin, bare_side, placed_side, bare_value, placed_value}
 use Rattle.pw_law_placed.specs.Alike.{Registers, given_back}
 use Rattle.pw_law_placed.proofs.Lists.{nowhere, first_there, later_there}

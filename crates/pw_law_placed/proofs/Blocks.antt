@@ -13,11 +13,11 @@ use Rattle.pw_webflow.specs.declared.web.WebOp.{WebOp}
 use Rattle.pw_webflow.specs.declared.web.WebBlock.{WebBlock}
 use Rattle.pw_webflow.specs.WebOutline.{uses, defines}
 use Rattle.pw_alloc.specs.declared.located.Located.{Located}
-use Rattle.pw_run_flow.specs.Values.{is_somewhere}
-use Rattle.pw_run_flow.specs.Programs.{Program}
-use Rattle.pw_run_webs.specs.PlacedRun.{Machine, Step, On, Astray, counted, jumps, branches, ends}
-use Rattle.pw_run_webs.specs.Direction.{with_functions}
-use Rattle.pw_run_webs.specs.Serving.{Live, used, past, at_end, on, StandsIn}
+use Rattle.pw_run_languages.specs.Values.{is_somewhere}
+use Rattle.pw_run_languages.specs.Programs.{Program}
+use Rattle.pw_run_languages.specs.PlacedRun.{Machine, Step, On, Astray, counted, jumps, branches, ends}
+use Rattle.pw_run_languages.specs.Direction.{with_functions}
+use Rattle.pw_run_languages.specs.Serving.{Live, used, past, at_end, on, StandsIn}
 use Rattle.pw_law_placed.specs.Twins.{Active, Twin, bare_side, placed_side, bare_program, bare_value, placed_value}
 use Rattle.pw_law_placed.specs.Alike.{Registers, IsInside, TempsAgree, Runs, Gets, IsReady, IsAlike, Follows, goes, strays}
 use Rattle.pw_law_placed.specs.Laws.{StaysInFunction, BlocksFollow}

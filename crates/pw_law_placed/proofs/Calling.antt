@@ -29,11 +29,11 @@ use Rattle.pw_run.specs.Runs as run
 use Rattle.pw_db_sound.specs.CallGraphs.{Calls}
 use Rattle.pw_db_sound.specs.Sound.{Sound, In}
 use Rattle.pw_db_sound.specs.Sound.{Has as HasRole}
-use Rattle.pw_run_flow.specs.Programs.{Program, functions_of}
-use Rattle.pw_run_webs.specs.Programs.{IsProgram, graph_of}
-use Rattle.pw_run_webs.specs.Direction.{directives_of, directed_by, directed_functions, unplaced, with_functions}
-use Rattle.pw_run_webs.specs.PlacedRun.{PlacedProgram, Machine, Step, On, Stopped, Astray, entered_webs, without_places, with_parameters, and_then, enters_webs, entered, begins, calls_defined, counted, noted, kept, depth, first_block}
-use Rattle.pw_run_webs.specs.Serving.{Serves}
+use Rattle.pw_run_languages.specs.Programs.{Program, functions_of}
+use Rattle.pw_run_languages.specs.LawfulPrograms.{IsProgram, graph_of}
+use Rattle.pw_run_languages.specs.Direction.{directives_of, directed_by, directed_functions, unplaced, with_functions}
+use Rattle.pw_run_languages.specs.PlacedRun.{PlacedProgram, Machine, Step, On, Stopped, Astray, entered_webs, without_places, with_parameters, and_then, enters_webs, entered, begins, calls_defined, counted, noted, kept, depth, first_block}
+use Rattle.pw_run_languages.specs.Serving.{Serves}
 use Rattle.pw_law_placed.specs.Twins.{Active, Twin, bare_side, placed_side, bare_program}
 use Rattle.pw_law_placed.specs.Alike.{Registers, name_of, IsPlaced, IsReady, IsCalling, Follows, goes, strays}
 use Rattle.pw_law_placed.proofs.Begun.{begun, begun_temps, bare_under, placed_under, uncleared}
@@ -43,7 +43,7 @@ use Rattle.pw_law_placed.proofs.Library.{call_noted, call_ready, refusal_follows
 use Rattle.pw_law_placed.proofs.Noting.{bare_globals, placed_globals, depth_same}
 use Rattle.pw_law_placed.proofs.WebSteps.{register_web}
 use Rattle.pw_law_placed.proofs.Webs.{web_has, web_register}
-use Rattle.pw_law_directed.proofs.Directives.{web_range, entered_role}
+use Rattle.pw_law_direction.proofs.Directives.{web_range, entered_role}
 
 -- ---- what a function of the program is
 

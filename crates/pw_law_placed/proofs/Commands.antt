@@ -3,9 +3,9 @@ use Rattle.std.specs.Prelude.{ℕ, ◌≡◌, List, [], ◌∷◌, map}
 use Rattle.std.proofs.Common.{refl, ap, ap₂}
 use Rattle.pw_value.specs.declared.value.Value.{Value}
 use Rattle.pw_flow.specs.declared.flow.Op.TheVariants as op
-use Rattle.pw_run_flow.specs.Values.{unary, extension}
-use Rattle.pw_run_flow.specs.Commands as command
-use Rattle.pw_run_flow.specs.Commands.{command}
+use Rattle.pw_run_languages.specs.Values.{unary, extension}
+use Rattle.pw_run_languages.specs.Commands as command
+use Rattle.pw_run_languages.specs.Commands.{command}
 use Rattle.pw_law_placed.specs.Laws.{CommandsRestOnUses}
 use Rattle.pw_law_placed.proofs.Lists.{first_there, later_there, map_same}
 

@@ -20,14 +20,14 @@ use Rattle.pw_run.specs.Runs as run
 use Rattle.pw_run.specs.Runs.{Same}
 use Rattle.pw_db_sound.specs.Sound.{Sound, In}
 use Rattle.pw_db_sound.specs.Sound.{Has as HasRole}
-use Rattle.pw_run_trace.specs.Traces.{Event, Loaded, EventAlike, loaded, KeepRegisters}
-use Rattle.pw_run_flow.specs.Programs.{Program}
-use Rattle.pw_run_flow.specs.FlowRun.{get_global}
-use Rattle.pw_run_webs.specs.Programs.{graph_of}
-use Rattle.pw_run_webs.specs.Direction.{with_functions}
-use Rattle.pw_run_webs.specs.PlacedRun.{PlacedProgram, Machine, Step, On, Astray, kept, with_register, noted_if, is_eligible, and_then, enters_webs}
-use Rattle.pw_law_directed.proofs.Banks.{with_same, with_covered, written_other, is_entered_by}
-use Rattle.pw_law_directed.proofs.Directives.{web_range}
+use Rattle.pw_run_languages.specs.Traces.{Event, Loaded, EventAlike, loaded, KeepRegisters}
+use Rattle.pw_run_languages.specs.Programs.{Program}
+use Rattle.pw_run_languages.specs.FlowRun.{get_global}
+use Rattle.pw_run_languages.specs.LawfulPrograms.{graph_of}
+use Rattle.pw_run_languages.specs.Direction.{with_functions}
+use Rattle.pw_run_languages.specs.PlacedRun.{PlacedProgram, Machine, Step, On, Astray, kept, with_register, noted_if, is_eligible, and_then, enters_webs}
+use Rattle.pw_law_direction.proofs.Banks.{with_same, with_covered, written_other, is_entered_by}
+use Rattle.pw_law_direction.proofs.Directives.{web_range}
 use Rattle.pw_law_placed.specs.Twins.{Active, Twin, bare_side, placed_side, bare_program, bare_value, placed_value}
 use Rattle.pw_law_placed.specs.Alike.{Registers, given_back, name_of, IsPlaced}
 use Rattle.pw_law_placed.proofs.Places.{placed_same, place_there}

@@ -11,11 +11,11 @@ use Rattle.pw_db.specs.declared.database.Directives.{Directives}
 use Rattle.pw_alloc.specs.declared.located.Located.{Located}
 use Rattle.pw_run.specs.Runs as run
 use Rattle.pw_run.specs.Runs.{Same}
-use Rattle.pw_run_trace.specs.Traces.{Event, Called, Refused, Returned, EventAlike, called, refused, returned}
-use Rattle.pw_run_flow.specs.Programs.{Program, Library, GetChar, PutChar, Exit, library_at}
-use Rattle.pw_run_webs.specs.PlacedRun.{PlacedProgram, Machine, Step, On, Stopped, Astray, kept, noted, depth, without_scratch, library_call, gives_back, calls_library, calls_defined, calls, function_named, takes_result}
-use Rattle.pw_run_webs.specs.Direction.{with_functions}
-use Rattle.pw_law_directed.proofs.Banks.{with_same, scratch_keeps}
+use Rattle.pw_run_languages.specs.Traces.{Event, Called, Refused, Returned, EventAlike, called, refused, returned}
+use Rattle.pw_run_languages.specs.Programs.{Program, Library, GetChar, PutChar, Exit, library_at}
+use Rattle.pw_run_languages.specs.PlacedRun.{PlacedProgram, Machine, Step, On, Stopped, Astray, kept, noted, depth, without_scratch, library_call, gives_back, calls_library, calls_defined, calls, function_named, takes_result}
+use Rattle.pw_run_languages.specs.Direction.{with_functions}
+use Rattle.pw_law_direction.proofs.Banks.{with_same, scratch_keeps}
 use Rattle.pw_law_placed.specs.Twins.{Active, Twin, bare_side, placed_side, bare_program}
 use Rattle.pw_law_placed.specs.Alike.{Registers, given_back, IsReady, IsCalling, IsAlike, Follows, stops, strays}
 use Rattle.pw_law_placed.specs.Laws.{LibraryFollows}

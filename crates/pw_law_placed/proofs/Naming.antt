@@ -5,9 +5,9 @@ use Rattle.std.specs.Str.{bytes_eq}
 use Rattle.pw_db.specs.declared.database.Directives.{Directives}
 use Rattle.pw_webflow.specs.declared.web.WebFn.{WebFn}
 use Rattle.pw_alloc.specs.declared.located.Located.{Located}
-use Rattle.pw_run_flow.specs.Programs.{Program}
-use Rattle.pw_run_webs.specs.Direction.{directed_functions, unplaced}
-use Rattle.pw_run_webs.specs.Serving.{Serves, AllServe}
+use Rattle.pw_run_languages.specs.Programs.{Program}
+use Rattle.pw_run_languages.specs.Direction.{directed_functions, unplaced}
+use Rattle.pw_run_languages.specs.Serving.{Serves, AllServe}
 use Rattle.pw_law_placed.specs.Laws.{BothNamed, neither, both, SameFunctions}
 use Rattle.pw_law_placed.proofs.Lists.{first_there, later_there}
 

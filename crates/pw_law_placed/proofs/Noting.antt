@@ -7,10 +7,10 @@ use Rattle.pw_value.specs.declared.value.Byte.{Byte}
 use Rattle.pw_db.specs.declared.database.Directives.{Directives}
 use Rattle.pw_alloc.specs.declared.located.Located.{Located}
 use Rattle.pw_run.specs.Runs.{AreAlike, none, also, Same}
-use Rattle.pw_run_trace.specs.Traces.{Standing, InMemory, InPlace, StandAlike, in_memory, in_place}
-use Rattle.pw_run_flow.specs.Programs.{Program}
-use Rattle.pw_run_webs.specs.PlacedRun.{Frame, depth, globals_now, name_of}
-use Rattle.pw_run_webs.specs.Direction.{with_functions}
+use Rattle.pw_run_languages.specs.Traces.{Standing, InMemory, InPlace, StandAlike, in_memory, in_place}
+use Rattle.pw_run_languages.specs.Programs.{Program}
+use Rattle.pw_run_languages.specs.PlacedRun.{Frame, depth, globals_now, name_of}
+use Rattle.pw_run_languages.specs.Direction.{with_functions}
 use Rattle.pw_law_placed.specs.Twins.{Active, Twin, bare_frame, placed_frame, bare_program}
 use Rattle.pw_law_placed.specs.Alike.{Registers, given_back, AllWait, IsReady}
 use Rattle.pw_law_placed.specs.Laws.{AllWebsAgree}

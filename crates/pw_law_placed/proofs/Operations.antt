@@ -12,17 +12,17 @@ use Rattle.pw_flow.specs.declared.flow.Op.TheVariants as op
 use Rattle.pw_flow.specs.Uses.{op_defines}
 use Rattle.pw_alloc.specs.declared.located.Located.{Located}
 use Rattle.pw_run.specs.Runs as run
-use Rattle.pw_run_trace.specs.Traces.{Event, Loaded, Stored, EventAlike, loaded, stored, KeepsRegisters}
+use Rattle.pw_run_languages.specs.Traces.{Event, Loaded, Stored, EventAlike, loaded, stored, KeepsRegisters}
 use Rattle.pw_run.specs.Runs.{Same}
-use Rattle.pw_run_flow.specs.Values.{unary, extension, binary}
-use Rattle.pw_run_flow.specs.Memory.{look, poke, copy}
-use Rattle.pw_run_flow.specs.Programs.{Program, function_at, shape_of}
-use Rattle.pw_run_flow.specs.Commands as command
-use Rattle.pw_run_flow.specs.Commands.{command}
-use Rattle.pw_run_flow.specs.FlowRun.{get_global, put_global}
+use Rattle.pw_run_languages.specs.Values.{unary, extension, binary}
+use Rattle.pw_run_languages.specs.Memory.{look, poke, copy}
+use Rattle.pw_run_languages.specs.Programs.{Program, function_at, shape_of}
+use Rattle.pw_run_languages.specs.Commands as command
+use Rattle.pw_run_languages.specs.Commands.{command}
+use Rattle.pw_run_languages.specs.FlowRun.{get_global, put_global}
 use Rattle.std.specs.Str.{bytes_eq}
-use Rattle.pw_run_webs.specs.PlacedRun.{PlacedProgram, Machine, Step, On, Astray, gives, noted, noted_if, is_eligible, is_reserved, changes, obeys}
-use Rattle.pw_run_webs.specs.Direction.{with_functions}
+use Rattle.pw_run_languages.specs.PlacedRun.{PlacedProgram, Machine, Step, On, Astray, gives, noted, noted_if, is_eligible, is_reserved, changes, obeys}
+use Rattle.pw_run_languages.specs.Direction.{with_functions}
 use Rattle.pw_law_placed.specs.Twins.{Twin, bare_side, placed_side, bare_program}
 use Rattle.pw_law_placed.specs.Alike.{IsReady, IsAlike, Follows, goes, strays}
 use Rattle.pw_law_placed.specs.Laws.{HasResult, StaysInside, CommandsHaveResults, CommandsFollow}

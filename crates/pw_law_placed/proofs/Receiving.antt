@@ -16,12 +16,12 @@ use Rattle.pw_alloc.specs.declared.located.Place.TheVariants.{Reg}
 use Rattle.pw_run.specs.Runs as run
 use Rattle.pw_run.specs.Runs.{Same}
 use Rattle.pw_db_sound.specs.CallGraphs.{Calls}
-use Rattle.pw_run_trace.specs.Traces.{EventAlike, KeepRegisters}
-use Rattle.pw_run_flow.specs.Programs.{Program}
-use Rattle.pw_run_webs.specs.Programs.{graph_of}
-use Rattle.pw_run_webs.specs.PlacedRun.{Machine, kept, with_register, with_parameters}
-use Rattle.pw_run_webs.specs.Serving.{Live, Interfere, by_start, parameters}
-use Rattle.pw_law_directed.proofs.Banks.{kept_at, with_same, written_other}
+use Rattle.pw_run_languages.specs.Traces.{EventAlike, KeepRegisters}
+use Rattle.pw_run_languages.specs.Programs.{Program}
+use Rattle.pw_run_languages.specs.LawfulPrograms.{graph_of}
+use Rattle.pw_run_languages.specs.PlacedRun.{Machine, kept, with_register, with_parameters}
+use Rattle.pw_run_languages.specs.Serving.{Live, Interfere, by_start, parameters}
+use Rattle.pw_law_direction.proofs.Banks.{kept_at, with_same, written_other}
 use Rattle.pw_law_placed.specs.Twins.{Active, Twin, bare_side, placed_side, bare_value, placed_value}
 use Rattle.pw_law_placed.specs.Alike.{Registers, given_back, name_of, IsPlaced, AllWait, IsReady, IsCalling, IsAlike}
 use Rattle.pw_law_placed.proofs.Places.{register_of_place, place_there}

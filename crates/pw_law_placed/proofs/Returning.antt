@@ -17,13 +17,13 @@ use Rattle.pw_webflow.specs.ValidWebs.{HasRegister}
 use Rattle.pw_alloc.specs.declared.located.Located.{Located}
 use Rattle.pw_run.specs.Runs as run
 use Rattle.pw_run.specs.Runs.{Same}
-use Rattle.pw_run_trace.specs.Traces.{Event, Stored, Returned, EventAlike, stored, returned, KeepRegisters}
-use Rattle.pw_run_flow.specs.Programs.{Program}
-use Rattle.pw_run_flow.specs.FlowRun.{put_global, end_from}
-use Rattle.pw_run_webs.specs.Direction.{with_functions}
-use Rattle.pw_run_webs.specs.PlacedRun.{PlacedProgram, Frame, Machine, Step, On, Astray, kept, with_register, with_registers, without_scratch, noted_if, is_eligible, and_then, leaves, leaves_webs, entered_webs, value_in, returns}
-use Rattle.pw_run_webs.specs.PlacedRun.{given_back as gives_all_back}
-use Rattle.pw_law_directed.proofs.Banks.{with_same, scratch_keeps, kept_at}
+use Rattle.pw_run_languages.specs.Traces.{Event, Stored, Returned, EventAlike, stored, returned, KeepRegisters}
+use Rattle.pw_run_languages.specs.Programs.{Program}
+use Rattle.pw_run_languages.specs.FlowRun.{put_global, end_from}
+use Rattle.pw_run_languages.specs.Direction.{with_functions}
+use Rattle.pw_run_languages.specs.PlacedRun.{PlacedProgram, Frame, Machine, Step, On, Astray, kept, with_register, with_registers, without_scratch, noted_if, is_eligible, and_then, leaves, leaves_webs, entered_webs, value_in, returns}
+use Rattle.pw_run_languages.specs.PlacedRun.{given_back as gives_all_back}
+use Rattle.pw_law_direction.proofs.Banks.{with_same, scratch_keeps, kept_at}
 use Rattle.pw_law_placed.specs.Twins.{Active, Twin, bare_side, placed_side, bare_frame, placed_frame, bare_program, bare_value, placed_value}
 use Rattle.pw_law_placed.specs.Alike.{Registers, given_back, name_of, AllWait, IsReady, IsAlike, Follows, strays}
 use Rattle.pw_law_placed.proofs.Lists.{first_there}

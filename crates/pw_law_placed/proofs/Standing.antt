@@ -9,9 +9,9 @@ use Rattle.pw_value.specs.Objects.{Object, object_at}
 use Rattle.pw_db.specs.declared.database.Web.{Web}
 use Rattle.pw_db.specs.declared.database.Role.{Role}
 use Rattle.pw_webflow.specs.Direction.{register_of}
-use Rattle.pw_run_trace.specs.Traces.{Standing}
-use Rattle.pw_run_flow.specs.Programs.{Program, globals_of}
-use Rattle.pw_run_webs.specs.PlacedRun.{PlacedProgram, held, standing, standings, globals_now, with_registers}
+use Rattle.pw_run_languages.specs.Traces.{Standing}
+use Rattle.pw_run_languages.specs.Programs.{Program, globals_of}
+use Rattle.pw_run_languages.specs.PlacedRun.{PlacedProgram, held, standing, standings, globals_now, with_registers}
 use Rattle.pw_law_placed.specs.Twins.{Active, bare_frame, placed_frame}
 use Rattle.pw_law_placed.specs.Alike.{Registers, given_back}
 use Rattle.pw_law_placed.specs.Laws.{AllWebsAgree, GlobalsStandAlike}

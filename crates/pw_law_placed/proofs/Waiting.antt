@@ -5,9 +5,9 @@ use Rattle.pw_db.specs.Limits.{last_register}
 use Rattle.pw_db.specs.declared.database.Directives.{Directives}
 use Rattle.pw_webflow.specs.WebOutline.{calls}
 use Rattle.pw_alloc.specs.declared.located.Place.TheVariants.{Reg}
-use Rattle.pw_run_flow.specs.Programs.{Program}
-use Rattle.pw_run_webs.specs.Serving.{Live, IsHeld}
-use Rattle.pw_law_directed.proofs.Banks.{with_same}
+use Rattle.pw_run_languages.specs.Programs.{Program}
+use Rattle.pw_run_languages.specs.Serving.{Live, IsHeld}
+use Rattle.pw_law_direction.proofs.Banks.{with_same}
 use Rattle.pw_law_placed.specs.Twins.{Active}
 use Rattle.pw_law_placed.specs.Alike.{Registers, given_back, Gets, AllWait}
 use Rattle.pw_law_placed.specs.Laws.{WaitingRestsOnKept}

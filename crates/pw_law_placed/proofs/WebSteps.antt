@@ -19,13 +19,13 @@ use Rattle.pw_webflow.specs.Direction.{directed}
 use Rattle.pw_flow.specs.declared.flow.End.{End}
 use Rattle.pw_db_sound.specs.Sound.{Sound, In}
 use Rattle.pw_db_sound.specs.Sound.{Has as HasRole}
-use Rattle.pw_run_flow.specs.Programs.{Program}
-use Rattle.pw_run_webs.specs.Programs.{graph_of}
-use Rattle.pw_run_webs.specs.Direction.{directives_of, directed_by}
-use Rattle.pw_run_webs.specs.PlacedRun.{On, with_register, with_temp, value_in}
-use Rattle.pw_run_webs.specs.Serving.{StandsIn}
-use Rattle.pw_law_directed.proofs.Banks.{written_other}
-use Rattle.pw_law_directed.proofs.Directives.{there_role}
+use Rattle.pw_run_languages.specs.Programs.{Program}
+use Rattle.pw_run_languages.specs.LawfulPrograms.{graph_of}
+use Rattle.pw_run_languages.specs.Direction.{directives_of, directed_by}
+use Rattle.pw_run_languages.specs.PlacedRun.{On, with_register, with_temp, value_in}
+use Rattle.pw_run_languages.specs.Serving.{StandsIn}
+use Rattle.pw_law_direction.proofs.Banks.{written_other}
+use Rattle.pw_law_direction.proofs.Directives.{there_role}
 use Rattle.pw_law_placed.specs.Twins.{Active, Twin, bare_side, placed_side, bare_value, placed_value}
 use Rattle.pw_law_placed.specs.Alike.{Registers, given_back, name_of, IsPlaced, IsReady, IsAlike, Follows}
 use Rattle.pw_law_placed.proofs.Lists.{first_there}

@@ -17,14 +17,14 @@ use Rattle.pw_alloc.specs.Allocation.{is_entry, is_entered, entered_from, saved_
 use Rattle.pw_alloc.specs.declared.located.Place.TheVariants.{Reg}
 use Rattle.pw_db_sound.specs.Sound.{Sound, In}
 use Rattle.pw_db_sound.specs.Sound.{Has as HasRole}
-use Rattle.pw_run_trace.specs.Traces.{MayChange, member}
-use Rattle.pw_run_flow.specs.Programs.{Program}
-use Rattle.pw_run_webs.specs.Programs.{graph_of}
-use Rattle.pw_run_webs.specs.Direction.{directives_of, directed_by}
-use Rattle.pw_run_webs.specs.PlacedRun.{with_register, with_registers}
-use Rattle.pw_run_webs.specs.Serving.{Changes, places, enters}
-use Rattle.pw_law_directed.proofs.Banks.{with_same, with_covered, in_from, is_entered_by}
-use Rattle.pw_law_directed.proofs.Directives.{role_there, web_range}
+use Rattle.pw_run_languages.specs.Traces.{MayChange, member}
+use Rattle.pw_run_languages.specs.Programs.{Program}
+use Rattle.pw_run_languages.specs.LawfulPrograms.{graph_of}
+use Rattle.pw_run_languages.specs.Direction.{directives_of, directed_by}
+use Rattle.pw_run_languages.specs.PlacedRun.{with_register, with_registers}
+use Rattle.pw_run_languages.specs.Serving.{Changes, places, enters}
+use Rattle.pw_law_direction.proofs.Banks.{with_same, with_covered, in_from, is_entered_by}
+use Rattle.pw_law_direction.proofs.Directives.{role_there, web_range}
 use Rattle.pw_law_placed.specs.Twins.{Active}
 use Rattle.pw_law_placed.specs.Alike.{Registers, given_back, name_of, IsPlaced, GivesBack, Gets, Waits, AllWait}
 use Rattle.pw_law_placed.proofs.Lists.{differ}

@@ -13,10 +13,10 @@ use Rattle.pw_webflow.specs.ValidWebs.{HasRegister}
 use Rattle.pw_webflow.specs.declared.web.WebOp.{WebOp}
 use Rattle.pw_alloc.specs.declared.located.Place.{Place}
 use Rattle.pw_alloc.specs.declared.located.Place.TheVariants.{Slot, Reg}
-use Rattle.pw_run_flow.specs.Programs.{Program}
-use Rattle.pw_run_webs.specs.PlacedRun.{Machine, Step, On, with_register, with_registers, with_temp, takes_result}
-use Rattle.pw_run_webs.specs.Serving.{Live, StandsIn, Interfere, by_operation, Changes, places}
-use Rattle.pw_law_directed.proofs.Banks.{with_same, with_covered, written_other}
+use Rattle.pw_run_languages.specs.Programs.{Program}
+use Rattle.pw_run_languages.specs.PlacedRun.{Machine, Step, On, with_register, with_registers, with_temp, takes_result}
+use Rattle.pw_run_languages.specs.Serving.{Live, StandsIn, Interfere, by_operation, Changes, places}
+use Rattle.pw_law_direction.proofs.Banks.{with_same, with_covered, written_other}
 use Rattle.pw_law_placed.specs.Twins.{Own, Active, Twin, bare_side, placed_side, bare_value, placed_value}
 use Rattle.pw_law_placed.specs.Alike.{Registers, given_back, IsPlaced, IsInside, WebsAgree, TempsAgree, GivesBack, Runs, Gets, AllWait, IsReady, IsAlike, GoesBoth, Follows, goes}
 use Rattle.pw_law_placed.specs.Laws.{ResultsFollow}

@@ -15,12 +15,12 @@ use Rattle.pw_alloc.specs.Allocation.{saved_of}
 use Rattle.pw_run.specs.Runs as run
 use Rattle.pw_run.specs.Runs.{Same}
 use Rattle.pw_db_sound.specs.CallGraphs.{Calls}
-use Rattle.pw_run_trace.specs.Traces.{Event, EventAlike, MayChange, KeepRegisters}
-use Rattle.pw_run_flow.specs.Programs.{Program, functions_of}
-use Rattle.pw_run_webs.specs.Programs.{graph_of}
-use Rattle.pw_run_webs.specs.PlacedRun.{Step, On, Stopped, Astray, with_registers}
-use Rattle.pw_run_webs.specs.Direction.{directed_by}
-use Rattle.pw_run_webs.specs.Serving.{Live, StandsIn, Serves}
+use Rattle.pw_run_languages.specs.Traces.{Event, EventAlike, MayChange, KeepRegisters}
+use Rattle.pw_run_languages.specs.Programs.{Program, functions_of}
+use Rattle.pw_run_languages.specs.LawfulPrograms.{graph_of}
+use Rattle.pw_run_languages.specs.PlacedRun.{Step, On, Stopped, Astray, with_registers}
+use Rattle.pw_run_languages.specs.Direction.{directed_by}
+use Rattle.pw_run_languages.specs.Serving.{Live, StandsIn, Serves}
 use Rattle.pw_law_placed.specs.Twins.{Own, Active, Twin, bare_side, placed_side, bare_value, placed_value}
 
 abbrev pub Registers : Type 0

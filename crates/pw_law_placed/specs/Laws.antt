@@ -10,13 +10,13 @@ use Rattle.pw_flow.specs.declared.flow.End.TheVariants.{Return}
 use Rattle.pw_flow.specs.Uses.{op_uses, op_defines}
 use Rattle.pw_webflow.specs.declared.web.WebFn.{WebFn}
 use Rattle.pw_alloc.specs.declared.located.Located.{Located}
-use Rattle.pw_run_flow.specs.Programs.{Program, Library, library_at}
-use Rattle.pw_run_flow.specs.Commands as command
-use Rattle.pw_run_flow.specs.Commands.{command}
-use Rattle.pw_run_webs.specs.PlacedRun.{PlacedProgram, globals_now, On, takes_result, obeys, ends, function_named}
-use Rattle.pw_run_webs.specs.PlacedRun.{calls as place_calls}
-use Rattle.pw_run_webs.specs.Direction.{directed_functions, with_functions, unplaced}
-use Rattle.pw_run_webs.specs.Serving.{AllServe, Serves}
+use Rattle.pw_run_languages.specs.Programs.{Program, Library, library_at}
+use Rattle.pw_run_languages.specs.Commands as command
+use Rattle.pw_run_languages.specs.Commands.{command}
+use Rattle.pw_run_languages.specs.PlacedRun.{PlacedProgram, globals_now, On, takes_result, obeys, ends, function_named}
+use Rattle.pw_run_languages.specs.PlacedRun.{calls as place_calls}
+use Rattle.pw_run_languages.specs.Direction.{directed_functions, with_functions, unplaced}
+use Rattle.pw_run_languages.specs.Serving.{AllServe, Serves}
 use Rattle.pw_law_placed.specs.Twins.{Active, Twin, bare_frame, placed_frame, bare_side, placed_side, bare_program}
 use Rattle.pw_law_placed.specs.Alike.{Registers, WebsAgree, AllWait, IsReady, IsCalling, IsAlike, Follows, given_back}
 

@@ -9,10 +9,10 @@ use Rattle.pw_db.specs.declared.database.Directives.{Directives}
 use Rattle.pw_flow.specs.declared.flow.End.{End}
 use Rattle.pw_webflow.specs.declared.web.WebOp.{WebOp}
 use Rattle.pw_alloc.specs.declared.located.Located.{Located}
-use Rattle.pw_run_trace.specs.Traces.{Event}
-use Rattle.pw_run_flow.specs.Programs.{Program}
-use Rattle.pw_run_webs.specs.PlacedRun.{PlacedProgram, Frame, Machine, value_in}
-use Rattle.pw_run_webs.specs.Direction.{unplaced, directed_functions, with_functions}
+use Rattle.pw_run_languages.specs.Traces.{Event}
+use Rattle.pw_run_languages.specs.Programs.{Program}
+use Rattle.pw_run_languages.specs.PlacedRun.{PlacedProgram, Frame, Machine, value_in}
+use Rattle.pw_run_languages.specs.Direction.{unplaced, directed_functions, with_functions}
 
 -- what an active function has in one of the runs: the temporaries that it has no register for, what it saved, and what
 -- the kept registers held at its call

@@ -16,8 +16,8 @@ use Rattle.pw_typed.specs.declared.tree.TStmt.{TStmt}
 use Rattle.pw_typed.specs.declared.tree.TStmtForm.{TStmtForm}
 use Rattle.pw_typed.specs.declared.tree.TStmtForm as stmt
 use Rattle.pw_typed.proofs.Rows.{call_view, call_value_view, block_view, if_view}
-use Rattle.pw_law_well_typed.specs.Lawful.{AreWords, AreWordsIn, AreWordsOf}
-use Rattle.pw_law_well_typed.specs.Words.{HasWords, WordsInArms, WordsInElse, WordsInStatement, WordsInStatements}
+use Rattle.pw_law_checked.specs.Lawful.{AreWords, AreWordsIn, AreWordsOf}
+use Rattle.pw_law_checked.specs.Words.{HasWords, WordsInArms, WordsInElse, WordsInStatement, WordsInStatements}
 
 pub call_words : (f : TForm) (s : Symbol) (args : Vec TExpr Global) (es : List TExpr) → f ≡ form.Call s args → es ≡ args.items → AreWordsOf (view_exprs es) → AreWordsIn (view_form f)
 call_words f s args es is same h = subst AreWordsIn (sym (ap view_form is ∙ call_view s args)) (subst (λ xs. AreWordsOf (view_exprs xs)) same h)

@@ -10,10 +10,10 @@ ghost use Rattle.pw_tree.specs.Views.{view_module};
 ghost use Rattle.pw_tree.specs.WellFormed.{WellFormedModule};
 ghost use Rattle.pw_typed.specs.Views as typed;
 ghost use Rattle.pw_types.specs.TypedModules.{WellTyped};
-ghost use Rattle.pw_law_well_typed.specs.Words.{AreShortStrings};
+ghost use Rattle.pw_law_checked.specs.Words.{AreShortStrings};
 
 pub use numbers::numbers_are_words;
-use pw_law_well_typed::accepted_is_well_typed;
+use pw_law_checked::accepted_is_well_typed;
 use pw_tree::Module;
 use pw_typed::TModule;
 

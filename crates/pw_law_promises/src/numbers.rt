@@ -3,8 +3,8 @@
 ghost use Rattle.std.specs.Prelude.{All, IfSome, map};
 ghost use Rattle.pw_typed.specs.Views as view;
 ghost use Rattle.pw_types.specs.Spines.{first_of};
-ghost use Rattle.pw_law_well_typed.specs.Lawful.{AreWords, AreWordsOf};
-ghost use Rattle.pw_law_well_typed.specs.Words.{AreWordsInModule, HasOffset, HasWords, HasWordsIfAny, WordsInArms, WordsInElse, WordsInItems, WordsInStatement, WordsInStatements};
+ghost use Rattle.pw_law_checked.specs.Lawful.{AreWords, AreWordsOf};
+ghost use Rattle.pw_law_checked.specs.Words.{AreWordsInModule, HasOffset, HasWords, HasWordsIfAny, WordsInArms, WordsInElse, WordsInItems, WordsInStatement, WordsInStatements};
 
 use pw_typed::{
     Arm, Initialiser, TExpr, TForm, TFunction, TGlobal, TItem, TModule, TStmt, TStmtForm,

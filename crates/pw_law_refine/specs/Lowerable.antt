@@ -1,8 +1,8 @@
 -- What lowering asks of a program for its flow graphs to do what it means. Checking and linking see to all of it.
 use Rattle.std.specs.Prelude.{ℕ, List, Contains}
-use Rattle.pw_law_lowered.specs.Within.{IsWithin}
+use Rattle.pw_law_lower.specs.Within.{IsWithin}
 use Rattle.pw_cmean.specs.Worlds.{Program, ProgramModule, World}
-use Rattle.pw_run_flow.specs.Programs.{NoneForLibrary}
+use Rattle.pw_run_languages.specs.Programs.{NoneForLibrary}
 use Rattle.pw_law_layers.specs.Lowering.{flow_program, IsAccepted}
 use Rattle.pw_law_layers.specs.Accepting.{AreFormed, LeadInside}
 

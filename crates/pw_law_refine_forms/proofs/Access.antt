@@ -31,11 +31,11 @@ use Rattle.pw_cmean.specs.Acts.{State, Site, give, stop, wrong, look, ◌>>=◌,
 use Rattle.pw_cmean.specs.Access as source_access
 use Rattle.pw_cmean.specs.Access.{Purpose, Assigning, Initialising, access, reading, writing, is_inside, is_within, bytes_at, is_undefined_byte, has_no_value, is_read_only, load, store, within, objects_now}
 use Rattle.pw_cmean.specs.Typed.{IsValueOf}
-use Rattle.pw_run_flow.specs.Commands.{command}
-use Rattle.pw_run_flow.specs.Memory as flow
-use Rattle.pw_run_flow.specs.Programs.{Program, globals_of, global_number}
-use Rattle.pw_run_flow.specs.FlowRun as run
-use Rattle.pw_run_flow.specs.FlowRun.{Machine, On, value_in, obeys, is_own_kind}
+use Rattle.pw_run_languages.specs.Commands.{command}
+use Rattle.pw_run_languages.specs.Memory as flow
+use Rattle.pw_run_languages.specs.Programs.{Program, globals_of, global_number}
+use Rattle.pw_run_languages.specs.FlowRun as run
+use Rattle.pw_run_languages.specs.FlowRun.{Machine, On, value_in, obeys, is_own_kind}
 use Rattle.pw_law_refine.specs.Standing.{Spot, In, spot_of, Stands, MemoryStands}
 use Rattle.pw_law_refine.specs.Activations.{Activation, Numbers, graphs, graph_of, number_of, place_in, local_temps}
 use Rattle.pw_law_refine.specs.Matching.{StandsAt, IsGlobalAt, global_size}

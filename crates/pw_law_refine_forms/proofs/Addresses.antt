@@ -21,7 +21,7 @@ use Rattle.pw_flow.specs.declared.flow.End.TheVariants.{Jump}
 use Rattle.pw_cmean.specs.Acts.{State, Gives, give, stop, wrong, need, ◌>>=◌, go_on}
 use Rattle.pw_cmean.specs.Evaluation.{site, used, local_place, answer_of, place_of}
 use Rattle.pw_cmean.specs.SourceRun.{calls}
-use Rattle.pw_run_flow.specs.FlowRun.{Machine}
+use Rattle.pw_run_languages.specs.FlowRun.{Machine}
 use Rattle.pw_law_refine.specs.Standing.{Spot}
 use Rattle.pw_law_refine.specs.Activations.{Activation, Numbers, graph_of, home_of, env_of, number_of, place_in, HaveSlots}
 use Rattle.pw_law_refine.specs.Containing.{ContainsCode}

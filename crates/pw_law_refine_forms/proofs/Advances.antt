@@ -16,10 +16,10 @@ use Rattle.pw_cmean.specs.Undefined.{◌when◌}
 use Rattle.pw_cmean.specs.Acts.{State, Gives, give, stop, wrong, need, look, ◌>>=◌, go_on}
 use Rattle.pw_cmean.specs.Access.{objects_now}
 use Rattle.pw_cmean.specs.Operators.{is_ended, moved, advance}
-use Rattle.pw_run_flow.specs.Commands.{command}
-use Rattle.pw_run_flow.specs.Values as flow
-use Rattle.pw_run_flow.specs.FlowRun as run
-use Rattle.pw_run_flow.specs.FlowRun.{Machine, value_in}
+use Rattle.pw_run_languages.specs.Commands.{command}
+use Rattle.pw_run_languages.specs.Values as flow
+use Rattle.pw_run_languages.specs.FlowRun as run
+use Rattle.pw_run_languages.specs.FlowRun.{Machine, value_in}
 use Rattle.pw_law_refine.specs.Standing.{Spot, In, spot_of, Stands}
 use Rattle.pw_law_refine.specs.Activations.{Activation, Numbers, graph_of}
 use Rattle.pw_law_refine.specs.Containing.{ContainsCode}

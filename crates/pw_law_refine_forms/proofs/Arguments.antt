@@ -14,7 +14,7 @@ use Rattle.pw_cmean.specs.Acts.{State, give, ◌>>=◌}
 use Rattle.pw_cmean.specs.Evaluation.{site, used, answer_of, values_of}
 use Rattle.pw_cmean.specs.SourceRun.{calls}
 use Rattle.pw_cmean.specs.Typed.{IsValueOf}
-use Rattle.pw_run_flow.specs.FlowRun.{Machine, value_in}
+use Rattle.pw_run_languages.specs.FlowRun.{Machine, value_in}
 use Rattle.pw_law_refine.specs.Standing.{Spot, Stands}
 use Rattle.pw_law_refine.specs.Activations.{Activation, IsActivation, Numbers, graph_of, home_of, env_of, HaveSlots}
 use Rattle.pw_law_refine.specs.Containing.{ContainsCode}

@@ -19,9 +19,9 @@ use Rattle.pw_cmean.specs.Undefined.{◌when◌}
 use Rattle.pw_cmean.specs.Acts.{State, Site, Outcome, Gives, Ends, give, stop, wrong, need, look, ◌>>=◌, go_on}
 use Rattle.pw_cmean.specs.Access.{objects_now}
 use Rattle.pw_cmean.specs.Operators.{truth, is_ended, is_piece}
-use Rattle.pw_run_flow.specs.Values as flow
-use Rattle.pw_run_flow.specs.Programs.{block_at}
-use Rattle.pw_run_flow.specs.FlowRun.{Machine, Step, On, Astray, value_in, counted, jumps, branches, ends, step, steps}
+use Rattle.pw_run_languages.specs.Values as flow
+use Rattle.pw_run_languages.specs.Programs.{block_at}
+use Rattle.pw_run_languages.specs.FlowRun.{Machine, Step, On, Astray, value_in, counted, jumps, branches, ends, step, steps}
 use Rattle.pw_law_refine.specs.Standing.{Spot, Leads, Stands, MemoryStands}
 use Rattle.pw_law_refine.specs.Activations.{Activation, Numbers, graphs, graph_of}
 use Rattle.pw_law_refine.specs.Matching.{Related}

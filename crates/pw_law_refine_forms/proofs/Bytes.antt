@@ -23,7 +23,7 @@ use Rattle.pw_types.specs.declared.kind.IntKind.TheVariants as K
 use Rattle.pw_lower.specs.Operators.{kind_of, kind_of_int}
 use Rattle.pw_cmean.specs.Access as source
 use Rattle.pw_cmean.specs.Typed.{IsNumberOf, IsPointer, IsValueOf, IsByte}
-use Rattle.pw_run_flow.specs.Memory as flow
+use Rattle.pw_run_languages.specs.Memory as flow
 use Rattle.pw_law_refine.specs.Standing.{Spot, Nowhere, In, Leads, Stands, ByteStands}
 
 -- ---- spots

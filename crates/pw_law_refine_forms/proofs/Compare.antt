@@ -30,10 +30,10 @@ use Rattle.pw_cmean.specs.Operators as source
 use Rattle.pw_cmean.specs.Operators.{number_for, is_ended, into_one_object, offset_of, same, ordered, compared, on_pointers, outcome_of, arithmetic}
 use Rattle.pw_cmean.specs.Evaluation.{site, used, answer_of}
 use Rattle.pw_cmean.specs.SourceRun.{calls}
-use Rattle.pw_run_flow.specs.Commands.{command}
-use Rattle.pw_run_flow.specs.Values as flow
-use Rattle.pw_run_flow.specs.FlowRun as run
-use Rattle.pw_run_flow.specs.FlowRun.{Machine, value_in}
+use Rattle.pw_run_languages.specs.Commands.{command}
+use Rattle.pw_run_languages.specs.Values as flow
+use Rattle.pw_run_languages.specs.FlowRun as run
+use Rattle.pw_run_languages.specs.FlowRun.{Machine, value_in}
 use Rattle.pw_law_refine.specs.Standing.{Spot, In, spot_of, Leads, Stands, MemoryStands}
 use Rattle.pw_law_refine.specs.Activations.{Activation, IsActivation, Numbers, graphs, graph_of, home_of, env_of, HaveSlots}
 use Rattle.pw_law_refine.specs.Containing.{ContainsCode}

@@ -32,7 +32,7 @@ use Rattle.pw_cmean.specs.Operators.{is_piece, outcome_of, arithmetic, convert}
 use Rattle.pw_cmean.specs.Evaluation.{site, used, old_value, update, answer_of}
 use Rattle.pw_cmean.specs.SourceRun.{calls}
 use Rattle.pw_cmean.specs.Typed.{IsNumberOf, IsValueOf}
-use Rattle.pw_run_flow.specs.FlowRun.{Machine, value_in}
+use Rattle.pw_run_languages.specs.FlowRun.{Machine, value_in}
 use Rattle.pw_law_refine.specs.Standing.{Spot, Stands}
 use Rattle.pw_law_refine.specs.Activations.{Activation, IsActivation, Numbers, graph_of, home_of, env_of, local_temps, HaveSlots}
 use Rattle.pw_law_refine.specs.Containing.{ContainsCode}

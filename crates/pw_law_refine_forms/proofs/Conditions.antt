@@ -20,8 +20,8 @@ use Rattle.pw_cmean.specs.Operators.{truth}
 use Rattle.pw_cmean.specs.Evaluation.{site, used, answer_of}
 use Rattle.pw_cmean.specs.Execution.{condition, value_of}
 use Rattle.pw_cmean.specs.SourceRun.{calls}
-use Rattle.pw_run_flow.specs.Programs.{block_at}
-use Rattle.pw_run_flow.specs.FlowRun.{value_in, steps}
+use Rattle.pw_run_languages.specs.Programs.{block_at}
+use Rattle.pw_run_languages.specs.FlowRun.{value_in, steps}
 use Rattle.pw_law_refine.specs.Activations.{graph_of, home_of, env_of}
 use Rattle.pw_law_refine.specs.Expressions.{assigned_in, HasChosen, ExpressionsKeep, ConditionsKeep}
 use Rattle.pw_law_refine_forms.proofs.Laws.{Laws}

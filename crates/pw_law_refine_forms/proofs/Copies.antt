@@ -27,10 +27,10 @@ use Rattle.pw_cmean.specs.Access.{Purpose, Assigning, writing, overlap, within, 
 use Rattle.pw_cmean.specs.Evaluation.{site, used, assigned, answer_of, place_of}
 use Rattle.pw_cmean.specs.SourceRun.{calls}
 use Rattle.pw_cmean.specs.Typed.{IsByte}
-use Rattle.pw_run_flow.specs.Commands.{command}
-use Rattle.pw_run_flow.specs.Memory as flow
-use Rattle.pw_run_flow.specs.FlowRun as run
-use Rattle.pw_run_flow.specs.FlowRun.{Machine, value_in}
+use Rattle.pw_run_languages.specs.Commands.{command}
+use Rattle.pw_run_languages.specs.Memory as flow
+use Rattle.pw_run_languages.specs.FlowRun as run
+use Rattle.pw_run_languages.specs.FlowRun.{Machine, value_in}
 use Rattle.pw_law_refine.specs.Standing.{Spot, In, spot_of, Stands, MemoryStands}
 use Rattle.pw_law_refine.specs.Activations.{Activation, IsActivation, Numbers, graph_of, home_of, env_of, HaveSlots}
 use Rattle.pw_law_refine.specs.Containing.{ContainsCode}

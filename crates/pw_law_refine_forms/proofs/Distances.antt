@@ -28,10 +28,10 @@ use Rattle.pw_cmean.specs.Acts.{State, Site, give, stop, wrong, undefined, need,
 use Rattle.pw_cmean.specs.Access.{objects_now}
 use Rattle.pw_cmean.specs.Operators as source
 use Rattle.pw_cmean.specs.Operators.{is_ended, into_one_object, offset_of, outcome_of}
-use Rattle.pw_run_flow.specs.Commands.{command}
-use Rattle.pw_run_flow.specs.Values as flow
-use Rattle.pw_run_flow.specs.FlowRun as run
-use Rattle.pw_run_flow.specs.FlowRun.{Machine, value_in, steps}
+use Rattle.pw_run_languages.specs.Commands.{command}
+use Rattle.pw_run_languages.specs.Values as flow
+use Rattle.pw_run_languages.specs.FlowRun as run
+use Rattle.pw_run_languages.specs.FlowRun.{Machine, value_in, steps}
 use Rattle.pw_law_refine.specs.Standing.{Spot, Stands}
 use Rattle.pw_law_refine.specs.Activations.{Activation, Numbers, graphs, graph_of}
 use Rattle.pw_law_refine.specs.Containing.{ContainsCode}

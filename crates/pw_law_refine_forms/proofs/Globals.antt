@@ -21,8 +21,8 @@ use Rattle.pw_lower.specs.Modules.{lowered, lowered_global}
 use Rattle.pw_flow.specs.declared.flow.FlowGlobal.{FlowGlobal}
 use Rattle.pw_cmean.specs.Worlds as source
 use Rattle.pw_cmean.specs.Worlds.{ProgramModule, World}
-use Rattle.pw_run_flow.specs.Programs as flow
-use Rattle.pw_run_flow.specs.Programs.{globals_of}
+use Rattle.pw_run_languages.specs.Programs as flow
+use Rattle.pw_run_languages.specs.Programs.{globals_of}
 use Rattle.pw_law_refine.specs.Activations.{graphs}
 
 -- ---- numbers

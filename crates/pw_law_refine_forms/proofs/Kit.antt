@@ -17,13 +17,13 @@ use Rattle.pw_cmean.specs.Acts.{State, Site, ◌>>=◌, give, stop, undefined}
 use Rattle.pw_cmean.specs.Evaluation.{used, answer_of}
 use Rattle.pw_cmean.specs.SourceRun.{calls}
 use Rattle.pw_cmean.specs.Typed.{IsValueOf, IsResultOf, HoldsBytes}
-use Rattle.pw_run_flow.specs.Commands.{command}
-use Rattle.pw_run_flow.specs.FlowRun.{Machine, On, value_in, obeys, steps}
+use Rattle.pw_run_languages.specs.Commands.{command}
+use Rattle.pw_run_languages.specs.FlowRun.{Machine, On, value_in, obeys, steps}
 use Rattle.pw_law_refine.specs.Standing.{Spot, Stands}
 use Rattle.pw_law_refine.specs.Activations.{Activation, IsActivation, Numbers, graphs, graph_of, home_of, env_of, local_temps}
 use Rattle.pw_law_refine.specs.Matching.{Related, Lasts}
 use Rattle.pw_law_refine.specs.Containing.{ContainsCode}
-use Rattle.pw_run_flow.specs.Programs.{block_at}
+use Rattle.pw_run_languages.specs.Programs.{block_at}
 use Rattle.pw_law_refine.specs.Meeting.{Reaches, Meets}
 use Rattle.pw_law_refine.specs.Expressions.{assigned_in, IsReady, IsDone, HasValue, HasResult, ResultStands}
 use Rattle.pw_law_refine_steps.specs.Stretches.{moved_on, Next}

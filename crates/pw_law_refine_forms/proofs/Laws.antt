@@ -12,8 +12,8 @@ use Rattle.pw_cmean.specs.Acts.{State}
 use Rattle.pw_cmean.specs.Evaluation.{Env, answer_of, place_of}
 use Rattle.pw_cmean.specs.SourceRun.{calls}
 use Rattle.pw_cmean.specs.Typed.{IsPointer, IsResultOf, IsWellTyped, HoldsBytes, IfGives}
-use Rattle.pw_run_flow.specs.Programs.{Program}
-use Rattle.pw_run_flow.specs.FlowRun.{Machine, Step, On, steps}
+use Rattle.pw_run_languages.specs.Programs.{Program}
+use Rattle.pw_run_languages.specs.FlowRun.{Machine, Step, On, steps}
 use Rattle.pw_law_refine.specs.Activations.{Activation, HaveSlots, home_of}
 use Rattle.pw_law_refine.specs.Containing.{ContainsCode}
 use Rattle.pw_law_refine_steps.specs.Results.{HasNewResult}

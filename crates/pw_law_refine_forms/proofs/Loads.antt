@@ -24,8 +24,8 @@ use Rattle.pw_cmean.specs.Access.{load, fetch}
 use Rattle.pw_cmean.specs.Evaluation as source
 use Rattle.pw_cmean.specs.Evaluation.{site, used, value_by, local_place, answer_of}
 use Rattle.pw_cmean.specs.SourceRun.{calls}
-use Rattle.pw_run_flow.specs.Commands.{command}
-use Rattle.pw_run_flow.specs.FlowRun.{Machine}
+use Rattle.pw_run_languages.specs.Commands.{command}
+use Rattle.pw_run_languages.specs.FlowRun.{Machine}
 use Rattle.pw_law_refine.specs.Standing.{Spot, In}
 use Rattle.pw_law_refine.specs.Activations.{Activation, Numbers, graph_of, home_of, env_of, number_of, place_in}
 use Rattle.pw_law_refine.specs.Matching.{StandsAt}

@@ -21,11 +21,11 @@ use Rattle.pw_cmean.specs.Operators.{number_for, truth}
 use Rattle.pw_cmean.specs.Evaluation as source
 use Rattle.pw_cmean.specs.Evaluation.{site, used, answer_of}
 use Rattle.pw_cmean.specs.SourceRun.{calls}
-use Rattle.pw_run_flow.specs.Commands.{command}
-use Rattle.pw_run_flow.specs.Values as flow
-use Rattle.pw_run_flow.specs.Programs.{block_at}
-use Rattle.pw_run_flow.specs.FlowRun as run
-use Rattle.pw_run_flow.specs.FlowRun.{Machine, On, value_in, steps}
+use Rattle.pw_run_languages.specs.Commands.{command}
+use Rattle.pw_run_languages.specs.Values as flow
+use Rattle.pw_run_languages.specs.Programs.{block_at}
+use Rattle.pw_run_languages.specs.FlowRun as run
+use Rattle.pw_run_languages.specs.FlowRun.{Machine, On, value_in, steps}
 use Rattle.pw_law_refine.specs.Standing.{Spot, Stands}
 use Rattle.pw_law_refine.specs.Activations.{Activation, IsActivation, Numbers, graphs, graph_of, home_of, env_of, local_temps, HaveSlots}
 use Rattle.pw_law_refine.specs.Matching.{Related}

@@ -16,7 +16,7 @@ use Rattle.pw_lower.specs.Expressions.{Placed, lower, place, address_of_local, t
 use Rattle.pw_cmean.specs.Acts.{State, Gives, give, stop, wrong, need, ◌>>=◌}
 use Rattle.pw_cmean.specs.Evaluation.{site, used, local_place, answer_of, place_of}
 use Rattle.pw_cmean.specs.SourceRun.{calls}
-use Rattle.pw_run_flow.specs.FlowRun.{Machine}
+use Rattle.pw_run_languages.specs.FlowRun.{Machine}
 use Rattle.pw_law_refine.specs.Standing.{Spot}
 use Rattle.pw_law_refine.specs.Activations.{Activation, Numbers, graph_of, home_of, env_of, number_of, place_in, HaveSlots}
 use Rattle.pw_law_refine.specs.Containing.{ContainsCode, IsBehind}

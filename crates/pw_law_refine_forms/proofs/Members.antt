@@ -19,7 +19,7 @@ use Rattle.pw_cmean.specs.Operators.{advance}
 use Rattle.pw_cmean.specs.Evaluation as source
 use Rattle.pw_cmean.specs.Evaluation.{site, value_by, answer_of, place_of}
 use Rattle.pw_cmean.specs.SourceRun.{calls}
-use Rattle.pw_run_flow.specs.FlowRun.{Machine}
+use Rattle.pw_run_languages.specs.FlowRun.{Machine}
 use Rattle.pw_law_refine.specs.Standing.{Spot}
 use Rattle.pw_law_refine.specs.Activations.{Activation, IsActivation, Numbers, graph_of, home_of, env_of, HaveSlots}
 use Rattle.pw_law_refine.specs.Containing.{ContainsCode}

@@ -36,11 +36,11 @@ use Rattle.pw_cmean.specs.Operators as source
 use Rattle.pw_cmean.specs.Operators.{is_piece, outcome_of, arithmetic, convert}
 use Rattle.pw_cmean.specs.Evaluation.{site, used, cast, answer_of}
 use Rattle.pw_cmean.specs.Typed.{IsNumberOf, IsResultOf, IsByte, HoldsBytes, IfGives}
-use Rattle.pw_run_flow.specs.Commands as commands
-use Rattle.pw_run_flow.specs.Commands.{command}
-use Rattle.pw_run_flow.specs.Values as flow
-use Rattle.pw_run_flow.specs.FlowRun as run
-use Rattle.pw_run_flow.specs.FlowRun.{Machine, value_in}
+use Rattle.pw_run_languages.specs.Commands as commands
+use Rattle.pw_run_languages.specs.Commands.{command}
+use Rattle.pw_run_languages.specs.Values as flow
+use Rattle.pw_run_languages.specs.FlowRun as run
+use Rattle.pw_run_languages.specs.FlowRun.{Machine, value_in}
 use Rattle.pw_law_refine.specs.Standing.{Spot, Stands}
 use Rattle.pw_law_refine.specs.Activations.{Activation, IsActivation, Numbers, graphs, graph_of, env_of}
 use Rattle.pw_law_refine.specs.Containing.{ContainsCode}

@@ -19,13 +19,13 @@ use Rattle.pw_types.specs.TypedTrees.{Symbol, External, Internal, Hidden, Global
 use Rattle.pw_types.specs.WellTyped.{IsObject, IsDeclared, IsDefined}
 use Rattle.pw_lower.specs.Operators.{kind_of}
 use Rattle.pw_lower.specs.Modules.{lowered, lowered_global, lowered_declared}
-use Rattle.pw_law_lowered.specs.Within.{IsLetter, AreLetters}
+use Rattle.pw_law_lower.specs.Within.{IsLetter, AreLetters}
 use Rattle.pw_flow.specs.declared.flow.FlowGlobal.{FlowGlobal}
 use Rattle.pw_flow.specs.declared.flow.FlowModule.{FlowModule}
 use Rattle.pw_flow.specs.ValidFlow.{AreDistinct}
 use Rattle.pw_cmean.specs.Worlds.{ProgramModule}
-use Rattle.pw_run_flow.specs.Programs as flow
-use Rattle.pw_run_flow.specs.Programs.{globals_of, names_of}
+use Rattle.pw_run_languages.specs.Programs as flow
+use Rattle.pw_run_languages.specs.Programs.{globals_of, names_of}
 use Rattle.pw_law_refine.specs.Activations.{Activation, IsActivation, graphs}
 use Rattle.pw_law_refine_forms.specs.Accesses.{SuitsType}
 use Rattle.pw_law_refine_forms.proofs.Globals.{kinds-agree}

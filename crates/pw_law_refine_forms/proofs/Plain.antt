@@ -15,7 +15,7 @@ use Rattle.pw_cmean.specs.Acts.{State, Site, Outcome, Gives, give, stop, wrong, 
 use Rattle.pw_cmean.specs.Access.{fetch}
 use Rattle.pw_cmean.specs.Evaluation as meaning
 use Rattle.pw_cmean.specs.Evaluation.{site, symbol_place, value_by, answer_of, place_of}
-use Rattle.pw_run_flow.specs.FlowRun.{Machine}
+use Rattle.pw_run_languages.specs.FlowRun.{Machine}
 use Rattle.pw_lower.specs.declared.code.Code.{Code}
 use Rattle.pw_lower.specs.Operators.{kind_of}
 use Rattle.pw_lower.specs.Expressions.{lower, address_of_global, value_of_global}

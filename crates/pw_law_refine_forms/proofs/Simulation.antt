@@ -7,7 +7,7 @@ use Rattle.pw_cmean.specs.Acts as source
 use Rattle.pw_cmean.specs.Acts.{State, Site, Outcome, Gives, Ends, Act, go_on, ◌>>=◌, give, stop, undefined, told, judge}
 use Rattle.pw_cmean.specs.Typed.{IfGives}
 use Rattle.pw_run.specs.Runs.{End}
-use Rattle.pw_run_flow.specs.FlowRun.{Machine, Step, On, steps}
+use Rattle.pw_run_languages.specs.FlowRun.{Machine, Step, On, steps}
 use Rattle.pw_law_refine.specs.Activations.{graphs}
 use Rattle.pw_law_refine.specs.Meeting.{Reaches, Stops, Meets}
 use Rattle.pw_law_refine_forms.proofs.Laws.{Laws}

@@ -16,7 +16,7 @@ use Rattle.pw_lower.specs.declared.place.LocalPlace.TheVariants.{Temp, Slot}
 use Rattle.pw_cmean.specs.Acts.{State}
 use Rattle.pw_cmean.specs.Access as source
 use Rattle.pw_cmean.specs.Typed.{IsByte}
-use Rattle.pw_run_flow.specs.FlowRun.{Machine, value_in}
+use Rattle.pw_run_languages.specs.FlowRun.{Machine, value_in}
 use Rattle.pw_law_refine.specs.Standing.{Spot, Nowhere, In, spot_of, Stands}
 use Rattle.pw_law_refine.specs.Activations.{Activation, Numbers, number_of, place_in}
 use Rattle.pw_law_refine.specs.Matching.{StandsAt, IsLocalAt, Related, Lasts}

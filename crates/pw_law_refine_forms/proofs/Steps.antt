@@ -32,8 +32,8 @@ use Rattle.pw_cmean.specs.Evaluation as meaning
 use Rattle.pw_cmean.specs.Evaluation.{site, used, old_value, update, step_result, answer_of, place_of}
 use Rattle.pw_cmean.specs.SourceRun.{calls}
 use Rattle.pw_cmean.specs.Typed.{IsNumberOf}
-use Rattle.pw_run_flow.specs.Commands.{command}
-use Rattle.pw_run_flow.specs.FlowRun.{Machine, value_in}
+use Rattle.pw_run_languages.specs.Commands.{command}
+use Rattle.pw_run_languages.specs.FlowRun.{Machine, value_in}
 use Rattle.pw_law_refine.specs.Standing.{Spot, Stands}
 use Rattle.pw_law_refine.specs.Activations.{Activation, IsActivation, Numbers, graph_of, home_of, env_of, place_in, local_temps, HaveSlots}
 use Rattle.pw_law_refine.specs.Containing.{ContainsCode}

@@ -27,10 +27,10 @@ use Rattle.pw_cmean.specs.Worlds as source
 use Rattle.pw_cmean.specs.Worlds.{ProgramModule}
 use Rattle.pw_cmean.specs.Acts.{State, Gives, give, need, ◌>>=◌}
 use Rattle.pw_cmean.specs.Evaluation.{symbol_place, answer_of, place_of}
-use Rattle.pw_run_flow.specs.Commands.{command}
-use Rattle.pw_run_flow.specs.Programs as flow
-use Rattle.pw_run_flow.specs.Programs.{Program, globals_of, functions_of, block_at}
-use Rattle.pw_run_flow.specs.FlowRun.{Machine}
+use Rattle.pw_run_languages.specs.Commands.{command}
+use Rattle.pw_run_languages.specs.Programs as flow
+use Rattle.pw_run_languages.specs.Programs.{Program, globals_of, functions_of, block_at}
+use Rattle.pw_run_languages.specs.FlowRun.{Machine}
 use Rattle.pw_law_refine.specs.Standing.{Spot, Stands}
 use Rattle.pw_law_refine.specs.Activations.{Activation, IsActivation, Numbers, graphs, graph_of, env_of}
 use Rattle.pw_law_refine.specs.Matching.{global_size}

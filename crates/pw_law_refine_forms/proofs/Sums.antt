@@ -18,10 +18,10 @@ use Rattle.pw_lower.specs.Codes.{temp_of, value_is, constant}
 use Rattle.pw_lower.specs.Operators.{bytes_of, with, scaled, moved_by}
 use Rattle.pw_cmean.specs.Acts.{State, Site, Gives, give, stop, wrong, need, look, judge, ◌>>=◌, go_on}
 use Rattle.pw_cmean.specs.Access.{objects_now}
-use Rattle.pw_run_flow.specs.Commands.{command}
-use Rattle.pw_run_flow.specs.Values as flow
-use Rattle.pw_run_flow.specs.FlowRun as run
-use Rattle.pw_run_flow.specs.FlowRun.{Machine, Step, On, value_in, steps}
+use Rattle.pw_run_languages.specs.Commands.{command}
+use Rattle.pw_run_languages.specs.Values as flow
+use Rattle.pw_run_languages.specs.FlowRun as run
+use Rattle.pw_run_languages.specs.FlowRun.{Machine, Step, On, value_in, steps}
 use Rattle.pw_law_refine.specs.Standing.{Spot, Stands}
 use Rattle.pw_law_refine.specs.Activations.{Activation, Numbers, graphs, graph_of}
 use Rattle.pw_law_refine.specs.Containing.{ContainsCode}

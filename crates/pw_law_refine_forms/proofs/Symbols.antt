@@ -28,7 +28,7 @@ use Rattle.pw_cmean.specs.Access.{load, fetch}
 use Rattle.pw_cmean.specs.Acts.{State, Site, give, stop, wrong, need, ◌>>=◌, go_on}
 use Rattle.pw_cmean.specs.Evaluation as meaning
 use Rattle.pw_cmean.specs.Evaluation.{site, symbol_place, value_by, answer_of, place_of}
-use Rattle.pw_run_flow.specs.FlowRun.{Machine}
+use Rattle.pw_run_languages.specs.FlowRun.{Machine}
 use Rattle.pw_law_refine.specs.Standing.{Spot}
 use Rattle.pw_law_refine.specs.Containing.{ContainsCode}
 use Rattle.pw_law_refine.specs.Meeting.{Meets}
@@ -39,8 +39,8 @@ use Rattle.pw_law_refine_forms.proofs.Simulation.{meets-then, meets-here}
 use Rattle.pw_law_refine_forms.proofs.Kit.{nothing-done}
 use Rattle.pw_law_refine_forms.proofs.Access.{reads}
 use Rattle.pw_law_refine_forms.proofs.Assign.{scalar-of}
-use Rattle.pw_run_flow.specs.Programs as flow
-use Rattle.pw_run_flow.specs.Programs.{Library, library_shape, globals_of}
+use Rattle.pw_run_languages.specs.Programs as flow
+use Rattle.pw_run_languages.specs.Programs.{Library, library_shape, globals_of}
 use Rattle.pw_law_refine.specs.Activations.{Activation, IsActivation, Numbers, graphs, graph_of, env_of}
 use Rattle.pw_law_refine_forms.proofs.Globals.{same-number, agree-kinds, shape-kind, kinds-agree, kind_shape, begins-102}
 use Rattle.pw_law_refine_forms.proofs.Owning.{in-map, of-map, from-cons, in-head, in-tail, to-globals, global-suits, declares, declared-kinds, letters-of, shared, typed-at}

@@ -21,8 +21,8 @@ use Rattle.pw_cmean.specs.Operators.{advance}
 use Rattle.pw_cmean.specs.Evaluation.{place_of}
 use Rattle.pw_cmean.specs.SourceRun.{calls}
 use Rattle.pw_cmean.specs.Typed.{IsValueOf}
-use Rattle.pw_run_flow.specs.Programs.{global_number}
-use Rattle.pw_run_flow.specs.FlowRun.{Machine, value_in, is_own_kind}
+use Rattle.pw_run_languages.specs.Programs.{global_number}
+use Rattle.pw_run_languages.specs.FlowRun.{Machine, value_in, is_own_kind}
 use Rattle.pw_law_refine.specs.Standing.{Spot, Stands}
 use Rattle.pw_law_refine.specs.Activations.{Activation, IsActivation, Numbers, graphs, graph_of, home_of, env_of, place_in, local_temps, HaveSlots}
 use Rattle.pw_law_refine.specs.Containing.{ContainsCode}

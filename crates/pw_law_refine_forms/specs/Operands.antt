@@ -8,7 +8,7 @@ use Rattle.pw_lower.specs.Operators.{combined}
 use Rattle.pw_cmean.specs.Acts.{State, Site, give, ◌>>=◌}
 use Rattle.pw_cmean.specs.Operators.{binary}
 use Rattle.pw_cmean.specs.Typed.{IsValueOf}
-use Rattle.pw_run_flow.specs.FlowRun.{Machine, value_in}
+use Rattle.pw_run_languages.specs.FlowRun.{Machine, value_in}
 use Rattle.pw_law_refine.specs.Standing.{Spot, Stands}
 use Rattle.pw_law_refine.specs.Activations.{Activation, Numbers, graph_of}
 use Rattle.pw_law_refine.specs.Containing.{ContainsCode}

@@ -15,7 +15,7 @@ use Rattle.pw_lower.specs.Modules.{item_of, lowered_item}
 use Rattle.pw_cmean.specs.Worlds.{Program, ProgramModule}
 use Rattle.pw_cmean.specs.Worlds as source
 use Rattle.pw_cmean.specs.Typed.{IsByte}
-use Rattle.pw_run_flow.specs.Programs as flows
+use Rattle.pw_run_languages.specs.Programs as flows
 use Rattle.pw_law_refine.specs.Standing.{Spot, Leads, ByteStands}
 use Rattle.pw_files.proofs.Standing.{Has}
 

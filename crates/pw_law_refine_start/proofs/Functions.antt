@@ -22,9 +22,9 @@ use Rattle.pw_flow.specs.ValidFlow.{AreDistinct}
 use Rattle.pw_lower.specs.Modules.{lowered_function, start_function, start_of, is_main, lowered}
 use Rattle.pw_cmean.specs.Worlds.{Program, ProgramModule, Callable, callable, library}
 use Rattle.pw_cmean.specs.Worlds as source
-use Rattle.pw_run_flow.specs.Programs as flows
-use Rattle.pw_run_flow.specs.Programs.{names_of, globals_of}
-use Rattle.pw_law_lowered.specs.Within.{AreLetters, IsNamed, IsFunctionWithin}
+use Rattle.pw_run_languages.specs.Programs as flows
+use Rattle.pw_run_languages.specs.Programs.{names_of, globals_of}
+use Rattle.pw_law_lower.specs.Within.{AreLetters, IsNamed, IsFunctionWithin}
 use Rattle.pw_law_layers.specs.Lowering.{flow_program}
 use Rattle.pw_law_refine.specs.Lowerable.{IsLowerable}
 use Rattle.pw_law_refine.specs.Calls.{FitShape}

@@ -30,9 +30,9 @@ use Rattle.pw_lower.specs.Modules.{item_of, lowered_item, lowered_global, lowere
 use Rattle.pw_cmean.specs.Worlds.{Program, ProgramModule, Callable}
 use Rattle.pw_cmean.specs.Worlds as source
 use Rattle.pw_cmean.specs.Typed.{IsByte}
-use Rattle.pw_run_flow.specs.Programs as flows
-use Rattle.pw_run_flow.specs.Programs.{globals_of, names_of}
-use Rattle.pw_law_lowered.specs.Within.{AreLetters}
+use Rattle.pw_run_languages.specs.Programs as flows
+use Rattle.pw_run_languages.specs.Programs.{globals_of, names_of}
+use Rattle.pw_law_lower.specs.Within.{AreLetters}
 use Rattle.pw_law_layers.specs.Lowering.{flow_program}
 use Rattle.pw_law_refine.specs.Lowerable.{IsLowerable}
 use Rattle.pw_law_refine.specs.Standing.{Spot, Leads, ByteStands, Holds, MemoryStands}

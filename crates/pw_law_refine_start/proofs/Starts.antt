@@ -6,8 +6,8 @@ use Rattle.pw_cmean.specs.Worlds.{World}
 use Rattle.pw_cmean.specs.SourceRun.{start_state}
 use Rattle.pw_run.specs.Runs.{none}
 use Rattle.pw_value.specs.ProgramNames.{start_name}
-use Rattle.pw_run_flow.specs.Programs.{AreBytes, function_named}
-use Rattle.pw_run_flow.specs.FlowRun.{On, start}
+use Rattle.pw_run_languages.specs.Programs.{AreBytes, function_named}
+use Rattle.pw_run_languages.specs.FlowRun.{On, start}
 use Rattle.pw_law_refine.specs.Lowerable.{IsLowerableWorld}
 use Rattle.pw_law_refine.specs.Activations.{graphs}
 use Rattle.pw_law_refine.specs.Matching.{Matches}

@@ -1,6 +1,6 @@
 -- Where the objects of a program stand at the start.
 use Rattle.std.specs.Prelude.{ℕ, suc, List, [], ◌∷◌, map}
-use Rattle.pw_run_flow.specs.Programs.{Program, globals_of}
+use Rattle.pw_run_languages.specs.Programs.{Program, globals_of}
 use Rattle.pw_law_refine.specs.Standing.{Spot, In}
 
 -- objects of these sizes stand each in the object of its own number, from a number on

@@ -1,3 +1,3 @@
--- The definitions of pw_build that crates above name.
+-- The definitions of pw_session that crates above name.
 pub use Rattle.pw_session.specs.FromBuild.BuildFault
 pub use Rattle.pw_session.specs.FromBuild.Phases

@@ -1,2 +1,2 @@
--- The definitions of pw_build_command that crates above name.
+-- The definitions of pw_session that crates above name.
 pub use Rattle.pw_session.specs.FromDriving.Driving

@@ -1,3 +1,6 @@
+pub mod Ends
+pub mod FromCommands
+pub mod FromGo
 pub mod FromBuild
 pub mod FromBuildLaws
 pub mod FromBuilding

@@ -20,8 +20,8 @@ use Rattle.pw_types.specs.TypedTrees as T
 use Rattle.pw_types.specs.WellTyped.{type_in}
 use Rattle.pw_check_rules.specs.Kinds.{kind_in}
 use Rattle.pw_check_rules.specs.Constants.{Constancy, Known, NoConstant, NoValue, then_known, unevaluated, by_result, truth, convert_word, unary_word, either, binary_word, logic_word, choice_word, then_formed, if_integral, both_known, constant_of, value_known, constant_value}
-use Rattle.pw_law_well_typed.specs.Lawful.{AreWords}
-use Rattle.pw_law_well_typed.proofs.Lists.{some_same, never_some}
+use Rattle.pw_law_checked.specs.Lawful.{AreWords}
+use Rattle.pw_law_checked.proofs.Lists.{some_same, never_some}
 
 -- a value that is known is a word
 abbrev IsWord : Constancy → Type 0

@@ -4,7 +4,7 @@
 ghost use Rattle.std.specs.Prelude.{ℕ, ◌≡◌, ◌<◌, ◌^◌, Some};
 ghost use Rattle.pw_types.specs.TypedTrees.{Expression};
 ghost use Rattle.pw_check_rules.specs.Constants.{constant_value};
-ghost use Rattle.pw_law_well_typed.specs.Lawful.{AreWords};
+ghost use Rattle.pw_law_checked.specs.Lawful.{AreWords};
 
 use pw_value::words::{results_are_words, signed_results_are_unsigned};
 

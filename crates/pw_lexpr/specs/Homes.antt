@@ -1,2 +1,2 @@
--- What expressions are lowered in, as plain data.
+-- The definitions of pw_lower_forms that crates above name.
 pub use Rattle.pw_lower_forms.specs.Homes.{view_home}

@@ -10,7 +10,7 @@ use Rattle.pw_lower.specs.Statements as spec
 use Rattle.pw_lower.specs.Statements.{effects, test_or_go, lower_statement}
 use Rattle.pw_types.specs.TypedTrees.{Expression, Statement, Arms, NoArm, Arm, Otherwise, NoElse, Else}
 use Rattle.pw_lexpr.specs.Homes.{view_home}
-use Rattle.pw_lower_parts.specs.declared.frame.Frame.{Frame}
+use Rattle.pw_lexpr.specs.declared.frame.Frame.{Frame}
 
 abbrev pub view_frame : Frame → spec.Frame
 view_frame f = record { home = view_home f.home; locals = view_locals f.locals.now }

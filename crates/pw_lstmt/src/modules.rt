@@ -7,7 +7,7 @@ ghost use Rattle.pw_typed.specs.Views.{view_function, view_module};
 use crate::functions::lower_function;
 use pw_flow::{FlowFn, FlowModule};
 use pw_items::Items;
-use pw_lower_objects::{has_main, lower_declared, lower_globals, start_function};
+use pw_lower_places::{has_main, lower_declared, lower_globals, start_function};
 use pw_typed::{TFunction, TModule};
 use pw_types::Types;
 use pw_value::{Name, NoMemory};

@@ -4,8 +4,8 @@ ghost use Rattle.std.specs.Prelude.{◌≡◌, map};
 ghost use Rattle.pw_parse_grammar.specs.Input.{declare_all};
 ghost use Rattle.pw_parse_grammar.specs.Modules as spec;
 ghost use Rattle.pw_parse_cursor.specs.Reads.{Reads, unit};
-ghost use Rattle.pw_parse_cursor.specs.Views.{view_binding};
-ghost use Rattle.pw_parse_parts.specs.Views.{view_behind, view_declared, view_specifier_list};
+ghost use Rattle.pw_parse_cursor.specs.CursorViews.{view_binding};
+ghost use Rattle.pw_parse_cursor.specs.PartViews.{view_behind, view_declared, view_specifier_list};
 ghost use Rattle.pw_parse.specs.Views.{external_first, view_external_list};
 ghost use Rattle.pw_tree.specs.Views.{view_external};
 

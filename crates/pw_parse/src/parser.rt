@@ -9,7 +9,7 @@ ghost use Rattle.pw_tree.specs.Trees as tree;
 ghost use Rattle.pw_tree.specs.Views.{view_module};
 
 use crate::module::externals;
-use pw_law_grammar::reading_is_exact;
+use pw_parse_grammar::reading_is_exact;
 use pw_parse_cursor::{Stop, Tokens};
 use pw_token::{Token, nest_fault};
 use pw_tree::{Lexeme, Module, lexeme_of};

@@ -4,7 +4,7 @@ use Rattle.pw_tree.specs.Trees as tree
 use Rattle.pw_tree.specs.Views.{view_else_ifs}
 use Rattle.pw_tree.specs.declared.stmt.ElseIf.{ElseIf}
 use Rattle.pw_parse_control.specs.Views.{else_if_first}
-use Rattle.pw_parse_parts.proofs.Loops.{prepend}
+use Rattle.pw_parse_cursor.proofs.Loops.{prepend}
 
 pub else_ifs_shown : (es : List ElseIf) (last : tree.Alternative) → prepend else_if_first es last ≡ view_else_ifs es last
 else_ifs_shown [] last = refl

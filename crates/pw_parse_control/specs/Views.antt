@@ -4,7 +4,7 @@ use Rattle.std.specs.declared.alloc.Global.{Global}
 use Rattle.std.specs.declared.boxed.Box.{Box}
 use Rattle.pw_tree.specs.Trees as tree
 use Rattle.pw_tree.specs.Views.{view_expr, view_stmt}
-use Rattle.pw_parse_parts.specs.Views.{view_boxed}
+use Rattle.pw_parse_cursor.specs.PartViews.{view_boxed}
 use Rattle.pw_tree.specs.declared.expr.Expr.{Expr}
 use Rattle.pw_tree.specs.declared.stmt.ElseIf.{ElseIf}
 use Rattle.pw_tree.specs.declared.stmt.Stmt.{Stmt}

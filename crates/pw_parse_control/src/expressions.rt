@@ -5,7 +5,7 @@ ghost use Rattle.pw_parse_control.specs.Views.{view_boxed_stmt, view_optional_bo
 ghost use Rattle.pw_parse_cursor.specs.Reads.{Reads};
 ghost use Rattle.pw_parse_grammar.specs.Declarations as decls;
 ghost use Rattle.pw_parse_grammar.specs.Statements as spec;
-ghost use Rattle.pw_parse_parts.specs.Views.{view_boxed};
+ghost use Rattle.pw_parse_cursor.specs.PartViews.{view_boxed};
 ghost use Rattle.pw_tree.specs.Views.{view_optional};
 
 use crate::parts::StmtParts;

@@ -4,7 +4,7 @@ ghost use Rattle.std.specs.Prelude.{ℕ, true};
 ghost use Rattle.pw_parse_grammar.specs.Declarations.{declarations, parts};
 ghost use Rattle.pw_parse_grammar.specs.Input.{Parser};
 ghost use Rattle.pw_parse_cursor.specs.Reads.{Reads};
-ghost use Rattle.pw_parse_parts.specs.Views.{view_decl_list};
+ghost use Rattle.pw_parse_cursor.specs.PartViews.{view_decl_list};
 ghost use Rattle.pw_tree.specs.Trees.{Stmt};
 ghost use Rattle.pw_tree.specs.Views.{view_expr, view_stmt};
 

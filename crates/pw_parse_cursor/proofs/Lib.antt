@@ -1,1 +1,4 @@
 pub mod Types
+pub mod Loops
+pub mod Shown
+pub mod Turns

@@ -1,3 +1,4 @@
-pub mod Views
+pub mod CursorViews
 pub mod Cursor
 pub mod Reads
+pub mod PartViews

@@ -7,7 +7,7 @@ ghost use Rattle.pw_tree.specs.Views.{view_word};
 ghost use Rattle.pw_parse_grammar.specs.Input as spec;
 ghost use Rattle.pw_parse_grammar.specs.Tests as test;
 ghost use Rattle.pw_parse_cursor.specs.Reads.{Reads, unit};
-ghost use Rattle.pw_parse_cursor.specs.Views.{view_bindings};
+ghost use Rattle.pw_parse_cursor.specs.CursorViews.{view_bindings};
 
 use crate::stop::Stop;
 use pw_scope::Scopes;

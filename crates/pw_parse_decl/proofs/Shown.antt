@@ -6,8 +6,8 @@ use Rattle.pw_tree.specs.declared.decl.Decl.{Decl}
 use Rattle.pw_tree.specs.declared.decl.Init.{Init}
 use Rattle.pw_tree.specs.declared.decl.InitDeclarator.{InitDeclarator}
 use Rattle.pw_parse_decl.specs.Views.{init_first, init_declarator_first, decl_first}
-use Rattle.pw_parse_parts.proofs.Loops.{prepend}
-use Rattle.pw_parse_parts.proofs.Shown.{mapped}
+use Rattle.pw_parse_cursor.proofs.Loops.{prepend}
+use Rattle.pw_parse_cursor.proofs.Shown.{mapped}
 
 pub init_declarators_shown : (ds : List InitDeclarator) → prepend init_declarator_first ds [] ≡ view_init_declarators ds
 init_declarators_shown = mapped view_init_declarator

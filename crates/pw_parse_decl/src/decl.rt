@@ -3,14 +3,13 @@
 ghost use Rattle.std.specs.Prelude.{◌≡◌, Ok};
 ghost use Rattle.pw_parse_grammar.specs.Declarations as spec;
 ghost use Rattle.pw_parse_cursor.specs.Reads.{Reads};
-ghost use Rattle.pw_parse_parts.specs.Views.{view_decl_list, view_declared, view_specifier_list};
+ghost use Rattle.pw_parse_cursor.specs.PartViews.{view_decl_list, view_declared, view_specifier_list};
 ghost use Rattle.pw_parse_decl.specs.Views.{before_decl, before_init_declarator, inits_last, view_init_declarator_list, view_inits_end};
 ghost use Rattle.pw_tree.specs.Views.{view_decl, view_init, view_init_declarator, view_initializer};
 
 use crate::parts::{DeclParts, InitParts};
-use pw_parse_cursor::{ASSIGNMENT, Stop, Tokens, begins_declaration, has_type, has_typedef};
+use pw_parse_cursor::{ASSIGNMENT, Declared, Stop, Tokens, begins_declaration, declare_name, has_type, has_typedef};
 use pw_parse_grammar::Place;
-use pw_parse_parts::{Declared, declare_name};
 use pw_tree::{
     Decl, Init, InitDeclarator, Initializer, Mark, Specifier, statements_show_their_lists,
 };

@@ -4,13 +4,12 @@ ghost use Rattle.std.specs.Prelude.{ℕ};
 ghost use Rattle.pw_parse_grammar.specs.Declarations.{init, parts};
 ghost use Rattle.pw_parse_grammar.specs.Input.{Parser};
 ghost use Rattle.pw_parse_cursor.specs.Reads.{Reads};
-ghost use Rattle.pw_parse_parts.specs.Views.{view_declared, view_specifier_list};
+ghost use Rattle.pw_parse_cursor.specs.PartViews.{view_declared, view_specifier_list};
 ghost use Rattle.pw_tree.specs.Trees.{Init};
 ghost use Rattle.pw_tree.specs.Views.{view_expr, view_init};
 
-use pw_parse_cursor::{Stop, Tokens};
+use pw_parse_cursor::{Declared, Stop, Tokens};
 use pw_parse_grammar::Place;
-use pw_parse_parts::Declared;
 use pw_tree::{Expr, Init, Specifier};
 use std::alloc::Global;
 

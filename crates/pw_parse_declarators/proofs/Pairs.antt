@@ -8,10 +8,10 @@ use Rattle.pw_tree.specs.declared.expr.Suffix.{Suffix}
 use Rattle.pw_tree.specs.declared.expr.Word.{Word}
 use Rattle.pw_parse_grammar.specs.Declarators.{Names, Behind, suffixed}
 use Rattle.pw_parse_grammar.specs.Input.{Binding}
-use Rattle.pw_parse_cursor.specs.Views.{binding_first, view_binding}
-use Rattle.pw_parse_parts.specs.Views.{word_first}
-use Rattle.pw_parse_parts.proofs.Loops.{prepend, prepend-snoc}
-use Rattle.pw_parse_parts.proofs.Shown.{mapped, words_shown}
+use Rattle.pw_parse_cursor.specs.CursorViews.{binding_first, view_binding}
+use Rattle.pw_parse_cursor.specs.PartViews.{word_first}
+use Rattle.pw_parse_cursor.proofs.Loops.{prepend, prepend-snoc}
+use Rattle.pw_parse_cursor.proofs.Shown.{mapped, words_shown}
 use Rattle.pw_parse_declarators.proofs.Shown.{suffixes_shown}
 
 abbrev pub names_before : List Word → List (Bor (List ℕ) × Bool) → Names → Names

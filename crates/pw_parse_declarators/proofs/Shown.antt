@@ -10,8 +10,8 @@ use Rattle.pw_tree.specs.declared.expr.Qualifier.{Qualifier}
 use Rattle.pw_tree.specs.declared.expr.Suffix.{Suffix}
 use Rattle.pw_tree.specs.declared.expr.Suffix as suffix
 use Rattle.pw_parse_declarators.specs.Views.{qualifier_first, pointer_first, parameter_first}
-use Rattle.pw_parse_parts.proofs.Loops.{prepend}
-use Rattle.pw_parse_parts.proofs.Shown.{mapped}
+use Rattle.pw_parse_cursor.proofs.Loops.{prepend}
+use Rattle.pw_parse_cursor.proofs.Shown.{mapped}
 
 pub prototype_shown : ((t : ℕ) (ps : Vec Parameter Global) (rest : tree.Suffixes) → view_suffix (suffix.Parameters t ps) rest ≡ tree.Prototype t (view_parameters ps.items) rest)
     → (t : ℕ) (ps : Vec Parameter Global) → view_suffix (suffix.Parameters t ps) ≡ tree.Prototype t (view_parameters ps.items)

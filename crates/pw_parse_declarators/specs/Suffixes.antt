@@ -8,8 +8,8 @@ use Rattle.pw_parse_declarators.specs.declared.declarator.Names.{Names as NamesH
 use Rattle.pw_parse_declarators.specs.declared.declarator.Suffixed.{Suffixed as SuffixedHere}
 use Rattle.pw_parse_declarators.specs.declared.declarator.SuffixList.{SuffixList}
 use Rattle.pw_parse_grammar.specs.Declarators.{Names, Behind, Cored, suffixed}
-use Rattle.pw_parse_cursor.specs.Views.{view_bindings, view_name}
-use Rattle.pw_parse_parts.specs.Views.{view_behind}
+use Rattle.pw_parse_cursor.specs.CursorViews.{view_bindings, view_name}
+use Rattle.pw_parse_cursor.specs.PartViews.{view_behind}
 
 abbrev pub name_first : ListedName → Names → Names
 name_first n more = (view_word n.word ∷ more.0, (n.text.now, false) ∷ more.1)

@@ -7,17 +7,13 @@ ghost use Rattle.pw_parse_grammar.specs.Input.{Input};
 ghost use Rattle.pw_parse_cursor.specs.Reads.{Reads};
 ghost use Rattle.pw_parse_declarators.specs.Rests as own;
 ghost use Rattle.pw_parse_declarators.specs.Suffixes.{before_suffixed, name_first, parameters_last, suffixed_first, view_behind_name, view_cored, view_names};
-ghost use Rattle.pw_parse_parts.specs.Views.{view_behind, view_declared};
+ghost use Rattle.pw_parse_cursor.specs.PartViews.{view_behind, view_declared};
 ghost use Rattle.pw_parse_declarators.specs.Views.{before_pointer, before_qualifier, parameter_first, view_parameters_end, view_pointer_list, view_qualifier_list};
 ghost use Rattle.pw_tree.specs.Trees.{Enclosed};
 ghost use Rattle.pw_tree.specs.Views.{view_core, view_declarator, view_parameters, view_pointer, view_suffix};
 
-use pw_parse_cursor::{
-    Binding, CONDITIONAL, Stop, Tokens, begins_specifier, has_type, opens_parameters,
-    qualifier_word,
-};
+use pw_parse_cursor::{Binding, CONDITIONAL, Declared, SmallerParts, Stop, Tokens, begins_specifier, boxed_expr, declare_name, has_type, opens_parameters, qualifier_word, some_specifiers};
 use pw_parse_grammar::Place;
-use pw_parse_parts::{Declared, SmallerParts, boxed_expr, declare_name, some_specifiers};
 use pw_tree::{
     Core, Declarator, Lexeme, Mark, Parameter, Pointer, Qualifier, Suffix, Word,
     declarators_show_their_lists,

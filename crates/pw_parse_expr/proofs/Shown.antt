@@ -10,7 +10,7 @@ use Rattle.pw_tree.specs.declared.expr.PostfixOperation.{PostfixOperation}
 use Rattle.pw_tree.specs.declared.expr.PostfixOperation as postfix
 use Rattle.pw_tree.specs.declared.expr.Word.{Word}
 use Rattle.pw_parse_expr.specs.Views.{operation_first, argument_first}
-use Rattle.pw_parse_parts.proofs.Loops.{prepend}
+use Rattle.pw_parse_cursor.proofs.Loops.{prepend}
 
 pub call_shown : ((t : ℕ) (es : Vec Expr Global) (rest : tree.Postfixes) → view_postfix (postfix.Call t es) rest ≡ tree.Call t (view_arguments es.items) rest)
     → (t : ℕ) (es : Vec Expr Global) → view_postfix (postfix.Call t es) ≡ tree.Call t (view_arguments es.items)

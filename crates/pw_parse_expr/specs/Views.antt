@@ -9,7 +9,7 @@ use Rattle.pw_tree.specs.declared.expr.Operation.{Operation}
 use Rattle.pw_tree.specs.declared.expr.PostfixOperation.{PostfixOperation}
 use Rattle.pw_tree.specs.declared.expr.TypeName.{TypeName}
 use Rattle.pw_tree.specs.declared.expr.Word.{Word}
-use Rattle.pw_parse_parts.specs.Views.{word_first}
+use Rattle.pw_parse_cursor.specs.PartViews.{word_first}
 
 abbrev pub view_word_list : Vec Word Global → List tree.Word
 view_word_list ws = view_words ws.items

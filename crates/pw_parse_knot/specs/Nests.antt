@@ -5,13 +5,13 @@ use denote.Ref.{MutBor}
 use Rattle.pw_tree.specs.Views.{view_expr}
 use Rattle.pw_tree.specs.declared.expr.Expr.{Expr}
 use Rattle.pw_tree.specs.declared.expr.Specifier.{Specifier}
-use Rattle.pw_parse_parts.specs.declared.declared.Declared.{Declared}
+use Rattle.pw_parse_cursor.specs.declared.declared.Declared.{Declared}
 use Rattle.pw_parse_grammar.specs.declared.place.Place.{Place}
 use Rattle.pw_parse_cursor.specs.declared.stop.Stop.{Stop}
 use Rattle.pw_parse_grammar.specs.Declarations.{parts}
 use Rattle.pw_parse_grammar.specs.Input.{Input}
 use Rattle.pw_parse_cursor.specs.Reads.{Reads}
-use Rattle.pw_parse_parts.specs.Views.{view_specifier_list, view_declared}
+use Rattle.pw_parse_cursor.specs.PartViews.{view_specifier_list, view_declared}
 
 pub record Nests (depth : ℕ)
     (expr_pre : Global → MutBor Input → ℕ → ℕ → Type 0)

@@ -4,14 +4,13 @@
 ghost use Rattle.pw_parse_grammar.specs.Declarations.{parts};
 ghost use Rattle.pw_parse_knot.specs.Nests.{Nests};
 ghost use Rattle.pw_parse_cursor.specs.Reads.{Reads};
-ghost use Rattle.pw_parse_parts.specs.Views.{view_declared, view_specifier_list};
+ghost use Rattle.pw_parse_cursor.specs.PartViews.{view_declared, view_specifier_list};
 ghost use Rattle.pw_tree.specs.Views.{view_expr};
 
-use pw_parse_cursor::{Stop, Tokens};
+use pw_parse_cursor::{Declared, SmallerParts, Stop, Tokens};
 use pw_parse_declarators::declarator_of;
 use pw_parse_expr::expr_of;
 use pw_parse_grammar::Place;
-use pw_parse_parts::{Declared, SmallerParts};
 use pw_parse_specifiers::specifiers_of;
 use pw_tree::{Expr, Specifier};
 use std::alloc::{AllocError, Global};

@@ -5,4 +5,4 @@
 mod knot;
 
 pub use knot::{read_declarator, read_expr, read_specifiers};
-pub use pw_parse_parts::{Declared, declare_name};
+pub use pw_parse_cursor::{Declared, declare_name};

@@ -15,7 +15,7 @@ use Rattle.pw_tree.specs.declared.expr.Specifier.{Specifier}
 use Rattle.pw_tree.specs.declared.expr.Specifier as specifier
 use Rattle.pw_tree.specs.declared.expr.Word.{Word}
 use Rattle.pw_parse_specifiers.specs.Views.{member_first}
-use Rattle.pw_parse_parts.proofs.Loops.{prepend}
+use Rattle.pw_parse_cursor.proofs.Loops.{prepend}
 
 pub record_shown : ((t : ℕ) (r : RecordKind) (tag : Option Word) (ms : Vec Member Global) (rest : tree.Specifiers) → view_specifier (specifier.Record t r tag ms) rest ≡ tree.Record t r (view_tag tag) (view_members ms.items) rest)
     → (t : ℕ) (r : RecordKind) (tag : Option Word) (ms : Vec Member Global) → view_specifier (specifier.Record t r tag ms) ≡ tree.Record t r (view_tag tag) (view_members ms.items)

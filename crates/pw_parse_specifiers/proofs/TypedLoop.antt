@@ -7,7 +7,7 @@ use Rattle.pw_tree.specs.declared.expr.Specifier.{Specifier}
 use Rattle.pw_parse_grammar.specs.Input.{Input, Outcome, and_then}
 use Rattle.pw_parse_grammar.specs.Parts.{Parts}
 use Rattle.pw_parse_grammar.specs.Specifiers.{specifier, specifiers_from, specifiers_behind}
-use Rattle.pw_parse_parts.proofs.Loops.{prepend, prepend-snoc, behind, behind_same, behind_behind, behind_none, later}
+use Rattle.pw_parse_cursor.proofs.Loops.{prepend, prepend-snoc, behind, behind_same, behind_behind, behind_none, later}
 
 -- the whole outcome, and what was read so far before the outcome from here
 pub record Typed (p : Parts) (storage : Bool) (whole : Outcome Specifiers) (found : List Specifier) (left : ℕ) (typed : Bool) (i : Input) : Type 0 where

@@ -3,15 +3,14 @@
 ghost use Rattle.std.specs.Prelude.{◌≡◌, Ok};
 ghost use Rattle.pw_parse_cursor.specs.Reads.{Reads};
 ghost use Rattle.pw_parse_grammar.specs.Specifiers as spec;
-ghost use Rattle.pw_parse_parts.specs.Views.{view_specifier_list};
+ghost use Rattle.pw_parse_cursor.specs.PartViews.{view_specifier_list};
 ghost use Rattle.pw_parse_specifiers.specs.Enumerators as own;
 ghost use Rattle.pw_parse_specifiers.specs.Views.{before_specifier, member_first, view_enumerator_list, view_member_declarator_list, view_member_list, view_width};
 ghost use Rattle.pw_tree.specs.Trees.{BitField, PlainMember};
 ghost use Rattle.pw_tree.specs.Views.{view_declarator, view_enumerator, view_expr, view_member_declarator, view_specifier, view_tag, view_word};
 
-use pw_parse_cursor::{CONDITIONAL, Stop, Tokens, has_type, is_type, specifier_word};
+use pw_parse_cursor::{CONDITIONAL, Declared, SmallerParts, Stop, Tokens, boxed_expr, has_type, is_type, some_specifiers, specifier_word};
 use pw_parse_grammar::{Place, SpecifierWord};
-use pw_parse_parts::{Declared, SmallerParts, boxed_expr, some_specifiers};
 use pw_tree::{
     Declarator, Enumerator, Expr, Lexeme, Mark, Member, MemberDeclarator, RecordKind, Specifier,
     Word, declarators_show_their_lists,

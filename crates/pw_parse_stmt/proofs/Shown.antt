@@ -5,8 +5,8 @@ use Rattle.pw_tree.specs.Views.{view_label, view_labels, view_stmts}
 use Rattle.pw_tree.specs.declared.stmt.Label.{Label}
 use Rattle.pw_tree.specs.declared.stmt.Stmt.{Stmt}
 use Rattle.pw_parse_stmt.specs.Views.{label_first, stmt_first}
-use Rattle.pw_parse_parts.proofs.Loops.{prepend}
-use Rattle.pw_parse_parts.proofs.Shown.{mapped}
+use Rattle.pw_parse_cursor.proofs.Loops.{prepend}
+use Rattle.pw_parse_cursor.proofs.Shown.{mapped}
 
 pub labels_shown : (ls : List Label) → prepend label_first ls [] ≡ view_labels ls
 labels_shown = mapped view_label

@@ -8,9 +8,9 @@ use Rattle.pw_front_end.specs.declared.refusal.FrontError.{FrontError}
 use Rattle.pw_front_end.specs.declared.refusal.FrontError.TheVariants.{Refused, NoMemory}
 use Rattle.pw_front_end.specs.declared.refusal.Refusal.{Refusal}
 use Rattle.pw_front_end.specs.declared.refusal.Refusal.TheVariants.{Lex, Unsupported, Parse, Check}
-use Rattle.pw_check_walk.specs.declared.fault.CheckFault.{CheckFault}
-use Rattle.pw_check_walk.specs.declared.fault.CheckKind.{CheckKind}
-use Rattle.pw_check_walk.specs.declared.fault.CheckKind.TheVariants as check
+use Rattle.pw_check_walk.specs.declared.constraints.CheckFault.{CheckFault}
+use Rattle.pw_check_walk.specs.declared.constraints.CheckKind.{CheckKind}
+use Rattle.pw_check_walk.specs.declared.constraints.CheckKind.TheVariants as check
 use Rattle.pw_check_rules.specs.Checks.{Checks, checked}
 use Rattle.pw_types.specs.TypedTrees.{ModuleValue}
 use Rattle.pw_flow.specs.declared.flow.FlowModule.{FlowModule}

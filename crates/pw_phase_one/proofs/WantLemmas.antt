@@ -5,8 +5,8 @@ use Rattle.pw_front_end.specs.Fronts.{Front, Fronts, HoldsNoWant, front_of}
 use Rattle.pw_front_end.specs.declared.refusal.Refusal.{Refusal}
 use Rattle.pw_front_end.specs.declared.refusal.Refusal.TheVariants.{Lex, Unsupported, Parse, Check}
 use Rattle.pw_phase_one.specs.FirstPhase.{Compiles, Phase, compiled}
-use Rattle.pw_check_walk.specs.declared.fault.CheckFault.{CheckFault}
-use Rattle.pw_check_walk.specs.declared.fault.CheckKind.TheVariants.{NoMemory}
+use Rattle.pw_check_walk.specs.declared.constraints.CheckFault.{CheckFault}
+use Rattle.pw_check_walk.specs.declared.constraints.CheckKind.TheVariants.{NoMemory}
 use Rattle.pw_check_walk.specs.Causes.{Constraint, DeclaredIdentifier, Within, kind_of}
 use Rattle.pw_check_walk.specs.Walks.{Walk}
 use Rattle.pw_check_walk.specs.Answers.{Stops, AtPoint, AtEnd}

@@ -26,9 +26,9 @@ use Rattle.pw_alloc.specs.declared.located.Place.{Place}
 use Rattle.pw_alloc.specs.declared.located.Place.TheVariants.{Slot, Reg}
 use Rattle.pw_alloc.specs.declared.located.Located.{Located}
 use Rattle.pw_alloc.specs.Frames.{head_size, saved_offset, below}
-use Rattle.pw_select_registers.specs.Registers.{word, Reach, reach, is_near, as_word, constant, long_constant, address_of, load_from, store_to, frame_address, place_of, operand_register, operand_lines, loaded, result_register, result_lines, load_scalar, store_scalar, sign_spread, read_global, write_global, copied}
-use Rattle.pw_select_registers.specs.Arithmetic.{unary_word, routine_of, binary_lines, extension_word, with_one, with_two, with_none, moved_unless_there, routine_result, by_routine, binary_by}
-use Rattle.pw_select_ops.specs.Operations.{Layout, layout, unit_loop, moved, stacked_arguments, register_arguments, called, called_by_value, call_result, op_lines, web_op_lines}
+use Rattle.pw_select_lines.specs.Registers.{word, Reach, reach, is_near, as_word, constant, long_constant, address_of, load_from, store_to, frame_address, place_of, operand_register, operand_lines, loaded, result_register, result_lines, load_scalar, store_scalar, sign_spread, read_global, write_global, copied}
+use Rattle.pw_select_lines.specs.Arithmetic.{unary_word, routine_of, binary_lines, extension_word, with_one, with_two, with_none, moved_unless_there, routine_result, by_routine, binary_by}
+use Rattle.pw_select_lines.specs.Operations.{Layout, layout, unit_loop, moved, stacked_arguments, register_arguments, called, called_by_value, call_result, op_lines, web_op_lines}
 use Rattle.pw_select.specs.Selection.{slot_offsets, saved_lines, entered_web, lines_of_web, entered_lines, stored_back, loaded_web, webs_loaded, webs_stored, incoming, parameter_in, parameters_in, frame_end, entry_lines, prologue, frame_left, epilogue, end_lines, block_lines, blocks_lines, selected}
 use Rattle.pw_phase_two.proofs.FixLaws.{IsThere, LineThere}
 

@@ -33,13 +33,13 @@ use Rattle.pw_alloc.specs.Frames.{below, head_size, reaches_from, slots_begin}
 use Rattle.pw_alloc.specs.Allocation.{is_entry, in_frame}
 use Rattle.pw_alloc.proofs.AllocationLaws.{located_fits}
 use Rattle.pw_alloc.specs.ValidPlaces.{IsPlace, IsLocated}
-use Rattle.pw_select_registers.specs.Registers.{word, copied, constant, address_of, frame_address, load_from, store_to, place_of, operand_register, operand_lines, loaded, load_scalar, store_scalar, sign_spread, read_global, write_global}
-use Rattle.pw_select_registers.specs.Arithmetic.{unary_word, extension_word}
-use Rattle.pw_select_ops.specs.Operations.{Layout, layout, op_lines, web_op_lines, called, called_by_value, call_result}
+use Rattle.pw_select_lines.specs.Registers.{word, copied, constant, address_of, frame_address, load_from, store_to, place_of, operand_register, operand_lines, loaded, load_scalar, store_scalar, sign_spread, read_global, write_global}
+use Rattle.pw_select_lines.specs.Arithmetic.{unary_word, extension_word}
+use Rattle.pw_select_lines.specs.Operations.{Layout, layout, op_lines, web_op_lines, called, called_by_value, call_result}
 use Rattle.pw_select.specs.Selection.{saved_lines, entered_web, lines_of_web, entered_lines, loaded_web, stored_back, webs_loaded, webs_stored, incoming, parameter_in, parameters_in, frame_end, entry_lines, prologue, frame_left, epilogue, end_lines, block_lines, blocks_lines, slot_offsets, selected}
-use Rattle.pw_select_registers.proofs.Placeable.{Fits, below_fits, PlaceGood, joined, copied_good, constant_good, address_good, load_good, store_good, frame_address_good, place_good, operand_good, operand_register_good, loaded_good, load_scalar_good, store_scalar_good, sign_good, read_good, write_good}
-use Rattle.pw_select_registers.proofs.PlaceableArithmetic.{with_none_good, with_one_good, unary_good, extension_good, binary_by_good}
-use Rattle.pw_select_ops.proofs.PlaceableOps.{moved_good, places_good, called_good, called_by_value_good, call_result_good}
+use Rattle.pw_select_lines.proofs.Placeable.{Fits, below_fits, PlaceGood, joined, copied_good, constant_good, address_good, load_good, store_good, frame_address_good, place_good, operand_good, operand_register_good, loaded_good, load_scalar_good, store_scalar_good, sign_good, read_good, write_good}
+use Rattle.pw_select_lines.proofs.PlaceableArithmetic.{with_none_good, with_one_good, unary_good, extension_good, binary_by_good}
+use Rattle.pw_select_lines.proofs.PlaceableOps.{moved_good, places_good, called_good, called_by_value_good, call_result_good}
 
 -- the places are registers, and the offsets numbers of 32 bits
 pub record LayoutGood (l : Layout) : Type 0 where

@@ -16,7 +16,7 @@ use Rattle.pw_alloc.specs.Frames.{head_size, slots_begin, last_reach}
 use Rattle.pw_alloc.proofs.FrameLaws.{few_arguments, frame_fits}
 use Rattle.pw_alloc.proofs.AllocationLaws.{located_fits}
 use Rattle.pw_alloc.proofs.SavedLaws.{few_kept}
-use Rattle.pw_select_ops.specs.Selectable.{IsSelectable}
+use Rattle.pw_select_lines.specs.Selectable.{IsSelectable}
 use Rattle.pw_select.specs.Selectable.{IsSelectableBlock, IsFrame}
 
 small_unit : (unit : ℕ) → IsUnit unit → unit ≤ 4

@@ -6,7 +6,7 @@ use Rattle.pw_db.specs.declared.database.Web.{Web}
 use Rattle.pw_db.specs.declared.database.Role.{Role}
 use Rattle.pw_inst.specs.declared.line.Line.{Line}
 use Rattle.pw_alloc.specs.declared.located.Place.{Place}
-use Rattle.pw_select_registers.specs.Registers.{place_of}
+use Rattle.pw_select_lines.specs.Registers.{place_of}
 use Rattle.pw_select.specs.Selection.{entered_web, lines_of_web, entered_lines, parameter_in, parameters_in}
 
 pub lines_more : (lines : Web → List Line) (webs : List (Web × Role)) (r : ℕ) → r ≤ last_register → entered_lines lines webs r (last_register + 1 - r) ≡ lines_of_web lines (entered_web webs r) ++ entered_lines lines webs (r + 1) (last_register + 1 - (r + 1))

@@ -5,7 +5,7 @@ use Rattle.pw_value.specs.Limits.{parameter_limit}
 use Rattle.pw_webflow.specs.declared.web.WebBlock.{WebBlock}
 use Rattle.pw_alloc.specs.declared.located.Located.{Located}
 use Rattle.pw_alloc.specs.Frames.{first_stacked, most_arguments, ops_of, head_size}
-use Rattle.pw_select_ops.specs.Selectable.{IsSelectable}
+use Rattle.pw_select_lines.specs.Selectable.{IsSelectable}
 
 abbrev pub IsSelectableBlock : WebBlock → Type 0
 IsSelectableBlock b = AllByRecursion IsSelectable b.ops

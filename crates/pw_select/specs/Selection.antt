@@ -18,8 +18,8 @@ use Rattle.pw_alloc.specs.declared.located.Place.TheVariants.{Slot, Reg}
 use Rattle.pw_alloc.specs.declared.located.Located.{Located}
 use Rattle.pw_alloc.specs.Frames.{first_stacked, link_place, head_size, saved_offset, slots_begin, reaches_from, below}
 use Rattle.pw_alloc.specs.Allocation.{is_entry, in_frame}
-use Rattle.pw_select_registers.specs.Registers.{word, copied, constant, address_of, load_from, store_to, place_of, operand_register, operand_lines, loaded, read_global, write_global}
-use Rattle.pw_select_ops.specs.Operations.{layout, web_op_lines}
+use Rattle.pw_select_lines.specs.Registers.{word, copied, constant, address_of, load_from, store_to, place_of, operand_register, operand_lines, loaded, read_global, write_global}
+use Rattle.pw_select_lines.specs.Operations.{layout, web_op_lines}
 
 -- ---- the frame
 

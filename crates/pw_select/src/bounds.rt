@@ -2,7 +2,7 @@
 
 ghost use Rattle.std.specs.Prelude.{◌≡◌, ◌<◌, ◌+◌, ◌*◌, ◌^◌, ◌++◌, length, OnOk};
 ghost use Rattle.pw_alloc.specs.Frames.{first_stacked, head_size};
-ghost use Rattle.pw_select_registers.specs.Registers.{load_from, store_to};
+ghost use Rattle.pw_select_lines.specs.Registers.{load_from, store_to};
 ghost use Rattle.pw_select.specs.Selection.{saved_lines, incoming, parameter_in, parameters_in, frame_end, frame_left, entry_lines, prologue, epilogue};
 ghost use Rattle.pw_select.specs.Selectable.{IsFrame};
 
@@ -13,9 +13,7 @@ use pw_inst::{
     STACK_POINTER, Symbol,
 };
 use pw_items::Items;
-use pw_select_registers::{
-    place_of, put, put_address, put_constant, put_copy, put_load, put_store,
-};
+use pw_select_lines::{place_of, put, put_address, put_constant, put_copy, put_load, put_store};
 use std::alloc::{AllocError, Global};
 
 /// The saved registers go into the frame.

@@ -2,9 +2,9 @@
 
 ghost use Rattle.std.specs.Prelude.{◌≡◌, ◌+◌, ◌<◌, ◌≤◌, ◌^◌, ◌++◌, length, IfOk, OnOk};
 ghost use Rattle.std.specs.List.{flat_map, AllByRecursion};
-ghost use Rattle.pw_select_ops.specs.Operations.{web_op_lines, layout};
+ghost use Rattle.pw_select_lines.specs.Operations.{web_op_lines, layout};
 ghost use Rattle.pw_select.specs.Selection.{end_lines, block_lines, blocks_lines, slot_offsets, selected};
-ghost use Rattle.pw_select_ops.specs.Selectable.{IsSelectable};
+ghost use Rattle.pw_select_lines.specs.Selectable.{IsSelectable};
 ghost use Rattle.pw_select.specs.Selectable.{IsFrame, IsSelectableBlock};
 ghost use Rattle.pw_alloc.specs.Allocation.{in_frame};
 ghost use Rattle.pw_alloc.specs.Frames.{head_size};
@@ -16,8 +16,7 @@ use pw_alloc::{Located, Place, head_size, slot_offsets, slots_begin};
 use pw_flow::End;
 use pw_inst::{ANSWER, FIRST, Line};
 use pw_items::Items;
-use pw_select_ops::put_web_op;
-use pw_select_registers::{place_of, put_loaded, put_operand};
+use pw_select_lines::{place_of, put_loaded, put_operand, put_web_op};
 use pw_value::words::next_word;
 use pw_webflow::{WebBlock, WebOp};
 use std::alloc::{AllocError, Global};

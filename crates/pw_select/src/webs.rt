@@ -7,7 +7,7 @@ use pw_alloc::is_entry;
 use pw_db::{FIRST_REGISTER, LAST_REGISTER, Role, Web};
 use pw_inst::Line;
 use pw_items::Items;
-use pw_select_registers::{put_read, put_write};
+use pw_select_lines::{put_read, put_write};
 use std::alloc::{AllocError, Global};
 
 /// The web of a register among those that are entered.

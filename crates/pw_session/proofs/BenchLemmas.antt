@@ -11,20 +11,20 @@ use Rattle.pw_image.specs.declared.image.Image.{Image}
 use Rattle.pw_image.specs.Image.{Contents, IsImageFile}
 use Rattle.pw_machine.specs.Core.{Core}
 use Rattle.pw_machine.specs.Start.{image_start}
-use Rattle.pw_commands_run.specs.Running.{run_answer}
+use Rattle.pw_commands.specs.MachineRun.{run_answer}
 use Rattle.pw_store_modules.specs.Modules.{modules_of}
 use Rattle.pw_top_answer.specs.declared.answer.Answer.{Answer}
 use Rattle.pw_top_answer.specs.declared.answer.Answer.TheVariants.{Done, Usage, Refused, LinkRefused, WriteFault, StoreFault, NoMemory, BadFile}
 use Rattle.pw_top_answer.specs.Effects.{Effect, answers_alone, prints}
 use Rattle.pw_top_answer.specs.Outcomes.{Answers, IsPrintAnswer, LeavesStreams, OutputCount, PutsOut, StoreCount}
 use Rattle.pw_gen.specs.Generator.{generated}
-use Rattle.pw_build_command.specs.FromBuild.BuildFault.{BuildFault}
-use Rattle.pw_build_command.specs.FromBuild.BuildFault.TheVariants as build
-use Rattle.pw_build_command.specs.FromBuild.Unbuilt.{Unbuilt}
-use Rattle.pw_build_command.specs.FromBuild.Phases.{IsLine, refused_line}
-use Rattle.pw_build_command.specs.FromBuilding.Report.{Report}
-use Rattle.pw_build_command.specs.FromBuilding.Building.{Outcome}
-use Rattle.pw_build_command.specs.FromBuilding.Outcomes.{FaultComes, IsNoWant, ObeysBuild, Reports, fault_answer}
+use Rattle.pw_build_files.specs.FromBuild.BuildFault.{BuildFault}
+use Rattle.pw_build_files.specs.FromBuild.BuildFault.TheVariants as build
+use Rattle.pw_build_files.specs.FromBuild.Unbuilt.{Unbuilt}
+use Rattle.pw_build_files.specs.FromBuild.Phases.{IsLine, refused_line}
+use Rattle.pw_build_files.specs.declared.report.Report.{Report}
+use Rattle.pw_build_files.specs.Building.{Outcome}
+use Rattle.pw_build_files.specs.Outcomes.{FaultComes, IsNoWant, ObeysBuild, Reports, fault_answer}
 use Rattle.pw_session.specs.declared.opts.SessionOpts.{SessionOpts}
 use Rattle.pw_session.specs.Builds.{BuildsTo}
 use Rattle.pw_session.specs.Bench.{BenchComes, BenchOver, IsBenchAnswer, IsBenchFound, IsBenchLine, ObeysBench, ObeysReport, StopsAs, bench_files, bench_line, made_files, stop_of}

@@ -2,13 +2,13 @@
 use Rattle.std.proofs.Common.{Option, Result, Ok, Err}
 use Rattle.pw_io.specs.Files.{Files, Told}
 use Rattle.pw_top_answer.specs.Effects.{PutsFiles}
-use Rattle.pw_build_command.specs.FromBuild.BuildFault.{BuildFault}
-use Rattle.pw_build_command.specs.FromBuild.BuildFault.TheVariants as build
-use Rattle.pw_build_command.specs.FromBuild.Unbuilt.{Unbuilt}
-use Rattle.pw_build_command.specs.FromBuilding.Opts.{Opts}
-use Rattle.pw_build_command.specs.FromBuilding.Report.{Report}
-use Rattle.pw_build_command.specs.FromBuilding.Building.{BuildComes, Outcome, puts_of}
-use Rattle.pw_build_command.specs.FromBuilding.Outcomes.{AnswersBuild, FaultFound, IsBuildFound, ObeysBuild, Reports, build_answer}
+use Rattle.pw_build_files.specs.FromBuild.BuildFault.{BuildFault}
+use Rattle.pw_build_files.specs.FromBuild.BuildFault.TheVariants as build
+use Rattle.pw_build_files.specs.FromBuild.Unbuilt.{Unbuilt}
+use Rattle.pw_build_files.specs.declared.report.Opts.{Opts}
+use Rattle.pw_build_files.specs.declared.report.Report.{Report}
+use Rattle.pw_build_files.specs.Building.{BuildComes, Outcome, puts_of}
+use Rattle.pw_build_files.specs.Outcomes.{AnswersBuild, FaultFound, IsBuildFound, ObeysBuild, Reports, build_answer}
 use Rattle.pw_session.specs.Builds.{BuildsTo}
 
 to_build : (files : Files) (opts : Opts) (comes : Result Outcome BuildFault) → BuildComes files opts.colours opts.stack comes → BuildsTo files opts comes

@@ -6,7 +6,7 @@ use Rattle.pw_io.specs.Files.{Told, after_put}
 use Rattle.pw_top_answer.specs.declared.answer.Answer.{Answer}
 use Rattle.pw_top_answer.specs.declared.answer.Answer.TheVariants.{ReadFault, WriteFault, StoreFault, NoMemory}
 use Rattle.pw_top_answer.specs.Effects.{NamedFile, IsLeft, PutFront, PutPart, PutsFiles, after_puts}
-use Rattle.pw_build_command.specs.FromBuilding.Genuine.{IsBuiltName}
+use Rattle.pw_build_files.specs.Genuine.{IsBuiltName}
 use Rattle.pw_session.specs.Changes.{AreOwnChanges, Change, ChangeFront, ChangePart, IsChanged, MakesChanges, MakesSome, Puts, Removes, after_change, after_changes}
 
 pub after_both : (told : Told) (first second : List Change) → after_changes told (first ++ second) ≡ after_changes (after_changes told first) second

@@ -7,7 +7,7 @@ use Rattle.pw_io.specs.declared.StoreError.TheVariants as store
 use Rattle.pw_io.specs.Faults.{OnFailed, OnNoMemory}
 use Rattle.pw_io.specs.Files.{Files, Keeps, Told, LeavesFile, PutsPart}
 use Rattle.pw_store_modules.specs.Modules.{is_module_file}
-use Rattle.pw_build_command.specs.FromBuilding.Genuine.{KeepsGenuine}
+use Rattle.pw_build_files.specs.Genuine.{KeepsGenuine}
 
 -- files of which only a module's text changed
 abbrev pub IsSameBut : List ℕ → Files → Files → Type 0

@@ -11,16 +11,16 @@ use Rattle.pw_top_answer.specs.declared.answer.Answer.TheVariants.{Done, Refused
 use Rattle.pw_top_answer.specs.Answers.{line_text}
 use Rattle.pw_top_answer.specs.Effects.{PutsFiles}
 use Rattle.pw_top_answer.specs.Outcomes.{IsPrintAnswer, IsWhole, OutputCount, PutsOut, StoreCount, store_answer}
-use Rattle.pw_build_command.specs.FromBuild.BuildFault.{BuildFault}
-use Rattle.pw_build_command.specs.FromBuild.BuildFault.TheVariants as build
-use Rattle.pw_build_command.specs.FromBuild.Unbuilt.{Unbuilt}
-use Rattle.pw_build_command.specs.FromBuild.Phases.{IsLine, refused_line}
-use Rattle.pw_build_command.specs.FromBuilding.Opts.{Opts}
-use Rattle.pw_build_command.specs.FromBuilding.Report.{Report}
-use Rattle.pw_build_command.specs.FromBuilding.Building.{Outcome, puts_of}
-use Rattle.pw_build_command.specs.FromBuilding.Lines.{report_lines, report_text}
-use Rattle.pw_build_command.specs.FromBuilding.Outcomes.{AnswersBuild, FaultComes, ObeysBuild, PutsSome, Reports, fault_answer}
-use Rattle.pw_build_command.specs.Driving.{outcome_lines}
+use Rattle.pw_build_files.specs.FromBuild.BuildFault.{BuildFault}
+use Rattle.pw_build_files.specs.FromBuild.BuildFault.TheVariants as build
+use Rattle.pw_build_files.specs.FromBuild.Unbuilt.{Unbuilt}
+use Rattle.pw_build_files.specs.FromBuild.Phases.{IsLine, refused_line}
+use Rattle.pw_build_files.specs.declared.report.Opts.{Opts}
+use Rattle.pw_build_files.specs.declared.report.Report.{Report}
+use Rattle.pw_build_files.specs.Building.{Outcome, puts_of}
+use Rattle.pw_build_files.specs.Lines.{report_lines, report_text}
+use Rattle.pw_build_files.specs.Outcomes.{AnswersBuild, FaultComes, ObeysBuild, PutsSome, Reports, fault_answer}
+use Rattle.pw_build_files.specs.Driving.{outcome_lines}
 use Rattle.pw_session_script.specs.Script.{LineValue, PutText, RemoveText, BuildProgram, RunProgram}
 use Rattle.pw_session.specs.declared.opts.SessionOpts.{SessionOpts}
 use Rattle.pw_session.specs.Builds.{BuildsTo}

@@ -14,8 +14,8 @@ use Rattle.pw_machine.specs.Stops.{Snapshot, loaded}
 use Rattle.pw_top_answer.specs.declared.answer.Answer.{Answer}
 use Rattle.pw_top_answer.specs.declared.answer.Answer.TheVariants.{Ended, StackStop, Spent, Halted, ReadFault, WriteFault, NoMemory}
 use Rattle.pw_top_answer.specs.Outcomes.{Answers, InputCount, IsPrintAnswer, OutputCount, PutsOut}
-use Rattle.pw_commands_run.specs.Running.{IsRunAnswer, run_answer, run_output, started}
-use Rattle.pw_build_command.specs.FromBuilding.Outcomes.{HoldsImage}
+use Rattle.pw_commands.specs.MachineRun.{IsRunAnswer, run_answer, run_output, started}
+use Rattle.pw_build_files.specs.Outcomes.{HoldsImage}
 use Rattle.pw_session.specs.Outcomes.{ObeysRun}
 use Rattle.pw_session.specs.Runs.{RunComes, is_stop, ran_text, runs_as, stop_line}
 use Rattle.pw_session.proofs.OutputLemmas.{GoesOn, MayStop, puts_alone, puts_stop, puts_then}

@@ -7,7 +7,7 @@ use Rattle.pw_io.specs.declared.Failed.{Failed}
 use Rattle.pw_top_answer.specs.declared.answer.Answer.{Answer}
 use Rattle.pw_top_answer.specs.declared.answer.Answer.TheVariants.{Done, ReadFault, WriteFault, StoreFault, NoMemory, BadScript}
 use Rattle.pw_top_answer.specs.Outcomes.{InputCount, IsPrintAnswer, OutputCount, StoreCount}
-use Rattle.pw_build_command.specs.FromBuilding.Genuine.{KeepsGenuine}
+use Rattle.pw_build_files.specs.Genuine.{KeepsGenuine}
 use Rattle.pw_session_script.specs.declared.line.TakenLine.{TakenLine}
 use Rattle.pw_session_script.specs.declared.line.ScriptFault.{ScriptFault}
 use Rattle.pw_session_script.specs.declared.line.ScriptFault.TheVariants as script

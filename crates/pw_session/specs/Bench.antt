@@ -17,11 +17,11 @@ use Rattle.pw_top_answer.specs.declared.answer.Answer.TheVariants.{Done, Refused
 use Rattle.pw_top_answer.specs.Effects.{Effect, answers_alone, prints}
 use Rattle.pw_top_answer.specs.Outcomes.{Answers, IsLineDue, PutsOut}
 use Rattle.pw_gen.specs.Generator.{functions_of_a_module, generated}
-use Rattle.pw_build_command.specs.FromBuild.BuildFault.{BuildFault}
-use Rattle.pw_build_command.specs.FromBuild.Phases.{refused_line}
-use Rattle.pw_build_command.specs.FromBuilding.Building.{Outcome}
-use Rattle.pw_build_command.specs.FromBuilding.Outcomes.{fault_answer}
-use Rattle.pw_commands_run.specs.Running.{run_answer}
+use Rattle.pw_build_files.specs.FromBuild.BuildFault.{BuildFault}
+use Rattle.pw_build_files.specs.FromBuild.Phases.{refused_line}
+use Rattle.pw_build_files.specs.Building.{Outcome}
+use Rattle.pw_build_files.specs.Outcomes.{fault_answer}
+use Rattle.pw_commands.specs.MachineRun.{run_answer}
 use Rattle.pw_session.specs.declared.opts.SessionOpts.{SessionOpts}
 use Rattle.pw_session.specs.Builds.{BuildsTo}
 use Rattle.pw_session.specs.Runs.{is_stop, runs_as, stop_text}

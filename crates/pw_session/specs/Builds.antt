@@ -1,9 +1,9 @@
 -- The builds of sessions and of `bench`.
 use Rattle.std.specs.Prelude.{Result}
 use Rattle.pw_io.specs.Files.{Files}
-use Rattle.pw_build_command.specs.FromBuild.BuildFault.{BuildFault}
-use Rattle.pw_build_command.specs.FromBuilding.Opts.{Opts}
-use Rattle.pw_build_command.specs.FromBuilding.Building.{BuildComes, Outcome}
+use Rattle.pw_build_files.specs.FromBuild.BuildFault.{BuildFault}
+use Rattle.pw_build_files.specs.declared.report.Opts.{Opts}
+use Rattle.pw_build_files.specs.Building.{BuildComes, Outcome}
 
 -- the build over the files of a store comes to this
 unfoldable pub BuildsTo : Files → Opts → Result Outcome BuildFault → Type 0

@@ -6,7 +6,7 @@ use Rattle.pw_store_modules.specs.Modules.{IsModuleFile}
 use Rattle.pw_top_answer.specs.declared.answer.Answer.{Answer}
 use Rattle.pw_top_answer.specs.declared.answer.Answer.TheVariants.{ReadFault, WriteFault, StoreFault, NoMemory}
 use Rattle.pw_top_answer.specs.Effects.{NamedFile}
-use Rattle.pw_build_command.specs.FromBuilding.Genuine.{IsBuiltName}
+use Rattle.pw_build_files.specs.Genuine.{IsBuiltName}
 
 -- a file is put, or the one of a name is removed
 pub data Change : Type 0 where

@@ -1,2 +1,2 @@
--- The definitions of pw_build_command that crates above name.
-pub use Rattle.pw_build_command.specs.Driving
+-- The definitions of pw_build_files that crates above name.
+pub use Rattle.pw_build_files.specs.Driving

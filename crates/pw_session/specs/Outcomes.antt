@@ -6,9 +6,9 @@ use Rattle.pw_top_answer.specs.declared.answer.Answer.{Answer}
 use Rattle.pw_top_answer.specs.declared.answer.Answer.TheVariants.{Done, ReadFault, WriteFault, StoreFault, NoMemory, BadScript}
 use Rattle.pw_top_answer.specs.Outcomes.{Answers, IsPrintAnswer, PutsOut}
 use Rattle.pw_top_answer.specs.Answers.{line_text}
-use Rattle.pw_build_command.specs.FromBuild.BuildFault.{BuildFault}
-use Rattle.pw_build_command.specs.FromBuild.BuildFault.TheVariants as build
-use Rattle.pw_build_command.specs.FromBuilding.Outcomes.{HoldsImage, fault_answer}
+use Rattle.pw_build_files.specs.FromBuild.BuildFault.{BuildFault}
+use Rattle.pw_build_files.specs.FromBuild.BuildFault.TheVariants as build
+use Rattle.pw_build_files.specs.Outcomes.{HoldsImage, fault_answer}
 use Rattle.pw_session_script.specs.declared.line.TakenLine.{TakenLine}
 use Rattle.pw_session_script.specs.declared.line.ScriptFault.{ScriptFault}
 use Rattle.pw_session_script.specs.declared.line.ScriptFault.TheVariants as script

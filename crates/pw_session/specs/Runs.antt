@@ -9,7 +9,7 @@ use Rattle.pw_machine.specs.Start.{image_start}
 use Rattle.pw_top_answer.specs.declared.answer.Answer.{Answer}
 use Rattle.pw_top_answer.specs.declared.answer.Answer.TheVariants.{Ended, StackStop, Spent, Halted}
 use Rattle.pw_top_answer.specs.Answers.{halt_name}
-use Rattle.pw_commands_run.specs.Running.{run_answer, run_output, started}
+use Rattle.pw_commands.specs.MachineRun.{run_answer, run_output, started}
 
 -- how a run stopped, by its answer
 abbrev pub stop_text : Answer → List ℕ

@@ -6,11 +6,11 @@ use Rattle.pw_store_modules.specs.Modules.{modules_of}
 use Rattle.pw_top_answer.specs.declared.answer.Answer.{Answer}
 use Rattle.pw_top_answer.specs.declared.answer.Answer.TheVariants.{Done, BadScript}
 use Rattle.pw_top_answer.specs.Answers.{line_text}
-use Rattle.pw_build_command.specs.FromBuild.BuildFault.{BuildFault}
-use Rattle.pw_build_command.specs.FromBuild.Phases.{refused_line}
-use Rattle.pw_build_command.specs.FromBuilding.Building.{Outcome}
-use Rattle.pw_build_command.specs.FromBuilding.Outcomes.{fault_answer}
-use Rattle.pw_build_command.specs.Driving.{outcome_lines}
+use Rattle.pw_build_files.specs.FromBuild.BuildFault.{BuildFault}
+use Rattle.pw_build_files.specs.FromBuild.Phases.{refused_line}
+use Rattle.pw_build_files.specs.Building.{Outcome}
+use Rattle.pw_build_files.specs.Outcomes.{fault_answer}
+use Rattle.pw_build_files.specs.Driving.{outcome_lines}
 use Rattle.pw_session_script.specs.Script.{LineValue, PutText, RemoveText, BuildProgram, RunProgram, first_line}
 use Rattle.pw_session.specs.declared.opts.SessionOpts.{SessionOpts}
 use Rattle.pw_session.specs.Builds.{BuildsTo}

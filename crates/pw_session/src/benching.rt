@@ -2,15 +2,15 @@
 
 ghost use Rattle.std.specs.Prelude.{◌≡◌, ◌≤◌, ℕ, [], List, Option, IfOk, string_bytes};
 ghost use Rattle.pw_top_answer.specs.Outcomes.{Answers, IsPrintAnswer, LeavesStreams, OutputCount, PutsOut};
-ghost use Rattle.pw_commands_run.specs.Running.{run_answer};
-ghost use Rattle.pw_build_command.specs.FromBuilding.Outcomes.{AreOpts, HoldsImage};
+ghost use Rattle.pw_commands.specs.MachineRun.{run_answer};
+ghost use Rattle.pw_build_files.specs.Outcomes.{AreOpts, HoldsImage};
 ghost use Rattle.pw_session.specs.Bench.{BenchComes, IsBenchAnswer, IsBenchLine, ObeysBench, ObeysReport, StopsAs, bench_front, bench_functions, bench_line, bench_modules, made_files};
 ghost use Rattle.pw_session.specs.Runs.{runs_as};
 
 use crate::opts::SessionOpts;
 use crate::runs::{is_stop, stop_text};
-use pw_build_command::{Report, answer_of, build_uncounted};
-use pw_commands_run::run_machine;
+use pw_build_files::{Report, answer_of, build_uncounted};
+use pw_commands::run_machine;
 use pw_gen::generate;
 use pw_io::{DropSink, Sink, SureSource, SureStore};
 use pw_machine::{LoadError, Machine};

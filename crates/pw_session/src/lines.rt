@@ -4,8 +4,8 @@ ghost use Rattle.std.specs.Prelude.{◌≡◌, [], ◌∷◌, IfSome, Some, code
 ghost use Rattle.pw_store_modules.specs.Modules.{is_module_file};
 ghost use Rattle.pw_top_answer.specs.Answers.{line_text};
 ghost use Rattle.pw_top_answer.specs.Outcomes.{IsPrintAnswer, OutputCount, PutsOut, StoreCount};
-ghost use Rattle.pw_build_command.specs.FromBuilding.Genuine.{KeepsGenuine};
-ghost use Rattle.pw_build_command.specs.FromBuilding.Outcomes.{AreOpts};
+ghost use Rattle.pw_build_files.specs.Genuine.{KeepsGenuine};
+ghost use Rattle.pw_build_files.specs.Outcomes.{AreOpts};
 ghost use Rattle.pw_session_script.specs.Reading.{line_view};
 ghost use Rattle.pw_session_script.specs.Script.{BuildProgram, NamesModule};
 ghost use Rattle.pw_session.specs.Changes.{MakesSome, Puts, Removes, after_changes};
@@ -14,9 +14,7 @@ ghost use Rattle.pw_session.specs.Outcomes.{Does, IsLineAnswer, IsObeyed, KeepsI
 
 use crate::opts::SessionOpts;
 use crate::runs::run_image;
-use pw_build_command::{
-    BuildFault, Unbuilt, answer_of, build_uncounted, module_texts_are_no_objects, put_report,
-};
+use pw_build_files::{BuildFault, Unbuilt, answer_of, build_uncounted, module_texts_are_no_objects, put_report};
 use pw_io::laws::other_files;
 use pw_io::{Sink, Store};
 use pw_session_script::Line;

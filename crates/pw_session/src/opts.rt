@@ -1,6 +1,6 @@
 //! What a session is told.
 
-use pw_build_command::Opts;
+use pw_build_files::Opts;
 
 /// How a session builds, and for how many instructions it runs a program at most.
 #[derive(Clone, Copy)]

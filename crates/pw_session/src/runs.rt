@@ -5,7 +5,7 @@ ghost use Rattle.pw_top_answer.specs.Outcomes.{IsPrintAnswer, OutputCount, PutsO
 ghost use Rattle.pw_session.specs.Outcomes.{KeepsImage, ObeysRun};
 ghost use Rattle.pw_session.specs.Runs.{is_stop, ran_text, runs_as, stop_line, stop_text};
 
-use pw_commands_run::run_machine;
+use pw_commands::run_machine;
 use pw_io::{Sink, SureSource};
 use pw_machine::{Halt, LoadError, Machine};
 use pw_top_answer::{Answer, halt_name, print};

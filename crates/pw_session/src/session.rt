@@ -2,8 +2,8 @@
 
 ghost use Rattle.std.specs.Prelude.{◌≡◌, IfSome};
 ghost use Rattle.pw_top_answer.specs.Outcomes.{InputCount, OutputCount, StoreCount};
-ghost use Rattle.pw_build_command.specs.FromBuilding.Genuine.{KeepsGenuine};
-ghost use Rattle.pw_build_command.specs.FromBuilding.Outcomes.{AreOpts};
+ghost use Rattle.pw_build_files.specs.Genuine.{KeepsGenuine};
+ghost use Rattle.pw_build_files.specs.Outcomes.{AreOpts};
 ghost use Rattle.pw_session_script.specs.Reading.{IsReadInPart, line_view};
 ghost use Rattle.pw_session_script.specs.Script.{NamesModule};
 ghost use Rattle.pw_session.specs.Changes.{MakesSome};

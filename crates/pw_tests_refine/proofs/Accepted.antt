@@ -26,10 +26,10 @@ use Rattle.pw_lower.specs.Statements.{lower_statement}
 use Rattle.pw_lower.specs.Modules.{lowered, lowered_function, start_function}
 use Rattle.pw_cmean.specs.Worlds.{Callable, ProgramModule, function_named, full_name}
 use Rattle.pw_cmean.specs.Typed.{IsWellTyped}
-use Rattle.pw_run_flow.specs.Programs as flows
-use Rattle.pw_run_flow.specs.Programs.{Library, NoneForLibrary, library_at, functions_of, globals_of, names_of}
-use Rattle.pw_run_webs.specs.Programs.{IsProgram, IsItem, NamesRightly, ops_of}
-use Rattle.pw_law_lowered.specs.Within.{IsLetter, AreLetters, IsSmall, IsObjectWithin, IsFunctionWithin, IsWithin}
+use Rattle.pw_run_languages.specs.Programs as flows
+use Rattle.pw_run_languages.specs.Programs.{Library, NoneForLibrary, library_at, functions_of, globals_of, names_of}
+use Rattle.pw_run_languages.specs.LawfulPrograms.{IsProgram, IsItem, NamesRightly, ops_of}
+use Rattle.pw_law_lower.specs.Within.{IsLetter, AreLetters, IsSmall, IsObjectWithin, IsFunctionWithin, IsWithin}
 use Rattle.pw_law_layers.specs.Lowering.{DeclareAlike}
 use Rattle.pw_law_layers.specs.Accepting.{IsFormed, AreFormed, LeadInside}
 use Rattle.pw_law_refine.specs.Lowerable.{IsLowerable, IsLowerableWorld}

@@ -21,9 +21,9 @@ use Rattle.pw_cmean.specs.Evaluation.{local_place, symbol_place, used, value_by,
 use Rattle.pw_cmean.specs.SourceRun.{calls}
 use Rattle.pw_cmean.specs.Typed.{IsByte, HoldsBytes}
 use Rattle.pw_run.specs.Runs.{none}
-use Rattle.pw_run_flow.specs.Commands.{command}
-use Rattle.pw_run_flow.specs.FlowRun as flow
-use Rattle.pw_run_flow.specs.FlowRun.{Machine}
+use Rattle.pw_run_languages.specs.Commands.{command}
+use Rattle.pw_run_languages.specs.FlowRun as flow
+use Rattle.pw_run_languages.specs.FlowRun.{Machine}
 use Rattle.pw_law_refine.specs.Standing.{Spot, Nowhere, In, spot_of, ByteStands, Holds, MemoryStands}
 use Rattle.pw_law_refine.specs.Activations.{Activation, number_of, graph_of, env_of}
 use Rattle.pw_law_refine.specs.Matching.{AreSmall, IsGlobalAt, global_size, Matches, IsFrameOf, Related, Lasts}

@@ -27,10 +27,10 @@ use Rattle.pw_cmean.specs.Evaluation.{local_place, symbol_place, used, value_by,
 use Rattle.pw_cmean.specs.Execution.{go_forward, caught, taking_up, after_body, turn, loop, meet_loop, always, value_of, condition, for_condition, drop_value, switch_to, after_switch, with_locals, set_local, initialise, initialise_all, meaning, items, arms, behind_arms}
 use Rattle.pw_cmean.specs.SourceRun.{set_parameters, result_of, run_body, callee, calls, finish, run_main}
 use Rattle.pw_run.specs.Runs.{AreAlike, none, also, Met}
-use Rattle.pw_run_flow.specs.Commands.{command}
-use Rattle.pw_run_flow.specs.Programs as flows
-use Rattle.pw_run_flow.specs.FlowRun as flow
-use Rattle.pw_run_flow.specs.FlowRun.{flow_run}
+use Rattle.pw_run_languages.specs.Commands.{command}
+use Rattle.pw_run_languages.specs.Programs as flows
+use Rattle.pw_run_languages.specs.FlowRun as flow
+use Rattle.pw_run_languages.specs.FlowRun.{flow_run}
 use Rattle.pw_law_layers.specs.Source.{source_stages}
 use Rattle.pw_law_layers.specs.Lowering.{ByteKept, SameGlobals, MomentKept, flow_program}
 

@@ -16,7 +16,7 @@ use Rattle.pw_cmean.specs.declared.undefined.Undef.TheVariants as U
 use Rattle.pw_cmean.specs.Acts.{Site, Undefined, Ends, give, stop, go_on, ◌>>=◌, look, need, undefined, told, judge}
 use Rattle.pw_cmean.specs.Access.{objects_now}
 use Rattle.pw_cmean.specs.Operators.{binary, on_pointers, difference}
-use Rattle.pw_run_flow.specs.Values as flow
+use Rattle.pw_run_languages.specs.Values as flow
 use Rattle.pw_tests_refine.proofs.Examples.{bump, n_is}
 use Rattle.pw_tests_refine.proofs.ExampleStates.{state}
 

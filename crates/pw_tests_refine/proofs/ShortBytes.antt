@@ -20,9 +20,9 @@ use Rattle.pw_cmean.specs.Acts.{State, Gives, give, stop, go_on, ◌>>=◌, wron
 use Rattle.pw_cmean.specs.Access.{within}
 use Rattle.pw_cmean.specs.Evaluation.{local_place, symbol_place}
 use Rattle.pw_cmean.specs.Execution.{initialise}
-use Rattle.pw_run_flow.specs.Commands.{command}
-use Rattle.pw_run_flow.specs.FlowRun as flow
-use Rattle.pw_run_flow.specs.FlowRun.{Machine, Step, On, Stopped, Astray}
+use Rattle.pw_run_languages.specs.Commands.{command}
+use Rattle.pw_run_languages.specs.FlowRun as flow
+use Rattle.pw_run_languages.specs.FlowRun.{Machine, Step, On, Stopped, Astray}
 use Rattle.pw_law_refine.specs.Standing.{Spot}
 use Rattle.pw_law_refine.specs.Activations.{Activation, graphs, graph_of, home_of, env_of}
 use Rattle.pw_law_refine.specs.Matching.{Matches}

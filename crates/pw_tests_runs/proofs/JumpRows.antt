@@ -10,8 +10,8 @@ use Rattle.pw_select.specs.Selection.{selected, entered_lines}
 use Rattle.pw_delay.specs.declared.items.Turn.TheVariants.{Goto}
 use Rattle.pw_delay.specs.declared.items.Item.{Item}
 use Rattle.pw_delay.specs.declared.items.Item.TheVariants.{Turns, Mark}
-use Rattle.pw_run_lines.specs.LineRun.{LineFn, Frame, IsCalling}
-use Rattle.pw_run_lines.specs.Laws.{with_lines}
+use Rattle.pw_run_languages.specs.LineRun.{LineFn, Frame, IsCalling}
+use Rattle.pw_run_languages.specs.SelectionLaws.{with_lines}
 use Rattle.pw_law_link_run.specs.Steps.{Setting}
 use Rattle.pw_law_link_run.specs.Simulating.{IsCaller}
 use Rattle.pw_tests_runs.proofs.Programs.{function, block}

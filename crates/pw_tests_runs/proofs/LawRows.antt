@@ -9,12 +9,12 @@ use Rattle.pw_inst.specs.declared.relocation.FixKind.TheVariants as kind
 use Rattle.pw_inst.specs.declared.relocation.Symbol.TheVariants as symbol
 use Rattle.pw_flow.specs.declared.flow.Item.TheVariants.{Bytes, Address}
 use Rattle.pw_flow.specs.declared.flow.Op.TheVariants.{AddrFn, Call}
-use Rattle.pw_run_trace.specs.Traces.{Event, Called, Returned}
-use Rattle.pw_run_trace.specs.Traffic.{active}
-use Rattle.pw_run_flow.specs.Programs.{Program, names_of, AreBytes}
-use Rattle.pw_run_webs.specs.Programs.{IsFunctionName, NamesRightly, IsItem, StartFits}
-use Rattle.pw_run_machine.specs.CodeStands.{IsReady}
-use Rattle.pw_run_machine.specs.Laws.{AreNamesApart}
+use Rattle.pw_run_languages.specs.Traces.{Event, Called, Returned}
+use Rattle.pw_run_languages.specs.Traffic.{active}
+use Rattle.pw_run_languages.specs.Programs.{Program, names_of, AreBytes}
+use Rattle.pw_run_languages.specs.LawfulPrograms.{IsFunctionName, NamesRightly, IsItem, StartFits}
+use Rattle.pw_run_languages.specs.CodeStands.{IsReady}
+use Rattle.pw_run_languages.specs.LinkingLaws.{AreNamesApart}
 use Rattle.pw_tests_runs.proofs.Programs.{bumping, bump, program, global}
 
 Holds : Bool → Type 0

@@ -5,8 +5,8 @@ use Rattle.std.specs.Str.{bytes_eq}
 use Rattle.std.proofs.Common.{arith, sym, ap, refl, ◌∙◌}
 use Rattle.std.proofs.lemmas.List.Elements.{All-contains, All-from_recursion}
 use Rattle.pw_flow.specs.declared.flow.FlowGlobal.{FlowGlobal}
-use Rattle.pw_run_flow.specs.Programs.{globals_of, names_of}
-use Rattle.pw_run_lines.specs.Addresses.{Addresses, AreLawful}
+use Rattle.pw_run_languages.specs.Programs.{globals_of, names_of}
+use Rattle.pw_run_languages.specs.Addresses.{Addresses, AreLawful}
 use Rattle.pw_flow.specs.ValidFlow.{global_room}
 use Rattle.pw_tests_runs.proofs.Programs.{bumping, global}
 

@@ -7,12 +7,12 @@ use Rattle.pw_webflow.specs.Direction.{directed}
 use Rattle.pw_alloc.specs.Allocation.{allocated, entered_from}
 use Rattle.pw_select.specs.Selection.{selected, entered_lines}
 use Rattle.pw_run.specs.Runs.{Stage}
-use Rattle.pw_run_trace.specs.Traces.{Event, InMemory, InPlace}
-use Rattle.pw_run_flow.specs.Programs.{Program}
-use Rattle.pw_run_webs.specs.Direction.{directed_functions}
-use Rattle.pw_run_lines.specs.Addresses.{Addresses}
-use Rattle.pw_run_lines.specs.LineRun.{line_run, step, steps}
-use Rattle.pw_run_lines.specs.Laws.{line_program}
+use Rattle.pw_run_languages.specs.Traces.{Event, InMemory, InPlace}
+use Rattle.pw_run_languages.specs.Programs.{Program}
+use Rattle.pw_run_languages.specs.Direction.{directed_functions}
+use Rattle.pw_run_languages.specs.Addresses.{Addresses}
+use Rattle.pw_run_languages.specs.LineRun.{line_run, step, steps}
+use Rattle.pw_run_languages.specs.SelectionLaws.{line_program}
 use Rattle.pw_tests_runs.proofs.Stories.{story, globals_at}
 use Rattle.pw_tests_runs.proofs.Programs.{bumping, bump_directives, recursion, recursion_directives, starting, start_directives, nesting, nest_directives, pointing, pointing_directives}
 

@@ -3,14 +3,14 @@ use Rattle.std.specs.Prelude.{◌≡◌, [], ◌∷◌, codes}
 use Rattle.std.proofs.Common.{refl}
 use Rattle.pw_value.specs.declared.value.Value.TheVariants.{Num}
 use Rattle.pw_value.specs.declared.value.Byte.TheVariants as B
-use Rattle.pw_run_trace.specs.Traces.{InMemory, InPlace}
+use Rattle.pw_run_languages.specs.Traces.{InMemory, InPlace}
 use Rattle.pw_webflow.specs.Direction.{directed}
 use Rattle.pw_alloc.specs.Allocation.{entered_from}
-use Rattle.pw_run_flow.specs.Commands as command
-use Rattle.pw_run_flow.specs.FlowRun as flow
-use Rattle.pw_run_flow.specs.FlowRun.{flow_run}
-use Rattle.pw_run_webs.specs.PlacedRun.{placed_run, step, steps}
-use Rattle.pw_run_webs.specs.Direction.{web_run}
+use Rattle.pw_run_languages.specs.Commands as command
+use Rattle.pw_run_languages.specs.FlowRun as flow
+use Rattle.pw_run_languages.specs.FlowRun.{flow_run}
+use Rattle.pw_run_languages.specs.PlacedRun.{placed_run, step, steps}
+use Rattle.pw_run_languages.specs.Direction.{web_run}
 use Rattle.pw_tests_runs.proofs.Stories.{story, flow_story, globals_at}
 use Rattle.pw_tests_runs.proofs.Programs.{bumping, bump_directives, recursion, recursion_directives, starting, start_directives, nesting, nest_directives, pointing, pointing_directives, losing}
 

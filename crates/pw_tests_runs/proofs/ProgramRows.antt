@@ -13,9 +13,9 @@ use Rattle.pw_flow.specs.declared.flow.FlowModule.{FlowModule}
 use Rattle.pw_flow.specs.FlowGraph.{named_in}
 use Rattle.pw_flow.specs.ValidFlow.{IsGlobal, IsFunction, IsValid, AreDistinct}
 use Rattle.pw_flow.proofs.Once.{absent, once}
-use Rattle.pw_run_flow.specs.Programs.{functions_of, globals_of, names_of}
-use Rattle.pw_run_webs.specs.Programs.{IsProgram, NamesRightly, IsItem, ops_of}
-use Rattle.pw_run_machine.specs.Laws.{AreNamesApart}
+use Rattle.pw_run_languages.specs.Programs.{functions_of, globals_of, names_of}
+use Rattle.pw_run_languages.specs.LawfulPrograms.{IsProgram, NamesRightly, IsItem, ops_of}
+use Rattle.pw_run_languages.specs.LinkingLaws.{AreNamesApart}
 use Rattle.pw_tests_runs.proofs.Programs.{bumping, bump, bump_main, start, global}
 
 -- ---- names that differ, by a test

@@ -14,7 +14,7 @@ use Rattle.pw_db.specs.declared.database.Web.{Web}
 use Rattle.pw_db.specs.declared.database.Role.{Role}
 use Rattle.pw_db.specs.declared.database.Role.TheVariants.{Entry, Member}
 use Rattle.pw_db.specs.declared.database.Directives.{Directives}
-use Rattle.pw_run_flow.specs.Programs.{Program}
+use Rattle.pw_run_languages.specs.Programs.{Program}
 
 abbrev pub block : List Op → End → Block
 block ops end = record { depth = 0; ops = ops; end = end }

@@ -13,10 +13,10 @@ use Rattle.pw_alloc.specs.Allocation.{entered_from}
 use Rattle.pw_alloc.specs.declared.located.Place.{Place}
 use Rattle.pw_alloc.specs.declared.located.Place.TheVariants.{Slot, Reg}
 use Rattle.pw_alloc.specs.declared.located.Located.{Located}
-use Rattle.pw_run_flow.specs.Commands as command
-use Rattle.pw_run_flow.specs.Programs.{Program}
-use Rattle.pw_run_webs.specs.PlacedRun.{PlacedProgram, placed_run, step, steps}
-use Rattle.pw_run_webs.specs.Direction.{with_functions}
+use Rattle.pw_run_languages.specs.Commands as command
+use Rattle.pw_run_languages.specs.Programs.{Program}
+use Rattle.pw_run_languages.specs.PlacedRun.{PlacedProgram, placed_run, step, steps}
+use Rattle.pw_run_languages.specs.Direction.{with_functions}
 use Rattle.pw_tests_runs.proofs.Stories.{story}
 use Rattle.pw_tests_runs.proofs.Programs.{block, function, global, program, start, bump}
 

@@ -12,7 +12,7 @@ use Rattle.pw_db.specs.Database.{IsDirectives, IsDatabase}
 use Rattle.pw_db_sound.specs.CallGraphs.{Node, Graph, Calls, Path, call, on, References}
 use Rattle.pw_db_sound.specs.Sound.{In, Needs, refers, keeps, Sound}
 use Rattle.pw_db_sound.specs.Sound as sound
-use Rattle.pw_run_webs.specs.Programs.{graph_of}
+use Rattle.pw_run_languages.specs.LawfulPrograms.{graph_of}
 use Rattle.pw_tests_runs.proofs.Programs.{bumping, bump_directives, web, only}
 use Rattle.pw_tests_runs.proofs.ProgramRows.{differ}
 

@@ -2,8 +2,8 @@
 use Rattle.std.specs.Prelude.{ℕ, ◌+◌, List, [], ◌∷◌, ◌++◌, codes, if◌then◌else◌}
 use Rattle.std.specs.Str.{bytes_eq}
 use Rattle.pw_run.specs.Runs.{Stage, Going, Over, Wrong, Ended, StackFull}
-use Rattle.pw_run_trace.specs.Traces.{Standing, Event, Called, Refused, Returned, Loaded, Stored}
-use Rattle.pw_run_flow.specs.FlowRun as flow
+use Rattle.pw_run_languages.specs.Traces.{Standing, Event, Called, Refused, Returned, Loaded, Stored}
+use Rattle.pw_run_languages.specs.FlowRun as flow
 
 abbrev pub sign : {B V : Type 0} → Event B V → List ℕ
 sign (Called f gs rs) = codes " (" ++ f

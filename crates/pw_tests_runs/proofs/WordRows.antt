@@ -9,7 +9,7 @@ use Rattle.pw_machine.specs.Core.{Core}
 use Rattle.pw_machine.specs.Start.{bytes_of}
 use Rattle.pw_machine.specs.Effect.{effect_of}
 use Rattle.pw_machine.specs.Run.{run_of}
-use Rattle.pw_run_machine.specs.MachineRun.{Map, traced_run, noted}
+use Rattle.pw_run_languages.specs.MachineRun.{Map, traced_run, noted}
 use Rattle.pw_tests_runs.proofs.Stories.{story}
 use Rattle.pw_tests_runs.proofs.Programs.{bumping}
 

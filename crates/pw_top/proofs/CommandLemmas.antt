@@ -14,19 +14,19 @@ use Rattle.pw_top_answer.specs.declared.answer.Answer.{Answer}
 use Rattle.pw_top_answer.specs.declared.answer.Answer.TheVariants.{Usage, Refused, LinkRefused, ReadFault, WriteFault, StoreFault, NoMemory, BadFile}
 use Rattle.pw_top_answer.specs.Effects.{Effect, NamedFile, PutsFiles, answers_alone, prints}
 use Rattle.pw_top_answer.specs.Outcomes.{Answers, InputCount, IsLineDue, LeavesInput, LeavesStreams, OutputCount, PutsOut}
-use Rattle.pw_law_runs.specs.Ends.{Ends}
+use Rattle.pw_law_session.specs.Ends.{Ends}
 use Rattle.pw_law_session.specs.FromBuild.BuildFault.{BuildFault}
 use Rattle.pw_law_session.specs.FromBuilding.Building.{Outcome}
 use Rattle.pw_law_session.specs.FromDriving.Driving.{BuildComesTo, IsBuildAnswer, built_effect}
-use Rattle.pw_law_runs.specs.FromGo.FullBuild.{Build, full_build}
-use Rattle.pw_law_runs.specs.FromGo.FullBuild as build
-use Rattle.pw_law_runs.specs.FromGo.Going.{IsLineOf, IsNoUsage, build_effect, refused_line}
-use Rattle.pw_law_runs.specs.FromCommands.Analysing.{AnalyseComes, AnalyseOver, summaries_of}
-use Rattle.pw_law_runs.specs.FromCommands.Linking.{LinkComes, LinkOver, objects_of}
-use Rattle.pw_law_runs.specs.FromCommands.Needed.{needed, needed_bytes}
-use Rattle.pw_law_runs.specs.FromCommands.Outcome.{IsStoreAnswer, Obeys}
-use Rattle.pw_law_runs.specs.FromCommands.Running.{IsRunOrStop, core_in, run_effect, runs}
-use Rattle.pw_law_runs.specs.FromCommands.Showing.{DatabaseComes, IsShowAnswer, ListComes, ListOver, Shows, database_text, image_in, printed}
+use Rattle.pw_law_session.specs.FromGo.FullBuild.{Build, full_build}
+use Rattle.pw_law_session.specs.FromGo.FullBuild as build
+use Rattle.pw_law_session.specs.FromGo.Going.{IsLineOf, IsNoUsage, build_effect, refused_line}
+use Rattle.pw_law_session.specs.FromCommands.Analysing.{AnalyseComes, AnalyseOver, summaries_of}
+use Rattle.pw_law_session.specs.FromCommands.Linking.{LinkComes, LinkOver, objects_of}
+use Rattle.pw_law_session.specs.FromCommands.Needed.{needed, needed_bytes}
+use Rattle.pw_law_session.specs.FromCommands.Outcome.{IsStoreAnswer, Obeys}
+use Rattle.pw_law_session.specs.FromCommands.Running.{IsRunOrStop, core_in, run_effect, runs}
+use Rattle.pw_law_session.specs.FromCommands.Showing.{DatabaseComes, IsShowAnswer, ListComes, ListOver, Shows, database_text, image_in, printed}
 use Rattle.pw_law_session.specs.FromSession.Bench.{BenchComes}
 use Rattle.pw_top_words.specs.declared.commands.Command.{Command}
 use Rattle.pw_top_words.specs.declared.commands.Command.TheVariants.{Go, Build as BuildAll, Session, PhaseOne, Analyse, PhaseTwo, Link, Run, List as ListImage, Db, Bench}

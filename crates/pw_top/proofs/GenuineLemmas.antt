@@ -9,7 +9,7 @@ use Rattle.pw_top_answer.specs.declared.answer.Answer.{Answer}
 use Rattle.pw_top_answer.specs.declared.answer.Answer.TheVariants.{NoMemory}
 use Rattle.pw_top_answer.specs.Effects.{NamedFile, PutPart}
 use Rattle.pw_build_objects.specs.Kept.{IsGenuine}
-use Rattle.pw_law_runs.specs.FromCommands.Others.{IsNoneOf, IsOneOf, KeepsOthers, PutsOnly}
+use Rattle.pw_law_session.specs.FromCommands.Others.{IsNoneOf, IsOneOf, KeepsOthers, PutsOnly}
 use Rattle.pw_store_kept.specs.Kept.{counted, object_in}
 use Rattle.pw_law_session.specs.FromBuilding.Genuine.{IsGenuineFile, KeepsGenuine}
 use Rattle.pw_commands_phases.specs.First.{phase_one_puts}

@@ -4,10 +4,10 @@ use Rattle.pw_value.specs.declared.fault.LinkFault.{LinkFault}
 use Rattle.pw_value.specs.declared.fault.LinkFault.TheVariants as link
 use Rattle.pw_top_answer.specs.declared.answer.Answer.{Answer}
 use Rattle.pw_top_answer.specs.declared.answer.Answer.TheVariants.{Refused, LinkRefused}
-use Rattle.pw_law_runs.specs.FromGo.Refusals.{HoldsNoLinkWant, HoldsNoWantOfMemory}
-use Rattle.pw_law_runs.specs.FromCommands.Outcome.{IsStoreAnswer}
-use Rattle.pw_law_runs.specs.FromCommands.Running.{IsRunOrStop}
-use Rattle.pw_law_runs.specs.FromCommands.Showing.{IsShowAnswer}
+use Rattle.pw_law_session.specs.FromGo.Refusals.{HoldsNoLinkWant, HoldsNoWantOfMemory}
+use Rattle.pw_law_session.specs.FromCommands.Outcome.{IsStoreAnswer}
+use Rattle.pw_law_session.specs.FromCommands.Running.{IsRunOrStop}
+use Rattle.pw_law_session.specs.FromCommands.Showing.{IsShowAnswer}
 use Rattle.pw_commands_phases.specs.Made.{IsPhaseAnswer}
 use Rattle.pw_law_session.specs.FromDriving.Driving.{IsBuildAnswer}
 use Rattle.pw_law_session.specs.FromSession.Bench.{IsBenchAnswer}

@@ -11,8 +11,8 @@ use Rattle.pw_store_modules.specs.Modules.{modules_of}
 use Rattle.pw_law_session.specs.FromBuild.Phases.{refused_line}
 use Rattle.pw_law_session.specs.FromBuild.BuildFault.{BuildFault}
 use Rattle.pw_law_session.specs.FromBuilding.Building.{Outcome}
-use Rattle.pw_law_runs.specs.FromCommands.Outcome.{IsFound}
-use Rattle.pw_law_runs.specs.FromGo.Going.{IsNoUsage}
+use Rattle.pw_law_session.specs.FromCommands.Outcome.{IsFound}
+use Rattle.pw_law_session.specs.FromGo.Going.{IsNoUsage}
 use Rattle.pw_law_session.specs.FromSession.SessionOpts.{SessionOpts}
 use Rattle.pw_law_session.specs.FromSession.Bench.{BenchComes, BenchOver, IsBenchAnswer, IsBenchFound, IsBenchLine, ObeysBench, bench_files}
 use Rattle.pw_law_session.specs.FromSession.Changes.{Change, ChangeFront, MakesChanges, MakesSome}

@@ -8,12 +8,12 @@ use Rattle.pw_top_answer.specs.declared.answer.Answer.TheVariants.{Usage, Refuse
 use Rattle.pw_top_answer.specs.Answers.{line_text, NeedsMemory}
 use Rattle.pw_top_answer.specs.Effects.{Effect, NamedFile, PutsFiles, PutFront}
 use Rattle.pw_top_answer.specs.Outcomes.{Answers, InputCount, IsLineDue, LeavesInput, LeavesStreams, OutputCount, StoreCount, ToldAs, WasReadInPart}
-use Rattle.pw_law_runs.specs.Ends.{Ends}
-use Rattle.pw_law_runs.specs.FromCommands.Others.{KeepsOthers}
-use Rattle.pw_law_runs.specs.FromGo.FullBuild as build
-use Rattle.pw_law_runs.specs.FromGo.FullBuild.{Build, full_build}
-use Rattle.pw_law_runs.specs.FromGo.Going.{AnswersBuild, ReturnsSum, build_effect}
-use Rattle.pw_law_runs.specs.FromGo.Refusals.{HoldsNoWantOfMemory}
+use Rattle.pw_law_session.specs.Ends.{Ends}
+use Rattle.pw_law_session.specs.FromCommands.Others.{KeepsOthers}
+use Rattle.pw_law_session.specs.FromGo.FullBuild as build
+use Rattle.pw_law_session.specs.FromGo.FullBuild.{Build, full_build}
+use Rattle.pw_law_session.specs.FromGo.Going.{AnswersBuild, ReturnsSum, build_effect}
+use Rattle.pw_law_session.specs.FromGo.Refusals.{HoldsNoWantOfMemory}
 use Rattle.pw_top_words.specs.declared.commands.Command.{Command}
 use Rattle.pw_top_words.specs.declared.commands.Command.TheVariants.{Go, Build as BuildAll, Session}
 use Rattle.pw_law_session.specs.FromDriving.Driving.{KeepsUnput, Unput}

@@ -6,9 +6,9 @@ use Rattle.pw_top_answer.specs.declared.answer.Answer.{Answer}
 use Rattle.pw_top_answer.specs.declared.answer.Answer.TheVariants.{Done}
 use Rattle.pw_store_modules.specs.Modules.{module_map, modules_of}
 use Rattle.pw_law_session.specs.FromBuild.Phases as phases
-use Rattle.pw_law_runs.specs.FromGo.FullBuild.{full_build}
-use Rattle.pw_law_runs.specs.FromGo.Going.{refused_line}
-use Rattle.pw_law_runs.specs.FromCommands.Others.{KeepsOthers}
+use Rattle.pw_law_session.specs.FromGo.FullBuild.{full_build}
+use Rattle.pw_law_session.specs.FromGo.Going.{refused_line}
+use Rattle.pw_law_session.specs.FromCommands.Others.{KeepsOthers}
 use Rattle.pw_law_session.specs.FromBuilding.Genuine.{KeepsGenuine}
 use Rattle.pw_law_session.specs.FromBuildLaws.Whole.{HoldsFullBuild}
 use Rattle.pw_law_session.specs.FromSession.SessionOpts.{SessionOpts}

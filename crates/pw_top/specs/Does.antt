@@ -6,13 +6,13 @@ use Rattle.pw_top_answer.specs.declared.answer.Answer.{Answer}
 use Rattle.pw_top_answer.specs.declared.answer.Answer.TheVariants.{Usage}
 use Rattle.pw_top_answer.specs.Effects.{Effect, PutsFiles, answers_alone}
 use Rattle.pw_top_answer.specs.Outcomes.{Answers, LeavesInput, PutsOut}
-use Rattle.pw_law_runs.specs.FromGo.FullBuild.{full_build}
-use Rattle.pw_law_runs.specs.FromGo.Going.{build_effect}
-use Rattle.pw_law_runs.specs.FromCommands.Analysing.{AnalyseComes}
-use Rattle.pw_law_runs.specs.FromCommands.Linking.{LinkComes}
-use Rattle.pw_law_runs.specs.FromCommands.Outcome.{IsFound}
-use Rattle.pw_law_runs.specs.FromCommands.Running.{run_effect}
-use Rattle.pw_law_runs.specs.FromCommands.Showing.{DatabaseComes, ListComes}
+use Rattle.pw_law_session.specs.FromGo.FullBuild.{full_build}
+use Rattle.pw_law_session.specs.FromGo.Going.{build_effect}
+use Rattle.pw_law_session.specs.FromCommands.Analysing.{AnalyseComes}
+use Rattle.pw_law_session.specs.FromCommands.Linking.{LinkComes}
+use Rattle.pw_law_session.specs.FromCommands.Outcome.{IsFound}
+use Rattle.pw_law_session.specs.FromCommands.Running.{run_effect}
+use Rattle.pw_law_session.specs.FromCommands.Showing.{DatabaseComes, ListComes}
 use Rattle.pw_commands_phases.specs.First.{PhaseOneComes}
 use Rattle.pw_commands_phases.specs.Second.{PhaseTwoComes}
 use Rattle.pw_law_session.specs.FromDriving.Driving.{BuildComesTo}

@@ -6,7 +6,7 @@ use Rattle.pw_store_modules.specs.Modules.{IsModuleFile}
 use Rattle.pw_top_answer.specs.declared.answer.Answer.{Answer}
 use Rattle.pw_top_answer.specs.declared.answer.Answer.TheVariants.{StoreFault}
 use Rattle.pw_law_session.specs.FromBuilding.Genuine.{IsBuiltName}
-use Rattle.pw_law_runs.specs.FromCommands.Others.{IsSameBut}
+use Rattle.pw_law_session.specs.FromCommands.Others.{IsSameBut}
 
 -- a file of a module, or one of a build's
 abbrev pub IsPutName : List ℕ → Type 0

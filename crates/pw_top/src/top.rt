@@ -4,9 +4,9 @@ ghost use Rattle.std.specs.Prelude.{◌≡◌, ◌⊎◌, ℕ, IfSome, List, Non
 ghost use Rattle.pw_io.specs.Files.{Keeps};
 ghost use Rattle.pw_top_answer.specs.Answers.{line_text};
 ghost use Rattle.pw_top_answer.specs.Outcomes.{InputCount, LeavesStreams, OutputCount, StoreCount, Tells, TellsSome};
-ghost use Rattle.pw_law_runs.specs.FromGo.FullBuild.{full_build};
-ghost use Rattle.pw_law_runs.specs.FromGo.Going.{AnswersBuild, BuiltAgrees, IsNoUsage, ReturnsSum};
-ghost use Rattle.pw_law_runs.specs.FromGo.Refusals.{HoldsNoWantOfMemory, NoMainComes, NoMainIs, RefusalComes, RefusalIs};
+ghost use Rattle.pw_law_session.specs.FromGo.FullBuild.{full_build};
+ghost use Rattle.pw_law_session.specs.FromGo.Going.{AnswersBuild, BuiltAgrees, IsNoUsage, ReturnsSum};
+ghost use Rattle.pw_law_session.specs.FromGo.Refusals.{HoldsNoWantOfMemory, NoMainComes, NoMainIs, RefusalComes, RefusalIs};
 ghost use Rattle.pw_store_modules.specs.Modules.{modules_of};
 ghost use Rattle.pw_law_session.specs.FromBuilding.Genuine.{KeepsGenuine};
 ghost use Rattle.pw_top.specs.Commands.{BuildsWhole, EndsScript, IsGo, IsNoSession, KeepsTheRest, OnlyReads, is_builder, is_phase, is_reader, line_of, opts_of};
@@ -18,14 +18,7 @@ ghost use Rattle.pw_top_words.specs.Limits.{IsWithin};
 use pw_commands_phases::{compile_flow, compile_text};
 use pw_io::laws::other_files;
 use pw_io::{Sink, Source, Store};
-use pw_law_runs::{
-    analyse_modules, builds_agree, go, link_modules, list_image, refusals_are_due, run_image,
-    runs_leave_an_end, show_database,
-};
-use pw_law_session::{
-    Opts, SessionOpts, a_build_leaves_the_whole_program, bench, build_modules,
-    genuine_files_keep_genuine, run_session, sessions_build_in_full,
-};
+use pw_law_session::{Opts, SessionOpts, a_build_leaves_the_whole_program, analyse_modules, bench, build_modules, builds_agree, genuine_files_keep_genuine, go, link_modules, list_image, refusals_are_due, run_image, run_session, runs_leave_an_end, sessions_build_in_full, show_database};
 use pw_top_answer::{Answer, Reply, tell};
 use pw_top_words::laws::commands_are_within;
 use pw_top_words::{Command, WordsFault, command};

@@ -11,11 +11,11 @@ use Rattle.pw_front_end.specs.FromParse.ParseFault.{ParseFault}
 use Rattle.pw_front_end.specs.FromParse.ParseFault.TheVariants as parse
 use Rattle.pw_front_end.specs.declared.refusal.Refusal.{Refusal}
 use Rattle.pw_front_end.specs.declared.refusal.Refusal.TheVariants.{Lex, Unsupported, Parse, Check}
-use Rattle.pw_check_walk.specs.declared.fault.CheckFault.{CheckFault}
-use Rattle.pw_check_walk.specs.declared.fault.CheckKind.{CheckKind}
-use Rattle.pw_check_walk.specs.declared.fault.CheckKind.TheVariants as check
-use Rattle.pw_check_walk.specs.declared.fault.Which.{Which}
-use Rattle.pw_check_walk.specs.declared.fault.Which.TheVariants as which
+use Rattle.pw_check_walk.specs.declared.constraints.CheckFault.{CheckFault}
+use Rattle.pw_check_walk.specs.declared.constraints.CheckKind.{CheckKind}
+use Rattle.pw_check_walk.specs.declared.constraints.CheckKind.TheVariants as check
+use Rattle.pw_check_walk.specs.declared.constraints.Which.{Which}
+use Rattle.pw_check_walk.specs.declared.constraints.Which.TheVariants as which
 use Rattle.pw_value.specs.declared.fault.LinkFault.{LinkFault}
 use Rattle.pw_value.specs.declared.fault.LinkFault.TheVariants as link
 use Rattle.pw_value.specs.declared.fault.What.{What}

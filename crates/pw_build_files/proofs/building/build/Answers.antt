@@ -1,6 +1,6 @@
 use Rattle.pw_store_kept.specs.Files.{changed_files}
 use Rattle.pw_build_files.specs.Outcomes.{outcome_of}
-use Rattle.pw_build_files.proofs.CountLemmas.{counted_putting}
+use Rattle.pw_build_files.proofs.BuildCounts.{counted_putting}
 use Rattle.pw_build_files.proofs.FileLemmas.{of_store_no_want}
 use Rattle.pw_build_files.proofs.GenuineLemmas.{nothing_keeps, puts_keep}
 use Rattle.pw_build_files.proofs.LeavingLemmas.{nothing_leaves, puts_leave}

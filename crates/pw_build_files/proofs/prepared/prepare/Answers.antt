@@ -2,7 +2,7 @@ use Rattle.std.proofs.Common.{◌≡◌, Ok, IfErr, IfOk, map}
 use Rattle.std.specs.List.{AllByRecursion}
 use Rattle.pw_store_modules.specs.Modules.{modules_of}
 use Rattle.pw_store_modules.specs.Views.{source}
-use Rattle.pw_build_program.specs.FromBuild.Phases.{IsLine, refused_line}
+use Rattle.pw_build_files.specs.FromBuild.Phases.{IsLine, refused_line}
 use Rattle.pw_store_kept.specs.Files.{changed_files}
 use Rattle.pw_build_files.specs.Building.{BuildComes}
 use Rattle.pw_build_files.specs.Genuine.{IsOwnFile}

@@ -2,7 +2,7 @@ use Rattle.std.proofs.Common.{map, refl, sym, subst}
 use Rattle.pw_store_modules.specs.Views.{source}
 use Rattle.pw_store_kept.specs.Kept.{kept_object}
 use Rattle.pw_build_files.specs.Outcomes.{HoldsImage}
-use Rattle.pw_build_files.proofs.CountLemmas.{counted_late}
+use Rattle.pw_build_files.proofs.BuildCounts.{counted_late}
 use Rattle.pw_build_files.proofs.FileLemmas.{comes_prepared, found_late}
 use Rattle.pw_build_files.proofs.GenuineLemmas.{good_prepared}
 use Rattle.pw_build_files.proofs.prepared.prepared_of.Goals as goal

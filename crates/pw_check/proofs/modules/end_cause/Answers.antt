@@ -1,7 +1,7 @@
 use Rattle.std.proofs.Common.{[], ◌∷◌, refl, ap, sym, ◌∙◌}
 use Rattle.pw_check_state.specs.EntityViews.{view_linked}
 use Rattle.pw_check_state.specs.StateViews.{view_state}
-use Rattle.pw_check_finding.specs.Found.{found}
+use Rattle.pw_check_walk.specs.Found.{found}
 use Rattle.pw_check_rules.specs.Limits.{completed}
 use Rattle.pw_check_rules.specs.Modules.{end_spot}
 use Rattle.pw_types.specs.Views.{view_qtype, view_type}

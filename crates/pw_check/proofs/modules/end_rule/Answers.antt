@@ -1,7 +1,7 @@
 use Rattle.std.proofs.Common.{[], ◌∷◌, sym, ◌∙◌, map, rules}
 use Rattle.pw_check_state.specs.EntityViews.{view_linked}
 use Rattle.pw_check_state.specs.StateViews.{view_state}
-use Rattle.pw_check_finding.proofs.FindingLaws.{end_err, end_ok, no_want}
+use Rattle.pw_check_walk.proofs.FindingLaws.{end_err, end_ok, no_want}
 use Rattle.pw_check_rules.specs.Modules.{end_cause, end_rule}
 use Rattle.pw_check.proofs.ModuleLaws.{all_ended, end_met, end_told}
 use Rattle.pw_check.proofs.modules.end_rule.Goals as goal

@@ -2,7 +2,7 @@ use Rattle.std.proofs.Common.{◌∙◌, rules}
 use Rattle.pw_check_state.specs.StateViews.{view_state}
 use Rattle.pw_check_rules.specs.Modules.{external_rule, externals_rule}
 use Rattle.pw_tree.specs.Views.{view_external, view_externals}
-use Rattle.pw_check_turns.proofs.Turns.{turn_kept, turn_stopped, turns_over}
+use Rattle.pw_check_walk.proofs.Turns.{turn_kept, turn_stopped, turns_over}
 use Rattle.pw_check.proofs.ModuleLaws.{externals_more, externals_none}
 use Rattle.pw_check.proofs.modules.externals_rule.Goals as goal
 

@@ -2,7 +2,7 @@ use Rattle.std.proofs.Common.{rules, refl, sym, ap}
 use Rattle.pw_check_state.specs.StateViews.{view_state}
 use Rattle.pw_tree.specs.Views.{view_specifiers}
 use Rattle.pw_check_walk.proofs.CallLaws.{step_ok, step_err}
-use Rattle.pw_check_init_values.proofs.WalkLemmas.{same_walk, done_with}
+use Rattle.pw_check_init_parts.proofs.WalkLemmas.{same_walk, done_with}
 use Rattle.pw_typed.specs.Views.{view_initialisers}
 use Rattle.pw_check_rules.specs.Declarations.{specified_rule}
 use Rattle.pw_check_decl.proofs.BareLemmas.{others_joined}

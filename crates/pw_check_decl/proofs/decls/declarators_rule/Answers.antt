@@ -3,7 +3,7 @@ use Rattle.std.proofs.lemmas.Grind.{common_steps}
 use Rattle.pw_check_state.specs.StateViews.{view_state}
 use Rattle.pw_tree.specs.Views.{view_specifiers}
 use Rattle.pw_check_walk.proofs.CallLaws.{step_ok, step_err}
-use Rattle.pw_check_init_values.proofs.WalkLemmas.{same_walk}
+use Rattle.pw_check_init_parts.proofs.WalkLemmas.{same_walk}
 use Rattle.pw_check_rules.specs.Declarations.{specified_rule}
 use Rattle.pw_check_decl.proofs.DeclLemmas.{some_declared, none_declared}
 use Rattle.pw_check_decl.proofs.decls.declarators_rule.Goals as goal

@@ -3,7 +3,7 @@ use Rattle.pw_check_state.specs.PhraseViews.{view_specified}
 use Rattle.pw_check_state.specs.StateViews.{view_state}
 use Rattle.pw_tree.specs.Views.{view_initializer, view_word}
 use Rattle.pw_types.specs.Views.{view_qtype}
-use Rattle.pw_check_init_values.proofs.WalkLemmas.{same_walk}
+use Rattle.pw_check_init_parts.proofs.WalkLemmas.{same_walk}
 use Rattle.pw_check_decl_names.specs.Views.{view_sort}
 use Rattle.pw_check_rules.specs.Declarations.{declare_rule}
 use Rattle.pw_check_decl.proofs.decls.declare_rule.Goals as goal

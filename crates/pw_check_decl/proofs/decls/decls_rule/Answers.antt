@@ -3,7 +3,7 @@ use Rattle.pw_check_state.specs.StateViews.{view_state}
 use Rattle.pw_typed.specs.Views.{view_initialisers}
 use Rattle.pw_check_walk.specs.Walks.{outcome}
 use Rattle.pw_check_decl.specs.Views.{view_made}
-use Rattle.pw_check_turns.proofs.Turns.{turn_kept, turn_stopped, turns_over}
+use Rattle.pw_check_walk.proofs.Turns.{turn_kept, turn_stopped, turns_over}
 use Rattle.pw_check_decl.proofs.DeclLemmas.{over_decls, one_decl, decls_split, decls_begun, decls_over}
 use Rattle.pw_check_decl.proofs.decls.decls_rule.Goals as goal
 

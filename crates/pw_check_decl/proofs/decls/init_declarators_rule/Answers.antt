@@ -4,7 +4,7 @@ use Rattle.pw_check_state.specs.StateViews.{view_state}
 use Rattle.pw_typed.specs.Views.{view_initialisers}
 use Rattle.pw_check_walk.specs.Walks.{outcome}
 use Rattle.pw_check_decl.specs.Views.{view_made}
-use Rattle.pw_check_turns.proofs.Turns.{turn_kept, turn_stopped, turns_over}
+use Rattle.pw_check_walk.proofs.Turns.{turn_kept, turn_stopped, turns_over}
 use Rattle.pw_check_decl.proofs.DeclLemmas.{over_declarators, one_declarator, declarators_split, declarators_begun, declarators_over}
 use Rattle.pw_check_decl.proofs.decls.init_declarators_rule.Goals as goal
 

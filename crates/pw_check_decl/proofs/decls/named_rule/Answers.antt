@@ -4,7 +4,7 @@ use Rattle.pw_check_state.specs.StateViews.{view_state}
 use Rattle.pw_tree.specs.Views.{view_initializer, view_word}
 use Rattle.pw_types.specs.Views.{view_qtype}
 use Rattle.pw_check_walk.proofs.CallLaws.{step_ok, step_err}
-use Rattle.pw_check_init_values.proofs.WalkLemmas.{same_walk}
+use Rattle.pw_check_init_parts.proofs.WalkLemmas.{same_walk}
 use Rattle.std.specs.Prelude.{◌≡◌, is_some}
 use Rattle.pw_check_state.specs.PhraseViews.{view_spot}
 use Rattle.pw_check_decl_names.specs.Views.{view_sort}

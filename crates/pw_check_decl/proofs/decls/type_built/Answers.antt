@@ -1,4 +1,4 @@
-use Rattle.pw_check_init_values.proofs.WalkLemmas.{same_walk}
+use Rattle.pw_check_init_parts.proofs.WalkLemmas.{same_walk}
 use Rattle.pw_check_decl.proofs.decls.type_built.Goals as goal
 
 pub returns : goal.returns

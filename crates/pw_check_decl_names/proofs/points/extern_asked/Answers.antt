@@ -1,10 +1,10 @@
 use Rattle.std.proofs.Common.{◌∙◌, [], ◌∷◌, not, ap}
 use Rattle.pw_check_state.specs.StateViews.{view_state}
 use Rattle.pw_types.specs.Views.{view_qtype}
-use Rattle.pw_check_walk.specs.declared.fault.CheckKind.TheVariants.{Typing}
+use Rattle.pw_check_walk.specs.declared.constraints.CheckKind.TheVariants.{Typing}
 use Rattle.pw_check_walk.specs.Causes.{needs, InitialisedHere, CompleteObject}
 use Rattle.pw_types.specs.TypeTrees.{type_of}
-use Rattle.pw_check_finding.specs.Found.{with_cause}
+use Rattle.pw_check_walk.specs.Found.{with_cause}
 use Rattle.pw_check_rules.specs.Kinds.{is_void}
 use Rattle.pw_check_rules.specs.Linkage.{AsBefore, is_internal_by, linkage_point}
 use Rattle.pw_check_decl_names.proofs.PointLemmas.{behind_found}

@@ -3,7 +3,7 @@ use Rattle.pw_check_state.specs.StateViews.{view_state}
 use Rattle.pw_types.specs.Views.{view_qtype}
 use Rattle.pw_check_rules.specs.States.{records_in}
 use Rattle.pw_check_walk.specs.Walks.{bind}
-use Rattle.pw_check_finding.specs.Found.{found}
+use Rattle.pw_check_walk.specs.Found.{found}
 use Rattle.pw_check_rules.specs.Declarations.{fitting_rule}
 use Rattle.pw_check_rules.specs.Limits.{type_within}
 use Rattle.pw_check_rules.specs.Linkage.{fitting}

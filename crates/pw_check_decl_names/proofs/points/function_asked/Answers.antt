@@ -2,7 +2,7 @@ use Rattle.std.proofs.Common.{◌∙◌, ap}
 use Rattle.pw_check_state.specs.PhraseViews.{view_specified}
 use Rattle.pw_check_state.specs.StateViews.{view_state}
 use Rattle.pw_types.specs.Views.{view_qtype}
-use Rattle.pw_check_finding.specs.Found.{found}
+use Rattle.pw_check_walk.specs.Found.{found}
 use Rattle.pw_check_rules.specs.Declarations.{AFunction, asking_of, function_point}
 use Rattle.pw_check_rules.specs.Linkage.{is_internal_by, linkage_point}
 use Rattle.pw_check_decl_names.proofs.PointLemmas.{behind_found}

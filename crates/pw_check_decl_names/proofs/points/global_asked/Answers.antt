@@ -4,7 +4,7 @@ use Rattle.pw_check_state.specs.StateViews.{view_state}
 use Rattle.pw_tree.specs.Views.{view_word}
 use Rattle.pw_types.specs.Views.{view_qtype}
 use Rattle.pw_check_rules.specs.States.{records_in}
-use Rattle.pw_check_finding.specs.Found.{found}
+use Rattle.pw_check_walk.specs.Found.{found}
 use Rattle.pw_check_rules.specs.Declarations.{AGlobal, asking_of, definition_point, global_point}
 use Rattle.pw_check_rules.specs.Linkage.{is_internal_by, linkage_point}
 use Rattle.pw_check_decl_names.proofs.PointLemmas.{three_found}

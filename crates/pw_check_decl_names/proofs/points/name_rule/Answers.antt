@@ -5,7 +5,7 @@ use Rattle.pw_tree.specs.Views.{view_word}
 use Rattle.pw_types.specs.Views.{view_qtype}
 use Rattle.pw_check_rules.specs.States.{records_in}
 use Rattle.pw_check_walk.specs.Walks.{bind}
-use Rattle.pw_check_finding.specs.Found.{found, found_behind}
+use Rattle.pw_check_walk.specs.Found.{found, found_behind}
 use Rattle.pw_check_rules.specs.Declarations.{name_rule, sort_point}
 use Rattle.pw_check_rules.specs.Limits.{name_within, type_within}
 use Rattle.pw_check_decl_names.specs.Views.{view_sort}

@@ -3,7 +3,7 @@ use Rattle.pw_check_state.specs.PhraseViews.{view_spot}
 use Rattle.pw_check_state.specs.StateViews.{view_state}
 use Rattle.pw_types.specs.Views.{view_qtype}
 use Rattle.pw_check_rules.specs.States.{records_in}
-use Rattle.pw_check_finding.specs.Found.{found, found_behind}
+use Rattle.pw_check_walk.specs.Found.{found, found_behind}
 use Rattle.pw_check_rules.specs.Declarations.{object_point}
 use Rattle.pw_check_rules.specs.Linkage.{fresh_name}
 use Rattle.pw_check_decl_names.proofs.PointLemmas.{both_found}

@@ -2,7 +2,7 @@ use Rattle.std.proofs.Common.{◌∙◌, ap, sym, refl}
 use Rattle.pw_check_state.specs.PhraseViews.{view_spot}
 use Rattle.pw_types.specs.Views.{view_qtype}
 use Rattle.pw_check_walk.specs.Causes.{CompleteObject, InitialisedKind}
-use Rattle.pw_check_finding.specs.Found.{found}
+use Rattle.pw_check_walk.specs.Found.{found}
 use Rattle.pw_check_decl_names.proofs.PointLemmas.{closed_object, plain_object}
 use Rattle.pw_check_decl_names.proofs.points.object_point.Goals.{else-initialised-via-then-initialised+else-is_open_array, else-initialised-via-else-initialised}
 use Rattle.pw_check_decl_names.proofs.points.object_point.Goals as goal

@@ -3,7 +3,7 @@ use Rattle.pw_check_state.specs.PhraseViews.{view_specified, view_spot}
 use Rattle.pw_check_state.specs.StateViews.{view_state}
 use Rattle.pw_tree.specs.Views.{view_word}
 use Rattle.pw_types.specs.Views.{view_qtype}
-use Rattle.pw_check_finding.specs.Found.{found}
+use Rattle.pw_check_walk.specs.Found.{found}
 use mathlib.Core.Logic.{inl, inr}
 use Rattle.pw_check_rules.specs.Declarations.{ALocal, sort_point}
 use Rattle.pw_check_decl_names.specs.Views.{view_sort}

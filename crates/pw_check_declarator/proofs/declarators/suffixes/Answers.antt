@@ -1,5 +1,5 @@
 use Rattle.std.proofs.Common.{arith, rules, None, reverse, ap, sym, ◌∙◌}
-use Rattle.pw_check_turns.proofs.Turns.{turn_kept, turn_stopped, turns_over}
+use Rattle.pw_check_walk.proofs.Turns.{turn_kept, turn_stopped, turns_over}
 use Rattle.pw_tree.specs.Views.{view_suffixes}
 use Rattle.pw_check_walk.specs.Walks.{outcome}
 use Rattle.pw_check_state.specs.PhraseViews.{view_derivations}

@@ -1,5 +1,5 @@
 use Rattle.std.proofs.Common.{◌≡◌, ◌+◌, ◌&&◌, arith, rules, drop, refl, ◌∙◌}
-use Rattle.pw_check_turns.proofs.Turns.{turn_kept, turn_stopped, turns_over}
+use Rattle.pw_check_walk.proofs.Turns.{turn_kept, turn_stopped, turns_over}
 use Rattle.pw_tree.specs.Views.{view_parameters}
 use Rattle.pw_check_state.specs.StateViews.{view_state}
 use Rattle.pw_check_rules.specs.Leaves.{is_nil, is_last}

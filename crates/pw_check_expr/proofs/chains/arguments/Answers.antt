@@ -3,7 +3,7 @@ use Rattle.pw_check_state.specs.StateViews.{view_state}
 use Rattle.pw_typed.specs.Views.{view_expr}
 use Rattle.pw_check_walk.specs.Walks.{outcome}
 use Rattle.pw_check_walk.proofs.CallLaws.{step_err}
-use Rattle.pw_check_turns.proofs.Turns.{turn_made, turn_stopped, turns_over}
+use Rattle.pw_check_walk.proofs.Turns.{turn_made, turn_stopped, turns_over}
 use Rattle.pw_check_primary.specs.Turns.{view_values}
 use Rattle.pw_check_expr.proofs.Splits.{of_argument, along_arguments, all_arguments, argument_made, arguments_split, no_arguments}
 use Rattle.pw_check_expr.proofs.chains.arguments.Goals as goal

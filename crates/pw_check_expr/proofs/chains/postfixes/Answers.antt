@@ -1,7 +1,7 @@
 use Rattle.std.proofs.Common.{rules, arith, ◌∙◌}
 use Rattle.pw_check_state.specs.StateViews.{view_state}
 use Rattle.pw_check_state.specs.Views.{view_operand}
-use Rattle.pw_check_turns.proofs.Turns.{turn_kept, turn_stopped, turns_over}
+use Rattle.pw_check_walk.proofs.Turns.{turn_kept, turn_stopped, turns_over}
 use Rattle.pw_check_expr.proofs.Splits.{of_postfix, along_postfixes, postfixes_split, no_postfixes}
 use Rattle.pw_check_expr.proofs.chains.postfixes.Goals as goal
 

@@ -4,7 +4,7 @@ use Rattle.pw_tree.specs.Views.{view_decls}
 use Rattle.pw_check_labels.proofs.Steps.{from}
 use Rattle.pw_check_heads.specs.Parts.{head_meets, head_point}
 use Rattle.pw_check_heads.specs.Views.{view_head}
-use Rattle.pw_check_finding.proofs.FindingLaws.{point_end}
+use Rattle.pw_check_walk.proofs.FindingLaws.{point_end}
 use Rattle.pw_check_heads.proofs.heads.head_meets.Goals as goal
 
 pub returns : goal.returns

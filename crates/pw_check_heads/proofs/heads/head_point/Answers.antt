@@ -1,6 +1,6 @@
 use Rattle.std.proofs.Common.{◌≡◌, [], ◌∷◌, ap, ◌∙◌}
 use Rattle.pw_check_state.specs.StateViews.{view_state}
-use Rattle.pw_check_finding.specs.Found.{found, found_behind}
+use Rattle.pw_check_walk.specs.Found.{found, found_behind}
 use Rattle.pw_check_rules.specs.Limits.{name_within, type_within}
 use Rattle.pw_check_rules.specs.Linkage.{is_internal_by, linkage_point, undefined_yet}
 use Rattle.pw_check_rules.specs.States.{records_in}

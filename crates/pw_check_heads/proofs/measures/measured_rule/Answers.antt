@@ -8,8 +8,8 @@ use Rattle.pw_value.specs.Caps.{capped}
 use Rattle.pw_types.specs.Rooms.{nodes_of, room_of}
 use Rattle.pw_value.specs.Limits.{node_limit, room_limit}
 use Rattle.pw_check_walk.specs.Causes.{keeps}
-use Rattle.pw_check_walk.specs.declared.fault.Which.TheVariants.{Nodes, Room}
-use Rattle.pw_check_finding.proofs.FindingLaws.{point_end}
+use Rattle.pw_check_walk.specs.declared.constraints.Which.TheVariants.{Nodes, Room}
+use Rattle.pw_check_walk.proofs.FindingLaws.{point_end}
 use Rattle.pw_check_heads.proofs.PointLaws.{limits_told, measured}
 use Rattle.pw_check_heads.proofs.measures.measured_rule.Goals as goal
 

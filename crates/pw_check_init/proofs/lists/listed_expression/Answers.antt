@@ -1,11 +1,11 @@
 use Rattle.std.proofs.Common.{rules}
 use Rattle.pw_check_state.specs.StateViews.{view_state}
-use Rattle.pw_check_init_places.specs.Views.{view_cursor}
+use Rattle.pw_check_init_parts.specs.PlaceViews.{view_cursor}
 use Rattle.pw_tree.specs.Views.{view_expr}
 use Rattle.pw_check_walk.proofs.CallLaws.{step_ok, step_err}
-use Rattle.pw_check_init_values.specs.Views.{view_context, view_filled}
+use Rattle.pw_check_init_parts.specs.FilledViews.{view_context, view_filled}
 use Rattle.pw_check_init.proofs.ListLemmas.{expression_listed}
-use Rattle.pw_check_init_values.proofs.WalkLemmas.{same_walk}
+use Rattle.pw_check_init_parts.proofs.WalkLemmas.{same_walk}
 use Rattle.pw_check_init.proofs.lists.listed_expression.Goals as goal
 
 pub returns-in_err-e : goal.returns-in_err-e

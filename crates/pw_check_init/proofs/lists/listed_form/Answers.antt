@@ -1,10 +1,10 @@
 use Rattle.std.proofs.Common.{arith}
 use Rattle.std.proofs.lemmas.Grind.{common_steps}
 use Rattle.pw_check_state.specs.StateViews.{view_state}
-use Rattle.pw_check_init_places.specs.Views.{view_cursor}
+use Rattle.pw_check_init_parts.specs.PlaceViews.{view_cursor}
 use Rattle.pw_tree.specs.Views.{view_expr, view_words}
-use Rattle.pw_check_init_values.specs.Views.{view_context, view_filled}
-use Rattle.pw_check_init_values.proofs.WalkLemmas.{same_walk}
+use Rattle.pw_check_init_parts.specs.FilledViews.{view_context, view_filled}
+use Rattle.pw_check_init_parts.proofs.WalkLemmas.{same_walk}
 use Rattle.pw_check_rules.specs.Initialisers.{string_form}
 use Rattle.pw_check_init.proofs.ListLemmas.{string_listed, text_listed}
 use Rattle.pw_check_init.proofs.lists.listed_form.Goals as goal

@@ -1,10 +1,10 @@
 use Rattle.std.proofs.Common.{rules, refl, sym, ap}
 use Rattle.pw_check_state.specs.StateViews.{view_state}
-use Rattle.pw_check_init_places.specs.Views.{view_cursor}
+use Rattle.pw_check_init_parts.specs.PlaceViews.{view_cursor}
 use Rattle.pw_tree.specs.Views.{view_words}
 use Rattle.pw_check_walk.proofs.CallLaws.{step_ok, step_err}
-use Rattle.pw_check_init_values.specs.Views.{view_context, view_filled}
-use Rattle.pw_check_init_values.proofs.WalkLemmas.{same_walk, done_with}
+use Rattle.pw_check_init_parts.specs.FilledViews.{view_context, view_filled}
+use Rattle.pw_check_init_parts.proofs.WalkLemmas.{same_walk, done_with}
 use Rattle.pw_check_rules.specs.Kinds.{is_character_array}
 use Rattle.pw_check_init.specs.Placing.{reached_rule}
 use Rattle.pw_check_init.proofs.ListLemmas.{string_placed}

@@ -1,11 +1,11 @@
 use Rattle.std.proofs.Common.{rules, refl, sym}
 use Rattle.pw_check_state.specs.StateViews.{view_state}
 use Rattle.pw_check_state.specs.Views.{view_node}
-use Rattle.pw_check_init_places.specs.Views.{view_cursor}
+use Rattle.pw_check_init_parts.specs.PlaceViews.{view_cursor}
 use Rattle.pw_typed.specs.Views.{view_expr}
 use Rattle.pw_check_walk.proofs.CallLaws.{step_ok, step_err}
-use Rattle.pw_check_init_values.specs.Views.{view_context, view_filled}
-use Rattle.pw_check_init_values.proofs.WalkLemmas.{same_walk, done_with}
+use Rattle.pw_check_init_parts.specs.FilledViews.{view_context, view_filled}
+use Rattle.pw_check_init_parts.proofs.WalkLemmas.{same_walk, done_with}
 use Rattle.pw_types.specs.WellTyped.{type_in}
 use Rattle.pw_check_rules.specs.Operators.{same_record}
 use Rattle.pw_check_init.specs.Placing.{reached_rule}

@@ -2,8 +2,8 @@ use Rattle.std.proofs.Common.{sym, ap, ◌∙◌}
 use Rattle.pw_check_state.specs.StateViews.{view_state}
 use Rattle.pw_tree.specs.Views.{view_inits}
 use Rattle.pw_types.specs.Views.{view_qtype}
-use Rattle.pw_check_init_values.specs.Views.{view_context}
-use Rattle.pw_check_init_values.proofs.WalkLemmas.{same_walk}
+use Rattle.pw_check_init_parts.specs.FilledViews.{view_context}
+use Rattle.pw_check_init_parts.proofs.WalkLemmas.{same_walk}
 use Rattle.pw_tree.specs.Trees as tree
 use Rattle.pw_check_rules.specs.Initialisers.{object_rule}
 use Rattle.pw_check_init.proofs.ObjectLemmas.{shown_value, shown_list}

@@ -4,11 +4,11 @@ use Rattle.pw_check_state.specs.StateViews.{view_state}
 use Rattle.pw_tree.specs.Views.{view_words}
 use Rattle.pw_types.specs.Views.{view_qtype}
 use Rattle.pw_check_walk.proofs.CallLaws.{step_ok, step_err}
-use Rattle.pw_check_init_values.specs.Views.{view_context}
-use Rattle.pw_check_init_values.proofs.WalkLemmas.{same_walk, done_with}
+use Rattle.pw_check_init_parts.specs.FilledViews.{view_context}
+use Rattle.pw_check_init_parts.proofs.WalkLemmas.{same_walk, done_with}
 use Rattle.pw_check_rules.specs.Initialisers.{target_at}
-use Rattle.pw_check_init_values.specs.Strings.{bytes_filled}
-use Rattle.pw_check_init_values.proofs.StringLemmas.{object_behind}
+use Rattle.pw_check_init_parts.specs.Strings.{bytes_filled}
+use Rattle.pw_check_init_parts.proofs.StringLemmas.{object_behind}
 use Rattle.pw_check_init.proofs.object.object_string.Goals as goal
 
 pub returns-in_err-bytes : goal.returns-in_err-bytes

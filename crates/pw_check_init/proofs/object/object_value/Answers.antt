@@ -3,8 +3,8 @@ use Rattle.pw_check_state.specs.StateViews.{view_state}
 use Rattle.pw_tree.specs.Views.{view_expr}
 use Rattle.pw_types.specs.Views.{view_qtype}
 use Rattle.pw_check_walk.proofs.CallLaws.{step_ok, step_err}
-use Rattle.pw_check_init_values.specs.Views.{view_context}
-use Rattle.pw_check_init_values.proofs.WalkLemmas.{same_walk, done_with}
+use Rattle.pw_check_init_parts.specs.FilledViews.{view_context}
+use Rattle.pw_check_init_parts.proofs.WalkLemmas.{same_walk, done_with}
 use Rattle.pw_check_init.proofs.ObjectLemmas.{value_behind}
 use Rattle.pw_check_init.proofs.object.object_value.Goals as goal
 

@@ -1,11 +1,11 @@
 use Rattle.std.proofs.Common.{rules, refl, sym, ap, ◌∙◌}
 use Rattle.pw_check_state.specs.StateViews.{view_state}
-use Rattle.pw_check_init_places.specs.Views.{view_cursor, view_target}
+use Rattle.pw_check_init_parts.specs.PlaceViews.{view_cursor, view_target}
 use Rattle.pw_tree.specs.Views.{view_inits, view_words}
 use Rattle.pw_check_walk.proofs.CallLaws.{step_ok, step_err}
-use Rattle.pw_check_init_values.specs.Views.{view_context}
+use Rattle.pw_check_init_parts.specs.FilledViews.{view_context}
 use Rattle.pw_check_init.specs.Views.{view_reading}
-use Rattle.pw_check_init_values.proofs.WalkLemmas.{same_walk, done_with}
+use Rattle.pw_check_init_parts.proofs.WalkLemmas.{same_walk, done_with}
 use Rattle.pw_check_rules.specs.Initialisers.{braced_string, braced_target, fills_characters, words_in}
 use Rattle.pw_types.specs.TypeTrees.{type_of}
 use Rattle.pw_check_init.proofs.ReadingLemmas.{braces_joined, entered_string, entered_list}

@@ -1,16 +1,16 @@
 use Rattle.std.proofs.Common.{rules, sym, ap, ◌∙◌, arith}
 use Rattle.std.proofs.lemmas.Grind.{common_steps}
 use Rattle.pw_check_state.specs.StateViews.{view_state}
-use Rattle.pw_check_init_places.specs.Views.{view_cursor}
+use Rattle.pw_check_init_parts.specs.PlaceViews.{view_cursor}
 use Rattle.pw_tree.specs.Views.{view_inits}
 use Rattle.pw_check_walk.proofs.CallLaws.{step_err}
-use Rattle.pw_check_init_values.specs.Views.{view_context, view_filled}
+use Rattle.pw_check_init_parts.specs.FilledViews.{view_context, view_filled}
 use Rattle.pw_check_init.specs.Views.{view_outer, view_reading}
 use Rattle.pw_check_walk.specs.Walks.{outcome}
 use Rattle.pw_check_walk.proofs.BindLaws.{bind_made}
 use Rattle.pw_check_walk.proofs.CallLaws.{made_by}
 use Rattle.pw_check_init.specs.Readings.{reading_rule, turn_rule}
-use Rattle.pw_check_init_values.proofs.WalkLemmas.{same_end}
+use Rattle.pw_check_init_parts.proofs.WalkLemmas.{same_end}
 use Rattle.pw_check_init.proofs.ReadingLemmas.{reading_begun, reading_over, turn_then}
 use Rattle.pw_check_init.proofs.readings.inits_rule.Goals as goal
 

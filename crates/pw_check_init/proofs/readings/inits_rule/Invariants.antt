@@ -1,11 +1,11 @@
 use Rattle.std.proofs.Common.{◌≡◌}
 use Rattle.pw_check_walk.specs.Walks.{outcome}
 use Rattle.pw_check_state.specs.StateViews.{view_state}
-use Rattle.pw_check_init_places.specs.Views.{view_cursor}
+use Rattle.pw_check_init_parts.specs.PlaceViews.{view_cursor}
 use Rattle.pw_check_rules.specs.Initialisers.{inits_rule}
 use Rattle.pw_tree.specs.Views.{view_inits}
 use Rattle.pw_check_init.specs.Readings.{left_of, reading_rule}
-use Rattle.pw_check_init_values.specs.Views.{view_context, view_filled}
+use Rattle.pw_check_init_parts.specs.FilledViews.{view_context, view_filled}
 use Rattle.pw_check_init.specs.Views.{view_reading}
 use Rattle.pw_check_init.proofs.readings.inits_rule.Given as goal
 

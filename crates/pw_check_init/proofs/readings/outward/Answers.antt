@@ -1,7 +1,7 @@
 use Rattle.std.proofs.Common.{sym, ap, ◌∙◌}
 use Rattle.pw_check_init.specs.Views.{view_around, view_outer, view_reading}
 use Rattle.pw_check_state.proofs.PlaceLemmas.{reverse_push}
-use Rattle.pw_check_init_values.proofs.WalkLemmas.{ok_then}
+use Rattle.pw_check_init_parts.proofs.WalkLemmas.{ok_then}
 use Rattle.pw_check_init.proofs.ReadingLemmas.{outward_pop}
 use Rattle.pw_check_init.proofs.readings.outward.Goals as goal
 

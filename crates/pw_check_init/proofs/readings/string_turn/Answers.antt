@@ -1,11 +1,11 @@
 use Rattle.std.proofs.Common.{rules, refl}
 use Rattle.pw_check_state.specs.StateViews.{view_state}
-use Rattle.pw_check_init_places.specs.Views.{view_target}
+use Rattle.pw_check_init_parts.specs.PlaceViews.{view_target}
 use Rattle.pw_tree.specs.Views.{view_words}
 use Rattle.pw_check_walk.proofs.CallLaws.{step_ok, step_err}
-use Rattle.pw_check_init_values.specs.Views.{view_context, view_filled}
+use Rattle.pw_check_init_parts.specs.FilledViews.{view_context, view_filled}
 use Rattle.pw_check_init.specs.Views.{view_around, view_outer}
-use Rattle.pw_check_init_values.proofs.WalkLemmas.{same_walk, done_with}
+use Rattle.pw_check_init_parts.proofs.WalkLemmas.{same_walk, done_with}
 use Rattle.pw_check_init.proofs.ReadingLemmas.{string_joined}
 use Rattle.pw_check_init.proofs.readings.string_turn.Goals as goal
 

@@ -1,9 +1,9 @@
 use Rattle.std.proofs.Common.{refl, sym, subst, ap, ◌∙◌, ◌<◌, arith}
 use Rattle.pw_check_state.specs.StateViews.{view_state}
 use Rattle.pw_tree.specs.Views.{view_inits}
-use Rattle.pw_check_init_values.specs.Views.{view_context}
+use Rattle.pw_check_init_parts.specs.FilledViews.{view_context}
 use Rattle.pw_check_init.specs.Views.{view_reading}
-use Rattle.pw_check_init_values.proofs.WalkLemmas.{same_walk, done_with, ok_then}
+use Rattle.pw_check_init_parts.proofs.WalkLemmas.{same_walk, done_with, ok_then}
 use Rattle.pw_check_init.specs.Readings.{braces_turn, count_of_inits, left_of, outward}
 use Rattle.pw_check_init.proofs.ReadingLemmas.{end_turn, first_value, first_braces, count_value, count_braces, count_none, shorter_outward}
 use Rattle.pw_check_init.proofs.readings.turn.Goals as goal

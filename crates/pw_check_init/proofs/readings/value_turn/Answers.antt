@@ -2,9 +2,9 @@ use Rattle.std.proofs.Common.{rules, refl}
 use Rattle.pw_check_state.specs.StateViews.{view_state}
 use Rattle.pw_tree.specs.Views.{view_expr, view_inits}
 use Rattle.pw_check_walk.proofs.CallLaws.{step_ok, step_err}
-use Rattle.pw_check_init_values.specs.Views.{view_context}
+use Rattle.pw_check_init_parts.specs.FilledViews.{view_context}
 use Rattle.pw_check_init.specs.Views.{view_reading}
-use Rattle.pw_check_init_values.proofs.WalkLemmas.{same_walk, done_with}
+use Rattle.pw_check_init_parts.proofs.WalkLemmas.{same_walk, done_with}
 use Rattle.pw_check_init.proofs.ReadingLemmas.{value_joined}
 use Rattle.pw_check_init.proofs.readings.value_turn.Goals as goal
 

@@ -1,7 +1,7 @@
 use Rattle.std.proofs.Common.{rules, refl}
 use Rattle.pw_check_state.specs.StateViews.{view_state}
 use Rattle.pw_tree.specs.Views.{view_word}
-use Rattle.pw_check_finding.proofs.FindingLaws.{point_ok, point_err}
+use Rattle.pw_check_walk.proofs.FindingLaws.{point_ok, point_err}
 use Rattle.pw_check_rules.specs.Leaves.{enumerating_rule}
 use Rattle.pw_check_rules.specs.States.{enter_tag}
 use Rattle.pw_check_rules.specs.declared.names.Tag.TheVariants as G

@@ -1,6 +1,6 @@
 use Rattle.pw_check_state.specs.StateViews.{view_state}
 use Rattle.pw_tree.specs.Views.{view_word}
-use Rattle.pw_check_finding.proofs.FindingLaws.{point_end}
+use Rattle.pw_check_walk.proofs.FindingLaws.{point_end}
 use Rattle.pw_check_rules.specs.Leaves.{enumerator_name, name_point}
 use Rattle.pw_check_walk.specs.Walks.{bind}
 use Rattle.pw_check_leaves.proofs.enumerations.enumerator_name.Goals as goal

@@ -1,7 +1,7 @@
 use Rattle.std.proofs.Common.{◌≡◌, None, Some, refl, rules}
 use Rattle.pw_check_state.specs.StateViews.{view_state}
 use Rattle.pw_tree.specs.Views.{view_word}
-use Rattle.pw_check_finding.proofs.FindingLaws.{point_ok, point_err}
+use Rattle.pw_check_walk.proofs.FindingLaws.{point_ok, point_err}
 use Rattle.pw_check_rules.specs.Leaves.{enumerator_name, enumerator_rule, name_point}
 use Rattle.pw_check_walk.specs.Walks.{bind}
 use Rattle.pw_check_leaves.specs.Parts.{counted_enumerator}

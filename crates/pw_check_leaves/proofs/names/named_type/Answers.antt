@@ -2,8 +2,8 @@ use Rattle.std.proofs.Common.{rules, refl, ap, ◌∙◌}
 use Rattle.pw_check_state.specs.PhraseViews.{view_declared}
 use Rattle.pw_check_state.specs.StateViews.{view_state}
 use Rattle.pw_types.specs.Views.{view_qtype}
-use Rattle.pw_check_finding.specs.Found.{found}
-use Rattle.pw_check_finding.proofs.FindingLaws.{point_ok, point_err}
+use Rattle.pw_check_walk.specs.Found.{found}
+use Rattle.pw_check_walk.proofs.FindingLaws.{point_ok, point_err}
 use Rattle.pw_check_rules.specs.Derivations.{built}
 use Rattle.pw_check_rules.specs.Leaves.{named_type}
 use Rattle.pw_check_rules.specs.Limits.{type_within}

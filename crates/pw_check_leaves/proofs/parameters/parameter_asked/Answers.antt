@@ -4,14 +4,14 @@ use Rattle.pw_check_state.specs.StateViews.{view_state}
 use Rattle.pw_token.specs.declared.token.Feature.TheVariants.{StructByValue}
 use Rattle.pw_types.specs.TypeTrees.{type_of}
 use Rattle.pw_types.specs.Views.{view_qtype}
-use Rattle.pw_check_finding.specs.Found.{found, with_cause}
-use Rattle.pw_check_finding.proofs.FindingLaws.{point_ok, point_err}
+use Rattle.pw_check_walk.specs.Found.{found, with_cause}
+use Rattle.pw_check_walk.proofs.FindingLaws.{point_ok, point_err}
 use Rattle.pw_check_rules.specs.Kinds.{is_record, is_void}
 use Rattle.pw_check_rules.specs.Leaves.{adjusted, named_point, says_none}
 use Rattle.pw_check_rules.specs.Limits.{type_within}
 use Rattle.pw_check_rules.specs.States.{records_in}
 use Rattle.pw_check_walk.specs.Causes.{needs, VoidAlone, NoRecordByValue}
-use Rattle.pw_check_walk.specs.declared.fault.CheckKind.TheVariants.{Typing, Unsupported}
+use Rattle.pw_check_walk.specs.declared.constraints.CheckKind.TheVariants.{Typing, Unsupported}
 use Rattle.pw_check_walk.specs.Walks.{bind, pure}
 use Rattle.pw_check_leaves.specs.Parts.{parameter_point, parameter_type}
 use Rattle.pw_check_leaves.proofs.PointLaws.{tested, made_there}

@@ -6,8 +6,8 @@ use Rattle.pw_check_state.specs.PhraseViews.{view_derivation, view_derivations, 
 use Rattle.pw_check_state.specs.StateViews.{view_state}
 use Rattle.pw_types.specs.Views.{view_qtype}
 use Rattle.pw_check_walk.specs.Walks.{outcome}
-use Rattle.pw_check_finding.specs.Found.{found}
-use Rattle.pw_check_finding.proofs.FindingLaws.{end_ok}
+use Rattle.pw_check_walk.specs.Found.{found}
+use Rattle.pw_check_walk.proofs.FindingLaws.{end_ok}
 use Rattle.pw_check_rules.specs.Derivations.{built, step_point}
 use Rattle.pw_check_rules.specs.States.{records_in}
 use Rattle.pw_check_limits.proofs.BuiltLemmas.{step_met, step_told, all_built}

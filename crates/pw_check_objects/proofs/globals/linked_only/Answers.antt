@@ -5,7 +5,7 @@ use Rattle.pw_tree.specs.Views.{view_word}
 use Rattle.pw_typed.specs.Views.{view_initialisers}
 use Rattle.pw_types.specs.Views.{view_qtype}
 use Rattle.pw_check_walk.proofs.CallLaws.{step_ok, step_err}
-use Rattle.pw_check_init_values.proofs.WalkLemmas.{same_walk, done_with}
+use Rattle.pw_check_init_parts.proofs.WalkLemmas.{same_walk, done_with}
 use Rattle.pw_check_linkage.specs.Views.{view_asking}
 use Rattle.pw_check_objects.proofs.ObjectLemmas.{only_linked}
 use Rattle.pw_check_objects.proofs.globals.linked_only.Goals as goal

@@ -4,7 +4,7 @@ use Rattle.pw_check_state.specs.StateViews.{view_state}
 use Rattle.pw_tree.specs.Views.{view_word}
 use Rattle.pw_typed.specs.Views.{view_initialisers}
 use Rattle.pw_types.specs.Views.{view_qtype}
-use Rattle.pw_check_init_values.proofs.WalkLemmas.{same_walk, done_with}
+use Rattle.pw_check_init_parts.proofs.WalkLemmas.{same_walk, done_with}
 use Rattle.pw_check_objects.proofs.ObjectLemmas.{local_none, local_some}
 use Rattle.pw_check_objects.proofs.locals.local_rule.Goals as goal
 

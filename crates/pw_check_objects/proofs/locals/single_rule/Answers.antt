@@ -3,7 +3,7 @@ use Rattle.pw_check_state.specs.StateViews.{view_state}
 use Rattle.pw_tree.specs.Views.{view_init, view_word}
 use Rattle.pw_types.specs.Views.{view_qtype}
 use Rattle.pw_check_walk.proofs.CallLaws.{step_ok, step_err}
-use Rattle.pw_check_init_values.proofs.WalkLemmas.{same_walk, done_with}
+use Rattle.pw_check_init_parts.proofs.WalkLemmas.{same_walk, done_with}
 use Rattle.pw_check_objects.proofs.ObjectLemmas.{single_joined}
 use Rattle.pw_check_objects.proofs.locals.single_rule.Goals as goal
 

@@ -2,8 +2,8 @@ use Rattle.std.proofs.Common.{[], ◌∷◌, refl, ap, ◌∙◌, rules, unwrap_
 use Rattle.pw_check_state.specs.PhraseViews.{view_spot}
 use Rattle.pw_check_state.specs.StateViews.{view_state}
 use Rattle.pw_check_state.specs.Views.{view_operand}
-use Rattle.pw_check_finding.specs.Found.{found}
-use Rattle.pw_check_finding.proofs.FindingLaws.{point_ok, point_err}
+use Rattle.pw_check_walk.specs.Found.{found}
+use Rattle.pw_check_walk.proofs.FindingLaws.{point_ok, point_err}
 use Rattle.pw_check_rules.specs.Limits.{completed}
 use Rattle.pw_check_rules.specs.Operands.{value_operand}
 use Rattle.pw_check_rules.specs.Operators.{size_node, type_size_rule}

@@ -2,7 +2,7 @@ use Rattle.std.proofs.Common.{◌≡◌, None, not, ap, ◌∙◌, refl}
 use Rattle.pw_types.specs.TypeTrees.{type_of}
 use Rattle.pw_types.specs.Views.{view_qtype}
 use Rattle.pw_check_state.specs.PhraseViews.{view_spot}
-use Rattle.pw_check_finding.specs.Found.{lesser_found, with_cause}
+use Rattle.pw_check_walk.specs.Found.{lesser_found, with_cause}
 use Rattle.pw_check_walk.specs.Causes.{fault_of, needs, OneMember, CompleteMember}
 use Rattle.pw_check_rules.specs.Kinds.{is_function}
 use Rattle.pw_check_rules.specs.Leaves.{has_member}

@@ -2,12 +2,12 @@ use Rattle.std.proofs.Common.{ap, ◌∙◌}
 use Rattle.pw_types.specs.Views.{view_qtype}
 use Rattle.pw_check_state.specs.PhraseViews.{view_spot}
 use Rattle.pw_check_state.specs.StateViews.{view_state}
-use Rattle.pw_check_finding.specs.Found.{found}
+use Rattle.pw_check_walk.specs.Found.{found}
 use Rattle.pw_check_walk.specs.Walks.{bind}
 use Rattle.pw_check_rules.specs.States.{records_in}
 use Rattle.pw_check_records.specs.Parts.{member_point}
 use Rattle.pw_check_records.specs.Views.{view_member_list}
-use Rattle.pw_check_finding.proofs.FindingLaws.{point_end}
+use Rattle.pw_check_walk.proofs.FindingLaws.{point_end}
 use Rattle.pw_check_records.proofs.member.member_met.Goals as goal
 
 pub returns : goal.returns

@@ -4,8 +4,8 @@ use Rattle.pw_tree.specs.Views.{view_word}
 use Rattle.pw_types.specs.Records.{declared}
 use Rattle.pw_types.specs.declared.record.RecordKind.{RecordKind}
 use Rattle.pw_check_state.specs.StateViews.{view_state}
-use Rattle.pw_check_finding.specs.Found.{found}
-use Rattle.pw_check_finding.proofs.FindingLaws.{point_ok, point_err}
+use Rattle.pw_check_walk.specs.Found.{found}
+use Rattle.pw_check_walk.proofs.FindingLaws.{point_ok, point_err}
 use Rattle.pw_check_walk.specs.Walks.{Walk, Done, bind}
 use Rattle.pw_check_rules.specs.Leaves.{new_record, new_tag}
 use Rattle.pw_check_rules.specs.Limits.{name_within}

@@ -1,8 +1,8 @@
 use Rattle.std.proofs.Common.{◌≡◌, [], ◌∷◌, not, rules, refl, sym, ◌∙◌}
 use Rattle.pw_tree.specs.Views.{view_word}
 use Rattle.pw_check_state.specs.StateViews.{view_state}
-use Rattle.pw_check_finding.specs.Found.{found}
-use Rattle.pw_check_finding.proofs.FindingLaws.{end_err, no_want, point_ok, point_err}
+use Rattle.pw_check_walk.specs.Found.{found}
+use Rattle.pw_check_walk.proofs.FindingLaws.{end_err, no_want, point_ok, point_err}
 use Rattle.pw_check_walk.specs.Causes.{needs, OneContent}
 use Rattle.pw_check_walk.specs.Walks.{bind, pure}
 use Rattle.pw_check_rules.specs.Leaves.{is_opened, kind_point, opening_by}

@@ -1,5 +1,5 @@
 use Rattle.std.proofs.Common.{arith, rules, ◌∙◌}
-use Rattle.pw_check_turns.proofs.Turns.{turn_kept, turn_stopped, turns_over}
+use Rattle.pw_check_walk.proofs.Turns.{turn_kept, turn_stopped, turns_over}
 use Rattle.pw_tree.specs.Views.{view_member_declarators}
 use Rattle.pw_check_records.specs.Views.{view_member_list}
 use Rattle.pw_check_state.specs.PhraseViews.{view_specified}

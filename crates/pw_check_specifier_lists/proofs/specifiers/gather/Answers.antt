@@ -1,5 +1,5 @@
 use Rattle.std.proofs.Common.{arith, rules, ◌∙◌}
-use Rattle.pw_check_turns.proofs.Turns.{turn_kept, turn_stopped, turns_over}
+use Rattle.pw_check_walk.proofs.Turns.{turn_kept, turn_stopped, turns_over}
 use Rattle.pw_tree.specs.Views.{view_specifiers}
 use Rattle.pw_check_state.specs.PhraseViews.{view_gathered}
 use Rattle.pw_check_state.specs.StateViews.{view_state}

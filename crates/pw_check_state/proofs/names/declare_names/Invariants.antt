@@ -1,5 +1,5 @@
 use Rattle.std.proofs.Common.{◌≡◌, take}
-use Rattle.pw_check_index.specs.Scoping.{found_names}
+use Rattle.pw_check_names.specs.Scoping.{found_names}
 use Rattle.pw_check_state.specs.Changes.{names_again}
 use Rattle.pw_check_state.proofs.names.declare_names.Given as goal
 

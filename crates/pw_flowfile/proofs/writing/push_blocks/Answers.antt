@@ -1,6 +1,6 @@
 use Rattle.std.specs.Prelude.{Contains}
 use Rattle.pw_flow.specs.FlowGraph.{names_in_block}
-use Rattle.pw_flow_ops_writing.proofs.FlatLists.{flat_at}
+use Rattle.pw_flow_ops.proofs.FlatLists.{flat_at}
 use Rattle.pw_flowfile.proofs.writing.push_blocks.Goals as goal
 
 pub push_block-requires-clause-stand : goal.push_block-requires-clause-stand

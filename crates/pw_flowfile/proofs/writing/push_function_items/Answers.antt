@@ -1,6 +1,6 @@
 use Rattle.std.specs.Prelude.{Contains}
 use Rattle.pw_flowfile.specs.FlowFile.{all_in_function}
-use Rattle.pw_flow_ops_writing.proofs.FlatLists.{flat_at}
+use Rattle.pw_flow_ops.proofs.FlatLists.{flat_at}
 use Rattle.pw_flowfile.proofs.writing.push_function_items.Goals as goal
 
 pub push_function-requires-clause-stand : goal.push_function-requires-clause-stand

@@ -1,6 +1,6 @@
 use Rattle.std.specs.Prelude.{Contains}
 use Rattle.pw_flow.specs.FlowGraph.{item_names}
-use Rattle.pw_flow_ops_writing.proofs.FlatLists.{flat_at}
+use Rattle.pw_flow_ops.proofs.FlatLists.{flat_at}
 use Rattle.pw_flowfile.proofs.writing.push_items.Goals as goal
 
 pub push_item-requires-clause-stands : goal.push_item-requires-clause-stands

@@ -1,8 +1,8 @@
 use Rattle.pw_go_sum.specs.Code.{words_of}
 use Rattle.pw_go_sum.specs.Built.{start_of}
 use Rattle.pw_go.specs.Going.{run_built}
-use Rattle.pw_commands_run.specs.Running.{run_rest}
-use Rattle.pw_commands_run.proofs.RunLemmas.{untouched, run_ends}
+use Rattle.pw_commands.specs.MachineRun.{run_rest}
+use Rattle.pw_commands.proofs.RunLemmas.{untouched, run_ends}
 use Rattle.pw_go.proofs.going.run_sum.Goals as goal
 
 pub returns-in-Ok-clause-answer : goal.returns-in-Ok-clause-answer

@@ -1,7 +1,7 @@
 use Rattle.pw_machine.specs.Run.{run_of}
 use Rattle.pw_go_sum.specs.Built.{start_of}
-use Rattle.pw_commands_run.specs.Running.{run_rest}
-use Rattle.pw_commands_run.proofs.RunLemmas.{untouched, run_ends}
+use Rattle.pw_commands.specs.MachineRun.{run_rest}
+use Rattle.pw_commands.proofs.RunLemmas.{untouched, run_ends}
 use Rattle.pw_go.proofs.run.run_words.Goals as goal
 
 pub returns-in-Ok-clause-answer : goal.returns-in-Ok-clause-answer

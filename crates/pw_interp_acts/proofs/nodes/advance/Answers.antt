@@ -1,6 +1,6 @@
 use Rattle.std.proofs.Common.{ap, pos, ◌∙◌}
-use Rattle.pw_interp_operators.specs.Operations.{advanced}
-use Rattle.pw_interp_operators.proofs.OperatorLaws.{advance_is}
+use Rattle.pw_interp_state.specs.Operations.{advanced}
+use Rattle.pw_interp_state.proofs.OperatorLaws.{advance_is}
 use Rattle.pw_interp_acts.proofs.NodeLaws.{known, node_answers}
 use Rattle.pw_cmean.specs.Evaluation.{site}
 use Rattle.pw_interp_calls.specs.Views.{view_env}

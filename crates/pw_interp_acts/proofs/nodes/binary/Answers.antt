@@ -1,10 +1,10 @@
 use Rattle.std.proofs.Common.{rules, ap, ◌∙◌}
 use Rattle.pw_types.specs.Views.{view_type}
 use Rattle.pw_cmean.specs.Evaluation.{site, records_of}
-use Rattle.pw_interp_operators.specs.Categories.{category_of}
-use Rattle.pw_interp_operators.specs.Elements.{element_layout}
-use Rattle.pw_interp_operators.specs.Operations.{binary_by}
-use Rattle.pw_interp_operators.proofs.OperatorLaws.{binary_is}
+use Rattle.pw_interp_state.specs.Categories.{category_of}
+use Rattle.pw_interp_state.specs.Elements.{element_layout}
+use Rattle.pw_interp_state.specs.Operations.{binary_by}
+use Rattle.pw_interp_state.proofs.OperatorLaws.{binary_is}
 use Rattle.pw_interp_calls.specs.Views.{view_env}
 use Rattle.pw_interp_calls.proofs.AnswerLaws.{no_memory}
 use Rattle.pw_interp_acts.proofs.NodeLaws.{known, never, node_answers}

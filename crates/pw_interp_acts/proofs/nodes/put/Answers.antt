@@ -2,9 +2,9 @@ use Rattle.std.proofs.Common.{rules}
 use Rattle.pw_types.specs.Views.{view_type}
 use Rattle.pw_types.specs.Layouts.{layout_of}
 use Rattle.pw_cmean.specs.Evaluation.{site, records_of}
-use Rattle.pw_interp_operators.specs.Categories.{category_of, view_purpose}
-use Rattle.pw_interp_operators.specs.Accesses.{value_put}
-use Rattle.pw_interp_operators.proofs.AccessLaws.{put_is}
+use Rattle.pw_interp_state.specs.Categories.{category_of, view_purpose}
+use Rattle.pw_interp_state.specs.Accesses.{value_put}
+use Rattle.pw_interp_state.proofs.AccessLaws.{put_is}
 use Rattle.pw_interp_calls.specs.Views.{view_env}
 use Rattle.pw_interp_calls.proofs.AnswerLaws.{no_memory}
 use Rattle.pw_interp_acts.proofs.NodeLaws.{node_changes}

@@ -1,5 +1,5 @@
-use Rattle.pw_interp_operators.specs.Operations.{truth_of}
-use Rattle.pw_interp_operators.proofs.OperatorLaws.{truth_is}
+use Rattle.pw_interp_state.specs.Operations.{truth_of}
+use Rattle.pw_interp_state.proofs.OperatorLaws.{truth_is}
 use Rattle.pw_interp_acts.proofs.NodeLaws.{known, node_answers}
 use Rattle.pw_cmean.specs.Evaluation.{site}
 use Rattle.pw_interp_calls.specs.Views.{view_env}

@@ -1,8 +1,8 @@
 use Rattle.std.proofs.Common.{ap, ◌∙◌}
 use Rattle.pw_types.specs.Views.{view_type}
-use Rattle.pw_interp_operators.specs.Categories.{category_of}
-use Rattle.pw_interp_operators.specs.Operations.{unary_by}
-use Rattle.pw_interp_operators.proofs.OperatorLaws.{unary_is}
+use Rattle.pw_interp_state.specs.Categories.{category_of}
+use Rattle.pw_interp_state.specs.Operations.{unary_by}
+use Rattle.pw_interp_state.proofs.OperatorLaws.{unary_is}
 use Rattle.pw_interp_acts.proofs.NodeLaws.{known, node_answers}
 use Rattle.pw_cmean.specs.Evaluation.{site}
 use Rattle.pw_interp_calls.specs.Views.{view_env}

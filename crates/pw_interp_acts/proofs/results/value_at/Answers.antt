@@ -1,6 +1,6 @@
 use Rattle.std.proofs.Common.{ap, ◌∙◌}
 use Rattle.pw_types.specs.Views.{view_type}
-use Rattle.pw_interp_operators.specs.Categories.{category_of}
+use Rattle.pw_interp_state.specs.Categories.{category_of}
 use Rattle.pw_interp_acts.specs.Results.{value_by}
 use Rattle.pw_interp_acts.proofs.NodeLaws.{known, node_answers, value_is}
 use Rattle.pw_cmean.specs.Evaluation.{site}

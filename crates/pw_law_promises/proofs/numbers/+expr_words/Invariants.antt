@@ -2,7 +2,7 @@ use Rattle.std.proofs.Common.{◌≤◌, drop, IfSome}
 use Rattle.pw_types.specs.Spines.{first_of}
 use Rattle.pw_typed.specs.Views as view
 use Rattle.pw_typed.specs.declared.tree.TForm.{size-TForm}
-use Rattle.pw_law_well_typed.specs.Lawful.{AreWords, AreWordsOf}
+use Rattle.pw_law_checked.specs.Lawful.{AreWords, AreWordsOf}
 use Rattle.pw_law_promises.proofs.numbers.+expr_words.Given as goal
 
 -- if those of the first operand, which is left, are words, all are

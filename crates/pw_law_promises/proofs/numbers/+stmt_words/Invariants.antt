@@ -1,6 +1,6 @@
 use Rattle.std.proofs.Common.{drop}
 use Rattle.pw_typed.specs.Views as view
-use Rattle.pw_law_well_typed.specs.Words.{WordsInArms, WordsInStatements}
+use Rattle.pw_law_checked.specs.Words.{WordsInArms, WordsInStatements}
 use Rattle.pw_law_promises.proofs.numbers.+stmt_words.Given as goal
 
 -- if those that are left are words, all are

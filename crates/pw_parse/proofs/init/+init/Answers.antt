@@ -1,6 +1,6 @@
 use Rattle.std.proofs.Common.{◌≡◌, ap, arith}
 use Rattle.pw_parse_grammar.specs.Declarations.{init}
-use Rattle.pw_parse_parts.proofs.Turns.{deeper}
+use Rattle.pw_parse_cursor.proofs.Turns.{deeper}
 use Rattle.pw_parse.proofs.init.+init.Goals as goal
 
 pub returns-then-depth-eq0 : goal.returns-then-depth-eq0

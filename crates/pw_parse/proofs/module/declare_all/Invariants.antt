@@ -1,5 +1,5 @@
 use Rattle.std.proofs.Common.{◌≡◌, ◌++◌, map, take}
-use Rattle.pw_parse_cursor.specs.Views.{view_binding}
+use Rattle.pw_parse_cursor.specs.CursorViews.{view_binding}
 use Rattle.pw_parse.proofs.module.declare_all.Given as goal
 
 abbrev pub invariant-loop-binding : goal.invariant-loop-binding

@@ -1,7 +1,7 @@
 use Rattle.std.proofs.Common.{rules, arith}
 use Rattle.std.proofs.lemmas.Grind.{common_steps}
 use Rattle.pw_parse_grammar.specs.Modules.{external, external_behind}
-use Rattle.pw_parse_parts.proofs.Shown.{none_shown}
+use Rattle.pw_parse_cursor.proofs.Shown.{none_shown}
 use Rattle.pw_parse.proofs.module.external.Goals as goal
 
 pub returns-then-is_empty : goal.returns-then-is_empty

@@ -4,7 +4,7 @@ use Rattle.pw_parse_grammar.specs.Modules.{external, externals}
 use Rattle.pw_parse.specs.Views.{external_first}
 use Rattle.pw_parse_grammar.specs.Modules.{ends_text}
 use Rattle.pw_parse_grammar.specs.Input.{turns}
-use Rattle.pw_parse_parts.proofs.Loops.{begins, unrolled, keeps, keeps_last, then_more, then_last, runs_out}
+use Rattle.pw_parse_cursor.proofs.Loops.{begins, unrolled, keeps, keeps_last, then_more, then_last, runs_out}
 use Rattle.pw_parse.proofs.Shown.{externals_shown}
 use Rattle.pw_parse.proofs.module.externals.Goals as goal
 

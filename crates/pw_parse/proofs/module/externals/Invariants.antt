@@ -3,7 +3,7 @@ use Rattle.pw_parse_grammar.specs.Modules.{external, externals}
 use Rattle.pw_parse_grammar.specs.Input.{turn_with, ◌<$>◌, ◌>>=◌}
 use Rattle.pw_parse.specs.Views.{external_first}
 use Rattle.pw_parse_grammar.specs.Modules.{ends_text}
-use Rattle.pw_parse_parts.proofs.Loops.{Reading, prepend}
+use Rattle.pw_parse_cursor.proofs.Loops.{Reading, prepend}
 use Rattle.pw_parse.proofs.module.externals.Given as goal
 
 abbrev pub invariant-loop-turn : goal.invariant-loop-turn

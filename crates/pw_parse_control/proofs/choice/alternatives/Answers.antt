@@ -4,7 +4,7 @@ use Rattle.pw_tree.specs.Views.{view_otherwise}
 use Rattle.pw_parse_grammar.specs.Statements.{alternative, alternatives}
 use Rattle.pw_parse_grammar.specs.Input.{turns}
 use Rattle.pw_parse_control.specs.Views.{else_if_first}
-use Rattle.pw_parse_parts.proofs.Loops.{begins, ends, unrolled, keeps, runs_out}
+use Rattle.pw_parse_cursor.proofs.Loops.{begins, ends, unrolled, keeps, runs_out}
 use Rattle.pw_parse_control.proofs.Shown.{else_ifs_shown}
 use Rattle.pw_parse_control.proofs.choice.alternatives.Goals as goal
 

@@ -1,7 +1,7 @@
 use Rattle.std.proofs.Common.{◌-◌}
 use Rattle.pw_parse_grammar.specs.Statements.{alternative, alternatives}
 use Rattle.pw_parse_control.specs.Views.{else_if_first}
-use Rattle.pw_parse_parts.proofs.Loops.{Reading, prepend}
+use Rattle.pw_parse_cursor.proofs.Loops.{Reading, prepend}
 use Rattle.pw_parse_control.proofs.choice.alternatives.Given as goal
 
 abbrev pub invariant-loop-turn : goal.invariant-loop-turn

@@ -2,7 +2,7 @@ use Rattle.std.proofs.Common.{rules, arith}
 use Rattle.std.proofs.lemmas.Grind.{common_steps}
 use Rattle.pw_parse_grammar.specs.Declarations.{declaration}
 use Rattle.pw_parse_grammar.specs.Expressions.{some_specifiers}
-use Rattle.pw_parse_parts.proofs.Shown.{none_shown}
+use Rattle.pw_parse_cursor.proofs.Shown.{none_shown}
 use Rattle.pw_parse_decl.proofs.decl.declaration.Goals as goal
 
 pub returns-then-eat : goal.returns-then-eat

@@ -4,7 +4,7 @@ use Rattle.pw_parse_grammar.specs.Declarations.{declaration_next, declarations}
 use Rattle.pw_parse_grammar.specs.Input.{turn_of, ◌<$>◌}
 use Rattle.pw_parse_decl.specs.Views.{decl_first}
 use Rattle.pw_parse_grammar.specs.Input.{turns}
-use Rattle.pw_parse_parts.proofs.Loops.{begins, unrolled, keeps, keeps_last, then_more, then_last, runs_out}
+use Rattle.pw_parse_cursor.proofs.Loops.{begins, unrolled, keeps, keeps_last, then_more, then_last, runs_out}
 use Rattle.pw_parse_decl.proofs.Shown.{decls_shown}
 use Rattle.pw_parse_decl.proofs.decl.declarations.Goals as goal
 

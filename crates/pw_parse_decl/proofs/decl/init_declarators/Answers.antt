@@ -3,7 +3,7 @@ use Rattle.std.proofs.lemmas.Grind.{common_steps}
 use Rattle.pw_parse_grammar.specs.Declarations.{init_declarators}
 use Rattle.pw_parse_grammar.specs.Input.{turns}
 use Rattle.pw_parse_decl.specs.Views.{init_declarator_first}
-use Rattle.pw_parse_parts.proofs.Loops.{begins_with, unrolled, keeps, runs_out}
+use Rattle.pw_parse_cursor.proofs.Loops.{begins_with, unrolled, keeps, runs_out}
 use Rattle.pw_parse_decl.proofs.Shown.{init_declarators_shown}
 use Rattle.pw_parse_decl.proofs.decl.init_declarators.Goals as goal
 

@@ -3,7 +3,7 @@ use Rattle.pw_tree.specs.Views.{view_init_declarator}
 use Rattle.pw_parse_grammar.specs.Declarations.{other_declarator, init_declarators}
 use Rattle.pw_parse_grammar.specs.Input.{turn_of, ◌<$>◌}
 use Rattle.pw_parse_decl.specs.Views.{init_declarator_first}
-use Rattle.pw_parse_parts.proofs.Loops.{Reading, prepend}
+use Rattle.pw_parse_cursor.proofs.Loops.{Reading, prepend}
 use Rattle.pw_parse_decl.proofs.decl.init_declarators.Given as goal
 
 abbrev pub invariant-loop-turn : goal.invariant-loop-turn

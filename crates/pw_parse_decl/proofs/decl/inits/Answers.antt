@@ -4,7 +4,7 @@ use Rattle.pw_tree.specs.Trees.{NoInit, Listed}
 use Rattle.pw_parse_grammar.specs.Declarations.{inits, inits_end}
 use Rattle.pw_parse_grammar.specs.Input.{turns, ◌<$>◌}
 use Rattle.pw_parse_decl.specs.Views.{init_first}
-use Rattle.pw_parse_parts.proofs.Loops.{begins, unrolled, keeps, keeps_last, then_more, then_last, runs_out}
+use Rattle.pw_parse_cursor.proofs.Loops.{begins, unrolled, keeps, keeps_last, then_more, then_last, runs_out}
 use Rattle.pw_parse_decl.proofs.Shown.{inits_shown}
 use Rattle.pw_parse_decl.proofs.decl.inits.Goals as goal
 

@@ -3,7 +3,7 @@ use Rattle.pw_tree.specs.Trees.{Listed}
 use Rattle.pw_parse_grammar.specs.Declarations.{inits, inits_end}
 use Rattle.pw_parse_grammar.specs.Input.{turn_with, ◌<$>◌, ◌>>=◌}
 use Rattle.pw_parse_decl.specs.Views.{init_first}
-use Rattle.pw_parse_parts.proofs.Loops.{Reading, prepend}
+use Rattle.pw_parse_cursor.proofs.Loops.{Reading, prepend}
 use Rattle.pw_parse_decl.proofs.decl.inits.Given as goal
 
 abbrev pub invariant-loop-turn : goal.invariant-loop-turn

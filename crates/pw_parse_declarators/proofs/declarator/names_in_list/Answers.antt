@@ -3,7 +3,7 @@ use Rattle.std.proofs.lemmas.Grind.{common_steps}
 use Rattle.pw_parse_grammar.specs.Declarators.{name_in_list}
 use Rattle.pw_parse_grammar.specs.Input.{unless_comma}
 use Rattle.pw_parse_declarators.specs.Suffixes.{name_first}
-use Rattle.pw_parse_parts.proofs.Loops.{unrolled, goes, ends, then_more, then_last, runs_out}
+use Rattle.pw_parse_cursor.proofs.Loops.{unrolled, goes, ends, then_more, then_last, runs_out}
 use Rattle.pw_parse_declarators.proofs.Pairs.{names_before, names_kept, names_shown}
 use Rattle.pw_parse_declarators.proofs.declarator.names_in_list.Goals as goal
 

@@ -1,9 +1,9 @@
 use Rattle.std.proofs.Common.{◌-◌, []}
 use Rattle.pw_parse_grammar.specs.Declarators.{name_in_list, names_in_list}
 use Rattle.pw_parse_grammar.specs.Input.{turn_with, unless_comma, ◌<$>◌, ◌>>=◌}
-use Rattle.pw_parse_cursor.specs.Views.{binding_first}
-use Rattle.pw_parse_parts.specs.Views.{word_first}
-use Rattle.pw_parse_parts.proofs.Loops.{Reading, prepend}
+use Rattle.pw_parse_cursor.specs.CursorViews.{binding_first}
+use Rattle.pw_parse_cursor.specs.PartViews.{word_first}
+use Rattle.pw_parse_cursor.proofs.Loops.{Reading, prepend}
 use Rattle.pw_parse_declarators.proofs.declarator.names_in_list.Given as goal
 
 abbrev pub invariant-loop-turn : goal.invariant-loop-turn

@@ -4,7 +4,7 @@ use Rattle.pw_tree.specs.Trees.{NoParameter}
 use Rattle.pw_parse_grammar.specs.Declarators.{parameter, parameters_end, parameters}
 use Rattle.pw_parse_grammar.specs.Input.{turns, turn_with, ◌<$>◌, ◌>>=◌}
 use Rattle.pw_parse_declarators.specs.Views.{parameter_first}
-use Rattle.pw_parse_parts.proofs.Loops.{begins, unrolled, keeps, keeps_last, then_more, then_last, runs_out}
+use Rattle.pw_parse_cursor.proofs.Loops.{begins, unrolled, keeps, keeps_last, then_more, then_last, runs_out}
 use Rattle.pw_parse_declarators.proofs.Shown.{parameters_shown}
 use Rattle.pw_parse_declarators.proofs.declarator.parameters.Goals as goal
 

@@ -2,7 +2,7 @@ use Rattle.std.proofs.Common.{◌-◌}
 use Rattle.pw_parse_grammar.specs.Declarators.{parameter, parameters_end, parameters}
 use Rattle.pw_parse_grammar.specs.Input.{turn_with, ◌<$>◌, ◌>>=◌}
 use Rattle.pw_parse_declarators.specs.Views.{parameter_first}
-use Rattle.pw_parse_parts.proofs.Loops.{Reading, prepend}
+use Rattle.pw_parse_cursor.proofs.Loops.{Reading, prepend}
 use Rattle.pw_parse_declarators.proofs.declarator.parameters.Given as goal
 
 abbrev pub invariant-loop-turn : goal.invariant-loop-turn

@@ -3,7 +3,7 @@ use Rattle.std.proofs.lemmas.Grind.{common_steps}
 use Rattle.pw_parse_grammar.specs.Declarators.{qualifiers}
 use Rattle.pw_parse_declarators.specs.Views.{qualifier_first}
 use Rattle.pw_parse_grammar.specs.Input.{turns}
-use Rattle.pw_parse_parts.proofs.Loops.{begins, unrolled, keeps, runs_out}
+use Rattle.pw_parse_cursor.proofs.Loops.{begins, unrolled, keeps, runs_out}
 use Rattle.pw_parse_declarators.proofs.Shown.{qualifiers_shown}
 use Rattle.pw_parse_declarators.proofs.declarator.qualifiers.Goals as goal
 

@@ -1,8 +1,8 @@
 use Rattle.std.proofs.Common.{rules, arith}
 use Rattle.std.proofs.lemmas.Grind.{common_steps}
-use Rattle.pw_parse_cursor.specs.Views.{view_bindings}
-use Rattle.pw_parse_parts.specs.Views.{view_behind}
-use Rattle.pw_parse_parts.proofs.Loops.{unrolled, goes, runs_out}
+use Rattle.pw_parse_cursor.specs.CursorViews.{view_bindings}
+use Rattle.pw_parse_cursor.specs.PartViews.{view_behind}
+use Rattle.pw_parse_cursor.proofs.Loops.{unrolled, goes, runs_out}
 use Rattle.pw_parse_declarators.proofs.Pairs.{suffixes_before, suffixes_kept, suffixes_end}
 use Rattle.pw_parse_declarators.proofs.declarator.suffixes.Goals as goal
 

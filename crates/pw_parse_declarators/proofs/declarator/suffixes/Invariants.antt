@@ -4,8 +4,8 @@ use Rattle.pw_tree.specs.Trees.{NoSuffix}
 use Rattle.pw_tree.specs.Views.{view_suffix}
 use Rattle.pw_parse_grammar.specs.Declarators.{suffix, suffixes}
 use Rattle.pw_parse_grammar.specs.Input.{turn_of, ◌<$>◌}
-use Rattle.pw_parse_parts.specs.Views.{view_behind}
-use Rattle.pw_parse_parts.proofs.Loops.{Reading, prepend}
+use Rattle.pw_parse_cursor.specs.PartViews.{view_behind}
+use Rattle.pw_parse_cursor.proofs.Loops.{Reading, prepend}
 use Rattle.pw_parse_declarators.proofs.declarator.suffixes.Given as goal
 
 abbrev pub invariant-loop-turn : goal.invariant-loop-turn

@@ -3,7 +3,7 @@ use Rattle.std.proofs.lemmas.Grind.{common_steps}
 use Rattle.pw_parse_grammar.specs.Expressions.{operations}
 use Rattle.pw_parse_expr.specs.Views.{operation_first}
 use Rattle.pw_parse_grammar.specs.Input.{turns}
-use Rattle.pw_parse_parts.proofs.Loops.{begins, unrolled, keeps, runs_out}
+use Rattle.pw_parse_cursor.proofs.Loops.{begins, unrolled, keeps, runs_out}
 use Rattle.pw_parse_expr.proofs.Shown.{operations_shown}
 use Rattle.pw_parse_expr.proofs.expr.operations.Goals as goal
 

@@ -3,7 +3,7 @@ use Rattle.pw_parse_grammar.specs.Expressions.{operation, operations}
 use Rattle.pw_parse_grammar.specs.Input.{turn_of, ◌<$>◌}
 use Rattle.pw_parse_expr.specs.Views.{operation_first}
 use Rattle.pw_tree.specs.Trees.{NoOperation}
-use Rattle.pw_parse_parts.proofs.Loops.{Reading, prepend}
+use Rattle.pw_parse_cursor.proofs.Loops.{Reading, prepend}
 use Rattle.pw_parse_expr.proofs.expr.operations.Given as goal
 
 abbrev pub invariant-loop-turn : goal.invariant-loop-turn

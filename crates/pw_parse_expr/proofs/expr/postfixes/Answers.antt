@@ -3,7 +3,7 @@ use Rattle.std.proofs.lemmas.Grind.{common_steps}
 use Rattle.pw_parse_grammar.specs.Expressions.{postfixes}
 use Rattle.pw_tree.specs.Views.{view_postfix}
 use Rattle.pw_parse_grammar.specs.Input.{turns}
-use Rattle.pw_parse_parts.proofs.Loops.{begins, unrolled, keeps, runs_out}
+use Rattle.pw_parse_cursor.proofs.Loops.{begins, unrolled, keeps, runs_out}
 use Rattle.pw_parse_expr.proofs.Shown.{postfixes_shown}
 use Rattle.pw_parse_expr.proofs.expr.postfixes.Goals as goal
 

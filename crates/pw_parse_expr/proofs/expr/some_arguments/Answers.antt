@@ -5,7 +5,7 @@ use Rattle.pw_parse_grammar.specs.Input.{unless_comma}
 use Rattle.pw_parse_expr.specs.Views.{argument_first}
 use Rattle.pw_tree.specs.Trees.{NoArgument}
 use Rattle.pw_parse_grammar.specs.Input.{turns}
-use Rattle.pw_parse_parts.proofs.Loops.{begins, unrolled, keeps, keeps_last, then_more, then_last, runs_out}
+use Rattle.pw_parse_cursor.proofs.Loops.{begins, unrolled, keeps, keeps_last, then_more, then_last, runs_out}
 use Rattle.pw_parse_expr.proofs.Shown.{arguments_shown}
 use Rattle.pw_parse_expr.proofs.expr.some_arguments.Goals as goal
 

@@ -3,7 +3,7 @@ use Rattle.pw_parse_grammar.specs.Expressions.{argument, some_arguments}
 use Rattle.pw_parse_grammar.specs.Input.{turn_with, unless_comma, ◌<$>◌, ◌>>=◌}
 use Rattle.pw_parse_expr.specs.Views.{argument_first}
 use Rattle.pw_tree.specs.Trees.{NoArgument}
-use Rattle.pw_parse_parts.proofs.Loops.{Reading, prepend}
+use Rattle.pw_parse_cursor.proofs.Loops.{Reading, prepend}
 use Rattle.pw_parse_expr.proofs.expr.some_arguments.Given as goal
 
 abbrev pub invariant-loop-turn : goal.invariant-loop-turn

@@ -1,10 +1,10 @@
 use Rattle.std.proofs.Common.{rules, ◌≡◌, ◌-◌, arith}
 use Rattle.std.proofs.lemmas.Grind.{common_steps}
 use Rattle.pw_parse_grammar.specs.Expressions.{strings}
-use Rattle.pw_parse_parts.specs.Views.{word_first}
+use Rattle.pw_parse_cursor.specs.PartViews.{word_first}
 use Rattle.pw_parse_grammar.specs.Input.{turns}
-use Rattle.pw_parse_parts.proofs.Loops.{begins, unrolled, keeps, runs_out}
-use Rattle.pw_parse_parts.proofs.Shown.{words_shown}
+use Rattle.pw_parse_cursor.proofs.Loops.{begins, unrolled, keeps, runs_out}
+use Rattle.pw_parse_cursor.proofs.Shown.{words_shown}
 use Rattle.pw_parse_expr.proofs.expr.strings.Goals as goal
 
 pub loop-turn-init : goal.loop-turn-init

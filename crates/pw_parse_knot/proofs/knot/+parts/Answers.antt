@@ -1,6 +1,6 @@
 use Rattle.std.proofs.Common.{◌≡◌, ap, arith}
 use Rattle.pw_parse_grammar.specs.Declarations.{parts}
-use Rattle.pw_parse_parts.proofs.Turns.{deeper}
+use Rattle.pw_parse_cursor.proofs.Turns.{deeper}
 use Rattle.pw_parse_knot.proofs.knot.+parts.Goals as goal
 
 pub read_expr-returns-then-depth-eq0 : goal.read_expr-returns-then-depth-eq0

@@ -3,7 +3,7 @@ use Rattle.pw_parse_grammar.specs.Specifiers.{member_declarator, member_declarat
 use Rattle.pw_parse_grammar.specs.Input.{turn_with, unless_comma, ◌<$>◌, ◌>>=◌}
 use Rattle.pw_tree.specs.Views.{view_member_declarator}
 use Rattle.pw_tree.specs.Trees.{NoMemberDeclarator}
-use Rattle.pw_parse_parts.proofs.Loops.{Reading, prepend}
+use Rattle.pw_parse_cursor.proofs.Loops.{Reading, prepend}
 use Rattle.pw_parse_specifiers.proofs.specifier.member_declarators.Given as goal
 
 abbrev pub invariant-loop-turn : goal.invariant-loop-turn

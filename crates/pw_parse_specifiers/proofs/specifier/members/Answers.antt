@@ -5,7 +5,7 @@ use Rattle.pw_parse_specifiers.specs.Views.{member_first}
 use Rattle.pw_tree.specs.Trees.{NoMember}
 use Rattle.pw_parse_grammar.specs.Specifiers.{closes_members}
 use Rattle.pw_parse_grammar.specs.Input.{turns, turn_with, ◌<$>◌, ◌>>=◌}
-use Rattle.pw_parse_parts.proofs.Loops.{begins, unrolled, keeps, keeps_last, then_more, then_last, runs_out}
+use Rattle.pw_parse_cursor.proofs.Loops.{begins, unrolled, keeps, keeps_last, then_more, then_last, runs_out}
 use Rattle.pw_parse_specifiers.proofs.Shown.{members_shown}
 use Rattle.pw_parse_specifiers.proofs.specifier.members.Goals as goal
 

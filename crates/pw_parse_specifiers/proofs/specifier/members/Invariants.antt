@@ -3,7 +3,7 @@ use Rattle.pw_parse_grammar.specs.Specifiers.{member, members}
 use Rattle.pw_parse_grammar.specs.Input.{turn_with, ◌<$>◌, ◌>>=◌}
 use Rattle.pw_parse_specifiers.specs.Views.{member_first}
 use Rattle.pw_parse_grammar.specs.Specifiers.{closes_members}
-use Rattle.pw_parse_parts.proofs.Loops.{Reading, prepend}
+use Rattle.pw_parse_cursor.proofs.Loops.{Reading, prepend}
 use Rattle.pw_parse_specifiers.proofs.specifier.members.Given as goal
 
 abbrev pub invariant-loop-turn : goal.invariant-loop-turn

@@ -5,7 +5,7 @@ use Rattle.pw_parse_grammar.specs.Input.{unless_comma}
 use Rattle.pw_tree.specs.Views.{view_enumerator}
 use Rattle.pw_tree.specs.Trees.{NoEnumerator}
 use Rattle.pw_parse_grammar.specs.Input.{turns, turn_with, ◌<$>◌, ◌>>=◌}
-use Rattle.pw_parse_parts.proofs.Loops.{begins, unrolled, keeps, keeps_last, then_more, then_last, runs_out}
+use Rattle.pw_parse_cursor.proofs.Loops.{begins, unrolled, keeps, keeps_last, then_more, then_last, runs_out}
 use Rattle.pw_parse_specifiers.proofs.Shown.{enumerators_shown}
 use Rattle.pw_parse_specifiers.proofs.specifier.some_enumerators.Goals as goal
 

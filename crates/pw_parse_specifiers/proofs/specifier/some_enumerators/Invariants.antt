@@ -3,7 +3,7 @@ use Rattle.pw_parse_grammar.specs.Specifiers.{enumerator, some_enumerators}
 use Rattle.pw_parse_grammar.specs.Input.{turn_with, unless_comma, ◌<$>◌, ◌>>=◌}
 use Rattle.pw_tree.specs.Views.{view_enumerator}
 use Rattle.pw_tree.specs.Trees.{NoEnumerator}
-use Rattle.pw_parse_parts.proofs.Loops.{Reading, prepend}
+use Rattle.pw_parse_cursor.proofs.Loops.{Reading, prepend}
 use Rattle.pw_parse_specifiers.proofs.specifier.some_enumerators.Given as goal
 
 abbrev pub invariant-loop-turn : goal.invariant-loop-turn

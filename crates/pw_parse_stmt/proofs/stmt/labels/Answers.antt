@@ -4,7 +4,7 @@ use Rattle.pw_parse_grammar.specs.Statements.{label, labels}
 use Rattle.pw_parse_grammar.specs.Input.{turn_of, ◌<$>◌}
 use Rattle.pw_parse_stmt.specs.Views.{label_first}
 use Rattle.pw_parse_grammar.specs.Input.{turns}
-use Rattle.pw_parse_parts.proofs.Loops.{begins, unrolled, keeps, runs_out}
+use Rattle.pw_parse_cursor.proofs.Loops.{begins, unrolled, keeps, runs_out}
 use Rattle.pw_parse_stmt.proofs.Shown.{labels_shown}
 use Rattle.pw_parse_stmt.proofs.stmt.labels.Goals as goal
 

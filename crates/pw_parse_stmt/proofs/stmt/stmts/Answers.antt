@@ -5,7 +5,7 @@ use Rattle.pw_parse_grammar.specs.Input.{turn_of, ◌<$>◌}
 use Rattle.pw_parse_stmt.specs.Views.{stmt_first}
 use Rattle.pw_tree.specs.Trees.{NoStmt}
 use Rattle.pw_parse_grammar.specs.Input.{turns}
-use Rattle.pw_parse_parts.proofs.Loops.{begins, unrolled, keeps, runs_out}
+use Rattle.pw_parse_cursor.proofs.Loops.{begins, unrolled, keeps, runs_out}
 use Rattle.pw_parse_stmt.proofs.Shown.{stmts_shown}
 use Rattle.pw_parse_stmt.proofs.stmt.stmts.Goals as goal
 

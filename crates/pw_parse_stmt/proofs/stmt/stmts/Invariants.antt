@@ -3,7 +3,7 @@ use Rattle.pw_parse_grammar.specs.Statements.{stmt_next, stmts}
 use Rattle.pw_parse_grammar.specs.Input.{turn_of, ◌<$>◌}
 use Rattle.pw_parse_stmt.specs.Views.{stmt_first}
 use Rattle.pw_tree.specs.Trees.{NoStmt}
-use Rattle.pw_parse_parts.proofs.Loops.{Reading, prepend}
+use Rattle.pw_parse_cursor.proofs.Loops.{Reading, prepend}
 use Rattle.pw_parse_stmt.proofs.stmt.stmts.Given as goal
 
 abbrev pub invariant-loop-turn : goal.invariant-loop-turn

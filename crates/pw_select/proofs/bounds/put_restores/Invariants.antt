@@ -1,5 +1,5 @@
 use Rattle.std.proofs.Common.{◌≡◌, ◌+◌, ◌++◌, length}
-use Rattle.pw_select_registers.specs.Registers.{load_from}
+use Rattle.pw_select_lines.specs.Registers.{load_from}
 use Rattle.pw_select.specs.Selection.{saved_lines}
 use Rattle.pw_select.proofs.bounds.put_restores.Given as goal
 

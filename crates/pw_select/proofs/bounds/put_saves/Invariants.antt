@@ -1,5 +1,5 @@
 use Rattle.std.proofs.Common.{◌≡◌, ◌+◌, ◌++◌, length}
-use Rattle.pw_select_registers.specs.Registers.{store_to}
+use Rattle.pw_select_lines.specs.Registers.{store_to}
 use Rattle.pw_select.specs.Selection.{saved_lines}
 use Rattle.pw_select.proofs.bounds.put_saves.Given as goal
 

@@ -1,7 +1,7 @@
 use Rattle.std.proofs.Common.{◌≡◌, ◌++◌, length}
 use Rattle.std.specs.List.{flat_map, AllByRecursion}
-use Rattle.pw_select_ops.specs.Operations.{layout, web_op_lines}
-use Rattle.pw_select_ops.specs.Selectable.{IsSelectable}
+use Rattle.pw_select_lines.specs.Operations.{layout, web_op_lines}
+use Rattle.pw_select_lines.specs.Selectable.{IsSelectable}
 use Rattle.pw_select.proofs.selecting.put_ops.Given as goal
 
 abbrev pub invariant-loop-rest : goal.invariant-loop-rest

@@ -1,7 +1,7 @@
 use Rattle.std.proofs.Common.{◌≡◌, ◌-◌, ◌*◌, ◌≤◌}
 use Rattle.std.specs.Prelude.{IfSome}
 use Rattle.pw_top_answer.specs.declared.answer.Answer.TheVariants.{Done}
-use Rattle.pw_build_command.specs.FromBuilding.Genuine.{KeepsGenuine}
+use Rattle.pw_build_files.specs.Genuine.{KeepsGenuine}
 use Rattle.pw_session_script.specs.Reading.{IsReadInPart}
 use Rattle.pw_session_script.specs.Script.{taken_limit}
 use Rattle.pw_session.specs.Changes.{MakesSome}

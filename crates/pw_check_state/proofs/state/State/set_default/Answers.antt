@@ -1,6 +1,6 @@
 use Rattle.std.proofs.Common.{Some, refl, ap, rules, arith}
 use Rattle.pw_check_rules.specs.States.{with_body}
-use Rattle.pw_check_entities.specs.EntityViews.{view_switch}
+use Rattle.pw_check_names.specs.EntityViews.{view_switch}
 use Rattle.pw_check_state.specs.StateViews.{view_state}
 use Rattle.pw_check_state.proofs.SwitchLemmas.{last_changed}
 use Rattle.pw_check_state.proofs.state.State.set_default.Goals as goal

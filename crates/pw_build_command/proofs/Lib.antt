@@ -1,2 +1,0 @@
-pub mod OthersLemmas
-pub mod DrivingLemmas

@@ -1,0 +1,4 @@
+use Rattle.pw_build_files.proofs.driving.build_uncounted.Given as goal
+
+abbrev pub ghosts-build_counted : goal.ghosts-build_counted
+ghosts-build_counted g a = record { name = a.blank.name; parts = a.blank.parts }

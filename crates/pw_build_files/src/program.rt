@@ -1,0 +1,131 @@
+//! The program of the modules of a store.
+
+ghost use Rattle.std.specs.Prelude.{◌≡◌, ◌≤◌, ◌+◌, ℕ, Ok, IfErr, IfOk, IfSome, OnOk, count_by, length, map};
+ghost use Rattle.std.specs.List.{AllByRecursion};
+ghost use Rattle.pw_io.specs.Files.{Keeps};
+ghost use Rattle.pw_store_modules.specs.Modules.{modules_of};
+ghost use Rattle.pw_store_modules.specs.Views.{source};
+ghost use Rattle.pw_db.specs.Database.{IsDatabase};
+ghost use Rattle.pw_object.specs.Object.{IsObject};
+ghost use Rattle.pw_image.specs.Image.{IsImage};
+ghost use Rattle.pw_link.specs.Linking.{linked};
+ghost use Rattle.pw_value.specs.Limits.{module_limit};
+ghost use Rattle.pw_build_objects.specs.Choosing.{parts_of};
+ghost use Rattle.pw_build_objects.specs.Counting.{CountsUpTo};
+ghost use Rattle.pw_build.specs.Builds.{Builds, first_phases};
+ghost use Rattle.pw_build.specs.Phases.{IsLine, refused_line};
+ghost use Rattle.pw_store_kept.specs.Kept.{kept_object};
+ghost use Rattle.pw_store_kept.specs.Files.{HoldBytes, file_view};
+ghost use Rattle.pw_build_files.specs.Programs.{AreAsMany, BuildsFiles, CountsAtMost, FaultBuilds, FaultComes, FaultCount, HoldsImage, IsCounted, IsNoWant};
+ghost use Rattle.pw_db.specs.Limits.{colour_limit};
+
+use pw_build::{BuildFault, Unbuilt, first_phases, no_refusal_is_want_of_memory};
+use pw_build_objects::{Built, Steps, complete};
+use pw_io::Store;
+use pw_store_kept::{ProgramFiles, files_of, read_kept};
+use pw_store_modules::{Module, module_files_of, read_sources};
+use pw_value::limits::MODULE_LIMIT;
+use pw_value::{LinkFault, What};
+use std::alloc::Global;
+use std::sync::ledger::Ledger;
+
+/// The modules of a store, of which there are not too many.
+#[tactic(auto, using(crate::proofs::WantLemmas::many_no_want, crate::proofs::WantLemmas::stored_no_want))]
+pub fn few_modules<S: Store>(alloc: Global, store: &mut S) -> Result<Vec<Module>, Unbuilt>
+    ensures modules { IfSome (S.told store.old) (λ told. IfOk result (λ modules. map source modules.items ≡ modules_of told.files)) }
+    ensures fault { IfSome (S.told store.old) (λ told. IfErr result (λ unbuilt. FaultComes (first_phases (modules_of told.files)) unbuilt.fault)) }
+    ensures few { IfSome (S.told store.old) (λ told. OnOk result (length (modules_of told.files) ≤ module_limit)) }
+    ensures line { IfErr result (λ unbuilt. (due : ℕ) → IsLine due unbuilt.fault unbuilt.line) }
+    ensures proper { IfErr result (λ unbuilt. IsNoWant unbuilt.fault) }
+    ensures same { Keeps (S.told store.old) (S.told store.new) }
+    ensures count { FaultCount (S.faults store.old) (S.faults store.new) result }
+{
+    let files = module_files_of(alloc, store)?;
+    let count = files.len() as u64;
+    if count > MODULE_LIMIT {
+        return Err(Unbuilt {
+            fault: BuildFault::LinkRefused(LinkFault::TooMany(What::Modules, count)),
+            line: 1,
+        });
+    }
+    Ok(read_sources(alloc, store, &files)?)
+}
+
+/// The program of modules, and of what the store keeps of them.
+#[tactic(auto, using(crate::proofs::WantLemmas::phases_no_want, crate::proofs::WantLemmas::stored_no_want))]
+fn built_of<S: Store, L: Ledger>(
+    alloc: Global,
+    store: &mut S,
+    modules: &[Module],
+    colours: u8,
+    stack: u32,
+    steps: &mut Steps<L>,
+) -> Result<Built, Unbuilt>
+    requires { colours ≤ colour_limit }
+    ensures built { IfSome (S.told store.old) (λ told. IfOk result (λ built. Builds (map source modules.now) (map (λ m. kept_object told.files m.name) modules.now) colours stack (Ok (parts_of built)))) }
+    ensures fault { IfSome (S.told store.old) (λ told. IfErr result (λ unbuilt. FaultBuilds (map source modules.now) (map (λ m. kept_object told.files m.name) modules.now) colours stack unbuilt.fault)) }
+    ensures line { IfErr result (λ unbuilt. IsLine (refused_line (map source modules.now)) unbuilt.fault unbuilt.line) }
+    ensures few { OnOk result (length modules.now ≤ module_limit) }
+    ensures many { IfOk result (λ built. AreAsMany modules.now built) }
+    ensures image { IfOk result (λ built. built.image ≡ linked built.objects.items stack) }
+    ensures lawful_database { IfOk result (λ built. IsDatabase built.database.functions) }
+    ensures lawful_objects { IfOk result (λ built. AllByRecursion IsObject built.objects.items) }
+    ensures lawful_image { IfOk result (λ built. IsImage built.image) }
+    ensures counted { IfOk result (λ built. steps.new ≡ steps.old + count_by (λ fresh. fresh) built.fresh.items) }
+    ensures counted_fault { IfSome (S.told store.old) (λ told. IfErr result (λ unbuilt. IsCounted (map source modules.now) (map (λ m. kept_object told.files m.name) modules.now) colours unbuilt.fault steps.old steps.new)) }
+    ensures bound { CountsAtMost (first_phases (map source modules.now)) steps.old steps.new }
+    ensures proper { IfErr result (λ unbuilt. IsNoWant unbuilt.fault) }
+    ensures same { Keeps (S.told store.old) (S.told store.new) }
+    ensures count { FaultCount (S.faults store.old) (S.faults store.new) result }
+{
+    no_refusal_is_want_of_memory();
+    let flows = first_phases(alloc, modules)?;
+    let kept = read_kept(alloc, store, modules)?;
+    match complete(alloc, &flows, kept, colours, stack, steps) {
+        Ok(built) => Ok(built),
+        Err(LinkFault::NoMemory) => Err(Unbuilt {
+            fault: BuildFault::NoMemory,
+            line: 1,
+        }),
+        Err(fault) => Err(Unbuilt {
+            fault: BuildFault::LinkRefused(fault),
+            line: 1,
+        }),
+    }
+}
+
+/// The files of the program of modules, and of what the store keeps of them.
+#[tactic(auto, using(crate::proofs::WantLemmas::none_no_want))]
+pub fn program_of<S: Store, L: Ledger>(
+    alloc: Global,
+    store: &mut S,
+    modules: &[Module],
+    colours: u8,
+    stack: u32,
+    steps: &mut Steps<L>,
+) -> Result<ProgramFiles, Unbuilt>
+    requires { colours ≤ colour_limit }
+    ensures files { IfSome (S.told store.old) (λ told. IfOk result (λ files. BuildsFiles (map source modules.now) (map (λ m. kept_object told.files m.name) modules.now) colours stack files)) }
+    ensures bytes { IfOk result (λ files. HoldBytes (map file_view files.fresh.files.items)) }
+    ensures image { IfOk result (λ files. HoldsImage files.image.items) }
+    ensures fault { IfSome (S.told store.old) (λ told. IfErr result (λ unbuilt. FaultBuilds (map source modules.now) (map (λ m. kept_object told.files m.name) modules.now) colours stack unbuilt.fault)) }
+    ensures line { IfErr result (λ unbuilt. IsLine (refused_line (map source modules.now)) unbuilt.fault unbuilt.line) }
+    ensures few { OnOk result (length modules.now ≤ module_limit) }
+    ensures counted { IfOk result (λ files. steps.new ≡ steps.old + length files.fresh.names.items) }
+    ensures counted_fault { IfSome (S.told store.old) (λ told. IfErr result (λ unbuilt. IsCounted (map source modules.now) (map (λ m. kept_object told.files m.name) modules.now) colours unbuilt.fault steps.old steps.new)) }
+    ensures bound { CountsAtMost (first_phases (map source modules.now)) steps.old steps.new }
+    ensures most { CountsUpTo module_limit steps.old steps.new }
+    ensures proper { IfErr result (λ unbuilt. IsNoWant unbuilt.fault) }
+    ensures same { Keeps (S.told store.old) (S.told store.new) }
+    ensures count { FaultCount (S.faults store.old) (S.faults store.new) result }
+{
+    let built = built_of(alloc, store, modules, colours, stack, steps)?;
+    Ok(files_of(
+        alloc,
+        modules,
+        &built.database,
+        &built.objects,
+        &built.fresh,
+        &built.image,
+    )?)
+}

@@ -1,3 +1,0 @@
-pub mod ProgramLemmas
-pub mod WantLemmas
-pub mod CountLemmas

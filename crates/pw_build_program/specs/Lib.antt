@@ -1,2 +1,0 @@
-pub mod FromBuild
-pub mod Programs

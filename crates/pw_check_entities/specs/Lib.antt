@@ -1,2 +1,0 @@
-pub mod EntityViews
-pub mod LinkedViews

@@ -1,4 +1,0 @@
-pub mod Names
-pub mod Cases
-pub mod Scoping
-pub mod Nesting

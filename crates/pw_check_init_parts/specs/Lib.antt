@@ -1,0 +1,5 @@
+pub mod PlaceViews
+pub mod Members
+pub mod Items
+pub mod Strings
+pub mod FilledViews

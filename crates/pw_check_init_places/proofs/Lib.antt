@@ -1,3 +1,0 @@
-mod CursorLemmas
-mod MemberLemmas
-mod ReachLemmas

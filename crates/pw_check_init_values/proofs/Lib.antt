@@ -1,4 +1,0 @@
-pub mod ByteLemmas
-pub mod FormLemmas
-pub mod StringLemmas
-pub mod WalkLemmas

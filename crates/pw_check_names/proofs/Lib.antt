@@ -1,0 +1,4 @@
+pub mod Places
+pub mod NestingLaws
+mod ChangeLemmas
+mod LinkedLemmas

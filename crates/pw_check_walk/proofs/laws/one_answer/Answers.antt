@@ -1,6 +1,0 @@
-use Rattle.pw_check_walk.proofs.laws.one_answer.Goals as goal
-use Rattle.pw_check_walk.proofs.WalkLaws.{one_answer}
-
--- src/laws.rt:9:1
-pub returns : goal.returns
-returns g c = one_answer

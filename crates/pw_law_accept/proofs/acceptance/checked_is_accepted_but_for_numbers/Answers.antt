@@ -1,0 +1,14 @@
+use Rattle.pw_law_accept.proofs.acceptance.checked_is_accepted_but_for_numbers.Goals as goal
+
+pub returns : goal.returns
+returns g = λ p frame_of stack checked plain rising room linked words. record {
+  accepted = record {
+    typed = g.linked_modules_are_well_typed.ensures p frame_of stack checked plain rising linked words;
+    program = g.linked_modules_make_a_program.ensures p frame_of stack checked plain rising room linked words;
+    alike = g.linked_modules_declare_alike.ensures p frame_of stack checked linked;
+  };
+  parts = g.checked_initialisers_have_parts.ensures p checked;
+  formed = g.checked_functions_are_formed.ensures p checked;
+  inside = g.linked_addresses_lead_inside.ensures p frame_of stack checked linked words;
+  names = g.linked_names_are_apart.ensures p frame_of stack checked linked;
+}

@@ -1,0 +1,194 @@
+//! Laws of accepted programs, without code: what checking and linking accept is accepted in the words of C's meaning.
+
+ghost use Rattle.std.specs.Prelude.{ℕ, ◌≡◌, ◌≤◌, List, Some, map, Contains};
+ghost use Rattle.pw_value.specs.Limits.{stack_most};
+ghost use Rattle.pw_value.specs.Shapes.{Agree};
+ghost use Rattle.pw_files.specs.Rising.{IsRising};
+ghost use Rattle.pw_types.specs.FullNames.{full_name};
+ghost use Rattle.pw_types.specs.Shapes.{shape_of};
+ghost use Rattle.pw_types.specs.TypeTrees.{QType, type_of, is_volatile};
+ghost use Rattle.pw_types.specs.TypedTrees.{Symbol};
+ghost use Rattle.pw_types.specs.WellTyped.{IsFunctionOf};
+ghost use Rattle.pw_flow.specs.declared.flow.FlowFn.{FlowFn};
+ghost use Rattle.pw_flow.specs.declared.flow.Op.{Op};
+ghost use Rattle.pw_run_languages.specs.Programs.{functions_of};
+ghost use Rattle.pw_cmean.specs.Worlds.{Callable, Program, ProgramModule, function_named};
+ghost use Rattle.pw_cmean.specs.Typed.{IsWellTyped};
+ghost use Rattle.pw_law_lower.specs.Within.{IsWithin};
+ghost use Rattle.pw_run_languages.specs.LawfulPrograms.{IsProgram, NamesRightly, ops_of};
+ghost use Rattle.pw_run_languages.specs.LinkingLaws.{AreNamesApart};
+ghost use Rattle.pw_law_layers.specs.Accepting.{AreFormed, IsWhole, LeadInside};
+ghost use Rattle.pw_law_layers.specs.Lowering.{AreChecked, DeclareAlike, HaveParts, IsAccepted, flow_program};
+ghost use Rattle.pw_law_refine.specs.Lowerable.{IsLowerable};
+ghost use Rattle.pw_law_accept.specs.Linked.{AreAllNumbered, AreLinked, AreNamedPlainly, AreOfWords, HaveRightItems};
+
+use pw_law_checked::{accepted_addresses_lead_inside, accepted_functions_are_no_objects, accepted_functions_are_typed, accepted_initialisers_have_parts, accepted_is_well_typed, accepted_is_within, accepted_names_are_declared, accepted_names_are_identifiers, accepted_names_of_objects_are_no_functions, accepted_strings_are_short, strings_of_texts};
+use crate::formed::accepted_functions_are_formed;
+use pw_law_lower::modules_are_lawful;
+use crate::references::lowered_functions_refer_rightly;
+use pw_tree::words_spell_what_they_are;
+
+/// Where the objects of checked modules link, all declarations of a name agree, the library's among them, and `main` takes nothing
+/// and gives an int (ISO C90 6.1.2.6, 5.1.2.2.1).
+pub fn linked_modules_declare_alike()
+    ensures { (p : Program) (frame_of : List ℕ → ℕ) (stack : ℕ) → AreChecked p → AreLinked (flow_program p frame_of stack).modules → DeclareAlike (flow_program p frame_of stack) }
+{
+    words_spell_what_they_are();
+    accepted_names_are_identifiers();
+    accepted_functions_are_typed();
+    accepted_names_are_declared();
+}
+
+/// And no function and no object has the name of another one or of a routine (6.7).
+pub fn linked_names_are_apart()
+    ensures { (p : Program) (frame_of : List ℕ → ℕ) (stack : ℕ) → AreChecked p → AreLinked (flow_program p frame_of stack).modules → AreNamesApart (flow_program p frame_of stack) }
+{
+    words_spell_what_they_are();
+    accepted_names_are_identifiers();
+    accepted_functions_are_typed();
+    accepted_names_are_declared();
+}
+
+/// And where no module has a colon in its name, and the names rise, the function of a name has a shape that agrees with what each
+/// module says of it (6.1.2.6).
+pub fn linked_functions_agree()
+    ensures { (p : Program) (frame_of : List ℕ → ℕ) (stack : ℕ) → AreChecked p → AreNamedPlainly p → IsRising (map (λ m. m.name) p.modules) → AreLinked (flow_program p frame_of stack).modules
+        → (m : ProgramModule) → Contains p.modules m → (symbol : Symbol) (ty : QType) (f : Callable) → IsFunctionOf m.tree symbol ty → function_named p (full_name m.name symbol) ≡ Some f
+        → Agree (shape_of m.tree.records (type_of ty) (is_volatile ty)) f.shape }
+{
+    words_spell_what_they_are();
+    accepted_names_are_identifiers();
+    accepted_functions_are_typed();
+    accepted_names_are_declared();
+}
+
+/// In checked modules no local that is initialised by the bytes of a hidden object is without an expression of which they are made.
+pub fn checked_initialisers_have_parts()
+    ensures { (p : Program) → AreChecked p → HaveParts p }
+{
+    accepted_initialisers_have_parts();
+}
+
+/// In checked modules the labels that a `goto` can name stand in the order of the text, and a hidden object gives its bytes to no
+/// scalar local.
+pub fn checked_functions_are_formed()
+    ensures { (p : Program) → AreChecked p → AreFormed p }
+{
+    accepted_functions_are_formed();
+}
+
+/// Checked modules whose objects link are within the limits for which their flow graphs are lawful: a program has few objects, so
+/// those without a name have numbers of 32 bits.
+pub fn linked_modules_are_within()
+    ensures { (p : Program) (frame_of : List ℕ → ℕ) (stack : ℕ) → AreChecked p → AreLinked (flow_program p frame_of stack).modules → (m : ProgramModule) → Contains p.modules m → IsWithin m.tree }
+{
+    strings_of_texts();
+    words_spell_what_they_are();
+    accepted_is_within();
+}
+
+/// They are well typed and agree on functions, if no module has a colon in its name, the names rise, and each number of the typed
+/// trees is one of 32 bits, as in each that the code makes.
+pub fn linked_modules_are_well_typed()
+    ensures { (p : Program) (frame_of : List ℕ → ℕ) (stack : ℕ) → AreChecked p → AreNamedPlainly p → IsRising (map (λ m. m.name) p.modules) → AreLinked (flow_program p frame_of stack).modules → AreOfWords p → IsWellTyped p }
+{
+    strings_of_texts();
+    accepted_strings_are_short();
+    accepted_is_well_typed();
+    linked_functions_agree();
+}
+
+/// And their operations name functions and globals as they want one: what one module takes for a function or an object, the program
+/// has as such.
+pub fn linked_operations_refer_rightly()
+    ensures { (p : Program) (frame_of : List ℕ → ℕ) (stack : ℕ) → AreChecked p → AreNamedPlainly p → IsRising (map (λ m. m.name) p.modules) → AreLinked (flow_program p frame_of stack).modules → AreOfWords p
+        → (f : FlowFn) (o : Op) → Contains (functions_of (flow_program p frame_of stack)) f → Contains (ops_of f) o → NamesRightly (flow_program p frame_of stack) o }
+{
+    strings_of_texts();
+    words_spell_what_they_are();
+    accepted_names_are_identifiers();
+    accepted_functions_are_typed();
+    accepted_names_are_declared();
+    accepted_strings_are_short();
+    accepted_is_well_typed();
+    linked_modules_are_within();
+    modules_are_lawful();
+    accepted_names_of_objects_are_no_functions();
+    accepted_functions_are_no_objects();
+    lowered_functions_refer_rightly();
+}
+
+/// And the first bytes of their objects are right: bytes, and addresses, to which nothing is added where they are those of functions.
+pub fn linked_items_are_right()
+    ensures { (p : Program) (frame_of : List ℕ → ℕ) (stack : ℕ) → AreChecked p → AreNamedPlainly p → IsRising (map (λ m. m.name) p.modules) → AreLinked (flow_program p frame_of stack).modules → AreOfWords p
+        → HaveRightItems (flow_program p frame_of stack) }
+{
+    strings_of_texts();
+    words_spell_what_they_are();
+    accepted_names_are_identifiers();
+    accepted_functions_are_typed();
+    accepted_names_are_declared();
+    accepted_strings_are_short();
+    accepted_is_well_typed();
+    accepted_addresses_lead_inside();
+    linked_modules_are_within();
+    modules_are_lawful();
+}
+
+/// And their flow graphs make a program: each name that they use is defined, as what it is used for, and none twice, the modules are lawful and stand in the order of their names, and there is a `$start`.
+pub fn linked_modules_make_a_program()
+    ensures { (p : Program) (frame_of : List ℕ → ℕ) (stack : ℕ) → AreChecked p → AreNamedPlainly p → IsRising (map (λ m. m.name) p.modules) → stack ≤ stack_most → AreLinked (flow_program p frame_of stack).modules → AreOfWords p
+        → IsProgram (flow_program p frame_of stack) }
+{
+    strings_of_texts();
+    words_spell_what_they_are();
+    accepted_names_are_identifiers();
+    accepted_functions_are_typed();
+    accepted_names_are_declared();
+    accepted_strings_are_short();
+    accepted_is_well_typed();
+    linked_modules_are_within();
+    modules_are_lawful();
+    linked_operations_refer_rightly();
+    linked_items_are_right();
+}
+
+/// And each address in the first bytes of an object leads into the object that it names, or directly behind it.
+pub fn linked_addresses_lead_inside()
+    ensures { (p : Program) (frame_of : List ℕ → ℕ) (stack : ℕ) → AreChecked p → AreLinked (flow_program p frame_of stack).modules → AreOfWords p → LeadInside (flow_program p frame_of stack) }
+{
+    strings_of_texts();
+    words_spell_what_they_are();
+    accepted_names_are_identifiers();
+    accepted_functions_are_typed();
+    accepted_names_are_declared();
+    accepted_strings_are_short();
+    accepted_is_well_typed();
+    accepted_addresses_lead_inside();
+}
+
+/// So checked modules whose objects link are accepted, with all that built programs want of it, but for what is a premise here: that
+/// no module has a colon in its name, and that numbers are of 32 bits.
+pub fn checked_is_accepted_but_for_numbers()
+    ensures { (p : Program) (frame_of : List ℕ → ℕ) (stack : ℕ) → AreChecked p → AreNamedPlainly p → IsRising (map (λ m. m.name) p.modules) → stack ≤ stack_most → AreLinked (flow_program p frame_of stack).modules
+        → AreOfWords p → IsWhole p frame_of stack }
+{
+    linked_modules_are_well_typed();
+    linked_modules_make_a_program();
+    linked_modules_declare_alike();
+    checked_initialisers_have_parts();
+    checked_functions_are_formed();
+    linked_names_are_apart();
+    linked_addresses_lead_inside();
+}
+
+/// Accepted programs of checked texts are lowerable, but for what is a premise here: that objects without a name have numbers of 32
+/// bits, as they have where their objects link, and that addresses in initialisers lead inside.
+pub fn accepted_is_lowerable_but_for_addresses()
+    ensures { (p : Program) (frame_of : List ℕ → ℕ) (stack : ℕ) → AreChecked p → IsAccepted p frame_of stack → AreAllNumbered p → LeadInside (flow_program p frame_of stack) → IsLowerable p frame_of stack }
+{
+    strings_of_texts();
+    words_spell_what_they_are();
+    accepted_is_within();
+    checked_functions_are_formed();
+}

@@ -1,3 +1,0 @@
-mod Declared
-mod Defined
-mod Rules

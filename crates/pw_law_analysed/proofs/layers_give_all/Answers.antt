@@ -1,9 +1,0 @@
-use Rattle.pw_run_machine.specs.Laws.{frame_in}
-use Rattle.pw_law_layers.specs.Whole.{image_of, program_of}
-use Rattle.pw_law_analysed.proofs.layers_give_all.Goals as goal
-
-pub returns : goal.returns
-returns c = λ low selection link p ss colours db functions objects stack input built bytes places.
-    let s = c.databases_serve.ensures p (frame_in (image_of objects stack)) stack ss colours db built.accepted built.summarised built.linked built.few built.database in
-    c.all_laws_compose.ensures low selection link c.databases_are_lawful.ensures c.databases_are_sound_by_name.ensures c.coloured_globals_are_covered.ensures
-    p ss colours db functions objects stack input built bytes (c.direction_keeps.ensures (program_of p objects stack) db input built.accepted.program s.database s.sound) places

@@ -1,2 +1,0 @@
-mod Composition
-mod Joined

@@ -1,0 +1,15 @@
+mod TakingExpressions
+mod TakingStatements
+mod TakingFunctions
+mod Lists
+mod Declared
+mod Addresses
+mod Places
+mod Shapes
+mod Used
+mod Eligible
+mod Same
+mod Composition
+mod Joined
+mod Naming
+mod Covering

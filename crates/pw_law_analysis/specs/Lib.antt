@@ -1,0 +1,5 @@
+pub mod SummaryGraphs
+pub mod SummaryLaws
+pub mod PlacedGlobals
+pub mod OwedLaws
+pub mod AnalyserLaws

@@ -1,0 +1,72 @@
+//! Laws of the analyser's database, without code: it is lawful and sound, and what it gives the layers between C and
+//! words.
+
+ghost use Rattle.pw_law_analysis.specs.OwedLaws.{DatabaseIsLawful, DatabaseIsSound, ColouredIsCovered};
+ghost use Rattle.pw_law_analysis.specs.AnalyserLaws.{NamedGraphsSayTheSame, DatabasesServe, FirstPlacesGiveAll, LayersGiveAll};
+
+use pw_colour::laws;
+use crate::composition::{all_laws_compose, analyses_compose};
+use pw_law_direction::{direction_keeps, first_places_keep};
+
+/// The graph of summaries by the names of functions and globals says of calls, references, writes and eligible globals
+/// what their call graph says by places.
+pub fn named_graphs_say_the_same()
+    ensures { NamedGraphsSayTheSame }
+{}
+
+/// The database of summaries that make a program is lawful, for as many registers as a callee keeps.
+pub fn databases_are_lawful()
+    ensures { DatabaseIsLawful }
+{
+    laws::databases_are_lawful();
+}
+
+/// It is sound for the graph of its summaries by names, for however many registers.
+pub fn databases_are_sound_by_name()
+    ensures { DatabaseIsSound }
+{
+    laws::databases_are_sound();
+    named_graphs_say_the_same();
+}
+
+/// Every function that refers to a global all of whose webs have a register is in one of these webs.
+pub fn coloured_globals_are_covered()
+    ensures { ColouredIsCovered }
+{
+    named_graphs_say_the_same();
+}
+
+/// The database of the summaries of an accepted program is lawful, and sound for the program's flow graphs; what obeys
+/// the law of traffic over the flow graphs obeys it over the summaries; and of a global all of whose webs have a register,
+/// that law speaks.
+pub fn databases_serve()
+    ensures { DatabasesServe }
+{
+    analyses_compose();
+    databases_are_lawful();
+    databases_are_sound_by_name();
+    coloured_globals_are_covered();
+}
+
+/// From the laws of lowering, selection and linking follows of each program that was built with the database that the analyser
+/// makes of it, where the law of places holds for the program's places: what holds of built programs; and where the source is
+/// defined, the law of traffic holds over the summaries, which speaks of each global all of whose webs have a register.
+pub fn layers_give_all()
+    ensures { LayersGiveAll }
+{
+    all_laws_compose();
+    databases_are_lawful();
+    databases_are_sound_by_name();
+    coloured_globals_are_covered();
+    databases_serve();
+    direction_keeps();
+}
+
+/// Where the places are those of allocation's first form, the same follows without the law of places as a premise.
+pub fn first_places_give_all()
+    ensures { FirstPlacesGiveAll }
+{
+    databases_serve();
+    first_places_keep();
+    layers_give_all();
+}

@@ -1,0 +1,10 @@
+//! Laws of the analyser: the call graph of summaries, and what the analyser gives the layers between C and words.
+#![tactic(auto)]
+
+pub mod analyser;
+pub mod composition;
+pub mod summaries;
+
+pub use analyser::{coloured_globals_are_covered, databases_are_lawful, databases_are_sound_by_name, databases_serve, first_places_give_all, layers_give_all, named_graphs_say_the_same};
+pub use composition::{all_laws_compose, analyses_compose};
+pub use summaries::summaries_say_the_same;

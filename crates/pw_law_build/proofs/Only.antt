@@ -1,0 +1,80 @@
+-- What is built can be built.
+use Rattle.std.proofs.Common.{◌≡◌, ◌↔◌, ℕ, ◌≤◌, List, [], Option, None, Some, Result, Ok, Err, map, refl, inr}
+use Rattle.std.specs.Prelude.{IsOk}
+use Rattle.std.specs.List.{AllByRecursion}
+use Rattle.pw_io.specs.Files.{Files}
+use Rattle.pw_value.specs.declared.fault.LinkFault.{LinkFault}
+use Rattle.pw_flow.specs.declared.flow.FlowModule.{FlowModule}
+use Rattle.pw_flow.specs.ValidFlow.{IsValid}
+use Rattle.pw_summary.specs.declared.summary.Summary.{Summary}
+use Rattle.pw_db.specs.Limits.{colour_limit}
+use Rattle.pw_object.specs.declared.object.Object.{Object}
+use Rattle.pw_link_interface.specs.Interface.{interface}
+use Rattle.pw_link_rules.specs.Linking.{Links}
+use Rattle.pw_graph.specs.Program.{AreLinked}
+use Rattle.pw_link.specs.Linking.{size_fault, IsRefusal, too_large}
+use Rattle.pw_store_modules.specs.Modules.{Source, module_map, modules_of}
+use Rattle.pw_build_objects.specs.Programs.{AreParts, AreSummariesOf, Completes, Parts}
+use Rattle.pw_build_objects.specs.Kept.{IsGenuineIfKept, all_fresh, anew}
+use Rattle.pw_build.specs.declared.fault.BuildFault.{BuildFault}
+use Rattle.pw_build.specs.Builds.{first_phases, Builds, BuildsBy}
+use Rattle.pw_build_files.specs.Building.{BuildComes, Outcome}
+use Rattle.pw_build_files.specs.Full.{BuildsImage, image_of}
+use Rattle.pw_build_files.specs.Genuine.{KeepsGenuine}
+use Rattle.pw_law_build.specs.Alike.{shown, DeclaresMain}
+use Rattle.pw_law_build.specs.Complete.{CanBeBuilt}
+
+-- the laws on which it stands
+pub record Laws : Type 0 where
+  pub declares : (sources : List Source) (flows : List FlowModule) → first_phases sources ≡ Ok flows → AllByRecursion DeclaresMain flows
+  pub linked : (flows : List FlowModule) (ss : List Summary) → AllByRecursion IsValid flows → AreSummariesOf flows ss → Links (map shown flows) ↔ AreLinked ss
+  pub links : (flows : List FlowModule) (colours : ℕ) (parts : Parts) → AllByRecursion DeclaresMain flows → AreParts flows [] colours parts → Links (map interface parts.objects)
+  pub one : (flows : List FlowModule) (kept : List (Option Object)) (colours stack : ℕ) (a b : Result Parts LinkFault) → colours ≤ colour_limit → Completes flows kept colours stack a → Completes flows kept colours stack b → a ≡ b
+  pub nothing_changed : (flows : List FlowModule) (kept : List (Option Object)) (colours stack : ℕ) (a : Result Parts LinkFault) → AllByRecursion IsGenuineIfKept kept → Completes flows kept colours stack a → Completes flows [] colours stack (anew a)
+
+no_refusal : (parts : Parts) (fault : LinkFault) → ◌≡◌ {A = Result Parts LinkFault} (Ok parts) (Err fault) → ⊥
+no_refusal parts fault e = cc
+
+no_parts : (parts : Parts) (fault : BuildFault) → ◌≡◌ {A = Result Parts BuildFault} (Ok parts) (Err fault) → ⊥
+no_parts parts fault e = cc
+
+-- ---- modules
+
+module _ (laws : Laws) where
+  -- Where flow graphs come to parts that are linked, there is room for all parts that they come to.
+  room_by : (flows : List FlowModule) (colours stack : ℕ) (parts other : Parts) → colours ≤ colour_limit → AllByRecursion DeclaresMain flows → Completes flows [] colours stack (Ok parts) → AreParts flows [] colours other
+      → (size : Option LinkFault) → size_fault other.objects stack ≡ size → size ≡ None
+  room_by flows colours stack parts other few declares done are None e = refl
+  room_by flows colours stack parts other few declares done are (Some fault) e =
+      let refusal : IsRefusal other.objects stack fault = too_large (laws.links flows colours other declares are) e in
+      absurd (no_refusal parts fault (laws.one flows [] colours stack (Ok parts) (Err fault) few done (inr (other, are, refusal))))
+
+  by_phases : (sources : List Source) (kept : List (Option Object)) (colours stack : ℕ) (parts : Parts) → colours ≤ colour_limit → AllByRecursion IsGenuineIfKept kept
+      → (phases : Result (List FlowModule) BuildFault) → first_phases sources ≡ phases → BuildsBy phases kept colours stack (Ok parts) → CanBeBuilt sources colours stack
+  by_phases sources kept colours stack parts few genuine (Err fault) is h = absurd (no_parts parts fault h)
+  by_phases sources kept colours stack parts few genuine (Ok flows) is h =
+      let done : Completes flows kept colours stack (Ok parts) = h in
+      let declares = laws.declares sources flows is in
+      let db = done.0.database in
+      let full : Completes flows [] colours stack (Ok (all_fresh parts)) = laws.nothing_changed flows kept colours stack (Ok parts) genuine done in
+      record {
+        accepted = record { flows = flows; one_by_one = is; together = (laws.linked flows db.summaries done.0.lawful db.of_flows).1 db.linked };
+        room = λ other are. room_by flows colours stack (all_fresh parts) other few declares full are (size_fault other.objects stack) refl;
+      }
+
+  pub can_be_built : (sources : List Source) (kept : List (Option Object)) (colours stack : ℕ) (parts : Parts) → colours ≤ colour_limit → AllByRecursion IsGenuineIfKept kept → Builds sources kept colours stack (Ok parts) → CanBeBuilt sources colours stack
+  can_be_built sources kept colours stack parts few genuine h = by_phases sources kept colours stack parts few genuine (first_phases sources) refl h
+
+-- ---- the files of a store
+
+no_answer : (fault : BuildFault) → IsOk {T = Outcome} {E = BuildFault} (Err fault) → ⊥
+no_answer fault e = cc
+
+pub exactly : ((files : Files) (colours stack : ℕ) (fault : BuildFault) → CanBeBuilt (modules_of files) colours stack → KeepsGenuine files → ¬ BuildComes files colours stack (Err fault))
+    → ((files : Files) (colours stack : ℕ) (comes : Result Outcome BuildFault) → KeepsGenuine files → BuildComes files colours stack comes → BuildsImage (module_map files) colours stack (image_of comes))
+    → ((sources : List Source) (kept : List (Option Object)) (colours stack : ℕ) (parts : Parts) → colours ≤ colour_limit → AllByRecursion IsGenuineIfKept kept → Builds sources kept colours stack (Ok parts) → CanBeBuilt sources colours stack)
+    → (files : Files) (colours stack : ℕ) (comes : Result Outcome BuildFault) → colours ≤ colour_limit → KeepsGenuine files → BuildComes files colours stack comes → IsOk comes ↔ CanBeBuilt (modules_of files) colours stack
+exactly never full can files colours stack (Ok outcome) few genuine comes =
+    let image : BuildsImage (module_map files) colours stack (Ok outcome.image) = full files colours stack (Ok outcome) genuine comes in
+    ((λ done. can (modules_of files) [] colours stack image.0 few tt image.1), (λ able. refl))
+exactly never full can files colours stack (Err fault) few genuine comes = ((λ done. absurd (no_answer fault done)), (λ able. absurd (never files colours stack fault able genuine comes)))

@@ -1,0 +1,26 @@
+-- When a build is done: the modules are accepted one by one and together, text and memory are large enough, and what is kept
+-- of them is genuine.
+use Rattle.std.specs.Prelude.{◌≡◌, ℕ, List, [], map, None, Ok}
+use Rattle.pw_flow.specs.declared.flow.FlowModule.{FlowModule}
+use Rattle.pw_link_rules.specs.Linking.{Links}
+use Rattle.pw_link.specs.Linking.{size_fault}
+use Rattle.pw_store_modules.specs.Modules.{Source}
+use Rattle.pw_build_objects.specs.Programs.{AreParts, Parts}
+use Rattle.pw_build.specs.Builds.{first_phases}
+use Rattle.pw_law_build.specs.Alike.{shown}
+
+-- The modules are not too many, their texts not too long, the first phase refuses none of them, and together they keep the
+-- rules of linking.
+pub record AreAccepted (sources : List Source) : Type 0 where
+  pub flows : List FlowModule
+  pub one_by_one : first_phases sources ≡ Ok flows
+  pub together : Links (map shown flows)
+
+-- Text and memory are large enough for what the modules are made into, for so many registers and such a stack.
+abbrev pub HasRoom : List FlowModule → ℕ → ℕ → Type 0
+HasRoom flows colours stack = (parts : Parts) → AreParts flows [] colours parts → size_fault parts.objects stack ≡ None
+
+-- accepted modules that have room
+pub record CanBeBuilt (sources : List Source) (colours stack : ℕ) : Type 0 where
+  pub accepted : AreAccepted sources
+  pub room : HasRoom accepted.flows colours stack

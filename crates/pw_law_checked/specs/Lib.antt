@@ -1,0 +1,6 @@
+pub mod Leading
+pub mod Lawful
+pub mod Words
+pub mod Names
+pub mod Designators
+pub mod OwnNames

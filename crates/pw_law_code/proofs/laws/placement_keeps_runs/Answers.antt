@@ -1,7 +1,0 @@
-use Rattle.pw_run_lines.specs.LineRun.{line_run}
-use Rattle.pw_run_lines.specs.Laws.{placed_program}
-use Rattle.pw_law_code.proofs.laws.placement_keeps_runs.Goals as goal
-
-pub returns : goal.returns
-returns c = λ p d functions w scratch input program database serve frames start lawful bytes.
-    c.late_logs_compose.ensures.itself (line_run (placed_program p functions) w scratch input)

@@ -1,4 +1,0 @@
-mod Builds
-mod Declared
-mod Stores
-mod Only

@@ -1,5 +1,0 @@
-use Rattle.pw_law_complete.proofs.Stores.{command_complete}
-use Rattle.pw_law_complete.proofs.laws.the_command_is_complete.Goals as goal
-
-pub returns : goal.returns
-returns c = command_complete c.a_store_that_can_be_built_is_built.ensures

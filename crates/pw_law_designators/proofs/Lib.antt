@@ -1,6 +1,0 @@
-mod Nodes
-mod Phrases
-mod Initialisers
-mod Statements
-mod Functions
-mod OwnNames

@@ -1,2 +1,0 @@
-pub mod Designators
-pub mod OwnNames

@@ -1,5 +1,0 @@
-use Rattle.pw_law_direction.proofs.Steps.{blocks-follow}
-use Rattle.pw_law_direction.proofs.blocks_follow.Goals as goal
-
-pub returns : goal.returns
-returns c = blocks-follow

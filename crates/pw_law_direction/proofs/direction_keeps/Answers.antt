@@ -1,4 +1,0 @@
-use Rattle.pw_law_direction.proofs.direction_keeps.Goals as goal
-
-pub returns : goal.returns
-returns c = c.direction_rests_on_runs.ensures c.direction_refines.ensures

@@ -1,5 +1,0 @@
-use Rattle.pw_law_direction.proofs.Library.{library-calls-follow}
-use Rattle.pw_law_direction.proofs.library_follows.Goals as goal
-
-pub returns : goal.returns
-returns c = library-calls-follow

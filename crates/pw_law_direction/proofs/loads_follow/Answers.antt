@@ -1,5 +1,0 @@
-use Rattle.pw_law_direction.proofs.ByName.{loads-follow}
-use Rattle.pw_law_direction.proofs.loads_follow.Goals as goal
-
-pub returns : goal.returns
-returns c = loads-follow

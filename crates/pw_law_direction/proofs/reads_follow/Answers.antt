@@ -1,5 +1,0 @@
-use Rattle.pw_law_direction.proofs.WebReads.{reads-follow}
-use Rattle.pw_law_direction.proofs.reads_follow.Goals as goal
-
-pub returns : goal.returns
-returns c = reads-follow

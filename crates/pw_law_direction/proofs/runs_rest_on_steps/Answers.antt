@@ -1,5 +1,0 @@
-use Rattle.pw_law_direction.proofs.Runs.{runs-rest-on-steps}
-use Rattle.pw_law_direction.proofs.runs_rest_on_steps.Goals as goal
-
-pub returns : goal.returns
-returns c = runs-rest-on-steps

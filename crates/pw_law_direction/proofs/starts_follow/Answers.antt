@@ -1,5 +1,0 @@
-use Rattle.pw_law_direction.proofs.Starting.{starts-follow}
-use Rattle.pw_law_direction.proofs.starts_follow.Goals as goal
-
-pub returns : goal.returns
-returns c = starts-follow c.taken_functions_are_fine.ensures

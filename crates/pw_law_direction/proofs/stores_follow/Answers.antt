@@ -1,5 +1,0 @@
-use Rattle.pw_law_direction.proofs.StoresByName.{stores-follow}
-use Rattle.pw_law_direction.proofs.stores_follow.Goals as goal
-
-pub returns : goal.returns
-returns c = stores-follow

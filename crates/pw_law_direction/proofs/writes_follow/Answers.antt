@@ -1,5 +1,0 @@
-use Rattle.pw_law_direction.proofs.WebWrites.{writes-follow}
-use Rattle.pw_law_direction.proofs.writes_follow.Goals as goal
-
-pub returns : goal.returns
-returns c = writes-follow

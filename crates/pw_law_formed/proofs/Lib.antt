@@ -1,3 +1,0 @@
-pub mod Suiting
-pub mod Order
-pub mod Bodies

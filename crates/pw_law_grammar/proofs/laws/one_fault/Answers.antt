@@ -1,5 +1,0 @@
-use Rattle.pw_law_grammar.proofs.OneFault.{one-fault}
-use Rattle.pw_law_grammar.proofs.laws.one_fault.Goals as goal
-
-pub returns : goal.returns
-returns c = one-fault

@@ -1,5 +1,0 @@
-use Rattle.pw_law_grammar.proofs.Sound.Laws.{tree-sound}
-use Rattle.pw_law_grammar.proofs.laws.what_is_read_is_written.Goals as goal
-
-pub returns : goal.returns
-returns c = tree-sound

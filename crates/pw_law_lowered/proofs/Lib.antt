@@ -1,5 +1,0 @@
-pub mod Lawful
-pub mod Names
-pub mod Objects
-pub mod Plain
-pub mod PlainStatements

@@ -1,4 +1,0 @@
-pub mod StoreLaws
-pub mod StepLaws
-pub mod RunLaws
-pub mod Starts

@@ -1,3 +1,0 @@
-pub mod FirstForm
-mod Words
-mod Keeping

@@ -1,3 +1,0 @@
-mod Expressions
-mod Statements
-mod Functions

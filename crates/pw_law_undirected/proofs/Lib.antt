@@ -1,3 +1,0 @@
-mod Likeness
-mod Stepping
-mod Webless

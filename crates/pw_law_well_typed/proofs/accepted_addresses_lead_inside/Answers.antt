@@ -1,8 +1,0 @@
-use Rattle.pw_law_well_typed.proofs.accepted_addresses_lead_inside.Goals as goal
-use Rattle.pw_law_well_typed.proofs.Leading.{addresses_lead, declared_whole}
-
-pub returns-clause-lead : goal.returns-clause-lead
-returns-clause-lead g = addresses_lead
-
-pub returns-clause-whole : goal.returns-clause-whole
-returns-clause-whole g = declared_whole

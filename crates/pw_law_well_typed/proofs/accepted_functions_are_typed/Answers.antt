@@ -1,8 +1,0 @@
-use Rattle.pw_law_well_typed.proofs.accepted_functions_are_typed.Goals as goal
-use Rattle.pw_law_well_typed.proofs.FunctionLaws.{module_typed, module_block}
-
-pub returns-clause-typed : goal.returns-clause-typed
-returns-clause-typed g = module_typed
-
-pub returns-clause-block : goal.returns-clause-block
-returns-clause-block g = module_block

@@ -1,8 +1,0 @@
-use Rattle.pw_law_well_typed.proofs.accepted_names_are_apart.Goals as goal
-use Rattle.pw_law_well_typed.proofs.Laws.{module_apart, module_once}
-
-pub returns-clause-one_declared : goal.returns-clause-one_declared
-returns-clause-one_declared g = module_apart
-
-pub returns-clause-one_function : goal.returns-clause-one_function
-returns-clause-one_function g = module_once

@@ -1,5 +1,0 @@
-use Rattle.pw_law_within.proofs.accepted_bodies_keep_limits.Goals as goal
-use Rattle.pw_law_within.proofs.SmallModules.{module_small}
-
-pub returns : goal.returns
-returns g = module_small

@@ -1,5 +1,0 @@
-use Rattle.pw_law_within.proofs.accepted_items_are_not_empty.Goals as goal
-use Rattle.pw_law_within.proofs.FitStatements.{module_items}
-
-pub returns : goal.returns
-returns g = module_items

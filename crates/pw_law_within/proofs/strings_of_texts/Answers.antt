@@ -1,5 +1,0 @@
-use Rattle.pw_law_within.proofs.strings_of_texts.Goals as goal
-use Rattle.pw_law_within.proofs.Literals.{tree_strings}
-
-pub returns : goal.returns
-returns g = tree_strings

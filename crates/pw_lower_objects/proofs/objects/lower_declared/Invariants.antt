@@ -1,7 +1,0 @@
-use Rattle.std.proofs.Common.{◌≡◌, map, take}
-use Rattle.pw_lower.specs.Modules.{lowered_declared}
-use Rattle.pw_typed.specs.Views.{view_declared}
-use Rattle.pw_lower_objects.proofs.objects.lower_declared.Given as goal
-
-abbrev pub invariant-loop-d : goal.invariant-loop-d
-invariant-loop-d l = l.declared ≡ map (lowered_declared l.types) (map view_declared (take l.d-index l.all))

@@ -1,6 +1,0 @@
-use Rattle.std.proofs.Common.{◌≡◌}
-use Rattle.pw_lower_parts.specs.Placing.{put_all}
-use Rattle.pw_lower_parts.proofs.blocks.put_blocks.Given as goal
-
-abbrev pub invariant-loop-numbered : goal.invariant-loop-numbered
-invariant-loop-numbered l = l.places ≡ put_all l.yielded l.fn.places

@@ -1,0 +1,67 @@
+-- What selection and placement owe to the layers between which they stand: the statements of their laws.
+use Rattle.std.specs.Prelude.{ℕ, ◌≡◌, List, map, Contains}
+use Rattle.pw_db.specs.declared.database.Directives.{Directives}
+use Rattle.pw_db.specs.Database.{IsDatabase}
+use Rattle.pw_alloc.specs.declared.located.Located.{Located}
+use Rattle.pw_select.specs.Selection.{selected}
+use Rattle.pw_inst.specs.declared.line.Line.{Line}
+use Rattle.pw_delay.specs.declared.items.Item.{Item}
+use Rattle.pw_delay.specs.Items.{slotted}
+use Rattle.pw_run.specs.Runs.{Refines, Same}
+use Rattle.pw_db_sound.specs.Sound.{Sound}
+use Rattle.pw_run_languages.specs.Traces.{KeepRegisters}
+use Rattle.pw_run_languages.specs.Meeting.{MetWith}
+use Rattle.pw_run_languages.specs.Late.{RefinesLately}
+use Rattle.pw_run_languages.specs.Programs.{Program, AreBytes, NoneForLibrary}
+use Rattle.pw_run_languages.specs.LawfulPrograms.{IsProgram, StartFits, graph_of, eligible_names}
+use Rattle.pw_run_languages.specs.PlacedRun.{placed_run}
+use Rattle.pw_run_languages.specs.Direction.{directed_functions, with_functions}
+use Rattle.pw_run_languages.specs.Serving.{AllServe}
+use Rattle.pw_run_languages.specs.Addresses.{Addresses, AreLawful}
+use Rattle.pw_run_languages.specs.Standing.{EventInWords}
+use Rattle.pw_run_languages.specs.LineRun.{LineFn, LineProgram, line_run}
+
+-- a function with its lines, as items
+abbrev pub with_lines : Located → LineFn
+with_lines f = record { located = f; items = slotted (selected f) }
+
+abbrev pub line_program : Program → List Located → LineProgram
+line_program p functions = record { flow = p; functions = map with_lines functions; eligible = eligible_names p }
+
+-- The items that are placed are those of the lines; where words move into slots, they do so here.
+abbrev pub arranged : List Line → List Item
+arranged lines = slotted lines
+
+abbrev pub with_items : Located → LineFn
+with_items f = record { located = f; items = arranged (selected f) }
+
+abbrev pub placed_program : Program → List Located → LineProgram
+placed_program p functions = record { flow = p; functions = map with_items functions; eligible = eligible_names p }
+
+-- the frames on the stack are those that allocation made, and the library needs none
+pub record FramesAre (p : Program) (functions : List Located) : Type 0 where
+  pub defined : (f : Located) → Contains functions f → p.frame_of f.body.name ≡ f.frame
+  pub library : NoneForLibrary p.frame_of
+
+-- The run of lines does what the placed run does, wherever functions and globals stand, whatever the routines leave
+-- in scratch registers; what it notes is the same with words that stand for the values; where it does what the placed
+-- run does, returns keep the registers.
+pub record SelectionKeeps (p : Program) (d : List (List ℕ × Directives)) (functions : List Located) (w : Addresses) (scratch : ℕ → (ℕ → ℕ) → ℕ → ℕ) (input : List ℕ) : Type 0 where
+  pub runs : Refines (EventInWords p w.named) (placed_run (with_functions p functions) input) (line_run (line_program p functions) w scratch input)
+  pub registers : (n : ℕ) → MetWith (KeepRegisters d) (placed_run (with_functions p functions) input n) (line_run (line_program p functions) w scratch input)
+
+abbrev pub SelectionKeepsRuns : Type 0
+SelectionKeepsRuns =
+    (p : Program) (d : List (List ℕ × Directives)) (functions : List Located) (w : Addresses) (scratch : ℕ → (ℕ → ℕ) → ℕ → ℕ) (input : List ℕ) →
+    IsProgram p → IsDatabase d → Sound (graph_of p) d → AllServe (directed_functions p d) functions → FramesAre p functions →
+    StartFits p → AreLawful p w → AreBytes input → SelectionKeeps p d functions w scratch input
+
+-- Placement may move a word into the slot of a turn behind it. So the run of the items that are placed does what the run
+-- of the lines' own items does, and notes the same; only a load or store of a global that is done in the slot of a call
+-- it notes together with that call.
+abbrev pub PlacementKeepsRuns : Type 0
+PlacementKeepsRuns =
+    (p : Program) (d : List (List ℕ × Directives)) (functions : List Located) (w : Addresses) (scratch : ℕ → (ℕ → ℕ) → ℕ → ℕ) (input : List ℕ) →
+    IsProgram p → IsDatabase d → AllServe (directed_functions p d) functions → FramesAre p functions →
+    StartFits p → AreLawful p w → AreBytes input →
+    RefinesLately Same (line_run (line_program p functions) w scratch input) (line_run (placed_program p functions) w scratch input)

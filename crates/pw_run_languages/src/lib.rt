@@ -1,0 +1,11 @@
+//! What the runs of flow modules, of programs under directives, of lines and of linked programs are, and what the
+//! layers between them owe.
+#![tactic(auto)]
+
+pub mod machine_calls;
+pub mod run_lines;
+pub mod traffic;
+
+pub use machine_calls::noted_calls_are_its_own;
+pub use run_lines::late_logs_compose;
+pub use traffic::traffic_rests_on_relations;

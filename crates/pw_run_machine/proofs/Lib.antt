@@ -1,3 +1,0 @@
-pub mod Forgetting
-pub mod Growing
-pub mod OwnCalls

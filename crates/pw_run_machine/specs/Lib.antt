@@ -1,3 +1,0 @@
-pub mod MachineRun
-pub mod CodeStands
-pub mod Laws

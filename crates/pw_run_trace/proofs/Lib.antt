@@ -1,3 +1,0 @@
-pub mod Likeness
-pub mod Meeting
-pub mod Traffic

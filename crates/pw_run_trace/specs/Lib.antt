@@ -1,3 +1,0 @@
-pub mod Traces
-pub mod Traffic
-pub mod Meeting

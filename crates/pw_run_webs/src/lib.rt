@@ -1,2 +1,0 @@
-//! The run of directed functions, with places of temporaries and without.
-#![tactic(auto)]

@@ -1,0 +1,3 @@
+pub mod Placeable
+pub mod PlaceableArithmetic
+pub mod PlaceableOps

@@ -1,2 +1,0 @@
-pub mod Placeable
-pub mod PlaceableArithmetic
