@@ -33,7 +33,7 @@ PYTHON
 mkdir "$work/texts"
 python3 "$work/made.py" "$work/texts" "$(size 1 200)"
 
-rattle_program bench_front <<'RATTLE'
+rattle_program bench_prefix <<'RATTLE'
 //! For each line of the input, which is the text of a module: its tokens, and the microseconds that lexing it, lexing and
 //! parsing it, and checking it take.
 #![tactic(auto)]
@@ -70,7 +70,7 @@ fn main(rt: HostRuntime) -> io::Result<()> {
 RATTLE
 
 cd "$work/texts"
-for form in *.whole.c; do cat "${form%.whole.c}.half.c" "$form"; done | rattle_run bench_front > "$work/times"
+for form in *.whole.c; do cat "${form%.whole.c}.half.c" "$form"; done | rattle_run bench_prefix > "$work/times"
 find_compilers
 syntax() { # a compiler, and a text
     case $1 in

@@ -12,7 +12,7 @@ ghost use Rattle.pw_build.specs.Phases.{FaultsAs, FaultsOfPhase, IsLine, line_by
 
 use crate::fault::{BuildFault, Unbuilt};
 use pw_flow::FlowModule;
-use pw_front_end::{FrontError, Refusal, refusal_line};
+use pw_front_end::{FrontEndFault, Refusal, refusal_line};
 use pw_phase_one::phase_one;
 use pw_store_modules::Module;
 use pw_value::limits::{MODULE_LIMIT, TEXTS_LIMIT};
@@ -68,8 +68,8 @@ fn flow_of(alloc: Global, which: &Module) -> Result<FlowModule, Unbuilt>
 {
     match phase_one(alloc, &which.name, which.text.as_slice()) {
         Ok(flow) => Ok(flow),
-        Err(FrontError::Refused(refusal)) => Err(refused(alloc, which, refusal)?),
-        Err(FrontError::NoMemory) => Err(Unbuilt {
+        Err(FrontEndFault::Refused(refusal)) => Err(refused(alloc, which, refusal)?),
+        Err(FrontEndFault::NoMemory) => Err(Unbuilt {
             fault: BuildFault::NoMemory,
             line: 1,
         }),

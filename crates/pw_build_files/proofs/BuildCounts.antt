@@ -13,7 +13,7 @@ use Rattle.pw_build_files.specs.FromBuild.BuildFault.TheVariants as build
 use Rattle.pw_build_files.specs.FromBuild.Unbuilt.{Unbuilt}
 use Rattle.pw_build_files.specs.FromBuild.Builds.{MakesBy, first_phases}
 use Rattle.pw_build_files.specs.FromBuild.Stores.{store_fault}
-use Rattle.pw_build_files.specs.Programs.{FaultComes, IsCounted}
+use Rattle.pw_build_files.specs.Programs.{AnswersFault, IsCounted}
 use Rattle.pw_build_files.proofs.ProgramLemmas.{stored}
 use Rattle.pw_store_kept.specs.Kept.{kept_object}
 use Rattle.pw_build_files.specs.declared.report.Opts.{Opts}
@@ -34,13 +34,13 @@ counted_late opts None ms fault before now h = tt
 counted_late opts (Some told) ms fault before now h = λ sources. late_told told.files opts ms fault before now sources h
 
 -- none, where there are too many modules
-early_told : (files : Files) (opts : Opts) (fault : BuildFault) (n : ℕ) → FaultComes (first_phases (modules_of files)) fault → CountsFound files opts fault n n
+early_told : (files : Files) (opts : Opts) (fault : BuildFault) (n : ℕ) → AnswersFault (first_phases (modules_of files)) fault → CountsFound files opts fault n n
 early_told files opts build.StoreFault n h = tt
 early_told files opts build.NoMemory n h = tt
 early_told files opts (build.Refused name refusal) n h = (0, subst (λ (r : Result (List FlowModule) BuildFault). MakesBy r (kept_objects files) opts.colours 0) (sym h) refl, omega arith)
 early_told files opts (build.LinkRefused fault) n h = (0, subst (λ (r : Result (List FlowModule) BuildFault). MakesBy r (kept_objects files) opts.colours 0) (sym h) refl, omega arith)
 
-pub counted_early : (opts : Opts) (first : Option Told) (fault : BuildFault) (n : ℕ) → IfSome first (λ told. FaultComes (first_phases (modules_of told.files)) fault) → IfSome first (λ told. CountsFound told.files opts fault n n)
+pub counted_early : (opts : Opts) (first : Option Told) (fault : BuildFault) (n : ℕ) → IfSome first (λ told. AnswersFault (first_phases (modules_of told.files)) fault) → IfSome first (λ told. CountsFound told.files opts fault n n)
 counted_early opts None fault n h = tt
 counted_early opts (Some told) fault n h = early_told told.files opts fault n h
 

@@ -16,9 +16,9 @@ use Rattle.pw_build_files.specs.declared.report.Opts.{Opts}
 use Rattle.pw_build_files.specs.declared.report.Report.{Report}
 use Rattle.pw_build_files.specs.Building.{Outcome, puts_of}
 use Rattle.pw_build_files.specs.Lines.{report_lines, report_text}
-use Rattle.pw_build_files.specs.Outcomes.{FaultComes, FaultFound, IsLineOfBuild, IsNoWant, ObeysBuild, Reports, fault_answer}
+use Rattle.pw_build_files.specs.Outcomes.{AnswersFault, FaultFound, IsLineOfBuild, IsNoWant, ObeysBuild, Reports, fault_answer}
 use Rattle.pw_commands.specs.Outcome.{IsFound, Obeys}
-use Rattle.pw_build_files.specs.Driving.{BuildComesTo, IsBuildAnswer, built_effect, outcome_lines}
+use Rattle.pw_build_files.specs.Driving.{BuildEffect, IsBuildAnswer, built_effect, outcome_lines}
 
 appends_none : (taken : Option (List ℕ)) → Appends taken taken []
 appends_none None = tt
@@ -44,21 +44,21 @@ found_done comes one answer.WriteFault c e h = (one, c)
 found_done comes one answer.NoMemory c e h = tt
 found_done comes one _ c e h = absurd h
 
-reported : (opts : Opts) (report : Report) (a : Answer) (told : Told) (new : Option Told) (input : List ℕ) → IsPrintAnswer a → ObeysBuild opts (Ok report) told new → Obeys (BuildComesTo told.files opts.colours opts.stack input) a told new
+reported : (opts : Opts) (report : Report) (a : Answer) (told : Told) (new : Option Told) (input : List ℕ) → IsPrintAnswer a → ObeysBuild opts (Ok report) told new → Obeys (BuildEffect told.files opts.colours opts.stack input) a told new
 reported opts report a told new input ok b = record {
   answers = λ e d. subst (λ (x : Effect). Answers x.answer a) (sym (is e d)) (done_answers a ok);
   puts = λ e d. subst (λ (x : Effect). PutsFiles x.puts a told new) (sym (is e d)) (all_put (b.answers d.0 d.1).0.puts a told new ok (put e d));
-  found = found_done (BuildComesTo told.files opts.colours opts.stack input) (built_effect (Ok b.found.0) input) a (Ok b.found.0, b.found.1, refl) refl ok;
+  found = found_done (BuildEffect told.files opts.colours opts.stack input) (built_effect (Ok b.found.0) input) a (Ok b.found.0, b.found.1, refl) refl ok;
 }
   where
-    is : (e : Effect) (d : BuildComesTo told.files opts.colours opts.stack input e) → e ≡ built_effect (Ok (b.answers d.0 d.1).0) input
+    is : (e : Effect) (d : BuildEffect told.files opts.colours opts.stack input e) → e ≡ built_effect (Ok (b.answers d.0 d.1).0) input
     is e d = d.2 ∙ ap (λ (c : Result Outcome BuildFault). built_effect c input) (b.answers d.0 d.1).1
 
-    put : (e : Effect) (d : BuildComesTo told.files opts.colours opts.stack input e) → new ≡ Some (after_puts told (b.answers d.0 d.1).0.puts)
+    put : (e : Effect) (d : BuildEffect told.files opts.colours opts.stack input e) → new ≡ Some (after_puts told (b.answers d.0 d.1).0.puts)
     put e d = subst (λ (c : Result Outcome BuildFault). new ≡ Some (after_puts told (puts_of c))) (b.answers d.0 d.1).1 (b.puts d.0 d.1)
 
 pub report_obeys : (told new : Option Told) (opts : Opts) (report : Report) (a : Answer) → IsPrintAnswer a → IfSome told (λ t. ObeysBuild opts (Ok report) t new)
-    → IfSome told (λ t. (input : List ℕ) → Obeys (BuildComesTo t.files opts.colours opts.stack input) a t new)
+    → IfSome told (λ t. (input : List ℕ) → Obeys (BuildEffect t.files opts.colours opts.stack input) a t new)
 report_obeys None new opts report a ok h = tt
 report_obeys (Some t) new opts report a ok h = λ input. reported opts report a t new input ok h
 
@@ -71,7 +71,7 @@ lines_are outcome report r =
     ∙ ap (λ (digest : List ℕ). report_lines (length outcome.rebuilt) outcome.modules (length outcome.image) digest) r.digest
 
 put_out : (opts : Opts) (report : Report) (a : Answer) (told : Told) (new : Option Told) (old taken : Option (List ℕ)) (input : List ℕ) (e : Effect) → ObeysBuild opts (Ok report) told new → PutsOut (report_text report) a old taken
-    → BuildComesTo told.files opts.colours opts.stack input e → PutsOut e.output a old taken
+    → BuildEffect told.files opts.colours opts.stack input e → PutsOut e.output a old taken
 put_out opts report a told new old taken input e b out d =
     let r = b.answers d.0 d.1 in
     let is : e ≡ built_effect (Ok r.0) input = d.2 ∙ ap (λ (c : Result Outcome BuildFault). built_effect c input) r.1 in
@@ -79,7 +79,7 @@ put_out opts report a told new old taken input e b out d =
     subst (λ (x : Effect). PutsOut x.output a old taken) (sym is) lines
 
 pub report_output : (told new : Option Told) (opts : Opts) (report : Report) (a : Answer) (old taken : Option (List ℕ)) → IfSome told (λ t. ObeysBuild opts (Ok report) t new) → PutsOut (report_text report) a old taken
-    → IfSome told (λ t. (input : List ℕ) (e : Effect) → BuildComesTo t.files opts.colours opts.stack input e → PutsOut e.output a old taken)
+    → IfSome told (λ t. (input : List ℕ) (e : Effect) → BuildEffect t.files opts.colours opts.stack input e → PutsOut e.output a old taken)
 report_output None new opts report a old taken h out = tt
 report_output (Some t) new opts report a old taken h out = λ input e d. put_out opts report a t new old taken input e h out d
 
@@ -114,7 +114,7 @@ report_line due (Some t) _ line h = absurd h
 
 -- ---- a build that was not done
 
-fault_answers : (comes : Result Outcome BuildFault) (fault : BuildFault) (input : List ℕ) → FaultComes comes fault → Answers (built_effect comes input).answer (fault_answer fault)
+fault_answers : (comes : Result Outcome BuildFault) (fault : BuildFault) (input : List ℕ) → AnswersFault comes fault → Answers (built_effect comes input).answer (fault_answer fault)
 fault_answers comes (build.Refused name refusal) input h = ap (λ (c : Result Outcome BuildFault). (built_effect c input).answer) h
 fault_answers comes (build.LinkRefused fault) input h = ap (λ (c : Result Outcome BuildFault). (built_effect c input).answer) h
 fault_answers comes build.StoreFault input h = tt
@@ -124,13 +124,13 @@ puts_are : (comes : Result Outcome BuildFault) (input : List ℕ) → puts_of co
 puts_are (Ok outcome) input = refl
 puts_are (Err fault) input = refl
 
-fault_found : (files : Files) (opts : Opts) (fault : BuildFault) (input : List ℕ) → FaultFound files opts fault → IsFound (BuildComesTo files opts.colours opts.stack input) (fault_answer fault)
+fault_found : (files : Files) (opts : Opts) (fault : BuildFault) (input : List ℕ) → FaultFound files opts fault → IsFound (BuildEffect files opts.colours opts.stack input) (fault_answer fault)
 fault_found files opts (build.Refused name refusal) input h = (built_effect (Err (build.Refused name refusal)) input, (Err (build.Refused name refusal), h, refl), refl)
 fault_found files opts (build.LinkRefused fault) input h = (built_effect (Err (build.LinkRefused fault)) input, (Err (build.LinkRefused fault), h, refl), refl)
 fault_found files opts build.StoreFault input h = tt
 fault_found files opts build.NoMemory input h = tt
 
-unbuilt_obeys : (opts : Opts) (unbuilt : Unbuilt) (told : Told) (new : Option Told) (input : List ℕ) → ObeysBuild opts (Err unbuilt) told new → Obeys (BuildComesTo told.files opts.colours opts.stack input) (fault_answer unbuilt.fault) told new
+unbuilt_obeys : (opts : Opts) (unbuilt : Unbuilt) (told : Told) (new : Option Told) (input : List ℕ) → ObeysBuild opts (Err unbuilt) told new → Obeys (BuildEffect told.files opts.colours opts.stack input) (fault_answer unbuilt.fault) told new
 unbuilt_obeys opts unbuilt told new input b = record {
   answers = λ e d. subst (λ (x : Effect). Answers x.answer (fault_answer unbuilt.fault)) (sym d.2) (fault_answers d.0 unbuilt.fault input (b.answers d.0 d.1));
   puts = λ e d.
@@ -140,13 +140,13 @@ unbuilt_obeys opts unbuilt told new input b = record {
 }
 
 pub fault_obeys : (told new : Option Told) (opts : Opts) (unbuilt : Unbuilt) (a : Answer) → a ≡ fault_answer unbuilt.fault → IfSome told (λ t. ObeysBuild opts (Err unbuilt) t new)
-    → IfSome told (λ t. (input : List ℕ) → Obeys (BuildComesTo t.files opts.colours opts.stack input) a t new)
+    → IfSome told (λ t. (input : List ℕ) → Obeys (BuildEffect t.files opts.colours opts.stack input) a t new)
 fault_obeys None new opts unbuilt a e h = tt
 fault_obeys (Some t) new opts unbuilt a e h =
-    λ input. subst (λ (x : Answer). Obeys (BuildComesTo t.files opts.colours opts.stack input) x t new) (sym e) (unbuilt_obeys opts unbuilt t new input h)
+    λ input. subst (λ (x : Answer). Obeys (BuildEffect t.files opts.colours opts.stack input) x t new) (sym e) (unbuilt_obeys opts unbuilt t new input h)
 
 -- nothing was put out
-none_out : (comes : Result Outcome BuildFault) (fault : BuildFault) (input : List ℕ) (taken : Option (List ℕ)) → FaultComes comes fault → PutsOut (built_effect comes input).output (fault_answer fault) taken taken
+none_out : (comes : Result Outcome BuildFault) (fault : BuildFault) (input : List ℕ) (taken : Option (List ℕ)) → AnswersFault comes fault → PutsOut (built_effect comes input).output (fault_answer fault) taken taken
 none_out comes (build.Refused name refusal) input taken h =
     subst (λ (c : Result Outcome BuildFault). PutsOut (built_effect c input).output (answer.Refused name refusal) taken taken) (sym h)
     (record { output = []; more = []; taken = appends_none taken; front = refl; whole = refl })
@@ -157,7 +157,7 @@ none_out comes build.StoreFault input taken h = record { output = []; more = (bu
 none_out comes build.NoMemory input taken h = record { output = []; more = (built_effect comes input).output; taken = appends_none taken; front = refl; whole = tt }
 
 pub fault_output : (told new : Option Told) (opts : Opts) (unbuilt : Unbuilt) (a : Answer) (taken : Option (List ℕ)) → a ≡ fault_answer unbuilt.fault → IfSome told (λ t. ObeysBuild opts (Err unbuilt) t new)
-    → IfSome told (λ t. (input : List ℕ) (e : Effect) → BuildComesTo t.files opts.colours opts.stack input e → PutsOut e.output a taken taken)
+    → IfSome told (λ t. (input : List ℕ) (e : Effect) → BuildEffect t.files opts.colours opts.stack input e → PutsOut e.output a taken taken)
 fault_output None new opts unbuilt a taken e h = tt
 fault_output (Some t) new opts unbuilt a taken e h =
     λ input x d. subst (λ (b : Answer). PutsOut x.output b taken taken) (sym e)

@@ -26,8 +26,8 @@ use Rattle.pw_store_kept.specs.declared.files.ProgramFiles.{ProgramFiles}
 use Rattle.pw_store_kept.specs.declared.prepared.Prepared.{Prepared}
 use Rattle.pw_store_kept.specs.Kept.{is_same, kept_bytes, kept_object}
 use Rattle.pw_store_kept.specs.Files.{AreObjectFiles, HoldBytes, IsCompared, file_view, made_anew, one_if}
-use Rattle.pw_build_files.specs.Building.{BuildComes, if_changed, kept_objects}
-use Rattle.pw_build_files.specs.Programs.{BuildsFiles, FaultBuilds, FaultComes}
+use Rattle.pw_build_files.specs.Building.{BuildOutcome, if_changed, kept_objects}
+use Rattle.pw_build_files.specs.Programs.{BuildsFiles, FaultBuilds, AnswersFault}
 use Rattle.pw_build_files.proofs.ProgramLemmas.{names_by, no_line, stored}
 use Rattle.pw_build_objects.specs.Counting.{CountsUpTo}
 use Rattle.pw_build_files.specs.Outcomes.{CountsAtMost, FaultFound, IsNoWant, IsOfStore, outcome_of}
@@ -51,7 +51,7 @@ one_if_changed true changed name bytes e = ap (λ (b : Bool). one_if b name byte
 one_if_changed false changed name bytes e = ap (λ (b : Bool). one_if b name bytes) e
 
 comes_told : (files : Files) (opts : Opts) (ms : List Module) (made : ProgramFiles) (p : Prepared) (count : ℕ) → map source ms ≡ modules_of files
-    → BuildsFiles (map source ms) (map (λ m. kept_object files m.name) ms) opts.colours opts.stack made → HoldBytes (map file_view made.fresh.files.items) → count ≡ length ms → IsCompared files count made p → BuildComes files opts.colours opts.stack (Ok (outcome_of p))
+    → BuildsFiles (map source ms) (map (λ m. kept_object files m.name) ms) opts.colours opts.stack made → HoldBytes (map file_view made.fresh.files.items) → count ≡ length ms → IsCompared files count made p → BuildOutcome files opts.colours opts.stack (Ok (outcome_of p))
 comes_told files opts ms made p count sources builds fits few cmp =
     let parts = builds.0 in
     let m = builds.2 in
@@ -82,7 +82,7 @@ comes_told files opts ms made p count sources builds fits few cmp =
     )
 
 pub comes_prepared : (opts : Opts) (first now : Option Told) (ms : List Module) (made : ProgramFiles) (p : Prepared) (count : ℕ) → IfSome first (λ told. BuildsFiles (map source ms) (map (λ m. kept_object told.files m.name) ms) opts.colours opts.stack made) → HoldBytes (map file_view made.fresh.files.items) → Keeps first now → count ≡ length ms
-    → IfSome now (λ told. IsCompared told.files count made p) → IfSome first (λ told. map source ms ≡ modules_of told.files → BuildComes told.files opts.colours opts.stack (Ok (outcome_of p)))
+    → IfSome now (λ told. IsCompared told.files count made p) → IfSome first (λ told. map source ms ≡ modules_of told.files → BuildOutcome told.files opts.colours opts.stack (Ok (outcome_of p)))
 comes_prepared opts None now ms made p count builds fits same few cmp = tt
 comes_prepared opts (Some told) now ms made p count builds fits same few cmp = λ sources.
     let Q : Option Told → Type 0 = λ o. IfSome o (λ t. IsCompared t.files count made p) in
@@ -95,13 +95,13 @@ on_modules P X (Some told) now is same h = subst (λ (o : Option Told). IfSome o
 
 -- ---- faults
 
-early_told : (files : Files) (opts : Opts) (fault : BuildFault) → FaultComes (first_phases (modules_of files)) fault → FaultFound files opts fault
+early_told : (files : Files) (opts : Opts) (fault : BuildFault) → AnswersFault (first_phases (modules_of files)) fault → FaultFound files opts fault
 early_told files opts build.StoreFault h = tt
 early_told files opts build.NoMemory h = tt
 early_told files opts (build.Refused name refusal) h = subst (λ (r : Result (List FlowModule) BuildFault). BuildsBy r (kept_objects files) opts.colours opts.stack (Err (build.Refused name refusal))) (sym h) refl
 early_told files opts (build.LinkRefused fault) h = subst (λ (r : Result (List FlowModule) BuildFault). BuildsBy r (kept_objects files) opts.colours opts.stack (Err (build.LinkRefused fault))) (sym h) refl
 
-pub found_early : (opts : Opts) (first : Option Told) (fault : BuildFault) → IfSome first (λ told. FaultComes (first_phases (modules_of told.files)) fault) → IfSome first (λ told. FaultFound told.files opts fault)
+pub found_early : (opts : Opts) (first : Option Told) (fault : BuildFault) → IfSome first (λ told. AnswersFault (first_phases (modules_of told.files)) fault) → IfSome first (λ told. FaultFound told.files opts fault)
 found_early opts None fault h = tt
 found_early opts (Some told) fault h = early_told told.files opts fault h
 

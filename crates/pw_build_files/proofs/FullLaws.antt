@@ -17,7 +17,7 @@ use Rattle.pw_build_files.specs.FromBuild.Builds.{Builds, first_phases}
 use Rattle.pw_build_files.specs.FromBuild.Full.{built_anew}
 use Rattle.pw_store_kept.specs.Kept.{is_same, kept_bytes}
 use Rattle.pw_store_kept.specs.Files.{made_anew}
-use Rattle.pw_build_files.specs.Building.{BuildComes, IsOutcome, Outcome, if_changed, kept_objects}
+use Rattle.pw_build_files.specs.Building.{BuildOutcome, IsOutcome, Outcome, if_changed, kept_objects}
 use Rattle.pw_build_files.specs.Full.{BuildsImage, image_of}
 use Rattle.pw_build_files.specs.Genuine.{IsBuiltName, IsOwnFile, KeepsGenuine}
 use Rattle.pw_build_files.proofs.GenuineLemmas.{FileLaws, after_keeps, files_good, good_append, no_database, no_image, own_genuine, parts_genuine}
@@ -53,7 +53,7 @@ one_image build file texts colours stack (Err f) (Err g) few a b = same_fault f 
 abbrev GivesFull : Type 0
 GivesFull = (files : Files) (colours stack : ℕ) (a : Result Parts BuildFault) → KeepsGenuine files → Builds (modules_of files) (kept_objects files) colours stack a → Builds (modules_of files) [] colours stack (built_anew a)
 
-pub full_image : GivesFull → (files : Files) (colours stack : ℕ) (comes : Result Outcome BuildFault) → KeepsGenuine files → BuildComes files colours stack comes → BuildsImage (module_map files) colours stack (image_of comes)
+pub full_image : GivesFull → (files : Files) (colours stack : ℕ) (comes : Result Outcome BuildFault) → KeepsGenuine files → BuildOutcome files colours stack comes → BuildsImage (module_map files) colours stack (image_of comes)
 full_image full files colours stack (Ok outcome) keeps h = (all_fresh h.0, full files colours stack (Ok h.0) keeps h.1, (h.2.image_names, h.2.image_file))
 full_image full files colours stack (Err fault) keeps h = full files colours stack (Err fault) keeps h
 
@@ -79,5 +79,5 @@ outcome_good files colours stack parts outcome builds o =
     (good_append o.objects (db ++ img) (objects_good files colours stack parts outcome builds o)
     (good_append db img (if_changed_good files database_name o.database (inr (inl refl)) no_database) (if_changed_good files image_name outcome.image (inr (inr refl)) no_image)))
 
-pub genuine_left : FileLaws → (told : Told) (colours stack : ℕ) (outcome : Outcome) → KeepsGenuine told.files → BuildComes told.files colours stack (Ok outcome) → KeepsGenuine (after_puts told outcome.puts).files
+pub genuine_left : FileLaws → (told : Told) (colours stack : ℕ) (outcome : Outcome) → KeepsGenuine told.files → BuildOutcome told.files colours stack (Ok outcome) → KeepsGenuine (after_puts told outcome.puts).files
 genuine_left laws told colours stack outcome keeps h = after_keeps laws told outcome.puts keeps (own_genuine outcome.puts (outcome_good told.files colours stack h.0 outcome h.1 h.2))

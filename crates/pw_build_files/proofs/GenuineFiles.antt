@@ -82,7 +82,7 @@ none_long : (xs : List ℕ) → length xs ≡ 0 → xs ≡ []
 none_long [] e = refl
 none_long (x ∷ xs) e = absurd (omega (arith, e))
 
--- an object that stands in a front of an object's file is that object
+-- an object that stands in a prefix of an object's file is that object
 pub front_object : (front more bytes : List ℕ) (o p : Object) → front ++ more ≡ bytes → AreBytes front → IsObjectFile bytes o → object_in (Some front) ≡ Some p → p ≡ o
 front_object front more bytes o p split fits is e =
     let part : IsObjectFile front p = object_file front p fits e in

@@ -7,7 +7,7 @@ use Rattle.std.specs.FinMap as finite
 use Rattle.std.proofs.lemmas.List.{take-append-drop, drop_at}
 use Rattle.std.proofs.lemmas.Slice.Eq.{bytes_eq-Decides}
 use Rattle.std.proofs.lemmas.Bool.Decides.{not_from_Decides}
-use Rattle.pw_io.specs.Files.{Files, Told, Keeps, LeavesFile, after_put, front_of}
+use Rattle.pw_io.specs.Files.{Files, Told, Keeps, LeavesFile, after_put, prefix_of}
 use Rattle.pw_value.specs.Limits.{kept_limit}
 use Rattle.pw_fields.specs.FieldLaws.{AreBytes}
 use Rattle.pw_fields.proofs.FieldLaws.{AreBytes-take}
@@ -43,20 +43,20 @@ pub record FileLaws : Type 0 where
 
 -- ---- one file
 
-front_fits : (n : ℕ) (bytes : List ℕ) → AreBytes bytes → AreBytes (front_of n bytes)
-unfolding front_of
+front_fits : (n : ℕ) (bytes : List ℕ) → AreBytes bytes → AreBytes (prefix_of n bytes)
+unfolding prefix_of
 front_fits n bytes fits = AreBytes-take n bytes fits
 
-front_more : (n : ℕ) (bytes : List ℕ) → front_of n bytes ++ drop n bytes ≡ bytes
-unfolding front_of
+front_more : (n : ℕ) (bytes : List ℕ) → prefix_of n bytes ++ drop n bytes ≡ bytes
+unfolding prefix_of
 front_more n bytes = take-append-drop n bytes
 
--- a front of a good file that stands under its name
-put_genuine : (front more : List ℕ) (file : NamedFile) (name : List ℕ) (p : Object) → front ++ more ≡ file.1 → AreBytes front → IsGenuineFile file → object_name name ≡ file.0 → object_in (Some (front_of kept_limit front)) ≡ Some p → IsGenuine p
+-- a prefix of a good file that stands under its name
+put_genuine : (front more : List ℕ) (file : NamedFile) (name : List ℕ) (p : Object) → front ++ more ≡ file.1 → AreBytes front → IsGenuineFile file → object_name name ≡ file.0 → object_in (Some (prefix_of kept_limit front)) ≡ Some p → IsGenuine p
 put_genuine front more file name p split fits good named e =
     let g = good name named in
-    let whole : front_of kept_limit front ++ (drop kept_limit front ++ more) ≡ file.1 = sym (append_assoc (front_of kept_limit front) (drop kept_limit front) more) ∙ ap (λ (x : List ℕ). x ++ more) (front_more kept_limit front) ∙ split in
-    let same : p ≡ g.0 = front_object (front_of kept_limit front) (drop kept_limit front ++ more) file.1 g.0 p whole (front_fits kept_limit front fits) g.2 e in
+    let whole : prefix_of kept_limit front ++ (drop kept_limit front ++ more) ≡ file.1 = sym (append_assoc (prefix_of kept_limit front) (drop kept_limit front) more) ∙ ap (λ (x : List ℕ). x ++ more) (front_more kept_limit front) ∙ split in
+    let same : p ≡ g.0 = front_object (prefix_of kept_limit front) (drop kept_limit front ++ more) file.1 g.0 p whole (front_fits kept_limit front fits) g.2 e in
     subst IsGenuine (sym same) g.3
 
 none_is : (p : Object) → ◌≡◌ {A = Option Object} None (Some p) → ⊥

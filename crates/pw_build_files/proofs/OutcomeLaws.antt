@@ -14,7 +14,7 @@ use Rattle.pw_build_objects.specs.Programs.{Parts}
 use Rattle.pw_build_files.specs.FromBuild.BuildFault.{BuildFault}
 use Rattle.pw_build_files.specs.FromBuild.Builds.{Builds}
 use Rattle.pw_store_kept.specs.Files.{AreObjectFiles, made_anew}
-use Rattle.pw_build_files.specs.Building.{BuildComes, IsOutcome, Outcome, if_changed, kept_objects}
+use Rattle.pw_build_files.specs.Building.{BuildOutcome, IsOutcome, Outcome, if_changed, kept_objects}
 use Rattle.pw_db.specs.Limits.{colour_limit}
 
 -- the laws on which it stands
@@ -60,7 +60,7 @@ outcome_one laws files stack parts o p a b =
       puts = puts i;
     }
 
-pub one_build : Laws → (files : Files) (colours stack : ℕ) (a b : Result Outcome BuildFault) → colours ≤ colour_limit → BuildComes files colours stack a → BuildComes files colours stack b → a ≡ b
+pub one_build : Laws → (files : Files) (colours stack : ℕ) (a b : Result Outcome BuildFault) → colours ≤ colour_limit → BuildOutcome files colours stack a → BuildOutcome files colours stack b → a ≡ b
 one_build laws files colours stack (Ok o) (Ok p) few a b =
     let same : b.0 ≡ a.0 = ok_one b.0 a.0 (laws.build (modules_of files) (kept_objects files) colours stack (Ok b.0) (Ok a.0) few b.1 a.1) in
     ap Ok (outcome_one laws files stack a.0 o p a.2 (subst (λ (x : Parts). IsOutcome files stack x p) same b.2))

@@ -49,9 +49,9 @@ pub record IsOutcome (files : Files) (stack : ℕ) (parts : Parts) (outcome : Ou
 
 -- A build over the files of a store, for so many registers and such a stack, comes to this: its modules and the objects
 -- that are kept of them come to parts of a program and these to the outcome; or to a fault, and nothing is put.
-abbrev pub BuildComes : Files → ℕ → ℕ → Result Outcome BuildFault → Type 0
-BuildComes files colours stack (Ok outcome) = (parts : Parts) × Builds (modules_of files) (kept_objects files) colours stack (Ok parts) × IsOutcome files stack parts outcome
-BuildComes files colours stack (Err fault) = Builds (modules_of files) (kept_objects files) colours stack (Err fault)
+abbrev pub BuildOutcome : Files → ℕ → ℕ → Result Outcome BuildFault → Type 0
+BuildOutcome files colours stack (Ok outcome) = (parts : Parts) × Builds (modules_of files) (kept_objects files) colours stack (Ok parts) × IsOutcome files stack parts outcome
+BuildOutcome files colours stack (Err fault) = Builds (modules_of files) (kept_objects files) colours stack (Err fault)
 
 -- the files that are put
 abbrev pub puts_of : Result Outcome BuildFault → List NamedFile

@@ -9,7 +9,7 @@ use Rattle.pw_top_answer.specs.declared.answer.Answer.{Answer}
 use Rattle.pw_top_answer.specs.declared.answer.Answer.TheVariants.{Done, Refused, LinkRefused, WriteFault, StoreFault, NoMemory}
 use Rattle.pw_top_answer.specs.Effects.{Effect, answers_alone}
 use Rattle.pw_build_files.specs.FromBuild.BuildFault.{BuildFault}
-use Rattle.pw_build_files.specs.Building.{BuildComes, Outcome}
+use Rattle.pw_build_files.specs.Building.{BuildOutcome, Outcome}
 use Rattle.pw_build_files.specs.Genuine.{IsBuiltName}
 use Rattle.pw_build_files.specs.Lines.{report_lines}
 use Rattle.pw_build_files.specs.Outcomes.{fault_answer}
@@ -27,9 +27,9 @@ built_effect (Ok outcome) input = record { answer = Done; puts = outcome.puts; o
 built_effect (Err fault) input = answers_alone (fault_answer fault) input
 
 -- `build` over a store's files, for so many registers and such a stack
-abbrev pub BuildComesTo : Files → ℕ → ℕ → List ℕ → Effect → Type 0
-BuildComesTo files colours stack input effect =
-    (comes : Result Outcome BuildFault) × BuildComes files colours stack comes × (effect ≡ built_effect comes input)
+abbrev pub BuildEffect : Files → ℕ → ℕ → List ℕ → Effect → Type 0
+BuildEffect files colours stack input effect =
+    (comes : Result Outcome BuildFault) × BuildOutcome files colours stack comes × (effect ≡ built_effect comes input)
 
 -- the answers of the command, whose refusals are none for want of memory
 abbrev pub IsBuildAnswer : Answer → Type 0

@@ -3,7 +3,7 @@ use Rattle.std.specs.Prelude.{◌≡◌, ℕ, ◌≤◌, List, Option, Some, Res
 use Rattle.std.specs.List.{AllByRecursion}
 use Rattle.sha2.specs.Sha256.{sha256}
 use Rattle.pw_io.specs.Files.{Files, Told}
-use Rattle.pw_value.specs.Limits.{stack_least, stack_most}
+use Rattle.pw_value.specs.Limits.{stack_least, stack_limit}
 use Rattle.pw_top_answer.specs.declared.answer.Answer.{Answer}
 use Rattle.pw_top_answer.specs.declared.answer.Answer.TheVariants as answer
 use Rattle.pw_top_answer.specs.Effects.{NamedFile, PutPart, PutsFiles, after_puts}
@@ -16,9 +16,9 @@ use Rattle.pw_build_files.specs.declared.report.Report.{Report}
 use Rattle.pw_build_files.specs.declared.report.Opts.{Opts}
 use Rattle.pw_store_kept.specs.declared.prepared.Prepared.{Prepared}
 use Rattle.pw_store_kept.specs.Files.{changed_files}
-pub use Rattle.pw_build_files.specs.Programs.{CountsAtMost, FaultComes, FaultCount, HoldsImage, IsNoWant, fault_answer}
+pub use Rattle.pw_build_files.specs.Programs.{CountsAtMost, AnswersFault, FaultCount, HoldsImage, IsNoWant, fault_answer}
 use Rattle.pw_build_files.specs.Programs.{IsCounted}
-use Rattle.pw_build_files.specs.Building.{BuildComes, Outcome, kept_objects, puts_of}
+use Rattle.pw_build_files.specs.Building.{BuildOutcome, Outcome, kept_objects, puts_of}
 use Rattle.pw_db.specs.Limits.{colour_limit}
 use Rattle.pw_build_files.specs.Genuine.{IsBuiltName}
 
@@ -26,7 +26,7 @@ use Rattle.pw_build_files.specs.Genuine.{IsBuiltName}
 pub record AreOpts (opts : Opts) : Type 0 where
   pub colours : opts.colours ≤ colour_limit
   pub least : stack_least ≤ opts.stack
-  pub most : opts.stack ≤ stack_most
+  pub most : opts.stack ≤ stack_limit
 
 -- the report of an outcome
 pub record Reports (outcome : Outcome) (report : Report) : Type 0 where
@@ -42,26 +42,26 @@ build_answer (Err unbuilt) = fault_answer unbuilt.fault
 -- the answer to what a build comes to; a fault of the store and want of memory may come in its place
 abbrev pub AnswersBuild : Result Outcome BuildFault → Result Report Unbuilt → Type 0
 AnswersBuild comes (Ok report) = (outcome : Outcome) × (comes ≡ Ok outcome) × Reports outcome report
-AnswersBuild comes (Err unbuilt) = FaultComes comes unbuilt.fault
+AnswersBuild comes (Err unbuilt) = AnswersFault comes unbuilt.fault
 
 -- the build comes to something with that answer, where it is no fault of the store and no want of memory
 abbrev pub FaultFound : Files → Opts → BuildFault → Type 0
 FaultFound files opts build.StoreFault = Unit {0}
 FaultFound files opts build.NoMemory = Unit {0}
-FaultFound files opts fault = BuildComes files opts.colours opts.stack (Err fault)
+FaultFound files opts fault = BuildOutcome files opts.colours opts.stack (Err fault)
 
 -- what is counted where this fault is answered
 abbrev pub CountsFound : Files → Opts → BuildFault → ℕ → ℕ → Type 0
 CountsFound files opts fault before now = IsCounted (modules_of files) (kept_objects files) opts.colours fault before now
 
 abbrev pub IsBuildFound : Files → Opts → Result Report Unbuilt → Type 0
-IsBuildFound files opts (Ok report) = (outcome : Outcome) × BuildComes files opts.colours opts.stack (Ok outcome) × Reports outcome report
+IsBuildFound files opts (Ok report) = (outcome : Outcome) × BuildOutcome files opts.colours opts.stack (Ok outcome) × Reports outcome report
 IsBuildFound files opts (Err unbuilt) = FaultFound files opts unbuilt.fault
 
 -- What a build comes to is what was answered and put; a fault of the store and want of memory may come in its place.
 pub record ObeysBuild (opts : Opts) (result : Result Report Unbuilt) (told : Told) (new : Option Told) : Type 0 where
-  pub answers : (comes : Result Outcome BuildFault) → BuildComes told.files opts.colours opts.stack comes → AnswersBuild comes result
-  pub puts : (comes : Result Outcome BuildFault) → BuildComes told.files opts.colours opts.stack comes → PutsFiles (puts_of comes) (build_answer result) told new
+  pub answers : (comes : Result Outcome BuildFault) → BuildOutcome told.files opts.colours opts.stack comes → AnswersBuild comes result
+  pub puts : (comes : Result Outcome BuildFault) → BuildOutcome told.files opts.colours opts.stack comes → PutsFiles (puts_of comes) (build_answer result) told new
   pub found : IsBuildFound told.files opts result
 
 -- the files have names of a build's

@@ -33,10 +33,10 @@ fault_answer build.StoreFault = answer.StoreFault
 fault_answer build.NoMemory = answer.NoMemory
 
 -- what was answered in place of a value, where this comes
-abbrev pub FaultComes : {V : Type 0} → Result V BuildFault → BuildFault → Type 0
-FaultComes comes build.StoreFault = Unit {0}
-FaultComes comes build.NoMemory = Unit {0}
-FaultComes comes fault = comes ≡ Err fault
+abbrev pub AnswersFault : {V : Type 0} → Result V BuildFault → BuildFault → Type 0
+AnswersFault comes build.StoreFault = Unit {0}
+AnswersFault comes build.NoMemory = Unit {0}
+AnswersFault comes fault = comes ≡ Err fault
 
 -- a refusal is never one for want of memory
 abbrev pub IsNoWant : BuildFault → Type 0

@@ -13,8 +13,8 @@ ghost use Rattle.pw_build_files.specs.Outcomes.{AreOpts, CountsAtMost, CountsFou
 use crate::laws::a_store_has_one_build;
 use crate::prepared::prepare;
 use crate::report::{Opts, Report};
-use pw_build_objects::Steps;
 use pw_build::Unbuilt;
+use pw_build_objects::Steps;
 use pw_io::Store;
 use pw_io::laws::other_files;
 use pw_store_kept::{Prepared, put_changed};

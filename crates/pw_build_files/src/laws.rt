@@ -10,7 +10,7 @@ ghost use Rattle.pw_build_objects.specs.Programs.{Parts};
 ghost use Rattle.pw_build_files.specs.FromBuild.BuildFault.{BuildFault};
 ghost use Rattle.pw_build_files.specs.FromBuild.Builds.{Builds};
 ghost use Rattle.pw_build_files.specs.FromBuild.Full.{built_anew};
-ghost use Rattle.pw_build_files.specs.Building.{BuildComes, Outcome, kept_objects};
+ghost use Rattle.pw_build_files.specs.Building.{BuildOutcome, Outcome, kept_objects};
 ghost use Rattle.pw_build_files.specs.Full.{BuildsImage, image_of};
 ghost use Rattle.pw_build_files.specs.Genuine.{IsGenuineFile, KeepsGenuine};
 ghost use Rattle.pw_db.specs.Limits.{colour_limit};
@@ -25,7 +25,7 @@ use pw_store_modules::modules_are_exact;
 
 /// The files of a store come to one build.
 pub fn a_store_has_one_build()
-    ensures { (files : Files) (colours stack : ℕ) (a b : Result Outcome BuildFault) → colours ≤ colour_limit → BuildComes files colours stack a → BuildComes files colours stack b → a ≡ b }
+    ensures { (files : Files) (colours stack : ℕ) (a b : Result Outcome BuildFault) → colours ≤ colour_limit → BuildOutcome files colours stack a → BuildOutcome files colours stack b → a ≡ b }
 {
     modules_have_one_build();
     databases_and_files_are_one_to_one();
@@ -53,14 +53,14 @@ pub fn texts_have_one_image()
 /// Where the kept objects are genuine, a build over a store's files comes to the image of the full build of their texts,
 /// byte for byte, or to its fault.
 pub fn genuine_objects_give_the_full_image()
-    ensures { (files : Files) (colours stack : ℕ) (comes : Result Outcome BuildFault) → KeepsGenuine files → BuildComes files colours stack comes → BuildsImage (module_map files) colours stack (image_of comes) }
+    ensures { (files : Files) (colours stack : ℕ) (comes : Result Outcome BuildFault) → KeepsGenuine files → BuildOutcome files colours stack comes → BuildsImage (module_map files) colours stack (image_of comes) }
 {
     genuine_objects_give_the_full_build();
 }
 
 /// A build over a store whose kept objects are genuine leaves it so.
 pub fn builds_leave_genuine_objects()
-    ensures { (told : Told) (colours stack : ℕ) (outcome : Outcome) → KeepsGenuine told.files → BuildComes told.files colours stack (Ok outcome) → KeepsGenuine (after_puts told outcome.puts).files }
+    ensures { (told : Told) (colours stack : ℕ) (outcome : Outcome) → KeepsGenuine told.files → BuildOutcome told.files colours stack (Ok outcome) → KeepsGenuine (after_puts told outcome.puts).files }
 {
     other_files();
 }

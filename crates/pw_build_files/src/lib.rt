@@ -10,7 +10,11 @@ mod report;
 
 pub use building::build;
 pub use driving::{answer_of, build_modules, build_uncounted, put_report};
-pub use laws::{a_store_has_one_build, builds_leave_genuine_objects, genuine_files_keep_genuine, genuine_objects_give_the_full_build, genuine_objects_give_the_full_image, module_texts_are_no_objects, texts_have_one_image};
+pub use laws::{
+    a_store_has_one_build, builds_leave_genuine_objects, genuine_files_keep_genuine,
+    genuine_objects_give_the_full_build, genuine_objects_give_the_full_image,
+    module_texts_are_no_objects, texts_have_one_image,
+};
 pub use program::{few_modules, program_of};
 pub use pw_build::{BuildFault, Unbuilt, laws as build_laws};
 pub use report::{Opts, Report, report_lines};

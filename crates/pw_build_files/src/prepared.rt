@@ -10,14 +10,14 @@ ghost use Rattle.pw_build_objects.specs.Counting.{CountsUpTo};
 ghost use Rattle.pw_build_files.specs.FromBuild.Builds.{first_phases};
 ghost use Rattle.pw_build_files.specs.FromBuild.Phases.{IsLine, refused_line};
 ghost use Rattle.pw_store_kept.specs.Files.{changed_files};
-ghost use Rattle.pw_build_files.specs.Building.{BuildComes};
+ghost use Rattle.pw_build_files.specs.Building.{BuildOutcome};
 ghost use Rattle.pw_build_files.specs.Genuine.{IsOwnFile};
 ghost use Rattle.pw_build_files.specs.Outcomes.{AreOpts, CountsAtMost, CountsFound, FaultCount, FaultFound, HoldsImage, IsNoWant, outcome_of};
 
-use crate::report::Opts;
-use pw_build_objects::Steps;
-use pw_build::Unbuilt;
 use crate::program::{few_modules, program_of};
+use crate::report::Opts;
+use pw_build::Unbuilt;
+use pw_build_objects::Steps;
 use pw_io::Store;
 use pw_store_kept::{Prepared, compared};
 use pw_store_modules::Module;
@@ -34,7 +34,7 @@ fn prepared_of<S: Store, L: Ledger>(
     steps: &mut Steps<L>,
 ) -> Result<Prepared, Unbuilt>
     requires { AreOpts opts.now }
-    ensures comes { IfSome (S.told store.old) (λ told. map source modules.now ≡ modules_of told.files → IfOk result (λ prepared. BuildComes told.files opts.now.colours opts.now.stack (Ok (outcome_of prepared)))) }
+    ensures comes { IfSome (S.told store.old) (λ told. map source modules.now ≡ modules_of told.files → IfOk result (λ prepared. BuildOutcome told.files opts.now.colours opts.now.stack (Ok (outcome_of prepared)))) }
     ensures own { IfSome (S.told store.old) (λ told. IfOk result (λ prepared. AllByRecursion IsOwnFile (changed_files prepared))) }
     ensures image { IfOk result (λ prepared. HoldsImage prepared.image.items) }
     ensures fault { IfSome (S.told store.old) (λ told. map source modules.now ≡ modules_of told.files → IfErr result (λ unbuilt. FaultFound told.files opts.now unbuilt.fault)) }
@@ -61,7 +61,7 @@ pub fn prepare<S: Store, L: Ledger>(
     steps: &mut Steps<L>,
 ) -> Result<Prepared, Unbuilt>
     requires { AreOpts opts.now }
-    ensures comes { IfSome (S.told store.old) (λ told. IfOk result (λ prepared. BuildComes told.files opts.now.colours opts.now.stack (Ok (outcome_of prepared)))) }
+    ensures comes { IfSome (S.told store.old) (λ told. IfOk result (λ prepared. BuildOutcome told.files opts.now.colours opts.now.stack (Ok (outcome_of prepared)))) }
     ensures own { IfSome (S.told store.old) (λ told. IfOk result (λ prepared. AllByRecursion IsOwnFile (changed_files prepared))) }
     ensures image { IfOk result (λ prepared. HoldsImage prepared.image.items) }
     ensures fault { IfSome (S.told store.old) (λ told. IfErr result (λ unbuilt. FaultFound told.files opts.now unbuilt.fault)) }

@@ -16,7 +16,7 @@ ghost use Rattle.pw_build.specs.Builds.{Builds, first_phases};
 ghost use Rattle.pw_build.specs.Phases.{IsLine, refused_line};
 ghost use Rattle.pw_store_kept.specs.Kept.{kept_object};
 ghost use Rattle.pw_store_kept.specs.Files.{HoldBytes, file_view};
-ghost use Rattle.pw_build_files.specs.Programs.{AreAsMany, BuildsFiles, CountsAtMost, FaultBuilds, FaultComes, FaultCount, HoldsImage, IsCounted, IsNoWant};
+ghost use Rattle.pw_build_files.specs.Programs.{AreAsMany, BuildsFiles, CountsAtMost, FaultBuilds, AnswersFault, FaultCount, HoldsImage, IsCounted, IsNoWant};
 ghost use Rattle.pw_db.specs.Limits.{colour_limit};
 
 use pw_build::{BuildFault, Unbuilt, first_phases, no_refusal_is_want_of_memory};
@@ -33,7 +33,7 @@ use std::sync::ledger::Ledger;
 #[tactic(auto, using(crate::proofs::WantLemmas::many_no_want, crate::proofs::WantLemmas::stored_no_want))]
 pub fn few_modules<S: Store>(alloc: Global, store: &mut S) -> Result<Vec<Module>, Unbuilt>
     ensures modules { IfSome (S.told store.old) (λ told. IfOk result (λ modules. map source modules.items ≡ modules_of told.files)) }
-    ensures fault { IfSome (S.told store.old) (λ told. IfErr result (λ unbuilt. FaultComes (first_phases (modules_of told.files)) unbuilt.fault)) }
+    ensures fault { IfSome (S.told store.old) (λ told. IfErr result (λ unbuilt. AnswersFault (first_phases (modules_of told.files)) unbuilt.fault)) }
     ensures few { IfSome (S.told store.old) (λ told. OnOk result (length (modules_of told.files) ≤ module_limit)) }
     ensures line { IfErr result (λ unbuilt. (due : ℕ) → IsLine due unbuilt.fault unbuilt.line) }
     ensures proper { IfErr result (λ unbuilt. IsNoWant unbuilt.fault) }

@@ -17,7 +17,7 @@ use pw_check_labels::BodyParts;
 use pw_check_state::{State, fault, whole_rule};
 use pw_check_stmt::{block_rule, stmt_of};
 use pw_check_walk::{CheckFault, CheckKind};
-use pw_token::MAX_NEST;
+use pw_token::NEST_LIMIT;
 use pw_tree::{Block, Decl, Expr, Stmt};
 use pw_typed::{Initialiser, TExpr, TStmt};
 use std::alloc::{AllocError, Global};
@@ -27,7 +27,7 @@ pub const LEVELS_WITHIN_A_NEST: usize = 20;
 
 /// How deep the phrases and statements of a module may hold one another: within a token of nesting an expression has one
 /// level for each rank of operators.
-pub const PHRASE_DEPTH: usize = LEVELS_WITHIN_A_NEST * MAX_NEST;
+pub const PHRASE_DEPTH: usize = LEVELS_WITHIN_A_NEST * NEST_LIMIT;
 
 /// The limits are those that the definitions speak of.
 pub fn limits_of_phrases()

@@ -11,7 +11,10 @@ ghost use Rattle.pw_check_init_parts.specs.PlaceViews.{view_cursor, view_reached
 ghost use Rattle.pw_check_rules.specs.Initialisers as spec;
 ghost use Rattle.pw_tree.specs.Views.{view_expr, view_words};
 
-use pw_check_init_parts::{Context, Filled, Frame, Reached, Takes, Target, behind, meets_characters, next_target, reach, string_filled, string_form, takes_braces, value_filled};
+use pw_check_init_parts::{
+    Context, Filled, Frame, Reached, Takes, Target, behind, meets_characters, next_target, reach,
+    string_filled, string_form, takes_braces, value_filled,
+};
 use pw_check_state::{Phrases, State, typing, whole_rule};
 use pw_check_walk::CheckFault;
 use pw_tree::{Expr, Word};

@@ -12,7 +12,10 @@ ghost use Rattle.pw_types.specs.Views.{view_qtype, view_type};
 
 use crate::lists::Listed;
 use crate::readings::inits_rule;
-use pw_check_init_parts::{Context, Filled, Target, braced_string, bytes_filled, elements_given, filling_string, string_form, value_filled, within_braces};
+use pw_check_init_parts::{
+    Context, Filled, Target, braced_string, bytes_filled, elements_given, filling_string,
+    string_form, value_filled, within_braces,
+};
 use pw_check_leaves::string_bytes;
 use pw_check_state::{Phrases, State, whole_rule};
 use pw_check_types::{boxed_copy, copy_qtype, is_scalar};

@@ -12,7 +12,10 @@ ghost use Rattle.pw_check_rules.specs.Leaves.{is_nil};
 ghost use Rattle.pw_tree.specs.Views.{view_expr, view_inits, view_words};
 
 use crate::lists::{Listed, braced_target, listed_form};
-use pw_check_init_parts::{Context, Filled, Frame, Target, braced_string, filling_string, passed, string_filled, within_braces};
+use pw_check_init_parts::{
+    Context, Filled, Frame, Target, braced_string, filling_string, passed, string_filled,
+    within_braces,
+};
 use pw_check_state::{Phrases, State};
 use pw_check_walk::CheckFault;
 use pw_tree::{Expr, Init, Word, statements_show_their_lists};

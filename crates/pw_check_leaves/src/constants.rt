@@ -13,7 +13,7 @@ use pw_check_types::kind_in;
 use pw_check_walk::{CheckFault, CheckKind};
 use pw_typed::TExpr;
 use pw_types::CType;
-use pw_value::words::{INT_MOST, is_negative};
+use pw_value::words::{INT_MAX, is_negative};
 use std::alloc::Global;
 
 /// Whether a number of the type is above 0.
@@ -27,7 +27,7 @@ fn is_positive(ty: &CType, n: u32) -> bool
 fn is_int(ty: &CType, n: u32) -> bool
     ensures { result ≡ spec.is_int (view_type ty.now) n }
 {
-    kind_in(ty).is_signed() || n <= INT_MOST
+    kind_in(ty).is_signed() || n <= INT_MAX
 }
 
 /// The length of an array, which is at least 1 (C90 6.5.4.2), by the expression's first token.

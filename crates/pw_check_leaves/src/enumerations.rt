@@ -17,7 +17,7 @@ use pw_check_state::{Entity, Finding, State, fault};
 use pw_check_walk::{CheckFault, CheckKind};
 use pw_tree::Word;
 use pw_types::QType;
-use pw_value::words::{INT_MOST, unsigned_sum};
+use pw_value::words::{INT_MAX, unsigned_sum};
 
 /// An enumeration by its tag; it is an `int`.
 #[tactic(auto, unfolding(pw_check_walk::specs::Walks::bind, pw_check_walk::specs::Walks::outcome, pw_check_rules::specs::Leaves::enumeration_rule, pw_check_rules::specs::Leaves::enumeration_by))]
@@ -74,7 +74,7 @@ fn enumerating_by<'a>(state: &mut State<'a>, word: &'a Word) -> Result<(), Check
 fn value_after(n: u32) -> Option<u32>
     ensures { result ≡ spec.value_after n }
 {
-    if n == INT_MOST {
+    if n == INT_MAX {
         None
     } else {
         Some(unsigned_sum(n, 1))

@@ -2,5 +2,5 @@
 use Rattle.std.specs.Prelude.{ℕ}
 
 -- steps of one declarator that a type is built of
-abbrev pub steps_max : ℕ
-steps_max = 4096
+abbrev pub derivation_limit : ℕ
+derivation_limit = 4096

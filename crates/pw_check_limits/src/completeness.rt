@@ -8,9 +8,9 @@ ghost use Rattle.pw_check_rules.specs.Limits as spec;
 ghost use Rattle.pw_types.specs.Views.{view_type};
 ghost use Rattle.pw_check_walk.specs.Causes.{Constraint, kind_of};
 
-use pw_check_walk::{CheckKind, Finding};
 use pw_check_state::Spot;
 use pw_check_types::{innermost, is_complete, is_record};
+use pw_check_walk::{CheckKind, Finding};
 use pw_tree::Word;
 use pw_types::{CType, Types};
 

@@ -5,14 +5,14 @@ ghost use Rattle.pw_check_state.specs.Follows.{Follows};
 ghost use Rattle.pw_check_state.specs.PhraseViews.{view_declared, view_derivation, view_derivations, view_spot};
 ghost use Rattle.pw_check_state.specs.StateViews.{view_state};
 ghost use Rattle.pw_check_walk.specs.Found.{found};
-ghost use Rattle.pw_check_limits.specs.Steps.{steps_max};
+ghost use Rattle.pw_check_limits.specs.Steps.{derivation_limit};
 ghost use Rattle.pw_check_rules.specs.Derivations as spec;
 ghost use Rattle.pw_types.specs.Views.{view_qtype};
 
 use crate::completeness::completed;
-use pw_check_walk::{CheckFault, CheckKind, Finding, fault};
 use pw_check_state::{Declared, Derivation, Specified, Spot, State};
 use pw_check_types::{copy_qtype, is_array, is_function, is_record, plain};
+use pw_check_walk::{CheckFault, CheckKind, Finding, fault};
 use pw_token::Feature;
 use pw_tree::Qualifier;
 use pw_types::{CType, QType, Signature, Types};
@@ -20,11 +20,11 @@ use std::alloc::{AllocError, Global};
 
 /// The most steps of one declarator that a type is built of: what goes down a deeper type would take too much of the
 /// stack. The depth that a type may have is far below.
-pub const STEPS_MAX: usize = 4096;
+pub const DERIVATION_LIMIT: usize = 4096;
 
 /// The limit of a declarator is the one that its definition speaks of.
 pub fn limit_of_a_declarator()
-    ensures { STEPS_MAX ≡ steps_max }
+    ensures { DERIVATION_LIMIT ≡ derivation_limit }
 {}
 
 /// How often `const` stands among qualifiers.
@@ -104,7 +104,7 @@ pub fn built<'a>(
 ) -> Result<QType, CheckFault>
     ensures { Follows view_qtype (spec.built (view_spot spot.now) (view_derivations derivations.entry.items) (view_qtype base)) (view_state state.now) result }
 {
-    if derivations.len() > STEPS_MAX {
+    if derivations.len() > DERIVATION_LIMIT {
         return Err(fault(CheckKind::NoMemory, spot.token));
     }
     let mut q = base;

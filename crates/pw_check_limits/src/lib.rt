@@ -8,7 +8,7 @@ pub mod limits;
 
 pub use completeness::{completed, spot_of};
 pub use derivations::{
-    STEPS_MAX, built, limit_of_a_declarator, step_point, step_type, type_declared,
+    DERIVATION_LIMIT, built, limit_of_a_declarator, step_point, step_type, type_declared,
 };
 pub use limits::{
     IDENTIFIER_LIMIT, limit_of_an_identifier, long_shape_of, many_parameters, name_within,

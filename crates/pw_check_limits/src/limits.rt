@@ -8,8 +8,8 @@ ghost use Rattle.pw_types.specs.Shapes.{shape_of};
 ghost use Rattle.pw_types.specs.Views.{view_type, view_qtype};
 ghost use Rattle.pw_value.specs.Limits.{shape_limit};
 
-use pw_check_walk::{CheckKind, Finding, Which};
 use pw_check_types::count_of_types;
+use pw_check_walk::{CheckKind, Finding, Which};
 use pw_types::{CType, QType, Types, depth, oversize, shape};
 use pw_value::limits::{DEPTH_LIMIT, PARAMETER_LIMIT, SHAPE_LIMIT};
 use std::alloc::{AllocError, Global};

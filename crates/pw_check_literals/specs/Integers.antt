@@ -4,7 +4,7 @@ use Rattle.std.specs.List.{list_any}
 use Rattle.pw_check_literals.specs.declared.integers.IntegerConstant.{IntegerConstant}
 use Rattle.pw_types.specs.declared.kind.IntKind.{IntKind}
 use Rattle.pw_types.specs.declared.kind.IntKind.TheVariants as K
-use Rattle.pw_value.specs.Words.{int_most}
+use Rattle.pw_value.specs.Words.{int_max}
 
 -- what a digit is worth, of a hexadecimal one the letter too
 abbrev pub digit_value : ℕ → ℕ
@@ -54,8 +54,8 @@ types_of_constant false false false = K.Int ∷ K.UInt ∷ K.Long ∷ K.ULong �
 
 -- the greatest values of the types that constants have
 abbrev pub greatest_of_kind : IntKind → ℕ
-greatest_of_kind K.Int = int_most
-greatest_of_kind K.Long = int_most
+greatest_of_kind K.Int = int_max
+greatest_of_kind K.Long = int_max
 greatest_of_kind K.UInt = 2 ^ 32 - 1
 greatest_of_kind K.ULong = 2 ^ 32 - 1
 greatest_of_kind _ = 0

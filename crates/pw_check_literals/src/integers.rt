@@ -5,7 +5,7 @@ ghost use Rattle.std.specs.List.{list_any};
 ghost use Rattle.pw_check_literals.specs.Integers as spec;
 
 use pw_types::IntKind;
-use pw_value::words::INT_MOST;
+use pw_value::words::INT_MAX;
 
 /// An integer constant: its value and its type.
 #[derive(Clone, Copy)]
@@ -113,7 +113,7 @@ fn is_decimal(text: &[u8]) -> bool
 fn kind_of(value: u32, decimal: bool, unsigned: bool, long: bool) -> IntKind
     ensures { Some result ≡ find (λ kind. nat_le value (spec.greatest_of_kind kind)) (spec.types_of_constant decimal unsigned long) }
 {
-    let signed_holds = value <= INT_MOST;
+    let signed_holds = value <= INT_MAX;
     match (unsigned, long) {
         (true, true) => IntKind::ULong,
         (true, false) => IntKind::UInt,

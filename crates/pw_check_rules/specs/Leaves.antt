@@ -20,7 +20,7 @@ use Rattle.pw_types.specs.Layouts.{record_layout, record_offsets}
 use Rattle.pw_types.specs.Records.{kind_at, layouts_of, deepest, declared, defined}
 use Rattle.pw_types.specs.Shapes.{record_shape, member_shapes}
 use Rattle.pw_value.specs.Limits.{depth_limit, shape_limit, size_limit}
-use Rattle.pw_value.specs.Words.{int_most, is_negative, unsigned_sum}
+use Rattle.pw_value.specs.Words.{int_max, is_negative, unsigned_sum}
 use Rattle.pw_check_walk.specs.Causes.{Point, Cause, needs, keeps, DeclaredIdentifier, DeclaredTag, OneKindOfTag, OneContent, OneMember, LawfulStorage, VoidAlone, CompleteMember, IntegerFits, OneCharacter, EscapeFits, ConstantExpression, PositiveLength, EnumeratorFits, NoRecordByValue}
 use Rattle.pw_check_walk.specs.declared.constraints.Which.TheVariants.{ObjectSize, ShapeLength, TypeDepth}
 use Rattle.pw_check_walk.specs.Walks.{meets, granted, refused, pure, asks, change, ◌>>=◌, ◌>>◌}
@@ -126,7 +126,7 @@ is_positive ty n = nat_le 1 n && not (is_negative (is_signed_kind (kind_in ty)) 
 
 -- a number of the type that an int can hold
 abbrev pub is_int : CType → ℕ → Bool
-is_int ty n = is_signed_kind (kind_in ty) || nat_le n int_most
+is_int ty n = is_signed_kind (kind_in ty) || nat_le n int_max
 
 -- the length of an array is at least 1 (6.5.4.2)
 unfoldable pub length_rule : ℕ → Expression → Rule ℕ
@@ -307,7 +307,7 @@ enumerator_value first e =
 
 -- one more than the value before, unless that is the greatest int
 abbrev pub value_after : ℕ → Option ℕ
-value_after n = if n == int_most then None else Some (unsigned_sum n 1)
+value_after n = if n == int_max then None else Some (unsigned_sum n 1)
 
 -- An enumerator with its value, where there is one. Its name is asked for here too: the value may have declared it.
 unfoldable pub enumerator_rule : Word → Option ℕ → Rule (Option ℕ)

@@ -16,7 +16,9 @@ pub mod values;
 pub use operand::Operand;
 pub use phrase::{Bindings, Declared, Derivation, Gathered, Parameter, Specified, Spot};
 pub use phrases::{Phrases, whole_rule};
-pub use pw_check_names::{CaseList, Entity, HiddenObject, LinkedName, LinkedNames, NameList, SwitchState};
+pub use pw_check_names::{
+    CaseList, Entity, HiddenObject, LinkedName, LinkedNames, NameList, SwitchState,
+};
 pub use pw_check_walk::{Finding, fault, typing};
 pub use state::{BodyState, MadeState, ScopeState, State, TypeState};
 pub use trees::{first_of_declaration, first_of_list};

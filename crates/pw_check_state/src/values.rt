@@ -9,8 +9,8 @@ ghost use Rattle.pw_check_state.specs.Views.{view_node, view_node_at, view_opera
 
 use crate::operand::Operand;
 use crate::state::State;
-use pw_check_walk::{CheckFault, typing};
 use pw_check_types::{copy_qtype, is_array, plain};
+use pw_check_walk::{CheckFault, typing};
 use pw_typed::{TExpr, TForm};
 use pw_types::{CType, QType};
 use std::alloc::{AllocError, Global};

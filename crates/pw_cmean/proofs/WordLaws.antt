@@ -8,7 +8,7 @@ use Rattle.std.proofs.lemmas.Nat.{or_of_32, xor_lt, and_le_l}
 use Rattle.std.proofs.Math.Nat.{div-le_self, mod-le}
 use Rattle.pw_value.specs.declared.words.WordFault.{WordFault}
 use Rattle.pw_value.specs.declared.words.WordFault.TheVariants.{Overflow, ZeroDivisor, ShiftCount}
-use Rattle.pw_value.specs.Words.{signed, word, int_most, exact, divided, shifted}
+use Rattle.pw_value.specs.Words.{signed, word, int_max, exact, divided, shifted}
 use Rattle.pw_types.specs.declared.tree.BinaryOperator.{BinaryOperator}
 use Rattle.pw_types.specs.declared.tree.BinaryOperator.TheVariants.{Add, Subtract, Multiply, Divide, Remainder, ShiftLeft, ShiftRight, Less, Greater, LessEqual, GreaterEqual, Equal, NotEqual, And, ExclusiveOr, Or}
 use Rattle.pw_cmean.specs.Operators.{arithmetic, negation, number_for}
@@ -54,12 +54,12 @@ if-word true r q h k = h
 if-word false r q h k = k
 
 pub exact-word : (z : ℤ) → GivesWord (exact z)
-exact-word (pos n) = fitting (nat_le n int_most) n refl
+exact-word (pos n) = fitting (nat_le n int_max) n refl
   where
-    fitting : (b : Bool) (n : ℕ) → nat_le n int_most ≡ b → GivesWord (if b then Ok n else Err Overflow)
+    fitting : (b : Bool) (n : ℕ) → nat_le n int_max ≡ b → GivesWord (if b then Ok n else Err Overflow)
     fitting true n e = grind (arith, nat_tests)
     fitting false n e = tt
-exact-word (negsuc n) = if-word (nat_le n int_most) (Ok (word (negsuc n))) (Err Overflow) (omega arith) tt
+exact-word (negsuc n) = if-word (nat_le n int_max) (Ok (word (negsuc n))) (Err Overflow) (omega arith) tt
 
 divided-word : (b : ℕ) (r : Result ℕ WordFault) → GivesWord r → GivesWord (divided b r)
 divided-word b r h = if-word (b == 0) (Err ZeroDivisor) r tt h

@@ -1,4 +1,4 @@
--- The meaning of statements (ISO C90 6.6): from the front, or at a label that stands in them.
+-- The meaning of statements (ISO C90 6.6): from the beginning, or at a label that stands in them.
 use Rattle.std.specs.Prelude.{ℕ, zero, suc, ◌==◌, Bool, true, if◌then◌else◌, Option, Some, None, List, [], ◌∷◌, ◌++◌, slice_get, slice_set}
 use Rattle.std.specs.List.{list_any}
 use Rattle.pw_value.specs.declared.value.Value.{Value}
@@ -77,7 +77,7 @@ loop ahead body behind (c ∷ cs) = do
   more ← ahead (c ∷ cs)
   branch more (turn body behind Front (c ∷ cs) (loop ahead body behind cs)) (give Normal)
 
--- a loop, met at its front or in its body
+-- a loop, met at its beginning or in its body
 unfoldable pub meet_loop : (Calls → Act Bool) → (Entry → Calls → Act Flow) → (Calls → Act Bool) → Entry → Calls → Act Flow
 meet_loop ahead body behind Front cs = loop ahead body behind cs
 meet_loop ahead body behind (At_label l) [] = turn body behind (At_label l) [] (stop Bound)
@@ -157,7 +157,7 @@ initialise (ByBytes k hidden parts) cs e = do
     bytes ← look (λ s. (object_at s.objects from).bytes)
     write to j bytes))
 
--- at the front of a block; entered at a label, it passes over them
+-- at the beginning of a block; entered at a label, it passes over them
 unfoldable pub initialise_all : List Initialiser → Entry → Calls → Env → Act (Unit {0})
 initialise_all [] at cs e = give tt
 initialise_all (i ∷ rest) Front cs e = do
@@ -167,7 +167,7 @@ initialise_all (i ∷ rest) (At_label l) cs e = give tt
 
 -- ---- statements
 
--- behind a label of its own a statement is met at its front
+-- behind a label of its own a statement is met at its beginning
 abbrev pub behind_labels : List ℕ → Entry → Entry
 behind_labels labels Front = Front
 behind_labels labels (At_label l) = if holds labels l then Front else At_label l

@@ -34,7 +34,7 @@ pub fn output_grows()
         Extends (source_run program frame_of stack input n).out (source_run program frame_of stack input m).out }
 {}
 
-/// The input is read from its front, each byte that is read is counted, and a greater bound only reads on.
+/// The input is read from its beginning, each byte that is read is counted, and a greater bound only reads on.
 pub fn reading_grows()
     ensures expressions { (world : World) (n : ℕ) (a : Expression) (e : Env) (s : State) →
         HasRead s (state_behind (answer_of a (calls world n) e s)) }

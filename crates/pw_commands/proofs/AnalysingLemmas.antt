@@ -18,7 +18,7 @@ use Rattle.pw_top_answer.specs.Effects.{Effect, PutsFiles, answers_alone, puts_f
 use Rattle.pw_top_answer.specs.Outcomes.{Answers}
 use Rattle.pw_commands.specs.Needed.{StopsAs}
 use Rattle.pw_commands.specs.Outcome.{IsPutAnswer, IsStop, Obeys}
-use Rattle.pw_commands.specs.Analysing.{AnalyseComes, AnalyseOver, AnalysedFile, AnalysesInto, AnalysesOver, ComesOfSummaries, IsDatabaseFileOf, RefusesSummaries, summaries_of}
+use Rattle.pw_commands.specs.Analysing.{AnalyseEffect, AnalyseOver, AnalysedFile, AnalysesInto, AnalysesOver, EffectOfSummaries, IsDatabaseFileOf, RefusesSummaries, summaries_of}
 use Rattle.pw_commands.proofs.ObeysLemmas.{obeys_fault, obeys_no_memory, obeys_one, put_answers, puts_none, stop_is_answer}
 
 -- the laws on which it stands: one database, one file, one answer
@@ -33,7 +33,7 @@ one_file laws ss colours bytes others a b =
     let same : b.0 ≡ a.0 = laws.database ss colours b.0 a.0 b.1 a.1 in
     laws.file bytes others a.0 a.2 (subst (IsDatabaseFile others) same b.2)
 
-analysed_alone : Laws → (ss : List Summary) (colours : ℕ) (input bytes : List ℕ) → AreLinked ss → IsDatabaseFileOf ss colours bytes → (e : Effect) → ComesOfSummaries ss colours input e → e ≡ puts_files ((database_name, bytes) ∷ []) input
+analysed_alone : Laws → (ss : List Summary) (colours : ℕ) (input bytes : List ℕ) → AreLinked ss → IsDatabaseFileOf ss colours bytes → (e : Effect) → EffectOfSummaries ss colours input e → e ≡ puts_files ((database_name, bytes) ∷ []) input
 analysed_alone laws ss colours input bytes linked file e c =
     ⊎_elim {C = e ≡ puts_files ((database_name, bytes) ∷ []) input}
     (λ r. absurd (laws.not_both (map interface_of ss) r.0 linked r.1))
@@ -48,13 +48,13 @@ over_analysed laws (Err refusal) colours bytes answer told new input file h puts
 
 -- the database was put, as far as the store put it
 pub obeys_analysed : Laws → (first now new : Option Told) (colours : ℕ) (bytes : List ℕ) (answer : Answer) → IfSome first (λ t. AnalysedFile (summaries_of t.files) colours bytes) → Keeps first now
-    → IfSome now (λ t. PutsFiles ((database_name, bytes) ∷ []) answer t new) → IsPutAnswer answer → IfSome first (λ t. (input : List ℕ) → Obeys (AnalyseComes t.files colours input) answer t new)
+    → IfSome now (λ t. PutsFiles ((database_name, bytes) ∷ []) answer t new) → IsPutAnswer answer → IfSome first (λ t. (input : List ℕ) → Obeys (AnalyseEffect t.files colours input) answer t new)
 obeys_analysed laws None now new colours bytes answer file same puts h = tt
 obeys_analysed laws (Some told) now new colours bytes answer file same puts h =
     let P : Option Told → Type 0 = λ o. IfSome o (λ t. PutsFiles ((database_name, bytes) ∷ []) answer t new) in
     λ input. over_analysed laws (summaries_of told.files) colours bytes answer told new input file h (subst P same puts)
 
-refused_alone : Laws → (ss : List Summary) (colours : ℕ) (input : List ℕ) (fault : LinkFault) → AreRefused ss fault → (e : Effect) → ComesOfSummaries ss colours input e → e ≡ answers_alone (LinkRefused fault) input
+refused_alone : Laws → (ss : List Summary) (colours : ℕ) (input : List ℕ) (fault : LinkFault) → AreRefused ss fault → (e : Effect) → EffectOfSummaries ss colours input e → e ≡ answers_alone (LinkRefused fault) input
 refused_alone laws ss colours input fault refusal e c =
     ⊎_elim {C = e ≡ answers_alone (LinkRefused fault) input}
     (λ r. r.2 ∙ ap (λ (f : LinkFault). answers_alone (LinkRefused f) input) (laws.one_fault (map interface_of ss) r.0 fault r.1 refusal))
@@ -74,7 +74,7 @@ by_answer laws wanted colours NoMemory told new input h is e = obeys_no_memory (
 by_answer laws wanted colours _ told new input h is e = over_refused laws wanted colours _ told new input h is e
 
 -- the summaries were refused, or something stood in their place
-pub obeys_not_analysed : Laws → (first new : Option Told) (colours : ℕ) (answer : Answer) → IfSome first (λ t. AnalysesOver (summaries_of t.files) colours (Err answer)) → Keeps first new → IsStop answer → IfSome first (λ t. (input : List ℕ) → Obeys (AnalyseComes t.files colours input) answer t new)
+pub obeys_not_analysed : Laws → (first new : Option Told) (colours : ℕ) (answer : Answer) → IfSome first (λ t. AnalysesOver (summaries_of t.files) colours (Err answer)) → Keeps first new → IsStop answer → IfSome first (λ t. (input : List ℕ) → Obeys (AnalyseEffect t.files colours input) answer t new)
 obeys_not_analysed laws None new colours answer is same h = tt
 obeys_not_analysed laws (Some told) new colours answer is same h = λ input. by_answer laws (summaries_of told.files) colours answer told new input h is same
 

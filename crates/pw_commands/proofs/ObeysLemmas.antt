@@ -11,11 +11,11 @@ use Rattle.pw_link.specs.Linking.{linked, AreLinked, IsRefusal}
 use Rattle.pw_store_modules.specs.FileNames.{image_name}
 use Rattle.pw_top_answer.specs.declared.answer.Answer.{Answer}
 use Rattle.pw_top_answer.specs.declared.answer.Answer.TheVariants.{Done, LinkRefused, ReadFault, WriteFault, StoreFault, NoMemory, BadFile}
-use Rattle.pw_top_answer.specs.Effects.{Effect, NamedFile, PutsFiles, PutPart, PutFront, IsLeft, answers_alone, puts_files}
+use Rattle.pw_top_answer.specs.Effects.{Effect, NamedFile, PutsFiles, PutPart, PutPrefix, IsLeft, answers_alone, puts_files}
 use Rattle.pw_top_answer.specs.Outcomes.{Answers}
 use Rattle.pw_commands.specs.Needed.{StopsAs}
 use Rattle.pw_commands.specs.Outcome.{IsFound, IsPutAnswer, IsStop, Obeys}
-use Rattle.pw_commands.specs.Linking.{ComesOfObjects, IsImageOf, LinkComes, LinkOver, LinkedFile, LinksInto, LinksOver, RefusesLink, objects_of}
+use Rattle.pw_commands.specs.Linking.{EffectOfObjects, IsImageOf, LinkEffect, LinkOver, LinkedFile, LinksInto, LinksOver, RefusesLink, objects_of}
 
 found_from : (comes : Effect → Type 0) (one : Effect) (answer : Answer) → comes one → Answers one.answer answer → IsFound comes answer
 found_from comes one ReadFault c h = (one, c)
@@ -63,7 +63,7 @@ NotBoth = (objects : List Object) (stack : ℕ) (fault : LinkFault) → AreLinke
 abbrev pub OneFault : Type 0
 OneFault = (objects : List Object) (stack : ℕ) (fault other : LinkFault) → IsRefusal objects stack fault → IsRefusal objects stack other → fault ≡ other
 
-linked_alone : OneFile → NotBoth → (objects : List Object) (stack : ℕ) (input bytes : List ℕ) → AreLinked objects stack → IsImageOf objects stack bytes → (e : Effect) → ComesOfObjects objects stack input e → e ≡ puts_files ((image_name, bytes) ∷ []) input
+linked_alone : OneFile → NotBoth → (objects : List Object) (stack : ℕ) (input bytes : List ℕ) → AreLinked objects stack → IsImageOf objects stack bytes → (e : Effect) → EffectOfObjects objects stack input e → e ≡ puts_files ((image_name, bytes) ∷ []) input
 linked_alone one not_both objects stack input bytes linked image e c =
     ⊎_elim {C = e ≡ puts_files ((image_name, bytes) ∷ []) input}
     (λ r. absurd (not_both objects stack r.0 linked r.1))
@@ -84,13 +84,13 @@ over_linked one not_both (Err refusal) stack bytes answer told new input image h
 
 -- the image was put, as far as the store put it
 pub obeys_linked : OneFile → NotBoth → (first now new : Option Told) (stack : ℕ) (bytes : List ℕ) (answer : Answer) → IfSome first (λ t. LinkedFile (objects_of t.files) stack bytes) → Keeps first now
-    → IfSome now (λ t. PutsFiles ((image_name, bytes) ∷ []) answer t new) → IsPutAnswer answer → IfSome first (λ t. (input : List ℕ) → Obeys (LinkComes t.files stack input) answer t new)
+    → IfSome now (λ t. PutsFiles ((image_name, bytes) ∷ []) answer t new) → IsPutAnswer answer → IfSome first (λ t. (input : List ℕ) → Obeys (LinkEffect t.files stack input) answer t new)
 obeys_linked one not_both None now new stack bytes answer image same puts h = tt
 obeys_linked one not_both (Some told) now new stack bytes answer image same puts h =
     let P : Option Told → Type 0 = λ o. IfSome o (λ t. PutsFiles ((image_name, bytes) ∷ []) answer t new) in
     λ input. over_linked one not_both (objects_of told.files) stack bytes answer told new input image h (subst P same puts)
 
-refused_alone : NotBoth → OneFault → (objects : List Object) (stack : ℕ) (input : List ℕ) (fault : LinkFault) → IsRefusal objects stack fault → (e : Effect) → ComesOfObjects objects stack input e → e ≡ answers_alone (LinkRefused fault) input
+refused_alone : NotBoth → OneFault → (objects : List Object) (stack : ℕ) (input : List ℕ) (fault : LinkFault) → IsRefusal objects stack fault → (e : Effect) → EffectOfObjects objects stack input e → e ≡ answers_alone (LinkRefused fault) input
 refused_alone not_both one objects stack input fault refusal e c =
     ⊎_elim {C = e ≡ answers_alone (LinkRefused fault) input}
     (λ r. r.2 ∙ ap (λ (f : LinkFault). answers_alone (LinkRefused f) input) (one objects stack r.0 fault r.1 refusal))
@@ -123,7 +123,7 @@ by_answer not_both one wanted stack NoMemory told new input h is e = obeys_no_me
 by_answer not_both one wanted stack _ told new input h is e = over_refused not_both one wanted stack _ told new input h is e
 
 -- the objects were refused, or something stood in their place
-pub obeys_refused : NotBoth → OneFault → (first new : Option Told) (stack : ℕ) (answer : Answer) → IfSome first (λ t. LinksOver (objects_of t.files) stack (Err answer)) → Keeps first new → IsStop answer → IfSome first (λ t. (input : List ℕ) → Obeys (LinkComes t.files stack input) answer t new)
+pub obeys_refused : NotBoth → OneFault → (first new : Option Told) (stack : ℕ) (answer : Answer) → IfSome first (λ t. LinksOver (objects_of t.files) stack (Err answer)) → Keeps first new → IsStop answer → IfSome first (λ t. (input : List ℕ) → Obeys (LinkEffect t.files stack input) answer t new)
 obeys_refused not_both one None new stack answer is same h = tt
 obeys_refused not_both one (Some told) new stack answer is same h = λ input. by_answer not_both one (objects_of told.files) stack answer told new input h is same
 

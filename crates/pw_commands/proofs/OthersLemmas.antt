@@ -11,7 +11,7 @@ use Rattle.pw_io.specs.Files.{Files, Keeps, LeavesFile, Told, after_put}
 use Rattle.pw_commands.specs.Others.{IsNoneOf, IsOneOf, IsSameBut, KeepsOthers, PutsOnly}
 use Rattle.pw_top_answer.specs.declared.answer.Answer.{Answer}
 use Rattle.pw_top_answer.specs.declared.answer.Answer.TheVariants.{StoreFault, NoMemory}
-use Rattle.pw_top_answer.specs.Effects.{IsLeft, NamedFile, PutFront, PutPart, PutsFiles, after_puts}
+use Rattle.pw_top_answer.specs.Effects.{IsLeft, NamedFile, PutPrefix, PutPart, PutsFiles, after_puts}
 
 not_chosen : {X : Type 0} (b : Bool) (x y : X) → (b ≡ true → ⊥) → cond b x y ≡ y
 not_chosen true x y h = absurd (h refl)

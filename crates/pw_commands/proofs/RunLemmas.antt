@@ -51,7 +51,7 @@ run_grows s n (suc m) h =
 all_out : (budget : ℕ) (start last : State) (answer : _) (old new : Option (List ℕ)) → Appends old new last.output → run_output (run_of budget start) ≡ last.output → IsWhole answer [] → PutsOut (run_output (run_of budget start)) answer old new
 all_out budget start last answer old new t e w = record { output = last.output; more = []; taken = t; front = e ∙ sym (append-nil last.output); whole = w }
 
--- a front of it was
+-- a prefix of it was
 part_out : (n budget : ℕ) (start last : State) (answer : _) (old new : Option (List ℕ)) → Appends old new last.output → n ≤ budget → run_output (run_of n start) ≡ last.output → ((more : List ℕ) → IsWhole answer more) → PutsOut (run_output (run_of budget start)) answer old new
 part_out n budget start last answer old new t h e w =
     let more = run_grows start n budget h in
@@ -94,7 +94,7 @@ began_ends : (o : Option End) (s : State) → Ends s.rest (run_rest (began o s))
 began_ends None s = ends_itself s.rest
 began_ends (Some end) s = ends_itself s.rest
 
--- a run reads from the front of its input
+-- a run reads from the beginning of its input
 pub run_ends : (s : State) (m : ℕ) → Ends s.rest (run_rest (run_of m s))
 unfolding run_of
 run_ends s zero = began_ends s.core.stopped s
@@ -114,7 +114,7 @@ run_reads s n (suc m) h =
 all_left : (budget : ℕ) (start last : State) (rest : Option (List ℕ)) → rest ≡ Some last.rest → run_rest (run_of budget start) ≡ last.rest → rest ≡ Some (run_rest (run_of budget start))
 all_left budget start last rest r e = r ∙ ap Some (sym e)
 
--- a front of it was read
+-- a prefix of it was read
 part_left : (n budget : ℕ) (start last : State) (rest : Option (List ℕ)) → n ≤ budget → rest ≡ Some last.rest → run_rest (run_of n start) ≡ last.rest → WasReadInPart (run_rest (run_of budget start)) start.rest rest
 part_left n budget start last rest h r e =
     let ends = run_ends start n in

@@ -16,7 +16,7 @@ use Rattle.pw_top_answer.specs.Effects.{Effect, answers_alone, prints}
 use Rattle.pw_top_answer.specs.Outcomes.{Answers, IsPrintAnswer, IsWhole, PutsOut}
 use Rattle.pw_commands.specs.Needed.{IsBadFile, StopsAs, found_in, needed_bytes, read_by}
 use Rattle.pw_commands.specs.Outcome.{IsFileStop, IsFound}
-use Rattle.pw_commands.specs.Showing.{DatabaseComes, IsListed, IsShowAnswer, ListComes, ListOver, Shows, database_text, image_in, printed}
+use Rattle.pw_commands.specs.Showing.{DatabaseEffect, IsListed, IsShowAnswer, ListEffect, ListOver, Shows, database_text, image_in, printed}
 
 -- ---- nothing put out
 
@@ -73,7 +73,7 @@ over_listed : OneListing → (wanted : Result Image Answer) (text : List ℕ) (a
 over_listed one (Ok image) text answer old new input listing h out = shows_one (ListOver (Ok image) input) (prints text input) answer old new (text, listing, refl) (list_alone one image input text listing) (print_answers answer h) out
 over_listed one (Err refusal) text answer old new input listing h out = absurd listing
 
-pub lists : OneListing → (told : Option Told) (text : List ℕ) (answer : Answer) (old new : Option (List ℕ)) → IfSome told (λ t. IsListed (image_in t.files) text) → IsPrintAnswer answer → PutsOut text answer old new → IfSome told (λ t. (input : List ℕ) → Shows (ListComes t.files input) answer old new)
+pub lists : OneListing → (told : Option Told) (text : List ℕ) (answer : Answer) (old new : Option (List ℕ)) → IfSome told (λ t. IsListed (image_in t.files) text) → IsPrintAnswer answer → PutsOut text answer old new → IfSome told (λ t. (input : List ℕ) → Shows (ListEffect t.files input) answer old new)
 lists one None text answer old new listing h out = tt
 lists one (Some t) text answer old new listing h out = λ input. over_listed one (image_in t.files) text answer old new input listing h out
 
@@ -82,9 +82,9 @@ refused_list wanted input refusal is =
     let P : Result Image Answer → Type 0 = λ w. ListOver w input (answers_alone refusal input) × ((e : Effect) → ListOver w input e → e ≡ answers_alone refusal input) in
     subst P (sym is) (refl, (λ e d. d))
 
-pub lists_not : (told : Option Told) (answer : Answer) (taken : Option (List ℕ)) → IfSome told (λ t. StopsAs answer (image_in t.files)) → IsFileStop answer → IfSome told (λ t. (input : List ℕ) → Shows (ListComes t.files input) answer taken taken)
+pub lists_not : (told : Option Told) (answer : Answer) (taken : Option (List ℕ)) → IfSome told (λ t. StopsAs answer (image_in t.files)) → IsFileStop answer → IfSome told (λ t. (input : List ℕ) → Shows (ListEffect t.files input) answer taken taken)
 lists_not None answer taken stops h = tt
-lists_not (Some t) answer taken stops h = λ input. stop_shows (ListComes t.files input) answer (image_in t.files) taken input h stops (refused_list (image_in t.files) input)
+lists_not (Some t) answer taken stops h = λ input. stop_shows (ListEffect t.files input) answer (image_in t.files) taken input h stops (refused_list (image_in t.files) input)
 
 -- ---- db
 
@@ -93,7 +93,7 @@ over_printed wanted text answer old new input is h out =
     let P : Result (List ℕ) Answer → Type 0 = λ w. Shows (λ e. e ≡ printed w input) answer old new in
     subst P (sym is) (shows_one (λ e. e ≡ prints text input) (prints text input) answer old new refl (λ e d. d) (print_answers answer h) out)
 
-pub shows_text : (told : Option Told) (text : List ℕ) (answer : Answer) (old new : Option (List ℕ)) → IfSome told (λ t. database_text t.files ≡ Ok text) → IsPrintAnswer answer → PutsOut text answer old new → IfSome told (λ t. (input : List ℕ) → Shows (DatabaseComes t.files input) answer old new)
+pub shows_text : (told : Option Told) (text : List ℕ) (answer : Answer) (old new : Option (List ℕ)) → IfSome told (λ t. database_text t.files ≡ Ok text) → IsPrintAnswer answer → PutsOut text answer old new → IfSome told (λ t. (input : List ℕ) → Shows (DatabaseEffect t.files input) answer old new)
 shows_text None text answer old new is h out = tt
 shows_text (Some t) text answer old new is h out = λ input. over_printed (database_text t.files) text answer old new input is h out
 
@@ -102,9 +102,9 @@ refused_print wanted input refusal is =
     let same : printed wanted input ≡ answers_alone refusal input = ap (λ (w : Result (List ℕ) Answer). printed w input) is in
     (sym same, (λ e d. d ∙ same))
 
-pub shows_not : (told : Option Told) (answer : Answer) (taken : Option (List ℕ)) → IfSome told (λ t. StopsAs answer (database_text t.files)) → IsFileStop answer → IfSome told (λ t. (input : List ℕ) → Shows (DatabaseComes t.files input) answer taken taken)
+pub shows_not : (told : Option Told) (answer : Answer) (taken : Option (List ℕ)) → IfSome told (λ t. StopsAs answer (database_text t.files)) → IsFileStop answer → IfSome told (λ t. (input : List ℕ) → Shows (DatabaseEffect t.files input) answer taken taken)
 shows_not None answer taken stops h = tt
-shows_not (Some t) answer taken stops h = λ input. stop_shows (DatabaseComes t.files input) answer (database_text t.files) taken input h stops (refused_print (database_text t.files) input)
+shows_not (Some t) answer taken stops h = λ input. stop_shows (DatabaseEffect t.files input) answer (database_text t.files) taken input h stops (refused_print (database_text t.files) input)
 
 -- ---- what was read
 

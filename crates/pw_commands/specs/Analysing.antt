@@ -29,18 +29,18 @@ abbrev pub IsDatabaseFileOf : List Summary → ℕ → List ℕ → Type 0
 IsDatabaseFileOf summaries colours bytes = (db : List (List ℕ × Directives)) × IsDatabaseOf summaries colours db × IsDatabaseFile bytes db
 
 -- summaries come to their database, which is put, or to the refusal that is due
-abbrev pub ComesOfSummaries : List Summary → ℕ → List ℕ → Effect → Type 0
-ComesOfSummaries summaries colours input effect =
+abbrev pub EffectOfSummaries : List Summary → ℕ → List ℕ → Effect → Type 0
+EffectOfSummaries summaries colours input effect =
     ((fault : LinkFault) × AreRefused summaries fault × (effect ≡ answers_alone (LinkRefused fault) input))
     ⊎ (AreLinked summaries × ((bytes : List ℕ) × IsDatabaseFileOf summaries colours bytes × (effect ≡ puts_files ((database_name, bytes) ∷ []) input)))
 
 abbrev pub AnalyseOver : Result (List Summary) Answer → ℕ → List ℕ → Effect → Type 0
 AnalyseOver (Err answer) colours input effect = effect ≡ answers_alone answer input
-AnalyseOver (Ok summaries) colours input effect = ComesOfSummaries summaries colours input effect
+AnalyseOver (Ok summaries) colours input effect = EffectOfSummaries summaries colours input effect
 
 -- `analyse` over a store's files, with so many registers for webs
-abbrev pub AnalyseComes : Files → ℕ → List ℕ → Effect → Type 0
-AnalyseComes files colours input effect = AnalyseOver (summaries_of files) colours input effect
+abbrev pub AnalyseEffect : Files → ℕ → List ℕ → Effect → Type 0
+AnalyseEffect files colours input effect = AnalyseOver (summaries_of files) colours input effect
 
 -- ---- inside the command
 

@@ -43,18 +43,18 @@ abbrev pub IsImageOf : List Object → ℕ → List ℕ → Type 0
 IsImageOf objects stack bytes = (names : List (List ℕ)) × IsImageFile bytes (record { names = names; value = linked objects stack })
 
 -- objects come to their image, which is put, or to the refusal that is due
-abbrev pub ComesOfObjects : List Object → ℕ → List ℕ → Effect → Type 0
-ComesOfObjects objects stack input effect =
+abbrev pub EffectOfObjects : List Object → ℕ → List ℕ → Effect → Type 0
+EffectOfObjects objects stack input effect =
     ((fault : LinkFault) × IsRefusal objects stack fault × (effect ≡ answers_alone (LinkRefused fault) input))
     ⊎ (AreLinked objects stack × ((bytes : List ℕ) × IsImageOf objects stack bytes × (effect ≡ puts_files ((image_name, bytes) ∷ []) input)))
 
 abbrev pub LinkOver : Result (List Object) Answer → ℕ → List ℕ → Effect → Type 0
 LinkOver (Err answer) stack input effect = effect ≡ answers_alone answer input
-LinkOver (Ok objects) stack input effect = ComesOfObjects objects stack input effect
+LinkOver (Ok objects) stack input effect = EffectOfObjects objects stack input effect
 
 -- `link` over a store's files, with a stack of so many bytes
-abbrev pub LinkComes : Files → ℕ → List ℕ → Effect → Type 0
-LinkComes files stack input effect = LinkOver (objects_of files) stack input effect
+abbrev pub LinkEffect : Files → ℕ → List ℕ → Effect → Type 0
+LinkEffect files stack input effect = LinkOver (objects_of files) stack input effect
 
 -- ---- inside the command
 

@@ -1,7 +1,7 @@
 -- The files that a command needs, over what a store holds.
 use Rattle.std.specs.Prelude.{◌≡◌, ℕ, List, [], ◌∷◌, ◌++◌, codes, Option, Some, None, Result, Ok, Err}
 use Rattle.std.specs.FinMap as finite
-use Rattle.pw_io.specs.Files.{Files, front_of}
+use Rattle.pw_io.specs.Files.{Files, prefix_of}
 use Rattle.pw_value.specs.Limits.{kept_limit}
 use Rattle.pw_value.specs.declared.fault.FileError.{FileError}
 use Rattle.pw_value.specs.declared.fault.FileError.TheVariants as file
@@ -12,7 +12,7 @@ use Rattle.pw_top_answer.specs.declared.answer.Answer.TheVariants.{BadFile, Stor
 -- the bytes of a file, as far as they count: of a kept file the first so many
 abbrev pub counted_in : List ℕ → Option (List ℕ) → Result (List ℕ) Answer
 counted_in name None = Err (BadFile name None)
-counted_in name (Some bytes) = Ok (front_of kept_limit bytes)
+counted_in name (Some bytes) = Ok (prefix_of kept_limit bytes)
 
 -- the bytes of a needed file, or that it is absent
 abbrev pub needed_bytes : Files → List ℕ → Result (List ℕ) Answer

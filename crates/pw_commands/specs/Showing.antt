@@ -26,8 +26,8 @@ ListOver (Err answer) input effect = effect ≡ answers_alone answer input
 ListOver (Ok image) input effect = (text : List ℕ) × IsListing image text × (effect ≡ prints text input)
 
 -- `list` over a store's files
-abbrev pub ListComes : Files → List ℕ → Effect → Type 0
-ListComes files input effect = ListOver (image_in files) input effect
+abbrev pub ListEffect : Files → List ℕ → Effect → Type 0
+ListEffect files input effect = ListOver (image_in files) input effect
 
 -- the database that stands in `prog.db`
 abbrev pub database_at : List ℕ → Result (List (List ℕ × Directives)) ℕ
@@ -45,8 +45,8 @@ printed (Ok text) input = prints text input
 printed (Err answer) input = answers_alone answer input
 
 -- `db` over a store's files
-abbrev pub DatabaseComes : Files → List ℕ → Effect → Type 0
-DatabaseComes files input effect = effect ≡ printed (database_text files) input
+abbrev pub DatabaseEffect : Files → List ℕ → Effect → Type 0
+DatabaseEffect files input effect = effect ≡ printed (database_text files) input
 
 -- what a command that prints comes to is what was answered and put out; a fault and want of memory may come in its place
 pub record Shows (comes : Effect → Type 0) (answer : Answer) (taken taken' : Option (List ℕ)) : Type 0 where

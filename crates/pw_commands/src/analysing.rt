@@ -5,7 +5,7 @@ ghost use Rattle.pw_io.specs.Files.{Keeps};
 ghost use Rattle.pw_store_modules.specs.FileNames.{database_name};
 ghost use Rattle.pw_top_answer.specs.Outcomes.{StoreCount};
 ghost use Rattle.pw_summary.specs.Summary.{IsSummary};
-ghost use Rattle.pw_commands.specs.Analysing.{AnalyseComes, AnalysesInto, AnalysesOver, summaries_of};
+ghost use Rattle.pw_commands.specs.Analysing.{AnalyseEffect, AnalysesInto, AnalysesOver, summaries_of};
 ghost use Rattle.pw_commands.specs.Others.{KeepsOthers};
 ghost use Rattle.pw_commands.specs.Outcome.{IsStop, IsStoreAnswer, Obeys, StopCount};
 ghost use Rattle.pw_db.specs.Limits.{colour_limit};
@@ -62,7 +62,7 @@ fn analysed_file<S: Store>(alloc: Global, store: &mut S, colours: u8) -> Result<
 /// together; `BadFile` for the first summary's file that is absent or refused; nothing is put then.
 pub fn analyse_modules<S: Store>(alloc: Global, store: &mut S, colours: u8) -> Answer
     requires { colours ≤ colour_limit }
-    ensures obeys { IfSome (S.told store.old) (λ told. (input : List ℕ) → Obeys (AnalyseComes told.files colours input) result told (S.told store.new)) }
+    ensures obeys { IfSome (S.told store.old) (λ told. (input : List ℕ) → Obeys (AnalyseEffect told.files colours input) result told (S.told store.new)) }
     ensures others { KeepsOthers (database_name ∷ []) result (S.told store.old) (S.told store.new) }
     ensures answer { IsStoreAnswer result }
     ensures count { StoreCount (S.faults store.old) (S.faults store.new) result }

@@ -3,12 +3,12 @@
 ghost use Rattle.std.specs.Prelude.{◌≤◌, ℕ, List, [], ◌∷◌, IfErr, IfSome};
 ghost use Rattle.std.specs.List.{AllByRecursion};
 ghost use Rattle.pw_io.specs.Files.{Keeps};
-ghost use Rattle.pw_value.specs.Limits.{stack_least, stack_most};
+ghost use Rattle.pw_value.specs.Limits.{stack_least, stack_limit};
 ghost use Rattle.pw_object.specs.Object.{IsObject};
 ghost use Rattle.pw_store_modules.specs.FileNames.{image_name};
 ghost use Rattle.pw_top_answer.specs.Effects.{PutsFiles};
 ghost use Rattle.pw_top_answer.specs.Outcomes.{StoreCount};
-ghost use Rattle.pw_commands.specs.Linking.{LinkComes, LinksInto, LinksOver, objects_of};
+ghost use Rattle.pw_commands.specs.Linking.{LinkEffect, LinksInto, LinksOver, objects_of};
 ghost use Rattle.pw_commands.specs.Others.{KeepsOthers};
 ghost use Rattle.pw_commands.specs.Outcome.{IsPutAnswer, IsStop, IsStoreAnswer, Obeys, StopCount};
 
@@ -71,8 +71,8 @@ fn linked_file<S: Store>(alloc: Global, store: &mut S, stack: u32) -> Result<Vec
 /// `BadFile` for the first object's file that is absent or refused; nothing is put then.
 pub fn link_modules<S: Store>(alloc: Global, store: &mut S, stack: u32) -> Answer
     requires least { stack_least ≤ stack }
-    requires most { stack ≤ stack_most }
-    ensures obeys { IfSome (S.told store.old) (λ told. (input : List ℕ) → Obeys (LinkComes told.files stack input) result told (S.told store.new)) }
+    requires most { stack ≤ stack_limit }
+    ensures obeys { IfSome (S.told store.old) (λ told. (input : List ℕ) → Obeys (LinkEffect told.files stack input) result told (S.told store.new)) }
     ensures others { KeepsOthers (image_name ∷ []) result (S.told store.old) (S.told store.new) }
     ensures answer { IsStoreAnswer result }
     ensures count { StoreCount (S.faults store.old) (S.faults store.new) result }

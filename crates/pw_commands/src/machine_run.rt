@@ -25,7 +25,7 @@ fn answer_of(stop: Stop) -> Answer
 
 /// Runs a machine for at most `budget` instructions, reading from `input` and writing to `out`. The answer and what is
 /// put out are those of the machine's run; a fault of the input or the output may come in place of the answer, and then
-/// a front of the run's output was put out.
+/// a prefix of the run's output was put out.
 pub fn run_machine<I: Source, O: Sink>(
     machine: &mut Machine,
     input: &mut I,

@@ -7,8 +7,8 @@ ghost use Rattle.pw_commands.specs.Needed.{Needs};
 ghost use Rattle.pw_commands.specs.Outcome.{IsFileStop, StopCount};
 ghost use Rattle.pw_commands.specs.Running.{IsRunOrStop, core_in, run_effect};
 
-use crate::needed::{bad_file, read_needed};
 use crate::machine_run::run_machine;
+use crate::needed::{bad_file, read_needed};
 use pw_image::LoadError;
 use pw_io::{Sink, Source, Store};
 use pw_machine::Machine;

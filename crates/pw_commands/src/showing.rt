@@ -5,7 +5,7 @@ ghost use Rattle.pw_io.specs.Files.{Keeps};
 ghost use Rattle.pw_top_answer.specs.Outcomes.{LeavesStreams, OutputCount, StoreCount};
 ghost use Rattle.pw_commands.specs.Needed.{Needs};
 ghost use Rattle.pw_commands.specs.Outcome.{IsFileStop, StopCount};
-ghost use Rattle.pw_commands.specs.Showing.{DatabaseComes, IsShowAnswer, ListComes, ListsOver, Shows, database_text, image_in};
+ghost use Rattle.pw_commands.specs.Showing.{DatabaseEffect, IsShowAnswer, ListEffect, ListsOver, Shows, database_text, image_in};
 
 use crate::needed::{bad_file, read_needed, refused};
 use pw_image::LoadError;
@@ -57,7 +57,7 @@ fn texted<S: Store>(alloc: Global, store: &mut S) -> Result<Vec<u8>, Answer>
 ///
 /// The answer is `Done` where all was printed; or `BadFile` where `prog.img` is absent or refused, and then nothing was.
 pub fn list_image<S: Store, O: Sink>(alloc: Global, store: &mut S, out: &mut O) -> Answer
-    ensures shows { IfSome (S.told store.old) (λ told. (input : List ℕ) → Shows (ListComes told.files input) result (O.taken out.old) (O.taken out.new)) }
+    ensures shows { IfSome (S.told store.old) (λ told. (input : List ℕ) → Shows (ListEffect told.files input) result (O.taken out.old) (O.taken out.new)) }
     ensures same { Keeps (S.told store.old) (S.told store.new) }
     ensures count { StoreCount (S.faults store.old) (S.faults store.new) result }
     ensures write { OutputCount (O.faults out.old) (O.faults out.new) result }
@@ -75,7 +75,7 @@ pub fn list_image<S: Store, O: Sink>(alloc: Global, store: &mut S, out: &mut O) 
 ///
 /// The answer is `Done` where all was printed; or `BadFile` where `prog.db` is absent or refused, and then nothing was.
 pub fn show_database<S: Store, O: Sink>(alloc: Global, store: &mut S, out: &mut O) -> Answer
-    ensures shows { IfSome (S.told store.old) (λ told. (input : List ℕ) → Shows (DatabaseComes told.files input) result (O.taken out.old) (O.taken out.new)) }
+    ensures shows { IfSome (S.told store.old) (λ told. (input : List ℕ) → Shows (DatabaseEffect told.files input) result (O.taken out.old) (O.taken out.new)) }
     ensures same { Keeps (S.told store.old) (S.told store.new) }
     ensures count { StoreCount (S.faults store.old) (S.faults store.new) result }
     ensures write { OutputCount (O.faults out.old) (O.faults out.new) result }

@@ -21,7 +21,7 @@ use Rattle.pw_top_answer.specs.Outcomes.{Answers, IsLineDue, StoreCount}
 use Rattle.pw_commands.specs.Needed.{StopsAs, needed_bytes}
 use Rattle.pw_commands.specs.Outcome.{IsFileStop, IsPutAnswer, Obeys}
 use Rattle.pw_commands.proofs.ObeysLemmas.{obeys_fault, obeys_no_memory, obeys_one, put_answers, puts_none}
-use Rattle.pw_commands_phases.specs.First.{AreBytesOf, ComesOfPhase, IsSumOf, PhaseOneComes, PhaseOneOver, line_in, line_over, phase_line, two_files}
+use Rattle.pw_commands_phases.specs.First.{AreBytesOf, EffectOfPhase, IsSumOf, PhaseOneEffect, PhaseOneOver, line_in, line_over, phase_line, two_files}
 use Rattle.pw_commands_phases.specs.Made.{AnswersPhase, AreOfPhase, IsPhaseAnswer, IsTextStop, RefusesPhase, TellsReply, line_of}
 
 -- the laws on which it stands: one file of a flow graph, one summary, one file of it
@@ -35,20 +35,20 @@ one_sum laws flow sum sum' lawful a b =
     let same : b.summary ≡ a.summary = laws.summary flow b.summary a.summary lawful b.summarises a.summarises in
     laws.summary_file sum' sum a.summary (subst (IsSummaryFile sum') same b.file) a.file
 
-made_alone : Laws → (name : List ℕ) (flow : FlowModule) (input bytes sum : List ℕ) → AreBytesOf flow bytes sum → (e : Effect) → ComesOfPhase name (Ok flow) input e → e ≡ puts_files (two_files name bytes sum) input
+made_alone : Laws → (name : List ℕ) (flow : FlowModule) (input bytes sum : List ℕ) → AreBytesOf flow bytes sum → (e : Effect) → EffectOfPhase name (Ok flow) input e → e ≡ puts_files (two_files name bytes sum) input
 made_alone laws name flow input bytes sum are e (bytes', sum', are', is) =
     is ∙ ap (λ (b : List ℕ). puts_files (two_files name b sum') input) (laws.flow_file bytes' bytes flow are'.flow_file are.flow_file)
     ∙ ap (λ (s : List ℕ). puts_files (two_files name bytes s) input) (one_sum laws flow sum sum' are.lawful are.sum_file are'.sum_file)
 
 phase_made : Laws → (name : List ℕ) (phase : Phase) (bytes sum : List ℕ) (answer : Answer) (told : Told) (new : Option Told) (input : List ℕ) → AreOfPhase phase bytes sum → IsPutAnswer answer
-    → PutsFiles (two_files name bytes sum) answer told new → Obeys (ComesOfPhase name phase input) answer told new
+    → PutsFiles (two_files name bytes sum) answer told new → Obeys (EffectOfPhase name phase input) answer told new
 phase_made laws name (Ok flow) bytes sum answer told new input are h puts =
-    obeys_one (ComesOfPhase name (Ok flow) input) (puts_files (two_files name bytes sum) input) answer told new (bytes, sum, are, refl) (made_alone laws name flow input bytes sum are) (put_answers answer h) puts
+    obeys_one (EffectOfPhase name (Ok flow) input) (puts_files (two_files name bytes sum) input) answer told new (bytes, sum, are, refl) (made_alone laws name flow input bytes sum are) (put_answers answer h) puts
 phase_made laws name (Err refusal) bytes sum answer told new input are h puts = absurd are
 
 -- the files were put, as far as the store put them
 pub obeys_made : Laws → (first new : Option Told) (name text bytes sum : List ℕ) (answer : Answer) → AreOfPhase (compiled name text) bytes sum → IsPutAnswer answer
-    → IfSome first (λ t. PutsFiles (two_files name bytes sum) answer t new) → IfSome first (λ t. (input : List ℕ) → Obeys (ComesOfPhase name (compiled name text) input) answer t new)
+    → IfSome first (λ t. PutsFiles (two_files name bytes sum) answer t new) → IfSome first (λ t. (input : List ℕ) → Obeys (EffectOfPhase name (compiled name text) input) answer t new)
 obeys_made laws None new name text bytes sum answer are h puts = tt
 obeys_made laws (Some told) new name text bytes sum answer are h puts = λ input. phase_made laws name (compiled name text) bytes sum answer told new input are h puts
 
@@ -72,18 +72,18 @@ pub replies : (name text : List ℕ) (phase : Phase) (answer told : Answer) (lin
 replies name text phase answer NoMemory line h t = tt
 replies name text phase answer _ line h t = refused_reply name text phase _ line (subst (AnswersPhase name phase) (sym t.0) h) (t.1 ∙ sym (ap (line_of text) t.0))
 
-phase_replied : (name text : List ℕ) (phase : Phase) (answer : Answer) (line : ℕ) (told : Told) (input : List ℕ) → RepliesPhase name text phase answer line → Obeys (ComesOfPhase name phase input) answer told (Some told)
+phase_replied : (name text : List ℕ) (phase : Phase) (answer : Answer) (line : ℕ) (told : Told) (input : List ℕ) → RepliesPhase name text phase answer line → Obeys (EffectOfPhase name phase input) answer told (Some told)
 phase_replied name text (Ok flow) answer line told input h = absurd h
 phase_replied name text (Err refusal) answer line told input h =
-    subst (λ (a : Answer). Obeys (ComesOfPhase name (Err refusal) input) a told (Some told)) (sym h.0)
-    (obeys_one (ComesOfPhase name (Err refusal) input) (answers_alone (Refused name refusal) input) (Refused name refusal) told (Some told) refl (λ x d. d) refl refl)
+    subst (λ (a : Answer). Obeys (EffectOfPhase name (Err refusal) input) a told (Some told)) (sym h.0)
+    (obeys_one (EffectOfPhase name (Err refusal) input) (answers_alone (Refused name refusal) input) (Refused name refusal) told (Some told) refl (λ x d. d) refl refl)
 
-so_replied : (name text : List ℕ) (phase : Phase) (answer : Answer) (line : ℕ) (told : Told) (input : List ℕ) → Replies name text phase answer line → Obeys (ComesOfPhase name phase input) answer told (Some told)
-so_replied name text phase NoMemory line told input h = obeys_no_memory (ComesOfPhase name phase input) told (Some told) refl
+so_replied : (name text : List ℕ) (phase : Phase) (answer : Answer) (line : ℕ) (told : Told) (input : List ℕ) → Replies name text phase answer line → Obeys (EffectOfPhase name phase input) answer told (Some told)
+so_replied name text phase NoMemory line told input h = obeys_no_memory (EffectOfPhase name phase input) told (Some told) refl
 so_replied name text phase _ line told input h = phase_replied name text phase _ line told input h
 
 pub obeys_replied : (first : Option Told) (name text : List ℕ) (answer : Answer) (line : ℕ) → Replies name text (compiled name text) answer line
-    → IfSome first (λ t. (input : List ℕ) → Obeys (ComesOfPhase name (compiled name text) input) answer t first)
+    → IfSome first (λ t. (input : List ℕ) → Obeys (EffectOfPhase name (compiled name text) input) answer t first)
 obeys_replied None name text answer line h = tt
 obeys_replied (Some told) name text answer line h = λ input. so_replied name text (compiled name text) answer line told input h
 
@@ -166,16 +166,16 @@ over_stopped name wanted _ told new input k h e = stopped_by name wanted _ told 
 
 -- the text is absent, or was not read
 pub obeys_stopped : (first new : Option Told) (name : List ℕ) (answer : Answer) → IfSome first (λ t. StopsAs answer (needed_bytes t.files (text_name name))) → Keeps first new → IsFileStop answer
-    → IfSome first (λ t. (input : List ℕ) → Obeys (PhaseOneComes t.files name input) answer t new)
+    → IfSome first (λ t. (input : List ℕ) → Obeys (PhaseOneEffect t.files name input) answer t new)
 obeys_stopped None new name answer h same k = tt
 obeys_stopped (Some told) new name answer h same k = λ input. over_stopped name (needed_bytes told.files (text_name name)) answer told new input k h same
 
 -- it was read
 pub obeys_text : (first now new : Option Told) (name text : List ℕ) (answer : Answer) → IfSome first (λ t. needed_bytes t.files (text_name name) ≡ Ok text) → Keeps first now
-    → IfSome now (λ t. (input : List ℕ) → Obeys (ComesOfPhase name (compiled name text) input) answer t new) → IfSome first (λ t. (input : List ℕ) → Obeys (PhaseOneComes t.files name input) answer t new)
+    → IfSome now (λ t. (input : List ℕ) → Obeys (EffectOfPhase name (compiled name text) input) answer t new) → IfSome first (λ t. (input : List ℕ) → Obeys (PhaseOneEffect t.files name input) answer t new)
 obeys_text None now new name text answer e same h = tt
 obeys_text (Some told) now new name text answer e same h =
-    let P : Option Told → Type 0 = λ o. IfSome o (λ t. (input : List ℕ) → Obeys (ComesOfPhase name (compiled name text) input) answer t new) in
+    let P : Option Told → Type 0 = λ o. IfSome o (λ t. (input : List ℕ) → Obeys (EffectOfPhase name (compiled name text) input) answer t new) in
     λ input. subst (λ (w : Result (List ℕ) Answer). Obeys (PhaseOneOver name w input) answer told new) (sym e) (subst P same h input)
 
 pub text_line : (first : Option Told) (name text : List ℕ) (answer : Answer) (line : ℕ) → IfSome first (λ t. needed_bytes t.files (text_name name) ≡ Ok text) → IsLineDue (line_in text (compiled name text)) answer line

@@ -12,13 +12,13 @@ use Rattle.pw_phase_two.specs.Phases.{IsObjectOf}
 use Rattle.pw_store_modules.specs.FileNames.{database_name, flow_name, object_name}
 use Rattle.pw_top_answer.specs.declared.answer.Answer.{Answer}
 use Rattle.pw_top_answer.specs.declared.answer.Answer.TheVariants.{Done, StoreFault, NoMemory, BadFile}
-use Rattle.pw_top_answer.specs.Effects.{Effect, IsLeft, NamedFile, PutFront, PutPart, PutsFiles, after_puts, answers_alone, puts_files}
+use Rattle.pw_top_answer.specs.Effects.{Effect, IsLeft, NamedFile, PutPrefix, PutPart, PutsFiles, after_puts, answers_alone, puts_files}
 use Rattle.pw_top_answer.specs.Outcomes.{Answers}
 use Rattle.pw_commands.specs.Needed.{StopsAs, needed}
 use Rattle.pw_commands.specs.Outcome.{IsFileStop, IsPutAnswer, IsStoreAnswer, Obeys}
 use Rattle.pw_commands.proofs.ObeysLemmas.{obeys_fault, obeys_no_memory, obeys_one, put_answers, puts_none}
 use Rattle.pw_commands.specs.Showing.{database_at}
-use Rattle.pw_commands_phases.specs.Second.{ComesOfFlow, IsFileOfFlow, IsMade, IsMadeFile, IsObjectUnder, PhaseTwoComes, PhaseTwoOver, PutsMade, flow_at}
+use Rattle.pw_commands_phases.specs.Second.{EffectOfFlow, IsFileOfFlow, IsMade, IsMadeFile, IsObjectUnder, PhaseTwoEffect, PhaseTwoOver, PutsMade, flow_at}
 use Rattle.pw_commands_phases.specs.Made.{AnswersFlow, IsOfFlow, MakesObject}
 
 abbrev Db : Type 0
@@ -39,7 +39,7 @@ one_file : Laws → (flow : FlowModule) (db : Db) (bytes others : List ℕ) → 
 one_file laws flow db bytes others a b =
     laws.file others bytes a.object (subst (IsObjectFile others) (one_object laws flow db a.object b.object a.lawful a.made b.made) b.file) a.file
 
-made_alone : Laws → (name : List ℕ) (flow : FlowModule) (db : Db) (input bytes : List ℕ) → IsFileOfFlow flow db bytes → (e : Effect) → ComesOfFlow name flow db input e → e ≡ puts_files ((object_name name, bytes) ∷ []) input
+made_alone : Laws → (name : List ℕ) (flow : FlowModule) (db : Db) (input bytes : List ℕ) → IsFileOfFlow flow db bytes → (e : Effect) → EffectOfFlow name flow db input e → e ≡ puts_files ((object_name name, bytes) ∷ []) input
 made_alone laws name flow db input bytes is e (others, file, same) =
     same ∙ ap (λ (b : List ℕ). puts_files ((object_name name, b) ∷ []) input) (one_file laws flow db bytes others is file)
 
@@ -53,7 +53,7 @@ over_made laws name (Err refusal) db bytes answer told new input is h puts = abs
 -- the object's file was put, as far as the store put it
 pub obeys_made : Laws → (first now new : Option Told) (name bytes : List ℕ) (answer : Answer)
     → IfSome first (λ t. IsOfFlow (needed flow_at t.files (flow_name name)) (needed database_at t.files database_name) bytes) → Keeps first now
-    → IfSome now (λ t. PutsFiles ((object_name name, bytes) ∷ []) answer t new) → IsPutAnswer answer → IfSome first (λ t. (input : List ℕ) → Obeys (PhaseTwoComes t.files name input) answer t new)
+    → IfSome now (λ t. PutsFiles ((object_name name, bytes) ∷ []) answer t new) → IsPutAnswer answer → IfSome first (λ t. (input : List ℕ) → Obeys (PhaseTwoEffect t.files name input) answer t new)
 obeys_made laws None now new name bytes answer is same puts h = tt
 obeys_made laws (Some told) now new name bytes answer is same puts h =
     let P : Option Told → Type 0 = λ o. IfSome o (λ t. PutsFiles ((object_name name, bytes) ∷ []) answer t new) in
@@ -86,7 +86,7 @@ over_stopped name flow db _ told new input h is e = over_answered name flow db _
 
 pub obeys_stopped : (first new : Option Told) (name : List ℕ) (answer : Answer)
     → IfSome first (λ t. MakesObject (needed flow_at t.files (flow_name name)) (needed database_at t.files database_name) (Err answer)) → Keeps first new → IsFileStop answer
-    → IfSome first (λ t. (input : List ℕ) → Obeys (PhaseTwoComes t.files name input) answer t new)
+    → IfSome first (λ t. (input : List ℕ) → Obeys (PhaseTwoEffect t.files name input) answer t new)
 obeys_stopped None new name answer is same h = tt
 obeys_stopped (Some told) new name answer is same h =
     λ input. over_stopped name (needed flow_at told.files (flow_name name)) (needed database_at told.files database_name) answer told new input h is same
@@ -160,7 +160,7 @@ file_made flow db object (Err error) lawful made file = tt
 
 -- ---- what was put, whatever the answer
 
-part_of_front : (told : Told) (files : List NamedFile) (new : Option Told) → PutFront told files new → PutPart told files new
+part_of_front : (told : Told) (files : List NamedFile) (new : Option Told) → PutPrefix told files new → PutPart told files new
 part_of_front told files new h = record { done = h.done; more = h.more; split = h.split; left = left_so (after_puts told h.done) h.more new h.left }
   where
     left_so : (now : Told) (more : List NamedFile) (new : Option Told) → new ≡ Some now → IsLeft now more new

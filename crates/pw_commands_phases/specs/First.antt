@@ -36,17 +36,17 @@ abbrev pub phase_one_puts : List ℕ → List (List ℕ)
 phase_one_puts name = flow_name name ∷ summary_name name ∷ []
 
 -- a flow graph comes to its two files, which are put; a refusal is told
-abbrev pub ComesOfPhase : List ℕ → Phase → List ℕ → Effect → Type 0
-ComesOfPhase name (Err refusal) input effect = effect ≡ answers_alone (Refused name refusal) input
-ComesOfPhase name (Ok flow) input effect = (bytes : List ℕ) × (sum : List ℕ) × AreBytesOf flow bytes sum × (effect ≡ puts_files (two_files name bytes sum) input)
+abbrev pub EffectOfPhase : List ℕ → Phase → List ℕ → Effect → Type 0
+EffectOfPhase name (Err refusal) input effect = effect ≡ answers_alone (Refused name refusal) input
+EffectOfPhase name (Ok flow) input effect = (bytes : List ℕ) × (sum : List ℕ) × AreBytesOf flow bytes sum × (effect ≡ puts_files (two_files name bytes sum) input)
 
 abbrev pub PhaseOneOver : List ℕ → Result (List ℕ) Answer → List ℕ → Effect → Type 0
 PhaseOneOver name (Err answer) input effect = effect ≡ answers_alone answer input
-PhaseOneOver name (Ok text) input effect = ComesOfPhase name (compiled name text) input effect
+PhaseOneOver name (Ok text) input effect = EffectOfPhase name (compiled name text) input effect
 
 -- `phase1 NAME` over a store's files
-abbrev pub PhaseOneComes : Files → List ℕ → List ℕ → Effect → Type 0
-PhaseOneComes files name input effect = PhaseOneOver name (needed_bytes files (text_name name)) input effect
+abbrev pub PhaseOneEffect : Files → List ℕ → List ℕ → Effect → Type 0
+PhaseOneEffect files name input effect = PhaseOneOver name (needed_bytes files (text_name name)) input effect
 
 -- ---- the line on which the module is refused
 

@@ -3,8 +3,8 @@ use Rattle.std.specs.Prelude.{◌≡◌, ℕ, List, Result, Ok, Err, Vec}
 use Rattle.std.specs.declared.alloc.Global.{Global}
 use Rattle.pw_front_end.specs.Fronts.{HoldsNoWant}
 use Rattle.pw_front_end.specs.Places.{refusal_line}
-use Rattle.pw_front_end.specs.declared.refusal.FrontError.{FrontError}
-use Rattle.pw_front_end.specs.declared.refusal.FrontError.TheVariants as front
+use Rattle.pw_front_end.specs.declared.refusal.FrontEndFault.{FrontEndFault}
+use Rattle.pw_front_end.specs.declared.refusal.FrontEndFault.TheVariants as front
 use Rattle.pw_flow.specs.declared.flow.FlowModule.{FlowModule}
 use Rattle.pw_db.specs.declared.database.Directives.{Directives}
 use Rattle.pw_phase_one.specs.FirstPhase.{Phase}
@@ -52,7 +52,7 @@ MakesOfPhase name phase (Ok made) = AreOfPhase phase made.flow.items made.sum.it
 MakesOfPhase name phase (Err answer) = AnswersPhase name phase answer
 
 -- how a refusal or want of memory of the phase is told
-abbrev pub TellsError : List ℕ → FrontError → Answer → Type 0
+abbrev pub TellsError : List ℕ → FrontEndFault → Answer → Type 0
 TellsError name front.NoMemory answer = answer ≡ NoMemory
 TellsError name (front.Refused refusal) answer = answer ≡ Refused name refusal
 

@@ -42,17 +42,17 @@ pub record IsFileOfFlow (flow : FlowModule) (db : List (List ℕ × Directives))
 abbrev pub phase_two_puts : List ℕ → List (List ℕ)
 phase_two_puts name = object_name name ∷ []
 
-abbrev pub ComesOfFlow : List ℕ → FlowModule → List (List ℕ × Directives) → List ℕ → Effect → Type 0
-ComesOfFlow name flow db input effect = (bytes : List ℕ) × IsFileOfFlow flow db bytes × (effect ≡ puts_files ((object_name name, bytes) ∷ []) input)
+abbrev pub EffectOfFlow : List ℕ → FlowModule → List (List ℕ × Directives) → List ℕ → Effect → Type 0
+EffectOfFlow name flow db input effect = (bytes : List ℕ) × IsFileOfFlow flow db bytes × (effect ≡ puts_files ((object_name name, bytes) ∷ []) input)
 
 abbrev pub PhaseTwoOver : List ℕ → Result FlowModule Answer → Result (List (List ℕ × Directives)) Answer → List ℕ → Effect → Type 0
 PhaseTwoOver name (Err answer) db input effect = effect ≡ answers_alone answer input
 PhaseTwoOver name (Ok flow) (Err answer) input effect = effect ≡ answers_alone answer input
-PhaseTwoOver name (Ok flow) (Ok db) input effect = ComesOfFlow name flow db input effect
+PhaseTwoOver name (Ok flow) (Ok db) input effect = EffectOfFlow name flow db input effect
 
 -- `phase2 NAME` over a store's files: the flow graph is read first, then the database
-abbrev pub PhaseTwoComes : Files → List ℕ → List ℕ → Effect → Type 0
-PhaseTwoComes files name input effect = PhaseTwoOver name (needed flow_at files (flow_name name)) (needed database_at files database_name) input effect
+abbrev pub PhaseTwoEffect : Files → List ℕ → List ℕ → Effect → Type 0
+PhaseTwoEffect files name input effect = PhaseTwoOver name (needed flow_at files (flow_name name)) (needed database_at files database_name) input effect
 
 -- ---- what is put, whatever the answer
 

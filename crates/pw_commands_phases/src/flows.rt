@@ -13,7 +13,7 @@ ghost use Rattle.pw_commands.specs.Needed.{Needs, needed};
 ghost use Rattle.pw_commands.specs.Others.{KeepsOthers};
 ghost use Rattle.pw_commands.specs.Outcome.{IsFileStop, IsStoreAnswer, Obeys, StopCount};
 ghost use Rattle.pw_commands.specs.Showing.{database_at};
-ghost use Rattle.pw_commands_phases.specs.Second.{IsFileOfFlow, IsMade, IsMadeFile, IsObjectUnder, PhaseTwoComes, PutsMade, flow_at, phase_two_puts};
+ghost use Rattle.pw_commands_phases.specs.Second.{IsFileOfFlow, IsMade, IsMadeFile, IsObjectUnder, PhaseTwoEffect, PutsMade, flow_at, phase_two_puts};
 ghost use Rattle.pw_commands_phases.specs.Made.{MakesObject};
 
 use crate::files::put_bytes;
@@ -140,7 +140,7 @@ fn object_bytes<S: Store>(alloc: Global, store: &mut S, name: &Name) -> Result<V
 /// where it was put; `BadFile` for the first of the two files that is absent or refused; nothing is put then.
 pub fn compile_flow<S: Store>(alloc: Global, store: &mut S, name: &Name) -> Answer
     requires { is_module_name name.now ≡ true }
-    ensures obeys { IfSome (S.told store.old) (λ told. (input : List ℕ) → Obeys (PhaseTwoComes told.files name.now input) result told (S.told store.new)) }
+    ensures obeys { IfSome (S.told store.old) (λ told. (input : List ℕ) → Obeys (PhaseTwoEffect told.files name.now input) result told (S.told store.new)) }
     ensures made { IfSome (S.told store.old) (λ told. PutsMade name.now told (S.told store.new)) }
     ensures others { KeepsOthers (phase_two_puts name.now) result (S.told store.old) (S.told store.new) }
     ensures answer { IsStoreAnswer result }

@@ -8,13 +8,13 @@ ghost use Rattle.pw_store_modules.specs.Modules.{is_module_name};
 ghost use Rattle.pw_phase_one.specs.FirstPhase.{compiled};
 ghost use Rattle.pw_commands.specs.Others.{KeepsOthers};
 ghost use Rattle.pw_commands.specs.Outcome.{IsPutAnswer, Obeys};
-ghost use Rattle.pw_commands_phases.specs.First.{AreBytesOf, ComesOfPhase, IsSumOf, PhaseOneComes, line_in, phase_line, phase_one_puts, two_files};
+ghost use Rattle.pw_commands_phases.specs.First.{AreBytesOf, EffectOfPhase, IsSumOf, PhaseOneEffect, line_in, phase_line, phase_one_puts, two_files};
 ghost use Rattle.pw_commands_phases.specs.Made.{IsPhaseAnswer, MakesOfPhase, TellsError, TellsReply, line_of};
 
 use crate::files::{module_bytes, put_bytes};
 use pw_flow::FlowModule;
 use pw_flowfile::laws::flow_graphs_and_files_are_one_to_one;
-use pw_front_end::{FrontError, refusal_line};
+use pw_front_end::{FrontEndFault, refusal_line};
 use pw_io::Store;
 use pw_phase_one::laws::no_refusal_is_want_of_memory;
 use pw_phase_one::{PhaseError, phase_one};
@@ -57,8 +57,8 @@ fn told_error(own: Name, error: PhaseError) -> Answer
     ensures { TellsError own error result }
 {
     match error {
-        FrontError::NoMemory => Answer::NoMemory,
-        FrontError::Refused(refusal) => Answer::Refused(own, refusal),
+        FrontEndFault::NoMemory => Answer::NoMemory,
+        FrontEndFault::Refused(refusal) => Answer::Refused(own, refusal),
     }
 }
 
@@ -123,7 +123,7 @@ fn put_made<S: Store>(alloc: Global, store: &mut S, name: &Name, made: &MadeFile
 /// Compiles a module's text that was read.
 fn compile_bytes<S: Store>(alloc: Global, store: &mut S, name: &Name, text: &[u8]) -> Reply
     requires { is_module_name name.now ≡ true }
-    ensures obeys { IfSome (S.told store.old) (λ told. (input : List ℕ) → Obeys (ComesOfPhase name.now (compiled name.now text.now) input) result.answer told (S.told store.new)) }
+    ensures obeys { IfSome (S.told store.old) (λ told. (input : List ℕ) → Obeys (EffectOfPhase name.now (compiled name.now text.now) input) result.answer told (S.told store.new)) }
     ensures others { KeepsOthers (phase_one_puts name.now) result.answer (S.told store.old) (S.told store.new) }
     ensures line { IsLineDue (line_in text.now (compiled name.now text.now)) result.answer result.line }
     ensures answer { IsPhaseAnswer result.answer }
@@ -148,7 +148,7 @@ fn compile_bytes<S: Store>(alloc: Global, store: &mut S, name: &Name, text: &[u8
 /// `Refused` where the text is refused, with the line; `BadFile` where the text is absent; nothing is put then.
 pub fn compile_text<S: Store>(alloc: Global, store: &mut S, name: &Name) -> Reply
     requires { is_module_name name.now ≡ true }
-    ensures obeys { IfSome (S.told store.old) (λ told. (input : List ℕ) → Obeys (PhaseOneComes told.files name.now input) result.answer told (S.told store.new)) }
+    ensures obeys { IfSome (S.told store.old) (λ told. (input : List ℕ) → Obeys (PhaseOneEffect told.files name.now input) result.answer told (S.told store.new)) }
     ensures others { KeepsOthers (phase_one_puts name.now) result.answer (S.told store.old) (S.told store.new) }
     ensures line { IfSome (S.told store.old) (λ told. IsLineDue (phase_line told.files name.now) result.answer result.line) }
     ensures answer { IsPhaseAnswer result.answer }

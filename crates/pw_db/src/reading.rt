@@ -4,7 +4,7 @@ ghost use Rattle.std.specs.Prelude.{◌≡◌, ◌≢◌, ◌==◌, ◌++◌, �
 ghost use Rattle.std.specs.List.{list_all, flat_map};
 ghost use Rattle.std.specs.Str.{bytes_eq};
 ghost use Rattle.pw_fields.specs.Fields.{text, items_at};
-ghost use Rattle.pw_fields.specs.FieldFaults.{Fails, Gives, GivesFile};
+ghost use Rattle.pw_fields.specs.FieldFaults.{Fails, AnswersField, GivesFile};
 ghost use Rattle.pw_fields.specs.FieldFrame.{ended, placed};
 ghost use Rattle.pw_fields.specs.FieldNames.{first_unused};
 ghost use Rattle.pw_files.specs.Kinds.{scalar_code};
@@ -20,7 +20,7 @@ use crate::limits::{FIRST_REGISTER, LAST_REGISTER};
 use crate::names::used_names;
 use crate::seen::{Known, Seen};
 use pw_fields::names::read_name;
-use pw_fields::{FieldError, read_choice, read_flag, read_u8, read_u32};
+use pw_fields::{FieldFault, read_choice, read_flag, read_u8, read_u32};
 use pw_files::format::{Format, read_contents, read_value};
 use pw_files::kinds::{code_of, read_scalar};
 use pw_files::late::check_used;
@@ -118,15 +118,15 @@ fn fits_writes(first: Option<Known>, writes: bool) -> bool
 
 /// A number above those of the function's webs before it.
 #[tactic(auto, unfolding(crate::specs::Reading::number_at))]
-fn read_number<'a>(own: &[(Web, Role)], bytes: &'a [u8]) -> Result<(u32, &'a [u8]), FieldError>
-    ensures found { Gives (λ x. (x.0, x.1.now)) result (number_at (map (λ w. w.0) own.now) bytes.now) }
-    ensures no_memory { IfErr result (λ e. e ≢ FieldError.NoMemory) }
+fn read_number<'a>(own: &[(Web, Role)], bytes: &'a [u8]) -> Result<(u32, &'a [u8]), FieldFault>
+    ensures found { AnswersField (λ x. (x.0, x.1.now)) result (number_at (map (λ w. w.0) own.now) bytes.now) }
+    ensures no_memory { IfErr result (λ e. e ≢ FieldFault.NoMemory) }
 {
     let (id, rest) = read_u32(bytes)?;
     if is_number_above(own, id) {
         Ok((id, rest))
     } else {
-        Err(FieldError::Fault { left: bytes.len() })
+        Err(FieldFault::Fault { left: bytes.len() })
     }
 }
 
@@ -137,29 +137,29 @@ fn read_global<'a, 'b>(
     first: Option<Known>,
     own: &[(Web, Role)],
     bytes: &'a [u8],
-) -> Result<(&'b Name, &'a [u8]), FieldError>
-    ensures found { Gives (λ x. (x.0.now, x.1.now)) result (global_at names.now (option_map known_web first.entry) (map (λ w. w.0) own.now) bytes.now) }
-    ensures no_memory { IfErr result (λ e. e ≢ FieldError.NoMemory) }
+) -> Result<(&'b Name, &'a [u8]), FieldFault>
+    ensures found { AnswersField (λ x. (x.0.now, x.1.now)) result (global_at names.now (option_map known_web first.entry) (map (λ w. w.0) own.now) bytes.now) }
+    ensures no_memory { IfErr result (λ e. e ≢ FieldFault.NoMemory) }
 {
     let (global, rest) = read_name(names, bytes)?;
     if fits_global(first, global) && is_global_free(own, global) {
         Ok((global, rest))
     } else {
-        Err(FieldError::Fault { left: bytes.len() })
+        Err(FieldFault::Fault { left: bytes.len() })
     }
 }
 
 /// The kind of the global.
 #[tactic(auto, unfolding(crate::specs::Reading::kind_at))]
-fn read_kind<'a>(first: Option<Known>, bytes: &'a [u8]) -> Result<(Kind, &'a [u8]), FieldError>
-    ensures found { Gives (λ x. (x.0, x.1.now)) result (kind_at (option_map known_web first.entry) bytes.now) }
-    ensures no_memory { IfErr result (λ e. e ≢ FieldError.NoMemory) }
+fn read_kind<'a>(first: Option<Known>, bytes: &'a [u8]) -> Result<(Kind, &'a [u8]), FieldFault>
+    ensures found { AnswersField (λ x. (x.0, x.1.now)) result (kind_at (option_map known_web first.entry) bytes.now) }
+    ensures no_memory { IfErr result (λ e. e ≢ FieldFault.NoMemory) }
 {
     let (kind, rest) = read_scalar(bytes)?;
     if fits_kind(first, kind) {
         Ok((kind, rest))
     } else {
-        Err(FieldError::Fault { left: bytes.len() })
+        Err(FieldFault::Fault { left: bytes.len() })
     }
 }
 
@@ -169,9 +169,9 @@ fn read_register<'a>(
     first: Option<Known>,
     own: &[(Web, Role)],
     bytes: &'a [u8],
-) -> Result<(u8, &'a [u8]), FieldError>
-    ensures found { Gives (λ x. (x.0, x.1.now)) result (register_at (option_map known_web first.entry) (map (λ w. w.0) own.now) bytes.now) }
-    ensures no_memory { IfErr result (λ e. e ≢ FieldError.NoMemory) }
+) -> Result<(u8, &'a [u8]), FieldFault>
+    ensures found { AnswersField (λ x. (x.0, x.1.now)) result (register_at (option_map known_web first.entry) (map (λ w. w.0) own.now) bytes.now) }
+    ensures no_memory { IfErr result (λ e. e ≢ FieldFault.NoMemory) }
 {
     let (reg, rest) = read_u8(bytes)?;
     if FIRST_REGISTER <= reg
@@ -181,29 +181,29 @@ fn read_register<'a>(
     {
         Ok((reg, rest))
     } else {
-        Err(FieldError::Fault { left: bytes.len() })
+        Err(FieldFault::Fault { left: bytes.len() })
     }
 }
 
 /// Whether a function of the web writes the global.
 #[tactic(auto, unfolding(crate::specs::Reading::writes_at))]
-fn read_writes<'a>(first: Option<Known>, bytes: &'a [u8]) -> Result<(bool, &'a [u8]), FieldError>
-    ensures found { Gives (λ x. (x.0, x.1.now)) result (writes_at (option_map known_web first.entry) bytes.now) }
-    ensures no_memory { IfErr result (λ e. e ≢ FieldError.NoMemory) }
+fn read_writes<'a>(first: Option<Known>, bytes: &'a [u8]) -> Result<(bool, &'a [u8]), FieldFault>
+    ensures found { AnswersField (λ x. (x.0, x.1.now)) result (writes_at (option_map known_web first.entry) bytes.now) }
+    ensures no_memory { IfErr result (λ e. e ≢ FieldFault.NoMemory) }
 {
     let (writes, rest) = read_flag(bytes)?;
     if fits_writes(first, writes) {
         Ok((writes, rest))
     } else {
-        Err(FieldError::Fault { left: bytes.len() })
+        Err(FieldFault::Fault { left: bytes.len() })
     }
 }
 
 /// A role.
 #[tactic(auto, unfolding(crate::specs::Reading::role_at))]
-fn read_role(bytes: &[u8]) -> Result<(Role, &[u8]), FieldError>
-    ensures found { Gives (λ x. (x.0, x.1.now)) result (role_at bytes.now) }
-    ensures no_memory { IfErr result (λ e. e ≢ FieldError.NoMemory) }
+fn read_role(bytes: &[u8]) -> Result<(Role, &[u8]), FieldFault>
+    ensures found { AnswersField (λ x. (x.0, x.1.now)) result (role_at bytes.now) }
+    ensures no_memory { IfErr result (λ e. e ≢ FieldFault.NoMemory) }
 {
     let (code, rest) = read_choice(2, bytes)?;
     Ok((if code == 0 { Role::Entry } else { Role::Member }, rest))
@@ -216,9 +216,9 @@ fn read_web<'a, 'b>(
     seen: &Seen<'b>,
     own: &[(Web, Role)],
     bytes: &'a [u8],
-) -> Result<((Known<'b>, Role), &'a [u8]), FieldError>
-    ensures found { Gives (λ x. ((known_web x.0.0, x.0.1), x.1.now)) result (web_at names.now (map known_web seen.now.webs.items) (map (λ w. w.0) own.now) bytes.now) }
-    ensures no_memory { IfErr result (λ e. e ≢ FieldError.NoMemory) }
+) -> Result<((Known<'b>, Role), &'a [u8]), FieldFault>
+    ensures found { AnswersField (λ x. ((known_web x.0.0, x.0.1), x.1.now)) result (web_at names.now (map known_web seen.now.webs.items) (map (λ w. w.0) own.now) bytes.now) }
+    ensures no_memory { IfErr result (λ e. e ≢ FieldFault.NoMemory) }
 {
     let (id, rest) = read_number(own, bytes)?;
     let first = seen.first(id);
@@ -244,8 +244,8 @@ fn read_webs<'a, 'b>(
     before: Seen<'b>,
     count: u32,
     bytes: &'a [u8],
-) -> Result<(Items<(Web, Role)>, Seen<'b>, &'a [u8]), FieldError>
-    ensures found { Gives (λ x. (x.0, x.2.now)) result (webs_at names.now (map known_web before.entry.webs.items) count bytes.now) }
+) -> Result<(Items<(Web, Role)>, Seen<'b>, &'a [u8]), FieldFault>
+    ensures found { AnswersField (λ x. (x.0, x.2.now)) result (webs_at names.now (map known_web before.entry.webs.items) count bytes.now) }
     ensures seen { IfOk result (λ x. map known_web x.1.webs.items ≡ map known_web before.entry.webs.items ++ map (λ w. w.0) x.0) }
 {
     let mut webs: Items<(Web, Role)> = Items::new(alloc);
@@ -262,15 +262,15 @@ fn read_webs<'a, 'b>(
 
 /// No free registers.
 #[tactic(auto, unfolding(crate::specs::Reading::no_free_at))]
-fn read_no_free(alloc: Global, bytes: &[u8]) -> Result<(Items<u8>, &[u8]), FieldError>
-    ensures found { Gives (λ x. (x.0, x.1.now)) result (no_free_at bytes.now) }
-    ensures no_memory { IfErr result (λ e. e ≢ FieldError.NoMemory) }
+fn read_no_free(alloc: Global, bytes: &[u8]) -> Result<(Items<u8>, &[u8]), FieldFault>
+    ensures found { AnswersField (λ x. (x.0, x.1.now)) result (no_free_at bytes.now) }
+    ensures no_memory { IfErr result (λ e. e ≢ FieldFault.NoMemory) }
 {
     let (count, rest) = read_u32(bytes)?;
     if count == 0 {
         Ok((Items::new(alloc), rest))
     } else {
-        Err(FieldError::Fault { left: bytes.len() })
+        Err(FieldFault::Fault { left: bytes.len() })
     }
 }
 
@@ -282,8 +282,8 @@ fn read_function<'a, 'b>(
     before: Option<&Name>,
     seen: Seen<'b>,
     bytes: &'a [u8],
-) -> Result<((&'b Name, Directives), Seen<'b>, &'a [u8]), FieldError>
-    ensures found { Gives (λ x. ((x.0.0.now, x.0.1), x.2.now)) result (function_at names.now (record { name = option_map (λ n. n.now) before.entry; webs = map known_web seen.entry.webs.items }) bytes.now) }
+) -> Result<((&'b Name, Directives), Seen<'b>, &'a [u8]), FieldFault>
+    ensures found { AnswersField (λ x. ((x.0.0.now, x.0.1), x.2.now)) result (function_at names.now (record { name = option_map (λ n. n.now) before.entry; webs = map known_web seen.entry.webs.items }) bytes.now) }
     ensures seen { IfOk result (λ x. map known_web x.1.webs.items ≡ map known_web seen.entry.webs.items ++ webs_of x.0.1) }
 {
     let (name, rest) = read_name_above(names, StartName::Allowed, before, bytes)?;
@@ -299,8 +299,8 @@ fn read_function_items<'a>(
     names: &[Name],
     count: u32,
     bytes: &'a [u8],
-) -> Result<(Items<(Name, Directives)>, &'a [u8]), FieldError>
-    ensures { Gives (λ x. (x.0, x.1.now)) result (items_at (function_at names.now) next_function count nothing_before bytes.now) }
+) -> Result<(Items<(Name, Directives)>, &'a [u8]), FieldFault>
+    ensures { AnswersField (λ x. (x.0, x.1.now)) result (items_at (function_at names.now) next_function count nothing_before bytes.now) }
 {
     let mut functions = Items::new(alloc);
     let mut seen = Seen::new(alloc);
@@ -322,8 +322,8 @@ fn read_functions<'a>(
     alloc: Global,
     names: &[Name],
     bytes: &'a [u8],
-) -> Result<(Items<(Name, Directives)>, &'a [u8]), FieldError>
-    ensures { Gives (λ x. (x.0, x.1.now)) result (functions_at names.now bytes.now) }
+) -> Result<(Items<(Name, Directives)>, &'a [u8]), FieldFault>
+    ensures { AnswersField (λ x. (x.0, x.1.now)) result (functions_at names.now bytes.now) }
 {
     let (count, rest) = read_u32(bytes)?;
     read_function_items(alloc, names, count, rest)
@@ -338,9 +338,9 @@ fn check_last(
     names: &[Name],
     functions: &[(Name, Directives)],
     behind: usize,
-) -> Result<(), FieldError>
+) -> Result<(), FieldFault>
     requires { length (flat_map text names.now) + behind < 2 ^ 64 }
-    ensures { Gives (λ x. x) result (broken_at (first_unused names.now (names_of functions.now) behind)) }
+    ensures { AnswersField (λ x. x) result (broken_at (first_unused names.now (names_of functions.now) behind)) }
 {
     let refs = refs_of(alloc, functions)?;
     let used = used_names(alloc, &refs)?;
@@ -353,7 +353,7 @@ fn read_parts<'a>(
     alloc: Global,
     names: &[Name],
     bytes: &'a [u8],
-) -> Result<(Items<(Name, Directives)>, usize, &'a [u8]), FieldError>
+) -> Result<(Items<(Name, Directives)>, usize, &'a [u8]), FieldFault>
     ensures found { IfOk result (λ x. (rule : List (List ℕ × AnyDirectives) → ℕ → Option ℕ) → fields_at names.now rule bytes.now ≡ ended (rule x.0 x.1) (record { names = names.now; value = x.0 }) x.2.now) }
     ensures fault { IfErr result (λ e. (rule : List (List ℕ × AnyDirectives) → ℕ → Option ℕ) → Fails e (fields_at names.now rule bytes.now)) }
 {
@@ -388,7 +388,7 @@ impl Format for DatabaseFormat {
         _version: u32,
         names: &[Name],
         bytes: &'a [u8],
-    ) -> Result<(Items<(Name, Directives)>, usize, &'a [u8]), FieldError> {
+    ) -> Result<(Items<(Name, Directives)>, usize, &'a [u8]), FieldFault> {
         read_parts(alloc, names, bytes)
     }
 
@@ -398,7 +398,7 @@ impl Format for DatabaseFormat {
         value: &Items<(Name, Directives)>,
         behind: usize,
         _place: usize,
-    ) -> Result<(), FieldError> {
+    ) -> Result<(), FieldFault> {
         check_last(alloc, names, value.as_slice(), behind)
     }
 }

@@ -119,8 +119,8 @@ abbrev pub short_limit : ℕ
 short_limit = 2040
 
 -- the greatest count of words of a function's code: the number of each word, and of the four behind the last, has 32 bits
-abbrev pub words_max : ℕ
-words_max = 2 ^ 32 - 4
+abbrev pub function_word_limit : ℕ
+function_word_limit = 2 ^ 32 - 4
 
 -- Conditional branches are long where the words with short ones are too many.
 abbrev pub placed_items : List Item → Code

@@ -12,5 +12,5 @@ mod slotting;
 pub use code::Code;
 pub use items::{Item, Relocation, Turn, Word};
 pub use marking::Blocks;
-pub use placing::{SHORT_LIMIT, WORDS_MAX, limits_of_code, place};
+pub use placing::{FUNCTION_WORD_LIMIT, SHORT_LIMIT, limits_of_code, place};
 pub use slotting::copy_symbol;

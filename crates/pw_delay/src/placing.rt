@@ -2,7 +2,7 @@
 
 ghost use Rattle.std.specs.Prelude.{true, ◌≡◌, ◌≤◌, IfOk, OkIff};
 ghost use Rattle.pw_delay.specs.Lines.{AreLines};
-ghost use Rattle.pw_delay.specs.Placement.{laid, placed_items, placed, short_limit, words_max};
+ghost use Rattle.pw_delay.specs.Placement.{laid, placed_items, placed, short_limit, function_word_limit};
 ghost use Rattle.pw_delay.specs.Lawful.{AreItems};
 
 use crate::code::Code;
@@ -17,19 +17,19 @@ use std::alloc::{AllocError, Global};
 pub const SHORT_LIMIT: usize = 2040;
 
 /// The greatest count of words of a function's code.
-pub const WORDS_MAX: usize = 4_294_967_292;
+pub const FUNCTION_WORD_LIMIT: usize = 4_294_967_292;
 
 /// The limits are those that the definitions speak of.
 pub fn limits_of_code()
     ensures short_branches { SHORT_LIMIT ≡ short_limit }
-    ensures words { WORDS_MAX ≡ words_max }
+    ensures words { FUNCTION_WORD_LIMIT ≡ function_word_limit }
 {}
 
 /// A count of words, where a function's code may have so many; else want of memory.
 fn told_count(count: usize) -> Result<u32, AllocError>
-    ensures { OkIff result (count ≤ words_max) count }
+    ensures { OkIff result (count ≤ function_word_limit) count }
 {
-    if count > WORDS_MAX {
+    if count > FUNCTION_WORD_LIMIT {
         return Err(AllocError);
     }
     Ok(count as u32)

@@ -1,8 +1,8 @@
 -- Reading items one after the other, as a loop does: what was read before stands in front.
 use Rattle.std.proofs.Common.{◌≡◌, ℕ, suc, ◌-◌, ◌+◌, ◌≤◌, ◌<◌, List, [], ◌∷◌, ◌++◌, Result, Ok, Err, refl, sym, ap, ◌∙◌, append_assoc, arith}
 use Rattle.std.proofs.lemmas.List.{append-nil}
-use Rattle.pw_fields.specs.declared.fault.FieldError.{FieldError}
-use Rattle.pw_fields.specs.declared.fault.FieldError.TheVariants as field
+use Rattle.pw_fields.specs.declared.fault.FieldFault.{FieldFault}
+use Rattle.pw_fields.specs.declared.fault.FieldFault.TheVariants as field
 use Rattle.pw_fields.specs.Fields.{after, done, items_at, same_state, repeated}
 use Rattle.pw_fields.specs.FieldFaults.{Fails}
 
@@ -23,7 +23,7 @@ goes_on item next front count i s bytes x behind total lt h so_far =
     let one : with_front front (items_at item next (count - i) s bytes) ≡ with_front (front ++ x ∷ []) (items_at item next (count - (i + 1)) (next s x) behind) = rw (k, h) (regroup front x (items_at item next (count - (i + 1)) (next s x) behind)) in
     sym one ∙ so_far
 
-pub ends : {S X : Type 0} (item : S → List ℕ → Result (X × List ℕ) ℕ) (next : S → X → S) (e : FieldError) (front : List X) (count i : ℕ) (s : S) (bytes : List ℕ) (total : Result (List X × List ℕ) ℕ)
+pub ends : {S X : Type 0} (item : S → List ℕ → Result (X × List ℕ) ℕ) (next : S → X → S) (e : FieldFault) (front : List X) (count i : ℕ) (s : S) (bytes : List ℕ) (total : Result (List X × List ℕ) ℕ)
     → i < count → Fails e (item s bytes) → with_front front (items_at item next (count - i) s bytes) ≡ total → Fails e total
 unfolding items_at
 ends item next field.NoMemory front count i s bytes total lt h so_far = tt
@@ -47,7 +47,7 @@ pub repeat_goes_on : {X : Type 0} (item : List ℕ → Result (X × List ℕ) �
 unfolding repeated
 repeat_goes_on item front count i bytes x behind total lt h so_far = goes_on (λ s. item) same_state front count i 0 bytes x behind total lt h so_far
 
-pub repeat_ends : {X : Type 0} (item : List ℕ → Result (X × List ℕ) ℕ) (e : FieldError) (front : List X) (count i : ℕ) (bytes : List ℕ) (total : Result (List X × List ℕ) ℕ)
+pub repeat_ends : {X : Type 0} (item : List ℕ → Result (X × List ℕ) ℕ) (e : FieldFault) (front : List X) (count i : ℕ) (bytes : List ℕ) (total : Result (List X × List ℕ) ℕ)
     → i < count → Fails e (item bytes) → with_front front (repeated item (count - i) bytes) ≡ total → Fails e total
 unfolding repeated
 repeat_ends item e front count i bytes total lt h so_far = ends (λ s. item) same_state e front count i 0 bytes total lt h so_far

@@ -20,9 +20,9 @@ use Rattle.std.proofs.lemmas.List.{at_drop_more, drop_more, length-map, length-a
 use Rattle.pw_value.specs.Names.{IsNameLength}
 use Rattle.pw_fields.specs.FieldNames.{names_at, IsRisingFrom, place_of, unrepeated, name_table, is_among, first_unused, IsTableOf}
 use Rattle.pw_fields.specs.Fields.{u32, text}
-use Rattle.pw_fields.specs.FieldFaults.{Gives}
+use Rattle.pw_fields.specs.FieldFaults.{AnswersField}
 use Rattle.pw_fields.specs.FieldLaws.{AreBytes}
-use Rattle.pw_fields.specs.declared.fault.FieldError.{FieldError}
+use Rattle.pw_fields.specs.declared.fault.FieldFault.{FieldFault}
 use Rattle.pw_fields.proofs.NameLaws.{above, place-get, among_contains, contains_among, get-place, names_spell}
 use Rattle.pw_fields.proofs.FileLaws.{length-u32}
 
@@ -291,8 +291,8 @@ outside names wanted behind i left name found b some within is so_far found_is a
     let back : i - 1 + 1 ≡ i = omega arith in
     rw (outside_at names wanted behind (i - 1) name (omega arith) is, among, back, further names behind i left name some within is so_far, found_is) refl
 
--- a table that is read takes its bytes from the front
-pub table_within : (bytes : List ℕ) (r : Result (Vec (List ℕ) × Bor (List ℕ)) FieldError) → AreBytes bytes → Gives (λ x. (x.0.items, x.1.now)) r (names_at bytes)
+-- a table that is read takes its bytes from the beginning
+pub table_within : (bytes : List ℕ) (r : Result (Vec (List ℕ) × Bor (List ℕ)) FieldFault) → AreBytes bytes → AnswersField (λ x. (x.0.items, x.1.now)) r (names_at bytes)
     → IfOk r (λ x. length (flat_map text x.0.items) + length x.1.now ≤ length bytes)
 table_within bytes (Ok x) fits given =
     let t = names_spell.takes bytes x.0.items x.1.now fits given in

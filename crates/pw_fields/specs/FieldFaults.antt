@@ -1,19 +1,19 @@
 -- How the code's answers stand for what reading finds.
 use Rattle.std.specs.Prelude.{◌≡◌, ℕ, ◌-◌, Result, Ok, Err}
-use Rattle.pw_fields.specs.declared.fault.FieldError.{FieldError}
-use Rattle.pw_fields.specs.declared.fault.FieldError.TheVariants as field
+use Rattle.pw_fields.specs.declared.fault.FieldFault.{FieldFault}
+use Rattle.pw_fields.specs.declared.fault.FieldFault.TheVariants as field
 use Rattle.pw_value.specs.declared.fault.FileError.{FileError}
 use Rattle.pw_value.specs.declared.fault.FileError.TheVariants as file
 
 -- an error is the fault that reading finds, unless it is want of memory
-abbrev pub Fails : {Y : Type 0} → FieldError → Result Y ℕ → Type 0
+abbrev pub Fails : {Y : Type 0} → FieldFault → Result Y ℕ → Type 0
 Fails field.NoMemory found = Unit {0}
 Fails (field.Fault left) found = found ≡ Err left
 
 -- what a function returned, seen by view, is what reading finds, unless memory ran out
-abbrev pub Gives : {X Y : Type 0} → (X → Y) → Result X FieldError → Result Y ℕ → Type 0
-Gives view (Ok x) found = found ≡ Ok (view x)
-Gives view (Err e) found = Fails e found
+abbrev pub AnswersField : {X Y : Type 0} → (X → Y) → Result X FieldFault → Result Y ℕ → Type 0
+AnswersField view (Ok x) found = found ≡ Ok (view x)
+AnswersField view (Err e) found = Fails e found
 
 -- ---- the same of a whole file, whose faults are told by their offset
 
@@ -26,6 +26,6 @@ GivesFile view (Ok x) found = found ≡ Ok (view x)
 GivesFile view (Err e) found = FailsFile e found
 
 -- a fault of bytes that end at an offset of the file, told by its own offset
-abbrev pub told_at : ℕ → FieldError → FileError
+abbrev pub told_at : ℕ → FieldFault → FileError
 told_at end (field.Fault left) = file.FileFault (end - left)
 told_at end field.NoMemory = file.NoMemory

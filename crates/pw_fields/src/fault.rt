@@ -1,35 +1,35 @@
 //! Why a field could not be read.
 
 ghost use Rattle.std.specs.Prelude.{◌≡◌};
-ghost use Rattle.pw_fields.specs.declared.fault.FieldError.TheVariants.{NoMemory};
+ghost use Rattle.pw_fields.specs.declared.fault.FieldFault.TheVariants.{NoMemory};
 
 use pw_value::FileError;
 use std::alloc::{AllocError, AllocFailed};
 
 /// A field is short or breaks its rule, with `left` bytes left where it begins, or there is no memory.
 #[derive(Clone, Copy, Debug)]
-pub enum FieldError {
+pub enum FieldFault {
     Fault { left: usize },
     NoMemory,
 }
 
-impl From<AllocError> for FieldError {
+impl From<AllocError> for FieldFault {
     ghost from_gives = { λ _ e. e ≡ NoMemory };
 
-    fn from(_e: AllocError) -> FieldError {
-        FieldError::NoMemory
+    fn from(_e: AllocError) -> FieldFault {
+        FieldFault::NoMemory
     }
 }
 
-impl<T: Drop> From<AllocFailed<T>> for FieldError {
+impl<T: Drop> From<AllocFailed<T>> for FieldFault {
     ghost from_gives = { λ _ e. e ≡ NoMemory };
 
-    fn from(_e: AllocFailed<T>) -> FieldError {
-        FieldError::NoMemory
+    fn from(_e: AllocFailed<T>) -> FieldFault {
+        FieldFault::NoMemory
     }
 }
 
-impl FieldError {
+impl FieldFault {
     ghost use Rattle.pw_fields.specs.FieldFaults.{told_at};
 
     /// The same fault, told by its offset, where the bytes that were read end at the offset `end`.
@@ -37,10 +37,10 @@ impl FieldError {
         ensures { result ≡ told_at end self }
     {
         match self {
-            FieldError::Fault { left } => FileError::FileFault {
+            FieldFault::Fault { left } => FileError::FileFault {
                 at: end.saturating_sub(left),
             },
-            FieldError::NoMemory => FileError::NoMemory,
+            FieldFault::NoMemory => FileError::NoMemory,
         }
     }
 }

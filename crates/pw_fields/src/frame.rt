@@ -4,11 +4,11 @@
 ghost use Rattle.std.specs.Prelude.{◌≡◌, ◌≢◌, ◌+◌, ◌-◌, ◌<◌, ◌≤◌, ◌^◌, ◌↔◌, List, length, false, ◌==◌, IfOk, IfErr, Ok, Err};
 ghost use Rattle.std.specs.Prelude.{nat_le, ◌&&◌, IsTrue, OnOk, OnErr};
 ghost use Rattle.pw_fields.specs.Fields.{checked, u32_at};
-ghost use Rattle.pw_fields.specs.FieldFaults.{Gives, GivesFile};
+ghost use Rattle.pw_fields.specs.FieldFaults.{AnswersField, GivesFile};
 ghost use Rattle.pw_fields.specs.FieldFrame.{header_at, opened_at, is_sealed, before_digest, file, FitsFile, digest_size, header_size, frame_size};
 
 use crate::writing::push_u32;
-use crate::{FieldError, read_u32};
+use crate::{FieldFault, read_u32};
 use pw_value::FileError;
 use sha2::{Digest, Sha256};
 use std::alloc::{AllocError, Global};
@@ -38,36 +38,36 @@ pub struct Opened<'a> {
     pub end: usize,
 }
 
-/// The number at the front where it is one of those from `first` to `last`.
-fn read_number_within(first: u32, last: u32, bytes: &[u8]) -> Result<(u32, &[u8]), FieldError>
-    ensures found { Gives (λ x. (x.0, x.1.now)) result (checked (λ v. nat_le first v && nat_le v last) u32_at bytes.now) }
-    ensures no_memory { IfErr result (λ e. e ≢ FieldError.NoMemory) }
+/// The number at the beginning where it is one of those from `first` to `last`.
+fn read_number_within(first: u32, last: u32, bytes: &[u8]) -> Result<(u32, &[u8]), FieldFault>
+    ensures found { AnswersField (λ x. (x.0, x.1.now)) result (checked (λ v. nat_le first v && nat_le v last) u32_at bytes.now) }
+    ensures no_memory { IfErr result (λ e. e ≢ FieldFault.NoMemory) }
 {
     let (number, rest) = read_u32(bytes)?;
     if first <= number && number <= last {
         Ok((number, rest))
     } else {
-        Err(FieldError::Fault { left: bytes.len() })
+        Err(FieldFault::Fault { left: bytes.len() })
     }
 }
 
-/// What follows the number at the front, where it is the one that is wanted.
-fn read_wanted(wanted: usize, bytes: &[u8]) -> Result<&[u8], FieldError>
-    ensures found { Gives (λ rest. (wanted, rest.now)) result (checked (λ n. n == wanted) u32_at bytes.now) }
-    ensures no_memory { IfErr result (λ e. e ≢ FieldError.NoMemory) }
+/// What follows the number at the beginning, where it is the one that is wanted.
+fn read_wanted(wanted: usize, bytes: &[u8]) -> Result<&[u8], FieldFault>
+    ensures found { AnswersField (λ rest. (wanted, rest.now)) result (checked (λ n. n == wanted) u32_at bytes.now) }
+    ensures no_memory { IfErr result (λ e. e ≢ FieldFault.NoMemory) }
 {
     let (number, rest) = read_u32(bytes)?;
     if number as usize == wanted {
         Ok(rest)
     } else {
-        Err(FieldError::Fault { left: bytes.len() })
+        Err(FieldFault::Fault { left: bytes.len() })
     }
 }
 
 /// The fields before the payload: the answer is the version, from `first` to `last`.
-fn read_header(kind: u32, first: u32, last: u32, bytes: &[u8]) -> Result<(u32, &[u8]), FieldError>
-    ensures found { Gives (λ x. (x.0, x.1.now)) result (header_at kind first last (length bytes.now) bytes.now) }
-    ensures no_memory { IfErr result (λ e. e ≢ FieldError.NoMemory) }
+fn read_header(kind: u32, first: u32, last: u32, bytes: &[u8]) -> Result<(u32, &[u8]), FieldFault>
+    ensures found { AnswersField (λ x. (x.0, x.1.now)) result (header_at kind first last (length bytes.now) bytes.now) }
+    ensures no_memory { IfErr result (λ e. e ≢ FieldFault.NoMemory) }
 {
     let rest = read_wanted(kind as usize, bytes)?;
     let rest = read_wanted(bytes.len(), rest)?;

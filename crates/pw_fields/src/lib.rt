@@ -6,7 +6,7 @@
 
 ghost use Rattle.std.specs.Prelude.{◌≡◌, ◌≢◌, List, length, IfErr};
 ghost use Rattle.pw_fields.specs.Fields.{u8_at, u32_at, u64_at, bytes_at, text_at, choice_at, flag_at};
-ghost use Rattle.pw_fields.specs.FieldFaults.{Gives};
+ghost use Rattle.pw_fields.specs.FieldFaults.{AnswersField};
 
 use std::alloc::Global;
 
@@ -16,28 +16,28 @@ pub mod laws;
 pub mod names;
 pub mod writing;
 
-pub use fault::FieldError;
+pub use fault::FieldFault;
 
 /// A byte.
 #[tactic(auto, unfolding(crate::specs::Fields::u8_at))]
-pub fn read_u8(bytes: &[u8]) -> Result<(u8, &[u8]), FieldError>
-    ensures found { Gives (λ x. (x.0, x.1.now)) result (u8_at bytes.now) }
-    ensures no_memory { IfErr result (λ e. e ≢ FieldError.NoMemory) }
+pub fn read_u8(bytes: &[u8]) -> Result<(u8, &[u8]), FieldFault>
+    ensures found { AnswersField (λ x. (x.0, x.1.now)) result (u8_at bytes.now) }
+    ensures no_memory { IfErr result (λ e. e ≢ FieldFault.NoMemory) }
 {
     match bytes {
-        [] => Err(FieldError::Fault { left: 0 }),
+        [] => Err(FieldFault::Fault { left: 0 }),
         [first, rest @ ..] => Ok((*first, rest)),
     }
 }
 
 /// A number of four bytes, the highest first.
 #[tactic(auto, unfolding(crate::specs::Fields::u32_at))]
-pub fn read_u32(bytes: &[u8]) -> Result<(u32, &[u8]), FieldError>
-    ensures found { Gives (λ x. (x.0, x.1.now)) result (u32_at bytes.now) }
-    ensures no_memory { IfErr result (λ e. e ≢ FieldError.NoMemory) }
+pub fn read_u32(bytes: &[u8]) -> Result<(u32, &[u8]), FieldFault>
+    ensures found { AnswersField (λ x. (x.0, x.1.now)) result (u32_at bytes.now) }
+    ensures no_memory { IfErr result (λ e. e ≢ FieldFault.NoMemory) }
 {
     if bytes.len() < 4 {
-        return Err(FieldError::Fault { left: bytes.len() });
+        return Err(FieldFault::Fault { left: bytes.len() });
     }
     let (front, rest) = bytes.split_at(4);
     let number = u32::from_be_bytes([front[0], front[1], front[2], front[3]]);
@@ -46,12 +46,12 @@ pub fn read_u32(bytes: &[u8]) -> Result<(u32, &[u8]), FieldError>
 
 /// A number of eight bytes, the highest first.
 #[tactic(auto, unfolding(crate::specs::Fields::u64_at))]
-pub fn read_u64(bytes: &[u8]) -> Result<(u64, &[u8]), FieldError>
-    ensures found { Gives (λ x. (x.0, x.1.now)) result (u64_at bytes.now) }
-    ensures no_memory { IfErr result (λ e. e ≢ FieldError.NoMemory) }
+pub fn read_u64(bytes: &[u8]) -> Result<(u64, &[u8]), FieldFault>
+    ensures found { AnswersField (λ x. (x.0, x.1.now)) result (u64_at bytes.now) }
+    ensures no_memory { IfErr result (λ e. e ≢ FieldFault.NoMemory) }
 {
     if bytes.len() < 8 {
-        return Err(FieldError::Fault { left: bytes.len() });
+        return Err(FieldFault::Fault { left: bytes.len() });
     }
     let (front, rest) = bytes.split_at(8);
     let number = u64::from_be_bytes([
@@ -62,33 +62,33 @@ pub fn read_u64(bytes: &[u8]) -> Result<(u64, &[u8]), FieldError>
 
 /// As many bytes as are asked for, in place.
 #[tactic(auto, unfolding(crate::specs::Fields::bytes_at))]
-pub fn read_bytes(count: usize, bytes: &[u8]) -> Result<(&[u8], &[u8]), FieldError>
-    ensures found { Gives (λ x. (x.0.now, x.1.now)) result (bytes_at count bytes.now) }
-    ensures no_memory { IfErr result (λ e. e ≢ FieldError.NoMemory) }
+pub fn read_bytes(count: usize, bytes: &[u8]) -> Result<(&[u8], &[u8]), FieldFault>
+    ensures found { AnswersField (λ x. (x.0.now, x.1.now)) result (bytes_at count bytes.now) }
+    ensures no_memory { IfErr result (λ e. e ≢ FieldFault.NoMemory) }
 {
     if bytes.len() < count {
-        return Err(FieldError::Fault { left: bytes.len() });
+        return Err(FieldFault::Fault { left: bytes.len() });
     }
     Ok(bytes.split_at(count))
 }
 
 /// A text, in place: a count of four bytes and as many bytes. It is one field, whose place is its count's.
 #[tactic(auto, unfolding(crate::specs::Fields::text_at))]
-pub fn read_text_in_place(bytes: &[u8]) -> Result<(&[u8], &[u8]), FieldError>
-    ensures found { Gives (λ x. (x.0.now, x.1.now)) result (text_at bytes.now) }
-    ensures no_memory { IfErr result (λ e. e ≢ FieldError.NoMemory) }
+pub fn read_text_in_place(bytes: &[u8]) -> Result<(&[u8], &[u8]), FieldFault>
+    ensures found { AnswersField (λ x. (x.0.now, x.1.now)) result (text_at bytes.now) }
+    ensures no_memory { IfErr result (λ e. e ≢ FieldFault.NoMemory) }
 {
     let (count, rest) = read_u32(bytes)?;
     let count = count as usize;
     if rest.len() < count {
-        return Err(FieldError::Fault { left: bytes.len() });
+        return Err(FieldFault::Fault { left: bytes.len() });
     }
     Ok(rest.split_at(count))
 }
 
 /// A text, copied.
-pub fn read_text(alloc: Global, bytes: &[u8]) -> Result<(Vec<u8>, &[u8]), FieldError>
-    ensures { Gives (λ x. (x.0.items, x.1.now)) result (text_at bytes.now) }
+pub fn read_text(alloc: Global, bytes: &[u8]) -> Result<(Vec<u8>, &[u8]), FieldFault>
+    ensures { AnswersField (λ x. (x.0.items, x.1.now)) result (text_at bytes.now) }
 {
     let (text, rest) = read_text_in_place(bytes)?;
     Ok((Vec::from_slice(alloc, text)?, rest))
@@ -96,22 +96,22 @@ pub fn read_text(alloc: Global, bytes: &[u8]) -> Result<(Vec<u8>, &[u8]), FieldE
 
 /// A byte that is one of the first `count` numbers.
 #[tactic(auto, unfolding(crate::specs::Fields::choice_at))]
-pub fn read_choice(count: u8, bytes: &[u8]) -> Result<(u8, &[u8]), FieldError>
-    ensures found { Gives (λ x. (x.0, x.1.now)) result (choice_at count bytes.now) }
-    ensures no_memory { IfErr result (λ e. e ≢ FieldError.NoMemory) }
+pub fn read_choice(count: u8, bytes: &[u8]) -> Result<(u8, &[u8]), FieldFault>
+    ensures found { AnswersField (λ x. (x.0, x.1.now)) result (choice_at count bytes.now) }
+    ensures no_memory { IfErr result (λ e. e ≢ FieldFault.NoMemory) }
 {
     let (choice, rest) = read_u8(bytes)?;
     if choice >= count {
-        return Err(FieldError::Fault { left: bytes.len() });
+        return Err(FieldFault::Fault { left: bytes.len() });
     }
     Ok((choice, rest))
 }
 
 /// A truth value: 0 or 1.
 #[tactic(auto, unfolding(crate::specs::Fields::flag_at))]
-pub fn read_flag(bytes: &[u8]) -> Result<(bool, &[u8]), FieldError>
-    ensures found { Gives (λ x. (x.0, x.1.now)) result (flag_at bytes.now) }
-    ensures no_memory { IfErr result (λ e. e ≢ FieldError.NoMemory) }
+pub fn read_flag(bytes: &[u8]) -> Result<(bool, &[u8]), FieldFault>
+    ensures found { AnswersField (λ x. (x.0, x.1.now)) result (flag_at bytes.now) }
+    ensures no_memory { IfErr result (λ e. e ≢ FieldFault.NoMemory) }
 {
     let (choice, rest) = read_choice(2, bytes)?;
     Ok((choice == 1, rest))

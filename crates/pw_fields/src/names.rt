@@ -5,39 +5,39 @@ ghost use Rattle.std.specs.Prelude.{ℕ, map, IfSome, IfNone, slice_index_or};
 ghost use Rattle.std.specs.List.{flat_map};
 ghost use Rattle.pw_value.specs.Names.{IsNameLength};
 ghost use Rattle.pw_fields.specs.Fields.{items_at, text};
-ghost use Rattle.pw_fields.specs.FieldFaults.{Gives};
+ghost use Rattle.pw_fields.specs.FieldFaults.{AnswersField};
 ghost use Rattle.pw_fields.specs.FieldNames.{is_entry, entry_at, next_entry, names_at, name_at, name_index, place_of, IsRisingFrom, IsNameTable, IsTableOf, name_table, unrepeated, first_unused};
 
 use crate::writing::{push_text, push_u32};
-use crate::{FieldError, read_text_in_place, read_u32};
+use crate::{FieldFault, read_text_in_place, read_u32};
 use pw_value::Name;
-use pw_value::limits::NAME_MAX;
+use pw_value::limits::NAME_LIMIT;
 use std::alloc::{AllocError, Global};
 
 /// Whether a text may follow another in the table: as long as a name may be, and above it in byte order.
 fn may_follow(before: &[u8], name: &[u8]) -> bool
     ensures { result ≡ is_entry before.now name.now }
 {
-    name.len() >= 1 && name.len() <= NAME_MAX && before.cmp(name).is_lt()
+    name.len() >= 1 && name.len() <= NAME_LIMIT && before.cmp(name).is_lt()
 }
 
 /// A name of the table behind the one before it, in place.
 #[tactic(auto, unfolding(crate::specs::FieldNames::entry_at))]
-fn read_entry<'a>(before: &[u8], bytes: &'a [u8]) -> Result<(&'a [u8], &'a [u8]), FieldError>
-    ensures read { Gives (λ x. (x.0.now, x.1.now)) result (entry_at before.now bytes.now) }
-    ensures no_memory { IfErr result (λ e. e ≢ FieldError.NoMemory) }
+fn read_entry<'a>(before: &[u8], bytes: &'a [u8]) -> Result<(&'a [u8], &'a [u8]), FieldFault>
+    ensures read { AnswersField (λ x. (x.0.now, x.1.now)) result (entry_at before.now bytes.now) }
+    ensures no_memory { IfErr result (λ e. e ≢ FieldFault.NoMemory) }
 {
     let (name, rest) = read_text_in_place(bytes)?;
     if may_follow(before, name) {
         Ok((name, rest))
     } else {
-        Err(FieldError::Fault { left: bytes.len() })
+        Err(FieldFault::Fault { left: bytes.len() })
     }
 }
 
 /// So many names of the table.
-fn read_entries(alloc: Global, count: u32, bytes: &[u8]) -> Result<(Vec<Name>, &[u8]), FieldError>
-    ensures { Gives (λ x. (x.0.items, x.1.now)) result (items_at entry_at next_entry count [] bytes.now) }
+fn read_entries(alloc: Global, count: u32, bytes: &[u8]) -> Result<(Vec<Name>, &[u8]), FieldFault>
+    ensures { AnswersField (λ x. (x.0.items, x.1.now)) result (items_at entry_at next_entry count [] bytes.now) }
 {
     let mut names = Vec::new(alloc);
     let mut rest = bytes;
@@ -53,17 +53,17 @@ fn read_entries(alloc: Global, count: u32, bytes: &[u8]) -> Result<(Vec<Name>, &
 
 /// The count of the names, and the names.
 #[tactic(auto, unfolding(crate::specs::FieldNames::names_at))]
-fn read_counted(alloc: Global, bytes: &[u8]) -> Result<(Vec<Name>, &[u8]), FieldError>
-    ensures { Gives (λ x. (x.0.items, x.1.now)) result (names_at bytes.now) }
+fn read_counted(alloc: Global, bytes: &[u8]) -> Result<(Vec<Name>, &[u8]), FieldFault>
+    ensures { AnswersField (λ x. (x.0.items, x.1.now)) result (names_at bytes.now) }
 {
     let (count, rest) = read_u32(bytes)?;
     read_entries(alloc, count, rest)
 }
 
 /// The table of names: their count, and the names in rising order, each as long as a name may be.
-pub fn read_names(alloc: Global, bytes: &[u8]) -> Result<(Vec<Name>, &[u8]), FieldError>
-    ensures found { Gives (λ x. (x.0.items, x.1.now)) result (names_at bytes.now) }
-    // The table takes its bytes from the front.
+pub fn read_names(alloc: Global, bytes: &[u8]) -> Result<(Vec<Name>, &[u8]), FieldFault>
+    ensures found { AnswersField (λ x. (x.0.items, x.1.now)) result (names_at bytes.now) }
+    // The table takes its bytes from the beginning.
     ensures within { IfOk result (λ x. length (flat_map text x.0.items) + length x.1.now ≤ length bytes.now) }
 {
     read_counted(alloc, bytes)
@@ -74,14 +74,14 @@ pub fn read_names(alloc: Global, bytes: &[u8]) -> Result<(Vec<Name>, &[u8]), Fie
 pub fn read_name<'a, 'b>(
     names: &'b [Name],
     bytes: &'a [u8],
-) -> Result<(&'b Name, &'a [u8]), FieldError>
-    ensures found { Gives (λ x. (x.0.now, x.1.now)) result (name_at names.now bytes.now) }
-    ensures no_memory { IfErr result (λ e. e ≢ FieldError.NoMemory) }
+) -> Result<(&'b Name, &'a [u8]), FieldFault>
+    ensures found { AnswersField (λ x. (x.0.now, x.1.now)) result (name_at names.now bytes.now) }
+    ensures no_memory { IfErr result (λ e. e ≢ FieldFault.NoMemory) }
 {
     let (index, rest) = read_u32(bytes)?;
     match names.get(index as usize) {
         Some(name) => Ok((name, rest)),
-        None => Err(FieldError::Fault { left: bytes.len() }),
+        None => Err(FieldFault::Fault { left: bytes.len() }),
     }
 }
 

@@ -5,8 +5,8 @@ use Rattle.std.specs.Prelude.{◌==◌, IfOk, OnOk, Option, None, Some}
 use Rattle.std.specs.Global.{Vec}
 use Rattle.std.proofs.lemmas.Bool.{eqb-true}
 use Rattle.pw_value.specs.declared.fault.FileError.{FileError}
-use Rattle.pw_fields.specs.declared.fault.FieldError.{FieldError}
-use Rattle.pw_fields.specs.declared.fault.FieldError.TheVariants as field
+use Rattle.pw_fields.specs.declared.fault.FieldFault.{FieldFault}
+use Rattle.pw_fields.specs.declared.fault.FieldFault.TheVariants as field
 use Rattle.pw_fields.specs.FieldFaults.{Fails, GivesFile}
 use Rattle.pw_fields.specs.FieldFrame.{ended, file, FitsFile}
 use Rattle.pw_fields.specs.FieldLaws.{AreBytes, SpellsWhole}
@@ -41,7 +41,7 @@ nothing_left [] empty is holds = refl
 nothing_left (b ∷ rest) empty is holds = let none : suc (length rest) ≡ 0 = eqb-true _ _ (sym is ∙ holds) in absurd (omega (arith, none))
 
 -- such a rule that is broken is the fault of the whole
-pub late_fault : {X : Type 0} (e : FieldError) (late : Option ℕ) (x : X) → Fails e (broken_at late) → Fails e (ended late x [])
+pub late_fault : {X : Type 0} (e : FieldFault) (late : Option ℕ) (x : X) → Fails e (broken_at late) → Fails e (ended late x [])
 late_fault field.NoMemory late x fails = tt
 late_fault (field.Fault left) None x fails = absurd cc
 late_fault (field.Fault left) (Some other) x fails = cc

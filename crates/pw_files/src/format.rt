@@ -4,12 +4,12 @@
 ghost use Rattle.std.specs.Prelude.{◌≡◌, ◌+◌, ◌<◌, ◌^◌, ℕ, List, [], length, Option, IfOk, IfErr};
 ghost use Rattle.std.specs.List.{flat_map};
 ghost use Rattle.pw_fields.specs.Fields.{text};
-ghost use Rattle.pw_fields.specs.FieldFaults.{Fails, Gives, GivesFile};
+ghost use Rattle.pw_fields.specs.FieldFaults.{Fails, AnswersField, GivesFile};
 ghost use Rattle.pw_fields.specs.FieldFrame.{ended};
 ghost use Rattle.pw_fields.specs.FieldNames.{IsRisingFrom};
 ghost use Rattle.pw_files.specs.Contents.{FieldsReader, broken_at, contents_at, contents_file_at, value_of};
 
-use pw_fields::FieldError;
+use pw_fields::FieldFault;
 use pw_fields::frame::{check_digest, open};
 use pw_fields::names::read_names;
 use pw_value::{FileError, Name};
@@ -48,7 +48,7 @@ pub trait Format {
         version: u32,
         names: &[Name],
         bytes: &'a [u8],
-    ) -> Result<(Self::Value, usize, &'a [u8]), FieldError>
+    ) -> Result<(Self::Value, usize, &'a [u8]), FieldFault>
         requires { IsRisingFrom [] names.now }
         ensures found { IfOk result (λ x. (rule : Self.Value → ℕ → Option ℕ) → fields version names.now rule bytes.now ≡ ended (rule x.0 x.1) (record { names = names.now; value = x.0 }) x.2.now) }
         ensures fault { IfErr result (λ e. (rule : Self.Value → ℕ → Option ℕ) → Fails e (fields version names.now rule bytes.now)) };
@@ -61,9 +61,9 @@ pub trait Format {
         value: &Self::Value,
         behind: usize,
         place: usize,
-    ) -> Result<(), FieldError>
+    ) -> Result<(), FieldFault>
         requires { length (flat_map text names.now) + behind < 2 ^ 64 }
-        ensures { Gives (λ x. x) result (broken_at (late names.now behind value.now place)) };
+        ensures { AnswersField (λ x. x) result (broken_at (late names.now behind value.now place)) };
 }
 
 /// The value behind the table of names: nothing is left behind its fields, and then no rule is broken that is looked at
@@ -73,14 +73,14 @@ fn read_fields<'a, F: Format>(
     version: u32,
     names: &[Name],
     bytes: &'a [u8],
-) -> Result<(F::Value, &'a [u8]), FieldError>
+) -> Result<(F::Value, &'a [u8]), FieldFault>
     requires rising { IsRisingFrom [] names.now }
     requires room { length (flat_map text names.now) + length bytes.now < 2 ^ 64 }
-    ensures { Gives (λ x. (record { names = names.now; value = x.0 }, x.1.now)) result (F.fields version names.now (F.late names.now (length bytes.now)) bytes.now) }
+    ensures { AnswersField (λ x. (record { names = names.now; value = x.0 }, x.1.now)) result (F.fields version names.now (F.late names.now (length bytes.now)) bytes.now) }
 {
     let (value, place, rest) = F::read_parts(alloc, version, names, bytes)?;
     if !rest.is_empty() {
-        return Err(FieldError::Fault { left: rest.len() });
+        return Err(FieldFault::Fault { left: rest.len() });
     }
     F::check_late(alloc, names, &value, bytes.len(), place)?;
     Ok((value, rest))
@@ -92,8 +92,8 @@ pub fn read_contents<F: Format>(
     alloc: Global,
     version: u32,
     bytes: &[u8],
-) -> Result<((Vec<Name>, F::Value), &[u8]), FieldError>
-    ensures { Gives (λ x. (record { names = x.0.0.items; value = x.0.1 }, x.1.now)) result (contents_at (F.fields version) F.late bytes.now) }
+) -> Result<((Vec<Name>, F::Value), &[u8]), FieldFault>
+    ensures { AnswersField (λ x. (record { names = x.0.0.items; value = x.0.1 }, x.1.now)) result (contents_at (F.fields version) F.late bytes.now) }
 {
     let (names, behind) = read_names(alloc, bytes)?;
     let (value, rest) = read_fields::<F>(alloc, version, &names, behind)?;

@@ -1,11 +1,11 @@
 //! The byte of a kind: 0 where there is none, and 1 to 5 for the kinds of scalars.
 
 ghost use Rattle.std.specs.Prelude.{◌≡◌, ◌≢◌, ◌++◌, OnOk, IfErr};
-ghost use Rattle.pw_fields.specs.FieldFaults.{Gives};
+ghost use Rattle.pw_fields.specs.FieldFaults.{AnswersField};
 ghost use Rattle.pw_files.specs.Kinds.{kind as kind_byte, scalar, scalar_code, kind_at, scalar_at, scalar_of};
 
 use pw_fields::writing::push_u8;
-use pw_fields::{FieldError, read_choice, read_u8};
+use pw_fields::{FieldFault, read_choice, read_u8};
 use pw_value::Kind;
 use std::alloc::AllocError;
 
@@ -24,9 +24,9 @@ fn scalar_from(code: u8) -> Kind
 
 /// A kind, or none.
 #[tactic(auto, unfolding(crate::specs::Kinds::kind_at))]
-pub fn read_kind(bytes: &[u8]) -> Result<(Option<Kind>, &[u8]), FieldError>
-    ensures found { Gives (λ x. (x.0, x.1.now)) result (kind_at bytes.now) }
-    ensures no_memory { IfErr result (λ e. e ≢ FieldError.NoMemory) }
+pub fn read_kind(bytes: &[u8]) -> Result<(Option<Kind>, &[u8]), FieldFault>
+    ensures found { AnswersField (λ x. (x.0, x.1.now)) result (kind_at bytes.now) }
+    ensures no_memory { IfErr result (λ e. e ≢ FieldFault.NoMemory) }
 {
     let (code, rest) = read_choice(6, bytes)?;
     let kind = if code == 0 {
@@ -39,15 +39,15 @@ pub fn read_kind(bytes: &[u8]) -> Result<(Option<Kind>, &[u8]), FieldError>
 
 /// A scalar's kind.
 #[tactic(auto, unfolding(crate::specs::Kinds::scalar_at))]
-pub fn read_scalar(bytes: &[u8]) -> Result<(Kind, &[u8]), FieldError>
-    ensures found { Gives (λ x. (x.0, x.1.now)) result (scalar_at bytes.now) }
-    ensures no_memory { IfErr result (λ e. e ≢ FieldError.NoMemory) }
+pub fn read_scalar(bytes: &[u8]) -> Result<(Kind, &[u8]), FieldFault>
+    ensures found { AnswersField (λ x. (x.0, x.1.now)) result (scalar_at bytes.now) }
+    ensures no_memory { IfErr result (λ e. e ≢ FieldFault.NoMemory) }
 {
     let (code, rest) = read_u8(bytes)?;
     if 1 <= code && code <= 5 {
         Ok((scalar_from(code), rest))
     } else {
-        Err(FieldError::Fault { left: bytes.len() })
+        Err(FieldFault::Fault { left: bytes.len() })
     }
 }
 

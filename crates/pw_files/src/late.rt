@@ -3,12 +3,12 @@
 ghost use Rattle.std.specs.Prelude.{◌≡◌, ◌≢◌, ◌+◌, ◌<◌, ◌^◌, length, map, IfErr};
 ghost use Rattle.std.specs.List.{flat_map};
 ghost use Rattle.pw_fields.specs.Fields.{text};
-ghost use Rattle.pw_fields.specs.FieldFaults.{Gives};
+ghost use Rattle.pw_fields.specs.FieldFaults.{AnswersField};
 ghost use Rattle.pw_fields.specs.FieldNames.{first_unused};
 ghost use Rattle.pw_files.specs.Start.{start_rule, sooner};
 ghost use Rattle.pw_files.specs.Contents.{broken_at};
 
-use pw_fields::FieldError;
+use pw_fields::FieldFault;
 use pw_fields::names::find_unused;
 use pw_value::Name;
 use pw_value::program_names::is_start_kept;
@@ -21,25 +21,25 @@ pub fn check_used(
     names: &[Name],
     used: Vec<&Name>,
     behind: usize,
-) -> Result<(), FieldError>
+) -> Result<(), FieldFault>
     requires { length (flat_map text names.now) + behind < 2 ^ 64 }
-    ensures { Gives (λ x. x) result (broken_at (first_unused names.now (map (λ name. name.now) used.entry.items) behind)) }
+    ensures { AnswersField (λ x. x) result (broken_at (first_unused names.now (map (λ name. name.now) used.entry.items) behind)) }
 {
     match find_unused(alloc, names, used, behind)? {
-        Some(left) => Err(FieldError::Fault { left }),
+        Some(left) => Err(FieldFault::Fault { left }),
         None => Ok(()),
     }
 }
 
 /// The rule of `$start`, where so many bytes are left from the count of the functions on.
-fn check_start(functions: &[&Name], globals: &[&Name], count: usize) -> Result<(), FieldError>
-    ensures found { Gives (λ x. x) result (broken_at (start_rule (map (λ name. name.now) functions.now) (map (λ name. name.now) globals.now) count)) }
-    ensures no_memory { IfErr result (λ e. e ≢ FieldError.NoMemory) }
+fn check_start(functions: &[&Name], globals: &[&Name], count: usize) -> Result<(), FieldFault>
+    ensures found { AnswersField (λ x. x) result (broken_at (start_rule (map (λ name. name.now) functions.now) (map (λ name. name.now) globals.now) count)) }
+    ensures no_memory { IfErr result (λ e. e ≢ FieldFault.NoMemory) }
 {
     if is_start_kept(functions, globals) {
         Ok(())
     } else {
-        Err(FieldError::Fault { left: count })
+        Err(FieldFault::Fault { left: count })
     }
 }
 
@@ -54,12 +54,12 @@ pub fn check_module(
     functions: &[&Name],
     globals: &[&Name],
     count: usize,
-) -> Result<(), FieldError>
-    ensures found { Gives (λ x. x) result (broken_at (sooner unused (start_rule (map (λ name. name.now) functions.now) (map (λ name. name.now) globals.now) count))) }
-    ensures no_memory { IfErr result (λ e. e ≢ FieldError.NoMemory) }
+) -> Result<(), FieldFault>
+    ensures found { AnswersField (λ x. x) result (broken_at (sooner unused (start_rule (map (λ name. name.now) functions.now) (map (λ name. name.now) globals.now) count))) }
+    ensures no_memory { IfErr result (λ e. e ≢ FieldFault.NoMemory) }
 {
     match unused {
-        Some(left) => Err(FieldError::Fault { left }),
+        Some(left) => Err(FieldFault::Fault { left }),
         None => check_start(functions, globals, count),
     }
 }

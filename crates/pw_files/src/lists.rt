@@ -2,12 +2,12 @@
 
 ghost use Rattle.std.specs.Prelude.{◌≡◌, ◌≢◌, option_map, None, IfErr};
 ghost use Rattle.pw_fields.specs.Fields.{items_at};
-ghost use Rattle.pw_fields.specs.FieldFaults.{Gives};
+ghost use Rattle.pw_fields.specs.FieldFaults.{AnswersField};
 ghost use Rattle.pw_files.specs.Rising.{is_above, next_key, rising_at};
 ghost use Rattle.pw_files.specs.Names.{name_above_at, text_above_at, shaped_at, name_list_at, text_list_at, shaped_list_at};
 
 use pw_fields::names::read_name;
-use pw_fields::{FieldError, read_text, read_text_in_place, read_u32};
+use pw_fields::{FieldFault, read_text, read_text_in_place, read_u32};
 use pw_items::Items;
 use pw_value::program_names::{StartName, is_allowed};
 use pw_value::{Name, Shape};
@@ -30,15 +30,15 @@ pub fn read_name_above<'a, 'b>(
     start: StartName,
     before: Option<&Name>,
     bytes: &'a [u8],
-) -> Result<(&'b Name, &'a [u8]), FieldError>
-    ensures found { Gives (λ x. (x.0.now, x.1.now)) result (name_above_at names.now start (option_map (λ n. n.now) before.entry) bytes.now) }
-    ensures no_memory { IfErr result (λ e. e ≢ FieldError.NoMemory) }
+) -> Result<(&'b Name, &'a [u8]), FieldFault>
+    ensures found { AnswersField (λ x. (x.0.now, x.1.now)) result (name_above_at names.now start (option_map (λ n. n.now) before.entry) bytes.now) }
+    ensures no_memory { IfErr result (λ e. e ≢ FieldFault.NoMemory) }
 {
     let (name, rest) = read_name(names, bytes)?;
     if is_name_above(before, name) && is_allowed(start, name) {
         Ok((name, rest))
     } else {
-        Err(FieldError::Fault { left: bytes.len() })
+        Err(FieldFault::Fault { left: bytes.len() })
     }
 }
 
@@ -57,15 +57,15 @@ fn is_text_above(before: Option<&[u8]>, text: &[u8]) -> bool
 pub fn read_text_above<'a>(
     before: Option<&[u8]>,
     bytes: &'a [u8],
-) -> Result<(&'a [u8], &'a [u8]), FieldError>
-    ensures found { Gives (λ x. (x.0.now, x.1.now)) result (text_above_at (option_map (λ t. t.now) before.entry) bytes.now) }
-    ensures no_memory { IfErr result (λ e. e ≢ FieldError.NoMemory) }
+) -> Result<(&'a [u8], &'a [u8]), FieldFault>
+    ensures found { AnswersField (λ x. (x.0.now, x.1.now)) result (text_above_at (option_map (λ t. t.now) before.entry) bytes.now) }
+    ensures no_memory { IfErr result (λ e. e ≢ FieldFault.NoMemory) }
 {
     let (text, rest) = read_text_in_place(bytes)?;
     if is_text_above(before, text) {
         Ok((text, rest))
     } else {
-        Err(FieldError::Fault { left: bytes.len() })
+        Err(FieldFault::Fault { left: bytes.len() })
     }
 }
 
@@ -77,8 +77,8 @@ pub fn read_shaped<'a, 'b>(
     start: StartName,
     before: Option<&Name>,
     bytes: &'a [u8],
-) -> Result<((&'b Name, Shape), &'a [u8]), FieldError>
-    ensures { Gives (λ x. ((x.0.0.now, x.0.1), x.1.now)) result (shaped_at names.now start (option_map (λ n. n.now) before.entry) bytes.now) }
+) -> Result<((&'b Name, Shape), &'a [u8]), FieldFault>
+    ensures { AnswersField (λ x. ((x.0.0.now, x.0.1), x.1.now)) result (shaped_at names.now start (option_map (λ n. n.now) before.entry) bytes.now) }
 {
     let (name, rest) = read_name_above(names, start, before, bytes)?;
     let (shape, rest) = read_text(alloc, rest)?;
@@ -92,8 +92,8 @@ fn read_name_items<'a>(
     start: StartName,
     count: u32,
     bytes: &'a [u8],
-) -> Result<(Items<Name>, &'a [u8]), FieldError>
-    ensures { Gives (λ x. (x.0, x.1.now)) result (items_at (name_above_at names.now start) (next_key (λ name. name)) count None bytes.now) }
+) -> Result<(Items<Name>, &'a [u8]), FieldFault>
+    ensures { AnswersField (λ x. (x.0, x.1.now)) result (items_at (name_above_at names.now start) (next_key (λ name. name)) count None bytes.now) }
 {
     let mut items = Items::new(alloc);
     let mut rest = bytes;
@@ -114,8 +114,8 @@ fn read_shaped_items<'a>(
     start: StartName,
     count: u32,
     bytes: &'a [u8],
-) -> Result<(Items<(Name, Shape)>, &'a [u8]), FieldError>
-    ensures { Gives (λ x. (x.0, x.1.now)) result (items_at (shaped_at names.now start) (next_key (λ f. f.0)) count None bytes.now) }
+) -> Result<(Items<(Name, Shape)>, &'a [u8]), FieldFault>
+    ensures { AnswersField (λ x. (x.0, x.1.now)) result (items_at (shaped_at names.now start) (next_key (λ f. f.0)) count None bytes.now) }
 {
     let mut items = Items::new(alloc);
     let mut rest = bytes;
@@ -134,8 +134,8 @@ fn read_shape_items(
     alloc: Global,
     count: u32,
     bytes: &[u8],
-) -> Result<(Items<Shape>, &[u8]), FieldError>
-    ensures { Gives (λ x. (x.0, x.1.now)) result (items_at text_above_at (next_key (λ text. text)) count None bytes.now) }
+) -> Result<(Items<Shape>, &[u8]), FieldFault>
+    ensures { AnswersField (λ x. (x.0, x.1.now)) result (items_at text_above_at (next_key (λ text. text)) count None bytes.now) }
 {
     let mut items = Items::new(alloc);
     let mut rest = bytes;
@@ -156,8 +156,8 @@ pub fn read_name_list<'a>(
     names: &[Name],
     start: StartName,
     bytes: &'a [u8],
-) -> Result<(Items<Name>, &'a [u8]), FieldError>
-    ensures { Gives (λ x. (x.0, x.1.now)) result (name_list_at names.now start bytes.now) }
+) -> Result<(Items<Name>, &'a [u8]), FieldFault>
+    ensures { AnswersField (λ x. (x.0, x.1.now)) result (name_list_at names.now start bytes.now) }
 {
     let (count, rest) = read_u32(bytes)?;
     read_name_items(alloc, names, start, count, rest)
@@ -170,8 +170,8 @@ pub fn read_shaped_list<'a>(
     names: &[Name],
     start: StartName,
     bytes: &'a [u8],
-) -> Result<(Items<(Name, Shape)>, &'a [u8]), FieldError>
-    ensures { Gives (λ x. (x.0, x.1.now)) result (shaped_list_at names.now start bytes.now) }
+) -> Result<(Items<(Name, Shape)>, &'a [u8]), FieldFault>
+    ensures { AnswersField (λ x. (x.0, x.1.now)) result (shaped_list_at names.now start bytes.now) }
 {
     let (count, rest) = read_u32(bytes)?;
     read_shaped_items(alloc, names, start, count, rest)
@@ -179,8 +179,8 @@ pub fn read_shaped_list<'a>(
 
 /// The count of shapes, and the shapes.
 #[tactic(auto, unfolding(crate::specs::Rising::rising_at))]
-pub fn read_shape_list(alloc: Global, bytes: &[u8]) -> Result<(Items<Shape>, &[u8]), FieldError>
-    ensures { Gives (λ x. (x.0, x.1.now)) result (text_list_at bytes.now) }
+pub fn read_shape_list(alloc: Global, bytes: &[u8]) -> Result<(Items<Shape>, &[u8]), FieldFault>
+    ensures { AnswersField (λ x. (x.0, x.1.now)) result (text_list_at bytes.now) }
 {
     let (count, rest) = read_u32(bytes)?;
     read_shape_items(alloc, count, rest)

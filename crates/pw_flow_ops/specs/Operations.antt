@@ -64,7 +64,7 @@ op_codes = code.Const ∷ code.Copy ∷ code.Un ∷ code.Bin ∷ code.Ext ∷ co
 abbrev pub code_number : OpCode → ℕ
 code_number = place (sameb the_op_codes) op_codes
 
--- the byte at the front of an operation
+-- the byte at the beginning of an operation
 abbrev pub op_code : OpCode → List ℕ
 op_code c = u8 (code_number c)
 

@@ -3,10 +3,10 @@
 ghost use Rattle.std.specs.Prelude.{◌≡◌, ◌++◌, OnOk};
 ghost use Rattle.pw_flow_ops.specs.Operations.{ending as ending_text};
 
+use crate::codes::EndCode;
 use crate::op_writing::push_result;
 use pw_fields::writing::{push_u8, push_u32};
 use pw_flow::End;
-use crate::codes::EndCode;
 use std::alloc::AllocError;
 
 /// Where a block goes on.

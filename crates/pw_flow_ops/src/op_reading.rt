@@ -2,7 +2,7 @@
 
 ghost use Rattle.std.specs.Prelude.{◌≡◌, ◌≢◌, ℕ, List, length, IfErr};
 ghost use Rattle.pw_fields.specs.Fields.{repeated};
-ghost use Rattle.pw_fields.specs.FieldFaults.{Gives};
+ghost use Rattle.pw_fields.specs.FieldFaults.{AnswersField};
 ghost use Rattle.pw_flow_ops.specs.Causes.{FaultFirst};
 ghost use Rattle.pw_flow_ops.specs.Reading.{operands_at, op_at};
 ghost use Rattle.pw_flow_ops.specs.declared.codes.OpCode.TheVariants as code;
@@ -10,7 +10,7 @@ ghost use Rattle.pw_flow_ops.specs.declared.codes.OpCode.TheVariants as code;
 use crate::choices::{read_bin_kind, read_ext_kind, read_op_code, read_un_kind};
 use crate::codes::OpCode;
 use crate::parts::{read_arguments, read_below, read_moved, read_named, read_result};
-use pw_fields::{FieldError, read_text_in_place, read_u32};
+use pw_fields::{FieldFault, read_text_in_place, read_u32};
 use pw_files::kinds::read_scalar;
 use pw_flow::Op;
 use pw_items::Items;
@@ -27,9 +27,9 @@ pub struct Counts {
 
 /// A number.
 #[tactic(auto, unfolding(crate::specs::Reading::operands_at))]
-fn read_const(at: Counts, bytes: &[u8]) -> Result<(Op, &[u8]), FieldError>
-    ensures found { (names : List (List ℕ)) → Gives (λ x. (x.0, x.1.now)) result (operands_at names at.temps at.slots code.Const bytes.now) }
-    ensures no_memory { IfErr result (λ e. e ≢ FieldError.NoMemory) }
+fn read_const(at: Counts, bytes: &[u8]) -> Result<(Op, &[u8]), FieldFault>
+    ensures found { (names : List (List ℕ)) → AnswersField (λ x. (x.0, x.1.now)) result (operands_at names at.temps at.slots code.Const bytes.now) }
+    ensures no_memory { IfErr result (λ e. e ≢ FieldFault.NoMemory) }
 {
     let (t, rest) = read_below(at.temps as usize, bytes)?;
     let (n, rest) = read_u32(rest)?;
@@ -38,9 +38,9 @@ fn read_const(at: Counts, bytes: &[u8]) -> Result<(Op, &[u8]), FieldError>
 
 /// A copy of a temporary.
 #[tactic(auto, unfolding(crate::specs::Reading::operands_at))]
-fn read_copy(at: Counts, bytes: &[u8]) -> Result<(Op, &[u8]), FieldError>
-    ensures found { (names : List (List ℕ)) → Gives (λ x. (x.0, x.1.now)) result (operands_at names at.temps at.slots code.Copy bytes.now) }
-    ensures no_memory { IfErr result (λ e. e ≢ FieldError.NoMemory) }
+fn read_copy(at: Counts, bytes: &[u8]) -> Result<(Op, &[u8]), FieldFault>
+    ensures found { (names : List (List ℕ)) → AnswersField (λ x. (x.0, x.1.now)) result (operands_at names at.temps at.slots code.Copy bytes.now) }
+    ensures no_memory { IfErr result (λ e. e ≢ FieldFault.NoMemory) }
 {
     let (t, rest) = read_below(at.temps as usize, bytes)?;
     let (a, rest) = read_below(at.temps as usize, rest)?;
@@ -49,9 +49,9 @@ fn read_copy(at: Counts, bytes: &[u8]) -> Result<(Op, &[u8]), FieldError>
 
 /// An operation on one number.
 #[tactic(auto, unfolding(crate::specs::Reading::operands_at))]
-fn read_un(at: Counts, bytes: &[u8]) -> Result<(Op, &[u8]), FieldError>
-    ensures found { (names : List (List ℕ)) → Gives (λ x. (x.0, x.1.now)) result (operands_at names at.temps at.slots code.Un bytes.now) }
-    ensures no_memory { IfErr result (λ e. e ≢ FieldError.NoMemory) }
+fn read_un(at: Counts, bytes: &[u8]) -> Result<(Op, &[u8]), FieldFault>
+    ensures found { (names : List (List ℕ)) → AnswersField (λ x. (x.0, x.1.now)) result (operands_at names at.temps at.slots code.Un bytes.now) }
+    ensures no_memory { IfErr result (λ e. e ≢ FieldFault.NoMemory) }
 {
     let (k, rest) = read_un_kind(bytes)?;
     let (t, rest) = read_below(at.temps as usize, rest)?;
@@ -61,9 +61,9 @@ fn read_un(at: Counts, bytes: &[u8]) -> Result<(Op, &[u8]), FieldError>
 
 /// An operation on two numbers.
 #[tactic(auto, unfolding(crate::specs::Reading::operands_at))]
-fn read_bin(at: Counts, bytes: &[u8]) -> Result<(Op, &[u8]), FieldError>
-    ensures found { (names : List (List ℕ)) → Gives (λ x. (x.0, x.1.now)) result (operands_at names at.temps at.slots code.Bin bytes.now) }
-    ensures no_memory { IfErr result (λ e. e ≢ FieldError.NoMemory) }
+fn read_bin(at: Counts, bytes: &[u8]) -> Result<(Op, &[u8]), FieldFault>
+    ensures found { (names : List (List ℕ)) → AnswersField (λ x. (x.0, x.1.now)) result (operands_at names at.temps at.slots code.Bin bytes.now) }
+    ensures no_memory { IfErr result (λ e. e ≢ FieldFault.NoMemory) }
 {
     let (k, rest) = read_bin_kind(bytes)?;
     let (t, rest) = read_below(at.temps as usize, rest)?;
@@ -74,9 +74,9 @@ fn read_bin(at: Counts, bytes: &[u8]) -> Result<(Op, &[u8]), FieldError>
 
 /// Low bits, extended.
 #[tactic(auto, unfolding(crate::specs::Reading::operands_at))]
-fn read_ext(at: Counts, bytes: &[u8]) -> Result<(Op, &[u8]), FieldError>
-    ensures found { (names : List (List ℕ)) → Gives (λ x. (x.0, x.1.now)) result (operands_at names at.temps at.slots code.Ext bytes.now) }
-    ensures no_memory { IfErr result (λ e. e ≢ FieldError.NoMemory) }
+fn read_ext(at: Counts, bytes: &[u8]) -> Result<(Op, &[u8]), FieldFault>
+    ensures found { (names : List (List ℕ)) → AnswersField (λ x. (x.0, x.1.now)) result (operands_at names at.temps at.slots code.Ext bytes.now) }
+    ensures no_memory { IfErr result (λ e. e ≢ FieldFault.NoMemory) }
 {
     let (k, rest) = read_ext_kind(bytes)?;
     let (t, rest) = read_below(at.temps as usize, rest)?;
@@ -91,8 +91,8 @@ fn read_addr_global<'a>(
     names: &[Name],
     at: Counts,
     bytes: &'a [u8],
-) -> Result<(Op, &'a [u8]), FieldError>
-    ensures found { Gives (λ x. (x.0, x.1.now)) result (operands_at names.now at.temps at.slots code.AddrGlobal bytes.now) }
+) -> Result<(Op, &'a [u8]), FieldFault>
+    ensures found { AnswersField (λ x. (x.0, x.1.now)) result (operands_at names.now at.temps at.slots code.AddrGlobal bytes.now) }
     ensures fault_first { FaultFirst result (operands_at names.now at.temps at.slots code.AddrGlobal bytes.now) }
 {
     let (t, rest) = read_below(at.temps as usize, bytes)?;
@@ -103,9 +103,9 @@ fn read_addr_global<'a>(
 
 /// The address of a slot.
 #[tactic(auto, unfolding(crate::specs::Reading::operands_at))]
-fn read_addr_slot(at: Counts, bytes: &[u8]) -> Result<(Op, &[u8]), FieldError>
-    ensures found { (names : List (List ℕ)) → Gives (λ x. (x.0, x.1.now)) result (operands_at names at.temps at.slots code.AddrSlot bytes.now) }
-    ensures no_memory { IfErr result (λ e. e ≢ FieldError.NoMemory) }
+fn read_addr_slot(at: Counts, bytes: &[u8]) -> Result<(Op, &[u8]), FieldFault>
+    ensures found { (names : List (List ℕ)) → AnswersField (λ x. (x.0, x.1.now)) result (operands_at names at.temps at.slots code.AddrSlot bytes.now) }
+    ensures no_memory { IfErr result (λ e. e ≢ FieldFault.NoMemory) }
 {
     let (t, rest) = read_below(at.temps as usize, bytes)?;
     let (s, rest) = read_below(at.slots, rest)?;
@@ -119,8 +119,8 @@ fn read_addr_fn<'a>(
     names: &[Name],
     at: Counts,
     bytes: &'a [u8],
-) -> Result<(Op, &'a [u8]), FieldError>
-    ensures found { Gives (λ x. (x.0, x.1.now)) result (operands_at names.now at.temps at.slots code.AddrFn bytes.now) }
+) -> Result<(Op, &'a [u8]), FieldFault>
+    ensures found { AnswersField (λ x. (x.0, x.1.now)) result (operands_at names.now at.temps at.slots code.AddrFn bytes.now) }
     ensures fault_first { FaultFirst result (operands_at names.now at.temps at.slots code.AddrFn bytes.now) }
 {
     let (t, rest) = read_below(at.temps as usize, bytes)?;
@@ -135,8 +135,8 @@ fn read_load_g<'a>(
     names: &[Name],
     at: Counts,
     bytes: &'a [u8],
-) -> Result<(Op, &'a [u8]), FieldError>
-    ensures found { Gives (λ x. (x.0, x.1.now)) result (operands_at names.now at.temps at.slots code.LoadG bytes.now) }
+) -> Result<(Op, &'a [u8]), FieldFault>
+    ensures found { AnswersField (λ x. (x.0, x.1.now)) result (operands_at names.now at.temps at.slots code.LoadG bytes.now) }
     ensures fault_first { FaultFirst result (operands_at names.now at.temps at.slots code.LoadG bytes.now) }
 {
     let (k, rest) = read_scalar(bytes)?;
@@ -152,8 +152,8 @@ fn read_store_g<'a>(
     names: &[Name],
     at: Counts,
     bytes: &'a [u8],
-) -> Result<(Op, &'a [u8]), FieldError>
-    ensures found { Gives (λ x. (x.0, x.1.now)) result (operands_at names.now at.temps at.slots code.StoreG bytes.now) }
+) -> Result<(Op, &'a [u8]), FieldFault>
+    ensures found { AnswersField (λ x. (x.0, x.1.now)) result (operands_at names.now at.temps at.slots code.StoreG bytes.now) }
     ensures fault_first { FaultFirst result (operands_at names.now at.temps at.slots code.StoreG bytes.now) }
 {
     let (k, rest) = read_scalar(bytes)?;
@@ -164,9 +164,9 @@ fn read_store_g<'a>(
 
 /// A read at an address.
 #[tactic(auto, unfolding(crate::specs::Reading::operands_at))]
-fn read_load(at: Counts, bytes: &[u8]) -> Result<(Op, &[u8]), FieldError>
-    ensures found { (names : List (List ℕ)) → Gives (λ x. (x.0, x.1.now)) result (operands_at names at.temps at.slots code.Load bytes.now) }
-    ensures no_memory { IfErr result (λ e. e ≢ FieldError.NoMemory) }
+fn read_load(at: Counts, bytes: &[u8]) -> Result<(Op, &[u8]), FieldFault>
+    ensures found { (names : List (List ℕ)) → AnswersField (λ x. (x.0, x.1.now)) result (operands_at names at.temps at.slots code.Load bytes.now) }
+    ensures no_memory { IfErr result (λ e. e ≢ FieldFault.NoMemory) }
 {
     let (k, rest) = read_scalar(bytes)?;
     let (t, rest) = read_below(at.temps as usize, rest)?;
@@ -176,9 +176,9 @@ fn read_load(at: Counts, bytes: &[u8]) -> Result<(Op, &[u8]), FieldError>
 
 /// A write at an address.
 #[tactic(auto, unfolding(crate::specs::Reading::operands_at))]
-fn read_store(at: Counts, bytes: &[u8]) -> Result<(Op, &[u8]), FieldError>
-    ensures found { (names : List (List ℕ)) → Gives (λ x. (x.0, x.1.now)) result (operands_at names at.temps at.slots code.Store bytes.now) }
-    ensures no_memory { IfErr result (λ e. e ≢ FieldError.NoMemory) }
+fn read_store(at: Counts, bytes: &[u8]) -> Result<(Op, &[u8]), FieldFault>
+    ensures found { (names : List (List ℕ)) → AnswersField (λ x. (x.0, x.1.now)) result (operands_at names at.temps at.slots code.Store bytes.now) }
+    ensures no_memory { IfErr result (λ e. e ≢ FieldFault.NoMemory) }
 {
     let (k, rest) = read_scalar(bytes)?;
     let (a, rest) = read_below(at.temps as usize, rest)?;
@@ -188,9 +188,9 @@ fn read_store(at: Counts, bytes: &[u8]) -> Result<(Op, &[u8]), FieldError>
 
 /// A copy of bytes.
 #[tactic(auto, unfolding(crate::specs::Reading::operands_at))]
-fn read_move(at: Counts, bytes: &[u8]) -> Result<(Op, &[u8]), FieldError>
-    ensures found { (names : List (List ℕ)) → Gives (λ x. (x.0, x.1.now)) result (operands_at names at.temps at.slots code.Move bytes.now) }
-    ensures no_memory { IfErr result (λ e. e ≢ FieldError.NoMemory) }
+fn read_move(at: Counts, bytes: &[u8]) -> Result<(Op, &[u8]), FieldFault>
+    ensures found { (names : List (List ℕ)) → AnswersField (λ x. (x.0, x.1.now)) result (operands_at names at.temps at.slots code.Move bytes.now) }
+    ensures no_memory { IfErr result (λ e. e ≢ FieldFault.NoMemory) }
 {
     let (a, rest) = read_below(at.temps as usize, bytes)?;
     let (b, rest) = read_below(at.temps as usize, rest)?;
@@ -205,8 +205,8 @@ fn read_call<'a>(
     names: &[Name],
     at: Counts,
     bytes: &'a [u8],
-) -> Result<(Op, &'a [u8]), FieldError>
-    ensures found { Gives (λ x. (x.0, x.1.now)) result (operands_at names.now at.temps at.slots code.Call bytes.now) }
+) -> Result<(Op, &'a [u8]), FieldFault>
+    ensures found { AnswersField (λ x. (x.0, x.1.now)) result (operands_at names.now at.temps at.slots code.Call bytes.now) }
     ensures fault_first { FaultFirst result (operands_at names.now at.temps at.slots code.Call bytes.now) }
 {
     let (t, rest) = read_result(at.temps, bytes)?;
@@ -217,8 +217,8 @@ fn read_call<'a>(
 
 /// A call through a value.
 #[tactic(auto, unfolding(crate::specs::Reading::operands_at))]
-fn read_call_ind(alloc: Global, at: Counts, bytes: &[u8]) -> Result<(Op, &[u8]), FieldError>
-    ensures found { (names : List (List ℕ)) → Gives (λ x. (x.0, x.1.now)) result (operands_at names at.temps at.slots code.CallInd bytes.now) }
+fn read_call_ind(alloc: Global, at: Counts, bytes: &[u8]) -> Result<(Op, &[u8]), FieldFault>
+    ensures found { (names : List (List ℕ)) → AnswersField (λ x. (x.0, x.1.now)) result (operands_at names at.temps at.slots code.CallInd bytes.now) }
     ensures fault_first { (names : List (List ℕ)) → FaultFirst result (operands_at names at.temps at.slots code.CallInd bytes.now) }
 {
     let (t, rest) = read_result(at.temps, bytes)?;
@@ -236,8 +236,8 @@ fn read_operands<'a>(
     at: Counts,
     code: OpCode,
     bytes: &'a [u8],
-) -> Result<(Op, &'a [u8]), FieldError>
-    ensures found { Gives (λ x. (x.0, x.1.now)) result (operands_at names.now at.temps at.slots code bytes.now) }
+) -> Result<(Op, &'a [u8]), FieldFault>
+    ensures found { AnswersField (λ x. (x.0, x.1.now)) result (operands_at names.now at.temps at.slots code bytes.now) }
     ensures fault_first { FaultFirst result (operands_at names.now at.temps at.slots code bytes.now) }
 {
     match code {
@@ -266,8 +266,8 @@ fn read_op<'a>(
     names: &[Name],
     at: Counts,
     bytes: &'a [u8],
-) -> Result<(Op, &'a [u8]), FieldError>
-    ensures found { Gives (λ x. (x.0, x.1.now)) result (op_at names.now at.temps at.slots bytes.now) }
+) -> Result<(Op, &'a [u8]), FieldFault>
+    ensures found { AnswersField (λ x. (x.0, x.1.now)) result (op_at names.now at.temps at.slots bytes.now) }
     ensures fault_first { FaultFirst result (op_at names.now at.temps at.slots bytes.now) }
 {
     let (code, rest) = read_op_code(bytes)?;
@@ -281,8 +281,8 @@ pub fn read_ops<'a>(
     at: Counts,
     count: u32,
     bytes: &'a [u8],
-) -> Result<(Items<Op>, &'a [u8]), FieldError>
-    ensures { Gives (λ x. (x.0, x.1.now)) result (repeated (op_at names.now at.temps at.slots) count bytes.now) }
+) -> Result<(Items<Op>, &'a [u8]), FieldFault>
+    ensures { AnswersField (λ x. (x.0, x.1.now)) result (repeated (op_at names.now at.temps at.slots) count bytes.now) }
 {
     let mut ops = Items::new(alloc);
     let mut rest = bytes;

@@ -7,13 +7,13 @@ ghost use Rattle.pw_flow.specs.declared.flow.Op.TheVariants.{Const, Copy, Un, Bi
 ghost use Rattle.pw_flow.specs.FlowGraph.{op_names};
 ghost use Rattle.pw_flow_ops.specs.Operations.{result as result_text, arguments, op as op_text};
 
+use crate::codes::OpCode;
+use crate::parts::ABSENT;
 use pw_fields::names::push_name;
 use pw_fields::writing::{push_u8, push_u32};
 use pw_files::kinds::push_scalar;
 use pw_files::writing::{push_bytes, push_count, push_words};
 use pw_flow::{BinKind, ExtKind, Op, UnKind};
-use crate::parts::ABSENT;
-use crate::codes::OpCode;
 use pw_value::{Kind, Name, Shape};
 use std::alloc::AllocError;
 

@@ -4,8 +4,8 @@ use Rattle.std.specs.Prelude.{slice_index_or, replicate}
 use Rattle.std.specs.Str.{bytes_eq}
 use Rattle.std.proofs.Math.ListN.{length-set}
 use Rattle.std.proofs.lemmas.Slice.Eq.{bytes_eq-Decides}
-use Rattle.pw_fields.specs.declared.fault.FieldError.{FieldError}
-use Rattle.pw_fields.specs.declared.fault.FieldError.TheVariants as field
+use Rattle.pw_fields.specs.declared.fault.FieldFault.{FieldFault}
+use Rattle.pw_fields.specs.declared.fault.FieldFault.TheVariants as field
 use Rattle.pw_fields.specs.FieldFaults.{Fails}
 use Rattle.pw_fields.specs.Fields.{◌>>=◌}
 use Rattle.pw_fields.specs.FieldNames.{is_among, name_at, place_of, IsRisingFrom}
@@ -14,7 +14,7 @@ use Rattle.pw_flow_ops.specs.Reading.{below_at}
 use Rattle.pw_flowfile.specs.Reading.{fresh_at, seen_after}
 use Rattle.pw_flowfile.specs.Marks.{Marks}
 
-pub fresh_fails : (names seen : List (List ℕ)) (bytes : List ℕ) (e : FieldError) → Fails e (below_at (length names) bytes) → Fails e (fresh_at names seen bytes)
+pub fresh_fails : (names seen : List (List ℕ)) (bytes : List ℕ) (e : FieldFault) → Fails e (below_at (length names) bytes) → Fails e (fresh_at names seen bytes)
 unfolding fresh_at name_at
 fresh_fails names seen bytes field.NoMemory fails = tt
 fresh_fails names seen bytes (field.Fault left) fails = rw fails refl
@@ -96,7 +96,7 @@ nothing_met names = record { count = length_replicate (length names); each = λ 
 
 -- ---- a field and what its value says
 
-pub then_fails : {A B : Type 0} (first : List ℕ → Result (A × List ℕ) ℕ) (next : A → List ℕ → Result (B × List ℕ) ℕ) (bytes : List ℕ) (e : FieldError) → Fails e (first bytes) → Fails e ((first >>= next) bytes)
+pub then_fails : {A B : Type 0} (first : List ℕ → Result (A × List ℕ) ℕ) (next : A → List ℕ → Result (B × List ℕ) ℕ) (bytes : List ℕ) (e : FieldFault) → Fails e (first bytes) → Fails e ((first >>= next) bytes)
 then_fails first next bytes field.NoMemory fails = tt
 then_fails first next bytes (field.Fault left) fails = rw fails refl
 

@@ -30,7 +30,7 @@ item_forms = form.Bytes ∷ form.Address ∷ []
 abbrev pub form_number : ItemForm → ℕ
 form_number = place (sameb the_item_forms) item_forms
 
--- the byte at the front of an item
+-- the byte at the beginning of an item
 abbrev pub form_byte : ItemForm → List ℕ
 form_byte f = u8 (form_number f)
 

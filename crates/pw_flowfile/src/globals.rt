@@ -2,7 +2,7 @@
 
 ghost use Rattle.std.specs.Prelude.{◌≡◌, ◌+◌, ◌∷◌, ◌≤◌, ℕ, List, [], length, map, IfOk, IfErr, ◌≢◌};
 ghost use Rattle.pw_fields.specs.Fields.{checked, items_at};
-ghost use Rattle.pw_fields.specs.FieldFaults.{Gives};
+ghost use Rattle.pw_fields.specs.FieldFaults.{AnswersField};
 ghost use Rattle.pw_fields.specs.FieldNames.{IsRisingFrom};
 ghost use Rattle.pw_files.specs.Kinds.{kind_at};
 ghost use Rattle.pw_flow_ops.specs.Reading.{one_of_at};
@@ -11,7 +11,7 @@ ghost use Rattle.pw_flowfile.specs.Reading.{has_room, content_at, item_at, place
 ghost use Rattle.pw_flowfile.specs.Marks.{Marks};
 
 use crate::met::read_fresh;
-use pw_fields::{FieldError, read_flag, read_text, read_u32};
+use pw_fields::{FieldFault, read_flag, read_text, read_u32};
 use pw_files::kinds::read_kind;
 use pw_files::places::{read_item_bytes, read_offset};
 use pw_flow::{FlowGlobal, Item, kind_size};
@@ -39,8 +39,8 @@ fn read_content<'a>(
     place: (u32, u32),
     form: ItemForm,
     bytes: &'a [u8],
-) -> Result<(Item, &'a [u8]), FieldError>
-    ensures { Gives (λ x. (x.0, x.1.now)) result (content_at start names.now place.0 place.1 form bytes.now) }
+) -> Result<(Item, &'a [u8]), FieldFault>
+    ensures { AnswersField (λ x. (x.0, x.1.now)) result (content_at start names.now place.0 place.1 form bytes.now) }
 {
     match form {
         ItemForm::Bytes => {
@@ -59,14 +59,14 @@ fn read_content<'a>(
 }
 
 /// The form of an item, for which there is room.
-fn read_form(size: u32, offset: u32, bytes: &[u8]) -> Result<(ItemForm, &[u8]), FieldError>
-    ensures found { Gives (λ x. (x.0, x.1.now)) result (checked (λ f. has_room f size offset) (one_of_at item_forms) bytes.now) }
-    ensures no_memory { IfErr result (λ e. e ≢ FieldError.NoMemory) }
+fn read_form(size: u32, offset: u32, bytes: &[u8]) -> Result<(ItemForm, &[u8]), FieldFault>
+    ensures found { AnswersField (λ x. (x.0, x.1.now)) result (checked (λ f. has_room f size offset) (one_of_at item_forms) bytes.now) }
+    ensures no_memory { IfErr result (λ e. e ≢ FieldFault.NoMemory) }
 {
     let (form, rest) = read_one_of(&ITEM_FORMS, bytes)?;
     match form {
         ItemForm::Address if u64::from(offset) + 4 > u64::from(size) => {
-            Err(FieldError::Fault { left: bytes.len() })
+            Err(FieldFault::Fault { left: bytes.len() })
         }
         _ => Ok((form, rest)),
     }
@@ -80,8 +80,8 @@ fn read_item<'a>(
     names: &[Name],
     place: (u32, u32),
     bytes: &'a [u8],
-) -> Result<(Item, &'a [u8]), FieldError>
-    ensures { Gives (λ x. (x.0, x.1.now)) result (item_at start names.now place.0 place.1 bytes.now) }
+) -> Result<(Item, &'a [u8]), FieldFault>
+    ensures { AnswersField (λ x. (x.0, x.1.now)) result (item_at start names.now place.0 place.1 bytes.now) }
 {
     let (form, rest) = read_form(place.0, place.1, bytes)?;
     read_content(alloc, start, names, place, form, rest)
@@ -96,8 +96,8 @@ fn read_placed_item<'a>(
     size: u32,
     free: u64,
     bytes: &'a [u8],
-) -> Result<((u32, Item), &'a [u8]), FieldError>
-    ensures { Gives (λ x. (x.0, x.1.now)) result (placed_item_at start names.now size free bytes.now) }
+) -> Result<((u32, Item), &'a [u8]), FieldFault>
+    ensures { AnswersField (λ x. (x.0, x.1.now)) result (placed_item_at start names.now size free bytes.now) }
 {
     let (offset, rest) = read_offset(size, free, bytes)?;
     let (item, rest) = read_item(alloc, start, names, (size, offset), rest)?;
@@ -123,8 +123,8 @@ fn read_items<'a>(
     size: u32,
     count: u32,
     bytes: &'a [u8],
-) -> Result<(Items<(u32, Item)>, &'a [u8]), FieldError>
-    ensures { Gives (λ x. (x.0, x.1.now)) result (items_at (placed_item_at start names.now size) next_free count 0 bytes.now) }
+) -> Result<(Items<(u32, Item)>, &'a [u8]), FieldFault>
+    ensures { AnswersField (λ x. (x.0, x.1.now)) result (items_at (placed_item_at start names.now size) next_free count 0 bytes.now) }
 {
     let mut items = Items::new(alloc);
     let mut rest = bytes;
@@ -139,14 +139,14 @@ fn read_items<'a>(
 }
 
 /// The kind of an object of so many bytes.
-fn read_sized_kind(size: u32, bytes: &[u8]) -> Result<(Option<Kind>, &[u8]), FieldError>
-    ensures found { Gives (λ x. (x.0, x.1.now)) result (checked (has_kind_size size) kind_at bytes.now) }
-    ensures no_memory { IfErr result (λ e. e ≢ FieldError.NoMemory) }
+fn read_sized_kind(size: u32, bytes: &[u8]) -> Result<(Option<Kind>, &[u8]), FieldFault>
+    ensures found { AnswersField (λ x. (x.0, x.1.now)) result (checked (has_kind_size size) kind_at bytes.now) }
+    ensures no_memory { IfErr result (λ e. e ≢ FieldFault.NoMemory) }
 {
     let (kind, rest) = read_kind(bytes)?;
     match kind {
         Some(scalar) if kind_size(scalar) != size => {
-            Err(FieldError::Fault { left: bytes.len() })
+            Err(FieldFault::Fault { left: bytes.len() })
         }
         _ => Ok((kind, rest)),
     }
@@ -160,8 +160,8 @@ pub fn read_global_body<'a>(
     names: &[Name],
     name: &Name,
     bytes: &'a [u8],
-) -> Result<(FlowGlobal, &'a [u8]), FieldError>
-    ensures found { Gives (λ x. (x.0, x.1.now)) result (global_body_at start names.now name.now bytes.now) }
+) -> Result<(FlowGlobal, &'a [u8]), FieldFault>
+    ensures found { AnswersField (λ x. (x.0, x.1.now)) result (global_body_at start names.now name.now bytes.now) }
     ensures named { IfOk result (λ x. x.0.name ≡ name.now) }
 {
     let (size, rest) = read_u32(bytes)?;
@@ -187,9 +187,9 @@ fn read_global<'a>(
     names: &[Name],
     met: &mut [bool],
     bytes: &'a [u8],
-) -> Result<(FlowGlobal, &'a [u8]), FieldError>
+) -> Result<(FlowGlobal, &'a [u8]), FieldFault>
     requires { length met.old ≡ length names.now }
-    ensures found { (seen : List (List ℕ)) → Marks names.now seen met.old → Gives (λ x. (x.0, x.1.now)) result (global_at names.now seen bytes.now) }
+    ensures found { (seen : List (List ℕ)) → Marks names.now seen met.old → AnswersField (λ x. (x.0, x.1.now)) result (global_at names.now seen bytes.now) }
     ensures marked { IfOk result (λ x. (seen : List (List ℕ)) → IsRisingFrom [] names.now → Marks names.now seen met.old → Marks names.now (x.0.name ∷ seen) met.new) }
 {
     let (name, rest) = read_fresh(names, met, bytes)?;
@@ -203,10 +203,10 @@ pub fn read_globals<'a>(
     met: &mut [bool],
     count: u32,
     bytes: &'a [u8],
-) -> Result<(Items<FlowGlobal>, &'a [u8]), FieldError>
+) -> Result<(Items<FlowGlobal>, &'a [u8]), FieldFault>
     requires count { length met.old ≡ length names.now }
     requires rising { IsRisingFrom [] names.now }
-    ensures found { (seen : List (List ℕ)) → Marks names.now seen met.old → Gives (λ x. (x.0, x.1.now)) result (items_at (global_at names.now) next_global count seen bytes.now) }
+    ensures found { (seen : List (List ℕ)) → Marks names.now seen met.old → AnswersField (λ x. (x.0, x.1.now)) result (items_at (global_at names.now) next_global count seen bytes.now) }
     ensures marked { IfOk result (λ x. (seen : List (List ℕ)) → Marks names.now seen met.old → Marks names.now (seen_after seen (map (λ g. g.name) x.0)) met.new) }
 {
     let mut globals = Items::new(alloc);
@@ -225,8 +225,8 @@ fn read_declared_shape<'a>(
     alloc: Global,
     name: &Name,
     bytes: &'a [u8],
-) -> Result<((Name, Shape), &'a [u8]), FieldError>
-    ensures found { Gives (λ x. (x.0, x.1.now)) result (declared_body_at name.now bytes.now) }
+) -> Result<((Name, Shape), &'a [u8]), FieldFault>
+    ensures found { AnswersField (λ x. (x.0, x.1.now)) result (declared_body_at name.now bytes.now) }
     ensures named { IfOk result (λ x. x.0.0 ≡ name.now) }
 {
     let (shape, rest) = read_text(alloc, bytes)?;
@@ -239,9 +239,9 @@ fn read_declaration<'a>(
     names: &[Name],
     met: &mut [bool],
     bytes: &'a [u8],
-) -> Result<((Name, Shape), &'a [u8]), FieldError>
+) -> Result<((Name, Shape), &'a [u8]), FieldFault>
     requires { length met.old ≡ length names.now }
-    ensures found { (seen : List (List ℕ)) → Marks names.now seen met.old → Gives (λ x. (x.0, x.1.now)) result (declared_at names.now seen bytes.now) }
+    ensures found { (seen : List (List ℕ)) → Marks names.now seen met.old → AnswersField (λ x. (x.0, x.1.now)) result (declared_at names.now seen bytes.now) }
     ensures marked { IfOk result (λ x. (seen : List (List ℕ)) → IsRisingFrom [] names.now → Marks names.now seen met.old → Marks names.now (x.0.0 ∷ seen) met.new) }
 {
     let (name, rest) = read_fresh(names, met, bytes)?;
@@ -255,10 +255,10 @@ pub fn read_declared<'a>(
     met: &mut [bool],
     count: u32,
     bytes: &'a [u8],
-) -> Result<(Items<(Name, Shape)>, &'a [u8]), FieldError>
+) -> Result<(Items<(Name, Shape)>, &'a [u8]), FieldFault>
     requires count { length met.old ≡ length names.now }
     requires rising { IsRisingFrom [] names.now }
-    ensures { (seen : List (List ℕ)) → Marks names.now seen met.old → Gives (λ x. (x.0, x.1.now)) result (items_at (declared_at names.now) next_declared count seen bytes.now) }
+    ensures { (seen : List (List ℕ)) → Marks names.now seen met.old → AnswersField (λ x. (x.0, x.1.now)) result (items_at (declared_at names.now) next_declared count seen bytes.now) }
 {
     let mut declared = Items::new(alloc);
     let mut rest = bytes;

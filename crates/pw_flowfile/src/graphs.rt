@@ -3,13 +3,13 @@
 ghost use Rattle.std.specs.Prelude.{◌≡◌, ◌*◌, ◌≤◌, ◌&&◌, ◌∷◌, ℕ, nat_le, nat_lt, List, [], length, map, IfOk, IfErr, ◌≢◌};
 ghost use Rattle.pw_value.specs.Limits.{room_limit};
 ghost use Rattle.pw_fields.specs.Fields.{u32_at, checked, items_at, repeated};
-ghost use Rattle.pw_fields.specs.FieldFaults.{Gives};
+ghost use Rattle.pw_fields.specs.FieldFaults.{AnswersField};
 ghost use Rattle.pw_fields.specs.FieldNames.{IsRisingFrom};
 ghost use Rattle.pw_flowfile.specs.Reading.{block_at, slot_at, next_room, code_at, function_body_at, function_at, next_function, seen_after};
 ghost use Rattle.pw_flowfile.specs.Marks.{Marks};
 
 use crate::met::read_fresh;
-use pw_fields::{FieldError, read_text_in_place, read_u32};
+use pw_fields::{FieldFault, read_text_in_place, read_u32};
 use pw_flow::{Block, FlowFn};
 use pw_flow_ops::{Counts, read_end, read_few, read_ops};
 use pw_items::Items;
@@ -18,7 +18,7 @@ use pw_value::{Name, Shape, slot_room};
 use std::alloc::Global;
 
 /// The most bytes that a function's temporaries and slots come to.
-const MOST_ROOM: u64 = ROOM_LIMIT as u64;
+const WIDE_ROOM_LIMIT: u64 = ROOM_LIMIT as u64;
 
 /// A block, in a function of so many blocks.
 #[tactic(auto, unfolding(crate::specs::Reading::block_at))]
@@ -28,8 +28,8 @@ fn read_block<'a>(
     at: Counts,
     blocks: u32,
     bytes: &'a [u8],
-) -> Result<(Block, &'a [u8]), FieldError>
-    ensures { Gives (λ x. (x.0, x.1.now)) result (block_at names.now at.temps at.slots blocks bytes.now) }
+) -> Result<(Block, &'a [u8]), FieldFault>
+    ensures { AnswersField (λ x. (x.0, x.1.now)) result (block_at names.now at.temps at.slots blocks bytes.now) }
 {
     let (depth, rest) = read_u32(bytes)?;
     let (count, rest) = read_u32(rest)?;
@@ -45,8 +45,8 @@ fn read_blocks<'a>(
     at: Counts,
     count: u32,
     bytes: &'a [u8],
-) -> Result<(Items<Block>, &'a [u8]), FieldError>
-    ensures { Gives (λ x. (x.0, x.1.now)) result (repeated (block_at names.now at.temps at.slots count) count bytes.now) }
+) -> Result<(Items<Block>, &'a [u8]), FieldFault>
+    ensures { AnswersField (λ x. (x.0, x.1.now)) result (repeated (block_at names.now at.temps at.slots count) count bytes.now) }
 {
     let mut blocks = Items::new(alloc);
     let mut rest = bytes;
@@ -60,17 +60,17 @@ fn read_blocks<'a>(
 
 /// A slot's size, behind temporaries and slots of so many bytes.
 #[tactic(auto, unfolding(crate::specs::Reading::slot_at))]
-fn read_slot(room: u64, bytes: &[u8]) -> Result<(u32, &[u8]), FieldError>
-    ensures found { Gives (λ x. (x.0, x.1.now)) result (slot_at room bytes.now) }
+fn read_slot(room: u64, bytes: &[u8]) -> Result<(u32, &[u8]), FieldFault>
+    ensures found { AnswersField (λ x. (x.0, x.1.now)) result (slot_at room bytes.now) }
     ensures small { IfOk result (λ x. room ≤ room_limit) }
-    ensures no_memory { IfErr result (λ e. e ≢ FieldError.NoMemory) }
+    ensures no_memory { IfErr result (λ e. e ≢ FieldFault.NoMemory) }
 {
     let (size, rest) = read_u32(bytes)?;
     let more = slot_room(size);
-    if room <= MOST_ROOM && more <= MOST_ROOM - room {
+    if room <= WIDE_ROOM_LIMIT && more <= WIDE_ROOM_LIMIT - room {
         Ok((size, rest))
     } else {
-        Err(FieldError::Fault { left: bytes.len() })
+        Err(FieldFault::Fault { left: bytes.len() })
     }
 }
 
@@ -80,8 +80,8 @@ fn read_slots(
     room: u64,
     count: u32,
     bytes: &[u8],
-) -> Result<(Items<u32>, &[u8]), FieldError>
-    ensures { Gives (λ x. (x.0, x.1.now)) result (items_at slot_at next_room count room bytes.now) }
+) -> Result<(Items<u32>, &[u8]), FieldFault>
+    ensures { AnswersField (λ x. (x.0, x.1.now)) result (items_at slot_at next_room count room bytes.now) }
 {
     let mut slots = Items::new(alloc);
     let mut rest = bytes;
@@ -96,28 +96,28 @@ fn read_slots(
 }
 
 /// The count of temporaries: at least that of the parameters.
-fn read_temp_count(params: u32, bytes: &[u8]) -> Result<(u32, &[u8]), FieldError>
-    ensures found { Gives (λ x. (x.0, x.1.now)) result (checked (λ t. nat_le params t && nat_le (4 * t) room_limit) u32_at bytes.now) }
-    ensures no_memory { IfErr result (λ e. e ≢ FieldError.NoMemory) }
+fn read_temp_count(params: u32, bytes: &[u8]) -> Result<(u32, &[u8]), FieldFault>
+    ensures found { AnswersField (λ x. (x.0, x.1.now)) result (checked (λ t. nat_le params t && nat_le (4 * t) room_limit) u32_at bytes.now) }
+    ensures no_memory { IfErr result (λ e. e ≢ FieldFault.NoMemory) }
 {
     let (temps, rest) = read_u32(bytes)?;
-    if params <= temps && 4 * u64::from(temps) <= MOST_ROOM {
+    if params <= temps && 4 * u64::from(temps) <= WIDE_ROOM_LIMIT {
         Ok((temps, rest))
     } else {
-        Err(FieldError::Fault { left: bytes.len() })
+        Err(FieldFault::Fault { left: bytes.len() })
     }
 }
 
 /// The count of blocks: at least one.
-fn read_block_count(bytes: &[u8]) -> Result<(u32, &[u8]), FieldError>
-    ensures found { Gives (λ x. (x.0, x.1.now)) result (checked (λ n. nat_lt 0 n) u32_at bytes.now) }
-    ensures no_memory { IfErr result (λ e. e ≢ FieldError.NoMemory) }
+fn read_block_count(bytes: &[u8]) -> Result<(u32, &[u8]), FieldFault>
+    ensures found { AnswersField (λ x. (x.0, x.1.now)) result (checked (λ n. nat_lt 0 n) u32_at bytes.now) }
+    ensures no_memory { IfErr result (λ e. e ≢ FieldFault.NoMemory) }
 {
     let (count, rest) = read_u32(bytes)?;
     if count > 0 {
         Ok((count, rest))
     } else {
-        Err(FieldError::Fault { left: bytes.len() })
+        Err(FieldFault::Fault { left: bytes.len() })
     }
 }
 
@@ -128,8 +128,8 @@ fn read_code<'a>(
     names: &[Name],
     temps: u32,
     bytes: &'a [u8],
-) -> Result<((Items<u32>, Items<Block>), &'a [u8]), FieldError>
-    ensures { Gives (λ x. ((x.0.0, x.0.1), x.1.now)) result (code_at names.now temps bytes.now) }
+) -> Result<((Items<u32>, Items<Block>), &'a [u8]), FieldFault>
+    ensures { AnswersField (λ x. ((x.0.0, x.0.1), x.1.now)) result (code_at names.now temps bytes.now) }
 {
     let (slot_count, rest) = read_u32(bytes)?;
     let (slots, rest) = read_slots(alloc, 4 * u64::from(temps), slot_count, rest)?;
@@ -149,8 +149,8 @@ fn read_function_body<'a>(
     names: &[Name],
     name: &Name,
     bytes: &'a [u8],
-) -> Result<(FlowFn, &'a [u8]), FieldError>
-    ensures found { Gives (λ x. (x.0, x.1.now)) result (function_body_at names.now name.now bytes.now) }
+) -> Result<(FlowFn, &'a [u8]), FieldFault>
+    ensures found { AnswersField (λ x. (x.0, x.1.now)) result (function_body_at names.now name.now bytes.now) }
     ensures named { IfOk result (λ x. x.0.name ≡ name.now) }
 {
     let (shape, rest) = read_text_in_place(bytes)?;
@@ -174,9 +174,9 @@ fn read_function<'a>(
     names: &[Name],
     met: &mut [bool],
     bytes: &'a [u8],
-) -> Result<(FlowFn, &'a [u8]), FieldError>
+) -> Result<(FlowFn, &'a [u8]), FieldFault>
     requires { length met.old ≡ length names.now }
-    ensures found { (seen : List (List ℕ)) → Marks names.now seen met.old → Gives (λ x. (x.0, x.1.now)) result (function_at names.now seen bytes.now) }
+    ensures found { (seen : List (List ℕ)) → Marks names.now seen met.old → AnswersField (λ x. (x.0, x.1.now)) result (function_at names.now seen bytes.now) }
     ensures marked { IfOk result (λ x. (seen : List (List ℕ)) → IsRisingFrom [] names.now → Marks names.now seen met.old → Marks names.now (x.0.name ∷ seen) met.new) }
 {
     let (name, rest) = read_fresh(names, met, bytes)?;
@@ -190,10 +190,10 @@ pub fn read_functions<'a>(
     met: &mut [bool],
     count: u32,
     bytes: &'a [u8],
-) -> Result<(Items<FlowFn>, &'a [u8]), FieldError>
+) -> Result<(Items<FlowFn>, &'a [u8]), FieldFault>
     requires count { length met.old ≡ length names.now }
     requires rising { IsRisingFrom [] names.now }
-    ensures { (seen : List (List ℕ)) → Marks names.now seen met.old → Gives (λ x. (x.0, x.1.now)) result (items_at (function_at names.now) next_function count seen bytes.now) }
+    ensures { (seen : List (List ℕ)) → Marks names.now seen met.old → AnswersField (λ x. (x.0, x.1.now)) result (items_at (function_at names.now) next_function count seen bytes.now) }
 {
     let mut functions = Items::new(alloc);
     let mut rest = bytes;

@@ -3,7 +3,7 @@
 ghost use Rattle.std.specs.Prelude.{◌≡◌, ◌+◌, ◌<◌, ◌^◌, ℕ, [], length, map, Option, IfOk, IfErr, Ok};
 ghost use Rattle.std.specs.List.{flat_map};
 ghost use Rattle.pw_fields.specs.Fields.{text};
-ghost use Rattle.pw_fields.specs.FieldFaults.{Fails, Gives, GivesFile};
+ghost use Rattle.pw_fields.specs.FieldFaults.{Fails, AnswersField, GivesFile};
 ghost use Rattle.pw_fields.specs.FieldFrame.{ended};
 ghost use Rattle.pw_fields.specs.FieldNames.{IsRisingFrom};
 ghost use Rattle.pw_files.specs.Contents.{broken_at, value_of};
@@ -17,7 +17,7 @@ use crate::graphs::read_functions;
 use crate::met::unmarked;
 use crate::used::used_names;
 use pw_fields::names::{find_unused, read_name};
-use pw_fields::{FieldError, read_u32};
+use pw_fields::{FieldFault, read_u32};
 use pw_files::format::{Format, read_value};
 use pw_files::late::check_module;
 use pw_flow::names::{function_names, global_names};
@@ -38,9 +38,9 @@ fn read_first<'a>(
     alloc: Global,
     names: &[Name],
     bytes: &'a [u8],
-) -> Result<((Items<FlowGlobal>, Vec<bool>), &'a [u8]), FieldError>
+) -> Result<((Items<FlowGlobal>, Vec<bool>), &'a [u8]), FieldFault>
     requires { IsRisingFrom [] names.now }
-    ensures found { Gives (λ x. (x.0.0, x.1.now)) result (list_at (global_at names.now) next_global [] bytes.now) }
+    ensures found { AnswersField (λ x. (x.0.0, x.1.now)) result (list_at (global_at names.now) next_global [] bytes.now) }
     ensures marked { IfOk result (λ x. Marks names.now (seen_after [] (map (λ g. g.name) x.0.0)) x.0.1.items) }
 {
     let (count, rest) = read_u32(bytes)?;
@@ -55,9 +55,9 @@ fn read_second<'a>(
     alloc: Global,
     names: &[Name],
     bytes: &'a [u8],
-) -> Result<(Items<(Name, Shape)>, &'a [u8]), FieldError>
+) -> Result<(Items<(Name, Shape)>, &'a [u8]), FieldFault>
     requires { IsRisingFrom [] names.now }
-    ensures { Gives (λ x. (x.0, x.1.now)) result (list_at (declared_at names.now) next_declared [] bytes.now) }
+    ensures { AnswersField (λ x. (x.0, x.1.now)) result (list_at (declared_at names.now) next_declared [] bytes.now) }
 {
     let (count, rest) = read_u32(bytes)?;
     let mut met = unmarked(alloc, names)?;
@@ -72,10 +72,10 @@ fn read_third<'a>(
     globals: &[FlowGlobal],
     mut met: Vec<bool>,
     bytes: &'a [u8],
-) -> Result<(Items<FlowFn>, &'a [u8]), FieldError>
+) -> Result<(Items<FlowFn>, &'a [u8]), FieldFault>
     requires rising { IsRisingFrom [] names.now }
     requires marked { Marks names.now (seen_after [] (map (λ g. g.name) globals.now)) met.items }
-    ensures { Gives (λ x. (x.0, x.1.now)) result (list_at (function_at names.now) next_function (seen_after [] (map (λ g. g.name) globals.now)) bytes.now) }
+    ensures { AnswersField (λ x. (x.0, x.1.now)) result (list_at (function_at names.now) next_function (seen_after [] (map (λ g. g.name) globals.now)) bytes.now) }
 {
     let (count, rest) = read_u32(bytes)?;
     read_functions(alloc, names, &mut met, count, rest)
@@ -87,9 +87,9 @@ fn read_parts<'a>(
     alloc: Global,
     names: &[Name],
     bytes: &'a [u8],
-) -> Result<((FlowModule, usize), &'a [u8]), FieldError>
+) -> Result<((FlowModule, usize), &'a [u8]), FieldFault>
     requires { IsRisingFrom [] names.now }
-    ensures { Gives (λ x. (x.0, x.1.now)) result (parts_at names.now bytes.now) }
+    ensures { AnswersField (λ x. (x.0, x.1.now)) result (parts_at names.now bytes.now) }
 {
     let (name, rest) = read_name(names, bytes)?;
     let ((globals, met), rest) = read_first(alloc, names, rest)?;
@@ -112,9 +112,9 @@ fn check_late(
     flow: &FlowModule,
     behind: usize,
     place: usize,
-) -> Result<(), FieldError>
+) -> Result<(), FieldFault>
     requires { length (flat_map text names.now) + behind < 2 ^ 64 }
-    ensures { Gives (λ x. x) result (broken_at (late_rules names.now behind flow.now place)) }
+    ensures { AnswersField (λ x. x) result (broken_at (late_rules names.now behind flow.now place)) }
 {
     let used = used_names(alloc, flow)?;
     let unused = find_unused(alloc, names, used, behind)?;
@@ -129,7 +129,7 @@ fn read_fields<'a>(
     alloc: Global,
     names: &[Name],
     bytes: &'a [u8],
-) -> Result<(FlowModule, usize, &'a [u8]), FieldError>
+) -> Result<(FlowModule, usize, &'a [u8]), FieldFault>
     requires { IsRisingFrom [] names.now }
     ensures found { IfOk result (λ x. (rule : AnyModule → ℕ → Option ℕ) → fields_at names.now rule bytes.now ≡ ended (rule x.0 x.1) (record { names = names.now; value = x.0 }) x.2.now) }
     ensures fault { IfErr result (λ e. (rule : AnyModule → ℕ → Option ℕ) → Fails e (fields_at names.now rule bytes.now)) }
@@ -165,7 +165,7 @@ impl Format for FlowFormat {
         _version: u32,
         names: &[Name],
         bytes: &'a [u8],
-    ) -> Result<(FlowModule, usize, &'a [u8]), FieldError> {
+    ) -> Result<(FlowModule, usize, &'a [u8]), FieldFault> {
         read_fields(alloc, names, bytes)
     }
 
@@ -175,7 +175,7 @@ impl Format for FlowFormat {
         value: &FlowModule,
         behind: usize,
         place: usize,
-    ) -> Result<(), FieldError> {
+    ) -> Result<(), FieldFault> {
         check_late(alloc, names, value, behind, place)
     }
 }

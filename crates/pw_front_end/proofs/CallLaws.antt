@@ -1,4 +1,4 @@
--- What the lexer's answer makes of the front's and of places.
+-- What the lexer's answer makes of the front end's and of places.
 use Rattle.std.proofs.Common.{◌≡◌, ◌≢◌, ◌⊎◌, ℕ, List, None, Result, Ok, Err, refl, sym, ap, ⊎_elim, subst, Vec, Global, IfOk}
 use Rattle.std.specs.List.{position_from}
 use Rattle.pw_token.specs.Tokenization.{Answers, Lexes}
@@ -10,9 +10,9 @@ use Rattle.pw_parse.specs.declared.parser.ParseFault.{ParseFault}
 use Rattle.pw_parse.specs.declared.parser.ParseFault.TheVariants as parse
 use Rattle.pw_tree.specs.Trees.{Module}
 use Rattle.pw_front_end.specs.Lexed.{LexAnswer, lexed}
-use Rattle.pw_front_end.specs.Fronts.{by_lexing, front_of, has_feature}
-use Rattle.pw_front_end.specs.Gives.{Gives, error_of, parse_error_of}
-use Rattle.pw_front_end.specs.declared.refusal.FrontError.{FrontError}
+use Rattle.pw_front_end.specs.Fronts.{by_lexing, front_end_of, has_feature}
+use Rattle.pw_front_end.specs.AnswersTree.{AnswersTree, error_of, parse_error_of}
+use Rattle.pw_front_end.specs.declared.refusal.FrontEndFault.{FrontEndFault}
 use Rattle.pw_front_end.proofs.LexedLaws.{lexed-lexes}
 
 -- what the lexer's clause says of the function's answer
@@ -25,15 +25,15 @@ lexed-ok text tokens only = only (lexed text) (lexed-lexes text)
 pub lexed-err : (text : List ℕ) (fault : LexFault) → TellsLexed text (Err fault) → (fault ≡ NoMemory) ⊎ (lexed text ≡ Err fault)
 lexed-err text fault only = only (lexed text) (lexed-lexes text)
 
--- ---- the front
+-- ---- the front end
 
-pub gives-tokens : {V : Type 0} (view : V → Module) (text : List ℕ) (tokens : List Token) (r : Result V FrontError) → lexed text ≡ Ok tokens → Gives view (by_lexing text (Ok tokens)) r
-    → Gives view (front_of text) r
-unfolding front_of
-gives-tokens view text tokens r e h = subst (λ answer. Gives view (by_lexing text answer) r) (sym e) h
+pub gives-tokens : {V : Type 0} (view : V → Module) (text : List ℕ) (tokens : List Token) (r : Result V FrontEndFault) → lexed text ≡ Ok tokens → AnswersTree view (by_lexing text (Ok tokens)) r
+    → AnswersTree view (front_end_of text) r
+unfolding front_end_of
+gives-tokens view text tokens r e h = subst (λ answer. AnswersTree view (by_lexing text answer) r) (sym e) h
 
-pub gives-fault : {V : Type 0} (view : V → Module) (text : List ℕ) (fault : LexFault) → (fault ≡ NoMemory) ⊎ (lexed text ≡ Err fault) → Gives view (front_of text) (Err (error_of fault))
-unfolding front_of
+pub gives-fault : {V : Type 0} (view : V → Module) (text : List ℕ) (fault : LexFault) → (fault ≡ NoMemory) ⊎ (lexed text ≡ Err fault) → AnswersTree view (front_end_of text) (Err (error_of fault))
+unfolding front_end_of
 gives-fault view text NoMemory h = tt
 gives-fault view text TooLong h = ap (by_lexing text) (⊎_elim (λ e. cc) (λ e. e) h)
 gives-fault view text (Bad at) h = ap (by_lexing text) (⊎_elim (λ e. cc) (λ e. e) h)
@@ -45,7 +45,7 @@ pub gives-tree : (text : List ℕ) (tokens : List Token) (tree : Module) → Non
 gives-tree text tokens tree e f = rw (← e, f) refl
 
 pub gives-parse_fault : {V : Type 0} (view : V → Module) (text : List ℕ) (tokens : List Token) (fault : ParseFault) → None ≡ position_from (has_feature text) 1 tokens
-    → (fault ≢ parse.NoMemory → parsed text tokens ≡ Err fault) → Gives view (by_lexing text (Ok tokens)) (Err (parse_error_of fault))
+    → (fault ≢ parse.NoMemory → parsed text tokens ≡ Err fault) → AnswersTree view (by_lexing text (Ok tokens)) (Err (parse_error_of fault))
 gives-parse_fault view text tokens parse.NoMemory e h = tt
 gives-parse_fault view text tokens (parse.TooDeep n) e h = let f = h (λ e. cc) in rw (← e, f) refl
 gives-parse_fault view text tokens (parse.Syntax n) e h = let f = h (λ e. cc) in rw (← e, f) refl

@@ -1,4 +1,4 @@
--- The front's function gives the one answer of each text.
+-- The front end's function gives the one answer of each text.
 use Rattle.std.proofs.Common.{◌≡◌, ℕ, ◌-◌, true, List, [], ◌∷◌, map, Option, Some, None, Result, Ok, Err, refl, sym, ap, ◌∙◌, subst, is_some, slice_get, option_and_then}
 use Rattle.std.specs.Prelude.{◌↔◌}
 use Rattle.std.specs.Option.{option_map}
@@ -19,11 +19,11 @@ use Rattle.pw_parse.specs.Parsing.{answer_of, parsed, symbol_in, unless_too_deep
 use Rattle.pw_parse.specs.declared.parser.ParseFault.TheVariants.{TooDeep, Syntax, NoMemory}
 use Rattle.pw_front_end.specs.First.{IsFirst}
 use Rattle.pw_front_end.specs.Lexed.{LexAnswer, lexed}
-use Rattle.pw_front_end.specs.Fronts.{Front, Fronts, HoldsNoWant, IsSupported, IsShallow, IsUnsupportedAt, IsTooDeepAt, has_feature, is_deep, with_feature, first_feature, by_parsing, by_feature, by_lexing, front_of}
-use Rattle.pw_front_end.specs.Gives.{FrontsAs, Gives}
-use Rattle.pw_front_end.specs.declared.refusal.FrontError.{FrontError}
-use Rattle.pw_front_end.specs.declared.refusal.FrontError.TheVariants.{Refused}
-use Rattle.pw_front_end.specs.declared.refusal.FrontError.TheVariants as error
+use Rattle.pw_front_end.specs.Fronts.{FrontEnd, FrontEndAnswers, HoldsNoWant, IsSupported, IsShallow, IsUnsupportedAt, IsTooDeepAt, has_feature, is_deep, with_feature, first_feature, by_parsing, by_feature, by_lexing, front_end_of}
+use Rattle.pw_front_end.specs.AnswersTree.{FrontEndAnswersAs, AnswersTree}
+use Rattle.pw_front_end.specs.declared.refusal.FrontEndFault.{FrontEndFault}
+use Rattle.pw_front_end.specs.declared.refusal.FrontEndFault.TheVariants.{Refused}
+use Rattle.pw_front_end.specs.declared.refusal.FrontEndFault.TheVariants as error
 use Rattle.pw_front_end.specs.declared.refusal.Refusal.{Refusal}
 use Rattle.pw_front_end.specs.declared.refusal.Refusal.TheVariants.{Lex, Unsupported, Parse, Check}
 use Rattle.pw_front_end.proofs.FirstLaws.{none-passes, none-found, first-passes, first-found, first-there}
@@ -36,8 +36,8 @@ same-symbols : (text : List ℕ) (tokens : List Token) → map (symbol_in text) 
 same-symbols text [] = refl
 same-symbols text (t ∷ ts) = ap (λ xs. symbol_in text t ∷ xs) (same-symbols text ts)
 
--- the tokens' one answer in the grammar, as the front tells it
-abbrev by_answer : Result Module ℕ → Front
+-- the tokens' one answer in the grammar, as the front end tells it
+abbrev by_answer : Result Module ℕ → FrontEnd
 by_answer (Ok tree) = Ok tree
 by_answer (Err n) = Err (Parse (Syntax n))
 
@@ -64,26 +64,26 @@ abbrev pub OneAnswer : Type 0
 OneAnswer = (tokens : List Spelled) (answer : Result Module ℕ) → IsAnswer tokens answer ↔ (answer ≡ answer_in (read (map symbol_of tokens)))
 
 -- no text is refused for want of memory
-pub no-want : (text : List ℕ) (refusal : Refusal) → Fronts text (Err refusal) → HoldsNoWant refusal
+pub no-want : (text : List ℕ) (refusal : Refusal) → FrontEndAnswers text (Err refusal) → HoldsNoWant refusal
 no-want text (Lex lex.NoMemory) h = absurd h
 no-want text (Parse NoMemory) h = absurd h
 no-want text (Check fault) h = absurd h
 no-want text _ h = tt
 
 module _ (exact : OneAnswer) where
-  answer-fronts : (text : List ℕ) (tokens : List Token) (answer : Result Module ℕ) → IsShallow text tokens → IsAnswer (spelled_all text tokens) answer → Fronts text (by_answer answer)
+  answer-fronts : (text : List ℕ) (tokens : List Token) (answer : Result Module ℕ) → IsShallow text tokens → IsAnswer (spelled_all text tokens) answer → FrontEndAnswers text (by_answer answer)
   answer-fronts text tokens (Ok tree) h k = record { tokens = tokens; shallow = h; reads = k }
   answer-fronts text tokens (Err n) h k = record { tokens = tokens; shallow = h; fault = k }
 
-  parsed-fronts : (text : List ℕ) (tokens : List Token) → IsSupported text tokens → (o : Option ℕ) → position_from is_deep 1 (nests_of text tokens) ≡ o → Fronts text (by_parsing (parsed text tokens))
+  parsed-fronts : (text : List ℕ) (tokens : List Token) → IsSupported text tokens → (o : Option ℕ) → position_from is_deep 1 (nests_of text tokens) ≡ o → FrontEndAnswers text (by_parsing (parsed text tokens))
   parsed-fronts text tokens h (Some n) e =
       let first = first-passes is_deep n (nests_of text tokens) e in
       let deep : IsTooDeepAt text n = record { tokens = tokens; nest = first.0; supported = h; first = first.1 } in
-      subst (Fronts text) (sym (deep-parsed text tokens n e)) deep
+      subst (FrontEndAnswers text) (sym (deep-parsed text tokens n e)) deep
   parsed-fronts text tokens h None e =
       let answer : Result Module ℕ = answer_in (read (map symbol_of (spelled_all text tokens))) in
       let shallow : IsShallow text tokens = record { supported = h; shallow = none-passes is_deep 1 (nests_of text tokens) e } in
-      subst (Fronts text) (sym (shallow-parsed text tokens e)) (answer-fronts text tokens answer shallow ((exact (spelled_all text tokens) answer).1 refl))
+      subst (FrontEndAnswers text) (sym (shallow-parsed text tokens e)) (answer-fronts text tokens answer shallow ((exact (spelled_all text tokens) answer).1 refl))
 
   feature-there : (o : Option Feature) → is_some o ≡ true → (feature : Feature) × (o ≡ Some feature)
   feature-there None e = cc
@@ -97,32 +97,32 @@ module _ (exact : OneAnswer) where
       ap (option_map (λ x. (n, x))) found
 
   feature-fronts : (text : List ℕ) (tokens : List Token) → IsLexed text tokens → (o : Option ℕ) → position_from (has_feature text) 1 tokens ≡ o
-      → Fronts text (by_feature (with_feature text tokens o) (by_parsing (parsed text tokens)))
+      → FrontEndAnswers text (by_feature (with_feature text tokens o) (by_parsing (parsed text tokens)))
   feature-fronts text tokens h None e =
       parsed-fronts text tokens (record { lexed = h; supported = none-passes (has_feature text) 1 tokens e }) (position_from is_deep 1 (nests_of text tokens)) refl
   feature-fronts text tokens h (Some n) e =
       let f = first-passes (has_feature text) n tokens e in
       let g = feature-there (feature_of text f.0) f.1.passes in
-      let P : Option (ℕ × Feature) → Type 0 = λ o. Fronts text (by_feature o (by_parsing (parsed text tokens))) in
+      let P : Option (ℕ × Feature) → Type 0 = λ o. FrontEndAnswers text (by_feature o (by_parsing (parsed text tokens))) in
       let unsupported : IsUnsupportedAt text n g.0 = record { tokens = tokens; token = f.0; lexed = h; first = f.1; has = g.1 } in
       subst P (sym (with-first text tokens n f.0 g.0 f.1 g.1)) unsupported
 
-  lexing-fronts : (text : List ℕ) (answer : LexAnswer) → Lexes text answer → Fronts text (by_lexing text answer)
+  lexing-fronts : (text : List ℕ) (answer : LexAnswer) → Lexes text answer → FrontEndAnswers text (by_lexing text answer)
   lexing-fronts text (Err fault) h = h
   lexing-fronts text (Ok tokens) h = feature-fronts text tokens h (position_from (has_feature text) 1 tokens) refl
 
-  pub front-fronts : (text : List ℕ) → Fronts text (front_of text)
-  unfolding front_of
+  pub front-fronts : (text : List ℕ) → FrontEndAnswers text (front_end_of text)
+  unfolding front_end_of
   front-fronts text = lexing-fronts text (lexed text) (lexed-lexes text)
 
   -- ---- and no other is
 
-  by-tokens : (text : List ℕ) (tokens : List Token) (answer : Front) → IsLexed text tokens → answer ≡ by_lexing text (Ok tokens) → answer ≡ front_of text
-  unfolding front_of
+  by-tokens : (text : List ℕ) (tokens : List Token) (answer : FrontEnd) → IsLexed text tokens → answer ≡ by_lexing text (Ok tokens) → answer ≡ front_end_of text
+  unfolding front_end_of
   by-tokens text tokens answer h e = e ∙ ap (by_lexing text) (lexed-only text (Ok tokens) h)
 
-  by-fault : (text : List ℕ) (answer : LexAnswer) → Lexes text answer → by_lexing text answer ≡ front_of text
-  unfolding front_of
+  by-fault : (text : List ℕ) (answer : LexAnswer) → Lexes text answer → by_lexing text answer ≡ front_end_of text
+  unfolding front_end_of
   by-fault text answer h = ap (by_lexing text) (lexed-only text answer h)
 
   -- where all tokens are supported the parser decides
@@ -143,7 +143,7 @@ module _ (exact : OneAnswer) where
       ap (with_feature text h.tokens) (first-found (has_feature text) n h.tokens h.token h.first) ∙ with-first text h.tokens n h.token feature h.first h.has in
       sym (ap (λ o. by_feature o (by_parsing (parsed text h.tokens))) found)
 
-  pub front-only : (text : List ℕ) (answer : Front) → Fronts text answer → answer ≡ front_of text
+  pub front-only : (text : List ℕ) (answer : FrontEnd) → FrontEndAnswers text answer → answer ≡ front_end_of text
   front-only text (Err (Lex fault)) h = by-fault text (Err fault) h
   front-only text (Err (Unsupported n feature)) h = by-tokens text h.tokens (Err (Unsupported n feature)) h.lexed (by-unsupported text n feature h)
   front-only text (Err (Parse (TooDeep n))) h = by-tokens text h.tokens (Err (Parse (TooDeep n))) h.supported.lexed (by-deep text n h)
@@ -155,13 +155,13 @@ module _ (exact : OneAnswer) where
 
   -- ---- what a call gives
 
-  pub fronts-as : {V : Type 0} (view : V → Module) (text : List ℕ) (result : Result V FrontError) → Gives view (front_of text) result → FrontsAs view text result
-  fronts-as view text (Ok v) e = subst (Fronts text) e (front-fronts text)
-  fronts-as view text (Err (Refused refusal)) e = subst (Fronts text) e (front-fronts text)
+  pub fronts-as : {V : Type 0} (view : V → Module) (text : List ℕ) (result : Result V FrontEndFault) → AnswersTree view (front_end_of text) result → FrontEndAnswersAs view text result
+  fronts-as view text (Ok v) e = subst (FrontEndAnswers text) e (front-fronts text)
+  fronts-as view text (Err (Refused refusal)) e = subst (FrontEndAnswers text) e (front-fronts text)
   fronts-as view text (Err error.NoMemory) e = tt
 
-  pub only-answer : {V : Type 0} (view : V → Module) (text : List ℕ) (result : Result V FrontError) → Gives view (front_of text) result
-      → (answer : Front) → Fronts text answer → Gives view answer result
+  pub only-answer : {V : Type 0} (view : V → Module) (text : List ℕ) (result : Result V FrontEndFault) → AnswersTree view (front_end_of text) result
+      → (answer : FrontEnd) → FrontEndAnswers text answer → AnswersTree view answer result
   only-answer view text (Ok v) e answer h = front-only text answer h ∙ e
   only-answer view text (Err (Refused refusal)) e answer h = front-only text answer h ∙ e
   only-answer view text (Err error.NoMemory) e answer h = tt

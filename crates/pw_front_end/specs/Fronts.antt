@@ -1,4 +1,4 @@
--- What the front makes of a module's text: its syntax tree, or a refusal.
+-- What the front end makes of a module's text: its syntax tree, or a refusal.
 use Rattle.std.specs.Prelude.{◌≡◌, ◌≢◌, ℕ, ◌-◌, Bool, List, nat_lt, Option, Some, None, Result, Ok, Err, is_some, slice_get, option_and_then, option_map}
 use Rattle.pw_token.specs.Limits.{nest_limit}
 use Rattle.std.specs.List.{position_from}
@@ -20,8 +20,8 @@ use Rattle.pw_front_end.specs.declared.refusal.Refusal.{Refusal}
 use Rattle.pw_front_end.specs.declared.refusal.Refusal.TheVariants.{Lex, Unsupported, Parse, Check}
 
 -- the answer to a text
-abbrev pub Front : Type 0
-Front = Result Module Refusal
+abbrev pub FrontEnd : Type 0
+FrontEnd = Result Module Refusal
 
 -- ---- tests of tokens
 
@@ -77,14 +77,14 @@ abbrev pub Passes : List ℕ → Type 0
 Passes text = (tree : Module) × HasTree text tree
 
 -- the text's one answer: the first of lexing, left-out tokens, depth and syntax that has a fault tells it
-abbrev pub Fronts : List ℕ → Front → Type 0
-Fronts text (Err (Lex fault)) = Lexes text (Err fault)
-Fronts text (Err (Unsupported n feature)) = IsUnsupportedAt text n feature
-Fronts text (Err (Parse (TooDeep n))) = IsTooDeepAt text n
-Fronts text (Err (Parse (Syntax n))) = IsSyntaxAt text n
-Fronts text (Err (Parse NoMemory)) = ⊥
-Fronts text (Err (Check fault)) = ⊥
-Fronts text (Ok tree) = HasTree text tree
+abbrev pub FrontEndAnswers : List ℕ → FrontEnd → Type 0
+FrontEndAnswers text (Err (Lex fault)) = Lexes text (Err fault)
+FrontEndAnswers text (Err (Unsupported n feature)) = IsUnsupportedAt text n feature
+FrontEndAnswers text (Err (Parse (TooDeep n))) = IsTooDeepAt text n
+FrontEndAnswers text (Err (Parse (Syntax n))) = IsSyntaxAt text n
+FrontEndAnswers text (Err (Parse NoMemory)) = ⊥
+FrontEndAnswers text (Err (Check fault)) = ⊥
+FrontEndAnswers text (Ok tree) = HasTree text tree
 
 -- The refusal is none for want of memory.
 abbrev pub HoldsNoWant : Refusal → Type 0
@@ -103,17 +103,17 @@ with_feature text tokens (Some n) = option_map (λ feature. (n, feature)) (optio
 abbrev pub first_feature : List ℕ → List Token → Option (ℕ × Feature)
 first_feature text tokens = with_feature text tokens (position_from (has_feature text) 1 tokens)
 
-abbrev pub by_parsing : Result Module ParseFault → Front
+abbrev pub by_parsing : Result Module ParseFault → FrontEnd
 by_parsing (Err fault) = Err (Parse fault)
 by_parsing (Ok tree) = Ok tree
 
-abbrev pub by_feature : Option (ℕ × Feature) → Front → Front
+abbrev pub by_feature : Option (ℕ × Feature) → FrontEnd → FrontEnd
 by_feature (Some (n, feature)) others = Err (Unsupported n feature)
 by_feature None others = others
 
-abbrev pub by_lexing : List ℕ → LexAnswer → Front
+abbrev pub by_lexing : List ℕ → LexAnswer → FrontEnd
 by_lexing text (Err fault) = Err (Lex fault)
 by_lexing text (Ok tokens) = by_feature (first_feature text tokens) (by_parsing (parsed text tokens))
 
-unfoldable pub front_of : List ℕ → Front
-front_of text = by_lexing text (lexed text)
+unfoldable pub front_end_of : List ℕ → FrontEnd
+front_end_of text = by_lexing text (lexed text)

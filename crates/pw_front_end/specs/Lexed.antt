@@ -1,4 +1,4 @@
--- The tokens of a text as a function, piece by piece from its front.
+-- The tokens of a text as a function, piece by piece from its beginning.
 use Rattle.std.specs.Prelude.{ℕ, zero, suc, ◌+◌, Bool, true, false, ◌==◌, nat_le, nat_lt, if◌then◌else◌, List, [], ◌++◌, length, take, drop, Option, Some, None, Result, Ok, Err}
 use Rattle.pw_token.specs.Limits.{text_limit, token_limit}
 use Rattle.pw_token.specs.Pieces.{piece_at}

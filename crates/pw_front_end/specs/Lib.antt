@@ -1,6 +1,6 @@
 pub mod First
 pub mod FromParse
 pub mod Fronts
-pub mod Gives
+pub mod AnswersTree
 pub mod Lexed
 pub mod Places

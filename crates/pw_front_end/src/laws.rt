@@ -1,8 +1,8 @@
-//! Laws of the front.
+//! Laws of the front end.
 
 ghost use Rattle.std.specs.Prelude.{◌≡◌, ◌↔◌, ℕ, List, Err};
 ghost use Rattle.pw_token.specs.Tokenization.{Lexes};
-ghost use Rattle.pw_front_end.specs.Fronts.{Front, Fronts, HoldsNoWant, front_of};
+ghost use Rattle.pw_front_end.specs.Fronts.{FrontEnd, FrontEndAnswers, HoldsNoWant, front_end_of};
 ghost use Rattle.pw_front_end.specs.Lexed.{LexAnswer, lexed};
 ghost use Rattle.pw_front_end.specs.declared.refusal.Refusal.{Refusal};
 
@@ -15,8 +15,8 @@ pub fn lexed_is_exact()
 
 /// A text has one answer, and it is that of the function. It is never want of memory.
 pub fn front_is_exact()
-    ensures exact { (text : List ℕ) (answer : Front) → Fronts text answer ↔ (answer ≡ front_of text) }
-    ensures no_want { (text : List ℕ) (refusal : Refusal) → front_of text ≡ Err refusal → HoldsNoWant refusal }
+    ensures exact { (text : List ℕ) (answer : FrontEnd) → FrontEndAnswers text answer ↔ (answer ≡ front_end_of text) }
+    ensures no_want { (text : List ℕ) (refusal : Refusal) → front_end_of text ≡ Err refusal → HoldsNoWant refusal }
 {
     reading_is_exact();
 }

@@ -11,4 +11,4 @@ pub use laws::{front_is_exact, lexed_is_exact};
 pub use module::front;
 pub use place::refusal_line;
 pub use pw_parse::ParseFault;
-pub use refusal::{FrontError, Refusal};
+pub use refusal::{FrontEndFault, Refusal};

@@ -8,7 +8,7 @@ ghost use Rattle.pw_front_end.specs.Places.{or_none, place_of, refusal_line, tok
 
 use crate::refusal::Refusal;
 use pw_parse::ParseFault;
-use pw_token::{LexFault, MAX_TEXT, Token, lex, line_at};
+use pw_token::{LexFault, TEXT_LIMIT, Token, lex, line_at};
 use std::alloc::{AllocError, Global};
 
 /// No tokens, for a text that does not lex. Want of memory is told on.
@@ -62,7 +62,7 @@ fn tokens_so_far(alloc: Global, text: &[u8]) -> Result<Vec<Token>, AllocError>
 fn tokens_in(alloc: Global, text: &[u8]) -> Result<Vec<Token>, AllocError>
     ensures { IfOk result (λ tokens. tokens.items ≡ tokens_in text.now) }
 {
-    tokens_so_far(alloc, &text[..MAX_TEXT.min(text.len())])
+    tokens_so_far(alloc, &text[..TEXT_LIMIT.min(text.len())])
 }
 
 /// The place of the token of this number, counted from 1, or `end` where there is none.

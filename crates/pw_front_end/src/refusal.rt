@@ -16,13 +16,13 @@ pub enum Refusal {
     Unsupported(usize, Feature),
     /// The tokens have no syntax tree.
     Parse(ParseFault),
-    /// The tree breaks a constraint of the language or passes a limit. The front by itself never says so.
+    /// The tree breaks a constraint of the language or passes a limit. The front end by itself never says so.
     Check(CheckFault),
 }
 
-/// Why the front gives no syntax tree.
+/// Why the front end gives no syntax tree.
 #[derive(Clone, Copy, Debug, Error)]
-pub enum FrontError {
+pub enum FrontEndFault {
     /// The text is refused. The refusal is never want of memory.
     #[error("the text is refused")]
     Refused(Refusal),
@@ -31,31 +31,31 @@ pub enum FrontError {
     NoMemory,
 }
 
-impl From<LexFault> for FrontError {
-    ghost use Rattle.pw_front_end.specs.Gives.{error_of};
+impl From<LexFault> for FrontEndFault {
+    ghost use Rattle.pw_front_end.specs.AnswersTree.{error_of};
 
     ghost from_gives = { λ fault error. error ≡ error_of fault };
 
     fn from(fault: LexFault) -> Self {
         match fault {
-            LexFault::NoMemory => FrontError::NoMemory,
+            LexFault::NoMemory => FrontEndFault::NoMemory,
             LexFault::Bad { .. } | LexFault::TooLong | LexFault::TooMany { .. } => {
-                FrontError::Refused(Refusal::Lex(fault))
+                FrontEndFault::Refused(Refusal::Lex(fault))
             }
         }
     }
 }
 
-impl From<ParseFault> for FrontError {
-    ghost use Rattle.pw_front_end.specs.Gives.{parse_error_of};
+impl From<ParseFault> for FrontEndFault {
+    ghost use Rattle.pw_front_end.specs.AnswersTree.{parse_error_of};
 
     ghost from_gives = { λ fault error. error ≡ parse_error_of fault };
 
     fn from(fault: ParseFault) -> Self {
         match fault {
-            ParseFault::NoMemory => FrontError::NoMemory,
+            ParseFault::NoMemory => FrontEndFault::NoMemory,
             ParseFault::TooDeep { .. } | ParseFault::Syntax { .. } => {
-                FrontError::Refused(Refusal::Parse(fault))
+                FrontEndFault::Refused(Refusal::Parse(fault))
             }
         }
     }

@@ -12,7 +12,7 @@ use Rattle.pw_go.specs.FullBuild as build
 use Rattle.pw_go.specs.FullBuild.{Build, alone, by_numbers, by_refused, build_of_sources, first_refused, full_build, not_yet, refused_or, refused_source, together}
 use Rattle.pw_store_modules.specs.Modules.{Source, modules_of}
 use Rattle.pw_value.specs.declared.fault.LinkFault.TheVariants.{NoMain}
-use Rattle.pw_go.specs.Refusals.{IsAccepted, IsFirstRefused, IsOtherForm, IsSecond, RefusesOne, RefusalIs, RefusalComes, NoMainIs, NoMainComes}
+use Rattle.pw_go.specs.Refusals.{IsAccepted, IsFirstRefused, IsOtherForm, IsSecond, RefusesOne, RefusalIs, AnswersRefusal, NoMainIs, AnswersNoMain}
 use Rattle.pw_go_sum.specs.SumProgram.{IsSumProgram, numbers_in}
 use Rattle.pw_go.specs.Going.{AnswersBuild}
 
@@ -162,7 +162,7 @@ full_built : Exact → (files : Files) (name : List ℕ) (refusal : Refusal) →
 unfolding full_build
 full_built exact files name refusal h = refused_built exact (modules_of files) name refusal h
 
-pub refusal_comes : Exact → (files : Files) (answer : Answer) → AnswersBuild (full_build files) answer → RefusalComes (modules_of files) answer
+pub refusal_comes : Exact → (files : Files) (answer : Answer) → AnswersBuild (full_build files) answer → AnswersRefusal (modules_of files) answer
 refusal_comes exact files answer h name refusal due =
     let built : (line : ℕ) × (full_build files ≡ build.Refused name refusal line) = full_built exact files name refusal due in
     subst (λ b. AnswersBuild b answer) built.1 h
@@ -208,5 +208,5 @@ none_built : (files : Files) → modules_of files ≡ [] → full_build files �
 unfolding full_build
 none_built files e = ap build_of_sources e
 
-pub no_main_comes : (files : Files) (answer : Answer) → AnswersBuild (full_build files) answer → NoMainComes (modules_of files) answer
+pub no_main_comes : (files : Files) (answer : Answer) → AnswersBuild (full_build files) answer → AnswersNoMain (modules_of files) answer
 no_main_comes files answer h none = subst (λ b. AnswersBuild b answer) (none_built files none) h

@@ -53,8 +53,8 @@ RefusalIs sources (Refused name refusal) = RefusesOne sources name refusal
 RefusalIs sources _ = Unit {0}
 
 -- Where this refusal is due, it is the answer; only want of memory or a fault of the store may come in its place.
-abbrev pub RefusalComes : List Source → Answer → Type 0
-RefusalComes sources answer = (name : List ℕ) (refusal : Refusal) → RefusesOne sources name refusal → RefusesAs (Refused name refusal) answer
+abbrev pub AnswersRefusal : List Source → Answer → Type 0
+AnswersRefusal sources answer = (name : List ℕ) (refusal : Refusal) → RefusesOne sources name refusal → RefusesAs (Refused name refusal) answer
 
 -- A refusal of the modules together is that none is `main`'s, and there is no module.
 abbrev pub NoMainIs : List Source → Answer → Type 0
@@ -62,8 +62,8 @@ NoMainIs sources (LinkRefused fault) = (fault ≡ link.NoMain) × (sources ≡ [
 NoMainIs sources _ = Unit {0}
 
 -- Where there is no module, that is the answer; only want of memory or a fault of the store may come in its place.
-abbrev pub NoMainComes : List Source → Answer → Type 0
-NoMainComes sources answer = sources ≡ [] → RefusesAs (LinkRefused link.NoMain) answer
+abbrev pub AnswersNoMain : List Source → Answer → Type 0
+AnswersNoMain sources answer = sources ≡ [] → RefusesAs (LinkRefused link.NoMain) answer
 
 -- a refusal of modules together for another reason than want of memory
 abbrev pub HoldsNoLinkWant : LinkFault → Type 0

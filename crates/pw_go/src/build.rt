@@ -11,7 +11,7 @@ ghost use Rattle.pw_go.specs.FullBuild.{build_of_sources, by_numbers, first_refu
 ghost use Rattle.pw_go.specs.Refusals.{IsProper};
 ghost use Rattle.pw_go.specs.BuildViews.{build_view, refused_build, refusal_in};
 
-use pw_front_end::{FrontError, Refusal, front_is_exact, refusal_line};
+use pw_front_end::{FrontEndFault, Refusal, front_is_exact, refusal_line};
 use pw_go_sum::{Sum, sum_in};
 use pw_io::{Store, StoreError};
 use pw_phase_one::laws::phase_one_is_exact;
@@ -46,8 +46,8 @@ fn refusal_of(alloc: Global, which: &Module) -> Result<Option<Refusal>, AllocErr
 {
     match phase_one(alloc, &which.name, which.text.as_slice()) {
         Ok(_flow) => Ok(None),
-        Err(FrontError::Refused(refusal)) => Ok(Some(refusal)),
-        Err(FrontError::NoMemory) => Err(AllocError),
+        Err(FrontEndFault::Refused(refusal)) => Ok(Some(refusal)),
+        Err(FrontEndFault::NoMemory) => Err(AllocError),
     }
 }
 

@@ -7,7 +7,7 @@ ghost use Rattle.pw_top_answer.specs.Outcomes.{Answers};
 ghost use Rattle.pw_top_answer.specs.declared.answer.Answer.{Answer};
 ghost use Rattle.pw_go.specs.FullBuild.{full_build};
 ghost use Rattle.pw_go.specs.Going.{AnswersBuild, BuiltAgrees, ReturnsSum, build_effect};
-ghost use Rattle.pw_go.specs.Refusals.{NoMainComes, NoMainIs, RefusalComes, RefusalIs};
+ghost use Rattle.pw_go.specs.Refusals.{AnswersNoMain, NoMainIs, AnswersRefusal, RefusalIs};
 
 use pw_go_sum::{form_is_exact, words_agree};
 use pw_phase_one::laws::phase_one_is_exact;
@@ -16,9 +16,9 @@ use pw_phase_one::laws::phase_one_is_exact;
 /// modules are refused together exactly where there is none.
 pub fn refusals_are_due()
     ensures is { (files : Files) (answer : Answer) → AnswersBuild (full_build files) answer → RefusalIs (modules_of files) answer }
-    ensures comes { (files : Files) (answer : Answer) → AnswersBuild (full_build files) answer → RefusalComes (modules_of files) answer }
+    ensures comes { (files : Files) (answer : Answer) → AnswersBuild (full_build files) answer → AnswersRefusal (modules_of files) answer }
     ensures no_main_is { (files : Files) (answer : Answer) → AnswersBuild (full_build files) answer → NoMainIs (modules_of files) answer }
-    ensures no_main_comes { (files : Files) (answer : Answer) → AnswersBuild (full_build files) answer → NoMainComes (modules_of files) answer }
+    ensures no_main_comes { (files : Files) (answer : Answer) → AnswersBuild (full_build files) answer → AnswersNoMain (modules_of files) answer }
 {
     form_is_exact();
     phase_one_is_exact();

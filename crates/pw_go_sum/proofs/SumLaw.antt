@@ -12,7 +12,7 @@ use Rattle.std.proofs.lemmas.Slice.Eq.{bytes_eq-Decides}
 use Rattle.std.proofs.lemmas.Bool.Decides.{nat_tests}
 use Rattle.pw_go_sum.specs.Tokens.{tokens}
 use Rattle.pw_token.specs.Limits.{text_limit}
-use Rattle.pw_go_sum.specs.SumProgram.{sum_limit, number_limit, prefix_limit, IsSumProgram, opening, closing, sum_tokens, read_digits, has_no_number, number_in, is_last_brace, term_at, sum_from, terms, without_front, numbers_in}
+use Rattle.pw_go_sum.specs.SumProgram.{sum_limit, number_limit, prefix_limit, IsSumProgram, opening, closing, sum_tokens, read_digits, has_no_number, number_in, is_last_brace, term_at, sum_from, terms, without_prefix, numbers_in}
 
 -- the number that digits spell, read on from a number
 abbrev read_on : ℕ → List ℕ → ℕ
@@ -107,7 +107,7 @@ decimal_is_number n small =
     rw (decimal_has_number n small, read, fits) refl
 
 -- the front of the tokens
-front_is : (ws ts rest : List (List ℕ)) → without_front ws ts ≡ Some rest → ts ≡ ws ++ rest
+front_is : (ws ts rest : List (List ℕ)) → without_prefix ws ts ≡ Some rest → ts ≡ ws ++ rest
 front_is [] ts rest e = ap (λ o. unwrap_or o []) e
 front_is (w ∷ ws) [] rest e = cc
 front_is (w ∷ ws) (t ∷ ts) rest e =
@@ -118,7 +118,7 @@ front_is (w ∷ ws) (t ∷ ts) rest e =
 same_bytes : (t : List ℕ) → bytes_eq t t ≡ true
 same_bytes t = (bytes_eq-Decides t t).1 refl
 
-front_again : (ws rest : List (List ℕ)) → without_front ws (ws ++ rest) ≡ Some rest
+front_again : (ws rest : List (List ℕ)) → without_prefix ws (ws ++ rest) ≡ Some rest
 front_again [] rest = refl
 front_again (w ∷ ws) rest = rw (same_bytes w) (front_again ws rest)
 
@@ -196,7 +196,7 @@ mapped : {A B : Type 0} (f : A → B) (o : Option A) (y : B) → option_map f o 
 mapped f None y e = cc
 mapped f (Some x) y e = (x, refl, some_equal _ _ e)
 
--- a sum with one more number at its front
+-- a sum with one more number at its beginning
 spells_more : (k n : ℕ) (ts others : List (List ℕ)) (numbers : List ℕ) → n ≤ number_limit → ts ≡ decimal n ∷ codes "+" ∷ others → Spells k others numbers → Spells (suc k) ts (n ∷ numbers)
 spells_more k n ts others numbers small e s = record {
   some = omega arith;
@@ -229,7 +229,7 @@ pub numbers_told : (text numbers : List ℕ) → numbers_in text ≡ Some number
 unfolding numbers_in
 numbers_told text numbers e =
     let size = passed (nat_le (length text) text_limit) _ numbers e in
-    let b = bound (terms sum_limit) (without_front opening (tokens text)) numbers size.1 in
+    let b = bound (terms sum_limit) (without_prefix opening (tokens text)) numbers size.1 in
     let s = terms_told sum_limit b.0 numbers b.2 in
     record {
       size = grind (arith, nat_tests);
@@ -244,7 +244,7 @@ pub numbers_found : (text numbers : List ℕ) → IsSumProgram text numbers → 
 unfolding numbers_in
 numbers_found text numbers p =
     let fits : nat_le (length text) text_limit ≡ true = grind (arith, nat_tests, p.size) in
-    let front = ap (without_front opening) p.spelled ∙ front_again opening (sum_tokens numbers ++ closing) in
+    let front = ap (without_prefix opening) p.spelled ∙ front_again opening (sum_tokens numbers ++ closing) in
     rw (fits, front) (terms_found sum_limit numbers p.some p.few p.small)
 
 -- exactly the sum programs

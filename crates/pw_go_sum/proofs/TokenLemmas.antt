@@ -38,7 +38,7 @@ nothing_left : (bs : List ℕ) → length bs < 1 → bs ≡ []
 nothing_left [] h = refl
 nothing_left (b ∷ bs) h = absurd (omega arith)
 
--- blanks at the front are no tokens
+-- blanks at the beginning are no tokens
 pub tokens_after_blanks : (text : List ℕ) → tokens (drop (prefix_len is_blank text) text) ≡ tokens text
 tokens_after_blanks [] = refl
 tokens_after_blanks (b ∷ bs) =

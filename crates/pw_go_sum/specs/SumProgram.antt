@@ -81,11 +81,11 @@ terms zero ts = None
 terms (suc most) ts = option_and_then (sum_from (terms most)) (term_at ts)
 
 -- the tokens behind these
-abbrev pub without_front : List (List ℕ) → List (List ℕ) → Option (List (List ℕ))
-without_front [] ts = Some ts
-without_front (w ∷ ws) [] = None
-without_front (w ∷ ws) (t ∷ ts) = if bytes_eq t w then without_front ws ts else None
+abbrev pub without_prefix : List (List ℕ) → List (List ℕ) → Option (List (List ℕ))
+without_prefix [] ts = Some ts
+without_prefix (w ∷ ws) [] = None
+without_prefix (w ∷ ws) (t ∷ ts) = if bytes_eq t w then without_prefix ws ts else None
 
 unfoldable pub numbers_in : List ℕ → Option (List ℕ)
 numbers_in text =
-    if nat_le (length text) text_limit then option_and_then (terms sum_limit) (without_front opening (tokens text)) else None
+    if nat_le (length text) text_limit then option_and_then (terms sum_limit) (without_prefix opening (tokens text)) else None

@@ -4,10 +4,10 @@ ghost use Rattle.std.specs.Prelude.{◌≡◌, ◌↔◌, ◌≤◌, ℕ, List, 
 ghost use Rattle.std.specs.Option.{option_map};
 ghost use Rattle.std.specs.Str.{bytes_eq};
 ghost use Rattle.pw_go_sum.specs.Tokens.{tokens};
-ghost use Rattle.pw_go_sum.specs.SumProgram.{IsSumProgram, sum_limit, number_limit, numbers_in, number_in, read_digits, has_no_number, without_front, opening, terms, is_last_brace, term_at};
+ghost use Rattle.pw_go_sum.specs.SumProgram.{IsSumProgram, sum_limit, number_limit, numbers_in, number_in, read_digits, has_no_number, without_prefix, opening, terms, is_last_brace, term_at};
 
 use crate::tokens::next_token;
-use pw_token::MAX_TEXT;
+use pw_token::TEXT_LIMIT;
 use pw_value::program_names::MAIN;
 use std::alloc::{AllocError, Global};
 
@@ -59,7 +59,7 @@ fn number_in(token: &[u8]) -> Option<u16>
 
 /// The text behind its first token, where that is the one that is wanted.
 fn after_token<'a>(text: &'a [u8], wanted: &[u8]) -> Option<&'a [u8]>
-    ensures { option_map (λ rest. tokens rest.now) result ≡ without_front (wanted.now ∷ []) (tokens text.now) }
+    ensures { option_map (λ rest. tokens rest.now) result ≡ without_prefix (wanted.now ∷ []) (tokens text.now) }
 {
     let (token, rest) = next_token(text)?;
     if token == wanted { Some(rest) } else { None }
@@ -67,7 +67,7 @@ fn after_token<'a>(text: &'a [u8], wanted: &[u8]) -> Option<&'a [u8]>
 
 /// The text behind `int main(void){return`.
 fn after_opening(text: &[u8]) -> Option<&[u8]>
-    ensures { option_map (λ rest. tokens rest.now) result ≡ without_front opening (tokens text.now) }
+    ensures { option_map (λ rest. tokens rest.now) result ≡ without_prefix opening (tokens text.now) }
 {
     let text = after_token(text, b"int")?;
     let text = after_token(text, MAIN)?;
@@ -88,7 +88,7 @@ fn is_last_brace(text: &[u8]) -> bool
     }
 }
 
-/// The number at the front of a text, and the text behind the `+` that follows it, or `None` where the closing of
+/// The number at the beginning of a text, and the text behind the `+` that follows it, or `None` where the closing of
 /// the program follows. `None` where the text is neither.
 fn term(text: &[u8]) -> Option<(u16, Option<&[u8]>)>
     ensures { option_map (λ found. (found.0, option_map (λ rest. tokens rest.now) found.1)) result ≡ term_at (tokens text.now) }
@@ -138,7 +138,7 @@ pub struct Sum {
 fn summands(alloc: Global, text: &[u8]) -> Result<Option<Vec<u16>>, AllocError>
     ensures { IfOk result (λ found. option_map (λ numbers. numbers.items) found ≡ numbers_in text.now) }
 {
-    if text.len() > MAX_TEXT {
+    if text.len() > TEXT_LIMIT {
         return Ok(None);
     }
     match after_opening(text) {
@@ -158,7 +158,7 @@ pub fn sum_in(alloc: Global, text: &[u8]) -> Result<Option<Sum>, AllocError>
 }
 
 /// Exactly the programs `int main(void){return SUM;}`, with one to `SUM_LIMIT` decimal numbers from 0 to `NUMBER_LIMIT`
-/// and no leading zero, in a text of at most `MAX_TEXT` bytes, have numbers.
+/// and no leading zero, in a text of at most `TEXT_LIMIT` bytes, have numbers.
 pub fn form_is_exact()
     ensures { (text numbers : List ℕ) → (numbers_in text ≡ Some numbers) ↔ IsSumProgram text numbers }
 {}

@@ -18,7 +18,7 @@ pub fn is_word_byte(byte: u8) -> bool
     matches!(byte, b'a'..=b'z' | b'A'..=b'Z' | b'0'..=b'9' | b'_')
 }
 
-/// How many blanks stand at the front of a text.
+/// How many blanks stand at the beginning of a text.
 fn blank_length(text: &[u8]) -> usize
     ensures longest { result ≡ prefix_len is_blank text.now }
     ensures within { result ≤ length text.now }
@@ -33,7 +33,7 @@ fn after_blanks(text: &[u8]) -> &[u8]
     text.split_at(blank_length(text)).1
 }
 
-/// How many bytes of words stand at the front of a text.
+/// How many bytes of words stand at the beginning of a text.
 fn word_length(text: &[u8]) -> usize
     ensures longest { result ≡ prefix_len is_word_byte text.now }
     ensures within { result ≤ length text.now }

@@ -9,7 +9,7 @@ use Rattle.pw_fix.specs.declared.bit_rows.BitRows.{BitRows}
 use Rattle.pw_files.proofs.Standing.{Has, has_by, contains_by, each_by, has_map, has_map_back, has_left, has_right, has_split}
 use Rattle.pw_graph.specs.declared.graph.CallGraph.{CallGraph}
 use Rattle.pw_graph.specs.CallGraph.{Calls, Path, call, on, References, IsReachedFromUser, ReachesUser, IsGraph, IsTable}
-use Rattle.pw_graph_refs.specs.Flows.{Walk, edge, further, edges_of, edges_from, turned, AreWithin, Comes}
+use Rattle.pw_graph_refs.specs.Flows.{Walk, edge, further, edges_of, edges_from, turned, AreWithin, FlowsTo}
 
 record EdgeAt (n : ℕ) (rows : List (List ℕ)) (a b : ℕ) : Type 0 where
   place : ℕ
@@ -110,13 +110,13 @@ back_within g graph = All-from_recursion (λ e. (e.0 < length g.functions) × (e
 
 -- ---- the sets
 
-pub from_callers : (g : CallGraph) (own table : BitRows) → IsTable g (References g) own → ((n v : ℕ) → HoldsAt table n v ↔ Comes (calls_of g) own n v) → (n v : ℕ) → HoldsAt table n v ↔ IsReachedFromUser g n v
+pub from_callers : (g : CallGraph) (own table : BitRows) → IsTable g (References g) own → ((n v : ℕ) → HoldsAt table n v ↔ FlowsTo (calls_of g) own n v) → (n v : ℕ) → HoldsAt table n v ↔ IsReachedFromUser g n v
 from_callers g own table owns is n v = (
   λ h. let c = (is n v).0 h in record { user = c.from; path = walk_path g c.walk; refers = (owns.of c.from v).0 c.has },
   λ r. (is n v).1 (record { from = r.user; walk = path_walk g r.path; has = (owns.of r.user v).1 r.refers }),
 )
 
-pub from_callees : (g : CallGraph) (own table : BitRows) → IsTable g (References g) own → ((n v : ℕ) → HoldsAt table n v ↔ Comes (turned (calls_of g)) own n v) → (n v : ℕ) → HoldsAt table n v ↔ ReachesUser g n v
+pub from_callees : (g : CallGraph) (own table : BitRows) → IsTable g (References g) own → ((n v : ℕ) → HoldsAt table n v ↔ FlowsTo (turned (calls_of g)) own n v) → (n v : ℕ) → HoldsAt table n v ↔ ReachesUser g n v
 from_callees g own table owns is n v = (
   λ h. let c = (is n v).0 h in record { user = c.from; path = back_path g c.walk; refers = (owns.of c.from v).0 c.has },
   λ r. (is n v).1 (record { from = r.user; walk = path_back g r.path; has = (owns.of r.user v).1 r.refers }),

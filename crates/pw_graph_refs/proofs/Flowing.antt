@@ -13,7 +13,7 @@ use Rattle.pw_fix.proofs.Derivations.{derivable_own}
 use Rattle.pw_fix.proofs.Places.{All-at, at_index, set_cases, slice_get-set_same, slice_get-set_other}
 use Rattle.pw_fix.proofs.Tables.{RowHolds}
 use Rattle.pw_fix.proofs.Unions.{join_is_union}
-use Rattle.pw_graph_refs.specs.Flows.{IsHanded, Walk, edge, further, AreWithin, IsDelivered, Comes}
+use Rattle.pw_graph_refs.specs.Flows.{IsHanded, Walk, edge, further, AreWithin, IsDelivered, FlowsTo}
 
 -- a row that is joined into one of a table
 pub join_row : (rows : List BitRow) (n : ℕ) (old new row : BitRow) → slice_get rows n ≡ Some old → ((k : ℕ) → Holds new k ↔ (Holds old k ⊎ Holds row k)) → (m k : ℕ) → RowHolds (set rows n new) m k ↔ (RowHolds rows m k ⊎ ((m ≡ n) × Holds row k))
@@ -45,7 +45,7 @@ module _ (own : BitRows) (edges : List (ℕ × ℕ)) (nodes : ℕ) (values : Lis
   gives n x y = IsHanded (HoldsAt own n) x y
 
   abbrev Has : ℕ → ℕ → Type 0
-  Has n v = HoldsAt own n v ⊎ Comes edges own n v
+  Has n v = HoldsAt own n v ⊎ FlowsTo edges own n v
 
   edge_within : (m n : ℕ) → HasEdge edges m n → m < nodes
   edge_within m n e = (All-contains (λ e. (e.0 < nodes) × (e.1 < nodes)) edges (m, n) within e).0
@@ -53,14 +53,14 @@ module _ (own : BitRows) (edges : List (ℕ × ℕ)) (nodes : ℕ) (values : Lis
   -- ---- no more than that
 
   abbrev Fits : Place → BitRow → Type 0
-  Fits (into n) x = (v : ℕ) → Holds x v → Comes edges own n v
+  Fits (into n) x = (v : ℕ) → Holds x v → FlowsTo edges own n v
   Fits (value_of n) x = (v : ℕ) → Holds x v → Has n v
 
   nothing_fits : (p : Place) (x : BitRow) → ((v : ℕ) → Holds x v → ⊥) → Fits p x
   nothing_fits (into n) x none = λ v h. absurd (none v h)
   nothing_fits (value_of n) x none = λ v h. absurd (none v h)
 
-  along : (m n v : ℕ) → HasEdge edges m n → Has m v → Comes edges own n v
+  along : (m n v : ℕ) → HasEdge edges m n → Has m v → FlowsTo edges own n v
   along m n v e (inl h) = record { from = m; walk = edge m n e; has = h }
   along m n v e (inr c) = record { from = c.from; walk = further c.from m n c.walk e; has = c.has }
 
@@ -101,7 +101,7 @@ module _ (own : BitRows) (edges : List (ℕ × ℕ)) (nodes : ℕ) (values : Lis
       deliver (further m n k walk e) v h = let y = value_at n k e in record { from = n; row = y.0; edge = e; at = y.1; has = walk_held walk y.0 y.1 v h }
 
       -- what is delivered is what comes along walks
-      pub delivered : (table : BitRows) → ((n v : ℕ) → HoldsAt table n v ↔ IsDelivered edges values n v) → (n v : ℕ) → HoldsAt table n v ↔ Comes edges own n v
+      pub delivered : (table : BitRows) → ((n v : ℕ) → HoldsAt table n v ↔ IsDelivered edges values n v) → (n v : ℕ) → HoldsAt table n v ↔ FlowsTo edges own n v
       delivered table is n v = (
         λ h. let d = (is n v).0 h in along d.from n v d.edge (derivable_fits (derived d.from d.row d.at) v d.has),
         λ c. (is n v).1 (deliver c.walk v c.has),
@@ -117,7 +117,7 @@ Empties own nodes = (n : ℕ) → n < nodes → (row : BitRow) × (row.len ≡ o
 
 pub delivered_by : (own : BitRows) (edges : List (ℕ × ℕ)) (nodes : ℕ) (values : List BitRow) → AreWithin nodes edges → Empties own nodes
     → IsSolution {E = BitRow} (λ row. row.len ≡ own.len) IsSubset (λ n x y. IsHanded (HoldsAt own n) x y) nodes edges values → AreDerived {E = BitRow} (λ row. row.len ≡ own.len) IsSubset (λ n x y. IsHanded (HoldsAt own n) x y) edges values
-    → (table : BitRows) → ((n v : ℕ) → HoldsAt table n v ↔ IsDelivered edges values n v) → (n v : ℕ) → HoldsAt table n v ↔ Comes edges own n v
+    → (table : BitRows) → ((n v : ℕ) → HoldsAt table n v ↔ IsDelivered edges values n v) → (n v : ℕ) → HoldsAt table n v ↔ FlowsTo edges own n v
 delivered_by own edges nodes values within empties solution derived table is n v = (
   λ h.
       let d = (is n v).0 h in

@@ -49,7 +49,7 @@ pub record IsDelivered (edges : List (ℕ × ℕ)) (values : List BitRow) (n v :
   pub has : Holds row v
 
 -- a node from which at least one edge leads to n has v
-pub record Comes (edges : List (ℕ × ℕ)) (own : BitRows) (n v : ℕ) : Type 0 where
+pub record FlowsTo (edges : List (ℕ × ℕ)) (own : BitRows) (n v : ℕ) : Type 0 where
   pub from : ℕ
   pub walk : Walk edges from n
   pub has : HoldsAt own from v

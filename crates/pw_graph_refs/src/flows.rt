@@ -5,7 +5,7 @@ ghost use Rattle.pw_fix.specs.Row.{Holds};
 ghost use Rattle.pw_fix.specs.RowLaws.{members_fit};
 ghost use Rattle.pw_fix.specs.Table.{HoldsAt};
 ghost use Rattle.pw_graph.specs.CallGraph.{IsGraph, References, IsTable, AreRefSets};
-ghost use Rattle.pw_graph_refs.specs.Flows.{IsHanded, handing_monotone, edges_of, edges_from, turned, AreWithin, IsMarked, IsDelivered, Comes};
+ghost use Rattle.pw_graph_refs.specs.Flows.{IsHanded, handing_monotone, edges_of, edges_from, turned, AreWithin, IsMarked, IsDelivered, FlowsTo};
 
 use pw_fix::{BitRow, BitRows, Graph, Problem, Rows, solve};
 use pw_graph::{CallGraph, RefSets};
@@ -158,7 +158,7 @@ fn flown(alloc: Global, own: &BitRows, edges: Vec<(usize, usize)>) -> Result<Bit
     requires { AreWithin (vec_len own.now.rows) edges.items }
     ensures count { IfOk result (λ table. vec_len table.rows ≡ vec_len own.now.rows) }
     ensures length { IfOk result (λ table. table.len ≡ own.now.len) }
-    ensures holds { IfOk result (λ table. (n v : ℕ) → HoldsAt table n v ↔ Comes edges.items own.now n v) }
+    ensures holds { IfOk result (λ table. (n v : ℕ) → HoldsAt table n v ↔ FlowsTo edges.items own.now n v) }
 {
     let nodes = own.rows.len();
     let mut table = BitRows::new(alloc, nodes, own.len)?;

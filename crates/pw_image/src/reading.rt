@@ -7,7 +7,7 @@ ghost use Rattle.std.specs.List.{flat_map};
 ghost use Rattle.pw_fields.specs.Fields.{text};
 ghost use Rattle.pw_fields.specs.FieldFrame.{ended};
 ghost use Rattle.pw_fields.specs.FieldNames.{first_unused};
-ghost use Rattle.pw_fields.specs.FieldFaults.{Gives, GivesFile};
+ghost use Rattle.pw_fields.specs.FieldFaults.{AnswersField, GivesFile};
 ghost use Rattle.pw_files.specs.Contents.{broken_at, value_of};
 ghost use Rattle.pw_image.specs.declared.image.Image.{Image as AnyImage};
 ghost use Rattle.pw_image.specs.Image.{Contents, data_start, free_behind, contents_view, names_of, IsImageFile};
@@ -16,7 +16,7 @@ ghost use Rattle.pw_image.specs.Reading.{is_in_text, item_at, map_at, next_free,
 use crate::image::{DataItem, Function, GlobalObject, Image, Memory, data_start};
 use pw_fields::frame::{check_digest, open};
 use pw_fields::names::{read_name, read_names};
-use pw_fields::{FieldError, read_bytes, read_u32};
+use pw_fields::{FieldFault, read_bytes, read_u32};
 use pw_files::late::check_used;
 use pw_files::places::{read_item_bytes, read_offset};
 use pw_items::Items;
@@ -38,21 +38,21 @@ fn is_word_address(words: u64, address: u32) -> bool
 }
 
 /// A number, of at most so many.
-fn read_at_most(most: u32, bytes: &[u8]) -> Result<(u32, &[u8]), FieldError>
-    ensures read { Gives (λ x. (x.0, x.1.now)) result (checked (λ n. nat_le n most) u32_at bytes.now) }
-    ensures no_memory { IfErr result (λ e. e ≢ FieldError.NoMemory) }
+fn read_at_most(most: u32, bytes: &[u8]) -> Result<(u32, &[u8]), FieldFault>
+    ensures read { AnswersField (λ x. (x.0, x.1.now)) result (checked (λ n. nat_le n most) u32_at bytes.now) }
+    ensures no_memory { IfErr result (λ e. e ≢ FieldFault.NoMemory) }
 {
     let (number, rest) = read_u32(bytes)?;
     if number <= most {
         Ok((number, rest))
     } else {
-        Err(FieldError::Fault { left: bytes.len() })
+        Err(FieldFault::Fault { left: bytes.len() })
     }
 }
 
 /// The words of the text.
-fn read_words(alloc: Global, count: u32, bytes: &[u8]) -> Result<(Items<u32>, &[u8]), FieldError>
-    ensures { Gives (λ x. (x.0, x.1.now)) result (repeated u32_at count bytes.now) }
+fn read_words(alloc: Global, count: u32, bytes: &[u8]) -> Result<(Items<u32>, &[u8]), FieldFault>
+    ensures { AnswersField (λ x. (x.0, x.1.now)) result (repeated u32_at count bytes.now) }
 {
     let mut words = Items::new(alloc);
     let mut rest = bytes;
@@ -65,15 +65,15 @@ fn read_words(alloc: Global, count: u32, bytes: &[u8]) -> Result<(Items<u32>, &[
 }
 
 /// The data's size, where the data end before the stack does.
-fn read_data_size(words: u32, stack_end: u32, bytes: &[u8]) -> Result<(u32, &[u8]), FieldError>
-    ensures read { Gives (λ x. (x.0, x.1.now)) result (checked (λ s. nat_le (data_start words + s) stack_end) u32_at bytes.now) }
-    ensures no_memory { IfErr result (λ e. e ≢ FieldError.NoMemory) }
+fn read_data_size(words: u32, stack_end: u32, bytes: &[u8]) -> Result<(u32, &[u8]), FieldFault>
+    ensures read { AnswersField (λ x. (x.0, x.1.now)) result (checked (λ s. nat_le (data_start words + s) stack_end) u32_at bytes.now) }
+    ensures no_memory { IfErr result (λ e. e ≢ FieldFault.NoMemory) }
 {
     let (size, rest) = read_u32(bytes)?;
     if data_start(words) + u64::from(size) <= u64::from(stack_end) {
         Ok((size, rest))
     } else {
-        Err(FieldError::Fault { left: bytes.len() })
+        Err(FieldFault::Fault { left: bytes.len() })
     }
 }
 
@@ -84,8 +84,8 @@ fn read_item(
     size: u32,
     free: u64,
     bytes: &[u8],
-) -> Result<(DataItem, &[u8]), FieldError>
-    ensures { Gives (λ x. (x.0, x.1.now)) result (item_at size free bytes.now) }
+) -> Result<(DataItem, &[u8]), FieldFault>
+    ensures { AnswersField (λ x. (x.0, x.1.now)) result (item_at size free bytes.now) }
 {
     let (offset, rest) = read_offset(size, free, bytes)?;
     let (text, rest) = read_item_bytes(size, offset, rest)?;
@@ -99,8 +99,8 @@ fn read_items(
     size: u32,
     count: u32,
     bytes: &[u8],
-) -> Result<(Items<DataItem>, &[u8]), FieldError>
-    ensures { Gives (λ x. (x.0, x.1.now)) result (items_at (item_at size) next_free count 0 bytes.now) }
+) -> Result<(Items<DataItem>, &[u8]), FieldFault>
+    ensures { AnswersField (λ x. (x.0, x.1.now)) result (items_at (item_at size) next_free count 0 bytes.now) }
 {
     let mut items = Items::new(alloc);
     let mut rest = bytes;
@@ -123,8 +123,8 @@ fn free_after(item: &DataItem) -> u64
 
 /// What a machine starts with, but for the rule of the entry.
 #[tactic(auto, unfolding(crate::specs::Reading::memory_at))]
-fn read_memory(alloc: Global, bytes: &[u8]) -> Result<(Memory, &[u8]), FieldError>
-    ensures { Gives (λ x. (x.0, x.1.now)) result (memory_at bytes.now) }
+fn read_memory(alloc: Global, bytes: &[u8]) -> Result<(Memory, &[u8]), FieldFault>
+    ensures { AnswersField (λ x. (x.0, x.1.now)) result (memory_at bytes.now) }
 {
     let (entry, rest) = read_u32(bytes)?;
     let (stack, rest) = read_u32(rest)?;
@@ -152,8 +152,8 @@ fn read_function<'a>(
     names: &[Name],
     words: u64,
     bytes: &'a [u8],
-) -> Result<(Function, &'a [u8]), FieldError>
-    ensures { Gives (λ x. (x.0, x.1.now)) result (function_at names.now words bytes.now) }
+) -> Result<(Function, &'a [u8]), FieldFault>
+    ensures { AnswersField (λ x. (x.0, x.1.now)) result (function_at names.now words bytes.now) }
 {
     let (name, rest) = read_name(names, bytes)?;
     let (address, rest) = read_address(words, rest)?;
@@ -170,15 +170,15 @@ fn read_function<'a>(
 }
 
 /// A number that is a word's address.
-fn read_address(words: u64, bytes: &[u8]) -> Result<(u32, &[u8]), FieldError>
-    ensures read { Gives (λ x. (x.0, x.1.now)) result (checked (is_in_text words) u32_at bytes.now) }
-    ensures no_memory { IfErr result (λ e. e ≢ FieldError.NoMemory) }
+fn read_address(words: u64, bytes: &[u8]) -> Result<(u32, &[u8]), FieldFault>
+    ensures read { AnswersField (λ x. (x.0, x.1.now)) result (checked (is_in_text words) u32_at bytes.now) }
+    ensures no_memory { IfErr result (λ e. e ≢ FieldFault.NoMemory) }
 {
     let (address, rest) = read_u32(bytes)?;
     if is_word_address(words, address) {
         Ok((address, rest))
     } else {
-        Err(FieldError::Fault { left: bytes.len() })
+        Err(FieldFault::Fault { left: bytes.len() })
     }
 }
 
@@ -189,8 +189,8 @@ fn read_functions<'a>(
     words: u64,
     count: u32,
     bytes: &'a [u8],
-) -> Result<(Items<Function>, &'a [u8]), FieldError>
-    ensures { Gives (λ x. (x.0, x.1.now)) result (repeated (function_at names.now words) count bytes.now) }
+) -> Result<(Items<Function>, &'a [u8]), FieldFault>
+    ensures { AnswersField (λ x. (x.0, x.1.now)) result (repeated (function_at names.now words) count bytes.now) }
 {
     let mut functions = Items::new(alloc);
     let mut rest = bytes;
@@ -208,8 +208,8 @@ fn read_global<'a>(
     alloc: Global,
     names: &[Name],
     bytes: &'a [u8],
-) -> Result<(GlobalObject, &'a [u8]), FieldError>
-    ensures { Gives (λ x. (x.0, x.1.now)) result (global_at names.now bytes.now) }
+) -> Result<(GlobalObject, &'a [u8]), FieldFault>
+    ensures { AnswersField (λ x. (x.0, x.1.now)) result (global_at names.now bytes.now) }
 {
     let (name, rest) = read_name(names, bytes)?;
     let (address, rest) = read_u32(rest)?;
@@ -223,8 +223,8 @@ fn read_globals<'a>(
     names: &[Name],
     count: u32,
     bytes: &'a [u8],
-) -> Result<(Items<GlobalObject>, &'a [u8]), FieldError>
-    ensures { Gives (λ x. (x.0, x.1.now)) result (repeated (global_at names.now) count bytes.now) }
+) -> Result<(Items<GlobalObject>, &'a [u8]), FieldFault>
+    ensures { AnswersField (λ x. (x.0, x.1.now)) result (repeated (global_at names.now) count bytes.now) }
 {
     let mut globals = Items::new(alloc);
     let mut rest = bytes;
@@ -238,9 +238,9 @@ fn read_globals<'a>(
 
 /// The entry and the count of words: whether the entry is a word's address.
 #[tactic(auto, unfolding(crate::specs::Reading::start_at))]
-fn read_start(bytes: &[u8]) -> Result<(bool, &[u8]), FieldError>
-    ensures found { Gives (λ x. (x.0, x.1.now)) result (start_at bytes.now) }
-    ensures no_memory { IfErr result (λ e. e ≢ FieldError.NoMemory) }
+fn read_start(bytes: &[u8]) -> Result<(bool, &[u8]), FieldFault>
+    ensures found { AnswersField (λ x. (x.0, x.1.now)) result (start_at bytes.now) }
+    ensures no_memory { IfErr result (λ e. e ≢ FieldFault.NoMemory) }
 {
     let (entry, rest) = read_u32(bytes)?;
     let (_, rest) = read_bytes(8, rest)?;
@@ -282,8 +282,8 @@ pub(crate) fn used_names(alloc: Global, image: &Image) -> Result<Vec<&Name>, All
 
 /// The table of names and the image, where no rule of the contents but that of the entry is broken.
 #[tactic(auto, unfolding(crate::specs::Reading::contents_at))]
-fn read_contents(alloc: Global, bytes: &[u8]) -> Result<((Vec<Name>, Image), &[u8]), FieldError>
-    ensures { Gives (λ x. (contents_view x.0, x.1.now)) result (contents_at bytes.now) }
+fn read_contents(alloc: Global, bytes: &[u8]) -> Result<((Vec<Name>, Image), &[u8]), FieldFault>
+    ensures { AnswersField (λ x. (contents_view x.0, x.1.now)) result (contents_at bytes.now) }
 {
     let (memory, rest) = read_memory(alloc, bytes)?;
     let (names, rest) = read_names(alloc, rest)?;
@@ -296,9 +296,9 @@ fn read_behind_names(
     memory: Memory,
     names: Vec<Name>,
     bytes: &[u8],
-) -> Result<((Vec<Name>, Image), &[u8]), FieldError>
+) -> Result<((Vec<Name>, Image), &[u8]), FieldFault>
     requires { length (flat_map text names.items) + length bytes.now < 2 ^ 64 }
-    ensures { Gives (λ x. (contents_view x.0, x.1.now)) result (map_at memory names.items bytes.now) }
+    ensures { AnswersField (λ x. (contents_view x.0, x.1.now)) result (map_at memory names.items bytes.now) }
 {
     let (function_count, rest) = read_u32(bytes)?;
     let words = memory.words.len() as u64;
@@ -320,21 +320,21 @@ fn end_contents(
     image: Image,
     behind: usize,
     rest: &[u8],
-) -> Result<((Vec<Name>, Image), &[u8]), FieldError>
+) -> Result<((Vec<Name>, Image), &[u8]), FieldFault>
     requires { length (flat_map text names.items) + behind < 2 ^ 64 }
-    ensures { Gives (λ x. (contents_view x.0, x.1.now)) result (ended (first_unused names.items (names_of image) behind) (contents_view (names, image)) rest.now) }
+    ensures { AnswersField (λ x. (contents_view x.0, x.1.now)) result (ended (first_unused names.items (names_of image) behind) (contents_view (names, image)) rest.now) }
 {
     if !rest.is_empty() {
-        return Err(FieldError::Fault { left: rest.len() });
+        return Err(FieldFault::Fault { left: rest.len() });
     }
     check_last(alloc, &names, &image, behind)?;
     Ok(((names, image), rest))
 }
 
 /// The rule that is looked at last: each name of the table is used, where so many bytes are left behind the table.
-fn check_last(alloc: Global, names: &[Name], image: &Image, behind: usize) -> Result<(), FieldError>
+fn check_last(alloc: Global, names: &[Name], image: &Image, behind: usize) -> Result<(), FieldFault>
     requires { length (flat_map text names.now) + behind < 2 ^ 64 }
-    ensures { Gives (λ x. x) result (broken_at (first_unused names.now (names_of image.now) behind)) }
+    ensures { AnswersField (λ x. x) result (broken_at (first_unused names.now (names_of image.now) behind)) }
 {
     let used = used_names(alloc, image)?;
     check_used(alloc, names, used, behind)
@@ -342,13 +342,13 @@ fn check_last(alloc: Global, names: &[Name], image: &Image, behind: usize) -> Re
 
 /// The table of names and the image.
 #[tactic(auto, unfolding(crate::specs::Reading::payload_at))]
-fn read_payload(alloc: Global, bytes: &[u8]) -> Result<((Vec<Name>, Image), &[u8]), FieldError>
-    ensures { Gives (λ x. (contents_view x.0, x.1.now)) result (payload_at bytes.now) }
+fn read_payload(alloc: Global, bytes: &[u8]) -> Result<((Vec<Name>, Image), &[u8]), FieldFault>
+    ensures { AnswersField (λ x. (contents_view x.0, x.1.now)) result (payload_at bytes.now) }
 {
     if is_start_lawful(bytes) {
         read_contents(alloc, bytes)
     } else {
-        Err(FieldError::Fault { left: bytes.len() })
+        Err(FieldFault::Fault { left: bytes.len() })
     }
 }
 

@@ -2,8 +2,8 @@
 use Rattle.std.specs.Prelude.{ℕ}
 
 -- the greatest displacement of a load, a store or LDO, whose field has 14 bits
-abbrev pub near_most : ℕ
-near_most = 8191
+abbrev pub near_limit : ℕ
+near_limit = 8191
 
 -- and how far a displacement may go below 0
 abbrev pub near_least : ℕ

@@ -17,7 +17,7 @@ mod setting;
 pub use computing::actions_go_by_registers;
 pub use decoding::{decode, word_is_decoded_again, words_differ};
 pub use encoding::{NOP, encode, nop_is_an_instruction};
-pub use limits::{NEAR_LEAST, NEAR_MOST, ROUTINE_COUNT, limits_of_instructions};
+pub use limits::{NEAR_LEAST, NEAR_LIMIT, ROUTINE_COUNT, limits_of_instructions};
 pub use line::Line;
 pub use listing::{target, text};
 pub use registers::{

@@ -94,15 +94,7 @@ pub fn binary<'a>(
     let (v, w) = values;
     let layout = element_layout(&env.home.tree.types, a, b)?;
     let objects = &state.objects;
-    let answer = pw_interp_state::binary(
-        objects,
-        layout,
-        op,
-        categorise(a),
-        categorise(b),
-        v,
-        w,
-    );
+    let answer = pw_interp_state::binary(objects, layout, op, categorise(a), categorise(b), v, w);
     settle(env, token, answer)
 }
 

@@ -28,7 +28,7 @@ pub enum Taking<'t> {
     Labels(&'t [u32], &'t TStmt),
 }
 
-/// Behind a label of its own a statement is met at its front.
+/// Behind a label of its own a statement is met at its beginning.
 fn behind_labels(labels: &[u32], at: Entry) -> Entry
     ensures { view_entry result ≡ execution.behind_labels labels.now (view_entry at) }
 {

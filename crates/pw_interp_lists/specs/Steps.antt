@@ -114,7 +114,7 @@ unfoldable pub resume : Act Flow → Option Flow → Act Flow
 resume again None = again
 resume again (Some flow) = give flow
 
--- the first part of a `for`, at its front
+-- the first part of a `for`, at its beginning
 unfoldable pub beginning : Option Expression → Entry → Calls → Env → Act (Unit {0})
 beginning first Front cs e = drop_value first cs e
 beginning first (At_label l) cs e = give tt

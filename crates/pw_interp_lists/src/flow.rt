@@ -2,7 +2,7 @@
 
 use pw_value::Value;
 
-/// Where a statement is met: at its front, or at a label that stands in it (ISO C90 6.6.1).
+/// Where a statement is met: at its beginning, or at a label that stands in it (ISO C90 6.6.1).
 #[derive(Clone, Copy)]
 pub enum Entry {
     Front,

@@ -19,7 +19,7 @@ use pw_interp_state::State;
 use pw_typed::TStmt;
 use std::alloc::Global;
 
-/// Whether a statement is met: at its front, or at a label that stands in it.
+/// Whether a statement is met: at its beginning, or at a label that stands in it.
 fn is_met(statement: &TStmt, at: Entry) -> bool
     ensures { result ≡ spec.is_met (labels_in (view_stmt statement.now)) (view_entry at) }
 {

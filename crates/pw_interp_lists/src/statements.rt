@@ -19,7 +19,7 @@ pub trait Statements<'a> {
     /// What has to be known of a value before it runs them.
     ghost can_run: { Self → Type 0 };
 
-    /// Runs a statement that is met at its front or at a label in it: what comes of it, or how the run ended in it.
+    /// Runs a statement that is met at its beginning or at a label in it: what comes of it, or how the run ended in it.
     fn meaning(
         &self,
         alloc: Global,

@@ -7,8 +7,8 @@ ghost use Rattle.pw_typed.specs.Views.{view_item, view_placed};
 ghost use Rattle.pw_cmean.specs.Worlds as worlds;
 ghost use Rattle.pw_interp_world.specs.Views.{view_program};
 
-use pw_interp_world::World;
 use pw_interp_state::write_bytes;
+use pw_interp_world::World;
 use pw_lower_forms::full_name;
 use pw_typed::TItem;
 use pw_value::{Byte, Name, Pointer};

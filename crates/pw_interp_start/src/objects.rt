@@ -7,8 +7,8 @@ ghost use Rattle.pw_cmean.specs.Worlds as worlds;
 ghost use Rattle.pw_interp_world.specs.Views.{view_part, view_program};
 
 use crate::items::put_items;
-use pw_interp_world::{Part, World, exact_layout};
 use pw_interp_state::Objects;
+use pw_interp_world::{Part, World, exact_layout};
 use pw_typed::TGlobal;
 use pw_value::Byte;
 use std::alloc::{AllocError, Global};

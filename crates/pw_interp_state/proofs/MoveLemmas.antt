@@ -6,7 +6,7 @@ use native.Mathlib.Nat.{zero-div}
 use Rattle.std.proofs.lemmas.Grind.{common_steps}
 use Rattle.std.proofs.lemmas.Int.{ints}
 use Rattle.pw_value.specs.declared.value.Value.TheVariants as V
-use Rattle.pw_value.specs.Words.{signed, exact, int_most, is_negative, magnitude}
+use Rattle.pw_value.specs.Words.{signed, exact, int_max, is_negative, magnitude}
 use Rattle.pw_types.specs.declared.kind.IntKind.{IntKind}
 use Rattle.pw_types.specs.Conversions.{is_signed_kind}
 use Rattle.pw_cmean.specs.Operators.{further}
@@ -44,9 +44,9 @@ element_none false size = rw zero-mul refl
 whole : (sign : Bool) (n : ℕ) → n < 2 ^ 32
     → (if sign then signed n else pos n) ≡ (if is_negative sign n then neg_ℤ (pos (2 ^ 32 - n)) else pos n)
 whole false n h = refl
-whole true n h = halves (nat_lt int_most n) refl
+whole true n h = halves (nat_lt int_max n) refl
   where
-    halves : (b : Bool) → nat_lt int_most n ≡ b → signed n ≡ (if b then neg_ℤ (pos (2 ^ 32 - n)) else pos n)
+    halves : (b : Bool) → nat_lt int_max n ≡ b → signed n ≡ (if b then neg_ℤ (pos (2 ^ 32 - n)) else pos n)
     halves true e = signed_high n (grind (arith, nat_tests)) h
     halves false e = signed_low n (grind (arith, nat_tests))
 

@@ -8,12 +8,12 @@ ghost use Rattle.pw_cmean.specs.Access as meaning;
 ghost use Rattle.pw_interp_state.specs.Categories.{type_for};
 ghost use Rattle.pw_interp_state.specs.Accesses as spec;
 
+use crate::bytes::four_from;
 use crate::category::Category;
 use crate::fault::{Fault, judge};
 use crate::findings::when;
-use pw_cmean::Undef;
 use crate::objects::Objects;
-use crate::bytes::four_from;
+use pw_cmean::Undef;
 use pw_value::{Byte, Pointer, Value, decode, decode_pointer};
 
 /// Whether an offset is no multiple of an alignment.

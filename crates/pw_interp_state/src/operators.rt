@@ -8,9 +8,9 @@ use crate::category::Category;
 use crate::fault::{Fault, judge};
 use crate::findings::when;
 use crate::numbers::{number_for, on_numbers, unary_number};
+use crate::objects::Objects;
 use crate::pointers::{advance_elements, is_ended, is_piece, on_pointers};
 use pw_cmean::Undef;
-use crate::objects::Objects;
 use pw_types::{BinaryOperator, IntKind, Layout, UnaryOperator};
 use pw_value::Value;
 

@@ -12,10 +12,10 @@ use crate::fault::{Fault, judge};
 use crate::findings::when;
 use crate::moves::{Move, element_move, kept};
 use crate::numbers::{arithmetic, number_for, word_answer};
-use pw_cmean::Undef;
 use crate::objects::Objects;
+use pw_cmean::Undef;
 use pw_types::{BinaryOperator, IntKind, Layout};
-use pw_value::words::{INT_MOST, unsigned_negation};
+use pw_value::words::{INT_MAX, unsigned_negation};
 use pw_value::{Pointer, Value, WordFault};
 
 /// Whether a value is a byte of a pointer.
@@ -108,7 +108,7 @@ fn offset_of(p: Value) -> u32
 fn forward(count: u32) -> Result<u32, WordFault>
     ensures { result ≡ int_forward count }
 {
-    if count <= INT_MOST {
+    if count <= INT_MAX {
         Ok(count)
     } else {
         Err(WordFault::Overflow)
@@ -119,7 +119,7 @@ fn forward(count: u32) -> Result<u32, WordFault>
 fn backward(count: u32) -> Result<u32, WordFault>
     ensures { result ≡ int_backward count }
 {
-    if count <= INT_MOST + 1 {
+    if count <= INT_MAX + 1 {
         Ok(unsigned_negation(count))
     } else {
         Err(WordFault::Overflow)

@@ -8,12 +8,12 @@ ghost use Rattle.pw_interp_state.specs.Categories.{view_purpose};
 ghost use Rattle.pw_interp_state.specs.Accesses as spec;
 
 use crate::access::access;
+use crate::bytes::{copied_from, encoded};
 use crate::category::{Category, Purpose};
 use crate::fault::{Fault, judge};
 use crate::findings::when;
-use pw_cmean::Undef;
 use crate::objects::Objects;
-use crate::bytes::{copied_from, encoded};
+use pw_cmean::Undef;
 use pw_types::Layout;
 use pw_value::{Byte, Pointer, Value};
 use std::alloc::{AllocError, Global};

@@ -58,7 +58,7 @@ fn returning<'a, P: Expressions<'a>>(
     }
 }
 
-/// The first part of a `for`, which is evaluated where the loop is met at its front.
+/// The first part of a `for`, which is evaluated where the loop is met at its beginning.
 fn begin<'a, P: Expressions<'a>>(
     alloc: Global,
     parts: &P,
@@ -97,7 +97,7 @@ fn for_loop<'a, P: Expressions<'a> + Statements<'a>>(
     repeat(alloc, parts, env, state, bound, tests, body, at)
 }
 
-/// Runs a loop or a switch, which is met at its front or at a label in it.
+/// Runs a loop or a switch, which is met at its beginning or at a label in it.
 fn breakable<'a, P: Expressions<'a> + Statements<'a>>(
     alloc: Global,
     parts: &P,
@@ -138,7 +138,7 @@ fn breakable<'a, P: Expressions<'a> + Statements<'a>>(
     }
 }
 
-/// Runs a statement that is met at its front or at a label in it, with what runs the smaller ones.
+/// Runs a statement that is met at its beginning or at a label in it, with what runs the smaller ones.
 pub fn form_of<'a, P: Expressions<'a> + Statements<'a>>(
     alloc: Global,
     parts: &P,

@@ -152,7 +152,7 @@ fn round<'a, P: Expressions<'a> + Statements<'a>>(
     pass(alloc, parts, env, state, bound, tests, body, at)
 }
 
-/// A loop, met at its front or in its body. Each return to its top goes on with a bound that is one smaller.
+/// A loop, met at its beginning or in its body. Each return to its top goes on with a bound that is one smaller.
 pub(crate) fn repeat<'a, P: Expressions<'a> + Statements<'a>>(
     alloc: Global,
     parts: &P,

@@ -130,7 +130,7 @@ fn initialise_each<'a, P: Expressions<'a>>(
     Ok(())
 }
 
-/// The initialisers at the front of a block; entered at a label, it passes over them.
+/// The initialisers at the beginning of a block; entered at a label, it passes over them.
 pub fn initialise_all<'a, P: Expressions<'a>>(
     alloc: Global,
     parts: &P,

@@ -3,8 +3,8 @@
 ghost use Rattle.std.specs.Prelude.{◌≡◌, map, IfOk};
 ghost use Rattle.pw_interp_world.specs.Views.{view_callables};
 
-use pw_check_names::NameList;
 use crate::program::Callable;
+use pw_check_names::NameList;
 use pw_value::Name;
 use std::alloc::{AllocError, Global};
 

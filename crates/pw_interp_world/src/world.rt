@@ -7,9 +7,9 @@ ghost use Rattle.pw_interp_world.specs.Views.{view_program, view_callables};
 
 use crate::lists::{listed, names_of};
 use crate::lookups::{denoted, place_of_number};
-use pw_check_names::NameList;
-use crate::program::{Callable, Part};
 use crate::numbers::function_numbers;
+use crate::program::{Callable, Part};
+use pw_check_names::NameList;
 use pw_value::{Name, Pointer};
 use std::alloc::{AllocError, Global};
 

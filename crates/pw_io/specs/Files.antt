@@ -27,8 +27,8 @@ abbrev pub after_remove : Told → List ℕ → Told
 after_remove told name = record { files = finite.remove told.files name; puts = told.puts }
 
 -- the first `most` bytes
-unfoldable pub front_of : ℕ → List ℕ → List ℕ
-front_of most bytes = take most bytes
+unfoldable pub prefix_of : ℕ → List ℕ → List ℕ
+prefix_of most bytes = take most bytes
 
 -- The store tells as before: one that told goes on telling the same.
 abbrev pub Keeps : Option Told → Option Told → Type 0
@@ -39,9 +39,9 @@ abbrev pub ListsNames : Option Told → List (String Global) → Type 0
 ListsNames old names = IfSome old (λ told. map string_bytes names ≡ finite.keys told.files)
 
 -- This is the front of the file, or `None` exactly where the name is absent.
-abbrev pub ReadsFront : Option Told → List ℕ → ℕ → Option (Vec ℕ Global) → Type 0
-ReadsFront old name most file =
-    IfSome old (λ told. option_map (λ bytes. bytes.items) file ≡ option_map (front_of most) (finite.get told.files name))
+abbrev pub ReadsPrefix : Option Told → List ℕ → ℕ → Option (Vec ℕ Global) → Type 0
+ReadsPrefix old name most file =
+    IfSome old (λ told. option_map (λ bytes. bytes.items) file ≡ option_map (prefix_of most) (finite.get told.files name))
 
 -- The file has these bytes now, and the name was appended to the list; nothing else changed.
 abbrev pub Puts : Option Told → Option Told → List ℕ → List ℕ → Type 0

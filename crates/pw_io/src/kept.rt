@@ -2,7 +2,7 @@
 ghost use Rattle.std.specs.Prelude.{◌≡◌, map, IfOk, OnOk, OnErr, string_bytes};
 ghost use Rattle.std.specs.Option.{option_map};
 ghost use Rattle.std.specs.FinMap as finite;
-ghost use Rattle.pw_io.specs.Files.{front_of};
+ghost use Rattle.pw_io.specs.Files.{prefix_of};
 ghost use Rattle.pw_io.specs.Shelf.{files_in, files_of};
 
 use crate::NoMemory;
@@ -13,9 +13,9 @@ use std::collections::BTreeMap;
 pub(crate) type Kept = BTreeMap<String, Vec<u8>>;
 
 /// A copy of the first `most` bytes.
-#[tactic(auto, using(std::proofs::lemmas::List::take_min), unfolding(crate::specs::Files::front_of))]
+#[tactic(auto, using(std::proofs::lemmas::List::take_min), unfolding(crate::specs::Files::prefix_of))]
 pub(crate) fn front(alloc: Global, bytes: &[u8], most: usize) -> Result<Vec<u8>, NoMemory>
-    ensures { IfOk result (λ front. front.items ≡ front_of most bytes.now) }
+    ensures { IfOk result (λ front. front.items ≡ prefix_of most bytes.now) }
 {
     bytes[..most.min(bytes.len())].to_vec(alloc)
 }

@@ -8,7 +8,7 @@ ghost use Rattle.std.specs.FinMap as finite;
 ghost use Rattle.std.specs.declared.alloc.Global.{Global};
 ghost use Rattle.pw_io.specs.declared.mem_store.StoreFail.{StoreFail};
 ghost use Rattle.pw_io.specs.Faults.{Rose};
-ghost use Rattle.pw_io.specs.Files.{Files, front_of, LeavesFile};
+ghost use Rattle.pw_io.specs.Files.{Files, prefix_of, LeavesFile};
 ghost use Rattle.pw_io.specs.Shelf.{files_of};
 ghost use Rattle.pw_io.specs.MemoryStore.{left_by_call};
 
@@ -19,8 +19,8 @@ pub fn rose()
 
 /// The front of a file: the whole file where it is no longer, and never more than was asked for.
 pub fn front()
-    ensures whole { (most : ℕ) (bytes : List ℕ) → length bytes ≤ most → front_of most bytes ≡ bytes }
-    ensures length { (most : ℕ) (bytes : List ℕ) → length (front_of most bytes) ≡ min most (length bytes) }
+    ensures whole { (most : ℕ) (bytes : List ℕ) → length bytes ≤ most → prefix_of most bytes ≡ bytes }
+    ensures length { (most : ℕ) (bytes : List ℕ) → length (prefix_of most bytes) ≡ min most (length bytes) }
 {}
 
 /// The names of files are in byte order, each once, and they are the names that have a file.

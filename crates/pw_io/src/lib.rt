@@ -9,7 +9,7 @@
 ghost use Rattle.std.specs.Prelude.{◌≡◌, ℕ, List, [], Option, IsOk, IfOk, OnOk, OnErr};
 ghost use Rattle.pw_io.specs.Faults.{HasCause, HasStoreCause, OnFailed, OnNoMemory};
 ghost use Rattle.pw_io.specs.Streams.{TakesNext, Appends, AppendsPart};
-ghost use Rattle.pw_io.specs.Files.{Told, Keeps, ListsNames, ReadsFront, Puts, PutsPart, Removes};
+ghost use Rattle.pw_io.specs.Files.{Told, Keeps, ListsNames, ReadsPrefix, Puts, PutsPart, Removes};
 
 use std::alloc::Global;
 
@@ -103,7 +103,7 @@ pub trait Store {
 
     /// The first `most` bytes of the file, or `None` exactly where no file has the name.
     fn get(&mut self, alloc: Global, name: &str, most: usize) -> Result<Option<Vec<u8>>, StoreError>
-        ensures file { IfOk result (λ file. ReadsFront (told self.old) name.now most file) }
+        ensures file { IfOk result (λ file. ReadsPrefix (told self.old) name.now most file) }
         ensures same { Keeps (told self.old) (told self.new) }
         ensures cause { HasStoreCause (faults self.old) (faults self.new) result };
 

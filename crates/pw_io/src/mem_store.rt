@@ -3,7 +3,7 @@ ghost use Rattle.std.specs.Prelude.{◌≡◌, ◌↔◌, [], map, Some, IsSome,
 ghost use Rattle.std.specs.Option.{option_map};
 ghost use Rattle.std.specs.FinMap as finite;
 ghost use Rattle.pw_io.specs.Faults.{HasStoreCause, OnFailed, OnNoMemory, next_fault};
-ghost use Rattle.pw_io.specs.Files.{Keeps, ListsNames, ReadsFront, Puts, PutsPart, Removes, after_put, after_remove};
+ghost use Rattle.pw_io.specs.Files.{Keeps, ListsNames, ReadsPrefix, Puts, PutsPart, Removes, after_put, after_remove};
 ghost use Rattle.pw_io.specs.Shelf.{files_of};
 ghost use Rattle.pw_io.specs.MemoryStore.{left_by_call, next_left, left_files, counted, counted_fault, with_files};
 
@@ -167,7 +167,7 @@ impl Store for MemStore {
         ensures fails { (result ≡ Err StoreError.Failed) ↔ IsSome (next_left self.old) }
         ensures refused { OnFailed result (self.new ≡ counted_fault self.old) }
         ensures ready { IsNone (next_left self.old) → self.new ≡ counted self.old }
-        ensures file { IfOk result (λ file. ReadsFront (Some self.old.told) name.now most file) }
+        ensures file { IfOk result (λ file. ReadsPrefix (Some self.old.told) name.now most file) }
         ensures same { Keeps (Some self.old.told) (Some self.new.told) }
         ensures cause { HasStoreCause self.old.faults self.new.faults result }
     {

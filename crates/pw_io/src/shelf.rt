@@ -2,7 +2,7 @@
 ghost use Rattle.std.specs.Prelude.{◌≡◌, [], map, IfOk, OnOk, OnErr, string_bytes};
 ghost use Rattle.std.specs.Option.{option_map};
 ghost use Rattle.std.specs.FinMap as finite;
-ghost use Rattle.pw_io.specs.Files.{front_of, after_put, after_remove};
+ghost use Rattle.pw_io.specs.Files.{prefix_of, after_put, after_remove};
 ghost use Rattle.pw_io.specs.Shelf.{files_of};
 
 use crate::NoMemory;
@@ -57,7 +57,7 @@ impl Shelf {
         most: usize,
     ) -> Result<Option<Vec<u8>>, NoMemory>
         ensures { IfOk result (λ file. option_map (λ bytes. bytes.items) file
-            ≡ option_map (front_of most) (finite.get self.now.files name.now)) }
+            ≡ option_map (prefix_of most) (finite.get self.now.files name.now)) }
     {
         match find_file(&self.files, name) {
             Some(bytes) => Ok(Some(front(alloc, bytes, most)?)),

@@ -3,7 +3,7 @@ ghost use Rattle.std.specs.Prelude.{◌≡◌, [], map, Some, IfOk, IsOk, OnOk, 
 ghost use Rattle.std.specs.Option.{option_map};
 ghost use Rattle.std.specs.FinMap as finite;
 ghost use Rattle.pw_io.specs.Faults.{HasStoreCause, OnFailed, OnNoMemory};
-ghost use Rattle.pw_io.specs.Files.{Keeps, ListsNames, ReadsFront, Puts, PutsPart, Removes, after_put, after_remove};
+ghost use Rattle.pw_io.specs.Files.{Keeps, ListsNames, ReadsPrefix, Puts, PutsPart, Removes, after_put, after_remove};
 ghost use Rattle.pw_io.specs.Shelf.{files_of};
 
 use crate::shelf::Shelf;
@@ -72,7 +72,7 @@ impl Store for SureStore {
     fn get(&mut self, alloc: Global, name: &str, most: usize) -> Result<Option<Vec<u8>>, StoreError>
         ensures sure { OnFailed result ⊥ }
         ensures kept { self.new ≡ self.old }
-        ensures file { IfOk result (λ file. ReadsFront (Some self.old) name.now most file) }
+        ensures file { IfOk result (λ file. ReadsPrefix (Some self.old) name.now most file) }
         ensures same { Keeps (Some self.old) (Some self.new) }
         ensures cause { HasStoreCause 0 0 result }
     {

@@ -4,7 +4,7 @@ ghost use Rattle.std.specs.Prelude.{◌≡◌, ◌↔◌, ◌⊎◌, None, Some,
 ghost use Rattle.std.specs.IoError.{error_kind};
 ghost use Rattle.std.specs.List.Sorted.{IsSorted};
 ghost use Rattle.pw_io.specs.Faults.{HasStoreCause, OnFailed, OnNoMemory};
-ghost use Rattle.pw_io.specs.Files.{Keeps, ListsNames, ReadsFront, Puts, PutsPart, Removes};
+ghost use Rattle.pw_io.specs.Files.{Keeps, ListsNames, ReadsPrefix, Puts, PutsPart, Removes};
 ghost use Rattle.pw_io_system.specs.Faults.{IsCounted};
 
 use crate::folder::Folder;
@@ -87,7 +87,7 @@ impl<F: Folder> Store for FileStore<F> {
     }
 
     fn get(&mut self, alloc: Global, name: &str, most: usize) -> Result<Option<Vec<u8>>, StoreError>
-        ensures file { IfOk result (λ file. ReadsFront (F.told self.old.folder) name.now most file) }
+        ensures file { IfOk result (λ file. ReadsPrefix (F.told self.old.folder) name.now most file) }
         ensures same { Keeps (F.told self.old.folder) (F.told self.new.folder) }
         ensures cause { HasStoreCause self.old.faults self.new.faults result }
         ensures absent { (result ≡ Ok None) ↔ (F.last_fault self.new.folder ≡ Some ErrorKind.NotFound) }

@@ -7,7 +7,7 @@ ghost use Rattle.std.specs.Io.KnownBytes.{Appends, Consumes, IsAtEnd, Keeps, pre
 ghost use Rattle.pw_io.specs.Faults.{HasCause, Rose};
 ghost use Rattle.pw_io.specs.Streams.{Appends as Taken, AppendsPart as TakenInPart};
 ghost use Rattle.pw_io_system.specs.Sinks.{kept_back};
-ghost use Rattle.pw_io_system.specs.Streams.{AppendsFront};
+ghost use Rattle.pw_io_system.specs.Streams.{AppendsPrefix};
 
 use pw_io::{Failed, Sink, Source};
 use std::io::{self, BufWriter, Read, Write};
@@ -162,10 +162,10 @@ impl<W: Write + Drop> StdSink<BufWriter<W>> {
     }
 }
 
-/// Writes a whole piece, or after a fault a proper front of it; a write that takes nothing is a fault.
+/// Writes a whole piece, or after a fault a proper prefix of it; a write that takes nothing is a fault.
 fn write_whole<W: Write>(writer: &mut W, piece: &[u8]) -> Result<(), Failed>
     ensures whole { OnOk result (Appends (W.contents writer.old) (W.contents writer.new) piece.now) }
-    ensures failed { OnErr result (AppendsFront (W.contents writer.old) (W.contents writer.new) piece.now) }
+    ensures failed { OnErr result (AppendsPrefix (W.contents writer.old) (W.contents writer.new) piece.now) }
     ensures empty { length piece.now ≡ 0 → IsOk result }
 {
     let mut done = 0;
@@ -185,7 +185,7 @@ impl<W: Write> Sink for StdSink<W> {
 
     fn put(&mut self, piece: &[u8]) -> Result<(), Failed>
         ensures whole { OnOk result (Appends (W.contents self.old.writer) (W.contents self.new.writer) piece.now) }
-        ensures front { OnErr result (AppendsFront (W.contents self.old.writer) (W.contents self.new.writer) piece.now) }
+        ensures front { OnErr result (AppendsPrefix (W.contents self.old.writer) (W.contents self.new.writer) piece.now) }
         ensures ok { OnOk result (Taken None None piece.now) }
         ensures failed { OnErr result (TakenInPart None None piece.now) }
         ensures empty { piece.now ≡ [] → IsOk result }

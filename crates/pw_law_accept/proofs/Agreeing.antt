@@ -93,7 +93,7 @@ number_or_not : (closing text : List ℕ) → Or (GivesDigits closing text)
 number_or_not closing [] = inr (λ d. no_number closing d.0 d.1.0.0 d.1.1)
 number_or_not closing (x ∷ text) = number_by closing x text (is_ascii_digit x) refl (digits_or_not closing text)
 
--- ---- a length at the front
+-- ---- a length at the beginning
 
 begins_by : (n x : ℕ) (rest : List ℕ) → Or (x ∷ [] ≡ n ∷ []) → Or (Begins n (x ∷ rest))
 begins_by n x rest (inl e) = let h : x ≡ n = ap head e in inl (rest, ap (λ (y : ℕ). y ∷ rest) h)

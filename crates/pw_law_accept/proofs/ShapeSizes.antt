@@ -245,7 +245,7 @@ one_size r x laid other (Function q ps) b v w l k e f h i same = never_some e
 one_size r x laid other (Int j) b v w l k e f h i same = scalar_pair r x laid other (Int j) b v w l k e f refl same
 one_size r x laid other (Pointer q) b v w l k e f h i same = scalar_pair r x laid other (Pointer q) b v w l k e f refl same
 
--- ---- what has no length at its front has no size
+-- ---- what has no length at its beginning has no size
 
 first_digit : (text s rest : List ℕ) → IsDecimal text → text ++ s ≡ 93 ∷ rest → ⊥
 first_digit [] s rest d e = omega (arith, d.0)

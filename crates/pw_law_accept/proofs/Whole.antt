@@ -2,7 +2,7 @@
 use Rattle.std.proofs.Common.{◌≡◌, ℕ, ◌≤◌, List, [], ◌∷◌, map, refl, sym, ap, subst, ◌∙◌}
 use Rattle.std.specs.Prelude.{Contains}
 use Rattle.std.specs.List.{flat_map}
-use Rattle.pw_value.specs.Limits.{stack_most}
+use Rattle.pw_value.specs.Limits.{stack_limit}
 use Rattle.pw_value.specs.ProgramNames.{IsOrdinary}
 use Rattle.pw_files.specs.Rising.{IsRising}
 use Rattle.pw_flow.specs.FlowGraph.{named_in}
@@ -34,7 +34,7 @@ same_names (m ∷ ms) =
     ∙ ap (λ (xs : List (List ℕ)). m.name ∷ xs) (same_names ms)
 
 module _ (p : Program) (frame_of : List ℕ → ℕ) (stack : ℕ) (known : (m : ProgramModule) → Has m p.modules → Known m.tree) (linked : AreLinked (flow_program p frame_of stack).modules) where
-  pub makes_program : ((m : ProgramModule) → Has m p.modules → IsValid (flow_of m)) → IsRising (map (λ m. m.name) p.modules) → stack ≤ stack_most → ((f : FlowFn) (o : Op) → Contains (functions_of (flow_program p frame_of stack)) f → Contains (ops_of f) o → NamesRightly (flow_program p frame_of stack) o) → HaveRightItems (flow_program p frame_of stack) → IsProgram (flow_program p frame_of stack)
+  pub makes_program : ((m : ProgramModule) → Has m p.modules → IsValid (flow_of m)) → IsRising (map (λ m. m.name) p.modules) → stack ≤ stack_limit → ((f : FlowFn) (o : Op) → Contains (functions_of (flow_program p frame_of stack)) f → Contains (ops_of f) o → NamesRightly (flow_program p frame_of stack) o) → HaveRightItems (flow_program p frame_of stack) → IsProgram (flow_program p frame_of stack)
   makes_program valid rising room ops items = record {
     modules = each_by IsValid (flow_program p frame_of stack).modules of_valid;
     order = subst (λ (ns : List (List ℕ)). IsRising ns) (sym (same_names p.modules)) rising;

@@ -1,7 +1,7 @@
 //! Laws of accepted programs, without code: what checking and linking accept is accepted in the words of C's meaning.
 
 ghost use Rattle.std.specs.Prelude.{ℕ, ◌≡◌, ◌≤◌, List, Some, map, Contains};
-ghost use Rattle.pw_value.specs.Limits.{stack_most};
+ghost use Rattle.pw_value.specs.Limits.{stack_limit};
 ghost use Rattle.pw_value.specs.Shapes.{Agree};
 ghost use Rattle.pw_files.specs.Rising.{IsRising};
 ghost use Rattle.pw_types.specs.FullNames.{full_name};
@@ -22,10 +22,15 @@ ghost use Rattle.pw_law_layers.specs.Lowering.{AreChecked, DeclareAlike, HavePar
 ghost use Rattle.pw_law_refine.specs.Lowerable.{IsLowerable};
 ghost use Rattle.pw_law_accept.specs.Linked.{AreAllNumbered, AreLinked, AreNamedPlainly, AreOfWords, HaveRightItems};
 
-use pw_law_checked::{accepted_addresses_lead_inside, accepted_functions_are_no_objects, accepted_functions_are_typed, accepted_initialisers_have_parts, accepted_is_well_typed, accepted_is_within, accepted_names_are_declared, accepted_names_are_identifiers, accepted_names_of_objects_are_no_functions, accepted_strings_are_short, strings_of_texts};
 use crate::formed::accepted_functions_are_formed;
-use pw_law_lower::modules_are_lawful;
 use crate::references::lowered_functions_refer_rightly;
+use pw_law_checked::{
+    accepted_addresses_lead_inside, accepted_functions_are_no_objects,
+    accepted_functions_are_typed, accepted_initialisers_have_parts, accepted_is_well_typed,
+    accepted_is_within, accepted_names_are_declared, accepted_names_are_identifiers,
+    accepted_names_of_objects_are_no_functions, accepted_strings_are_short, strings_of_texts,
+};
+use pw_law_lower::modules_are_lawful;
 use pw_tree::words_spell_what_they_are;
 
 /// Where the objects of checked modules link, all declarations of a name agree, the library's among them, and `main` takes nothing
@@ -137,7 +142,7 @@ pub fn linked_items_are_right()
 
 /// And their flow graphs make a program: each name that they use is defined, as what it is used for, and none twice, the modules are lawful and stand in the order of their names, and there is a `$start`.
 pub fn linked_modules_make_a_program()
-    ensures { (p : Program) (frame_of : List ℕ → ℕ) (stack : ℕ) → AreChecked p → AreNamedPlainly p → IsRising (map (λ m. m.name) p.modules) → stack ≤ stack_most → AreLinked (flow_program p frame_of stack).modules → AreOfWords p
+    ensures { (p : Program) (frame_of : List ℕ → ℕ) (stack : ℕ) → AreChecked p → AreNamedPlainly p → IsRising (map (λ m. m.name) p.modules) → stack ≤ stack_limit → AreLinked (flow_program p frame_of stack).modules → AreOfWords p
         → IsProgram (flow_program p frame_of stack) }
 {
     strings_of_texts();
@@ -170,7 +175,7 @@ pub fn linked_addresses_lead_inside()
 /// So checked modules whose objects link are accepted, with all that built programs want of it, but for what is a premise here: that
 /// no module has a colon in its name, and that numbers are of 32 bits.
 pub fn checked_is_accepted_but_for_numbers()
-    ensures { (p : Program) (frame_of : List ℕ → ℕ) (stack : ℕ) → AreChecked p → AreNamedPlainly p → IsRising (map (λ m. m.name) p.modules) → stack ≤ stack_most → AreLinked (flow_program p frame_of stack).modules
+    ensures { (p : Program) (frame_of : List ℕ → ℕ) (stack : ℕ) → AreChecked p → AreNamedPlainly p → IsRising (map (λ m. m.name) p.modules) → stack ≤ stack_limit → AreLinked (flow_program p frame_of stack).modules
         → AreOfWords p → IsWhole p frame_of stack }
 {
     linked_modules_are_well_typed();

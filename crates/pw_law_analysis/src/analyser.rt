@@ -4,8 +4,8 @@
 ghost use Rattle.pw_law_analysis.specs.OwedLaws.{DatabaseIsLawful, DatabaseIsSound, ColouredIsCovered};
 ghost use Rattle.pw_law_analysis.specs.AnalyserLaws.{NamedGraphsSayTheSame, DatabasesServe, FirstPlacesGiveAll, LayersGiveAll};
 
-use pw_colour::laws;
 use crate::composition::{all_laws_compose, analyses_compose};
+use pw_colour::laws;
 use pw_law_direction::{direction_keeps, first_places_keep};
 
 /// The graph of summaries by the names of functions and globals says of calls, references, writes and eligible globals

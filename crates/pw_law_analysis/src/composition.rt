@@ -2,8 +2,8 @@
 
 ghost use Rattle.pw_law_analysis.specs.OwedLaws.{AnalysesCompose, AllLawsCompose};
 
-use pw_db_sound::soundness_rests_on_relations;
 use crate::summaries::summaries_say_the_same;
+use pw_db_sound::soundness_rests_on_relations;
 use pw_law_layers::layers_compose;
 use pw_run_languages::traffic_rests_on_relations;
 

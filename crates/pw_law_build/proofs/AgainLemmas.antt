@@ -19,7 +19,7 @@ use Rattle.pw_build_files.specs.FromBuild.BuildFault.{BuildFault}
 use Rattle.pw_build_files.specs.FromBuild.Builds.{Builds, BuildsBy, first_phases}
 use Rattle.pw_store_kept.specs.Kept.{counted, is_same, kept_bytes, kept_object, object_in}
 use Rattle.pw_store_kept.specs.Files.{AreObjectFiles, made_anew}
-use Rattle.pw_build_files.specs.Building.{BuildComes, IsOutcome, Outcome, if_changed, kept_objects}
+use Rattle.pw_build_files.specs.Building.{BuildOutcome, IsOutcome, Outcome, if_changed, kept_objects}
 use Rattle.pw_law_build.specs.Whole.{HoldsFile}
 use Rattle.pw_law_build.specs.Kept.{FitsKept, FitsWhole, KeepsFlows, KeepsObjects, unchanged}
 use Rattle.pw_law_build.proofs.WholeLemmas.{both_stand}
@@ -75,7 +75,7 @@ none_put : (files : Files) (name bytes : List ℕ) → is_same (kept_bytes files
 none_put files name bytes e = ap (λ (same : Bool). cond {A = List NamedFile} same [] ((name, bytes) ∷ [])) e
 
 pub edit_comes : Laws → (told : Told) (colours stack : ℕ) (parts : Parts) (outcome : Outcome) (files : Files) → Builds (modules_of told.files) (kept_objects told.files) colours stack (Ok parts) → IsOutcome told.files stack parts outcome → FitsWhole parts outcome
-    → KeepsFlows (after_puts told outcome.puts).files files → BuildComes files colours stack (Ok (unchanged outcome))
+    → KeepsFlows (after_puts told outcome.puts).files files → BuildOutcome files colours stack (Ok (unchanged outcome))
 edit_comes laws told colours stack parts outcome files builds o fits edit =
     let left : Files = (after_puts told outcome.puts).files in
     let keeps : KeepsObjects told.files left parts = keeps_objects laws told colours stack parts outcome builds o in

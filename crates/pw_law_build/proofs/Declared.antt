@@ -16,11 +16,11 @@ use Rattle.pw_types.specs.TypedModules.{IsFunctionTyped, IsDeclaredIfExternal}
 use Rattle.pw_types.specs.WellTyped.{IsDeclared}
 use Rattle.pw_check_rules.specs.Checks.{Checks, checked}
 use Rattle.pw_lower.specs.Modules.{is_main, lowered_function, start_function, start_of, lowered_declared, lowered}
-use Rattle.pw_front_end.specs.Fronts.{front_of}
+use Rattle.pw_front_end.specs.Fronts.{front_end_of}
 use Rattle.pw_front_end.specs.declared.refusal.Refusal.{Refusal}
 use Rattle.pw_front_end.specs.declared.refusal.Refusal.TheVariants.{Check}
 use Rattle.pw_check_walk.specs.declared.constraints.CheckFault.{CheckFault}
-use Rattle.pw_build.specs.FromPhaseOne.FirstPhase.{by_checking, by_front, compiled}
+use Rattle.pw_build.specs.FromPhaseOne.FirstPhase.{by_checking, by_front_end, compiled}
 use Rattle.pw_law_build.specs.Alike.{DeclaresMain}
 
 -- ---- names
@@ -135,10 +135,10 @@ checked_declares laws name tree flow (Ok typed) is e =
     let checks = (laws.exact tree (Ok typed)).1 is in
     subst DeclaresMain (same_flow (lowered name typed) flow e) (lowered_declares name typed (laws.typed tree typed checks) (laws.external tree typed checks))
 
-front_declares : Laws → (name : List ℕ) (flow : FlowModule) (front : Result Module Refusal) → by_front name front ≡ Ok flow → DeclaresMain flow
+front_declares : Laws → (name : List ℕ) (flow : FlowModule) (front : Result Module Refusal) → by_front_end name front ≡ Ok flow → DeclaresMain flow
 front_declares laws name flow (Err refusal) e = absurd (no_flow refusal flow e)
 front_declares laws name flow (Ok tree) e = checked_declares laws name tree flow (checked tree) refl e
 
 pub compiled_declares : Laws → (name text : List ℕ) (flow : FlowModule) → compiled name text ≡ Ok flow → DeclaresMain flow
 unfolding compiled
-compiled_declares laws name text flow e = front_declares laws name flow (front_of text) e
+compiled_declares laws name text flow e = front_declares laws name flow (front_end_of text) e

@@ -12,7 +12,7 @@ use Rattle.std.specs.FinMap.{same_map, slice_cmp-IsAntisymmetric, nat_cmp-IsAnti
 use Rattle.std.proofs.Math.Seq.{drop-append-add}
 use Rattle.std.proofs.lemmas.Cmp.{tied_itself}
 use Rattle.std.proofs.lemmas.List.{append_cancel_right, drop_at, length-map}
-use Rattle.pw_io.specs.Files.{Files, Told, after_put, front_of}
+use Rattle.pw_io.specs.Files.{Files, Told, after_put, prefix_of}
 use Rattle.pw_value.specs.Limits.{kept_limit}
 use Rattle.pw_value.specs.declared.fault.FileError.TheVariants as file
 use Rattle.pw_value.specs.declared.fault.LinkFault.{LinkFault}
@@ -38,7 +38,7 @@ use Rattle.pw_law_build.proofs.WholeLemmas.{FileLaws, after_both, changed_apart,
 -- the laws on which it stands
 pub record Laws : Type 0 where
   pub files : FileLaws
-  pub front : (most : ℕ) (bytes : List ℕ) → length bytes ≤ most → front_of most bytes ≡ bytes
+  pub front : (most : ℕ) (bytes : List ℕ) → length bytes ≤ most → prefix_of most bytes ≡ bytes
   pub modules : (files : Files) (name text : List ℕ) → (finite.get (module_map files) name ≡ Some text) ↔ HoldsModule files name text
   pub rising : (files : Files) → IsStrictlySortedBy (slice_cmp nat_cmp) (finite.keys (module_map files))
 
@@ -248,7 +248,7 @@ text_same laws told stack parts outcome o name =
     ∙ get_other laws told o.objects (text_name name) (objects_apart _ o.objects (text_name name) (text_no_object name) o.object_files)
 
 pub holds_on : (old new : Files) (name text : List ℕ) → finite.get new (text_name name) ≡ finite.get old (text_name name) → HoldsModule old name text → HoldsModule new name text
-holds_on old new name text e h = record { named = h.named; reads = ap (option_map (front_of text_read)) e ∙ h.reads }
+holds_on old new name text e h = record { named = h.named; reads = ap (option_map (prefix_of text_read)) e ∙ h.reads }
 
 pub same_option : (a b : Option (List ℕ)) → ((t : List ℕ) → a ≡ Some t → b ≡ Some t) → ((t : List ℕ) → b ≡ Some t → a ≡ Some t) → a ≡ b
 same_option None None f g = refl

@@ -18,7 +18,7 @@ use Rattle.pw_build_objects.specs.Programs.{AreParts, AreSummariesOf, Completes,
 use Rattle.pw_build_objects.specs.Kept.{IsGenuineIfKept, all_fresh, anew}
 use Rattle.pw_build.specs.declared.fault.BuildFault.{BuildFault}
 use Rattle.pw_build.specs.Builds.{first_phases, Builds, BuildsBy}
-use Rattle.pw_build_files.specs.Building.{BuildComes, Outcome}
+use Rattle.pw_build_files.specs.Building.{BuildOutcome, Outcome}
 use Rattle.pw_build_files.specs.Full.{BuildsImage, image_of}
 use Rattle.pw_build_files.specs.Genuine.{KeepsGenuine}
 use Rattle.pw_law_build.specs.Alike.{shown, DeclaresMain}
@@ -70,10 +70,10 @@ module _ (laws : Laws) where
 no_answer : (fault : BuildFault) → IsOk {T = Outcome} {E = BuildFault} (Err fault) → ⊥
 no_answer fault e = cc
 
-pub exactly : ((files : Files) (colours stack : ℕ) (fault : BuildFault) → CanBeBuilt (modules_of files) colours stack → KeepsGenuine files → ¬ BuildComes files colours stack (Err fault))
-    → ((files : Files) (colours stack : ℕ) (comes : Result Outcome BuildFault) → KeepsGenuine files → BuildComes files colours stack comes → BuildsImage (module_map files) colours stack (image_of comes))
+pub exactly : ((files : Files) (colours stack : ℕ) (fault : BuildFault) → CanBeBuilt (modules_of files) colours stack → KeepsGenuine files → ¬ BuildOutcome files colours stack (Err fault))
+    → ((files : Files) (colours stack : ℕ) (comes : Result Outcome BuildFault) → KeepsGenuine files → BuildOutcome files colours stack comes → BuildsImage (module_map files) colours stack (image_of comes))
     → ((sources : List Source) (kept : List (Option Object)) (colours stack : ℕ) (parts : Parts) → colours ≤ colour_limit → AllByRecursion IsGenuineIfKept kept → Builds sources kept colours stack (Ok parts) → CanBeBuilt sources colours stack)
-    → (files : Files) (colours stack : ℕ) (comes : Result Outcome BuildFault) → colours ≤ colour_limit → KeepsGenuine files → BuildComes files colours stack comes → IsOk comes ↔ CanBeBuilt (modules_of files) colours stack
+    → (files : Files) (colours stack : ℕ) (comes : Result Outcome BuildFault) → colours ≤ colour_limit → KeepsGenuine files → BuildOutcome files colours stack comes → IsOk comes ↔ CanBeBuilt (modules_of files) colours stack
 exactly never full can files colours stack (Ok outcome) few genuine comes =
     let image : BuildsImage (module_map files) colours stack (Ok outcome.image) = full files colours stack (Ok outcome) genuine comes in
     ((λ done. can (modules_of files) [] colours stack image.0 few tt image.1), (λ able. refl))

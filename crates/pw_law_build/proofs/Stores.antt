@@ -15,25 +15,25 @@ use Rattle.pw_top_answer.specs.declared.answer.Answer.{Answer}
 use Rattle.pw_top_answer.specs.declared.answer.Answer.TheVariants as answer
 use Rattle.pw_top_answer.specs.Effects.{Effect}
 use Rattle.pw_top_answer.specs.Outcomes.{InputCount, OutputCount, StoreCount}
-use Rattle.pw_build_files.specs.Building.{BuildComes, Outcome}
+use Rattle.pw_build_files.specs.Building.{BuildOutcome, Outcome}
 use Rattle.pw_build_files.specs.Full.{BuildsImage, image_of}
 use Rattle.pw_build_files.specs.Genuine.{KeepsGenuine}
 use Rattle.pw_build_files.specs.Outcomes.{FaultCount, FaultFound, ObeysBuild, fault_answer}
 use Rattle.pw_build_files.specs.declared.report.Opts.{Opts}
 use Rattle.pw_build_files.specs.declared.report.Report.{Report}
 use Rattle.pw_commands.specs.Outcome.{IsFound}
-use Rattle.pw_build_files.specs.Driving.{built_effect, BuildComesTo}
+use Rattle.pw_build_files.specs.Driving.{built_effect, BuildEffect}
 use Rattle.pw_law_build.specs.Complete.{CanBeBuilt}
 
 -- ---- over the files of a store
 
 pub not_refused : ((sources : List Source) (kept : List (Option Object)) (colours stack : ℕ) (fault : BuildFault) → CanBeBuilt sources colours stack → AllByRecursion IsGenuineIfKept kept → ¬ Builds sources kept colours stack (Err fault))
-    → ((files : Files) (colours stack : ℕ) (comes : Result Outcome BuildFault) → KeepsGenuine files → BuildComes files colours stack comes → BuildsImage (module_map files) colours stack (image_of comes))
-    → (files : Files) (colours stack : ℕ) (fault : BuildFault) → CanBeBuilt (modules_of files) colours stack → KeepsGenuine files → BuildComes files colours stack (Err fault) → ⊥
+    → ((files : Files) (colours stack : ℕ) (comes : Result Outcome BuildFault) → KeepsGenuine files → BuildOutcome files colours stack comes → BuildsImage (module_map files) colours stack (image_of comes))
+    → (files : Files) (colours stack : ℕ) (fault : BuildFault) → CanBeBuilt (modules_of files) colours stack → KeepsGenuine files → BuildOutcome files colours stack (Err fault) → ⊥
 not_refused never anew files colours stack fault can genuine comes =
     never (modules_of files) [] colours stack fault can tt (anew files colours stack (Err fault) genuine comes)
 
-module _ (never : (files : Files) (colours stack : ℕ) (fault : BuildFault) → CanBeBuilt (modules_of files) colours stack → KeepsGenuine files → ¬ BuildComes files colours stack (Err fault)) where
+module _ (never : (files : Files) (colours stack : ℕ) (fault : BuildFault) → CanBeBuilt (modules_of files) colours stack → KeepsGenuine files → ¬ BuildOutcome files colours stack (Err fault)) where
   -- ---- a build
 
   by_fault : (files : Files) (opts : Opts) (fault : BuildFault) (before now : ℕ) → CanBeBuilt (modules_of files) opts.colours opts.stack → KeepsGenuine files → FaultFound files opts fault → StoreCount before now (fault_answer fault) → ¬ Rose before now
@@ -50,22 +50,22 @@ module _ (never : (files : Files) (colours stack : ℕ) (fault : BuildFault) →
 
   -- ---- the command
 
-  done_by : (files : Files) (colours stack : ℕ) (input : List ℕ) → CanBeBuilt (modules_of files) colours stack → KeepsGenuine files → (comes : Result Outcome BuildFault) → BuildComes files colours stack comes → (built_effect comes input).answer ≡ answer.Done
+  done_by : (files : Files) (colours stack : ℕ) (input : List ℕ) → CanBeBuilt (modules_of files) colours stack → KeepsGenuine files → (comes : Result Outcome BuildFault) → BuildOutcome files colours stack comes → (built_effect comes input).answer ≡ answer.Done
   done_by files colours stack input can genuine (Ok outcome) comes = refl
   done_by files colours stack input can genuine (Err fault) comes = absurd (never files colours stack fault can genuine comes)
 
-  effect_done : (files : Files) (colours stack : ℕ) (input : List ℕ) → CanBeBuilt (modules_of files) colours stack → KeepsGenuine files → (effect : Effect) → BuildComesTo files colours stack input effect → effect.answer ≡ answer.Done
+  effect_done : (files : Files) (colours stack : ℕ) (input : List ℕ) → CanBeBuilt (modules_of files) colours stack → KeepsGenuine files → (effect : Effect) → BuildEffect files colours stack input effect → effect.answer ≡ answer.Done
   effect_done files colours stack input can genuine effect h = ap (λ (e : Effect). e.answer) h.2 ∙ done_by files colours stack input can genuine h.0 h.1
 
   -- an answer that is found is that of an effect
   abbrev IsAnswered : Files → ℕ → ℕ → List ℕ → Answer → Type 0
-  IsAnswered files colours stack input a = (effect : Effect) × BuildComesTo files colours stack input effect × (effect.answer ≡ a)
+  IsAnswered files colours stack input a = (effect : Effect) × BuildEffect files colours stack input effect × (effect.answer ≡ a)
 
   found_done : (files : Files) (colours stack : ℕ) (input : List ℕ) → CanBeBuilt (modules_of files) colours stack → KeepsGenuine files → (a : Answer) → IsAnswered files colours stack input a → a ≡ answer.Done
   found_done files colours stack input can genuine a h = sym h.2 ∙ effect_done files colours stack input can genuine h.0 h.1
 
   pub command_complete : (files : Files) (colours stack : ℕ) (input : List ℕ) (a : Answer) (store store' read read' written written' : ℕ) → CanBeBuilt (modules_of files) colours stack → KeepsGenuine files
-      → IsFound (BuildComesTo files colours stack input) a → StoreCount store store' a → InputCount read read' a → OutputCount written written' a → ¬ Rose store store' → ¬ Rose read read' → ¬ Rose written written'
+      → IsFound (BuildEffect files colours stack input) a → StoreCount store store' a → InputCount read read' a → OutputCount written written' a → ¬ Rose store store' → ¬ Rose read read' → ¬ Rose written written'
       → (a ≡ answer.Done) ⊎ (a ≡ answer.NoMemory)
   command_complete files colours stack input answer.ReadFault store store' read read' written written' can genuine found s r w ns nr nw = absurd (nr r)
   command_complete files colours stack input answer.WriteFault store store' read read' written written' can genuine found s r w ns nr nw = absurd (nw w)

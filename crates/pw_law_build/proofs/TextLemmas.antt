@@ -14,7 +14,7 @@ use Rattle.std.proofs.lemmas.Cmp.{tied_itself}
 use Rattle.std.proofs.lemmas.List.{append_cancel_right}
 use Rattle.std.proofs.lemmas.Map.Lookups.{exact_bytes}
 use Rattle.std.proofs.lemmas.Map.Views.{tells_apart}
-use Rattle.pw_io.specs.Files.{Files, front_of}
+use Rattle.pw_io.specs.Files.{Files, prefix_of}
 use Rattle.pw_store_modules.specs.FileNames.{text_ending, text_name}
 use Rattle.pw_store_modules.specs.Modules.{HoldsModule, Source, is_module_name, module_map, modules_of, text_read}
 use Rattle.pw_value.specs.declared.fault.LinkFault.{LinkFault}
@@ -102,33 +102,33 @@ apart_by q name t e = true_is (sym (ap is_eq (tied_itself nat_list_cmp_total nam
 
 -- of files that differ in one module's text alone
 one_text : Laws → (files new : Files) (name text : List ℕ) → finite.get new (text_name name) ≡ Some text → ((other : List ℕ) → other ≢ text_name name → finite.get new other ≡ finite.get files other)
-    → is_module_name name ≡ true → (q : List ℕ) (b : Bool) → eq_by_cmp (slice_cmp nat_cmp) q name ≡ b → finite.get (module_map new) q ≡ cond b (Some (front_of text_read text)) (finite.get (module_map files) q)
+    → is_module_name name ≡ true → (q : List ℕ) (b : Bool) → eq_by_cmp (slice_cmp nat_cmp) q name ≡ b → finite.get (module_map new) q ≡ cond b (Some (prefix_of text_read text)) (finite.get (module_map files) q)
 one_text laws files new name text there others named q true t =
     ap (finite.get (module_map new)) (tells_apart exact_bytes q name t)
-    ∙ (laws.modules new name (front_of text_read text)).1 (record { named = named; reads = ap (option_map (front_of text_read)) there })
+    ∙ (laws.modules new name (prefix_of text_read text)).1 (record { named = named; reads = ap (option_map (prefix_of text_read)) there })
 one_text laws files new name text there others named q false t =
     let same : finite.get new (text_name q) ≡ finite.get files (text_name q) = others (text_name q) (λ e. apart_by q name t (append_cancel_right q name text_ending e)) in
     same_option (finite.get (module_map new) q) (finite.get (module_map files) q)
     (λ u e. (laws.modules files q u).1 (holds_on new files q u (sym same) ((laws.modules new q u).0 e)))
     (λ u e. (laws.modules new q u).1 (holds_on files new q u same ((laws.modules files q u).0 e)))
 
-map_behind : Laws → (files : Files) (name text : List ℕ) → is_module_name name ≡ true → module_map (finite.insert files (text_name name) text) ≡ finite.insert (module_map files) name (front_of text_read text)
+map_behind : Laws → (files : Files) (name text : List ℕ) → is_module_name name ≡ true → module_map (finite.insert files (text_name name) text) ≡ finite.insert (module_map files) name (prefix_of text_read text)
 map_behind laws files name text named =
-    same_map nat_list_cmp_total (slice_cmp-IsAntisymmetric nat_cmp-IsAntisymmetric) (module_map (finite.insert files (text_name name) text)) (finite.insert (module_map files) name (front_of text_read text))
+    same_map nat_list_cmp_total (slice_cmp-IsAntisymmetric nat_cmp-IsAntisymmetric) (module_map (finite.insert files (text_name name) text)) (finite.insert (module_map files) name (prefix_of text_read text))
     (λ q.
     one_text laws files (finite.insert files (text_name name) text) name text (laws.files.inserted files (text_name name) text) (laws.files.insertion files (text_name name) text) named q (eq_by_cmp (slice_cmp nat_cmp) q name) refl
-    ∙ sym (get-insert nat_list_cmp_total (module_map files) name (front_of text_read text) q))
+    ∙ sym (get-insert nat_list_cmp_total (module_map files) name (prefix_of text_read text) q))
 
 no_built : (name other : List ℕ) → IsBuiltName other → other ≢ text_name name
 no_built name other (inl m) e = text_no_object name m.0 (sym m.1 ∙ e)
 no_built name other (inr (inl db)) e = text_no_database name (sym e ∙ db)
 no_built name other (inr (inr img)) e = text_no_image name (sym e ∙ img)
 
-pub text_keeps : Laws → (files : Files) (name old text : List ℕ) → HoldsModule files name old → compiled name (front_of text_read text) ≡ compiled name old
+pub text_keeps : Laws → (files : Files) (name old text : List ℕ) → HoldsModule files name old → compiled name (prefix_of text_read text) ≡ compiled name old
     → limit_passed (modules_of (finite.insert files (text_name name) text)) ≡ limit_passed (modules_of files) → KeepsFlows files (finite.insert files (text_name name) text)
 text_keeps laws files name old text holds same limit =
     let new : Files = finite.insert files (text_name name) text in
-    let now : List ℕ = front_of text_read text in
+    let now : List ℕ = prefix_of text_read text in
     let are : modules_of new ≡ put (slice_cmp nat_cmp) name now (modules_of files) = ap finite.entries (map_behind laws files name text holds.named) ∙ entries-insert nat_list_cmp_total (module_map files) name now in
     let there : find (slice_cmp nat_cmp) name (modules_of files) ≡ Some old = sym (get-entries (module_map files) name) ∙ (laws.modules files name old).1 holds in
     let alike : Alike (modules_of files) (put (slice_cmp nat_cmp) name now (modules_of files)) = put_alike name now old (modules_of files) (laws.rising files) same there in

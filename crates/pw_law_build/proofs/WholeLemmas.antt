@@ -5,7 +5,7 @@ use Rattle.std.specs.Prelude.{if◌then◌else◌}
 use Rattle.std.specs.FinMap as finite
 use Rattle.std.proofs.lemmas.List.{drop_at}
 use Rattle.std.proofs.lemmas.Slice.Eq.{bytes_eq-Decides}
-use Rattle.pw_io.specs.Files.{Files, Told, after_put, front_of}
+use Rattle.pw_io.specs.Files.{Files, Told, after_put, prefix_of}
 use Rattle.pw_value.specs.Limits.{kept_limit}
 use Rattle.pw_object.specs.declared.object.Object.{Object}
 use Rattle.pw_store_modules.specs.FileNames.{database_name, image_name, object_ending, object_name}
@@ -18,7 +18,7 @@ use Rattle.pw_build_files.specs.FromBuild.Builds.{Builds}
 use Rattle.pw_build_files.specs.FromBuild.Full.{built_anew}
 use Rattle.pw_store_kept.specs.Kept.{counted, is_same, kept_bytes}
 use Rattle.pw_store_kept.specs.Files.{AreObjectFiles}
-use Rattle.pw_build_files.specs.Building.{BuildComes, IsOutcome, Outcome, if_changed, kept_objects}
+use Rattle.pw_build_files.specs.Building.{BuildOutcome, IsOutcome, Outcome, if_changed, kept_objects}
 use Rattle.pw_build_files.specs.Genuine.{KeepsGenuine}
 use Rattle.pw_law_build.specs.Whole.{HoldsBuild, HoldsFile, HoldsFullBuild, HoldsProgram}
 
@@ -57,8 +57,8 @@ take_twice zero bytes = refl
 take_twice (suc n) [] = refl
 take_twice (suc n) (b ∷ bytes) = ap (λ (rest : List ℕ). b ∷ rest) (take_twice n bytes)
 
-front_twice : (n : ℕ) (bytes : List ℕ) → front_of n (front_of n bytes) ≡ front_of n bytes
-unfolding front_of
+front_twice : (n : ℕ) (bytes : List ℕ) → prefix_of n (prefix_of n bytes) ≡ prefix_of n bytes
+unfolding prefix_of
 front_twice n bytes = take_twice n bytes
 
 no_true : false ≡ true → ⊥
@@ -67,7 +67,7 @@ no_true e = cc
 same_counts : (file : Option (List ℕ)) (bytes : List ℕ) → is_same (counted file) bytes ≡ true → counted file ≡ counted (Some bytes)
 same_counts None bytes e = absurd (no_true e)
 same_counts (Some kept) bytes e =
-    let same : front_of kept_limit kept ≡ bytes = (bytes_eq-Decides (front_of kept_limit kept) bytes).0 e in
+    let same : prefix_of kept_limit kept ≡ bytes = (bytes_eq-Decides (prefix_of kept_limit kept) bytes).0 e in
     ap (λ (b : List ℕ). Some b) (sym (front_twice kept_limit kept)) ∙ ap (λ (b : List ℕ). counted (Some b)) same
 
 changed_holds : FileLaws → (old : Files) (told : Told) (name bytes : List ℕ) → finite.get told.files name ≡ finite.get old name → HoldsFile (after_puts told (if_changed old name bytes)).files name bytes
@@ -153,12 +153,12 @@ all_anew parts stack files h = record {
 
 pub holds_full_build : FileLaws
     → ((files : Files) (colours stack : ℕ) (a : Result Parts BuildFault) → KeepsGenuine files → Builds (modules_of files) (kept_objects files) colours stack a → Builds (modules_of files) [] colours stack (built_anew a))
-    → (told : Told) (colours stack : ℕ) (outcome : Outcome) → KeepsGenuine told.files → BuildComes told.files colours stack (Ok outcome) → HoldsFullBuild (module_map told.files) colours stack (after_puts told outcome.puts).files
+    → (told : Told) (colours stack : ℕ) (outcome : Outcome) → KeepsGenuine told.files → BuildOutcome told.files colours stack (Ok outcome) → HoldsFullBuild (module_map told.files) colours stack (after_puts told outcome.puts).files
 holds_full_build laws full told colours stack outcome keeps comes = (
   all_fresh comes.0,
   full told.files colours stack (Ok comes.0) keeps comes.1,
   all_anew comes.0 stack (after_puts told outcome.puts).files (holds_program laws told stack comes.0 outcome comes.2),
 )
 
-pub holds_build : FileLaws → (told : Told) (colours stack : ℕ) (outcome : Outcome) → BuildComes told.files colours stack (Ok outcome) → HoldsBuild told.files colours stack (after_puts told outcome.puts).files
+pub holds_build : FileLaws → (told : Told) (colours stack : ℕ) (outcome : Outcome) → BuildOutcome told.files colours stack (Ok outcome) → HoldsBuild told.files colours stack (after_puts told outcome.puts).files
 holds_build laws told colours stack outcome comes = (comes.0, comes.1, holds_program laws told stack comes.0 outcome comes.2)

@@ -17,20 +17,22 @@ ghost use Rattle.pw_build.specs.Builds.{Builds, first_phases};
 ghost use Rattle.pw_top_answer.specs.declared.answer.Answer.{Answer};
 ghost use Rattle.pw_top_answer.specs.declared.answer.Answer.TheVariants as answer;
 ghost use Rattle.pw_top_answer.specs.Outcomes.{InputCount, OutputCount, StoreCount};
-ghost use Rattle.pw_build_files.specs.Building.{BuildComes, Outcome};
+ghost use Rattle.pw_build_files.specs.Building.{BuildOutcome, Outcome};
 ghost use Rattle.pw_build_files.specs.Genuine.{KeepsGenuine};
 ghost use Rattle.pw_build_files.specs.Outcomes.{FaultCount, ObeysBuild};
 ghost use Rattle.pw_build_files.specs.declared.report.Opts.{Opts};
 ghost use Rattle.pw_build_files.specs.declared.report.Report.{Report};
 ghost use Rattle.pw_commands.specs.Outcome.{IsFound};
-ghost use Rattle.pw_build_files.specs.Driving.{BuildComesTo};
+ghost use Rattle.pw_build_files.specs.Driving.{BuildEffect};
 ghost use Rattle.pw_law_build.specs.Alike.{DeclaresMain};
 ghost use Rattle.pw_law_build.specs.Complete.{CanBeBuilt};
 
+use crate::linking::{
+    flow_graphs_and_summaries_are_refused_alike, objects_are_refused_for_room_alone,
+};
 use pw_build_files::genuine_objects_give_the_full_image;
 use pw_build_objects::laws::{flow_graphs_have_one_answer, genuine_objects_change_nothing};
 use pw_check_rules::checks_is_exact;
-use crate::linking::{flow_graphs_and_summaries_are_refused_alike, objects_are_refused_for_room_alone};
 use pw_law_checked::{accepted_functions_are_typed, accepted_names_are_declared};
 use pw_link_rules::laws::modules_have_one_answer;
 
@@ -60,7 +62,7 @@ pub fn accepted_modules_are_built()
 /// A build over a store is refused nothing where the store's modules can be built and its kept objects are genuine.
 pub fn a_store_that_can_be_built_is_built()
     ensures { (files : Files) (colours stack : ℕ) (fault : BuildFault) →
-        CanBeBuilt (modules_of files) colours stack → KeepsGenuine files → ¬ BuildComes files colours stack (Err fault) }
+        CanBeBuilt (modules_of files) colours stack → KeepsGenuine files → ¬ BuildOutcome files colours stack (Err fault) }
 {
     genuine_objects_give_the_full_image();
     accepted_modules_are_built();
@@ -83,7 +85,7 @@ pub fn what_is_built_can_be_built()
 /// to is a program there, and a refusal where they cannot.
 pub fn a_store_is_built_exactly_where_it_can_be()
     ensures { (files : Files) (colours stack : ℕ) (comes : Result Outcome BuildFault) → colours ≤ colour_limit →
-        KeepsGenuine files → BuildComes files colours stack comes → IsOk comes ↔ CanBeBuilt (modules_of files) colours stack }
+        KeepsGenuine files → BuildOutcome files colours stack comes → IsOk comes ↔ CanBeBuilt (modules_of files) colours stack }
 {
     a_store_that_can_be_built_is_built();
     what_is_built_can_be_built();
@@ -104,7 +106,7 @@ pub fn builds_are_complete()
 /// The same of the command `build`, whose answer is then that it is done, or that memory ran out.
 pub fn the_command_is_complete()
     ensures { (files : Files) (colours stack : ℕ) (input : List ℕ) (reply : Answer) (store store' read read' written written' : ℕ) →
-        CanBeBuilt (modules_of files) colours stack → KeepsGenuine files → IsFound (BuildComesTo files colours stack input) reply →
+        CanBeBuilt (modules_of files) colours stack → KeepsGenuine files → IsFound (BuildEffect files colours stack input) reply →
         StoreCount store store' reply → InputCount read read' reply → OutputCount written written' reply →
         ¬ Rose store store' → ¬ Rose read read' → ¬ Rose written written' →
         (reply ≡ answer.Done) ⊎ (reply ≡ answer.NoMemory) }

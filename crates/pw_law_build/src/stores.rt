@@ -2,14 +2,14 @@
 
 ghost use Rattle.std.specs.Prelude.{◌≡◌, ℕ, List, Ok, Some};
 ghost use Rattle.std.specs.FinMap as finite;
-ghost use Rattle.pw_io.specs.Files.{Files, Told, front_of};
+ghost use Rattle.pw_io.specs.Files.{Files, Told, prefix_of};
 ghost use Rattle.pw_store_modules.specs.FileNames.{text_name};
 ghost use Rattle.pw_store_modules.specs.Modules.{HoldsModule, module_map, modules_of, text_read};
 ghost use Rattle.pw_top_answer.specs.Effects.{after_puts};
 ghost use Rattle.pw_build_objects.specs.Programs.{Parts};
 ghost use Rattle.pw_build_files.specs.FromBuild.Builds.{Builds, limit_passed};
 ghost use Rattle.pw_build_files.specs.FromBuild.FirstPhase.{compiled};
-ghost use Rattle.pw_build_files.specs.Building.{BuildComes, IsOutcome, Outcome, kept_objects};
+ghost use Rattle.pw_build_files.specs.Building.{BuildOutcome, IsOutcome, Outcome, kept_objects};
 ghost use Rattle.pw_build_files.specs.Genuine.{KeepsGenuine};
 ghost use Rattle.pw_law_build.specs.Kept.{FitsWhole, KeepsFlows, KeepsObjects, unchanged};
 ghost use Rattle.pw_law_build.specs.Whole.{HoldsBuild, HoldsFullBuild};
@@ -21,7 +21,7 @@ use pw_store_modules::modules_are_exact;
 /// A build leaves the database and the image of the program to which the modules and what was kept of them come, whatever
 /// was kept.
 pub fn a_build_leaves_its_program()
-    ensures { (told : Told) (colours stack : ℕ) (outcome : Outcome) → BuildComes told.files colours stack (Ok outcome) → HoldsBuild told.files colours stack (after_puts told outcome.puts).files }
+    ensures { (told : Told) (colours stack : ℕ) (outcome : Outcome) → BuildOutcome told.files colours stack (Ok outcome) → HoldsBuild told.files colours stack (after_puts told outcome.puts).files }
 {
     other_files();
 }
@@ -29,7 +29,7 @@ pub fn a_build_leaves_its_program()
 /// Where the kept objects are genuine, a build leaves the database and the image of the full build of the modules' texts, in
 /// which nothing is kept.
 pub fn a_build_leaves_the_whole_program()
-    ensures { (told : Told) (colours stack : ℕ) (outcome : Outcome) → KeepsGenuine told.files → BuildComes told.files colours stack (Ok outcome) → HoldsFullBuild (module_map told.files) colours stack (after_puts told outcome.puts).files }
+    ensures { (told : Told) (colours stack : ℕ) (outcome : Outcome) → KeepsGenuine told.files → BuildOutcome told.files colours stack (Ok outcome) → HoldsFullBuild (module_map told.files) colours stack (after_puts told outcome.puts).files }
 {
     genuine_objects_give_the_full_build();
     other_files();
@@ -49,7 +49,7 @@ pub fn a_build_keeps_its_objects()
 /// they were, where kept files can hold what was made. So an edit that changes a text but no flow graph, as one more comment,
 /// rebuilds nothing.
 pub fn an_edit_that_keeps_flows_makes_nothing()
-    ensures { (told : Told) (colours stack : ℕ) (parts : Parts) (outcome : Outcome) (files : Files) → Builds (modules_of told.files) (kept_objects told.files) colours stack (Ok parts) → IsOutcome told.files stack parts outcome → FitsWhole parts outcome → KeepsFlows (after_puts told outcome.puts).files files → BuildComes files colours stack (Ok (unchanged outcome)) }
+    ensures { (told : Told) (colours stack : ℕ) (parts : Parts) (outcome : Outcome) (files : Files) → Builds (modules_of told.files) (kept_objects told.files) colours stack (Ok parts) → IsOutcome told.files stack parts outcome → FitsWhole parts outcome → KeepsFlows (after_puts told outcome.puts).files files → BuildOutcome files colours stack (Ok (unchanged outcome)) }
 {
     front();
     modules_are_exact();
@@ -59,7 +59,7 @@ pub fn an_edit_that_keeps_flows_makes_nothing()
 /// A text that is put in place of a module's keeps the flow graphs, and so rebuilds nothing, where the first phase makes of it
 /// what it made of the text before, and the texts together pass no other limit than before.
 pub fn a_text_with_the_same_flow_keeps_flows()
-    ensures { (files : Files) (name old text : List ℕ) → HoldsModule files name old → compiled name (front_of text_read text) ≡ compiled name old → limit_passed (modules_of (finite.insert files (text_name name) text)) ≡ limit_passed (modules_of files) → KeepsFlows files (finite.insert files (text_name name) text) }
+    ensures { (files : Files) (name old text : List ℕ) → HoldsModule files name old → compiled name (prefix_of text_read text) ≡ compiled name old → limit_passed (modules_of (finite.insert files (text_name name) text)) ≡ limit_passed (modules_of files) → KeepsFlows files (finite.insert files (text_name name) text) }
 {
     front();
     modules_are_exact();
@@ -69,7 +69,7 @@ pub fn a_text_with_the_same_flow_keeps_flows()
 /// A build over what a build left makes nothing anew and puts nothing, where kept files can hold what was made; and a text that
 /// is put where it stands already leaves the files as they are. So an edit that changes nothing rebuilds nothing.
 pub fn a_build_again_makes_nothing()
-    ensures again { (told : Told) (colours stack : ℕ) (parts : Parts) (outcome : Outcome) → Builds (modules_of told.files) (kept_objects told.files) colours stack (Ok parts) → IsOutcome told.files stack parts outcome → FitsWhole parts outcome → BuildComes (after_puts told outcome.puts).files colours stack (Ok (unchanged outcome)) }
+    ensures again { (told : Told) (colours stack : ℕ) (parts : Parts) (outcome : Outcome) → Builds (modules_of told.files) (kept_objects told.files) colours stack (Ok parts) → IsOutcome told.files stack parts outcome → FitsWhole parts outcome → BuildOutcome (after_puts told outcome.puts).files colours stack (Ok (unchanged outcome)) }
     ensures same_text { (files : Files) (name text : List ℕ) → finite.get files name ≡ Some text → finite.insert files name text ≡ files }
 {
     an_edit_that_keeps_flows_makes_nothing();

@@ -1,4 +1,4 @@
--- Composite types: they have the shape of each of the types that they are made of, but for a length at the front.
+-- Composite types: they have the shape of each of the types that they are made of, but for a length at the beginning.
 use Rattle.std.specs.Prelude.{ℕ, zero, suc, ◌≡◌, ◌<◌, ◌⊎◌, ◌/◌, ◌%◌, ◌==◌, Bool, true, false, ◌||◌, ◌&&◌, Option, None, Some, is_some, option_map, List, [], ◌∷◌, ◌++◌, decimal, length, if◌then◌else◌, refl}
 use Rattle.std.specs.Char.{is_ascii_digit}
 use Rattle.std.specs.Fmt.{digits_onto, digit_glyph, digits}

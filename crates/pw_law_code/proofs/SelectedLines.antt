@@ -20,7 +20,7 @@ use Rattle.pw_db.specs.Limits.{first_register, register_count}
 use Rattle.pw_db.specs.declared.database.Web.{Web}
 use Rattle.pw_db.specs.declared.database.Role.{Role}
 use Rattle.pw_inst.specs.declared.Inst.{Inst}
-use Rattle.pw_inst.specs.Limits.{near_least, near_most}
+use Rattle.pw_inst.specs.Limits.{near_least, near_limit}
 use Rattle.pw_inst.specs.declared.Inst.TheVariants as i
 use Rattle.pw_inst.specs.declared.line.Line.{Line}
 use Rattle.pw_inst.specs.declared.line.Line.TheVariants.{Plain, Fixed, Jump, BranchNonZero, Label, CallTo, CallReg, Leave}
@@ -348,7 +348,7 @@ parameters_are_in frame places k (suc more) =
     joined (parameter_in frame k (place_of places k)) (parameters_in frame places (suc k) more) (parameter_is_in frame k (place_of places k)) (parameters_are_in frame places (suc k) more)
 
 frame_end_in : (frame : ℕ) → AreInside (frame_end frame)
-frame_end_in frame = by (nat_lt near_most frame)
+frame_end_in frame = by (nat_lt near_limit frame)
   where
     by : (t : Bool) → AreInside (if t then constant frame 1 ++ word (i.Addl 30 1 1) else word (i.Ldo (pos frame) 30 1))
     by true = joined (constant frame 1) (word (i.Addl 30 1 1)) (constant_in frame 1) (tt, tt)

@@ -4,4 +4,6 @@
 pub mod code;
 pub mod machine;
 
-pub use machine::{other_places_stay, runs_keep_lawful_states, stores_are_read, words_of_the_text_stay};
+pub use machine::{
+    other_places_stay, runs_keep_lawful_states, stores_are_read, words_of_the_text_stay,
+};

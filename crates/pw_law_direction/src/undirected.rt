@@ -2,8 +2,10 @@
 
 ghost use Rattle.pw_law_direction.specs.UndirectedLaws.{EmptyDirectionKeeps, WeblessDirectionKeeps, WeblessIsSound};
 
+use crate::directed::{
+    directed_runs_keep_registers, directed_runs_obey_traffic, directed_values_are_fine,
+};
 use pw_db_sound::nothing_is_sound;
-use crate::directed::{directed_runs_keep_registers, directed_runs_obey_traffic, directed_values_are_fine};
 
 /// Under the empty database the directed run keeps the flow run, with each global in its place at each call and return; and
 /// it keeps the registers and obeys the law of traffic.

@@ -1,7 +1,7 @@
 -- What acceptance of texts owes: modules that checking and linking accept make an accepted program.
 use Rattle.std.specs.Prelude.{ℕ, ◌≡◌, ◌≢◌, ◌≤◌, ◌↔◌, ◌==◌, not, All, Some, List, [], ◌∷◌, ◌++◌, map, filter, slice_get, Contains}
 use Rattle.std.specs.List.{AllByRecursion, list_any}
-use Rattle.pw_value.specs.Limits.{stack_most}
+use Rattle.pw_value.specs.Limits.{stack_limit}
 use Rattle.pw_files.specs.Rising.{IsRising}
 use Rattle.pw_types.specs.TypeTrees.{type_of}
 use Rattle.pw_types.specs.TypedTrees.{Initialiser, Value, Bytes, Statement, Empty, Evaluate, Block, If, While, Do, For, Switch, Label, Goto, Break, Continue, Return, Arms, NoArm, Arm, Otherwise, NoElse, Else, Statements, NoStatement, OneStatement, LocalValue, FunctionValue}
@@ -106,5 +106,5 @@ AreNamedPlainly p = (m : ProgramModule) → Contains p.modules m → HasNoColon 
 abbrev pub CheckedIsAccepted : Type 0
 CheckedIsAccepted =
     (p : Program) (frame_of : List ℕ → ℕ) (stack : ℕ) (objects : List Object) →
-    AreChecked p → AreNamedPlainly p → IsRising (map (λ m. m.name) p.modules) → stack ≤ stack_most →
+    AreChecked p → AreNamedPlainly p → IsRising (map (λ m. m.name) p.modules) → stack ≤ stack_limit →
     AllShow (flow_program p frame_of stack).modules objects → Links (map interface objects) → IsWhole p frame_of stack

@@ -24,7 +24,7 @@ use Rattle.pw_run_languages.specs.LineRun.{LineFn, Machine, Step, On, Stopped, A
 use Rattle.pw_law_link_run.specs.Steps.{Setting, At, Arrives, with_call, AreInData}
 use Rattle.pw_law_link_run.specs.Placing.{name_in, own_address}
 use Rattle.pw_law_link_run.specs.Simulating.{calls_from, noted_by, IsLinked, IsCaller, Simulates, IsCalm, IsCalmInside, HasAsking, HasLibrary, IsHigh}
-use Rattle.pw_law_link_run.specs.Meeting.{ComesTo, EndsSo, Meets, end_as}
+use Rattle.pw_law_link_run.specs.Meeting.{RunsTo, EndsSo, Meets, end_as}
 use Rattle.pw_law_link_run.proofs.Noting.{enters_at, no_accesses}
 use Rattle.pw_law_link_run.proofs.Stepping.{starts_at, halts_at_front}
 use Rattle.pw_law_link_run.proofs.Words.{read}
@@ -122,7 +122,7 @@ called_by x m None (Some defined) = On (enters x.program x.addresses defined m)
 called_by x m None None = Astray
 
 called_so : (x : Setting) → IsLinked x → HasLibrary x → (k : ℕ) (m t : Machine) (f : List ℕ) (o : Option Library) (d : Option LineFn) → library_at f ≡ o
-    → function_named x.program f ≡ d → Called x m k (x.addresses.named f) → called_by x m o d ≡ On t → (o ≢ None → IsCalm x t) → ComesTo x t
+    → function_named x.program f ≡ d → Called x m k (x.addresses.named f) → called_by x m o d ≡ On t → (o ≢ None → IsCalm x t) → RunsTo x t
 called_so x l lib k m t f (Some g) d is defined h e calm =
     let name = library_named f g is in
     record {
@@ -148,7 +148,7 @@ calls_are x m to f None (Some g) is defined link = rw (eq-eqb (lines.register m.
 calls_are x m to f None None is defined link = rw (eq-eqb (lines.register m.core 2) to link, is, defined) refl
 
 pub calls_there : (x : Setting) → IsLinked x → HasLibrary x → (k to : ℕ) (m t : Machine) (f : List ℕ) → lines.register m.core 2 ≡ to
-    → Called x m k (x.addresses.named f) → calls x.program x.addresses to f m ≡ On t → (library_at f ≢ None → IsCalm x t) → ComesTo x t
+    → Called x m k (x.addresses.named f) → calls x.program x.addresses to f m ≡ On t → (library_at f ≢ None → IsCalm x t) → RunsTo x t
 calls_there x l lib k to m t f link h e calm =
     called_so x l lib k m t f (library_at f) (function_named x.program f) refl refl h
     (sym (calls_are x m to f (library_at f) (function_named x.program f) refl refl link) ∙ e) calm

@@ -21,7 +21,7 @@ use Rattle.pw_run_languages.specs.MachineRun.{Map, Call, Noted, has_returned, ar
 use Rattle.pw_run_languages.specs.MachineRun as noting
 use Rattle.pw_law_link_run.specs.Steps.{Setting, map_in, IsSetting, At, Arrives, with_accesses}
 use Rattle.pw_law_link_run.specs.Simulating.{calls_from, noted_by, IsLinked, IsCaller, Simulates, IsCalm, IsCalmInside, IsHigh}
-use Rattle.pw_law_link_run.specs.Meeting.{ComesTo}
+use Rattle.pw_law_link_run.specs.Meeting.{RunsTo}
 use Rattle.pw_law_link_run.specs.Routines.{IsClear, ResultIs, Makes, after_routine, Begins, HasRoutine, HasRoutines, calling_routine, to_routine, LeavesSo, LeaveSo}
 use Rattle.pw_law_link_run.proofs.Words.{read, put_same, put_other}
 use Rattle.pw_law_link_run.proofs.Noting.{arrived_quiet, no_touch, settles}
@@ -353,7 +353,7 @@ same_left m j ws vs h =
 pub routine_meets : (x : Setting) → IsLinked x → (has : HasRoutines x) (scratch : ℕ → (ℕ → ℕ) → ℕ → ℕ) → LeaveSo x has scratch → (k j : ℕ) (m : Machine) (rest : List Item) → j < 5
     → Simulates x (calling_routine m j rest) k → m.core.skip ≡ false → IsCalmInside x (calling_routine m j rest) 2 → IsHigh x (calling_routine m j rest)
     → IsCalm x (after_routine (to_routine x m rest) j (scratch j (to_routine x m rest).core.registers))
-    → ComesTo x (after_routine (to_routine x m rest) j (scratch j (to_routine x m rest).core.registers))
+    → RunsTo x (after_routine (to_routine x m rest) j (scratch j (to_routine x m rest).core.registers))
 routine_meets x l has scratch so k j m rest below h run inside high calm =
     let r = one_routine has j below in
     let u = to_routine x m rest in

@@ -12,7 +12,7 @@ use Rattle.pw_run_languages.specs.MachineRun.{Noted, start_state, traced_run}
 use Rattle.pw_run_languages.specs.MachineRun as noting
 use Rattle.pw_law_link_run.specs.Steps.{Setting, map_in}
 use Rattle.pw_law_link_run.specs.Simulating.{IsLinked, HasLibrary}
-use Rattle.pw_law_link_run.specs.Meeting.{ComesTo, Meets, IsSteady}
+use Rattle.pw_law_link_run.specs.Meeting.{RunsTo, Meets, IsSteady}
 use Rattle.pw_law_link_run.specs.Meeting as meeting
 use Rattle.pw_law_link_run.specs.Routines.{HasRoutines, LeaveSo, IsSteadyRun}
 use Rattle.pw_law_link_run.proofs.Meeting.{step_meets}
@@ -69,7 +69,7 @@ over_is x core input k p log start_is r h =
 left_of : (input rest : List ℕ) (read : ℕ) → read + length rest ≡ length input → read ≡ length input - length rest
 left_of input rest read e = omega (arith, e)
 
-met_on : (x : Setting) (core : Core) (input : List ℕ) (m : Machine) → x.start ≡ start_state core input → ComesTo x m
+met_on : (x : Setting) (core : Core) (input : List ℕ) (m : Machine) → x.start ≡ start_state core input → RunsTo x m
     → Met Same (lines.staged (On m)) (traced_run (map_in x) core input)
 met_on x core input m start_is h =
     let at = h.simulates.at in

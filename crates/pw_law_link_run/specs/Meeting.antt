@@ -23,7 +23,7 @@ use Rattle.pw_law_link_run.specs.Simulating.{calls_from, calls_behind, Simulates
 -- ---- what it comes to
 
 -- after some steps it shows the state
-pub record ComesTo (x : Setting) (t : Machine) : Type 0 where
+pub record RunsTo (x : Setting) (t : Machine) : Type 0 where
   pub steps : ℕ
   pub simulates : Simulates x t steps
 
@@ -41,7 +41,7 @@ pub record EndsSo (x : Setting) (end : End) (t : Machine) : Type 0 where
   pub read : t.read + length t.rest ≡ length x.start.rest
 
 abbrev pub Meets : Setting → Step → Type 0
-Meets x (On t) = ComesTo x t
+Meets x (On t) = RunsTo x t
 Meets x (run.Stopped end t) = EndsSo x end t
 Meets x Astray = Unit {0}
 

@@ -113,9 +113,15 @@ keys a (r ∷ rs) = ap (λ (qs : List ℕ). r ∷ qs) (keys a rs)
 module _ (p : Program) (d : List (List ℕ × Directives)) (base : IsDatabase d) (sound : Sound (graph_of p) d) where
   begun_placed : (l : Located) (b : WebBlock) (to : Option ℕ) (x : Twin) → IsOfProgram p d l.body → Serves l.body l → IsPlaced p d (begun l b to x).frame
   begun_placed l b to x is serves = record {
-    flow = is.flow; there = is.there; body = is.body; lawful = is.lawful; serves = serves;
-    bare = keys x.registers (saved_of l.body); placed = keys x.bank l.saved;
-    room = length-replicate l.body.temps Undefined; words = length-replicate l.body.temps Undefined;
+    flow = is.flow;
+    there = is.there;
+    body = is.body;
+    lawful = is.lawful;
+    serves = serves;
+    bare = keys x.registers (saved_of l.body);
+    placed = keys x.bank l.saved;
+    room = length-replicate l.body.temps Undefined;
+    words = length-replicate l.body.temps Undefined;
   }
 
   -- the registers of webs in which it is a member are those of its caller's
@@ -140,7 +146,13 @@ module _ (p : Program) (d : List (List ℕ × Directives)) (base : IsDatabase d)
       let is = begun_placed l b to x of serves in
       record {
         placed = is;
-        block = b; first = first; ops = refl; end = refl; result = refl; function = refl; edge = edge;
+        block = b;
+        first = first;
+        ops = refl;
+        end = refl;
+        result = refl;
+        function = refl;
+        edge = edge;
         webs = begun_webs l b to x is ready edge;
         temps = begun_temps l b to x;
         bare_under = λ q high. bare_under l b to x q;
@@ -161,10 +173,21 @@ module _ (p : Program) (d : List (List ℕ × Directives)) (base : IsDatabase d)
       → Follows p d (and_then s (receives args)) (and_then t (receives args))
   after_loads x l to args s t c count (all_loaded y e) =
       let r = all_received p d x to args 0 y (let own : length args ≡ y.frame.function.body.params = count ∙ ap (λ (f : Located). f.body.params) (sym e.function) in omega (arith, own)) (record {
-        placed = e.placed; block = e.block; first = e.first; ops = e.ops; end = e.end; result = e.result; edge = e.edge;
+        placed = e.placed;
+        block = e.block;
+        first = e.first;
+        ops = e.ops;
+        end = e.end;
+        result = e.result;
+        edge = e.edge;
         webs = λ q h. e.webs q h (λ w among same. among);
         temps = λ u needed. e.temps u;
-        bare_under = e.bare_under; placed_under = e.placed_under; before = e.before; callers = e.callers; log = e.log; keeps = e.keeps;
+        bare_under = e.bare_under;
+        placed_under = e.placed_under;
+        before = e.before;
+        callers = e.callers;
+        log = e.log;
+        keeps = e.keeps;
       }) in
       goes (record { twin = r.twin; bare = ap On r.bare; placed = ap On r.full; alike = received_alike p d x to r.twin c r.receiving.edge r.receiving })
   after_loads x l to args s t c count unloaded = strays refl refl

@@ -94,7 +94,7 @@ pub record HasRun (x : Activation) (spots : List Spot) (s : State) (m : Machine)
   pub later : Later x (none_in_scope x) spots s m t n
   pub returning : IsReturning later.spots result n
 
--- A machine at the front of a function that has just become active.
+-- A machine at the beginning of a function that has just become active.
 abbrev pub FunctionsKeep : ℕ → Type 0
 FunctionsKeep bound =
     (x : Activation) (spots : List Spot) (args : List Value) (s : State) (m : Machine) →

@@ -110,7 +110,7 @@ pub record HasArguments (x : Activation) (numbers : Numbers) (spots : List Spot)
   pub behind : IsBehind (graph_of x) (arguments (home_of x) args c).code n
   pub stand : AllStand done.later.spots vs (arguments (home_of x) args c).temps n
 
--- the machine is at the front of the one block where the condition holds, and else of the other
+-- the machine is at the beginning of the one block where the condition holds, and else of the other
 pub record HasChosen (x : Activation) (numbers : Numbers) (spots : List Spot) (a : Expression) (so other : ℕ) (c : Code) (s : State) (m : Machine) (holds : Bool) (t : State) (n : Machine) : Type 0 where
   pub done : IsDone x numbers spots (assigned_in a) c s m t n
   pub front : IsAt (graph_of x) (if holds then so else other) [] n

@@ -148,7 +148,7 @@ InitialiserKeeps bound i =
 
 -- ---- the comparisons of a `switch`
 
--- the machine is at the front of the block of the label, if there is one, and else of that to which `break` goes
+-- the machine is at the beginning of the block of the label, if there is one, and else of that to which `break` goes
 pub record HasSwitched (x : Activation) (numbers : Numbers) (spots : List Spot) (c : Code) (out : ℕ) (label : Option ℕ) (s : State) (m n : Machine) : Type 0 where
   pub later : Later x numbers spots s m s n
   pub front : IsAt (graph_of x) (default_or c label out) [] n

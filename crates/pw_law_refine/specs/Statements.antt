@@ -75,7 +75,7 @@ pub record IsSet (x : Activation) (numbers : Numbers) (breaks continues : Bool) 
   pub typed : IsStatement x.home.tree x.function breaks continues from a
   pub placed : IsPlaced x numbers from back (labels_in a) (cases_in a) (addressed_in_statement a) (initialisers_in a) c (code_behind x ways a c)
 
--- at its front the machine is behind the code so far, and at a label at the front of the label's block
+-- at its beginning the machine is behind the code so far, and at a label at the beginning of the label's block
 abbrev pub IsMet : FlowFn → (own cased : List ℕ) → Code → Entry → Machine → Type 0
 IsMet g own cased c Front m = IsBehind g c m
 IsMet g own cased c (At_label l) m = IsOpen own cased l × IsAt g (block_of_label c l) [] m

@@ -144,7 +144,7 @@ at-end g c e m there at =
 
 -- ---- to another block
 
--- the machine is at the front of a block, and nothing else has changed
+-- the machine is at the beginning of a block, and nothing else has changed
 pub record HasGone (x : Activation) (numbers : Numbers) (spots : List Spot) (b : ℕ) (s : State) (m n : Machine) : Type 0 where
   pub related : Related x numbers spots s n
   pub front : IsAt (graph_of x) b [] n

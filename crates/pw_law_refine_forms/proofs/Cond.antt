@@ -62,7 +62,7 @@ copied-value laws x numbers spots b t c d u w n q (Some v) ready since given low
           (record { later = h.done.later; temps = λ i l not. h.done.temps i (omega (arith, l, since, given)) not }) p.holds;
     }
 
--- from the front of its block to the block where both meet
+-- from the beginning of its block to the block where both meet
 pub arm :
     {A : Type 0} → Laws → (bound : ℕ) (x : Activation) (numbers : Numbers) (spots : List Spot) (b : Expression) (t join nxt depth : ℕ) (c d k : Code) (u : State) (n : Machine) (o : Outcome A) (F : A → Option Value)
     → IsReady x numbers spots d u n → c.temps ≤ t → t < d.temps → local_temps x ≤ t

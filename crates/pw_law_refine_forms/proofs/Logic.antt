@@ -51,7 +51,7 @@ either-there g b c false h k = k
 
 -- ---- the fork
 
--- What is met at the front of the block to which the truth of the first operand leads, is met before that operand.
+-- What is met at the beginning of the block to which the truth of the first operand leads, is met before that operand.
 pub forks :
     {B : Type 0} → Laws → (bound : ℕ) (x : Activation) (numbers : Numbers) (spots : List Spot) (a : Expression) (at : Site) (results : ℕ) (c : Code) (s : State) (m : Machine) (next : Bool → Act B) (R : B → State → Machine → Type 0)
     → IsActivation x → IsTyped x.home.tree x.function.locals a → HaveSlots x (addressed_in a) → ExpressionKeeps bound a → IsReady x numbers spots c s m
@@ -188,7 +188,7 @@ within-left ks ls i h = Contains-append_left ks ls i h
 within-right : (ks ls : List ℕ) (i : ℕ) → Contains ls i → Contains (ks ++ ls) i
 within-right ks ls i h = Contains-append_right ks ls i h
 
--- from the front of a block
+-- from the beginning of a block
 pub front-ready : (x : Activation) (numbers : Numbers) (spots : List Spot) (ks : List ℕ) (c d : Code) (s u : State) (m n : Machine) → (f : IsDone x numbers spots ks c s m u n) → IsBehind (graph_of x) d n → local_temps x ≤ d.temps
     → IsReady x numbers f.later.spots d u n
 front-ready x numbers spots ks c d s u m n f at low = record { related = f.later.related; behind = at; temps = low }

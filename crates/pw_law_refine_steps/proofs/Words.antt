@@ -6,7 +6,7 @@ use Rattle.std.proofs.lemmas.Int.{ints, of_z-to_z, int_wrap_fits, wrapping_add-b
 use Rattle.pw_value.specs.declared.value.Value.TheVariants as V
 use Rattle.pw_value.specs.declared.words.WordFault.{WordFault}
 use Rattle.pw_value.specs.declared.words.WordFault.TheVariants.{Overflow}
-use Rattle.pw_value.specs.Words.{signed, word, int_most, fits, exact, unsigned_negation}
+use Rattle.pw_value.specs.Words.{signed, word, int_max, fits, exact, unsigned_negation}
 use Rattle.pw_types.specs.declared.tree.BinaryOperator.{BinaryOperator}
 use Rattle.pw_types.specs.declared.tree.BinaryOperator.TheVariants.{Add, Subtract, Multiply, Divide, Remainder, ShiftLeft, ShiftRight, Less, Greater, LessEqual, GreaterEqual, Equal, NotEqual, And, ExclusiveOr, Or}
 use Rattle.pw_cmean.specs.Operators.{arithmetic, negation, number_for}
@@ -27,8 +27,8 @@ fitting true x n e = (refl, ap ok_of e)
 fitting false x n e = absurd (true≢false (sym (ap (λ (r : Result ℕ WordFault). is_ok r) e)))
 
 fits-signed : (z : ℤ) → fits z ≡ true → FitsSigned w32 z
-fits-signed (pos n) e = record { sfits = let h : n ≤ int_most = leb-true n int_most e in omega arith }
-fits-signed (negsuc n) e = record { sfits = let h : n ≤ int_most = leb-true n int_most e in omega arith }
+fits-signed (pos n) e = record { sfits = let h : n ≤ int_max = leb-true n int_max e in omega arith }
+fits-signed (negsuc n) e = record { sfits = let h : n ≤ int_max = leb-true n int_max e in omega arith }
 
 -- the exact result of an operation on ints, by a word that is the same modulo 2^32
 exact-word : (z : ℤ) (x n : ℕ) → exact z ≡ Ok n → x < 2 ^ 32 → cast_signed w32 x ≡ int_wrap w32 z → x ≡ n

@@ -19,7 +19,7 @@ use Rattle.pw_flow.specs.FlowGraph.{op_names}
 use Rattle.pw_db.specs.Limits.{first_register, register_count}
 use Rattle.pw_db.specs.declared.database.Web.{Web}
 use Rattle.pw_db.specs.declared.database.Role.{Role}
-use Rattle.pw_inst.specs.Limits.{near_least, near_most}
+use Rattle.pw_inst.specs.Limits.{near_least, near_limit}
 use Rattle.pw_inst.specs.declared.Inst.TheVariants as i
 use Rattle.pw_inst.specs.declared.line.Line.{Line}
 use Rattle.pw_inst.specs.declared.line.Line.TheVariants.{Plain, Fixed, Jump, BranchNonZero, Label, CallTo, CallReg, Leave}
@@ -351,7 +351,7 @@ module _ (Known : List ℕ → Type 0) where
   entry_in : (frame : ℕ) → AreRows Known (entry_lines frame)
   entry_in frame =
       joined (address_of StackLimit 0 21 ++ frame_end frame) (Plain (i.Comclr 5 false 1 21 0) ∷ Plain (i.Break 0 4) ∷ Plain (i.Stw 2 (neg_ℤ (pos 20)) 30) ∷ copied 1 30)
-      (joined (address_of StackLimit 0 21) (frame_end frame) (address_in StackLimit 0 21 tt) (frame_end_by frame (nat_lt near_most frame)))
+      (joined (address_of StackLimit 0 21) (frame_end frame) (address_in StackLimit 0 21 tt) (frame_end_by frame (nat_lt near_limit frame)))
       (tt, (tt, (tt, (tt, tt))))
 
   pub prologue_rows : (f : Located) → AreKnown f.body.directives.webs → AreRows Known (prologue f)

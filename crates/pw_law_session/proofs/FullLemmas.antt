@@ -7,7 +7,7 @@ use Rattle.pw_store_modules.specs.Modules.{is_module_file, module_map}
 use Rattle.pw_top_answer.specs.Effects.{NamedFile, after_puts}
 use Rattle.pw_law_build.specs.Whole.{HoldsFullBuild}
 use Rattle.pw_session.specs.FromBuild.BuildFault.{BuildFault}
-use Rattle.pw_session.specs.FromBuilding.Building.{BuildComes, Outcome}
+use Rattle.pw_session.specs.FromBuilding.Building.{BuildOutcome, Outcome}
 use Rattle.pw_session.specs.FromBuilding.Full.{BuildsImage, image_of}
 use Rattle.pw_session.specs.FromBuilding.Genuine.{KeepsGenuine}
 use Rattle.pw_session_script.specs.Script.{LineValue, PutText, RemoveText, BuildProgram, RunProgram, NamesModule}
@@ -20,9 +20,9 @@ use Rattle.pw_law_session.proofs.NamingLemmas.{script_named}
 
 -- the laws on which it stands
 pub record Laws : Type 0 where
-  pub whole : (told : Told) (colours stack : ℕ) (outcome : Outcome) → KeepsGenuine told.files → BuildComes told.files colours stack (Ok outcome) → HoldsFullBuild (module_map told.files) colours stack (after_puts told outcome.puts).files
-  pub leaves : (told : Told) (colours stack : ℕ) (outcome : Outcome) → KeepsGenuine told.files → BuildComes told.files colours stack (Ok outcome) → KeepsGenuine (after_puts told outcome.puts).files
-  pub full : (files : Files) (colours stack : ℕ) (comes : Result Outcome BuildFault) → KeepsGenuine files → BuildComes files colours stack comes → BuildsImage (module_map files) colours stack (image_of comes)
+  pub whole : (told : Told) (colours stack : ℕ) (outcome : Outcome) → KeepsGenuine told.files → BuildOutcome told.files colours stack (Ok outcome) → HoldsFullBuild (module_map told.files) colours stack (after_puts told outcome.puts).files
+  pub leaves : (told : Told) (colours stack : ℕ) (outcome : Outcome) → KeepsGenuine told.files → BuildOutcome told.files colours stack (Ok outcome) → KeepsGenuine (after_puts told outcome.puts).files
+  pub full : (files : Files) (colours stack : ℕ) (comes : Result Outcome BuildFault) → KeepsGenuine files → BuildOutcome files colours stack comes → BuildsImage (module_map files) colours stack (image_of comes)
   pub texts : (file : List ℕ) (old new : Files) → is_module_file file ≡ true → ((other : List ℕ) → other ≢ file → finite.get new other ≡ finite.get old other) → KeepsGenuine old → KeepsGenuine new
   pub insertion : (files : Files) (name bytes other : List ℕ) → other ≢ name → finite.get (finite.insert files name bytes) other ≡ finite.get files other
   pub removal : (files : Files) (name other : List ℕ) → other ≢ name → finite.get (finite.remove files name) other ≡ finite.get files other
@@ -33,11 +33,11 @@ puts_are : (told : Told) (files : List NamedFile) → after_changes told (map Pu
 puts_are told [] = refl
 puts_are told (file ∷ files) = puts_are (after_put told file.0 file.1) files
 
-build_left : Laws → (opts : SessionOpts) (s : State) (comes : Result Outcome BuildFault) → KeepsGenuine s.told.files → BuildComes s.told.files opts.build.colours opts.build.stack comes → KeepsGenuine (next_state s (builds_as s comes)).told.files
+build_left : Laws → (opts : SessionOpts) (s : State) (comes : Result Outcome BuildFault) → KeepsGenuine s.told.files → BuildOutcome s.told.files opts.build.colours opts.build.stack comes → KeepsGenuine (next_state s (builds_as s comes)).told.files
 build_left laws opts s (Ok outcome) keeps h = subst (λ (t : Told). KeepsGenuine t.files) (sym (puts_are s.told outcome.puts)) (laws.leaves s.told opts.build.colours opts.build.stack outcome keeps h)
 build_left laws opts s (Err fault) keeps h = keeps
 
-pub opened : (opts : SessionOpts) (files : Files) (comes : Result Outcome BuildFault) → BuildsTo files opts.build comes → BuildComes files opts.build.colours opts.build.stack comes
+pub opened : (opts : SessionOpts) (files : Files) (comes : Result Outcome BuildFault) → BuildsTo files opts.build comes → BuildOutcome files opts.build.colours opts.build.stack comes
 unfolding BuildsTo
 opened opts files comes h = h
 
@@ -51,12 +51,12 @@ line_left laws opts s BuildProgram act keeps named h = left_by s act _ h.2 (buil
 line_left laws opts s (RunProgram input) act keeps named h = left_by s act _ h.2 keeps
 
 -- a build leaves the full build's files
-full_left : Laws → (opts : SessionOpts) (s : State) (outcome : Outcome) → KeepsGenuine s.told.files → BuildComes s.told.files opts.build.colours opts.build.stack (Ok outcome)
+full_left : Laws → (opts : SessionOpts) (s : State) (outcome : Outcome) → KeepsGenuine s.told.files → BuildOutcome s.told.files opts.build.colours opts.build.stack (Ok outcome)
     → HoldsFullBuild (module_map s.told.files) opts.build.colours opts.build.stack (next_state s (builds_as s (Ok outcome))).told.files
 full_left laws opts s outcome keeps h =
     subst (λ (t : Told). HoldsFullBuild (module_map s.told.files) opts.build.colours opts.build.stack t.files) (sym (puts_are s.told outcome.puts)) (laws.whole s.told opts.build.colours opts.build.stack outcome keeps h)
 
-build_leaves : Laws → (opts : SessionOpts) (s : State) (act : Act) (comes : Result Outcome BuildFault) → act ≡ builds_as s comes → KeepsGenuine s.told.files → BuildComes s.told.files opts.build.colours opts.build.stack comes → LeavesFullBuild opts s act comes
+build_leaves : Laws → (opts : SessionOpts) (s : State) (act : Act) (comes : Result Outcome BuildFault) → act ≡ builds_as s comes → KeepsGenuine s.told.files → BuildOutcome s.told.files opts.build.colours opts.build.stack comes → LeavesFullBuild opts s act comes
 build_leaves laws opts s act (Ok outcome) e keeps h = (
   subst (λ (a : Act). HoldsFullBuild (module_map s.told.files) opts.build.colours opts.build.stack (next_state s a).told.files) (sym e) (full_left laws opts s outcome keeps h),
   left_by s act (builds_as s (Ok outcome)) e (build_left laws opts s (Ok outcome) keeps h),

@@ -33,7 +33,7 @@ LinesBuildInFull opts s [] e = e ≡ record { output = []; changes = [] }
 LinesBuildInFull opts s (line ∷ lines) e =
     (act : Act) × (more : Effects) × BuildsInFull opts s line act × LinesBuildInFull opts (next_state s act) lines more × (e ≡ behind_act act more)
 
--- What the lines of a script do, or a front of them that was obeyed, they do with full builds.
+-- What the lines of a script do, or a prefix of them that was obeyed, they do with full builds.
 abbrev pub SessionBuildsInFull : SessionOpts → Told → List ℕ → Type 0
 SessionBuildsInFull opts told script =
     (front more : List LineValue) (e : Effects) → (lines_of script).lines ≡ front ++ more → LinesAct opts (session_start told) front e → LinesBuildInFull opts (session_start told) front e

@@ -3,7 +3,7 @@
 ghost use Rattle.std.specs.Prelude.{List, ℕ};
 ghost use Rattle.pw_io.specs.Files.{Told};
 ghost use Rattle.pw_top_answer.specs.Effects.{Effect};
-ghost use Rattle.pw_session.specs.Bench.{BenchComes};
+ghost use Rattle.pw_session.specs.Bench.{BenchEffect};
 ghost use Rattle.pw_session.specs.FromBuilding.Genuine.{KeepsGenuine};
 ghost use Rattle.pw_session.specs.declared.opts.SessionOpts.{SessionOpts};
 ghost use Rattle.pw_law_session.specs.Full.{BenchBuildsInFull, SessionBuildsInFull};
@@ -30,7 +30,7 @@ pub fn sessions_build_in_full()
 /// `bench` builds in full: nothing is kept of the texts that it makes, so its image is that of their full build, byte for
 /// byte, or its refusal that build's.
 pub fn bench_builds_in_full()
-    ensures { (number : ℕ) (opts : SessionOpts) (input : List ℕ) (effect : Effect) → BenchComes number opts input effect → BenchBuildsInFull number opts input effect }
+    ensures { (number : ℕ) (opts : SessionOpts) (input : List ℕ) (effect : Effect) → BenchEffect number opts input effect → BenchBuildsInFull number opts input effect }
 {
     genuine_objects_give_the_full_image();
     other_files();

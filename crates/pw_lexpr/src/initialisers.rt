@@ -9,12 +9,12 @@ ghost use Rattle.pw_typed.specs.Views.{view_expr, view_locals, view_initialiser,
 ghost use Rattle.pw_types.specs.TypeTrees.{Void};
 ghost use Rattle.pw_types.specs.Views.{view_type};
 
-use crate::frame::Frame;
-use pw_lower_forms::home::place_of;
-use pw_lower_forms::{address_of_local, copied, hidden_name, stored, target_of_local};
 use crate::expressions::lower;
+use crate::frame::Frame;
 use pw_lower::Code;
 use pw_lower::operators::kind_of;
+use pw_lower_forms::home::place_of;
+use pw_lower_forms::{address_of_local, copied, hidden_name, stored, target_of_local};
 use pw_typed::{Initialiser, TExpr};
 use pw_types::CType;
 use pw_value::NoMemory;

@@ -10,4 +10,6 @@ pub mod initialisers;
 
 pub use expressions::lower;
 pub use frame::Frame;
-pub use pw_lower_forms::{Home, address_of_local, copied, full_name, hidden_name, home, stored, stores, target_of_local};
+pub use pw_lower_forms::{
+    Home, address_of_local, copied, full_name, hidden_name, home, stored, stores, target_of_local,
+};

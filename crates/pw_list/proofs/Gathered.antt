@@ -24,7 +24,7 @@ use Rattle.std.proofs.lemmas.Grind.{flat_map-append}
 use Rattle.std.proofs.lemmas.List.Sums.{prefix_len-le-length}
 use Rattle.std.proofs.lemmas.List.Folds.{length-prefix_len}
 use Rattle.pw_list.specs.declared.database.Use.{Use}
-use Rattle.pw_list.specs.Gathering.{use_view, entry_view, with_entry, is_of, IsByNumber, front_of, behind, names_of, lines_from}
+use Rattle.pw_list.specs.Gathering.{use_view, entry_view, with_entry, is_of, IsByNumber, prefix_of, behind, names_of, lines_from}
 use Rattle.pw_list.proofs.Ordered.{first_is_least, moved, rest_rises}
 
 -- ---- the webs in their map
@@ -187,7 +187,7 @@ used P role (f ∷ fs) all =
     let both = all_front (λ (w : Web). P w.id) (webs_of f.1) (all_webs fs) all in
     all_join (λ (u : ℕ × List ℕ). P u.0) (uses_of role f) (uses role fs) (used_by P role f.0 f.1.webs both.0) (used P role fs both.1)
 
--- ---- the uses of the web at the front
+-- ---- the uses of the web at the beginning
 
 abbrev pub Uses : Type 0
 Uses = List (ℕ × List ℕ)
@@ -210,7 +210,7 @@ above id u low apart = omega (arith, low, apart)
 one_more : (k : ℕ) → 1 + k ≡ suc k
 one_more k = omega arith
 
-front_is : (id : ℕ) (us : Uses) → Up us → AllByRecursion (λ (u : ℕ × List ℕ). id ≤ u.0) us → front_of id us ≡ filter (is_of id) us
+front_is : (id : ℕ) (us : Uses) → Up us → AllByRecursion (λ (u : ℕ × List ℕ). id ≤ u.0) us → prefix_of id us ≡ filter (is_of id) us
 front_is id [] up low = refl
 front_is id (u ∷ us) up low =
     elim (cases_eq u.0 id) [
@@ -284,8 +284,8 @@ later_known w ws us high up known =
 pub gathered : (ws : List Web) (es ms : Uses) → Rises ws → Up es → Up ms → Known ws es → Known ws ms → lines_from ws es ms ≡ flat_map (line_by es ms) ws
 gathered [] es ms rise up also known too = refl
 gathered (w ∷ ws) es ms rise up also known too =
-    let one : names_of (front_of w.id es) ≡ users es w.id = ap names_of (front_is w.id es up (low_uses w ws es rise.0 known)) in
-    let two : names_of (front_of w.id ms) ≡ users ms w.id = ap names_of (front_is w.id ms also (low_uses w ws ms rise.0 too)) in
+    let one : names_of (prefix_of w.id es) ≡ users es w.id = ap names_of (front_is w.id es up (low_uses w ws es rise.0 known)) in
+    let two : names_of (prefix_of w.id ms) ≡ users ms w.id = ap names_of (front_is w.id ms also (low_uses w ws ms rise.0 too)) in
     let rest = gathered ws (behind w.id es) (behind w.id ms) rise.1 (behind_up w.id es up) (behind_up w.id ms also) (later_known w ws es rise.0 up known) (later_known w ws ms rise.0 also too) in
     ap₂ (λ (x y : List ℕ). x ++ y) (ap₂ (λ (x y : List (List ℕ)). web_line w x y) one two) (rest ∙ same_lines w.id es ms ws rise.0)
 
@@ -319,14 +319,14 @@ pub names_seen : (us : List Use) → map (λ u. u.function.now) us ≡ names_of 
 names_seen [] = refl
 names_seen (u ∷ us) = ap (λ (names : List (List ℕ)). u.function.now ∷ names) (names_seen us)
 
-pub behind_at : (id : ℕ) (us : Uses) (start n : ℕ) → n ≡ length (front_of id (drop start us)) → behind id (drop start us) ≡ drop (start + n) us
+pub behind_at : (id : ℕ) (us : Uses) (start n : ℕ) → n ≡ length (prefix_of id (drop start us)) → behind id (drop start us) ≡ drop (start + n) us
 behind_at id us start n e =
     let count : prefix_len (is_of id) (drop start us) ≡ n = sym (length-prefix_len (is_of id) (drop start us)) ∙ sym e in
     ap (λ (k : ℕ). drop k (drop start us)) count ∙ drop-drop n start us
 
 pub line_more : (w : Web) (rest : List Web) (es ms : Uses) (a b m n : ℕ) (out total : List ℕ) (entries members : List (List ℕ))
-    → out ++ lines_from (w ∷ rest) (drop a es) (drop b ms) ≡ total → m ≡ length (front_of w.id (drop a es)) → n ≡ length (front_of w.id (drop b ms))
-    → entries ≡ names_of (front_of w.id (drop a es)) → members ≡ names_of (front_of w.id (drop b ms))
+    → out ++ lines_from (w ∷ rest) (drop a es) (drop b ms) ≡ total → m ≡ length (prefix_of w.id (drop a es)) → n ≡ length (prefix_of w.id (drop b ms))
+    → entries ≡ names_of (prefix_of w.id (drop a es)) → members ≡ names_of (prefix_of w.id (drop b ms))
     → (out ++ web_line w entries members) ++ lines_from rest (drop (a + m) es) (drop (b + n) ms) ≡ total
 line_more w rest es ms a b m n out total entries members so_far one two es_are ms_are =
     append_assoc out (web_line w entries members) (lines_from rest (drop (a + m) es) (drop (b + n) ms))
@@ -340,11 +340,11 @@ seen_count id [] = refl
 seen_count id (u ∷ us) = ap (λ (n : ℕ). cond (u.id == id) (1 + n) 0) (seen_count id us)
 
 pub seen_front : (id start : ℕ) (us front later : List Use) (n : ℕ) → later ≡ drop start us → n ≡ prefix_len (λ u. u.id == id) later → front ≡ take n later
-    → map use_view front ≡ front_of id (drop start (map use_view us))
+    → map use_view front ≡ prefix_of id (drop start (map use_view us))
 seen_front id start us front later n behind_is count front_is =
     let whole : map use_view later ≡ drop start (map use_view us) = ap (map use_view) behind_is ∙ sym (drop-map use_view start us) in
     let counted : n ≡ prefix_len (is_of id) (map use_view later) = count ∙ sym (seen_count id later) in
-    ap (map use_view) front_is ∙ sym (take-map use_view n later) ∙ ap (λ (k : ℕ). take k (map use_view later)) counted ∙ ap (λ (vs : Uses). front_of id vs) whole
+    ap (map use_view) front_is ∙ sym (take-map use_view n later) ∙ ap (λ (k : ℕ). take k (map use_view later)) counted ∙ ap (λ (vs : Uses). prefix_of id vs) whole
 
 -- ---- the loops over webs and functions
 
@@ -380,16 +380,16 @@ values_now [] = refl
 values_now (r ∷ refs) = ap (λ (ws : List Web). r.1.now ∷ ws) (values_now refs)
 
 pub record UsedHere (us own : List Use) (id start : ℕ) : Type 0 where
-  pub count : length own ≡ length (front_of id (drop start (map use_view us)))
-  pub names : map (λ u. u.function.now) own ≡ names_of (front_of id (drop start (map use_view us)))
+  pub count : length own ≡ length (prefix_of id (drop start (map use_view us)))
+  pub names : map (λ u. u.function.now) own ≡ names_of (prefix_of id (drop start (map use_view us)))
   pub within : start + length own ≤ length us
 
-pub used_here : (us source own : List Use) (id start : ℕ) → start ≤ length us → source ≡ us → map use_view own ≡ front_of id (drop start (map use_view source)) → UsedHere us own id start
+pub used_here : (us source own : List Use) (id start : ℕ) → start ≤ length us → source ≡ us → map use_view own ≡ prefix_of id (drop start (map use_view source)) → UsedHere us own id start
 used_here us source own id start low same front =
-    let here : map use_view own ≡ front_of id (drop start (map use_view us)) = front ∙ ap (λ (vs : List Use). front_of id (drop start (map use_view vs))) same in
-    let count : length own ≡ length (front_of id (drop start (map use_view us))) = sym (length-map own use_view) ∙ ap length here in
+    let here : map use_view own ≡ prefix_of id (drop start (map use_view us)) = front ∙ ap (λ (vs : List Use). prefix_of id (drop start (map use_view vs))) same in
+    let count : length own ≡ length (prefix_of id (drop start (map use_view us))) = sym (length-map own use_view) ∙ ap length here in
     let short : prefix_len (is_of id) (drop start (map use_view us)) ≤ length (drop start (map use_view us)) = prefix_len-le-length (is_of id) (drop start (map use_view us)) in
-    let long : length (front_of id (drop start (map use_view us))) ≡ prefix_len (is_of id) (drop start (map use_view us)) = length-prefix_len (is_of id) (drop start (map use_view us)) in
+    let long : length (prefix_of id (drop start (map use_view us))) ≡ prefix_len (is_of id) (drop start (map use_view us)) = length-prefix_len (is_of id) (drop start (map use_view us)) in
     let left : length (drop start (map use_view us)) ≡ length (map use_view us) - start = length-drop start (map use_view us) in
     let all : length (map use_view us) ≡ length us = length-map us use_view in
     record {

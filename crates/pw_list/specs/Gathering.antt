@@ -35,9 +35,9 @@ pub record IsByNumber (all ordered : List (ℕ × List ℕ)) : Type 0 where
   pub rising : IsNonDecreasingBy (λ u. u.0) ordered
   pub each : (id : ℕ) → filter (is_of id) ordered ≡ filter (is_of id) all
 
--- the uses of a web at the front, and those behind them
-abbrev pub front_of : ℕ → List (ℕ × List ℕ) → List (ℕ × List ℕ)
-front_of id us = take (prefix_len (is_of id) us) us
+-- the uses of a web at the beginning, and those behind them
+abbrev pub prefix_of : ℕ → List (ℕ × List ℕ) → List (ℕ × List ℕ)
+prefix_of id us = take (prefix_len (is_of id) us) us
 
 abbrev pub behind : ℕ → List (ℕ × List ℕ) → List (ℕ × List ℕ)
 behind id us = drop (prefix_len (is_of id) us) us
@@ -45,9 +45,9 @@ behind id us = drop (prefix_len (is_of id) us) us
 abbrev pub names_of : List (ℕ × List ℕ) → List (List ℕ)
 names_of us = map (λ u. u.1) us
 
--- each web's line, with its uses taken off the front
+-- each web's line, with its uses taken off the beginning
 abbrev pub lines_from : List Web → List (ℕ × List ℕ) → List (ℕ × List ℕ) → List ℕ
 lines_from [] entries members = []
 lines_from (w ∷ webs) entries members =
-    web_line w (names_of (front_of w.id entries)) (names_of (front_of w.id members))
+    web_line w (names_of (prefix_of w.id entries)) (names_of (prefix_of w.id members))
     ++ lines_from webs (behind w.id entries) (behind w.id members)

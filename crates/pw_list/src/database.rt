@@ -8,7 +8,7 @@ ghost use Rattle.std.specs.FinMap as finite;
 ghost use Rattle.std.specs.Fmt.{decimal};
 ghost use Rattle.pw_db.specs.declared.database.Role.TheVariants.{Entry, Member};
 ghost use Rattle.pw_list.specs.DatabaseText.{access, text_of, uses, uses_of, web_line, webs_by_number, word_and_name};
-ghost use Rattle.pw_list.specs.Gathering.{IsByNumber, behind, entry_view, front_of, is_of, lines_from, use_view, with_entry};
+ghost use Rattle.pw_list.specs.Gathering.{IsByNumber, behind, entry_view, prefix_of, is_of, lines_from, use_view, with_entry};
 
 use pw_db::{Database, Directives, Role, Web};
 use pw_value::Name;
@@ -137,7 +137,7 @@ fn push_web(
     Ok(())
 }
 
-/// How many uses at the front are those of one web.
+/// How many uses at the beginning are those of one web.
 fn count_of(uses: &[Use], id: u32) -> usize
     ensures count { result ≡ prefix_len (λ u. u.id == id) uses.now }
     ensures within { result ≤ length uses.now }
@@ -148,7 +148,7 @@ fn count_of(uses: &[Use], id: u32) -> usize
 /// The uses of one web that stand from a place on.
 fn uses_at<'u, 'a>(uses: &'u [Use<'a>], start: usize, id: u32) -> &'u [Use<'a>]
     requires { start ≤ length uses.now }
-    ensures { map use_view result.now ≡ front_of id (drop start (map use_view uses.now)) }
+    ensures { map use_view result.now ≡ prefix_of id (drop start (map use_view uses.now)) }
 {
     let (_, later) = uses.split_at(start);
     later.split_at(count_of(later, id)).0

@@ -7,7 +7,7 @@ ghost use Rattle.pw_types.specs.TypedTrees as tree;
 ghost use Rattle.pw_value.specs.Limits.{name_limit};
 
 use pw_typed::Symbol;
-use pw_value::limits::NAME_MAX;
+use pw_value::limits::NAME_LIMIT;
 use pw_value::{Name, NoMemory, push_decimal};
 use std::alloc::Global;
 
@@ -15,7 +15,7 @@ use std::alloc::Global;
 fn check_length(count: usize) -> Result<(), NoMemory>
     ensures { MatchResult result (λ _. count ≤ name_limit) (λ _. name_limit < count) }
 {
-    if count > NAME_MAX {
+    if count > NAME_LIMIT {
         return Err(NoMemory);
     }
     Ok(())

@@ -9,11 +9,11 @@ ghost use Rattle.pw_lstmt.specs.Frames.{view_frame, all_joined, arm_closed, arm_
 ghost use Rattle.pw_typed.specs.Views.{view_expr, view_optional, view_stmt, view_stmts, view_arms, view_cases, view_initialisers, view_otherwise};
 
 use pw_flow::End;
+use pw_lexpr::cases::{begin_labels, choose, go_on, labels_of};
+use pw_lexpr::initialisers::initialise_all;
 use pw_lexpr::{Frame, Home, lower};
 use pw_lower::code::further;
 use pw_lower::{Code, Ways};
-use pw_lexpr::cases::{begin_labels, choose, go_on, labels_of};
-use pw_lexpr::initialisers::initialise_all;
 use pw_typed::{Arm, Case, Initialiser, TExpr, TStmt, TStmtForm};
 use pw_value::NoMemory;
 use pw_value::words::{next_word, word_of};

@@ -51,7 +51,7 @@ overwritten-word memory a words i fits lt =
     subst (λ (n : ℕ). overwritten (overwritten memory a (bytes_of (take i words))) (a + n) (to_be_bytes w32 word) ≡ overwritten memory a (bytes_of (take i words) ++ to_be_bytes w32 word)) len more
     ∙ ap (λ (l : List ℕ). overwritten memory a l) (sym joined)
 
--- a list that was written whole into the front of another
+-- a list that was written whole into the beginning of another
 pub take_whole : (n : ℕ) (xs ys : List ℕ) → n ≡ length xs → take n (xs ++ ys) ≡ xs
 take_whole n xs ys e = ap (λ (k : ℕ). take k (xs ++ ys)) e ∙ take-append_seam xs ys
 

@@ -8,7 +8,7 @@ use Rattle.pw_machine.specs.declared.ends.Stop.TheVariants.{Ended, StackStop, Sp
 use Rattle.pw_machine.specs.Core.{Core}
 use Rattle.pw_machine.specs.Effect.{Effect, Goes, Reads, Writes, Stops, effect_of}
 use Rattle.pw_machine.specs.Run.{State, Running, Stopped, answered, input_word, reads, taken, began, run_of, steps_of}
-use Rattle.pw_machine.specs.Stops.{Comes, IsRunFrom, RunsOver, end_of}
+use Rattle.pw_machine.specs.Stops.{RunStops, IsRunFrom, RunsOver, end_of}
 use Rattle.pw_machine.proofs.Runs.{run_of-more, run_of-stays_at, steps_of-stays_at, steps_of-last, Appends-none, Appends-more, AppendsPart-byte}
 
 -- the state over what is left of an input
@@ -16,13 +16,13 @@ abbrev pub over : Core → List ℕ → List ℕ → State
 over core rest output = record { core = core; rest = rest; output = output }
 
 -- an end that the run comes to, whichever answer tells it
-pub Comes-end : (start : State) (budget : ℕ) (stop : Stop) (e : End) (n : ℕ) (last : State) → end_of stop ≡ Some e → n ≡ steps_of budget start → run_of budget start ≡ Stopped e last → Comes start budget stop n last
-Comes-end start budget (Ended status) e n last is count h = (count, cc)
-Comes-end start budget StackStop e n last is count h = (count, cc)
-Comes-end start budget Spent e n last is count h = absurd cc
-Comes-end start budget (Halted halt at) e n last is count h = (count, cc)
-Comes-end start budget ReadFault e n last is count h = absurd cc
-Comes-end start budget WriteFault e n last is count h = absurd cc
+pub RunStops-end : (start : State) (budget : ℕ) (stop : Stop) (e : End) (n : ℕ) (last : State) → end_of stop ≡ Some e → n ≡ steps_of budget start → run_of budget start ≡ Stopped e last → RunStops start budget stop n last
+RunStops-end start budget (Ended status) e n last is count h = (count, cc)
+RunStops-end start budget StackStop e n last is count h = (count, cc)
+RunStops-end start budget Spent e n last is count h = absurd cc
+RunStops-end start budget (Halted halt at) e n last is count h = (count, cc)
+RunStops-end start budget ReadFault e n last is count h = absurd cc
+RunStops-end start budget WriteFault e n last is count h = absurd cc
 
 -- ---- the beginning
 
@@ -49,7 +49,7 @@ turns_stopped core (Some input) taken budget stop e has is =
       output = [];
       rest_is = refl;
       taken_is = Appends-none taken;
-      comes = Comes-end start budget stop e 0 start is (sym (steps_of-stays_at 0 budget start start e (omega arith) first)) (run_of-stays_at 0 budget start start e (omega arith) first);
+      comes = RunStops-end start budget stop e 0 start is (sym (steps_of-stays_at 0 budget start start e (omega arith) first)) (run_of-stays_at 0 budget start start e (omega arith) first);
     }
 
 -- ---- a turn that goes on
@@ -121,7 +121,7 @@ turn_stops old core (Some input) t rest' t' m budget stop e h is told lt =
       output = h.output;
       rest_is = h.rest_is;
       taken_is = h.taken_is;
-      comes = Comes-end start budget stop e (m + 1) new told count (run_of-stays_at (m + 1) budget start new e (omega arith) comes);
+      comes = RunStops-end start budget stop e (m + 1) new told count (run_of-stays_at (m + 1) budget start new e (omega arith) comes);
     }
 
 -- the source failed, and its rest is as before

@@ -74,13 +74,13 @@ StepsFit WriteFault budget n = n < budget
 --   an end is that of the run of `budget` steps;
 --   `Spent` says that this run has not stopped;
 --   a fault comes at the step after n others, which would read or write.
-abbrev pub Comes : State → ℕ → Stop → ℕ → State → Type 0
-Comes start budget (Ended status) n last = (n ≡ steps_of budget start) × (run_of budget start ≡ Stopped (end.Ended status) last)
-Comes start budget StackStop n last = (n ≡ steps_of budget start) × (run_of budget start ≡ Stopped end.StackStop last)
-Comes start budget Spent n last = (n ≡ budget) × (run_of budget start ≡ Running last)
-Comes start budget (Halted halt at) n last = (n ≡ steps_of budget start) × (run_of budget start ≡ Stopped (end.Halted halt at) last)
-Comes start budget ReadFault n last = (n < budget) × (run_of n start ≡ Running last)
-Comes start budget WriteFault n last = (n < budget) × (run_of n start ≡ Running last)
+abbrev pub RunStops : State → ℕ → Stop → ℕ → State → Type 0
+RunStops start budget (Ended status) n last = (n ≡ steps_of budget start) × (run_of budget start ≡ Stopped (end.Ended status) last)
+RunStops start budget StackStop n last = (n ≡ steps_of budget start) × (run_of budget start ≡ Stopped end.StackStop last)
+RunStops start budget Spent n last = (n ≡ budget) × (run_of budget start ≡ Running last)
+RunStops start budget (Halted halt at) n last = (n ≡ steps_of budget start) × (run_of budget start ≡ Stopped (end.Halted halt at) last)
+RunStops start budget ReadFault n last = (n < budget) × (run_of n start ≡ Running last)
+RunStops start budget WriteFault n last = (n < budget) × (run_of n start ≡ Running last)
 
 -- What the run from a processor over this input leaves: `left` of the input, and `output` was appended
 -- to what the sink took.
@@ -89,7 +89,7 @@ pub record IsRunFrom (old : Core) (input : List ℕ) (taken : Option (List ℕ))
   pub output : List ℕ
   pub rest_is : rest' ≡ Some left
   pub taken_is : Appends taken taken' output
-  pub comes : Comes (record { core = old; rest = input; output = [] }) budget stop n (record { core = new; rest = left; output = output })
+  pub comes : RunStops (record { core = old; rest = input; output = [] }) budget stop n (record { core = new; rest = left; output = output })
 
 -- the same of a source that may tell nothing, of whose bytes then nothing is said
 abbrev pub RunsOver : Core → Option (List ℕ) → Option (List ℕ) → ℕ → Stop → ℕ → Core → Option (List ℕ) → Option (List ℕ) → Type 0

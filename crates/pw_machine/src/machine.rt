@@ -1,7 +1,7 @@
 // The machine as its callers see it.
 
 ghost use Rattle.std.specs.Prelude.{◌≡◌, ◌+◌, ◌%◌, ◌<◌, ◌≤◌, ◌≢◌, ◌⊎◌, ◌↔◌, [], length, IfOk, IfSome, IsNone, Ok};
-ghost use Rattle.pw_value.specs.Limits.{stack_least, stack_most, text_start, word_limit, memory_size};
+ghost use Rattle.pw_value.specs.Limits.{stack_least, stack_limit, text_start, word_limit, memory_size};
 ghost use Rattle.pw_image.specs.declared.image.Image.{Image as AnyImage};
 ghost use Rattle.pw_image.specs.Image.{Contents, IsImageFile};
 ghost use Rattle.pw_image.specs.Reading.{image_file_at};
@@ -72,7 +72,7 @@ impl Machine {
         requires some_words { 0 < length words.now }
         requires few_words { length words.now ≤ word_limit }
         requires stack_from { stack_least ≤ stack }
-        requires stack_to { stack ≤ stack_most }
+        requires stack_to { stack ≤ stack_limit }
         ensures start { IfOk result (λ machine. machine.core ≡ start_core text_start words.now 0 []) }
         ensures steps { IfOk result (λ machine. machine.steps ≡ 0) }
     {

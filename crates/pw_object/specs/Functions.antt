@@ -54,7 +54,7 @@ symbol_forms = form.Named ∷ form.Word ∷ form.StackLimit ∷ form.Routine ∷
 abbrev pub form_number : SymbolForm → ℕ
 form_number = place (sameb the_symbol_forms) symbol_forms
 
--- the byte at the front of a symbol
+-- the byte at the beginning of a symbol
 abbrev pub form_byte : SymbolForm → List ℕ
 form_byte f = u8 (form_number f)
 

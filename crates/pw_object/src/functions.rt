@@ -2,14 +2,14 @@
 
 ghost use Rattle.std.specs.Prelude.{◌≡◌, ◌≢◌, List, length, IfErr};
 ghost use Rattle.pw_fields.specs.Fields.{u32_at, repeated};
-ghost use Rattle.pw_fields.specs.FieldFaults.{Gives};
+ghost use Rattle.pw_fields.specs.FieldFaults.{AnswersField};
 ghost use Rattle.pw_files.specs.Rising.{counted_at};
 ghost use Rattle.pw_flow_ops.specs.Reading.{one_of_at};
 ghost use Rattle.pw_object.specs.Functions.{fix_kinds, symbol_forms};
 ghost use Rattle.pw_object.specs.Reading.{named_at, word_at, routine_at, symbol_of_form_at, symbol_at, fix_at, function_at};
 
 use pw_fields::names::read_name;
-use pw_fields::{FieldError, read_choice, read_u32};
+use pw_fields::{FieldFault, read_choice, read_u32};
 use pw_flow_ops::{read_below, read_one_of};
 use pw_inst::{Fix, FixKind, ROUTINE_COUNT, Symbol};
 use pw_items::Items;
@@ -44,17 +44,17 @@ const SYMBOL_FORMS: [SymbolForm; 4] = [
 const FIX_KINDS: [FixKind; 3] = [FixKind::Ldil, FixKind::Im14, FixKind::Bl];
 
 /// A fix's kind.
-fn read_kind(bytes: &[u8]) -> Result<(FixKind, &[u8]), FieldError>
-    ensures found { Gives (λ x. (x.0, x.1.now)) result (one_of_at fix_kinds bytes.now) }
-    ensures no_memory { IfErr result (λ e. e ≢ FieldError.NoMemory) }
+fn read_kind(bytes: &[u8]) -> Result<(FixKind, &[u8]), FieldFault>
+    ensures found { AnswersField (λ x. (x.0, x.1.now)) result (one_of_at fix_kinds bytes.now) }
+    ensures no_memory { IfErr result (λ e. e ≢ FieldFault.NoMemory) }
 {
     read_one_of(&FIX_KINDS, bytes)
 }
 
 /// Which symbol follows.
-fn read_form(bytes: &[u8]) -> Result<(SymbolForm, &[u8]), FieldError>
-    ensures found { Gives (λ x. (x.0, x.1.now)) result (one_of_at symbol_forms bytes.now) }
-    ensures no_memory { IfErr result (λ e. e ≢ FieldError.NoMemory) }
+fn read_form(bytes: &[u8]) -> Result<(SymbolForm, &[u8]), FieldFault>
+    ensures found { AnswersField (λ x. (x.0, x.1.now)) result (one_of_at symbol_forms bytes.now) }
+    ensures no_memory { IfErr result (λ e. e ≢ FieldFault.NoMemory) }
 {
     read_one_of(&SYMBOL_FORMS, bytes)
 }
@@ -65,8 +65,8 @@ fn read_named<'a>(
     alloc: Global,
     names: &[Name],
     bytes: &'a [u8],
-) -> Result<(Symbol, &'a [u8]), FieldError>
-    ensures { Gives (λ x. (x.0, x.1.now)) result (named_at names.now bytes.now) }
+) -> Result<(Symbol, &'a [u8]), FieldFault>
+    ensures { AnswersField (λ x. (x.0, x.1.now)) result (named_at names.now bytes.now) }
 {
     let (name, rest) = read_name(names, bytes)?;
     Ok((Symbol::Named(name.copy(alloc)?), rest))
@@ -74,9 +74,9 @@ fn read_named<'a>(
 
 /// A symbol that is a word of the function.
 #[tactic(auto, unfolding(crate::specs::Reading::word_at))]
-fn read_word(bytes: &[u8]) -> Result<(Symbol, &[u8]), FieldError>
-    ensures found { Gives (λ x. (x.0, x.1.now)) result (word_at bytes.now) }
-    ensures no_memory { IfErr result (λ e. e ≢ FieldError.NoMemory) }
+fn read_word(bytes: &[u8]) -> Result<(Symbol, &[u8]), FieldFault>
+    ensures found { AnswersField (λ x. (x.0, x.1.now)) result (word_at bytes.now) }
+    ensures no_memory { IfErr result (λ e. e ≢ FieldFault.NoMemory) }
 {
     let (word, rest) = read_u32(bytes)?;
     Ok((Symbol::Word(word), rest))
@@ -84,9 +84,9 @@ fn read_word(bytes: &[u8]) -> Result<(Symbol, &[u8]), FieldError>
 
 /// A symbol that is a routine.
 #[tactic(auto, unfolding(crate::specs::Reading::routine_at))]
-fn read_routine(bytes: &[u8]) -> Result<(Symbol, &[u8]), FieldError>
-    ensures found { Gives (λ x. (x.0, x.1.now)) result (routine_at bytes.now) }
-    ensures no_memory { IfErr result (λ e. e ≢ FieldError.NoMemory) }
+fn read_routine(bytes: &[u8]) -> Result<(Symbol, &[u8]), FieldFault>
+    ensures found { AnswersField (λ x. (x.0, x.1.now)) result (routine_at bytes.now) }
+    ensures no_memory { IfErr result (λ e. e ≢ FieldFault.NoMemory) }
 {
     let (number, rest) = read_choice(ROUTINE_COUNT, bytes)?;
     Ok((Symbol::Routine(number), rest))
@@ -98,8 +98,8 @@ fn read_symbol<'a>(
     alloc: Global,
     names: &[Name],
     bytes: &'a [u8],
-) -> Result<(Symbol, &'a [u8]), FieldError>
-    ensures { Gives (λ x. (x.0, x.1.now)) result (symbol_at names.now bytes.now) }
+) -> Result<(Symbol, &'a [u8]), FieldFault>
+    ensures { AnswersField (λ x. (x.0, x.1.now)) result (symbol_at names.now bytes.now) }
 {
     let (form, rest) = read_form(bytes)?;
     match form {
@@ -117,8 +117,8 @@ fn read_fix<'a>(
     names: &[Name],
     words: usize,
     bytes: &'a [u8],
-) -> Result<(Fix, &'a [u8]), FieldError>
-    ensures { Gives (λ x. (x.0, x.1.now)) result (fix_at names.now words bytes.now) }
+) -> Result<(Fix, &'a [u8]), FieldFault>
+    ensures { AnswersField (λ x. (x.0, x.1.now)) result (fix_at names.now words bytes.now) }
 {
     let (word, rest) = read_below(words, bytes)?;
     let (kind, rest) = read_kind(rest)?;
@@ -138,8 +138,8 @@ fn read_word_items(
     alloc: Global,
     count: u32,
     bytes: &[u8],
-) -> Result<(Items<u32>, &[u8]), FieldError>
-    ensures { Gives (λ x. (x.0, x.1.now)) result (repeated u32_at count bytes.now) }
+) -> Result<(Items<u32>, &[u8]), FieldFault>
+    ensures { AnswersField (λ x. (x.0, x.1.now)) result (repeated u32_at count bytes.now) }
 {
     let mut items = Items::new(alloc);
     let mut rest = bytes;
@@ -158,8 +158,8 @@ fn read_fix_items<'a>(
     words: usize,
     count: u32,
     bytes: &'a [u8],
-) -> Result<(Items<Fix>, &'a [u8]), FieldError>
-    ensures { Gives (λ x. (x.0, x.1.now)) result (repeated (fix_at names.now words) count bytes.now) }
+) -> Result<(Items<Fix>, &'a [u8]), FieldFault>
+    ensures { AnswersField (λ x. (x.0, x.1.now)) result (repeated (fix_at names.now words) count bytes.now) }
 {
     let mut items = Items::new(alloc);
     let mut rest = bytes;
@@ -173,8 +173,8 @@ fn read_fix_items<'a>(
 
 /// The count of words, and the words.
 #[tactic(auto, unfolding(pw_files::specs::Rising::counted_at))]
-fn read_words(alloc: Global, bytes: &[u8]) -> Result<(Items<u32>, &[u8]), FieldError>
-    ensures { Gives (λ x. (x.0, x.1.now)) result (counted_at u32_at bytes.now) }
+fn read_words(alloc: Global, bytes: &[u8]) -> Result<(Items<u32>, &[u8]), FieldFault>
+    ensures { AnswersField (λ x. (x.0, x.1.now)) result (counted_at u32_at bytes.now) }
 {
     let (count, rest) = read_u32(bytes)?;
     read_word_items(alloc, count, rest)
@@ -187,8 +187,8 @@ fn read_fixes<'a>(
     names: &[Name],
     words: usize,
     bytes: &'a [u8],
-) -> Result<(Items<Fix>, &'a [u8]), FieldError>
-    ensures { Gives (λ x. (x.0, x.1.now)) result (counted_at (fix_at names.now words) bytes.now) }
+) -> Result<(Items<Fix>, &'a [u8]), FieldFault>
+    ensures { AnswersField (λ x. (x.0, x.1.now)) result (counted_at (fix_at names.now words) bytes.now) }
 {
     let (count, rest) = read_u32(bytes)?;
     read_fix_items(alloc, names, words, count, rest)
@@ -200,8 +200,8 @@ pub fn read_function<'a>(
     alloc: Global,
     names: &[Name],
     bytes: &'a [u8],
-) -> Result<(ObjectFn, &'a [u8]), FieldError>
-    ensures { Gives (λ x. (x.0, x.1.now)) result (function_at names.now bytes.now) }
+) -> Result<(ObjectFn, &'a [u8]), FieldFault>
+    ensures { AnswersField (λ x. (x.0, x.1.now)) result (function_at names.now bytes.now) }
 {
     let (name, rest) = read_name(names, bytes)?;
     let (frame, rest) = read_u32(rest)?;

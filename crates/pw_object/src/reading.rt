@@ -3,7 +3,7 @@
 ghost use Rattle.std.specs.Prelude.{◌≡◌, ◌+◌, ◌<◌, ◌^◌, ℕ, length, Option, IfOk, IfErr, Ok};
 ghost use Rattle.std.specs.List.{flat_map};
 ghost use Rattle.pw_fields.specs.Fields.{text, repeated};
-ghost use Rattle.pw_fields.specs.FieldFaults.{Gives, GivesFile, Fails};
+ghost use Rattle.pw_fields.specs.FieldFaults.{AnswersField, GivesFile, Fails};
 ghost use Rattle.pw_fields.specs.FieldFrame.{ended};
 ghost use Rattle.pw_files.specs.Rising.{counted_at};
 ghost use Rattle.pw_files.specs.Contents.{broken_at, value_of};
@@ -15,7 +15,7 @@ use crate::functions::{ObjectFn, read_function};
 use crate::names::{function_names, used_names};
 use crate::object::{Object, VERSION};
 use pw_fields::names::{find_unused, read_name};
-use pw_fields::{FieldError, read_text_in_place, read_u32};
+use pw_fields::{FieldFault, read_text_in_place, read_u32};
 use pw_files::format::{Format, read_value};
 use pw_files::late::check_module;
 use pw_files::lists::{read_name_list, read_shaped_list};
@@ -36,8 +36,8 @@ fn read_global<'a>(
     alloc: Global,
     names: &[Name],
     bytes: &'a [u8],
-) -> Result<(FlowGlobal, &'a [u8]), FieldError>
-    ensures { Gives (λ x. (x.0, x.1.now)) result (global_at names.now bytes.now) }
+) -> Result<(FlowGlobal, &'a [u8]), FieldFault>
+    ensures { AnswersField (λ x. (x.0, x.1.now)) result (global_at names.now bytes.now) }
 {
     let (name, rest) = read_name(names, bytes)?;
     read_global_body(alloc, StartName::Allowed, names, name, rest)
@@ -49,8 +49,8 @@ fn read_global_items<'a>(
     names: &[Name],
     count: u32,
     bytes: &'a [u8],
-) -> Result<(Items<FlowGlobal>, &'a [u8]), FieldError>
-    ensures { Gives (λ x. (x.0, x.1.now)) result (repeated (global_at names.now) count bytes.now) }
+) -> Result<(Items<FlowGlobal>, &'a [u8]), FieldFault>
+    ensures { AnswersField (λ x. (x.0, x.1.now)) result (repeated (global_at names.now) count bytes.now) }
 {
     let mut items = Items::new(alloc);
     let mut rest = bytes;
@@ -68,8 +68,8 @@ fn read_function_items<'a>(
     names: &[Name],
     count: u32,
     bytes: &'a [u8],
-) -> Result<(Items<ObjectFn>, &'a [u8]), FieldError>
-    ensures { Gives (λ x. (x.0, x.1.now)) result (repeated (function_at names.now) count bytes.now) }
+) -> Result<(Items<ObjectFn>, &'a [u8]), FieldFault>
+    ensures { AnswersField (λ x. (x.0, x.1.now)) result (repeated (function_at names.now) count bytes.now) }
 {
     let mut items = Items::new(alloc);
     let mut rest = bytes;
@@ -87,8 +87,8 @@ fn read_globals<'a>(
     alloc: Global,
     names: &[Name],
     bytes: &'a [u8],
-) -> Result<(Items<FlowGlobal>, &'a [u8]), FieldError>
-    ensures { Gives (λ x. (x.0, x.1.now)) result (counted_at (global_at names.now) bytes.now) }
+) -> Result<(Items<FlowGlobal>, &'a [u8]), FieldFault>
+    ensures { AnswersField (λ x. (x.0, x.1.now)) result (counted_at (global_at names.now) bytes.now) }
 {
     let (count, rest) = read_u32(bytes)?;
     read_global_items(alloc, names, count, rest)
@@ -100,8 +100,8 @@ fn read_functions<'a>(
     alloc: Global,
     names: &[Name],
     bytes: &'a [u8],
-) -> Result<(Items<ObjectFn>, &'a [u8]), FieldError>
-    ensures { Gives (λ x. (x.0, x.1.now)) result (counted_at (function_at names.now) bytes.now) }
+) -> Result<(Items<ObjectFn>, &'a [u8]), FieldFault>
+    ensures { AnswersField (λ x. (x.0, x.1.now)) result (counted_at (function_at names.now) bytes.now) }
 {
     let (count, rest) = read_u32(bytes)?;
     read_function_items(alloc, names, count, rest)
@@ -141,7 +141,7 @@ fn read_defined<'a>(
     declared: Items<(Name, Shape)>,
     used: Items<Name>,
     bytes: &'a [u8],
-) -> Result<(Object, usize, &'a [u8]), FieldError>
+) -> Result<(Object, usize, &'a [u8]), FieldFault>
     ensures found { IfOk result (λ x. (late : AnyObject → ℕ → Option ℕ) → defined_at names.now late texts.entry.0.now texts.entry.1.now texts.entry.2.now declared used bytes.now ≡ ended (late x.0 x.1) (record { names = names.now; value = x.0 }) x.2.now) }
     ensures fault { IfErr result (λ e. (late : AnyObject → ℕ → Option ℕ) → Fails e (defined_at names.now late texts.entry.0.now texts.entry.1.now texts.entry.2.now declared used bytes.now)) }
 {
@@ -158,7 +158,7 @@ fn read_parts<'a>(
     alloc: Global,
     names: &[Name],
     bytes: &'a [u8],
-) -> Result<(Object, usize, &'a [u8]), FieldError>
+) -> Result<(Object, usize, &'a [u8]), FieldFault>
     ensures found { IfOk result (λ x. (late : AnyObject → ℕ → Option ℕ) → fields_at names.now late bytes.now ≡ ended (late x.0 x.1) (record { names = names.now; value = x.0 }) x.2.now) }
     ensures fault { IfErr result (λ e. (late : AnyObject → ℕ → Option ℕ) → Fails e (fields_at names.now late bytes.now)) }
 {
@@ -179,9 +179,9 @@ fn check_last(
     object: &Object,
     behind: usize,
     count: usize,
-) -> Result<(), FieldError>
+) -> Result<(), FieldFault>
     requires { length (flat_map text names.now) + behind < 2 ^ 64 }
-    ensures { Gives (λ x. x) result (broken_at (last_rules names.now behind object.now count)) }
+    ensures { AnswersField (λ x. x) result (broken_at (last_rules names.now behind object.now count)) }
 {
     let used = used_names(alloc, object)?;
     let unused = find_unused(alloc, names, used, behind)?;
@@ -217,7 +217,7 @@ impl Format for ObjectFormat {
         _version: u32,
         names: &[Name],
         bytes: &'a [u8],
-    ) -> Result<(Object, usize, &'a [u8]), FieldError> {
+    ) -> Result<(Object, usize, &'a [u8]), FieldFault> {
         read_parts(alloc, names, bytes)
     }
 
@@ -227,7 +227,7 @@ impl Format for ObjectFormat {
         value: &Object,
         behind: usize,
         place: usize,
-    ) -> Result<(), FieldError> {
+    ) -> Result<(), FieldFault> {
         check_last(alloc, names, value, behind, place)
     }
 }

@@ -9,8 +9,8 @@ ghost use Rattle.pw_tree.specs.Trees as tree;
 ghost use Rattle.pw_tree.specs.Views.{view_module};
 
 use crate::module::externals;
-use pw_parse_grammar::reading_is_exact;
 use pw_parse_cursor::{Stop, Tokens};
+use pw_parse_grammar::reading_is_exact;
 use pw_token::{Token, nest_fault};
 use pw_tree::{Lexeme, Module, lexeme_of};
 use std::alloc::{AllocError, Global};
@@ -18,7 +18,7 @@ use std::alloc::{AllocError, Global};
 /// Why a text has no tree.
 #[derive(Clone, Copy, Debug, PartialEq, Eq)]
 pub enum ParseFault {
-    /// The first token whose nesting exceeds `MAX_NEST` of pw_token, counted from 1.
+    /// The first token whose nesting exceeds `NEST_LIMIT` of pw_token, counted from 1.
     TooDeep { token: usize },
     /// The token at which no rule goes on, counted from 1: the count of tokens plus 1 at the end.
     Syntax { token: usize },
@@ -68,7 +68,7 @@ fn parse_tokens(alloc: Global, text: &[u8], tokens: &[Token]) -> Result<Module, 
     }
 }
 
-/// The tree of a text's tokens, or why there is none: the first token that is nested deeper than `MAX_NEST` of pw_token;
+/// The tree of a text's tokens, or why there is none: the first token that is nested deeper than `NEST_LIMIT` of pw_token;
 /// or else, where the tokens are the spelling of no well-formed tree, the first whose prefix begins no tree's spelling,
 /// which is the count plus 1 where all of them begin one. Nothing nests deeper in a call than that limit allows.
 pub fn parse(alloc: Global, text: &[u8], tokens: &[Token]) -> Result<Module, ParseFault>

@@ -1,4 +1,4 @@
--- A loop that reads a list beside `repeat`, which reads it from the front: what was read so far stands before what `repeat` reads.
+-- A loop that reads a list beside `repeat`, which reads it from the beginning: what was read so far stands before what `repeat` reads.
 use Rattle.std.proofs.Common.{◌≡◌, ℕ, suc, ◌+◌, ◌-◌, ◌<◌, ◌≤◌, List, [], ◌∷◌, ◌++◌, Option, Some, None, Ok, Err, refl, sym, ap, ◌∙◌, arith}
 use Rattle.pw_parse_grammar.specs.Input.{Input, Outcome, Parser, and_then, ◌>>=◌, ◌<$>◌, pure, Turn, More, Last, go_on, repeat, turn_with}
 

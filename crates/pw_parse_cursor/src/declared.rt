@@ -4,8 +4,8 @@ ghost use Rattle.pw_parse_grammar.specs.Declarators as spec;
 ghost use Rattle.pw_parse_cursor.specs.Reads.{Reads, unit};
 ghost use Rattle.pw_parse_cursor.specs.CursorViews.{view_name};
 
-use crate::tokens::{Binding, Tokens};
 use crate::stop::Stop;
+use crate::tokens::{Binding, Tokens};
 use pw_tree::Declarator;
 
 /// A declarator that was read, and what its reader goes on with.

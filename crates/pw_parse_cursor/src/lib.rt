@@ -12,4 +12,8 @@ pub use declared::{Declared, declare_name};
 pub use smaller::{SmallerParts, boxed_expr, some_specifiers};
 pub use stop::Stop;
 pub use tokens::{Binding, Tokens};
-pub use word::{ASSIGNMENT, CAST, COMMA, CONDITIONAL, UNARY, assigns, begins_declaration, begins_specifier, has_type, has_typedef, is_type, levels_of_expressions, opens_parameters, opens_type_name, operand_level, operator_at, prefix_operator, qualifier_word, specifier_word};
+pub use word::{
+    ASSIGNMENT, CAST, COMMA, CONDITIONAL, UNARY, assigns, begins_declaration, begins_specifier,
+    has_type, has_typedef, is_type, levels_of_expressions, opens_parameters, opens_type_name,
+    operand_level, operator_at, prefix_operator, qualifier_word, specifier_word,
+};

@@ -8,7 +8,9 @@ ghost use Rattle.pw_parse_decl.specs.Views.{before_decl, before_init_declarator,
 ghost use Rattle.pw_tree.specs.Views.{view_decl, view_init, view_init_declarator, view_initializer};
 
 use crate::parts::{DeclParts, InitParts};
-use pw_parse_cursor::{ASSIGNMENT, Declared, Stop, Tokens, begins_declaration, declare_name, has_type, has_typedef};
+use pw_parse_cursor::{
+    ASSIGNMENT, Declared, Stop, Tokens, begins_declaration, declare_name, has_type, has_typedef,
+};
 use pw_parse_grammar::Place;
 use pw_tree::{
     Decl, Init, InitDeclarator, Initializer, Mark, Specifier, statements_show_their_lists,

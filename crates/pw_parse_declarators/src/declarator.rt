@@ -12,7 +12,10 @@ ghost use Rattle.pw_parse_declarators.specs.Views.{before_pointer, before_qualif
 ghost use Rattle.pw_tree.specs.Trees.{Enclosed};
 ghost use Rattle.pw_tree.specs.Views.{view_core, view_declarator, view_parameters, view_pointer, view_suffix};
 
-use pw_parse_cursor::{Binding, CONDITIONAL, Declared, SmallerParts, Stop, Tokens, begins_specifier, boxed_expr, declare_name, has_type, opens_parameters, qualifier_word, some_specifiers};
+use pw_parse_cursor::{
+    Binding, CONDITIONAL, Declared, SmallerParts, Stop, Tokens, begins_specifier, boxed_expr,
+    declare_name, has_type, opens_parameters, qualifier_word, some_specifiers,
+};
 use pw_parse_grammar::Place;
 use pw_tree::{
     Core, Declarator, Lexeme, Mark, Parameter, Pointer, Qualifier, Suffix, Word,

@@ -8,7 +8,10 @@ ghost use Rattle.pw_parse_cursor.specs.declared.stop.Stop.TheVariants.{NoMemory}
 ghost use Rattle.pw_tree.specs.Levels.{level, unary};
 ghost use Rattle.pw_tree.specs.Views.{view_expr, view_operations, view_postfix, view_postfixes};
 
-use pw_parse_cursor::{ASSIGNMENT, CAST, COMMA, CONDITIONAL, SmallerParts, Stop, Tokens, UNARY, assigns, boxed_expr, has_type, opens_type_name, operand_level, operator_at, prefix_operator, some_specifiers};
+use pw_parse_cursor::{
+    ASSIGNMENT, CAST, COMMA, CONDITIONAL, SmallerParts, Stop, Tokens, UNARY, assigns, boxed_expr,
+    has_type, opens_type_name, operand_level, operator_at, prefix_operator, some_specifiers,
+};
 use pw_parse_grammar::Place;
 use pw_tree::{
     Access, AssignOperator, Expr, Keyword, Lexeme, Mark, Operation, PostfixOperation, StepOperator,

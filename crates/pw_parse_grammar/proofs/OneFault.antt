@@ -3,7 +3,7 @@ use Rattle.std.proofs.Common.{◌≡◌, ℕ, ◌<◌, List, [], ◌∷◌, ◌+
 use Rattle.pw_tree.specs.Grammar.{BeginsTree, IsSyntaxFault}
 use Rattle.pw_tree.specs.Symbols.{Spelled}
 
--- of two fronts of one list the longer one begins with the shorter and the element behind it
+-- of two prefixes of one list the longer one begins with the shorter and the element behind it
 record Goes {A : Type 0} (a ra b : List A) : Type 0 where
   x : A
   more : List A
@@ -27,7 +27,7 @@ goes (y ∷ a) ra (x ∷ b) rb e h =
     let g = goes a ra b rb (ap others e) (omega (arith, h)) in
     record { x = g.x; more = g.more; left = g.left; rest = g.rest; front = ap (λ v. v ∷ b) (sym (ap (first_or y) e)) ∙ ap (λ v. y ∷ v) g.front }
 
--- a front of what begins a tree begins one
+-- a prefix of what begins a tree begins one
 pub front_begins : (front rest : List Spelled) → BeginsTree (front ++ rest) → BeginsTree front
 front_begins front rest b = record { tree = b.tree; rest = rest ++ b.rest; well_formed = b.well_formed; begins = b.begins ∙ append_assoc front rest b.rest }
 

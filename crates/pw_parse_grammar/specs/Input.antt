@@ -4,8 +4,8 @@ use denote.Enum.Bare.{sameb}
 use Rattle.pw_scope.specs.Visible.{visible}
 use Rattle.pw_tree.specs.Symbols.{Symbol, Reserved, Sign, Identifier}
 use Rattle.pw_tree.specs.Trees.{Word}
-use Rattle.pw_tree.specs.contracts.symbol.Keyword.{the_type as the_keywords}
-use Rattle.pw_tree.specs.contracts.symbol.Mark.{the_type as the_marks}
+use Rattle.pw_token.specs.contracts.symbol.Keyword.{the_type as the_keywords}
+use Rattle.pw_token.specs.contracts.symbol.Mark.{the_type as the_marks}
 use Rattle.pw_token.specs.declared.symbol.Keyword.{Keyword}
 use Rattle.pw_token.specs.declared.symbol.Mark.{Mark}
 use Rattle.pw_token.specs.declared.symbol.Mark.TheVariants.{Comma}

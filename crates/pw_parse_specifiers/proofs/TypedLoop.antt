@@ -1,4 +1,4 @@
--- The loop that reads specifiers beside the recursion that reads them from the front.
+-- The loop that reads specifiers beside the recursion that reads them from the beginning.
 use Rattle.std.proofs.Common.{◌≡◌, ℕ, ◌+◌, ◌-◌, ◌<◌, ◌≤◌, Bool, false, ◌||◌, List, [], ◌∷◌, ◌++◌, Some, Ok, Err, sym, ap, ◌∙◌, arith}
 use Rattle.pw_tree.specs.Scopes.{has_type}
 use Rattle.pw_tree.specs.Trees.{Specifiers, NoSpecifier}

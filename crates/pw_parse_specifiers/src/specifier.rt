@@ -9,7 +9,10 @@ ghost use Rattle.pw_parse_specifiers.specs.Views.{before_specifier, member_first
 ghost use Rattle.pw_tree.specs.Trees.{BitField, PlainMember};
 ghost use Rattle.pw_tree.specs.Views.{view_declarator, view_enumerator, view_expr, view_member_declarator, view_specifier, view_tag, view_word};
 
-use pw_parse_cursor::{CONDITIONAL, Declared, SmallerParts, Stop, Tokens, boxed_expr, has_type, is_type, some_specifiers, specifier_word};
+use pw_parse_cursor::{
+    CONDITIONAL, Declared, SmallerParts, Stop, Tokens, boxed_expr, has_type, is_type,
+    some_specifiers, specifier_word,
+};
 use pw_parse_grammar::{Place, SpecifierWord};
 use pw_tree::{
     Declarator, Enumerator, Expr, Lexeme, Mark, Member, MemberDeclarator, RecordKind, Specifier,

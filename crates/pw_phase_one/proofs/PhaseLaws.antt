@@ -2,10 +2,10 @@
 use Rattle.std.proofs.Common.{◌≡◌, ◌≢◌, ℕ, List, Result, Ok, Err, refl, sym, ap, ◌∙◌, subst}
 use Rattle.std.specs.Prelude.{◌↔◌}
 use Rattle.pw_tree.specs.Trees.{Module}
-use Rattle.pw_front_end.specs.Fronts.{Front, Fronts, HasTree, front_of}
-use Rattle.pw_front_end.specs.Gives as front
-use Rattle.pw_front_end.specs.declared.refusal.FrontError.{FrontError}
-use Rattle.pw_front_end.specs.declared.refusal.FrontError.TheVariants.{Refused, NoMemory}
+use Rattle.pw_front_end.specs.Fronts.{FrontEnd, FrontEndAnswers, HasTree, front_end_of}
+use Rattle.pw_front_end.specs.AnswersTree as front
+use Rattle.pw_front_end.specs.declared.refusal.FrontEndFault.{FrontEndFault}
+use Rattle.pw_front_end.specs.declared.refusal.FrontEndFault.TheVariants.{Refused, NoMemory}
 use Rattle.pw_front_end.specs.declared.refusal.Refusal.{Refusal}
 use Rattle.pw_front_end.specs.declared.refusal.Refusal.TheVariants.{Lex, Unsupported, Parse, Check}
 use Rattle.pw_check_walk.specs.declared.constraints.CheckFault.{CheckFault}
@@ -15,10 +15,10 @@ use Rattle.pw_check_rules.specs.Checks.{Checks, checked}
 use Rattle.pw_types.specs.TypedTrees.{ModuleValue}
 use Rattle.pw_flow.specs.declared.flow.FlowModule.{FlowModule}
 use Rattle.pw_lower.specs.Modules.{lowered}
-use Rattle.pw_phase_one.specs.FirstPhase.{Compiles, Gives, Phase, by_checking, by_front, compiled, error_of, told, told_kind}
+use Rattle.pw_phase_one.specs.FirstPhase.{Compiles, AnswersPhaseOne, Phase, by_checking, by_front_end, compiled, error_of, told, told_kind}
 
 abbrev pub FrontExact : Type 0
-FrontExact = (text : List ℕ) (answer : Front) → Fronts text answer ↔ (answer ≡ front_of text)
+FrontExact = (text : List ℕ) (answer : FrontEnd) → FrontEndAnswers text answer ↔ (answer ≡ front_end_of text)
 
 abbrev pub ChecksExact : Type 0
 ChecksExact = (m : Module) (answer : Result ModuleValue CheckFault) → Checks m answer ↔ (answer ≡ checked m)
@@ -28,18 +28,18 @@ ChecksExact = (m : Module) (answer : Result ModuleValue CheckFault) → Checks m
 pub compiled_only : FrontExact → ChecksExact → (name text : List ℕ) (answer : Phase) → Compiles name text answer → answer ≡ compiled name text
 unfolding compiled
 compiled_only front checks name text (Ok flow) h =
-    ap (λ (f : FlowModule). Ok f) h.is ∙ ap (by_checking name) ((checks h.tree (Ok h.typed)).0 h.checks) ∙ ap (by_front name) ((front text (Ok h.tree)).0 h.has_tree)
+    ap (λ (f : FlowModule). Ok f) h.is ∙ ap (by_checking name) ((checks h.tree (Ok h.typed)).0 h.checks) ∙ ap (by_front_end name) ((front text (Ok h.tree)).0 h.has_tree)
 compiled_only front checks name text (Err (Check fault)) h =
-    ap (by_checking name) ((checks h.tree (Err fault)).0 h.checks) ∙ ap (by_front name) ((front text (Ok h.tree)).0 h.has_tree)
-compiled_only front checks name text (Err (Lex fault)) h = ap (by_front name) ((front text (Err (Lex fault))).0 h)
-compiled_only front checks name text (Err (Unsupported token feature)) h = ap (by_front name) ((front text (Err (Unsupported token feature))).0 h)
-compiled_only front checks name text (Err (Parse fault)) h = ap (by_front name) ((front text (Err (Parse fault))).0 h)
+    ap (by_checking name) ((checks h.tree (Err fault)).0 h.checks) ∙ ap (by_front_end name) ((front text (Ok h.tree)).0 h.has_tree)
+compiled_only front checks name text (Err (Lex fault)) h = ap (by_front_end name) ((front text (Err (Lex fault))).0 h)
+compiled_only front checks name text (Err (Unsupported token feature)) h = ap (by_front_end name) ((front text (Err (Unsupported token feature))).0 h)
+compiled_only front checks name text (Err (Parse fault)) h = ap (by_front_end name) ((front text (Err (Parse fault))).0 h)
 
 checked_is : (name text : List ℕ) (tree : Module) (answer : Result ModuleValue CheckFault) → HasTree text tree → Checks tree answer → Compiles name text (by_checking name answer)
 checked_is name text tree (Ok typed) h k = record { tree = tree; typed = typed; has_tree = h; checks = k; is = refl }
 checked_is name text tree (Err fault) h k = record { tree = tree; has_tree = h; checks = k }
 
-front_is : ChecksExact → (name text : List ℕ) (answer : Front) → Fronts text answer → Compiles name text (by_front name answer)
+front_is : ChecksExact → (name text : List ℕ) (answer : FrontEnd) → FrontEndAnswers text answer → Compiles name text (by_front_end name answer)
 front_is checks name text (Ok tree) h = checked_is name text tree (checked tree) h ((checks tree (checked tree)).1 refl)
 front_is checks name text (Err (Lex fault)) h = h
 front_is checks name text (Err (Unsupported token feature)) h = h
@@ -48,18 +48,18 @@ front_is checks name text (Err (Check fault)) h = absurd h
 
 pub compiled_is : FrontExact → ChecksExact → (name text : List ℕ) (answer : Phase) → answer ≡ compiled name text → Compiles name text answer
 unfolding compiled
-compiled_is front checks name text answer e = subst (Compiles name text) (sym e) (front_is checks name text (front_of text) ((front text (front_of text)).1 refl))
+compiled_is front checks name text answer e = subst (Compiles name text) (sym e) (front_is checks name text (front_end_of text) ((front text (front_end_of text)).1 refl))
 
 -- ---- what the calls give
 
-pub front_failed : {V : Type 0} (view : V → Module) (name text : List ℕ) (error : FrontError) → front.Gives view (front_of text) (Err error) → Gives {V = FlowModule} (λ flow. flow) (compiled name text) (Err error)
+pub front_failed : {V : Type 0} (view : V → Module) (name text : List ℕ) (error : FrontEndFault) → front.AnswersTree view (front_end_of text) (Err error) → AnswersPhaseOne {V = FlowModule} (λ flow. flow) (compiled name text) (Err error)
 unfolding compiled
-front_failed view name text (Refused refusal) h = ap (by_front name) h
+front_failed view name text (Refused refusal) h = ap (by_front_end name) h
 front_failed view name text NoMemory h = tt
 
-pub front_passed : (name text : List ℕ) (tree : Module) (result : Result FlowModule FrontError) → front_of text ≡ Ok tree → Gives (λ flow. flow) (by_checking name (checked tree)) result → Gives (λ flow. flow) (compiled name text) result
+pub front_passed : (name text : List ℕ) (tree : Module) (result : Result FlowModule FrontEndFault) → front_end_of text ≡ Ok tree → AnswersPhaseOne (λ flow. flow) (by_checking name (checked tree)) result → AnswersPhaseOne (λ flow. flow) (compiled name text) result
 unfolding compiled
-front_passed name text tree result e h = subst (λ (p : Phase). Gives (λ flow. flow) p result) (sym (ap (by_front name) e)) h
+front_passed name text tree result e h = subst (λ (p : Phase). AnswersPhaseOne (λ flow. flow) p result) (sym (ap (by_front_end name) e)) h
 
 no_value : (typed : ModuleValue) (refusal : Refusal) → ◌≡◌ {A = Result ModuleValue Refusal} (Ok typed) (Err refusal) → ⊥
 no_value typed refusal e = cc
@@ -67,12 +67,12 @@ no_value typed refusal e = cc
 err_is : (one other : Refusal) → ◌≡◌ {A = Result ModuleValue Refusal} (Err one) (Err other) → one ≡ other
 err_is one other e = cc
 
-failed_by : {V : Type 0} (view : V → ModuleValue) (name : List ℕ) (found : Result ModuleValue CheckFault) (error : FrontError) → Gives view (told found) (Err error) → Gives {V = FlowModule} (λ flow. flow) (by_checking name found) (Err error)
+failed_by : {V : Type 0} (view : V → ModuleValue) (name : List ℕ) (found : Result ModuleValue CheckFault) (error : FrontEndFault) → AnswersPhaseOne view (told found) (Err error) → AnswersPhaseOne {V = FlowModule} (λ flow. flow) (by_checking name found) (Err error)
 failed_by view name (Ok typed) (Refused refusal) h = absurd (no_value typed refusal h)
 failed_by view name (Err fault) (Refused refusal) h = ap (λ (r : Refusal). Err r) (err_is (Check fault) refusal h)
 failed_by view name found NoMemory h = tt
 
-pub check_failed : {V : Type 0} (view : V → ModuleValue) (name : List ℕ) (tree : Module) (error : FrontError) → Gives view (told (checked tree)) (Err error) → Gives {V = FlowModule} (λ flow. flow) (by_checking name (checked tree)) (Err error)
+pub check_failed : {V : Type 0} (view : V → ModuleValue) (name : List ℕ) (tree : Module) (error : FrontEndFault) → AnswersPhaseOne view (told (checked tree)) (Err error) → AnswersPhaseOne {V = FlowModule} (λ flow. flow) (by_checking name (checked tree)) (Err error)
 check_failed view name tree error h = failed_by view name (checked tree) error h
 
 ok_is : (one other : ModuleValue) → ◌≡◌ {A = Result ModuleValue Refusal} (Ok one) (Ok other) → one ≡ other
@@ -97,7 +97,7 @@ fault_told : ChecksExact → (tree : Module) (fault : CheckFault) → Checks tre
 fault_told exact tree fault h = ap told (sym ((exact tree (Err fault)).0 h))
 
 by_kind : {V : Type 0} (view : V → ModuleValue) → ChecksExact → (tree : Module) (fault : CheckFault) (kind : CheckKind) → fault.kind ≡ kind → (fault.kind ≢ check.NoMemory → Checks tree (Err fault))
-    → Gives view (told (checked tree)) (Err (told_kind kind fault))
+    → AnswersPhaseOne view (told (checked tree)) (Err (told_kind kind fault))
 by_kind view exact tree fault check.NoMemory e h = tt
 by_kind view exact tree fault check.UnknownName e h = fault_told exact tree fault (h (λ n. other (sym e ∙ n)))
   where
@@ -124,6 +124,6 @@ by_kind view exact tree fault (check.Limit which number) e h = fault_told exact 
     other : check.Limit which number ≡ check.NoMemory → ⊥
     other n = cc
 
-pub checked_err : {V : Type 0} (view : V → ModuleValue) → ChecksExact → (tree : Module) (fault : CheckFault) (error : FrontError) → error ≡ error_of fault → (fault.kind ≢ check.NoMemory → Checks tree (Err fault))
-    → Gives view (told (checked tree)) (Err error)
-checked_err view exact tree fault error e h = subst (λ (x : FrontError). Gives view (told (checked tree)) (Err x)) (sym e) (by_kind view exact tree fault fault.kind refl h)
+pub checked_err : {V : Type 0} (view : V → ModuleValue) → ChecksExact → (tree : Module) (fault : CheckFault) (error : FrontEndFault) → error ≡ error_of fault → (fault.kind ≢ check.NoMemory → Checks tree (Err fault))
+    → AnswersPhaseOne view (told (checked tree)) (Err error)
+checked_err view exact tree fault error e h = subst (λ (x : FrontEndFault). AnswersPhaseOne view (told (checked tree)) (Err x)) (sym e) (by_kind view exact tree fault fault.kind refl h)

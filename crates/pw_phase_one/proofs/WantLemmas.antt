@@ -1,7 +1,7 @@
 -- No refusal is for want of memory.
 use Rattle.std.proofs.Common.{◌≡◌, ℕ, List, Ok, Err, sym, ap, ◌∙◌}
 use Rattle.std.specs.Prelude.{◌↔◌, ◌≢◌}
-use Rattle.pw_front_end.specs.Fronts.{Front, Fronts, HoldsNoWant, front_of}
+use Rattle.pw_front_end.specs.Fronts.{FrontEnd, FrontEndAnswers, HoldsNoWant, front_end_of}
 use Rattle.pw_front_end.specs.declared.refusal.Refusal.{Refusal}
 use Rattle.pw_front_end.specs.declared.refusal.Refusal.TheVariants.{Lex, Unsupported, Parse, Check}
 use Rattle.pw_phase_one.specs.FirstPhase.{Compiles, Phase, compiled}
@@ -27,10 +27,10 @@ stops_no_want w fault (AtEnd h) = λ e. kind_no_want h.constraint (sym (ap (λ (
 -- what the public laws of the first phase and of the front say
 pub record Laws : Type 0 where
   pub phase : (name text : List ℕ) (answer : Phase) → Compiles name text answer ↔ (answer ≡ compiled name text)
-  pub front : (text : List ℕ) (answer : Front) → Fronts text answer ↔ (answer ≡ front_of text)
-  pub no_want : (text : List ℕ) (refusal : Refusal) → front_of text ≡ Err refusal → HoldsNoWant refusal
+  pub front : (text : List ℕ) (answer : FrontEnd) → FrontEndAnswers text answer ↔ (answer ≡ front_end_of text)
+  pub no_want : (text : List ℕ) (refusal : Refusal) → front_end_of text ≡ Err refusal → HoldsNoWant refusal
 
-fronts_no_want : Laws → (text : List ℕ) (refusal : Refusal) → Fronts text (Err refusal) → HoldsNoWant refusal
+fronts_no_want : Laws → (text : List ℕ) (refusal : Refusal) → FrontEndAnswers text (Err refusal) → HoldsNoWant refusal
 fronts_no_want laws text refusal h = laws.no_want text refusal (sym ((laws.front text (Err refusal)).0 h))
 
 compiles_no_want : Laws → (name text : List ℕ) (refusal : Refusal) → Compiles name text (Err refusal) → HoldsNoWant refusal

@@ -1,9 +1,9 @@
 -- The first phase: from a module's text to its flow graph, or to its first refusal.
 use Rattle.std.specs.Prelude.{◌≡◌, ℕ, List, Result, Ok, Err}
 use Rattle.pw_tree.specs.Trees.{Module}
-use Rattle.pw_front_end.specs.Fronts.{Front, Fronts, HasTree, front_of}
-use Rattle.pw_front_end.specs.declared.refusal.FrontError.{FrontError}
-use Rattle.pw_front_end.specs.declared.refusal.FrontError.TheVariants.{Refused, NoMemory}
+use Rattle.pw_front_end.specs.Fronts.{FrontEnd, FrontEndAnswers, HasTree, front_end_of}
+use Rattle.pw_front_end.specs.declared.refusal.FrontEndFault.{FrontEndFault}
+use Rattle.pw_front_end.specs.declared.refusal.FrontEndFault.TheVariants.{Refused, NoMemory}
 use Rattle.pw_front_end.specs.declared.refusal.Refusal.{Refusal}
 use Rattle.pw_front_end.specs.declared.refusal.Refusal.TheVariants.{Check}
 use Rattle.pw_check_walk.specs.declared.constraints.CheckFault.{CheckFault}
@@ -19,7 +19,7 @@ abbrev pub Phase : Type 0
 Phase = Result FlowModule Refusal
 
 -- A module of this name and text comes to this flow graph: that of the typed tree of the text's tree.
-pub record ComesTo (name text : List ℕ) (flow : FlowModule) : Type 0 where
+pub record CompilesTo (name text : List ℕ) (flow : FlowModule) : Type 0 where
   pub tree : Module
   pub typed : ModuleValue
   pub has_tree : HasTree text tree
@@ -34,9 +34,9 @@ pub record IsFaulty (text : List ℕ) (fault : CheckFault) : Type 0 where
 
 -- a module's one answer: the first of lexing, left-out tokens, depth, syntax and checking that has a fault tells it
 abbrev pub Compiles : List ℕ → List ℕ → Phase → Type 0
-Compiles name text (Ok flow) = ComesTo name text flow
+Compiles name text (Ok flow) = CompilesTo name text flow
 Compiles name text (Err (Check fault)) = IsFaulty text fault
-Compiles name text (Err refusal) = Fronts text (Err refusal)
+Compiles name text (Err refusal) = FrontEndAnswers text (Err refusal)
 
 -- ---- the answer as a function, which the public law `phase_one_is_exact` ties to the relation
 
@@ -44,20 +44,20 @@ abbrev pub by_checking : List ℕ → Result ModuleValue CheckFault → Phase
 by_checking name (Err fault) = Err (Check fault)
 by_checking name (Ok typed) = Ok (lowered name typed)
 
-abbrev pub by_front : List ℕ → Front → Phase
-by_front name (Err refusal) = Err refusal
-by_front name (Ok tree) = by_checking name (checked tree)
+abbrev pub by_front_end : List ℕ → FrontEnd → Phase
+by_front_end name (Err refusal) = Err refusal
+by_front_end name (Ok tree) = by_checking name (checked tree)
 
 unfoldable pub compiled : List ℕ → List ℕ → Phase
-compiled name text = by_front name (front_of text)
+compiled name text = by_front_end name (front_end_of text)
 
 -- ---- what a call gives
 
 -- this answer, or memory ran out
-abbrev pub Gives : {V W : Type 0} → (V → W) → Result W Refusal → Result V FrontError → Type 0
-Gives view wanted (Ok v) = wanted ≡ Ok (view v)
-Gives view wanted (Err (Refused refusal)) = wanted ≡ Err refusal
-Gives view wanted (Err NoMemory) = Unit {0}
+abbrev pub AnswersPhaseOne : {V W : Type 0} → (V → W) → Result W Refusal → Result V FrontEndFault → Type 0
+AnswersPhaseOne view wanted (Ok v) = wanted ≡ Ok (view v)
+AnswersPhaseOne view wanted (Err (Refused refusal)) = wanted ≡ Err refusal
+AnswersPhaseOne view wanted (Err NoMemory) = Unit {0}
 
 -- what checking answers, as the first phase tells it
 abbrev pub told : Result ModuleValue CheckFault → Result ModuleValue Refusal
@@ -65,9 +65,9 @@ told (Ok typed) = Ok typed
 told (Err fault) = Err (Check fault)
 
 -- a fault of checking, as the first phase tells it
-abbrev pub told_kind : CheckKind → CheckFault → FrontError
+abbrev pub told_kind : CheckKind → CheckFault → FrontEndFault
 told_kind check.NoMemory fault = NoMemory
 told_kind kind fault = Refused (Check fault)
 
-abbrev pub error_of : CheckFault → FrontError
+abbrev pub error_of : CheckFault → FrontEndFault
 error_of fault = told_kind fault.kind fault

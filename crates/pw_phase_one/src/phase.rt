@@ -3,7 +3,7 @@
 ghost use Rattle.std.specs.Prelude.{◌≡◌, IfOk};
 ghost use Rattle.pw_flow.specs.ValidFlow.{IsValid};
 ghost use Rattle.pw_lower.specs.Modules.{lowered};
-ghost use Rattle.pw_phase_one.specs.FirstPhase.{Gives, by_checking, compiled, error_of, told};
+ghost use Rattle.pw_phase_one.specs.FirstPhase.{AnswersPhaseOne, by_checking, compiled, error_of, told};
 ghost use Rattle.pw_check_rules.specs.Checks.{checked};
 ghost use Rattle.pw_tree.specs.Views.{view_module};
 ghost use Rattle.pw_typed.specs.Views as typed;
@@ -13,7 +13,7 @@ use pw_check_rules::checks_is_exact;
 use pw_check_walk::{CheckFault, CheckKind};
 use pw_flow::FlowModule;
 use pw_flow_valid::is_valid;
-use pw_front_end::{FrontError, Refusal, front};
+use pw_front_end::{FrontEndFault, Refusal, front};
 use pw_lstmt::lower_module;
 use pw_tree::Module;
 use pw_typed::TModule;
@@ -21,26 +21,26 @@ use pw_value::{Name, NoMemory};
 use std::alloc::Global;
 
 /// Why the first phase gives no flow graph: the text is refused, or memory ran out.
-pub type PhaseError = FrontError;
+pub type PhaseError = FrontEndFault;
 
 /// How a fault of checking is told.
 fn error_of(fault: CheckFault) -> PhaseError
     ensures { result ≡ error_of fault }
 {
     match fault.kind {
-        CheckKind::NoMemory => FrontError::NoMemory,
+        CheckKind::NoMemory => FrontEndFault::NoMemory,
         CheckKind::UnknownName
         | CheckKind::Redeclared
         | CheckKind::Typing
         | CheckKind::Constant
         | CheckKind::Unsupported(_)
-        | CheckKind::Limit(_, _) => FrontError::Refused(Refusal::Check(fault)),
+        | CheckKind::Limit(_, _) => FrontEndFault::Refused(Refusal::Check(fault)),
     }
 }
 
 /// The typed tree of a tree; or the fault that checking finds.
 fn typed_tree(alloc: Global, tree: &Module) -> Result<TModule, PhaseError>
-    ensures { Gives typed.view_module (told (checked (view_module tree.now))) result }
+    ensures { AnswersPhaseOne typed.view_module (told (checked (view_module tree.now))) result }
 {
     checks_is_exact();
     match check(alloc, tree) {
@@ -65,13 +65,13 @@ fn flow_graph(alloc: Global, name: &Name, module: &TModule) -> Result<FlowModule
 
 /// The flow graph of a module, by its name and its tree.
 fn compile(alloc: Global, name: &Name, tree: &Module) -> Result<FlowModule, PhaseError>
-    ensures function { Gives (λ flow. flow) (by_checking name.now (checked (view_module tree.now))) result }
+    ensures function { AnswersPhaseOne (λ flow. flow) (by_checking name.now (checked (view_module tree.now))) result }
     ensures lawful { IfOk result (λ flow. IsValid flow) }
 {
     match typed_tree(alloc, tree) {
         Ok(typed) => match flow_graph(alloc, name, &typed) {
             Ok(flow) => Ok(flow),
-            Err(_none) => Err(FrontError::NoMemory),
+            Err(_none) => Err(FrontEndFault::NoMemory),
         },
         Err(error) => Err(error),
     }
@@ -85,7 +85,7 @@ fn compile(alloc: Global, name: &Name, tree: &Module) -> Result<FlowModule, Phas
 /// `Refused` with what the first of these tests finds, or `NoMemory`.
 pub fn phase_one(alloc: Global, name: &Name, text: &[u8]) -> Result<FlowModule, PhaseError>
     // The answer as a function of the name and the text, unless memory ran out.
-    ensures function { Gives (λ flow. flow) (compiled name.now text.now) result }
+    ensures function { AnswersPhaseOne (λ flow. flow) (compiled name.now text.now) result }
 
     // A flow graph that is given is lawful.
     ensures lawful { IfOk result (λ flow. IsValid flow) }

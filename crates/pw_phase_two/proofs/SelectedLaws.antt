@@ -13,7 +13,7 @@ use Rattle.pw_flow.specs.declared.flow.End.{End}
 use Rattle.pw_flow.specs.declared.flow.End.TheVariants as end
 use Rattle.pw_db.specs.declared.database.Web.{Web}
 use Rattle.pw_db.specs.declared.database.Role.{Role}
-use Rattle.pw_inst.specs.Limits.{near_least, near_most, routine_count}
+use Rattle.pw_inst.specs.Limits.{near_least, near_limit, routine_count}
 use Rattle.pw_inst.specs.declared.Inst.TheVariants as i
 use Rattle.pw_inst.specs.declared.line.Line.{Line}
 use Rattle.pw_inst.specs.declared.line.Line.TheVariants.{Plain, Jump, BranchNonZero, CallTo, CallReg, Leave}
@@ -291,7 +291,7 @@ parameters_there frame places k (suc more) =
     joined (parameter_in frame k (place_of places k)) (parameters_in frame places (suc k) more) (parameter_there frame k (place_of places k)) (parameters_there frame places (suc k) more)
 
 frame_end_there : (frame : ℕ) → LinesThere (frame_end frame)
-frame_end_there frame = by (nat_lt near_most frame)
+frame_end_there frame = by (nat_lt near_limit frame)
   where
     by : (t : Bool) → LinesThere (if t then constant frame 1 ++ word (i.Addl 30 1 1) else word (i.Ldo (pos frame) 30 1))
     by true = joined (constant frame 1) (word (i.Addl 30 1 1)) (constant_there frame 1) (tt, tt)

@@ -4,7 +4,7 @@ use Rattle.std.specs.List.{flat_map, AllByRecursion}
 use Rattle.std.specs.Str.{bytes_eq}
 pub use Rattle.pw_value.specs.NameLists.{has_name}
 use Rattle.pw_value.specs.ProgramNames.{start_name}
-use Rattle.pw_value.specs.Limits.{stack_most}
+use Rattle.pw_value.specs.Limits.{stack_limit}
 use Rattle.pw_value.specs.declared.value.Kind.{Kind}
 use Rattle.pw_files.specs.Rising.{IsRising}
 pub use Rattle.pw_flow.specs.Addressed.{addressed}
@@ -56,7 +56,7 @@ pub record IsProgram (p : Program) : Type 0 where
   pub items : (g : FlowGlobal) → Contains (globals_of p) g → AllByRecursion (λ i. IsItem p i.1) g.items
   pub start : Contains (map (λ f. f.name) (functions_of p)) start_name
   pub start_takes_nothing : (f : FlowFn) → Contains (functions_of p) f → f.name ≡ start_name → f.params ≡ 0
-  pub stack : p.stack ≤ stack_most
+  pub stack : p.stack ≤ stack_limit
 
 -- the stack can hold the frame of `$start`
 abbrev pub StartFits : Program → Type 0

@@ -19,7 +19,7 @@ use Rattle.pw_webflow.specs.declared.web.WebFn.{WebFn}
 use Rattle.pw_webflow.specs.ValidWebs.{IsWebOp, IsWebBlock, IsWebFn}
 use Rattle.std.proofs.lemmas.Bool.Decides.{nat_tests}
 use Rattle.pw_inst.specs.Fields.{IsSigned}
-use Rattle.pw_inst.specs.Limits.{near_least, near_most}
+use Rattle.pw_inst.specs.Limits.{near_least, near_limit}
 use Rattle.pw_inst.specs.InstructionTable.{IsInRange}
 use Rattle.pw_inst.specs.declared.Inst.TheVariants as i
 use Rattle.pw_inst.specs.declared.line.Line.{Line}
@@ -146,11 +146,11 @@ incoming_good frame k d hd = by (nat_lt k 4)
 
 frame_end_good : (frame : ℕ) → frame < 2 ^ 21 → AreLines (frame_end frame)
 unfolding IsInRange
-frame_end_good frame h = by (nat_lt near_most frame) refl
+frame_end_good frame h = by (nat_lt near_limit frame) refl
   where
-    by : (t : Bool) → nat_lt near_most frame ≡ t → AreLines (if t then constant frame 1 ++ word (i.Addl 30 1 1) else word (i.Ldo (pos frame) 30 1))
+    by : (t : Bool) → nat_lt near_limit frame ≡ t → AreLines (if t then constant frame 1 ++ word (i.Addl 30 1 1) else word (i.Ldo (pos frame) 30 1))
     by true e = joined (constant frame 1) (word (i.Addl 30 1 1)) (constant_good frame 1 (omega arith) (omega arith)) ((omega arith, omega arith, omega arith), tt)
-    by false e = let small : frame ≤ near_most = grind (arith, nat_tests) in (((omega (arith, ints), omega (arith, ints)), omega arith, omega arith), tt)
+    by false e = let small : frame ≤ near_limit = grind (arith, nat_tests) in (((omega (arith, ints), omega (arith, ints)), omega arith, omega arith), tt)
 
 below_small : (n : ℕ) → n ≤ near_least → IsSigned 14 (below n)
 below_small zero h = (omega (arith, ints), omega (arith, ints))

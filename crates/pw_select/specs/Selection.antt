@@ -6,7 +6,7 @@ use Rattle.pw_flow.specs.declared.flow.End.TheVariants as end
 use Rattle.pw_db.specs.Limits.{first_register, register_count}
 use Rattle.pw_db.specs.declared.database.Web.{Web}
 use Rattle.pw_db.specs.declared.database.Role.{Role}
-use Rattle.pw_inst.specs.Limits.{near_least, near_most}
+use Rattle.pw_inst.specs.Limits.{near_least, near_limit}
 use Rattle.pw_inst.specs.Registers.{help, first, second, answer, return_address, stack_pointer, argument_register}
 use Rattle.pw_inst.specs.declared.Inst.TheVariants as i
 use Rattle.pw_inst.specs.declared.line.Line.{Line}
@@ -83,7 +83,7 @@ parameters_in frame places k (suc more) =
 -- the end of the frame in register 1
 abbrev pub frame_end : ℕ → List Line
 frame_end frame =
-    if nat_lt near_most frame
+    if nat_lt near_limit frame
     then constant frame help ++ word (i.Addl stack_pointer help help)
     else word (i.Ldo (pos frame) stack_pointer help)
 

@@ -9,7 +9,7 @@ ghost use Rattle.pw_select.specs.Selectable.{IsFrame};
 use crate::webs::{put_webs_loaded, put_webs_stored};
 use pw_alloc::{FIRST_STACKED, LINK_PLACE, Located, Place, below, head_size};
 use pw_inst::{
-    ARGUMENT, FIRST, HELP, Inst, Line, NEAR_LEAST, NEAR_MOST, RETURN_ADDRESS, SECOND,
+    ARGUMENT, FIRST, HELP, Inst, Line, NEAR_LEAST, NEAR_LIMIT, RETURN_ADDRESS, SECOND,
     STACK_POINTER, Symbol,
 };
 use pw_items::Items;
@@ -93,7 +93,7 @@ fn put_frame_end(out: &mut Items<Line>, frame: u32) -> Result<(), AllocError>
     ensures { OnOk result (out.new ≡ out.old ++ frame_end frame) }
 {
     let t = HELP;
-    if frame > NEAR_MOST {
+    if frame > NEAR_LIMIT {
         put_constant(out, frame, t)?;
         put(
             out,

@@ -7,7 +7,7 @@ use Rattle.std.specs.List.{AllByRecursion}
 use Rattle.pw_value.specs.declared.value.Kind.{Kind}
 use Rattle.pw_value.specs.declared.value.Kind.TheVariants as kind
 use Rattle.pw_inst.specs.Fields.{IsSigned}
-use Rattle.pw_inst.specs.Limits.{near_least, near_most}
+use Rattle.pw_inst.specs.Limits.{near_least, near_limit}
 use Rattle.pw_inst.specs.InstructionTable.{IsInRange}
 use Rattle.pw_inst.specs.declared.Inst.TheVariants as i
 use Rattle.pw_inst.specs.declared.line.Line.{Line}
@@ -32,7 +32,7 @@ and_true false b h = cc
 
 near_signed : (n : ℤ) → is_near n ≡ true → IsSigned 14 n
 near_signed n h =
-    let both = and_true (int_le (neg_ℤ (pos near_least)) n) (int_le n (pos near_most)) h in
+    let both = and_true (int_le (neg_ℤ (pos near_least)) n) (int_le n (pos near_limit)) h in
     let low = both.0 in
     let high = both.1 in
     (grind (arith, ints), grind (arith, ints))

@@ -5,7 +5,7 @@ use Rattle.pw_value.specs.declared.value.Kind.{Kind}
 use Rattle.pw_value.specs.declared.value.Kind.TheVariants.{S8, U8, S16, U16, W32}
 use Rattle.pw_inst.specs.declared.Inst.{Inst}
 use Rattle.pw_inst.specs.declared.Inst.TheVariants as i
-use Rattle.pw_inst.specs.Limits.{near_least, near_most}
+use Rattle.pw_inst.specs.Limits.{near_least, near_limit}
 use Rattle.pw_inst.specs.Registers.{help, stack_pointer, result}
 use Rattle.pw_inst.specs.Setting.{left_part, right_part}
 use Rattle.pw_inst.specs.declared.line.Line.{Line}
@@ -27,7 +27,7 @@ copied a d = word (i.Or a 0 d)
 
 -- a displacement that a memory instruction can hold
 abbrev pub is_near : ℤ → Bool
-is_near n = int_le (neg_ℤ (pos near_least)) n && int_le n (pos near_most)
+is_near n = int_le (neg_ℤ (pos near_least)) n && int_le n (pos near_limit)
 
 abbrev pub as_word : ℤ → ℕ
 as_word n = cast_unsigned w32 n

@@ -8,12 +8,16 @@ ghost use Rattle.pw_select_lines.specs.Registers.{word, copied, constant, addres
 ghost use Rattle.pw_select_lines.specs.Arithmetic.{unary_word, extension_word, with_one, with_none, binary_by, routine_of};
 ghost use Rattle.pw_select_lines.specs.Operations.{load_unit, store_unit, unit_copied, bytes_counted, unit_loop, moved, loaded_scalar, stored_scalar, stored_global, stacked_arguments, register_arguments, call_result, called, called_by_value, op_lines, web_op_lines, layout};
 
+use crate::arithmetic::{extension_word, put_binary, unary_word};
+use crate::registers::{
+    load_scalar, place_of, put, put_address, put_constant, put_copy, put_frame_address, put_loaded,
+    put_operand, put_read, put_result, put_sign, put_store, put_write, result_register,
+    store_scalar,
+};
 use pw_alloc::Place;
 use pw_flow::{BinKind, ExtKind, Op, UnKind};
 use pw_inst::{ANSWER, ARGUMENT, FIRST, HELP, Inst, Line, RESULT, RETURN_ADDRESS, SECOND, Symbol};
 use pw_items::Items;
-use crate::arithmetic::{extension_word, put_binary, unary_word};
-use crate::registers::{load_scalar, place_of, put, put_address, put_constant, put_copy, put_frame_address, put_loaded, put_operand, put_read, put_result, put_sign, put_store, put_write, result_register, store_scalar};
 use pw_value::{Kind, Name};
 use pw_webflow::WebOp;
 use smallvec::SmallVec;

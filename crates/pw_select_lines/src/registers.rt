@@ -7,7 +7,7 @@ ghost use Rattle.pw_select_lines.specs.Registers.{word, copied, is_near, long_co
 use pw_alloc::Place;
 use pw_delay::copy_symbol;
 use pw_inst::{
-    FixKind, HELP, Inst, Line, NEAR_LEAST, NEAR_MOST, RESULT, STACK_POINTER, Symbol, left_part,
+    FixKind, HELP, Inst, Line, NEAR_LEAST, NEAR_LIMIT, RESULT, STACK_POINTER, Symbol, left_part,
     right_part,
 };
 use pw_items::Items;
@@ -49,7 +49,7 @@ pub fn put_copy(out: &mut Items<Line>, a: u8, d: u8) -> Result<(), AllocError>
 fn is_near(n: i32) -> bool
     ensures { result ≡ is_near n }
 {
-    -(NEAR_LEAST as i32) <= n && n <= NEAR_MOST as i32
+    -(NEAR_LEAST as i32) <= n && n <= NEAR_LIMIT as i32
 }
 
 /// A word in a register, by its left and right parts.

@@ -24,10 +24,10 @@ use Rattle.pw_build_files.specs.FromBuild.Unbuilt.{Unbuilt}
 use Rattle.pw_build_files.specs.FromBuild.Phases.{IsLine, refused_line}
 use Rattle.pw_build_files.specs.declared.report.Report.{Report}
 use Rattle.pw_build_files.specs.Building.{Outcome}
-use Rattle.pw_build_files.specs.Outcomes.{FaultComes, IsNoWant, ObeysBuild, Reports, fault_answer}
+use Rattle.pw_build_files.specs.Outcomes.{AnswersFault, IsNoWant, ObeysBuild, Reports, fault_answer}
 use Rattle.pw_session.specs.declared.opts.SessionOpts.{SessionOpts}
 use Rattle.pw_session.specs.Builds.{BuildsTo}
-use Rattle.pw_session.specs.Bench.{BenchComes, BenchOver, IsBenchAnswer, IsBenchFound, IsBenchLine, ObeysBench, ObeysReport, StopsAs, bench_files, bench_line, made_files, stop_of}
+use Rattle.pw_session.specs.Bench.{BenchEffect, BenchOver, IsBenchAnswer, IsBenchFound, IsBenchLine, ObeysBench, ObeysReport, StopsAs, bench_files, bench_line, made_files, stop_of}
 use Rattle.pw_session.specs.Runs.{is_stop, runs_as}
 use Rattle.pw_session.proofs.BuildLemmas.{IsFaultFound, does_build}
 use Rattle.pw_session.proofs.OutputLemmas.{puts_alone, puts_none}
@@ -75,7 +75,7 @@ effect_done : (number budget : ℕ) (input : List ℕ) (outcome : Outcome) (effe
 effect_done number budget input outcome effect over = ap (λ (x : Effect). x.answer) over.2
 
 bench_found : (number : ℕ) (opts : SessionOpts) (input : List ℕ) (report : Report) (answer : Answer) (taken taken' : Option (List ℕ)) → (outcome : Outcome) × BuildsTo (bench_files number) opts.build (Ok outcome) × Reports outcome report
-    → ObeysReport number report.image.items report.digest opts.budget answer taken taken' → answer ≢ NoMemory → (effect : Effect) × BenchComes number opts input effect × (effect.answer ≡ Done)
+    → ObeysReport number report.image.items report.digest opts.budget answer taken taken' → answer ≢ NoMemory → (effect : Effect) × BenchEffect number opts input effect × (effect.answer ≡ Done)
 bench_found number opts input report answer taken taken' f run d =
     let c = (run.found d).0 in
     let h : IsImageFile f.0.image c = subst (λ (i : List ℕ). IsImageFile i c) f.2.image (run.found d).1 in
@@ -83,7 +83,7 @@ bench_found number opts input report answer taken taken' f run d =
     (prints text input, (Ok f.0, f.1, (text, (c, h, refl), refl)), refl)
 
 pub bench_built : (number : ℕ) (opts : SessionOpts) (input : List ℕ) (report : Report) (told : Told) (new : Option Told) (answer : Answer) (taken taken' : Option (List ℕ)) → told.files ≡ bench_files number → ObeysBuild opts.build (Ok report) told new
-    → IsPrintAnswer answer → ObeysReport number report.image.items report.digest opts.budget answer taken taken' → ObeysBench (BenchComes number opts input) answer taken taken'
+    → IsPrintAnswer answer → ObeysReport number report.image.items report.digest opts.budget answer taken taken' → ObeysBench (BenchEffect number opts input) answer taken taken'
 bench_built number opts input report told new answer taken taken' e obeys k run =
     let does = does_build opts.build (Ok report) told new obeys in
     record {
@@ -95,7 +95,7 @@ bench_built number opts input report told new answer taken taken' e obeys k run 
           let a = does.answers h.0 (subst (λ (f : Files). BuildsTo f opts.build h.0) (sym e) h.1) in
           let over = subst (λ (r : Result Outcome BuildFault). BenchOver number opts.budget input r effect) a.1 h.2 in
           bench_said number opts.budget input report a.0 answer taken taken' effect a.2 run over;
-      found = said_found (BenchComes number opts input) answer k
+      found = said_found (BenchEffect number opts input) answer k
           (bench_found number opts input report answer taken taken' (does.found.0, subst (λ (f : Files). BuildsTo f opts.build (Ok does.found.0)) e does.found.1, does.found.2) run);
     }
 
@@ -107,17 +107,17 @@ bench_none comes taken = record { answers = λ effect h. tt; output = λ effect 
 no_fault : Rose 0 0 → ⊥
 no_fault h = absurd (omega (arith, h))
 
-refused_obeys : (number : ℕ) (opts : SessionOpts) (input : List ℕ) (fault : BuildFault) (told : Told) (taken : Option (List ℕ)) → told.files ≡ bench_files number → ((comes : Result Outcome BuildFault) → BuildsTo told.files opts.build comes → FaultComes comes fault)
-    → IsFaultFound told.files opts.build fault → StoreCount 0 0 (fault_answer fault) → ObeysBench (BenchComes number opts input) (fault_answer fault) taken taken
+refused_obeys : (number : ℕ) (opts : SessionOpts) (input : List ℕ) (fault : BuildFault) (told : Told) (taken : Option (List ℕ)) → told.files ≡ bench_files number → ((comes : Result Outcome BuildFault) → BuildsTo told.files opts.build comes → AnswersFault comes fault)
+    → IsFaultFound told.files opts.build fault → StoreCount 0 0 (fault_answer fault) → ObeysBench (BenchEffect number opts input) (fault_answer fault) taken taken
 refused_obeys number opts input build.StoreFault told taken e each found count = absurd (no_fault count)
-refused_obeys number opts input build.NoMemory told taken e each found count = bench_none (BenchComes number opts input) taken
+refused_obeys number opts input build.NoMemory told taken e each found count = bench_none (BenchEffect number opts input) taken
 refused_obeys number opts input (build.Refused name refusal) told taken e each found count = record {
   answers = λ effect h. let one = alone effect h in ap (λ (x : Effect). x.answer) one;
   output = λ effect h. subst (λ (x : Effect). PutsOut x.output (Refused name refusal) taken taken) (sym (alone effect h)) (puts_none (Refused name refusal) taken);
   found = (answers_alone (Refused name refusal) input, (Err (build.Refused name refusal), subst (λ (f : Files). BuildsTo f opts.build (Err (build.Refused name refusal))) e found, refl), refl);
 }
   where
-    alone : (effect : Effect) → BenchComes number opts input effect → effect ≡ answers_alone (Refused name refusal) input
+    alone : (effect : Effect) → BenchEffect number opts input effect → effect ≡ answers_alone (Refused name refusal) input
     alone effect h = subst (λ (r : Result Outcome BuildFault). BenchOver number opts.budget input r effect) (each h.0 (subst (λ (f : Files). BuildsTo f opts.build h.0) (sym e) h.1)) h.2
 refused_obeys number opts input (build.LinkRefused fault) told taken e each found count = record {
   answers = λ effect h. let one = alone_linked effect h in ap (λ (x : Effect). x.answer) one;
@@ -125,11 +125,11 @@ refused_obeys number opts input (build.LinkRefused fault) told taken e each foun
   found = (answers_alone (LinkRefused fault) input, (Err (build.LinkRefused fault), subst (λ (f : Files). BuildsTo f opts.build (Err (build.LinkRefused fault))) e found, refl), refl);
 }
   where
-    alone_linked : (effect : Effect) → BenchComes number opts input effect → effect ≡ answers_alone (LinkRefused fault) input
+    alone_linked : (effect : Effect) → BenchEffect number opts input effect → effect ≡ answers_alone (LinkRefused fault) input
     alone_linked effect h = subst (λ (r : Result Outcome BuildFault). BenchOver number opts.budget input r effect) (each h.0 (subst (λ (f : Files). BuildsTo f opts.build h.0) (sym e) h.1)) h.2
 
 pub bench_refused : (number : ℕ) (opts : SessionOpts) (input : List ℕ) (unbuilt : Unbuilt) (told : Told) (new : Option Told) (taken : Option (List ℕ)) → told.files ≡ bench_files number → ObeysBuild opts.build (Err unbuilt) told new → StoreCount 0 0 (fault_answer unbuilt.fault)
-    → ObeysBench (BenchComes number opts input) (fault_answer unbuilt.fault) taken taken
+    → ObeysBench (BenchEffect number opts input) (fault_answer unbuilt.fault) taken taken
 bench_refused number opts input unbuilt told new taken e obeys count =
     let does = does_build opts.build (Err unbuilt) told new obeys in
     refused_obeys number opts input unbuilt.fault told taken e does.answers does.found count

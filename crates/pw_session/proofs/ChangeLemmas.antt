@@ -5,9 +5,9 @@ use Rattle.std.proofs.lemmas.List.{map-append}
 use Rattle.pw_io.specs.Files.{Told, after_put}
 use Rattle.pw_top_answer.specs.declared.answer.Answer.{Answer}
 use Rattle.pw_top_answer.specs.declared.answer.Answer.TheVariants.{ReadFault, WriteFault, StoreFault, NoMemory}
-use Rattle.pw_top_answer.specs.Effects.{NamedFile, IsLeft, PutFront, PutPart, PutsFiles, after_puts}
+use Rattle.pw_top_answer.specs.Effects.{NamedFile, IsLeft, PutPrefix, PutPart, PutsFiles, after_puts}
 use Rattle.pw_build_files.specs.Genuine.{IsBuiltName}
-use Rattle.pw_session.specs.Changes.{AreOwnChanges, Change, ChangeFront, ChangePart, IsChanged, MakesChanges, MakesSome, Puts, Removes, after_change, after_changes}
+use Rattle.pw_session.specs.Changes.{AreOwnChanges, Change, ChangePrefix, ChangePart, IsChanged, MakesChanges, MakesSome, Puts, Removes, after_change, after_changes}
 
 pub after_both : (told : Told) (first second : List Change) → after_changes told (first ++ second) ≡ after_changes (after_changes told first) second
 after_both told [] second = refl
@@ -15,10 +15,10 @@ after_both told (change ∷ first) second = after_both (after_change told change
 
 -- ---- all of them, and none
 
-pub front_all : (changes : List Change) (told : Told) (new : Option Told) → new ≡ Some (after_changes told changes) → ChangeFront told changes new
+pub front_all : (changes : List Change) (told : Told) (new : Option Told) → new ≡ Some (after_changes told changes) → ChangePrefix told changes new
 front_all changes told new e = record { done = changes; more = []; split = sym (append-nil changes); left = e }
 
-pub front_none : (changes : List Change) (told : Told) (new : Option Told) → new ≡ Some told → ChangeFront told changes new
+pub front_none : (changes : List Change) (told : Told) (new : Option Told) → new ≡ Some told → ChangePrefix told changes new
 front_none changes told new e = record { done = []; more = changes; split = refl; left = e }
 
 changed_none : (told : Told) (changes : List Change) (new : Option Told) → new ≡ Some told → IsChanged told changes new
@@ -47,7 +47,7 @@ changed_more told [] second new h = changed_none told second new h
 changed_more told (Puts file ∷ first) second new h = h
 changed_more told (Removes name ∷ first) second new h = h
 
-front_more : (first second : List Change) (told : Told) (new : Option Told) → ChangeFront told first new → ChangeFront told (first ++ second) new
+front_more : (first second : List Change) (told : Told) (new : Option Told) → ChangePrefix told first new → ChangePrefix told (first ++ second) new
 front_more first second told new p = record { done = p.done; more = p.more ++ second; split = ap (λ (xs : List Change). xs ++ second) p.split ∙ append_assoc p.done p.more second; left = p.left }
 
 part_more : (first second : List Change) (told : Told) (new : Option Told) → ChangePart told first new → ChangePart told (first ++ second) new
@@ -58,7 +58,7 @@ part_more first second told new p = record {
   left = changed_more (after_changes told p.done) p.more second new p.left;
 }
 
--- the answers after which a front stands
+-- the answers after which a prefix stands
 abbrev pub IsFault : Answer → Type 0
 IsFault ReadFault = Unit {0}
 IsFault WriteFault = Unit {0}
@@ -76,7 +76,7 @@ makes_stop first second _ told new h p = absurd h
 
 -- ---- one behind another
 
-front_then : (first second : List Change) (told : Told) (new : Option Told) → ChangeFront (after_changes told first) second new → ChangeFront told (first ++ second) new
+front_then : (first second : List Change) (told : Told) (new : Option Told) → ChangePrefix (after_changes told first) second new → ChangePrefix told (first ++ second) new
 front_then first second told new p = record {
   done = first ++ p.done;
   more = p.more;
@@ -108,7 +108,7 @@ puts_are_changes told (file ∷ files) = puts_are_changes (after_put told file.0
 puts_split : (files done more : List NamedFile) → files ≡ done ++ more → map Puts files ≡ map Puts done ++ map Puts more
 puts_split files done more e = ap (map Puts) e ∙ map-append Puts done more
 
-put_front : (files : List NamedFile) (told : Told) (new : Option Told) → PutFront told files new → ChangeFront told (map Puts files) new
+put_front : (files : List NamedFile) (told : Told) (new : Option Told) → PutPrefix told files new → ChangePrefix told (map Puts files) new
 put_front files told new p = record { done = map Puts p.done; more = map Puts p.more; split = puts_split files p.done p.more p.split; left = p.left ∙ ap (λ (t : Told). Some t) (puts_are_changes told p.done) }
 
 left_so : (told : Told) (files : List NamedFile) (new : Option Told) → IsLeft told files new → IsChanged told (map Puts files) new
@@ -150,7 +150,7 @@ pub own_puts : (may : List ℕ → Type 0) (files : List NamedFile) → AllByRec
 own_puts may [] own = tt
 own_puts may (file ∷ files) own = (inr own.0, own_puts may files own.1)
 
-front_own : (may : List ℕ → Type 0) (changes : List Change) (told : Told) (new : Option Told) (p : ChangeFront told changes new) → AreOwnChanges may changes → AreOwnChanges may p.done
+front_own : (may : List ℕ → Type 0) (changes : List Change) (told : Told) (new : Option Told) (p : ChangePrefix told changes new) → AreOwnChanges may changes → AreOwnChanges may p.done
 front_own may changes told new p own = own_front may p.done p.more (subst (AreOwnChanges may) p.split own)
 
 pub makes_some : (may : List ℕ → Type 0) (changes : List Change) (answer : Answer) (told : Told) (new : Option Told) → AreOwnChanges may changes → MakesChanges changes answer told new → MakesSome may answer told new

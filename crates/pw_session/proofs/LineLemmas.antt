@@ -19,7 +19,7 @@ use Rattle.pw_build_files.specs.declared.report.Opts.{Opts}
 use Rattle.pw_build_files.specs.declared.report.Report.{Report}
 use Rattle.pw_build_files.specs.Building.{Outcome, puts_of}
 use Rattle.pw_build_files.specs.Lines.{report_lines, report_text}
-use Rattle.pw_build_files.specs.Outcomes.{AnswersBuild, FaultComes, ObeysBuild, PutsSome, Reports, fault_answer}
+use Rattle.pw_build_files.specs.Outcomes.{AnswersBuild, AnswersFault, ObeysBuild, PutsSome, Reports, fault_answer}
 use Rattle.pw_build_files.specs.Driving.{outcome_lines}
 use Rattle.pw_session_script.specs.Script.{LineValue, PutText, RemoveText, BuildProgram, RunProgram}
 use Rattle.pw_session.specs.declared.opts.SessionOpts.{SessionOpts}
@@ -109,7 +109,7 @@ made_built may (Some told) new answer some = puts_some may some.0 answer told ne
 
 -- ---- a build that is not done
 
-fault_act : (s : State) (unbuilt : Unbuilt) (comes : Result Outcome BuildFault) (new : Option Told) (answer : Answer) (taken taken' : Option (List ℕ)) → FaultComes comes unbuilt.fault → PutsFiles (puts_of comes) (fault_answer unbuilt.fault) s.told new
+fault_act : (s : State) (unbuilt : Unbuilt) (comes : Result Outcome BuildFault) (new : Option Told) (answer : Answer) (taken taken' : Option (List ℕ)) → AnswersFault comes unbuilt.fault → PutsFiles (puts_of comes) (fault_answer unbuilt.fault) s.told new
     → IsLine (refused_line (modules_of s.told.files)) unbuilt.fault unbuilt.line → SaysFault unbuilt.fault unbuilt.line answer taken taken' → Does (builds_as s comes).output (builds_as s comes).changes answer s.told new taken taken'
 fault_act s unbuilt comes new answer taken taken' h puts line said = by_fault unbuilt.fault unbuilt.line h puts line said
   where
@@ -124,7 +124,7 @@ fault_act s unbuilt comes new answer taken taken' h puts line said = by_fault un
     nothing : (fault : BuildFault) (y : Answer) → comes ≡ Err fault → PutsFiles (puts_of comes) y s.told new → PutsFiles [] y s.told new
     nothing fault y e p = subst (λ (c : Result Outcome BuildFault). PutsFiles (puts_of c) y s.told new) e p
 
-    by_fault : (fault : BuildFault) (at : ℕ) → FaultComes comes fault → PutsFiles (puts_of comes) (fault_answer fault) s.told new → IsLine (refused_line (modules_of s.told.files)) fault at → SaysFault fault at answer taken taken'
+    by_fault : (fault : BuildFault) (at : ℕ) → AnswersFault comes fault → PutsFiles (puts_of comes) (fault_answer fault) s.told new → IsLine (refused_line (modules_of s.told.files)) fault at → SaysFault fault at answer taken taken'
         → Does (builds_as s comes).output (builds_as s comes).changes answer s.told new taken taken'
     by_fault build.StoreFault at c p l q = stopped StoreFault q.0 q.1 (λ more. tt) (puts_make (puts_of comes) StoreFault s.told new p)
     by_fault build.NoMemory at c p l q = stopped NoMemory q.0 q.1 (λ more. tt) (puts_make (puts_of comes) NoMemory s.told new p)
@@ -152,7 +152,7 @@ fault_made told (build.Refused name refusal) line new answer taken taken' q d pu
 fault_made told (build.LinkRefused fault) line new answer taken taken' q d puts = puts
 
 -- a refusal leaves the image
-fault_image : (s : State) (fault : BuildFault) (line : ℕ) (comes : Result Outcome BuildFault) (answer : Answer) (taken taken' : Option (List ℕ)) → FaultComes comes fault → SaysFault fault line answer taken taken' → answer ≡ Done → s.image ≡ (builds_as s comes).image
+fault_image : (s : State) (fault : BuildFault) (line : ℕ) (comes : Result Outcome BuildFault) (answer : Answer) (taken taken' : Option (List ℕ)) → AnswersFault comes fault → SaysFault fault line answer taken taken' → answer ≡ Done → s.image ≡ (builds_as s comes).image
 fault_image s build.StoreFault line comes answer taken taken' c q d = absurd (store_is_no_done (sym q.0 ∙ d))
 fault_image s build.NoMemory line comes answer taken taken' c q d = absurd (memory_is_no_done (sym q.0 ∙ d))
 fault_image s (build.Refused name refusal) line comes answer taken taken' c q d = ap (λ (r : Result Outcome BuildFault). (builds_as s r).image) (sym c)

@@ -17,7 +17,7 @@ use Rattle.pw_top_answer.specs.Outcomes.{Answers, InputCount, IsPrintAnswer, Out
 use Rattle.pw_commands.specs.MachineRun.{IsRunAnswer, run_answer, run_output, started}
 use Rattle.pw_build_files.specs.Outcomes.{HoldsImage}
 use Rattle.pw_session.specs.Outcomes.{ObeysRun}
-use Rattle.pw_session.specs.Runs.{RunComes, is_stop, ran_text, runs_as, stop_line}
+use Rattle.pw_session.specs.Runs.{RunPrints, is_stop, ran_text, runs_as, stop_line}
 use Rattle.pw_session.proofs.OutputLemmas.{GoesOn, MayStop, puts_alone, puts_stop, puts_then}
 
 -- a stop that is answered is the one that is wanted
@@ -96,27 +96,27 @@ fault_says _ e k h = absurd k
 
 -- ---- an image, or none
 
-no_image : (built : Option (List ℕ)) (budget : ℕ) (input output : List ℕ) → built ≡ None → RunComes built budget input output → output ≡ codes "no image\n"
-no_image built budget input output e h = subst (λ (b : Option (List ℕ)). RunComes b budget input output) e h
+no_image : (built : Option (List ℕ)) (budget : ℕ) (input output : List ℕ) → built ≡ None → RunPrints built budget input output → output ≡ codes "no image\n"
+no_image built budget input output e h = subst (λ (b : Option (List ℕ)). RunPrints b budget input output) e h
 
 pub run_none : (built : Option (List ℕ)) (budget : ℕ) (input : List ℕ) (answer : Answer) (t0 t1 : Option (List ℕ)) → built ≡ None → PutsOut (codes "no image\n") answer t0 t1 → ObeysRun built budget input answer t0 t1
 run_none built budget input answer t0 t1 e p = record {
   output = λ output h. subst (λ (o : List ℕ). PutsOut o answer t0 t1) (sym (no_image built budget input output e h)) p;
-  found = λ d. (codes "no image\n", subst (λ (b : Option (List ℕ)). RunComes b budget input (codes "no image\n")) (sym e) refl);
+  found = λ d. (codes "no image\n", subst (λ (b : Option (List ℕ)). RunPrints b budget input (codes "no image\n")) (sym e) refl);
 }
 
 image_output : (budget : ℕ) (input image : List ℕ) (core : Core) (answer : Answer) (t0 t1 : Option (List ℕ)) (output : List ℕ) → ((c : Contents Image) → IsImageFile image c → core ≡ image_start c.value.memory) → PutsOut (ran_text (runs_as budget input core)) answer t0 t1
-    → RunComes (Some image) budget input output → PutsOut output answer t0 t1
+    → RunPrints (Some image) budget input output → PutsOut output answer t0 t1
 image_output budget input image core answer t0 t1 output same p h =
     subst (λ (o : List ℕ). PutsOut o answer t0 t1) (ap (λ (k : Core). ran_text (runs_as budget input k)) (same h.0 h.1) ∙ sym h.2) p
 
 pub run_some : (built : Option (List ℕ)) (budget : ℕ) (input image : List ℕ) (core : Core) (answer : Answer) (t0 t1 : Option (List ℕ)) → built ≡ Some image → ((c : Contents Image) → IsImageFile image c → core ≡ image_start c.value.memory)
     → (c : Contents Image) × IsImageFile image c → PutsOut (ran_text (runs_as budget input core)) answer t0 t1 → ObeysRun built budget input answer t0 t1
 run_some built budget input image core answer t0 t1 e same found p = record {
-  output = λ output h. image_output budget input image core answer t0 t1 output same p (subst (λ (b : Option (List ℕ)). RunComes b budget input output) e h);
+  output = λ output h. image_output budget input image core answer t0 t1 output same p (subst (λ (b : Option (List ℕ)). RunPrints b budget input output) e h);
   found = λ d. (
     ran_text (runs_as budget input (image_start found.0.value.memory)),
-    subst (λ (b : Option (List ℕ)). RunComes b budget input (ran_text (runs_as budget input (image_start found.0.value.memory)))) (sym e) (found.0, found.1, refl),
+    subst (λ (b : Option (List ℕ)). RunPrints b budget input (ran_text (runs_as budget input (image_start found.0.value.memory)))) (sym e) (found.0, found.1, refl),
   );
 }
 

@@ -16,7 +16,7 @@ use Rattle.pw_session.specs.declared.session.Turn.{Turn}
 use Rattle.pw_session.specs.declared.session.Turn.TheVariants.{Over, Obeyed}
 use Rattle.pw_session.specs.Changes.{Change, MakesChanges, after_changes}
 use Rattle.pw_session.specs.Session.{Act, Acts, Effects, LinesAct, ScriptLines, SessionActs, State, bad_at, behind_act, lines_from, lines_limit, lines_of, no_line, script_answer, session_start, with_line}
-use Rattle.pw_session.specs.Outcomes.{Does, FrontActs, IsLastAnswer, IsLineAnswer, IsSessionFound, IsTaken, ObeysLine, ObeysLines, ObeysSession, TakesTurn, both_effects, turn_answer, unread}
+use Rattle.pw_session.specs.Outcomes.{Does, PrefixActs, IsLastAnswer, IsLineAnswer, IsSessionFound, IsTaken, ObeysLine, ObeysLines, ObeysSession, TakesTurn, both_effects, turn_answer, unread}
 use Rattle.pw_session.proofs.OutputLemmas.{puts_alone, puts_none, puts_stop, puts_then}
 use Rattle.pw_session.proofs.ChangeLemmas.{after_both, front_none, makes_all, makes_stop, makes_then}
 
@@ -53,7 +53,7 @@ nothing_does : (answer : Answer) (told : Told) (new : Option Told) (taken taken'
 nothing_does answer told new taken taken' e same = record { said = subst (λ (t : Option (List ℕ)). PutsOut [] answer taken t) (sym same) (puts_none answer taken); made = makes_all [] answer told new e }
 
 -- no line was obeyed
-none_acts : (opts : SessionOpts) (s : State) (lines : List LineValue) (answer : Answer) (new : Option Told) (taken taken' : Option (List ℕ)) → new ≡ Some s.told → taken' ≡ taken → FrontActs opts s lines answer new taken taken'
+none_acts : (opts : SessionOpts) (s : State) (lines : List LineValue) (answer : Answer) (new : Option Told) (taken taken' : Option (List ℕ)) → new ≡ Some s.told → taken' ≡ taken → PrefixActs opts s lines answer new taken taken'
 none_acts opts s lines answer new taken taken' e same = record {
   before = [];
   last = [];
@@ -97,7 +97,7 @@ memory_does opts s lines new taken taken' e same = record { answers = tt; does =
 -- ---- a line at which something failed
 
 -- the last line that was obeyed, of whose output the end is missing
-one_acts : (opts : SessionOpts) (s : State) (line : LineValue) (more : List LineValue) (new : Option Told) (taken taken' image : Option (List ℕ)) → ObeysLine opts s line WriteFault new taken taken' image → FrontActs opts s (line ∷ more) WriteFault new taken taken'
+one_acts : (opts : SessionOpts) (s : State) (line : LineValue) (more : List LineValue) (new : Option Told) (taken taken' image : Option (List ℕ)) → ObeysLine opts s line WriteFault new taken taken' image → PrefixActs opts s (line ∷ more) WriteFault new taken taken'
 one_acts opts s line more new taken taken' image h =
     let found = h.found tt in
     record {
@@ -390,9 +390,9 @@ lines_split : (opts : SessionOpts) (s : State) (lines before last : List LineVal
 lines_split opts s lines before last e same h acts =
     subst (λ (ls : List LineValue). LinesAct opts s ls same) (sym (append_assoc lines before last)) (subst (λ (x : Effects). LinesAct opts s (lines ++ (before ++ last)) x) h acts)
 
--- what a front of the lines that are left comes to, behind what the lines before came to
+-- what a prefix of the lines that are left comes to, behind what the lines before came to
 front_behind : (opts : SessionOpts) (told : Told) (script : List ℕ) (n offset : ℕ) (now new : Option Told) (rest t0 t1 t2 image : Option (List ℕ)) (answer : Answer) (so : SoFar opts told script n offset now rest t0 t1 image)
-    → FrontActs opts (record { told = so.at; image = image }) (lines_from n offset so.left).lines answer new t1 t2 → FrontActs opts (session_start told) (lines_of script).lines answer new t0 t2
+    → PrefixActs opts (record { told = so.at; image = image }) (lines_from n offset so.left).lines answer new t1 t2 → PrefixActs opts (session_start told) (lines_of script).lines answer new t0 t2
 front_behind opts told script n offset now new rest t0 t1 t2 image answer so f = record {
   before = so.before ++ f.before;
   last = f.last;

@@ -65,7 +65,7 @@ pub part_start : (first : Option (List ℕ)) → IfSome first (λ script. IsRead
 part_start None = tt
 part_start (Some script) = ([], refl)
 
--- an answer behind which a front was read
+-- an answer behind which a prefix was read
 abbrev IsPart : Answer → Type 0
 IsPart Done = ⊥
 IsPart _ = Unit {0}

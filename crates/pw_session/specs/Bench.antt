@@ -42,14 +42,14 @@ abbrev pub bench_functions : ℕ
 bench_functions = bench_modules * functions_of_a_module + 1
 
 -- the front of the line: the number, how many modules and functions there are, the bytes of the image and the digits of its digest
-abbrev pub bench_front : ℕ → ℕ → ℕ → List ℕ → List ℕ
-bench_front number modules size digits = parts
+abbrev pub bench_prefix : ℕ → ℕ → ℕ → List ℕ → List ℕ
+bench_prefix number modules size digits = parts
     (codes "bench " ∷ decimal number ∷ codes " modules " ∷ decimal modules ∷ codes " functions " ∷ decimal bench_functions ∷ codes " image " ∷ decimal size ∷ codes " "
     ∷ digits ∷ codes " stop " ∷ [])
 
 -- the line, which ends with how the run stopped
 abbrev pub bench_line : ℕ → List ℕ → List ℕ → Answer → List ℕ
-bench_line number image digest stop = bench_front number (bench_modules + 1) (length image) (encode_lower digest) ++ stop_text stop ++ codes "\n"
+bench_line number image digest stop = bench_prefix number (bench_modules + 1) (length image) (encode_lower digest) ++ stop_text stop ++ codes "\n"
 
 -- how the run of a program over no input stops, as an answer
 abbrev pub stop_of : ℕ → Contents Image → Answer
@@ -65,8 +65,8 @@ BenchOver number budget input (Ok outcome) effect = (text : List ℕ) × IsBench
 BenchOver number budget input (Err fault) effect = effect ≡ answers_alone (fault_answer fault) input
 
 -- what `bench` with a number comes to
-abbrev pub BenchComes : ℕ → SessionOpts → List ℕ → Effect → Type 0
-BenchComes number opts input effect =
+abbrev pub BenchEffect : ℕ → SessionOpts → List ℕ → Effect → Type 0
+BenchEffect number opts input effect =
     (comes : Result Outcome BuildFault) × BuildsTo (bench_files number) opts.build comes × BenchOver number opts.budget input comes effect
 
 -- It comes to something, also where the output had a fault then; with that answer, where it is none. Want of memory may come

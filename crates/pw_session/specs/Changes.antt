@@ -29,26 +29,26 @@ abbrev pub IsChanged : Told → List Change → Option Told → Type 0
 IsChanged told (Puts file ∷ changes) new = (new ≡ Some told) ⊎ IsSomeAnd new (λ left. (left.puts ≡ told.puts) × LeavesFile told.files left.files file.0 file.1)
 IsChanged told changes new = new ≡ Some told
 
--- a front of the changes was made, whole
-pub record ChangeFront (told : Told) (changes : List Change) (new : Option Told) : Type 0 where
+-- a prefix of the changes was made, whole
+pub record ChangePrefix (told : Told) (changes : List Change) (new : Option Told) : Type 0 where
   pub done : List Change
   pub more : List Change
   pub split : changes ≡ done ++ more
   pub left : new ≡ Some (after_changes told done)
 
--- a front of the changes was made, and of a put that follows perhaps a part
+-- a prefix of the changes was made, and of a put that follows perhaps a part
 pub record ChangePart (told : Told) (changes : List Change) (new : Option Told) : Type 0 where
   pub done : List Change
   pub more : List Change
   pub split : changes ≡ done ++ more
   pub left : IsChanged (after_changes told done) more new
 
--- The changes were made, in order, and no others; where something failed or memory ran out, a front of them.
+-- The changes were made, in order, and no others; where something failed or memory ran out, a prefix of them.
 abbrev pub MakesChanges : List Change → Answer → Told → Option Told → Type 0
 MakesChanges changes StoreFault told new = ChangePart told changes new
-MakesChanges changes ReadFault told new = ChangeFront told changes new
-MakesChanges changes WriteFault told new = ChangeFront told changes new
-MakesChanges changes NoMemory told new = ChangeFront told changes new
+MakesChanges changes ReadFault told new = ChangePrefix told changes new
+MakesChanges changes WriteFault told new = ChangePrefix told changes new
+MakesChanges changes NoMemory told new = ChangePrefix told changes new
 MakesChanges changes _ told new = new ≡ Some (after_changes told changes)
 
 -- a session puts files of modules and of builds, and removes only files that it may

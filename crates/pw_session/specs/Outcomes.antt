@@ -19,12 +19,12 @@ use Rattle.pw_session.specs.declared.opts.SessionOpts.{SessionOpts}
 use Rattle.pw_session.specs.declared.session.Turn.{Turn}
 use Rattle.pw_session.specs.declared.session.Turn.TheVariants.{Over, Obeyed}
 use Rattle.pw_session.specs.Changes.{Change, MakesChanges, after_changes}
-use Rattle.pw_session.specs.Runs.{RunComes}
+use Rattle.pw_session.specs.Runs.{RunPrints}
 use Rattle.pw_session.specs.Session.{Act, Acts, Effects, LinesAct, ScriptLines, State, bad_at, lines_from, lines_of, script_answer, session_start, with_line}
 
 -- ---- the session
 
--- The output was put out and the changes were made; where something failed or memory ran out, a front of both.
+-- The output was put out and the changes were made; where something failed or memory ran out, a prefix of both.
 pub record Does (output : List ℕ) (changes : List Change) (answer : Answer) (told : Told) (new : Option Told) (taken taken' : Option (List ℕ)) : Type 0 where
   pub said : PutsOut output answer taken taken'
   pub made : MakesChanges changes answer told new
@@ -33,9 +33,9 @@ pub record Does (output : List ℕ) (changes : List Change) (answer : Answer) (t
 abbrev pub both_effects : Effects → Effects → Effects
 both_effects first later = record { output = first.output ++ later.output; changes = first.changes ++ later.changes }
 
--- A front of lines comes to what was put out and changed: to all the changes, and to the output. That of the lines before the
--- last was put out whole, and behind it that of the last, of which after a fault of the output a front was put out.
-pub record FrontActs (opts : SessionOpts) (s : State) (lines : List LineValue) (answer : Answer) (new : Option Told) (taken taken' : Option (List ℕ)) : Type 0 where
+-- A prefix of lines comes to what was put out and changed: to all the changes, and to the output. That of the lines before the
+-- last was put out whole, and behind it that of the last, of which after a fault of the output a prefix was put out.
+pub record PrefixActs (opts : SessionOpts) (s : State) (lines : List LineValue) (answer : Answer) (new : Option Told) (taken taken' : Option (List ℕ)) : Type 0 where
   pub before : List LineValue
   pub last : List LineValue
   pub more : List LineValue
@@ -50,12 +50,12 @@ pub record FrontActs (opts : SessionOpts) (s : State) (lines : List LineValue) (
   pub said : PutsOut later.output answer between taken'
   pub made : new ≡ Some (after_changes s.told (first.changes ++ later.changes))
 
--- The lines come to something, where no fault and no want of memory was answered. Where the input had a fault, a front of
+-- The lines come to something, where no fault and no want of memory was answered. Where the input had a fault, a prefix of
 -- them comes to exactly what was put out and changed; where the output had one, to what was changed, and to an output of
 -- which the end of the last line's is missing.
 abbrev pub IsSessionFound : SessionOpts → State → List LineValue → Answer → Option Told → Option (List ℕ) → Option (List ℕ) → Type 0
-IsSessionFound opts s lines ReadFault new taken taken' = FrontActs opts s lines Done new taken taken'
-IsSessionFound opts s lines WriteFault new taken taken' = FrontActs opts s lines WriteFault new taken taken'
+IsSessionFound opts s lines ReadFault new taken taken' = PrefixActs opts s lines Done new taken taken'
+IsSessionFound opts s lines WriteFault new taken taken' = PrefixActs opts s lines WriteFault new taken taken'
 IsSessionFound opts s lines StoreFault new taken taken' = Unit {0}
 IsSessionFound opts s lines NoMemory new taken taken' = Unit {0}
 IsSessionFound opts s lines _ new taken taken' = (e : Effects) × LinesAct opts s lines e
@@ -85,7 +85,7 @@ IsSessionAnswer _ = ⊥
 abbrev pub EndsAs : List ℕ → Answer → Type 0
 EndsAs script answer = Answers (script_answer (lines_of script).bad) answer
 
--- A script that was taken to its end is read whole; else a front of it was read.
+-- A script that was taken to its end is read whole; else a prefix of it was read.
 abbrev pub LeavesScript : List ℕ → Answer → Option (List ℕ) → Type 0
 LeavesScript script Done new = new ≡ Some []
 LeavesScript script _ new = IsReadInPart script new
@@ -121,8 +121,8 @@ pub record ObeysLine (opts : SessionOpts) (s : State) (line : LineValue) (answer
 
 -- what comes of a run was put out
 pub record ObeysRun (built : Option (List ℕ)) (budget : ℕ) (input : List ℕ) (answer : Answer) (taken taken' : Option (List ℕ)) : Type 0 where
-  pub output : (output : List ℕ) → RunComes built budget input output → PutsOut output answer taken taken'
-  pub found : IsObeyed answer → (output : List ℕ) × RunComes built budget input output
+  pub output : (output : List ℕ) → RunPrints built budget input output → PutsOut output answer taken taken'
+  pub found : IsObeyed answer → (output : List ℕ) × RunPrints built budget input output
 
 -- The first line of what is left of a script was read and obeyed; or the session is over, as the lines that are left come to.
 abbrev pub TakesTurn : SessionOpts → State → ℕ → List ℕ → Turn → Option Told → Option (List ℕ) → Option (List ℕ) → Option (List ℕ) → Option (List ℕ) → Type 0

@@ -32,9 +32,9 @@ abbrev pub runs_as : ℕ → List ℕ → Core → Progress
 runs_as budget input core = run_of budget (started core input)
 
 -- what comes of the run of the image that was built last: its output and how it stopped; where there is none, a line of that
-abbrev pub RunComes : Option (List ℕ) → ℕ → List ℕ → List ℕ → Type 0
-RunComes None budget input output = output ≡ codes "no image\n"
-RunComes (Some image) budget input output = (c : Contents Image) × IsImageFile image c × (output ≡ ran_text (runs_as budget input (image_start c.value.memory)))
+abbrev pub RunPrints : Option (List ℕ) → ℕ → List ℕ → List ℕ → Type 0
+RunPrints None budget input output = output ≡ codes "no image\n"
+RunPrints (Some image) budget input output = (c : Contents Image) × IsImageFile image c × (output ≡ ran_text (runs_as budget input (image_start c.value.memory)))
 
 -- ---- inside
 

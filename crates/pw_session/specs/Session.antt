@@ -15,7 +15,7 @@ use Rattle.pw_session_script.specs.Script.{LineValue, PutText, RemoveText, Build
 use Rattle.pw_session.specs.declared.opts.SessionOpts.{SessionOpts}
 use Rattle.pw_session.specs.Builds.{BuildsTo}
 use Rattle.pw_session.specs.Changes.{Change, Puts, Removes, after_changes}
-use Rattle.pw_session.specs.Runs.{RunComes}
+use Rattle.pw_session.specs.Runs.{RunPrints}
 
 -- ---- the lines of a script
 
@@ -87,7 +87,7 @@ abbrev pub Acts : SessionOpts → State → LineValue → Act → Type 0
 Acts opts s (PutText file text) act = act ≡ changes_as s (Puts (file, text))
 Acts opts s (RemoveText file) act = act ≡ changes_as s (Removes file)
 Acts opts s BuildProgram act = (comes : Result Outcome BuildFault) × BuildsTo s.told.files opts.build comes × (act ≡ builds_as s comes)
-Acts opts s (RunProgram input) act = (output : List ℕ) × RunComes s.image opts.budget input output × (act ≡ puts_out s output)
+Acts opts s (RunProgram input) act = (output : List ℕ) × RunPrints s.image opts.budget input output × (act ≡ puts_out s output)
 
 -- ---- all lines
 

@@ -4,7 +4,7 @@ ghost use Rattle.std.specs.Prelude.{◌≡◌, ◌≤◌, ℕ, [], List, Option,
 ghost use Rattle.pw_top_answer.specs.Outcomes.{Answers, IsPrintAnswer, LeavesStreams, OutputCount, PutsOut};
 ghost use Rattle.pw_commands.specs.MachineRun.{run_answer};
 ghost use Rattle.pw_build_files.specs.Outcomes.{AreOpts, HoldsImage};
-ghost use Rattle.pw_session.specs.Bench.{BenchComes, IsBenchAnswer, IsBenchLine, ObeysBench, ObeysReport, StopsAs, bench_front, bench_functions, bench_line, bench_modules, made_files};
+ghost use Rattle.pw_session.specs.Bench.{BenchEffect, IsBenchAnswer, IsBenchLine, ObeysBench, ObeysReport, StopsAs, bench_prefix, bench_functions, bench_line, bench_modules, made_files};
 ghost use Rattle.pw_session.specs.Runs.{runs_as};
 
 use crate::opts::SessionOpts;
@@ -61,14 +61,14 @@ fn run_of_image(alloc: Global, image: &[u8], budget: u64) -> Answer
 }
 
 /// The front of the line.
-fn bench_front(
+fn bench_prefix(
     alloc: Global,
     number: u32,
     modules: u32,
     size: usize,
     digits: &str,
 ) -> Result<String, AllocError>
-    ensures { IfOk result (λ text. string_bytes text ≡ bench_front number modules size digits.now) }
+    ensures { IfOk result (λ text. string_bytes text ≡ bench_prefix number modules size digits.now) }
 {
     format!(in alloc;
         "bench {number} modules {modules} functions {BENCH_FUNCTIONS} image {size} {digits} stop "
@@ -86,7 +86,7 @@ fn bench_line(
 {
     let modules = u32::from(BENCH_MODULES) + 1;
     let digits = hex::encode(alloc, report.digest.as_slice())?;
-    let front = bench_front(alloc, number, modules, report.image.len(), digits.as_str())?;
+    let front = bench_prefix(alloc, number, modules, report.image.len(), digits.as_str())?;
     let stop = stop_text(alloc, stop)?;
     let mut text = Vec::from_slice(alloc, front.as_bytes())?;
     text.extend_from_slice(&stop)?;
@@ -139,7 +139,7 @@ fn run_report<O: Sink>(
 /// The answer is `Done`; or the refusal of the build, with the line of a refused module.
 pub fn bench<O: Sink>(alloc: Global, number: u32, opts: &SessionOpts, out: &mut O) -> Reply
     requires { AreOpts opts.now.build }
-    ensures obeys { (input : List ℕ) → ObeysBench (BenchComes number opts.now input) result.answer (O.taken out.old) (O.taken out.new) }
+    ensures obeys { (input : List ℕ) → ObeysBench (BenchEffect number opts.now input) result.answer (O.taken out.old) (O.taken out.new) }
     ensures line { IsBenchLine number result.answer result.line }
     ensures write { OutputCount (O.faults out.old) (O.faults out.new) result.answer }
     ensures streams { (input : Option (List ℕ)) → LeavesStreams result.answer input input (O.taken out.old) (O.taken out.new) }

@@ -14,7 +14,9 @@ ghost use Rattle.pw_session.specs.Outcomes.{Does, IsLineAnswer, IsObeyed, KeepsI
 
 use crate::opts::SessionOpts;
 use crate::runs::run_image;
-use pw_build_files::{BuildFault, Unbuilt, answer_of, build_uncounted, module_texts_are_no_objects, put_report};
+use pw_build_files::{
+    BuildFault, Unbuilt, answer_of, build_uncounted, module_texts_are_no_objects, put_report,
+};
 use pw_io::laws::other_files;
 use pw_io::{Sink, Store};
 use pw_session_script::Line;

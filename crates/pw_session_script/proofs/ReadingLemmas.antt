@@ -157,7 +157,7 @@ pub head_long : (first now : Option (List ℕ)) (head : List ℕ) (place : ℕ) 
 head_long None now head place inv e = tt
 head_long (Some rest) now head place inv e = long_told rest head place now inv e
 
--- ---- a front was read
+-- ---- a prefix was read
 
 -- what a source gave
 pub takes_so : (now new : Option (List ℕ)) (r s : Option ℕ) → r ≡ s → TakesNext now new (Ok r) → TakesNext now new (Ok s)

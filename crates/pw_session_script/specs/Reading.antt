@@ -32,7 +32,7 @@ ScriptCount before now (Err BadLine) = now ≡ before
 ScriptCount before now (Err ReadFault) = Rose before now
 ScriptCount before now (Err NoMemory) = now ≡ before
 
--- the input tells what is left of its bytes, of which a front was read
+-- the input tells what is left of its bytes, of which a prefix was read
 abbrev pub IsReadInPart : List ℕ → Option (List ℕ) → Type 0
 IsReadInPart rest new = IsSomeAnd new (λ later. (front : List ℕ) × (rest ≡ front ++ later))
 

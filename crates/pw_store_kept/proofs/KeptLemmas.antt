@@ -5,7 +5,7 @@ use Rattle.std.specs.Prelude.{IfOk, IfSome, Vec}
 use Rattle.std.specs.Option.{option_map}
 use Rattle.std.specs.declared.alloc.Global.{Global}
 use Rattle.std.specs.FinMap as finite
-use Rattle.pw_io.specs.Files.{Told, Keeps, ReadsFront, front_of}
+use Rattle.pw_io.specs.Files.{Told, Keeps, ReadsPrefix, prefix_of}
 use Rattle.pw_io.specs.declared.StoreError.{StoreError}
 use Rattle.pw_files.specs.Contents.{value_of}
 use Rattle.pw_object.specs.Reading.{object_file_at}
@@ -53,11 +53,11 @@ kept_end (Some told) modules i kept so_far h =
 
 -- ---- what is kept under a name
 
-counted_is : (file : Option (List ℕ)) → option_map (front_of kept_limit) file ≡ counted file
+counted_is : (file : Option (List ℕ)) → option_map (prefix_of kept_limit) file ≡ counted file
 counted_is None = refl
 counted_is (Some bytes) = refl
 
-pub bytes_kept : (old : Option Told) (result : Result (Option (Vec ℕ Global)) StoreError) (name : List ℕ) → IfOk result (λ file. ReadsFront old name kept_limit file) → IfSome old (λ told. IfOk result (λ found. option_map (λ bytes. bytes.items) found ≡ kept_bytes told.files name))
+pub bytes_kept : (old : Option Told) (result : Result (Option (Vec ℕ Global)) StoreError) (name : List ℕ) → IfOk result (λ file. ReadsPrefix old name kept_limit file) → IfSome old (λ told. IfOk result (λ found. option_map (λ bytes. bytes.items) found ≡ kept_bytes told.files name))
 bytes_kept None result name h = tt
 bytes_kept (Some told) (Ok file) name h = h ∙ counted_is (finite.get told.files name)
 bytes_kept (Some told) (Err error) name h = tt

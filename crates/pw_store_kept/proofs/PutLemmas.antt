@@ -78,7 +78,7 @@ put_stopped xs ys error (Some told) new h = put_stopped_told xs ys error told ne
 
 -- ---- a loop over files
 
--- a front of the files was put
+-- a prefix of the files was put
 pub record PutSoFar (told : Told) (files left : List NamedFile) (now : Option Told) : Type 0 where
   pub done : List NamedFile
   pub split : files ≡ done ++ left

@@ -2,7 +2,7 @@
 use Rattle.std.specs.Prelude.{ℕ, Bool, false, List, Option, Some, None, Result, Ok, Err}
 use Rattle.std.specs.Str.{bytes_eq}
 use Rattle.std.specs.FinMap as finite
-use Rattle.pw_io.specs.Files.{Files, front_of}
+use Rattle.pw_io.specs.Files.{Files, prefix_of}
 use Rattle.pw_value.specs.Limits.{kept_limit}
 use Rattle.pw_files.specs.Contents.{value_of}
 use Rattle.pw_object.specs.declared.object.Object.{Object}
@@ -12,7 +12,7 @@ use Rattle.pw_store_modules.specs.FileNames.{object_name}
 -- of a kept file so many bytes are read, and count as the file
 abbrev pub counted : Option (List ℕ) → Option (List ℕ)
 counted None = None
-counted (Some bytes) = Some (front_of kept_limit bytes)
+counted (Some bytes) = Some (prefix_of kept_limit bytes)
 
 -- the bytes of a kept file, as far as they count
 abbrev pub kept_bytes : Files → List ℕ → Option (List ℕ)

@@ -12,7 +12,7 @@ use Rattle.std.proofs.lemmas.List.{take-append-drop}
 use Rattle.std.proofs.lemmas.Slice.Eq.{bytes_eq-Decides}
 use Rattle.std.proofs.lemmas.Bool.Decides.{nat_tests, not_from_Decides}
 use Rattle.std.proofs.Math.Seq.{take-append_seam, drop-append_seam}
-use Rattle.pw_io.specs.Files.{Files, front_of}
+use Rattle.pw_io.specs.Files.{Files, prefix_of}
 use Rattle.pw_io.proofs.FileMaps.{get-insert_same, get-insert_other, keys-order, keys-exact}
 use Rattle.pw_store_modules.specs.FileNames.{text_ending, text_name}
 use Rattle.pw_store_modules.specs.Modules.{stem, is_module_name, is_module_file, HoldsModule, with_module, module_map, text_read}
@@ -91,13 +91,13 @@ stays modules key value name text g own =
 -- ---- one file
 
 abbrev changed : Files → List ℕ → Bool → Option (List ℕ) → Files
-changed modules file b found = cond b (option_map_or (λ text. finite.insert modules (stem file) (front_of text_read text)) found modules) modules
+changed modules file b found = cond b (option_map_or (λ text. finite.insert modules (stem file) (prefix_of text_read text)) found modules) modules
 
 -- the text of a module, from its file
-held : (files : Files) (file text : List ℕ) → is_module_file file ≡ true → finite.get files file ≡ Some text → HoldsModule files (stem file) (front_of text_read text)
+held : (files : Files) (file text : List ℕ) → is_module_file file ≡ true → finite.get files file ≡ Some text → HoldsModule files (stem file) (prefix_of text_read text)
 held files file text e found = record {
   named = (file_split file e).1;
-  reads = ap (λ (f : List ℕ). option_map (front_of text_read) (finite.get files f)) (sym (file_split file e).0) ∙ ap (option_map (front_of text_read)) found;
+  reads = ap (λ (f : List ℕ). option_map (prefix_of text_read) (finite.get files f)) (sym (file_split file e).0) ∙ ap (option_map (prefix_of text_read)) found;
 }
 
 changed_holds : (files modules : Files) (file : List ℕ) (b : Bool) (found : Option (List ℕ)) → is_module_file file ≡ b → finite.get files file ≡ found
@@ -110,7 +110,7 @@ changed_holds files modules file true (Some own) e f name text g =
     (λ new.
     let h : HoldsModule files (stem file) text = subst (HoldsModule files (stem file)) new.1 (held files file own e f) in
     inr (subst (λ (n : List ℕ). HoldsModule files n text) (sym new.0) h))
-    (inserted modules (stem file) (front_of text_read own) name text g)
+    (inserted modules (stem file) (prefix_of text_read own) name text g)
 
 -- the one text that the files hold under a name
 one_text : (files : Files) (name first second : List ℕ) → HoldsModule files name first → HoldsModule files name second → first ≡ second
@@ -121,8 +121,8 @@ changed_stays : (files modules : Files) (file : List ℕ) (b : Bool) (found : Op
 changed_stays files modules file false found e f name text h g = g
 changed_stays files modules file true None e f name text h g = g
 changed_stays files modules file true (Some own) e f name text h g =
-    stays modules (stem file) (front_of text_read own) name text g
-    (λ same. one_text files (stem file) (front_of text_read own) text (held files file own e f) (subst (λ (n : List ℕ). HoldsModule files n text) same h))
+    stays modules (stem file) (prefix_of text_read own) name text g
+    (λ same. one_text files (stem file) (prefix_of text_read own) text (held files file own e f) (subst (λ (n : List ℕ). HoldsModule files n text) same h))
 
 changed_has : (files modules : Files) (file : List ℕ) (b : Bool) (found : Option (List ℕ)) → is_module_file file ≡ b → finite.get files file ≡ found
     → (name text : List ℕ) → HoldsModule files name text → file ≡ text_name name → finite.get (changed modules file b found) name ≡ Some text
@@ -131,11 +131,11 @@ changed_has files modules file false found e f name text h same = absurd (no_fil
     no_file : (b : Bool) → b ≡ false → b ≡ true → ⊥
     no_file b p q = cc
 changed_has files modules file true None e f name text h same =
-    absurd (none_is_some text (ap (option_map (front_of text_read)) (sym f) ∙ ap (λ (n : List ℕ). option_map (front_of text_read) (finite.get files n)) same ∙ h.reads))
+    absurd (none_is_some text (ap (option_map (prefix_of text_read)) (sym f) ∙ ap (λ (n : List ℕ). option_map (prefix_of text_read) (finite.get files n)) same ∙ h.reads))
 changed_has files modules file true (Some own) e f name text h same =
     let key : stem file ≡ name = ap stem same ∙ stem_of name in
-    let value : front_of text_read own ≡ text = one_text files name (front_of text_read own) text (subst (λ (n : List ℕ). HoldsModule files n (front_of text_read own)) key (held files file own e f)) h in
-    ap (λ (n : List ℕ). finite.get (finite.insert modules (stem file) (front_of text_read own)) n) (sym key) ∙ get-insert_same modules (stem file) (front_of text_read own) ∙ ap Some value
+    let value : prefix_of text_read own ≡ text = one_text files name (prefix_of text_read own) text (subst (λ (n : List ℕ). HoldsModule files n (prefix_of text_read own)) key (held files file own e f)) h in
+    ap (λ (n : List ℕ). finite.get (finite.insert modules (stem file) (prefix_of text_read own)) n) (sym key) ∙ get-insert_same modules (stem file) (prefix_of text_read own) ∙ ap Some value
 
 -- ---- all files
 
@@ -163,7 +163,7 @@ complete files modules (file ∷ names) name text h within =
     (λ later. complete files (with_module files modules file) names name text h later)
     (first_or_later file names (text_name name) within)
 
-is_there : (o : Option (List ℕ)) (text : List ℕ) → option_map (front_of text_read) o ≡ Some text → IsSome o
+is_there : (o : Option (List ℕ)) (text : List ℕ) → option_map (prefix_of text_read) o ≡ Some text → IsSome o
 is_there None text e = cc
 is_there (Some own) text e = refl
 

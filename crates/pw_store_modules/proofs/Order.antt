@@ -13,7 +13,7 @@ use Rattle.std.specs.FinMap.Entries.{put, by_order}
 use Rattle.std.specs.FinMap.{entries-insert, len-entries, len-empty, slice_cmp-IsAntisymmetric, nat_cmp-IsAntisymmetric}
 use Rattle.std.proofs.lemmas.Cmp.{nat_list_cmp_total, tied_itself}
 use Rattle.std.proofs.lemmas.List.Elements.{All-contains_itself, All-weaker, recursion_from_All}
-use Rattle.pw_io.specs.Files.{Files, front_of}
+use Rattle.pw_io.specs.Files.{Files, prefix_of}
 use Rattle.pw_io.proofs.FileMaps.{keys-order, keys-exact}
 use Rattle.pw_store_modules.specs.FileNames.{text_name}
 use Rattle.pw_store_modules.specs.Modules.{Source, stem, is_module_file, with_module, module_map, modules_of, names_of_modules, text_read}
@@ -43,21 +43,21 @@ there : (o : Option (List ℕ)) → IsSome o → (text : List ℕ) × (o ≡ Som
 there None h = cc
 there (Some text) h = (text, refl)
 
-sources_first : (files : Files) (file text : List ℕ) (rest : List (List ℕ)) → finite.get files file ≡ Some text → sources_of files (file ∷ rest) ≡ (stem file, front_of text_read text) ∷ sources_of files rest
-sources_first files file text rest e = ap (λ (o : Option (List ℕ)). cons_option (option_map (λ (t : List ℕ). (stem file, front_of text_read t)) o) (sources_of files rest)) e
+sources_first : (files : Files) (file text : List ℕ) (rest : List (List ℕ)) → finite.get files file ≡ Some text → sources_of files (file ∷ rest) ≡ (stem file, prefix_of text_read text) ∷ sources_of files rest
+sources_first files file text rest e = ap (λ (o : Option (List ℕ)). cons_option (option_map (λ (t : List ℕ). (stem file, prefix_of text_read t)) o) (sources_of files rest)) e
 
 insert_behind : (x : List ℕ) (xs : List (List ℕ)) (p : ℕ) (file : List ℕ) → insert (x ∷ xs) (1 + p) file ≡ x ∷ insert xs p file
 insert_behind x xs p file = let one : 1 + p ≡ suc p = omega arith in ap (λ (i : ℕ). insert (x ∷ xs) i file) one
 
 -- a file in its place puts its module into its place
 placed_put : (files : Files) (file text : List ℕ) (names acc : List (List ℕ)) → is_module_file file ≡ true → finite.get files file ≡ Some text → AllByRecursion (Stands files (file ∷ names)) acc
-    → sources_of files (placed acc file) ≡ put by_bytes (stem file) (front_of text_read text) (sources_of files acc)
+    → sources_of files (placed acc file) ≡ put by_bytes (stem file) (prefix_of text_read text) (sources_of files acc)
 placed_put files file text names [] is found all = sources_first files file text [] found
 placed_put files file text names (x ∷ xs) is found ((own, some, (less, later)), all) =
     let k = stem file in
-    let v = front_of text_read text in
+    let v = prefix_of text_read text in
     let t = there (finite.get files x) some in
-    let e : Source = (stem x, front_of text_read t.0) in
+    let e : Source = (stem x, prefix_of text_read t.0) in
     let s = sources_of files xs in
     let p = position_or_len (is_file_before file) xs in
     elim (by_bytes k (stem x)) as (λ r. by_bytes k (stem x) ≡ r → sources_of files (insert (x ∷ xs) (cond (not (is_lt r)) (1 + p) 0) file) ≡ by_order r ((k, v) ∷ e ∷ s) ((stem x, v) ∷ s) (e ∷ put by_bytes k v s)) [
@@ -83,14 +83,14 @@ one_fewer files name names (x ∷ xs) ((own, some, (less, later)), all) = ((own,
 stepped : (files modules : Files) (file : List ℕ) (names acc : List (List ℕ)) (b : Bool) (text : List ℕ) → is_module_file file ≡ b → finite.get files file ≡ Some text
     → AllByRecursion (λ name. by_bytes file name ≡ Less) names → AllByRecursion (Stands files (file ∷ names)) acc → sources_of files acc ≡ finite.entries modules
     → AllByRecursion (Stands files names) (cond b (placed acc file) acc)
-    × (sources_of files (cond b (placed acc file) acc) ≡ finite.entries (cond b (option_map_or (λ t. finite.insert modules (stem file) (front_of text_read t)) (finite.get files file) modules) modules))
+    × (sources_of files (cond b (placed acc file) acc) ≡ finite.entries (cond b (option_map_or (λ t. finite.insert modules (stem file) (prefix_of text_read t)) (finite.get files file) modules) modules))
 stepped files modules file names acc false text e found less all same = (one_fewer files file names acc all, same)
 stepped files modules file names acc true text e found less all same = (
   all_insert (Stands files names) acc (position_or_len (is_file_before file) acc) file (e, is_some_of found, less) (one_fewer files file names acc all),
   placed_put files file text names acc e found all
-      ∙ ap (put by_bytes (stem file) (front_of text_read text)) same
-      ∙ sym (entries-insert nat_list_cmp_total modules (stem file) (front_of text_read text))
-      ∙ sym (ap (λ (o : Option (List ℕ)). finite.entries (option_map_or (λ t. finite.insert modules (stem file) (front_of text_read t)) o modules)) found),
+      ∙ ap (put by_bytes (stem file) (prefix_of text_read text)) same
+      ∙ sym (entries-insert nat_list_cmp_total modules (stem file) (prefix_of text_read text))
+      ∙ sym (ap (λ (o : Option (List ℕ)). finite.entries (option_map_or (λ t. finite.insert modules (stem file) (prefix_of text_read t)) o modules)) found),
 )
   where
     is_some_of : {o : Option (List ℕ)} → o ≡ Some text → IsSome o

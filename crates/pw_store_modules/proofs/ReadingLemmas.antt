@@ -5,7 +5,7 @@ use Rattle.std.specs.Option.{option_map}
 use Rattle.std.specs.List.{cons_option}
 use Rattle.std.proofs.lemmas.List.Elements.{All-map, All-weaker}
 use Rattle.std.specs.FinMap as finite
-use Rattle.pw_io.specs.Files.{Files, Told, Keeps, front_of}
+use Rattle.pw_io.specs.Files.{Files, Told, Keeps, prefix_of}
 use Rattle.pw_io.specs.declared.StoreError.{StoreError}
 use Rattle.std.specs.declared.alloc.Global.{Global}
 use Rattle.pw_store_modules.specs.declared.modules.Module.{Module}
@@ -20,16 +20,16 @@ take_take_same zero xs = refl
 take_take_same (suc n) [] = refl
 take_take_same (suc n) (x ∷ xs) = ap (λ ys. x ∷ ys) (take_take_same n xs)
 
-front_of_front : (n : ℕ) (bytes : List ℕ) → take n (front_of n bytes) ≡ front_of n bytes
-unfolding front_of
+front_of_front : (n : ℕ) (bytes : List ℕ) → take n (prefix_of n bytes) ≡ prefix_of n bytes
+unfolding prefix_of
 front_of_front n bytes = take_take_same n bytes
 
 -- a text that was read and cut is the module's
-pub read_and_cut : (most : ℕ) (o : Option (List ℕ)) (text cut name own : List ℕ) → Some text ≡ option_map (front_of most) o → cut ≡ take most text → name ≡ own → ◌≡◌ {A = Option Source} (Some (name, cut)) (option_map (λ t. (own, front_of most t)) o)
+pub read_and_cut : (most : ℕ) (o : Option (List ℕ)) (text cut name own : List ℕ) → Some text ≡ option_map (prefix_of most) o → cut ≡ take most text → name ≡ own → ◌≡◌ {A = Option Source} (Some (name, cut)) (option_map (λ t. (own, prefix_of most t)) o)
 read_and_cut most None text cut name own e f g = cc
 read_and_cut most (Some t) text cut name own e f g =
-    let same : text ≡ front_of most t = cc in
-    let whole : cut ≡ front_of most t = f ∙ ap (take most) same ∙ front_of_front most t in
+    let same : text ≡ prefix_of most t = cc in
+    let whole : cut ≡ prefix_of most t = f ∙ ap (take most) same ∙ front_of_front most t in
     let P : List ℕ → List ℕ → Option Source = λ n c. Some (n, c) in ap (λ n. P n cut) g ∙ ap (P own) whole
 
 joined : (o : Option Source) (sources : List Source) → cons_option o sources ≡ option_to_list o ++ sources

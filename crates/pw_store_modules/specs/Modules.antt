@@ -5,7 +5,7 @@ use Rattle.std.specs.List.{list_all}
 use Rattle.std.specs.Char.{is_ascii_alphanumeric}
 use Rattle.std.specs.Str.{bytes_eq}
 use Rattle.std.specs.FinMap as finite
-use Rattle.pw_io.specs.Files.{Files, front_of}
+use Rattle.pw_io.specs.Files.{Files, prefix_of}
 use Rattle.pw_token.specs.Limits.{text_limit}
 use Rattle.pw_store_modules.specs.FileNames.{text_ending, text_name}
 use Rattle.pw_store_modules.specs.Limits.{module_name_limit}
@@ -36,7 +36,7 @@ IsModuleFile file = is_module_file file ≡ true
 -- The files hold a module of this name with this text: that of its file, as far as texts are read.
 pub record HoldsModule (files : Files) (name text : List ℕ) : Type 0 where
   pub named : is_module_name name ≡ true
-  pub reads : option_map (front_of text_read) (finite.get files (text_name name)) ≡ Some text
+  pub reads : option_map (prefix_of text_read) (finite.get files (text_name name)) ≡ Some text
 
 -- a map from the names of modules to their texts
 abbrev pub Texts : Type 0
@@ -48,7 +48,7 @@ Texts = Files
 -- with the module of a file, where there is one
 abbrev pub with_module : Files → Texts → List ℕ → Texts
 with_module files modules file =
-    if is_module_file file then option_map_or (λ text. finite.insert modules (stem file) (front_of text_read text)) (finite.get files file) modules else modules
+    if is_module_file file then option_map_or (λ text. finite.insert modules (stem file) (prefix_of text_read text)) (finite.get files file) modules else modules
 
 -- the modules of all files, by their names
 unfoldable pub module_map : Files → Texts

@@ -4,7 +4,7 @@ use Rattle.std.specs.Option.{option_map}
 use Rattle.std.specs.List.{position_or_len, filter_map}
 use Rattle.std.specs.FinMap as finite
 use Rattle.pw_value.specs.Names.{is_before}
-use Rattle.pw_io.specs.Files.{Files, front_of}
+use Rattle.pw_io.specs.Files.{Files, prefix_of}
 use Rattle.pw_store_modules.specs.Modules.{Source, stem, is_module_file, text_read}
 
 -- the one module stands before the other
@@ -23,7 +23,7 @@ abbrev pub module_files : List (List ℕ) → List (List ℕ)
 module_files names = fold with_file [] names
 
 abbrev pub source_of : Files → List ℕ → Option Source
-source_of files file = option_map (λ text. (stem file, front_of text_read text)) (finite.get files file)
+source_of files file = option_map (λ text. (stem file, prefix_of text_read text)) (finite.get files file)
 
 abbrev pub sources_of : Files → List (List ℕ) → List Source
 sources_of files names = filter_map (source_of files) names

@@ -10,12 +10,12 @@ ghost use Rattle.pw_store_modules.specs.Views.{source};
 
 use crate::modules::{Module, module_files, stem};
 use pw_io::{Store, StoreError};
-use pw_token::MAX_TEXT;
+use pw_token::TEXT_LIMIT;
 use pw_value::Name;
 use std::alloc::{AllocError, Global};
 
 /// The greatest count of bytes that is read of a module's text: one more than a text may have.
-const TEXT_READ: usize = MAX_TEXT + 1;
+const TEXT_READ: usize = TEXT_LIMIT + 1;
 
 /// Reads a module's text.
 fn read_source<S: Store>(

@@ -11,4 +11,4 @@ mod uses;
 mod weights;
 
 pub use making::summarise;
-pub use weights::{DEEPEST, MOST, limits_of_weights};
+pub use weights::{DEEPEST, WEIGHT_LIMIT, limits_of_weights};

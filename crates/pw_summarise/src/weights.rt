@@ -14,14 +14,14 @@ use pw_value::Name;
 use std::alloc::{AllocError, Global};
 
 /// The greatest weight that a summary holds.
-pub const MOST: u64 = WEIGHT_BOUND - 1;
+pub const WEIGHT_LIMIT: u64 = WEIGHT_BOUND - 1;
 
 /// The depth from which on deeper loops weigh no more.
 pub const DEEPEST: u32 = 4;
 
 /// The limits are those that the definitions speak of.
 pub fn limits_of_weights()
-    ensures most { MOST ≡ most }
+    ensures most { WEIGHT_LIMIT ≡ most }
     ensures deepest { DEEPEST ≡ deepest }
 {}
 
@@ -38,7 +38,11 @@ fn with_weight(sum: u64, weight: u64) -> u64
     ensures { result ≡ sum_with sum weight }
 {
     let sum = sum.saturating_add(weight);
-    if sum < MOST { sum } else { MOST }
+    if sum < WEIGHT_LIMIT {
+        sum
+    } else {
+        WEIGHT_LIMIT
+    }
 }
 
 /// Where a global stands, by halves.

@@ -5,8 +5,8 @@ use Rattle.pw_fields.specs.Fields.{◌>>=◌, after, done, repeated}
 use Rattle.pw_fields.specs.FieldFaults.{Fails}
 use Rattle.pw_fields.specs.FieldFrame.{here, ended}
 use Rattle.pw_fields.specs.FieldNames.{name_at}
-use Rattle.pw_fields.specs.declared.fault.FieldError.{FieldError}
-use Rattle.pw_fields.specs.declared.fault.FieldError.TheVariants as field
+use Rattle.pw_fields.specs.declared.fault.FieldFault.{FieldFault}
+use Rattle.pw_fields.specs.declared.fault.FieldFault.TheVariants as field
 use Rattle.pw_value.specs.declared.value.Kind.{Kind}
 use Rattle.pw_value.specs.declared.program_names.StartName.TheVariants.{Allowed, Refused}
 use Rattle.pw_files.specs.Rising.{rising_at}
@@ -118,12 +118,12 @@ found_in_parts names late bytes m first d count n second u rest name s e1 e2 en 
     ∙ passes (used_at names (length d.functions) second) (end_at names late m (d, count)) u rest (ap (λ k. used_at names k second) (sym en) ∙ e3)
     ∙ ap (λ x. ended (late x count) (contents names x) rest) (sym (es ∙ ap (λ x. whole_summary x d u) em))
 
-pub fault_in_name : (names : List (List ℕ)) (late : Summary → ℕ → Option ℕ) (bytes : List ℕ) (e : FieldError) → Fails e (name_at names bytes) → Fails e (fields_at names late bytes)
+pub fault_in_name : (names : List (List ℕ)) (late : Summary → ℕ → Option ℕ) (bytes : List ℕ) (e : FieldFault) → Fails e (name_at names bytes) → Fails e (fields_at names late bytes)
 unfolding fields_at
 fault_in_name names late bytes field.NoMemory h = tt
 fault_in_name names late bytes (field.Fault left) h = stops (name_at names bytes) (behind_name names late) left h
 
-pub fault_in_defined : (names : List (List ℕ)) (late : Summary → ℕ → Option ℕ) (bytes m first : List ℕ) (e : FieldError)
+pub fault_in_defined : (names : List (List ℕ)) (late : Summary → ℕ → Option ℕ) (bytes m first : List ℕ) (e : FieldFault)
     → name_at names bytes ≡ Ok (m, first) → Fails e (defined_at names first) → Fails e (fields_at names late bytes)
 unfolding fields_at
 fault_in_defined names late bytes m first field.NoMemory e1 h = tt
@@ -131,7 +131,7 @@ fault_in_defined names late bytes m first (field.Fault left) e1 h =
     passes (name_at names bytes) (behind_name names late) m first e1
     ∙ stops (defined_at names first) (behind_defined names late m) left h
 
-pub fault_in_used : (names : List (List ℕ)) (late : Summary → ℕ → Option ℕ) (bytes m first : List ℕ) (d : Defined) (count n : ℕ) (second : List ℕ) (e : FieldError)
+pub fault_in_used : (names : List (List ℕ)) (late : Summary → ℕ → Option ℕ) (bytes m first : List ℕ) (d : Defined) (count n : ℕ) (second : List ℕ) (e : FieldFault)
     → name_at names bytes ≡ Ok (m, first) → defined_at names first ≡ Ok ((d, count), second) → n ≡ length d.functions → Fails e (used_at names n second) → Fails e (fields_at names late bytes)
 unfolding fields_at
 fault_in_used names late bytes m first d count n second field.NoMemory e1 e2 en h = tt

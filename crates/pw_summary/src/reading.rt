@@ -3,7 +3,7 @@
 ghost use Rattle.std.specs.Prelude.{◌≡◌, ◌≢◌, ◌+◌, ◌<◌, ◌^◌, ℕ, Option, length, option_map, None, IfOk, IfErr, Ok};
 ghost use Rattle.std.specs.List.{flat_map};
 ghost use Rattle.pw_fields.specs.Fields.{items_at, repeated, text};
-ghost use Rattle.pw_fields.specs.FieldFaults.{Gives, GivesFile, Fails};
+ghost use Rattle.pw_fields.specs.FieldFaults.{AnswersField, GivesFile, Fails};
 ghost use Rattle.pw_fields.specs.FieldFrame.{ended};
 ghost use Rattle.pw_files.specs.Rising.{next_key, rising_at};
 ghost use Rattle.pw_files.specs.Contents.{broken_at, value_of};
@@ -14,7 +14,7 @@ ghost use Rattle.pw_summary.specs.Reading.{global_at, weight_at, reference_at, u
 use crate::names::{function_names, global_names, used_names};
 use crate::summary::{Defined, Summary, Used, Uses, summary_of};
 use pw_fields::names::{find_unused, read_name};
-use pw_fields::{FieldError, read_flag, read_text, read_u32, read_u64};
+use pw_fields::{FieldFault, read_flag, read_text, read_u32, read_u64};
 use pw_files::format::{Format, read_value};
 use pw_files::kinds::read_kind;
 use pw_files::late::check_module;
@@ -40,15 +40,15 @@ pub fn bound_of_weights()
 
 /// A weight.
 #[tactic(auto, unfolding(crate::specs::Reading::weight_at))]
-fn read_weight(bytes: &[u8]) -> Result<(u64, &[u8]), FieldError>
-    ensures found { Gives (λ x. (x.0, x.1.now)) result (weight_at bytes.now) }
-    ensures no_memory { IfErr result (λ e. e ≢ FieldError.NoMemory) }
+fn read_weight(bytes: &[u8]) -> Result<(u64, &[u8]), FieldFault>
+    ensures found { AnswersField (λ x. (x.0, x.1.now)) result (weight_at bytes.now) }
+    ensures no_memory { IfErr result (λ e. e ≢ FieldFault.NoMemory) }
 {
     let (weight, rest) = read_u64(bytes)?;
     if weight < WEIGHT_BOUND {
         Ok((weight, rest))
     } else {
-        Err(FieldError::Fault { left: bytes.len() })
+        Err(FieldFault::Fault { left: bytes.len() })
     }
 }
 
@@ -59,8 +59,8 @@ fn read_global<'a, 'b>(
     names: &'b [Name],
     before: Option<&Name>,
     bytes: &'a [u8],
-) -> Result<((&'b Name, Shape, Option<Kind>, bool), &'a [u8]), FieldError>
-    ensures { Gives (λ x. ((x.0.0.now, x.0.1, x.0.2, x.0.3), x.1.now)) result (global_at names.now (option_map (λ n. n.now) before.entry) bytes.now) }
+) -> Result<((&'b Name, Shape, Option<Kind>, bool), &'a [u8]), FieldFault>
+    ensures { AnswersField (λ x. ((x.0.0.now, x.0.1, x.0.2, x.0.3), x.1.now)) result (global_at names.now (option_map (λ n. n.now) before.entry) bytes.now) }
 {
     let (name, rest) = read_name_above(names, StartName::Allowed, before, bytes)?;
     let (shape, rest) = read_text(alloc, rest)?;
@@ -75,9 +75,9 @@ fn read_reference<'a, 'b>(
     names: &'b [Name],
     before: Option<&Name>,
     bytes: &'a [u8],
-) -> Result<((&'b Name, u64, u64), &'a [u8]), FieldError>
-    ensures found { Gives (λ x. ((x.0.0.now, x.0.1, x.0.2), x.1.now)) result (reference_at names.now (option_map (λ n. n.now) before.entry) bytes.now) }
-    ensures no_memory { IfErr result (λ e. e ≢ FieldError.NoMemory) }
+) -> Result<((&'b Name, u64, u64), &'a [u8]), FieldFault>
+    ensures found { AnswersField (λ x. ((x.0.0.now, x.0.1, x.0.2), x.1.now)) result (reference_at names.now (option_map (λ n. n.now) before.entry) bytes.now) }
+    ensures no_memory { IfErr result (λ e. e ≢ FieldFault.NoMemory) }
 {
     let (name, rest) = read_name_above(names, StartName::Allowed, before, bytes)?;
     let (reads, rest) = read_weight(rest)?;
@@ -91,8 +91,8 @@ fn read_global_items<'a>(
     names: &[Name],
     count: u32,
     bytes: &'a [u8],
-) -> Result<(Items<(Name, Shape, Option<Kind>, bool)>, &'a [u8]), FieldError>
-    ensures { Gives (λ x. (x.0, x.1.now)) result (items_at (global_at names.now) (next_key (λ g. g.0)) count None bytes.now) }
+) -> Result<(Items<(Name, Shape, Option<Kind>, bool)>, &'a [u8]), FieldFault>
+    ensures { AnswersField (λ x. (x.0, x.1.now)) result (items_at (global_at names.now) (next_key (λ g. g.0)) count None bytes.now) }
 {
     let mut items = Items::new(alloc);
     let mut rest = bytes;
@@ -112,8 +112,8 @@ fn read_reference_items<'a>(
     names: &[Name],
     count: u32,
     bytes: &'a [u8],
-) -> Result<(Items<(Name, u64, u64)>, &'a [u8]), FieldError>
-    ensures { Gives (λ x. (x.0, x.1.now)) result (items_at (reference_at names.now) (next_key (λ r. r.0)) count None bytes.now) }
+) -> Result<(Items<(Name, u64, u64)>, &'a [u8]), FieldFault>
+    ensures { AnswersField (λ x. (x.0, x.1.now)) result (items_at (reference_at names.now) (next_key (λ r. r.0)) count None bytes.now) }
 {
     let mut items = Items::new(alloc);
     let mut rest = bytes;
@@ -133,8 +133,8 @@ fn read_global_list<'a>(
     alloc: Global,
     names: &[Name],
     bytes: &'a [u8],
-) -> Result<(Items<(Name, Shape, Option<Kind>, bool)>, &'a [u8]), FieldError>
-    ensures { Gives (λ x. (x.0, x.1.now)) result (rising_at (λ g. g.0) (global_at names.now) bytes.now) }
+) -> Result<(Items<(Name, Shape, Option<Kind>, bool)>, &'a [u8]), FieldFault>
+    ensures { AnswersField (λ x. (x.0, x.1.now)) result (rising_at (λ g. g.0) (global_at names.now) bytes.now) }
 {
     let (count, rest) = read_u32(bytes)?;
     read_global_items(alloc, names, count, rest)
@@ -146,8 +146,8 @@ fn read_reference_list<'a>(
     alloc: Global,
     names: &[Name],
     bytes: &'a [u8],
-) -> Result<(Items<(Name, u64, u64)>, &'a [u8]), FieldError>
-    ensures { Gives (λ x. (x.0, x.1.now)) result (rising_at (λ r. r.0) (reference_at names.now) bytes.now) }
+) -> Result<(Items<(Name, u64, u64)>, &'a [u8]), FieldFault>
+    ensures { AnswersField (λ x. (x.0, x.1.now)) result (rising_at (λ r. r.0) (reference_at names.now) bytes.now) }
 {
     let (count, rest) = read_u32(bytes)?;
     read_reference_items(alloc, names, count, rest)
@@ -159,8 +159,8 @@ fn read_uses<'a>(
     alloc: Global,
     names: &[Name],
     bytes: &'a [u8],
-) -> Result<(Uses, &'a [u8]), FieldError>
-    ensures { Gives (λ x. (x.0, x.1.now)) result (uses_at names.now bytes.now) }
+) -> Result<(Uses, &'a [u8]), FieldFault>
+    ensures { AnswersField (λ x. (x.0, x.1.now)) result (uses_at names.now bytes.now) }
 {
     let (calls, rest) = read_name_list(alloc, names, StartName::Refused, bytes)?;
     let (shapes, rest) = read_shape_list(alloc, rest)?;
@@ -181,8 +181,8 @@ fn read_all_uses<'a>(
     names: &[Name],
     count: usize,
     bytes: &'a [u8],
-) -> Result<(Items<Uses>, &'a [u8]), FieldError>
-    ensures { Gives (λ x. (x.0, x.1.now)) result (repeated (uses_at names.now) count bytes.now) }
+) -> Result<(Items<Uses>, &'a [u8]), FieldFault>
+    ensures { AnswersField (λ x. (x.0, x.1.now)) result (repeated (uses_at names.now) count bytes.now) }
 {
     let mut all = Items::new(alloc);
     let mut rest = bytes;
@@ -200,8 +200,8 @@ fn read_defined<'a>(
     alloc: Global,
     names: &[Name],
     bytes: &'a [u8],
-) -> Result<((Defined, usize), &'a [u8]), FieldError>
-    ensures { Gives (λ x. (x.0, x.1.now)) result (defined_at names.now bytes.now) }
+) -> Result<((Defined, usize), &'a [u8]), FieldFault>
+    ensures { AnswersField (λ x. (x.0, x.1.now)) result (defined_at names.now bytes.now) }
 {
     let (globals, count) = read_global_list(alloc, names, bytes)?;
     let (functions, rest) = read_shaped_list(alloc, names, StartName::Allowed, count)?;
@@ -221,8 +221,8 @@ fn read_used<'a>(
     names: &[Name],
     functions: usize,
     bytes: &'a [u8],
-) -> Result<(Used, &'a [u8]), FieldError>
-    ensures { Gives (λ x. (x.0, x.1.now)) result (used_at names.now functions bytes.now) }
+) -> Result<(Used, &'a [u8]), FieldFault>
+    ensures { AnswersField (λ x. (x.0, x.1.now)) result (used_at names.now functions bytes.now) }
 {
     let (used, rest) = read_name_list(alloc, names, StartName::Allowed, bytes)?;
     let (taken, rest) = read_shaped_list(alloc, names, StartName::Refused, rest)?;
@@ -243,7 +243,7 @@ fn read_parts<'a>(
     alloc: Global,
     names: &[Name],
     bytes: &'a [u8],
-) -> Result<(Summary, usize, &'a [u8]), FieldError>
+) -> Result<(Summary, usize, &'a [u8]), FieldFault>
     ensures found { IfOk result (λ x. (late : AnySummary → ℕ → Option ℕ) → fields_at names.now late bytes.now ≡ ended (late x.0 x.1) (record { names = names.now; value = x.0 }) x.2.now) }
     ensures fault { IfErr result (λ e. (late : AnySummary → ℕ → Option ℕ) → Fails e (fields_at names.now late bytes.now)) }
 {
@@ -263,9 +263,9 @@ fn check_last(
     summary: &Summary,
     behind: usize,
     count: usize,
-) -> Result<(), FieldError>
+) -> Result<(), FieldFault>
     requires { length (flat_map text names.now) + behind < 2 ^ 64 }
-    ensures { Gives (λ x. x) result (broken_at (last_rules names.now behind summary.now count)) }
+    ensures { AnswersField (λ x. x) result (broken_at (last_rules names.now behind summary.now count)) }
 {
     let used = used_names(alloc, summary)?;
     let unused = find_unused(alloc, names, used, behind)?;
@@ -301,7 +301,7 @@ impl Format for SummaryFormat {
         _version: u32,
         names: &[Name],
         bytes: &'a [u8],
-    ) -> Result<(Summary, usize, &'a [u8]), FieldError> {
+    ) -> Result<(Summary, usize, &'a [u8]), FieldFault> {
         read_parts(alloc, names, bytes)
     }
 
@@ -311,7 +311,7 @@ impl Format for SummaryFormat {
         value: &Summary,
         behind: usize,
         place: usize,
-    ) -> Result<(), FieldError> {
+    ) -> Result<(), FieldFault> {
         check_last(alloc, names, value, behind, place)
     }
 }

@@ -4,7 +4,7 @@
 
 use crate::typed::typed;
 use pw_flow::{Block, End, FlowFn, FlowGlobal, FlowModule, Item, Op};
-use pw_front_end::FrontError;
+use pw_front_end::FrontEndFault;
 use pw_lstmt::lower_module;
 use pw_rows::Text;
 use pw_typed::TModule;
@@ -132,8 +132,8 @@ fn push_lowered(text: &mut Text, tree: &TModule) {
 fn push_of(text: &mut Text, source: &[u8]) {
     match typed(text.alloc(), source) {
         Ok(tree) => push_lowered(text, &tree),
-        Err(FrontError::NoMemory) => text.cut(),
-        Err(FrontError::Refused(_)) => text.push(b"refused"),
+        Err(FrontEndFault::NoMemory) => text.cut(),
+        Err(FrontEndFault::Refused(_)) => text.push(b"refused"),
     }
 }
 

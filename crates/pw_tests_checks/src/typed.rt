@@ -1,7 +1,7 @@
 //! Typed trees of texts. Their memory goes back with the program's, as that of the syntax trees that they are made of.
 
 use pw_check::{CheckFault, CheckKind, check};
-use pw_front_end::{FrontError, Refusal, front};
+use pw_front_end::{FrontEndFault, Refusal, front};
 use pw_tree::Module;
 use pw_typed::TModule;
 use std::alloc::Global;
@@ -11,15 +11,15 @@ use std::mem::ManuallyDrop;
 pub type Kept = ManuallyDrop<TModule>;
 
 /// How a fault of checking is told.
-fn error_of(fault: CheckFault) -> FrontError {
+fn error_of(fault: CheckFault) -> FrontEndFault {
     match fault.kind {
-        CheckKind::NoMemory => FrontError::NoMemory,
-        _ => FrontError::Refused(Refusal::Check(fault)),
+        CheckKind::NoMemory => FrontEndFault::NoMemory,
+        _ => FrontEndFault::Refused(Refusal::Check(fault)),
     }
 }
 
 /// The typed tree of a tree, or the fault that checking finds.
-fn checked(alloc: Global, tree: &Module) -> Result<Kept, FrontError> {
+fn checked(alloc: Global, tree: &Module) -> Result<Kept, FrontEndFault> {
     match check(alloc, tree) {
         Ok(typed) => Ok(ManuallyDrop::new(typed)),
         Err(fault) => Err(error_of(fault)),
@@ -27,7 +27,7 @@ fn checked(alloc: Global, tree: &Module) -> Result<Kept, FrontError> {
 }
 
 /// The typed tree of a text, or why the front end or checking refuses it.
-pub fn typed(alloc: Global, source: &[u8]) -> Result<Kept, FrontError> {
+pub fn typed(alloc: Global, source: &[u8]) -> Result<Kept, FrontEndFault> {
     match front(alloc, source) {
         Ok(tree) => checked(alloc, &ManuallyDrop::new(tree)),
         Err(error) => Err(error),

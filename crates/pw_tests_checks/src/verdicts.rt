@@ -2,12 +2,12 @@
 
 use crate::typed::typed;
 use pw_check::CheckFault;
-use pw_front_end::{FrontError, Refusal};
+use pw_front_end::{FrontEndFault, Refusal};
 use pw_rows::Text;
 use std::alloc::Global;
 
 /// Why a text is refused, where it is.
-fn error_of(alloc: Global, source: &[u8]) -> Option<FrontError> {
+fn error_of(alloc: Global, source: &[u8]) -> Option<FrontEndFault> {
     typed(alloc, source).err()
 }
 
@@ -22,8 +22,8 @@ fn push_fault(text: &mut Text, fault: &CheckFault) {
 pub fn push_verdict(text: &mut Text, source: &[u8]) {
     match error_of(text.alloc(), source) {
         None => text.push(b"accepted"),
-        Some(FrontError::NoMemory) => text.cut(),
-        Some(FrontError::Refused(Refusal::Check(fault))) => push_fault(text, &fault),
-        Some(FrontError::Refused(refusal)) => text.debug(&refusal),
+        Some(FrontEndFault::NoMemory) => text.cut(),
+        Some(FrontEndFault::Refused(Refusal::Check(fault))) => push_fault(text, &fault),
+        Some(FrontEndFault::Refused(refusal)) => text.debug(&refusal),
     }
 }

@@ -1,7 +1,7 @@
 //! The functions of object files as text.
 
 use crate::shown::{push_value, push_word};
-use pw_fields::FieldError;
+use pw_fields::FieldFault;
 use pw_fields::names::read_names;
 use pw_object::ObjectFn;
 use pw_object::functions::read_function;
@@ -26,7 +26,7 @@ pub fn push_functions(text: &mut Text, functions: &[ObjectFn]) {
 }
 
 /// The function behind a table of names, and what is left behind it.
-fn read_behind_names(alloc: Global, bytes: &[u8]) -> Result<(ObjectFn, &[u8]), FieldError> {
+fn read_behind_names(alloc: Global, bytes: &[u8]) -> Result<(ObjectFn, &[u8]), FieldFault> {
     let (names, rest) = read_names(alloc, bytes)?;
     read_function(alloc, &names, rest)
 }

@@ -1,14 +1,14 @@
 //! Texts with their refusals and the lines of these, read by hand.
 
 use crate::modules::{Parts, text_of};
-use pw_front_end::{FrontError, Refusal, front, refusal_line};
+use pw_front_end::{FrontEndFault, Refusal, front, refusal_line};
 use pw_parse::ParseFault;
 use pw_token::{Feature, LexFault};
 use std::alloc::{AllocError, Global};
 use std::test::Fail;
 
 /// Why a text is refused, where it is.
-fn error_of(alloc: Global, text: &[u8]) -> Option<FrontError> {
+fn error_of(alloc: Global, text: &[u8]) -> Option<FrontEndFault> {
     front(alloc, text).err()
 }
 
@@ -24,10 +24,10 @@ fn has_line(alloc: Global, text: &[u8], refusal: &Refusal, line: usize) -> bool 
 fn is_told(alloc: Global, text: &[u8], wanted: Option<Refusal>, line: usize) -> bool {
     match error_of(alloc, text) {
         None => wanted.is_none(),
-        Some(FrontError::Refused(found)) => {
+        Some(FrontEndFault::Refused(found)) => {
             wanted == Some(found) && has_line(alloc, text, &found, line)
         }
-        Some(FrontError::NoMemory) => false,
+        Some(FrontEndFault::NoMemory) => false,
     }
 }
 

@@ -2,12 +2,12 @@
 
 use crate::ones::return_ones;
 use pw_check::{CheckKind, check};
-use pw_front_end::{FrontError, front};
+use pw_front_end::{FrontEndFault, front};
 use pw_rows::Text;
 use pw_tree::Module;
 use pw_typed::TModule;
 use pw_value::Name;
-use pw_value::limits::STACK_MOST;
+use pw_value::limits::STACK_LIMIT;
 use std::alloc::Global;
 use std::mem::ManuallyDrop;
 
@@ -41,7 +41,7 @@ impl Job {
             modules: Vec::new(alloc),
             is_refused: false,
             frames: Vec::new(alloc),
-            stack: STACK_MOST,
+            stack: STACK_LIMIT,
             bound: 100000,
             depth: 4000,
             input: Vec::new(alloc),
@@ -84,8 +84,8 @@ impl Job {
     pub fn add_module(&mut self, text: &mut Text, name: &str, source: &str) {
         match front(text.alloc(), source.as_bytes()) {
             Ok(tree) => self.add_tree(text, name, &ManuallyDrop::new(tree)),
-            Err(FrontError::NoMemory) => text.cut(),
-            Err(FrontError::Refused(_)) => self.is_refused = true,
+            Err(FrontEndFault::NoMemory) => text.cut(),
+            Err(FrontEndFault::Refused(_)) => self.is_refused = true,
         }
     }
 

@@ -15,7 +15,7 @@ use std::process::Abort;
 pub(crate) enum FieldCase {
     /// The bytes of the fields 171 of one byte, 0x01020304 of four, 0x05060708090a0b0c of eight, true and `hi`.
     Written,
-    /// The number of one byte at the front of these, and what is behind it; so the next four with their fields.
+    /// The number of one byte at the beginning of these, and what is behind it; so the next four with their fields.
     U8(&'static [u8]),
     U32(&'static [u8]),
     U64(&'static [u8]),
@@ -23,9 +23,9 @@ pub(crate) enum FieldCase {
     Text(&'static [u8]),
     /// The table of the name `b` and twice the name `a`.
     Table,
-    /// The table of names at the front of these bytes, and what is behind it.
+    /// The table of names at the beginning of these bytes, and what is behind it.
     Names(&'static [u8]),
-    /// The name of `TABLE` whose index is at the front of these bytes, and what is behind it.
+    /// The name of `TABLE` whose index is at the beginning of these bytes, and what is behind it.
     Index(&'static [u8]),
     /// The file of the kind `KIND`, of version 1, with the payload `abc`.
     Sealed,
@@ -176,7 +176,7 @@ fn table(rt: &impl Abort, alloc: Global) -> Vec<Name> {
     table_of(alloc, used).expect(rt, "memory")
 }
 
-/// Adds the name of `TABLE` whose index is at the front of these bytes, and what is behind it.
+/// Adds the name of `TABLE` whose index is at the beginning of these bytes, and what is behind it.
 fn push_name_at(rt: &impl Abort, text: &mut Text, bytes: &[u8]) {
     let (names, _behind) = read_names(text.alloc(), &TABLE).expect(rt, "a table");
     text.debug(&read_name(&names, bytes));

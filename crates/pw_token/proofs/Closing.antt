@@ -1,4 +1,4 @@
--- How `closing` goes on from the front of a text.
+-- How `closing` goes on from the beginning of a text.
 use Rattle.std.proofs.Common.{◌≡◌, ℕ, ◌+◌, ◌<◌, true, false, List, [], ◌∷◌, length, drop, slice_index, refl, arith, ◌∙◌}
 use Rattle.pw_token.specs.Scanning.{closing, settle, next_mode, is_splice, is_closed, is_broken}
 use Rattle.pw_token.specs.declared.literals.Mode.{Mode}

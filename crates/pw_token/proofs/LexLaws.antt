@@ -5,7 +5,7 @@ use Rattle.pw_token.proofs.CutLaws.{total, total-append, total-first, cuts-lengt
 use Rattle.pw_token.proofs.PieceLaws.{StandsHere, piece-sound, piece-none}
 use Rattle.pw_token.specs.Limits.{text_limit, token_limit}
 use Rattle.pw_token.specs.Pieces.{piece_at}
-use Rattle.pw_token.specs.Tokenization.{Piece, Stands, Cuts, line_start_after, tokens_of, token_in, NothingStands, AreTokens, IsBadAt, IsTooManyAt, IsLexed, IsBad, IsTooMany, Lexes, Gives, Keeps}
+use Rattle.pw_token.specs.Tokenization.{Piece, Stands, Cuts, line_start_after, tokens_of, token_in, NothingStands, AreTokens, IsBadAt, IsTooManyAt, IsLexed, IsBad, IsTooMany, Lexes, AnswersLexing, Keeps}
 use Rattle.pw_token.specs.declared.piece.PieceKind.{PieceKind}
 use Rattle.pw_token.specs.declared.piece.PieceKind.TheVariants as piece
 use Rattle.pw_token.specs.declared.token.LexFault.{LexFault}
@@ -251,7 +251,7 @@ one-answer text (Err NoMemory) y h k = absurd h
 -- a piece that was not kept
 pub gives-fault : {V : Type 0} (view : V → List Token) (text : List ℕ) (at : ℕ) (ls : Bool) (tokens : List Token) (k : PieceKind) (n count : ℕ) (fault : LexFault)
     → Lexing text at ls tokens → at < length text → length text ≤ text_limit → piece_at ls (drop at text) ≡ Some (k, n) → count ≡ length tokens
-    → Keeps k at count fault → Gives text view (Err fault)
+    → Keeps k at count fault → AnswersLexing text view (Err fault)
 gives-fault view text at ls tokens k n count NoMemory l inside small e same h = tt
 gives-fault view text at ls tokens k n count (TooMany place) l inside small e same h =
     let kind = h.2 in

@@ -1,4 +1,4 @@
--- Runs of bytes of one class, and fronts of a text.
+-- Runs of bytes of one class, and prefixes of a text.
 use Rattle.std.proofs.Common.{◌≡◌, ℕ, suc, ◌<◌, ◌≤◌, ◌⊎◌, inl, inr, Bool, true, false, List, [], ◌∷◌, ◌++◌, length, take, drop, refl, ap, arith, sym, ◌∙◌}
 use Rattle.std.proofs.lemmas.List.{drop_at, take_at}
 use Rattle.pw_token.specs.Bytes.{is_in, AllIn, SomeIn}
@@ -9,7 +9,7 @@ pub either : (b : Bool) → (b ≡ true) ⊎ (b ≡ false)
 either true = inl refl
 either false = inr refl
 
--- a front of n bytes that P holds of
+-- a prefix of n bytes that P holds of
 pub record Begins (P : List ℕ → Type 0) (n : ℕ) (t : List ℕ) : Type 0 where
   pub front : List ℕ
   pub rest : List ℕ

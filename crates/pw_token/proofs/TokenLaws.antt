@@ -1,4 +1,4 @@
--- `longest_at` is the token at the front of a text.
+-- `longest_at` is the token at the beginning of a text.
 use Rattle.std.proofs.Common.{◌≡◌, ℕ, ◌<◌, ◌≤◌, inl, inr, cond, nat_lt, List, ◌++◌, length, refl, ap, arith, sym, ◌∙◌, subst, append_assoc, length-append}
 use Rattle.std.proofs.lemmas.Bool.{ltb-true, ltb-false}
 use Rattle.std.proofs.lemmas.List.{append-nil, nil_from_length}
@@ -109,7 +109,7 @@ longest-bounds t =
       mark = omega (arith, back_right, all_right);
     }
 
--- no spelling at the front is longer
+-- no spelling at the beginning is longer
 longest-reaches : (k : TokenKind) (s r : List ℕ) → Spells k s → length s ≤ (longest_at (s ++ r)).1
 longest-reaches Identifier s r h = omega (arith, word-reaches s r h.0, (longest-bounds (s ++ r)).word)
 longest-reaches Keyword s r h = omega (arith, word-reaches s r (keyword-word s h), (longest-bounds (s ++ r)).word)

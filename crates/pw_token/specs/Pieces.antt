@@ -1,4 +1,4 @@
--- The piece at the front of a text, as the code finds it: its kind and its length.
+-- The piece at the beginning of a text, as the code finds it: its kind and its length.
 use Rattle.std.specs.Prelude.{ℕ, ◌+◌, Bool, ◌&&◌, ◌||◌, if◌then◌else◌, ◌==◌, nat_lt, List, take, drop, slice_index, Option, Some, None}
 use Rattle.pw_token.specs.Bytes.{is_in}
 use Rattle.pw_token.specs.Scanning.{run, word_len, integer_len, floating_len, literal_len, wide_len, comment_len, longest_in, is_splice}

@@ -1,4 +1,4 @@
--- How long the constants, comments and marks are that stand at the front of a text, 0 where none does.
+-- How long the constants, comments and marks are that stand at the beginning of a text, 0 where none does.
 use Rattle.std.specs.Prelude.{ℕ, ◌+◌, Bool, true, false, ◌&&◌, ◌||◌, if◌then◌else◌, ◌==◌, nat_lt, List, [], ◌∷◌, drop, length, slice_index, nat_eq}
 use Rattle.std.specs.List.{prefix_len, starts_with}
 use Rattle.pw_token.specs.Bytes.{is_in, is_nondigit, is_either}
@@ -8,7 +8,7 @@ use Rattle.pw_token.specs.declared.bytes.Class.TheVariants as class
 use Rattle.pw_token.specs.declared.literals.Mode.{Mode}
 use Rattle.pw_token.specs.declared.literals.Mode.TheVariants as mode
 
--- how many bytes of the class stand at the front
+-- how many bytes of the class stand at the beginning
 abbrev pub run : Class → List ℕ → ℕ
 run c = prefix_len (is_in c)
 
@@ -67,7 +67,7 @@ floating_len t =
 
 -- ---- character constants and string literals
 
--- a backslash before a newline stands at the front
+-- a backslash before a newline stands at the beginning
 abbrev pub is_splice : List ℕ → Bool
 is_splice t = slice_index t 0 == 92 && slice_index t 1 == 10
 

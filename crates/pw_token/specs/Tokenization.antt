@@ -66,7 +66,7 @@ Stands line_start (piece.Token kind) s after = IsTokenHere line_start kind s aft
 abbrev pub BeginsWith : Bool → PieceKind → ℕ → List ℕ → Type 0
 BeginsWith line_start kind len text = (len ≤ length text) × Stands line_start kind (take len text) (drop len text)
 
--- Nothing of the kinds above stands at the front of the text.
+-- Nothing of the kinds above stands at the beginning of the text.
 abbrev pub NothingStands : Bool → List ℕ → Type 0
 NothingStands line_start text = (kind : PieceKind) (s after : List ℕ) → text ≡ s ++ after → Stands line_start kind s after → ⊥
 
@@ -79,7 +79,7 @@ line_start_after line_start piece.Comment s = false
 line_start_after line_start piece.LineMarker s = false
 line_start_after line_start (piece.Token kind) s = false
 
--- From its front up to `rest` the text is cut into the pieces; the line starts at the front, and at `rest`, where the two tests say so.
+-- From its beginning up to `rest` the text is cut into the pieces; the line starts at the beginning, and at `rest`, where the two tests say so.
 abbrev pub Cuts : Bool → List ℕ → List Piece → Bool → List ℕ → Type 0
 Cuts start text [] end rest = (start ≡ end) × (text ≡ rest)
 Cuts start text (p ∷ ps) end rest =
@@ -162,12 +162,12 @@ StandInOrder from end [] = from ≤ end
 StandInOrder from end (t ∷ ts) = (from ≤ t.at) × (0 < t.len) × StandInOrder (t.at + t.len) end ts
 
 -- what a call gave, seen by view, is an answer of the text, or memory ran out
-abbrev pub Gives : {V : Type 0} → List ℕ → (V → List Token) → Result V LexFault → Type 0
-Gives text view (Ok v) = Lexes text (Ok (view v))
-Gives text view (Err NoMemory) = ⊤
-Gives text view (Err TooLong) = Lexes text (Err TooLong)
-Gives text view (Err (Bad at)) = Lexes text (Err (Bad at))
-Gives text view (Err (TooMany at)) = Lexes text (Err (TooMany at))
+abbrev pub AnswersLexing : {V : Type 0} → List ℕ → (V → List Token) → Result V LexFault → Type 0
+AnswersLexing text view (Ok v) = Lexes text (Ok (view v))
+AnswersLexing text view (Err NoMemory) = ⊤
+AnswersLexing text view (Err TooLong) = Lexes text (Err TooLong)
+AnswersLexing text view (Err (Bad at)) = Lexes text (Err (Bad at))
+AnswersLexing text view (Err (TooMany at)) = Lexes text (Err (TooMany at))
 
 -- why a piece was not kept behind `count` tokens: there are as many as may be, and it is another, or memory ran out
 abbrev pub Keeps : PieceKind → ℕ → ℕ → LexFault → Type 0

@@ -78,7 +78,7 @@ pub fn text_from(text: &[u8], at: usize) -> &[u8]
     if at < text.len() { &text[at..] } else { &[] }
 }
 
-/// How many bytes of the class stand at the front.
+/// How many bytes of the class stand at the beginning.
 pub fn run_of(class: Class, text: &[u8]) -> usize
     ensures value { result ≡ prefix_len (spec.is_in class) text.now }
     ensures within { result ≤ length text.now }

@@ -1,4 +1,4 @@
-//! Lengths of words, integer constants and floating constants at the front of a text, 0 where none stands there.
+//! Lengths of words, integer constants and floating constants at the beginning of a text, 0 where none stands there.
 
 ghost use Rattle.std.specs.Prelude.{◌≡◌, ◌≢◌, ◌<◌, ◌≤◌, ◌+◌, drop, length, slice_index};
 ghost use Rattle.pw_token.specs.Scanning as spec;

@@ -7,14 +7,14 @@ ghost use Rattle.pw_token.specs.Tokenization.{BeginsWith, Cuts, IsLexed, Piece, 
 ghost use Rattle.pw_token.specs.declared.piece.PieceKind.{PieceKind};
 ghost use Rattle.pw_token.specs.declared.token.Token.{Token};
 
-use crate::lexer::{MAX_TEXT, MAX_TOKENS};
-use crate::nesting::MAX_NEST;
+use crate::lexer::{TEXT_LIMIT, TOKEN_LIMIT};
+use crate::nesting::NEST_LIMIT;
 
 /// The limits of a text are those that its definitions speak of.
 pub fn limits_of_a_text()
-    ensures text { MAX_TEXT ≡ text_limit }
-    ensures tokens { MAX_TOKENS ≡ token_limit }
-    ensures nest { MAX_NEST ≡ nest_limit }
+    ensures text { TEXT_LIMIT ≡ text_limit }
+    ensures tokens { TOKEN_LIMIT ≡ token_limit }
+    ensures nest { NEST_LIMIT ≡ nest_limit }
 {}
 
 /// A text has at most one cutting into blanks, comments, line markers and tokens.
@@ -22,7 +22,7 @@ pub fn one_cutting()
     ensures { (text : List ℕ) (pieces others : List Piece) (end last : Bool) → Cuts true text pieces end [] → Cuts true text others last [] → pieces ≡ others }
 {}
 
-/// The piece at the front of a text is the one that stands there; so at most one does.
+/// The piece at the beginning of a text is the one that stands there; so at most one does.
 pub fn piece_at_is_exact()
     ensures { (line_start : Bool) (text : List ℕ) (kind : PieceKind) (len : ℕ) → (piece_at line_start text ≡ Some (kind, len)) ↔ BeginsWith line_start kind len text }
 {}

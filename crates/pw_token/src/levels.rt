@@ -3,7 +3,7 @@
 ghost use Rattle.std.specs.Prelude.{◌≡◌, ◌≤◌, ◌<◌, ◌+◌, ◌∷◌};
 ghost use Rattle.pw_token.specs.Nesting.{is_bracket};
 
-use crate::nesting::MAX_NEST;
+use crate::nesting::NEST_LIMIT;
 
 /// What opened a level.
 #[derive(Clone, Copy)]
@@ -26,7 +26,7 @@ pub struct Level {
 
 /// The most levels that can stand outside the innermost one: a token is still taken where the nesting is one
 /// above the limit, and a token adds at most one.
-const ROOM: usize = MAX_NEST + 2;
+const ROOM: usize = NEST_LIMIT + 2;
 
 /// The open levels and their nesting. The outer ones begin with the text.
 #[derive(Clone, Copy)]

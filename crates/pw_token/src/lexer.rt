@@ -2,7 +2,7 @@
 
 ghost use Rattle.std.specs.Prelude.{◌≡◌, ◌≤◌, ◌++◌, ◌⊎◌, ℕ, List, Result, Ok, length, vec_len, IfOk, OnOk, IfErr, IsErrOf};
 ghost use Rattle.pw_token.specs.Limits.{text_limit, token_limit};
-ghost use Rattle.pw_token.specs.Tokenization.{Answers, Gives, IsBad, IsLexed, IsTooLong, IsTooMany, Lexes, Keeps, line_start_after, token_in};
+ghost use Rattle.pw_token.specs.Tokenization.{Answers, AnswersLexing, IsBad, IsLexed, IsTooLong, IsTooMany, Lexes, Keeps, line_start_after, token_in};
 ghost use Rattle.pw_token.specs.declared.token.LexFault.{LexFault};
 ghost use Rattle.pw_token.specs.declared.token.Token.{Token};
 
@@ -11,10 +11,10 @@ use crate::token::{LexFault, Token};
 use std::alloc::Global;
 
 /// The greatest length of a text, in bytes.
-pub const MAX_TEXT: usize = 1_048_576;
+pub const TEXT_LIMIT: usize = 1_048_576;
 
 /// The greatest count of tokens.
-pub const MAX_TOKENS: usize = 200_000;
+pub const TOKEN_LIMIT: usize = 200_000;
 
 fn line_start_after(line_start: bool, kind: PieceKind, text: &[u8]) -> bool
     ensures { result ≡ line_start_after line_start kind text.now }
@@ -33,7 +33,7 @@ fn keep(tokens: &mut Vec<Token>, kind: PieceKind, at: usize, len: usize) -> Resu
     ensures fault { IfErr result (λ fault. Keeps kind at (vec_len tokens.old) fault) }
 {
     if let PieceKind::Token(kind) = kind {
-        if tokens.len() == MAX_TOKENS {
+        if tokens.len() == TOKEN_LIMIT {
             return Err(LexFault::TooMany { at });
         }
         tokens.push(Token { kind, at, len })?;
@@ -42,9 +42,9 @@ fn keep(tokens: &mut Vec<Token>, kind: PieceKind, at: usize, len: usize) -> Resu
 }
 
 fn cut(alloc: Global, text: &[u8]) -> Result<Vec<Token>, LexFault>
-    ensures { Gives text.now (λ tokens. tokens.items) result }
+    ensures { AnswersLexing text.now (λ tokens. tokens.items) result }
 {
-    if MAX_TEXT < text.len() {
+    if TEXT_LIMIT < text.len() {
         return Err(LexFault::TooLong);
     }
     let mut tokens = Vec::new(alloc);

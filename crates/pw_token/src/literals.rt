@@ -1,4 +1,4 @@
-//! Lengths of character constants, string literals and comments at the front of a text, 0 where none stands there.
+//! Lengths of character constants, string literals and comments at the beginning of a text, 0 where none stands there.
 
 ghost use Rattle.std.specs.Prelude.{◌≡◌, ◌≢◌, ◌<◌, ◌≤◌, ◌+◌, ◌^◌, length, slice_index, true};
 ghost use Rattle.pw_token.specs.Scanning as spec;
@@ -49,7 +49,7 @@ fn is_broken(mode: Mode) -> bool
     matches!(mode, Mode::Broken)
 }
 
-/// A backslash before a newline stands at the front.
+/// A backslash before a newline stands at the beginning.
 pub fn is_splice(text: &[u8]) -> bool
     ensures value { result ≡ spec.is_splice text.now }
     ensures within { result ≡ true → 2 ≤ length text.now }

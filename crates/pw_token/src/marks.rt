@@ -1,4 +1,4 @@
-//! Which words are keywords, and how long the operator or punctuator at the front of a text is.
+//! Which words are keywords, and how long the operator or punctuator at the beginning of a text is.
 
 ghost use Rattle.std.specs.Prelude.{◌≡◌, ◌≤◌, length, map};
 ghost use Rattle.pw_token.specs.Scanning.{longest_in};

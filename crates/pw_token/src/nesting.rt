@@ -13,7 +13,7 @@ use crate::roles::{Role, role_in};
 use crate::token::Token;
 
 /// The deepest nesting that a text may have.
-pub const MAX_NEST: usize = 200;
+pub const NEST_LIMIT: usize = 200;
 
 fn is_else(role: Role) -> bool
     ensures { result ≡ is_else role }
@@ -202,7 +202,7 @@ pub fn nest_fault(text: &[u8], tokens: &[Token]) -> Option<usize>
         let role = role_at(text, tokens, index);
         let next = role_at(text, tokens, index + 1);
         let nest = step(&mut levels, role, next, before, operand);
-        if MAX_NEST < nest {
+        if NEST_LIMIT < nest {
             return Some(index + 1);
         }
         operand = operand_after(role, operand);

@@ -1,4 +1,4 @@
-//! The piece at the front of a text: a blank, a comment, a line marker or a token.
+//! The piece at the beginning of a text: a blank, a comment, a line marker or a token.
 
 ghost use Rattle.std.specs.Prelude.{◌≡◌, ◌<◌, ◌≤◌, ◌↔◌, ℕ, Some, IfSome, length};
 ghost use Rattle.pw_token.specs.Pieces as spec;
@@ -107,7 +107,7 @@ fn find_piece(line_start: bool, text: &[u8]) -> Option<(PieceKind, usize)>
     }
 }
 
-/// The piece at the front of a text and its length in bytes, or None where nothing that C90 knows stands there, as in
+/// The piece at the beginning of a text and its length in bytes, or None where nothing that C90 knows stands there, as in
 /// an empty text. `line_start` says that only blanks stand before it in its line.
 pub fn piece_at(line_start: bool, text: &[u8]) -> Option<(PieceKind, usize)>
     ensures value { result ≡ spec.piece_at line_start text.now }

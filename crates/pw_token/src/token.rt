@@ -40,7 +40,7 @@ pub struct Token {
 pub enum LexFault {
     /// The first byte at which no token, blank, comment or line marker starts.
     Bad { at: usize },
-    /// The text has more than `MAX_TEXT` bytes.
+    /// The text has more than `TEXT_LIMIT` bytes.
     TooLong,
     /// The first byte of the token behind the last that a text may have.
     TooMany { at: usize },

@@ -17,22 +17,22 @@ use Rattle.pw_top_answer.specs.Outcomes.{Answers, InputCount, IsLineDue, LeavesI
 use Rattle.pw_law_session.specs.Ends.{Ends}
 use Rattle.pw_law_session.specs.FromBuild.BuildFault.{BuildFault}
 use Rattle.pw_law_session.specs.FromBuilding.Building.{Outcome}
-use Rattle.pw_law_session.specs.FromDriving.Driving.{BuildComesTo, IsBuildAnswer, built_effect}
+use Rattle.pw_law_session.specs.FromDriving.Driving.{BuildEffect, IsBuildAnswer, built_effect}
 use Rattle.pw_law_session.specs.FromGo.FullBuild.{Build, full_build}
 use Rattle.pw_law_session.specs.FromGo.FullBuild as build
 use Rattle.pw_law_session.specs.FromGo.Going.{IsLineOf, IsNoUsage, build_effect, refused_line}
-use Rattle.pw_law_session.specs.FromCommands.Analysing.{AnalyseComes, AnalyseOver, summaries_of}
-use Rattle.pw_law_session.specs.FromCommands.Linking.{LinkComes, LinkOver, objects_of}
+use Rattle.pw_law_session.specs.FromCommands.Analysing.{AnalyseEffect, AnalyseOver, summaries_of}
+use Rattle.pw_law_session.specs.FromCommands.Linking.{LinkEffect, LinkOver, objects_of}
 use Rattle.pw_law_session.specs.FromCommands.Needed.{needed, needed_bytes}
 use Rattle.pw_law_session.specs.FromCommands.Outcome.{IsStoreAnswer, Obeys}
 use Rattle.pw_law_session.specs.FromCommands.Running.{IsRunOrStop, core_in, run_effect, runs}
-use Rattle.pw_law_session.specs.FromCommands.Showing.{DatabaseComes, IsShowAnswer, ListComes, ListOver, Shows, database_text, image_in, printed}
-use Rattle.pw_law_session.specs.FromSession.Bench.{BenchComes}
+use Rattle.pw_law_session.specs.FromCommands.Showing.{DatabaseEffect, IsShowAnswer, ListEffect, ListOver, Shows, database_text, image_in, printed}
+use Rattle.pw_law_session.specs.FromSession.Bench.{BenchEffect}
 use Rattle.pw_top_words.specs.declared.commands.Command.{Command}
 use Rattle.pw_top_words.specs.declared.commands.Command.TheVariants.{Go, Build as BuildAll, Session, PhaseOne, Analyse, PhaseTwo, Link, Run, List as ListImage, Db, Bench}
-use Rattle.pw_commands_phases.specs.First.{ComesOfPhase, PhaseOneComes, PhaseOneOver}
+use Rattle.pw_commands_phases.specs.First.{EffectOfPhase, PhaseOneEffect, PhaseOneOver}
 use Rattle.pw_commands_phases.specs.Made.{IsPhaseAnswer}
-use Rattle.pw_commands_phases.specs.Second.{PhaseTwoComes, PhaseTwoOver, database_at, flow_at}
+use Rattle.pw_commands_phases.specs.Second.{PhaseTwoEffect, PhaseTwoOver, database_at, flow_at}
 use Rattle.pw_top.specs.Commands.{opts_of}
 use Rattle.pw_top.specs.Does.{Does}
 use Rattle.pw_top.proofs.SessionLemmas.{bench_prints}
@@ -42,16 +42,16 @@ use Rattle.pw_top.proofs.DoesLemmas.{Prints, Quiet, left_so, nothing_put, one_do
 abbrev pub Comes : Option Command → Files → List ℕ → (Effect → Type 0)
 Comes None files input = λ effect. effect ≡ answers_alone Usage input
 Comes (Some (Go colours stack steps)) files input = λ effect. effect ≡ build_effect (full_build files) steps input
-Comes (Some (BuildAll colours stack)) files input = BuildComesTo files colours stack input
+Comes (Some (BuildAll colours stack)) files input = BuildEffect files colours stack input
 Comes (Some (Session colours stack steps)) files input = λ effect. ⊥
-Comes (Some (Bench number colours stack steps)) files input = BenchComes number (opts_of colours stack steps) input
-Comes (Some (PhaseOne name)) files input = PhaseOneComes files name input
-Comes (Some (Analyse colours)) files input = AnalyseComes files colours input
-Comes (Some (PhaseTwo name)) files input = PhaseTwoComes files name input
-Comes (Some (Link stack)) files input = LinkComes files stack input
+Comes (Some (Bench number colours stack steps)) files input = BenchEffect number (opts_of colours stack steps) input
+Comes (Some (PhaseOne name)) files input = PhaseOneEffect files name input
+Comes (Some (Analyse colours)) files input = AnalyseEffect files colours input
+Comes (Some (PhaseTwo name)) files input = PhaseTwoEffect files name input
+Comes (Some (Link stack)) files input = LinkEffect files stack input
 Comes (Some (Run steps)) files input = λ effect. effect ≡ run_effect files steps input
-Comes (Some ListImage) files input = ListComes files input
-Comes (Some Db) files input = DatabaseComes files input
+Comes (Some ListImage) files input = ListEffect files input
+Comes (Some Db) files input = DatabaseEffect files input
 
 -- ---- the store's commands
 
@@ -74,7 +74,7 @@ link_quiet (Ok objects) stack input e h =
     (λ l. subst (Quiet input) (sym l.1.2) (record { output = refl; rest = refl }))
     h
 
-phase_quiet : (name : List ℕ) (phase : Phase) (input : List ℕ) (e : Effect) → ComesOfPhase name phase input e → Quiet input e
+phase_quiet : (name : List ℕ) (phase : Phase) (input : List ℕ) (e : Effect) → EffectOfPhase name phase input e → Quiet input e
 phase_quiet name (Err refusal) input e h = quiet_answer (Refused name refusal) input e h
 phase_quiet name (Ok flow) input e h = subst (Quiet input) (sym h.3) (record { output = refl; rest = refl })
 
@@ -93,26 +93,26 @@ store_does comes None new rest taken answer quiet h = tt
 store_does comes (Some t) new None taken answer quiet h = tt
 store_does comes (Some t) new (Some input) taken answer quiet h = quiet_does (comes t.files input) answer t new input taken (quiet t.files input) (h input)
 
-pub phase_one_does : (told new : Option Told) (rest taken : Option (List ℕ)) (name : List ℕ) (answer : Answer) → IfSome told (λ t. (input : List ℕ) → Obeys (PhaseOneComes t.files name input) answer t new)
-    → IfSome told (λ t. IfSome rest (λ input. Does (PhaseOneComes t.files name input) answer t new input rest taken taken))
+pub phase_one_does : (told new : Option Told) (rest taken : Option (List ℕ)) (name : List ℕ) (answer : Answer) → IfSome told (λ t. (input : List ℕ) → Obeys (PhaseOneEffect t.files name input) answer t new)
+    → IfSome told (λ t. IfSome rest (λ input. Does (PhaseOneEffect t.files name input) answer t new input rest taken taken))
 phase_one_does told new rest taken name answer h =
-    store_does (λ files input. PhaseOneComes files name input) told new rest taken answer (λ files input e d. phase_one_quiet name (needed_bytes files (text_name name)) input e d) h
+    store_does (λ files input. PhaseOneEffect files name input) told new rest taken answer (λ files input e d. phase_one_quiet name (needed_bytes files (text_name name)) input e d) h
 
-pub analyse_does : (told new : Option Told) (rest taken : Option (List ℕ)) (colours : ℕ) (answer : Answer) → IfSome told (λ t. (input : List ℕ) → Obeys (AnalyseComes t.files colours input) answer t new)
-    → IfSome told (λ t. IfSome rest (λ input. Does (AnalyseComes t.files colours input) answer t new input rest taken taken))
+pub analyse_does : (told new : Option Told) (rest taken : Option (List ℕ)) (colours : ℕ) (answer : Answer) → IfSome told (λ t. (input : List ℕ) → Obeys (AnalyseEffect t.files colours input) answer t new)
+    → IfSome told (λ t. IfSome rest (λ input. Does (AnalyseEffect t.files colours input) answer t new input rest taken taken))
 analyse_does told new rest taken colours answer h =
-    store_does (λ files input. AnalyseComes files colours input) told new rest taken answer (λ files input e d. analyse_quiet (summaries_of files) colours input e d) h
+    store_does (λ files input. AnalyseEffect files colours input) told new rest taken answer (λ files input e d. analyse_quiet (summaries_of files) colours input e d) h
 
-pub phase_two_does : (told new : Option Told) (rest taken : Option (List ℕ)) (name : List ℕ) (answer : Answer) → IfSome told (λ t. (input : List ℕ) → Obeys (PhaseTwoComes t.files name input) answer t new)
-    → IfSome told (λ t. IfSome rest (λ input. Does (PhaseTwoComes t.files name input) answer t new input rest taken taken))
+pub phase_two_does : (told new : Option Told) (rest taken : Option (List ℕ)) (name : List ℕ) (answer : Answer) → IfSome told (λ t. (input : List ℕ) → Obeys (PhaseTwoEffect t.files name input) answer t new)
+    → IfSome told (λ t. IfSome rest (λ input. Does (PhaseTwoEffect t.files name input) answer t new input rest taken taken))
 phase_two_does told new rest taken name answer h =
-    store_does (λ files input. PhaseTwoComes files name input) told new rest taken answer
+    store_does (λ files input. PhaseTwoEffect files name input) told new rest taken answer
     (λ files input e d. phase_two_quiet name (needed flow_at files (flow_name name)) (needed database_at files database_name) input e d) h
 
-pub link_does : (told new : Option Told) (rest taken : Option (List ℕ)) (stack : ℕ) (answer : Answer) → IfSome told (λ t. (input : List ℕ) → Obeys (LinkComes t.files stack input) answer t new)
-    → IfSome told (λ t. IfSome rest (λ input. Does (LinkComes t.files stack input) answer t new input rest taken taken))
+pub link_does : (told new : Option Told) (rest taken : Option (List ℕ)) (stack : ℕ) (answer : Answer) → IfSome told (λ t. (input : List ℕ) → Obeys (LinkEffect t.files stack input) answer t new)
+    → IfSome told (λ t. IfSome rest (λ input. Does (LinkEffect t.files stack input) answer t new input rest taken taken))
 link_does told new rest taken stack answer h =
-    store_does (λ files input. LinkComes files stack input) told new rest taken answer (λ files input e d. link_quiet (objects_of files) stack input e d) h
+    store_does (λ files input. LinkEffect files stack input) told new rest taken answer (λ files input e d. link_quiet (objects_of files) stack input e d) h
 
 -- ---- the commands that print
 
@@ -130,14 +130,14 @@ show_does comes None new rest taken taken' answer prints same h = tt
 show_does comes (Some t) new None taken taken' answer prints same h = tt
 show_does comes (Some t) new (Some input) taken taken' answer prints same h = prints_does (comes t.files input) answer t new input taken taken' (prints t.files input) same (h input)
 
-pub list_does : (told new : Option Told) (rest taken taken' : Option (List ℕ)) (answer : Answer) → Keeps told new → IfSome told (λ t. (input : List ℕ) → Shows (ListComes t.files input) answer taken taken')
-    → IfSome told (λ t. IfSome rest (λ input. Does (ListComes t.files input) answer t new input rest taken taken'))
-list_does told new rest taken taken' answer same h = show_does (λ files input. ListComes files input) told new rest taken taken' answer (λ files input e d. list_prints (image_in files) input e d) same h
+pub list_does : (told new : Option Told) (rest taken taken' : Option (List ℕ)) (answer : Answer) → Keeps told new → IfSome told (λ t. (input : List ℕ) → Shows (ListEffect t.files input) answer taken taken')
+    → IfSome told (λ t. IfSome rest (λ input. Does (ListEffect t.files input) answer t new input rest taken taken'))
+list_does told new rest taken taken' answer same h = show_does (λ files input. ListEffect files input) told new rest taken taken' answer (λ files input e d. list_prints (image_in files) input e d) same h
 
-pub db_does : (told new : Option Told) (rest taken taken' : Option (List ℕ)) (answer : Answer) → Keeps told new → IfSome told (λ t. (input : List ℕ) → Shows (DatabaseComes t.files input) answer taken taken')
-    → IfSome told (λ t. IfSome rest (λ input. Does (DatabaseComes t.files input) answer t new input rest taken taken'))
+pub db_does : (told new : Option Told) (rest taken taken' : Option (List ℕ)) (answer : Answer) → Keeps told new → IfSome told (λ t. (input : List ℕ) → Shows (DatabaseEffect t.files input) answer taken taken')
+    → IfSome told (λ t. IfSome rest (λ input. Does (DatabaseEffect t.files input) answer t new input rest taken taken'))
 db_does told new rest taken taken' answer same h =
-    show_does (λ files input. DatabaseComes files input) told new rest taken taken' answer (λ files input e d. subst (Prints input) (sym d) (printed_prints (database_text files) input)) same h
+    show_does (λ files input. DatabaseEffect files input) told new rest taken taken' answer (λ files input e d. subst (Prints input) (sym d) (printed_prints (database_text files) input)) same h
 
 -- ---- the commands that run
 
@@ -181,7 +181,7 @@ built_rest : (comes : Result Outcome BuildFault) (input : List ℕ) → (built_e
 built_rest (Ok outcome) input = refl
 built_rest (Err fault) input = refl
 
-comes_rest : (files : Files) (colours stack : ℕ) (input : List ℕ) (e : Effect) → BuildComesTo files colours stack input e → e.rest ≡ input
+comes_rest : (files : Files) (colours stack : ℕ) (input : List ℕ) (e : Effect) → BuildEffect files colours stack input e → e.rest ≡ input
 comes_rest files colours stack input e d = ap (λ (x : Effect). x.rest) d.2 ∙ built_rest d.0 input
 
 built_does : (comes : Effect → Type 0) (answer : Answer) (told : Told) (new : Option Told) (input : List ℕ) (taken taken' : Option (List ℕ)) → ((e : Effect) → comes e → e.rest ≡ input) → Obeys comes answer told new
@@ -195,13 +195,13 @@ built_does comes answer told new input taken taken' rest h out = record {
 }
 
 pub build_does : (told new : Option Told) (rest taken taken' : Option (List ℕ)) (colours stack : ℕ) (answer : Answer)
-    → IfSome told (λ t. (input : List ℕ) → Obeys (BuildComesTo t.files colours stack input) answer t new)
-    → IfSome told (λ t. (input : List ℕ) (e : Effect) → BuildComesTo t.files colours stack input e → PutsOut e.output answer taken taken')
-    → IfSome told (λ t. IfSome rest (λ input. Does (BuildComesTo t.files colours stack input) answer t new input rest taken taken'))
+    → IfSome told (λ t. (input : List ℕ) → Obeys (BuildEffect t.files colours stack input) answer t new)
+    → IfSome told (λ t. (input : List ℕ) (e : Effect) → BuildEffect t.files colours stack input e → PutsOut e.output answer taken taken')
+    → IfSome told (λ t. IfSome rest (λ input. Does (BuildEffect t.files colours stack input) answer t new input rest taken taken'))
 build_does None new rest taken taken' colours stack answer h out = tt
 build_does (Some t) new None taken taken' colours stack answer h out = tt
 build_does (Some t) new (Some input) taken taken' colours stack answer h out =
-    built_does (BuildComesTo t.files colours stack input) answer t new input taken taken' (λ e d. comes_rest t.files colours stack input e d) (h input) (λ e d. out input e d)
+    built_does (BuildEffect t.files colours stack input) answer t new input taken taken' (λ e d. comes_rest t.files colours stack input e d) (h input) (λ e d. out input e d)
 
 pub build_no_usage : (answer : Answer) → IsBuildAnswer answer → IsNoUsage answer
 build_no_usage Usage h = h

@@ -118,6 +118,6 @@ memory_here comes told input taken ends = record {
   found = tt;
 }
 
--- a front of what is wanted was put out, whatever came then
+-- a prefix of what is wanted was put out, whatever came then
 pub out_part : (wanted : List ℕ) (answer : Answer) (old new : Option (List ℕ)) → PutsOut wanted answer old new → PutsOut wanted NoMemory old new
 out_part wanted answer old new p = record { output = p.output; more = p.more; taken = p.taken; front = p.front; whole = tt }

@@ -14,8 +14,8 @@ use Rattle.pw_law_session.specs.FromBuilding.Building.{Outcome}
 use Rattle.pw_law_session.specs.FromCommands.Outcome.{IsFound}
 use Rattle.pw_law_session.specs.FromGo.Going.{IsNoUsage}
 use Rattle.pw_law_session.specs.FromSession.SessionOpts.{SessionOpts}
-use Rattle.pw_law_session.specs.FromSession.Bench.{BenchComes, BenchOver, IsBenchAnswer, IsBenchFound, IsBenchLine, ObeysBench, bench_files}
-use Rattle.pw_law_session.specs.FromSession.Changes.{Change, ChangeFront, MakesChanges, MakesSome}
+use Rattle.pw_law_session.specs.FromSession.Bench.{BenchEffect, BenchOver, IsBenchAnswer, IsBenchFound, IsBenchLine, ObeysBench, bench_files}
+use Rattle.pw_law_session.specs.FromSession.Changes.{Change, ChangePrefix, MakesChanges, MakesSome}
 use Rattle.pw_top.specs.Rest.{LeavesRest}
 use Rattle.pw_law_session.specs.FromSession.Outcomes.{IsSessionAnswer, LeavesScript, ObeysSession}
 use Rattle.pw_top.specs.Does.{Does, DoesSession}
@@ -75,7 +75,7 @@ some_memory may _ told new n h = absurd n
 
 -- ---- want of memory in place of the answer's line
 
-changes_front : (changes : List Change) (answer : Answer) (told : Told) (new : Option Told) → NeedsMemory answer → MakesChanges changes answer told new → ChangeFront told changes new
+changes_front : (changes : List Change) (answer : Answer) (told : Told) (new : Option Told) → NeedsMemory answer → MakesChanges changes answer told new → ChangePrefix told changes new
 changes_front changes (Refused name refusal) told new n h = record { done = changes; more = []; split = sym (append-nil changes); left = h }
 changes_front changes (LinkRefused fault) told new n h = record { done = changes; more = []; split = sym (append-nil changes); left = h }
 changes_front changes (Halted halt at) told new n h = record { done = changes; more = []; split = sym (append-nil changes); left = h }
@@ -115,7 +115,7 @@ bench_prints_over : (number budget : ℕ) (input : List ℕ) (comes : Result Out
 bench_prints_over number budget input (Ok outcome) e h = subst (Prints input) (sym h.2) (record { puts = refl; rest = refl })
 bench_prints_over number budget input (Err fault) e h = subst (Prints input) (sym h) (record { puts = refl; rest = refl })
 
-pub bench_prints : (number : ℕ) (opts : SessionOpts) (input : List ℕ) (e : Effect) → BenchComes number opts input e → Prints input e
+pub bench_prints : (number : ℕ) (opts : SessionOpts) (input : List ℕ) (e : Effect) → BenchEffect number opts input e → Prints input e
 bench_prints number opts input e h = bench_prints_over number opts.budget input h.0 e h.2
 
 bench_found : (comes : Effect → Type 0) (answer : Answer) → IsBenchFound comes answer → IsFound comes answer
@@ -125,8 +125,8 @@ bench_found comes StoreFault h = tt
 bench_found comes NoMemory h = tt
 bench_found comes _ h = h
 
-pub bench_does : (told : Option Told) (rest taken taken' : Option (List ℕ)) (number : ℕ) (opts : SessionOpts) (answer : Answer) → ((input : List ℕ) → ObeysBench (BenchComes number opts input) answer taken taken')
-    → IfSome told (λ t. IfSome rest (λ input. Does (BenchComes number opts input) answer t told input rest taken taken'))
+pub bench_does : (told : Option Told) (rest taken taken' : Option (List ℕ)) (number : ℕ) (opts : SessionOpts) (answer : Answer) → ((input : List ℕ) → ObeysBench (BenchEffect number opts input) answer taken taken')
+    → IfSome told (λ t. IfSome rest (λ input. Does (BenchEffect number opts input) answer t told input rest taken taken'))
 bench_does None rest taken taken' number opts answer h = tt
 bench_does (Some t) None taken taken' number opts answer h = tt
 bench_does (Some t) (Some input) taken taken' number opts answer h = record {
@@ -134,10 +134,10 @@ bench_does (Some t) (Some input) taken taken' number opts answer h = record {
   puts = λ e d. puts_none e d;
   output = λ e d. (h input).output e d;
   rest = λ e d. left_so answer e.rest input (bench_prints number opts input e d).rest;
-  found = bench_found (BenchComes number opts input) answer (h input).found;
+  found = bench_found (BenchEffect number opts input) answer (h input).found;
 }
   where
-    puts_none : (e : Effect) (d : BenchComes number opts input e) → PutsFiles e.puts answer t (Some t)
+    puts_none : (e : Effect) (d : BenchEffect number opts input e) → PutsFiles e.puts answer t (Some t)
     puts_none e d = subst (λ (files : List NamedFile). PutsFiles files answer t (Some t)) (sym (bench_prints number opts input e d).puts) (nothing_put answer t (Some t) refl)
 
 pub bench_no_usage : (answer : Answer) → IsBenchAnswer answer → IsNoUsage answer

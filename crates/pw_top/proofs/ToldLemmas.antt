@@ -6,7 +6,7 @@ use Rattle.pw_front_end.specs.declared.refusal.Refusal.{Refusal}
 use Rattle.pw_top_answer.specs.declared.answer.Answer.{Answer}
 use Rattle.pw_top_answer.specs.declared.answer.Answer.TheVariants.{Usage, Refused, LinkRefused, Halted, StoreFault, NoMemory, BadFile, BadScript}
 use Rattle.pw_top_answer.specs.Answers.{line_text, NeedsMemory}
-use Rattle.pw_top_answer.specs.Effects.{Effect, NamedFile, PutsFiles, PutFront}
+use Rattle.pw_top_answer.specs.Effects.{Effect, NamedFile, PutsFiles, PutPrefix}
 use Rattle.pw_top_answer.specs.Outcomes.{Answers, InputCount, IsLineDue, LeavesInput, LeavesStreams, OutputCount, StoreCount, ToldAs, WasReadInPart}
 use Rattle.pw_law_session.specs.Ends.{Ends}
 use Rattle.pw_law_session.specs.FromCommands.Others.{KeepsOthers}
@@ -50,7 +50,7 @@ usage_comes answer told P t h p = usage_told answer told t (h p)
 
 -- ---- what the call did
 
-puts_all : (answer : Answer) (files : List NamedFile) (told : Told) (new : Option Told) → NeedsMemory answer → PutsFiles files answer told new → PutFront told files new
+puts_all : (answer : Answer) (files : List NamedFile) (told : Told) (new : Option Told) → NeedsMemory answer → PutsFiles files answer told new → PutPrefix told files new
 puts_all (Refused name refusal) files told new n h = record { done = files; more = []; split = sym (append-nil files); left = h }
 puts_all (LinkRefused fault) files told new n h = record { done = files; more = []; split = sym (append-nil files); left = h }
 puts_all (Halted halt at) files told new n h = record { done = files; more = []; split = sym (append-nil files); left = h }

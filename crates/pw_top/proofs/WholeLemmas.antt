@@ -8,11 +8,11 @@ use Rattle.pw_top_answer.specs.declared.answer.Answer.TheVariants.{Done}
 use Rattle.pw_top_answer.specs.Effects.{Effect, PutsFiles, after_puts}
 use Rattle.pw_law_session.specs.FromBuild.BuildFault.{BuildFault}
 use Rattle.pw_law_session.specs.FromBuild.BuildFault.TheVariants as build
-use Rattle.pw_law_session.specs.FromBuilding.Building.{BuildComes, Outcome}
+use Rattle.pw_law_session.specs.FromBuilding.Building.{BuildOutcome, Outcome}
 use Rattle.pw_law_session.specs.FromBuilding.Genuine.{KeepsGenuine}
 use Rattle.pw_law_session.specs.FromBuilding.Outcomes.{fault_answer}
 use Rattle.pw_law_session.specs.FromBuildLaws.Whole.{HoldsFullBuild}
-use Rattle.pw_law_session.specs.FromDriving.Driving.{BuildComesTo, built_effect}
+use Rattle.pw_law_session.specs.FromDriving.Driving.{BuildEffect, built_effect}
 use Rattle.pw_top_words.specs.declared.commands.Command.{Command}
 use Rattle.pw_law_session.specs.Full.{SessionBuildsInFull}
 use Rattle.pw_law_session.specs.FromSession.SessionOpts.{SessionOpts}
@@ -21,7 +21,7 @@ use Rattle.pw_top.specs.Commands.{BuildsWhole, IfDone, opts_of}
 use Rattle.pw_top.specs.Does.{Does, DoesAs}
 
 abbrev pub BuildsLeave : Type 0
-BuildsLeave = (told : Told) (colours stack : ℕ) (outcome : Outcome) → KeepsGenuine told.files → BuildComes told.files colours stack (Ok outcome) → HoldsFullBuild (module_map told.files) colours stack (after_puts told outcome.puts).files
+BuildsLeave = (told : Told) (colours stack : ℕ) (outcome : Outcome) → KeepsGenuine told.files → BuildOutcome told.files colours stack (Ok outcome) → HoldsFullBuild (module_map told.files) colours stack (after_puts told outcome.puts).files
 
 abbrev pub SessionsLeave : Type 0
 SessionsLeave = (opts : SessionOpts) (told : Told) (script : List ℕ) → KeepsGenuine told.files → SessionBuildsInFull opts told script
@@ -32,14 +32,14 @@ no_done (build.LinkRefused fault) e = cc
 no_done build.StoreFault e = cc
 no_done build.NoMemory e = cc
 
-built_whole : BuildsLeave → (comes : Result Outcome BuildFault) (colours stack : ℕ) (told : Told) (new : Option Told) (input : List ℕ) (effect : Effect) → BuildComes told.files colours stack comes → effect ≡ built_effect comes input
+built_whole : BuildsLeave → (comes : Result Outcome BuildFault) (colours stack : ℕ) (told : Told) (new : Option Told) (input : List ℕ) (effect : Effect) → BuildOutcome told.files colours stack comes → effect ≡ built_effect comes input
     → effect.answer ≡ Done → PutsFiles effect.puts Done told new → KeepsGenuine told.files → IsSomeAnd new (λ now. HoldsFullBuild (module_map told.files) colours stack now.files)
 built_whole law (Ok outcome) colours stack told new input effect c is done puts keeps =
     let same : new ≡ Some (after_puts told outcome.puts) = subst (λ (x : Effect). PutsFiles x.puts Done told new) is puts in
     subst (λ (o : Option Told). IsSomeAnd o (λ now. HoldsFullBuild (module_map told.files) colours stack now.files)) (sym same) (law told colours stack outcome keeps c)
 built_whole law (Err fault) colours stack told new input effect c is done puts keeps = absurd (no_done fault (ap (λ (x : Effect). x.answer) (sym is) ∙ done))
 
-done_whole : BuildsLeave → (colours stack : ℕ) (answer : Answer) (told : Told) (new : Option Told) (input : List ℕ) (rest taken taken' : Option (List ℕ)) → Does (BuildComesTo told.files colours stack input) answer told new input rest taken taken'
+done_whole : BuildsLeave → (colours stack : ℕ) (answer : Answer) (told : Told) (new : Option Told) (input : List ℕ) (rest taken taken' : Option (List ℕ)) → Does (BuildEffect told.files colours stack input) answer told new input rest taken taken'
     → IfDone answer (KeepsGenuine told.files → IsSomeAnd new (λ now. HoldsFullBuild (module_map told.files) colours stack now.files))
 done_whole law colours stack Done told new input rest taken taken' d =
     λ keeps. built_whole law d.found.1.0 colours stack told new input d.found.0 d.found.1.1 d.found.1.2 d.found.2 (d.puts d.found.0 d.found.1) keeps

@@ -8,23 +8,23 @@ use Rattle.pw_top_answer.specs.Effects.{Effect, PutsFiles, answers_alone}
 use Rattle.pw_top_answer.specs.Outcomes.{Answers, LeavesInput, PutsOut}
 use Rattle.pw_law_session.specs.FromGo.FullBuild.{full_build}
 use Rattle.pw_law_session.specs.FromGo.Going.{build_effect}
-use Rattle.pw_law_session.specs.FromCommands.Analysing.{AnalyseComes}
-use Rattle.pw_law_session.specs.FromCommands.Linking.{LinkComes}
+use Rattle.pw_law_session.specs.FromCommands.Analysing.{AnalyseEffect}
+use Rattle.pw_law_session.specs.FromCommands.Linking.{LinkEffect}
 use Rattle.pw_law_session.specs.FromCommands.Outcome.{IsFound}
 use Rattle.pw_law_session.specs.FromCommands.Running.{run_effect}
-use Rattle.pw_law_session.specs.FromCommands.Showing.{DatabaseComes, ListComes}
-use Rattle.pw_commands_phases.specs.First.{PhaseOneComes}
-use Rattle.pw_commands_phases.specs.Second.{PhaseTwoComes}
-use Rattle.pw_law_session.specs.FromDriving.Driving.{BuildComesTo}
+use Rattle.pw_law_session.specs.FromCommands.Showing.{DatabaseEffect, ListEffect}
+use Rattle.pw_commands_phases.specs.First.{PhaseOneEffect}
+use Rattle.pw_commands_phases.specs.Second.{PhaseTwoEffect}
+use Rattle.pw_law_session.specs.FromDriving.Driving.{BuildEffect}
 use Rattle.pw_law_session.specs.FromSession.SessionOpts.{SessionOpts}
-use Rattle.pw_law_session.specs.FromSession.Bench.{BenchComes}
+use Rattle.pw_law_session.specs.FromSession.Bench.{BenchEffect}
 use Rattle.pw_law_session.specs.FromSession.Outcomes.{LeavesScript, ObeysSession}
 use Rattle.pw_top_words.specs.declared.commands.Command.{Command}
 use Rattle.pw_top_words.specs.declared.commands.Command.TheVariants.{Go, Build, Session, PhaseOne, Analyse, PhaseTwo, Link, Run, List as ListImage, Db, Bench}
 use Rattle.pw_top.specs.Commands.{opts_of}
 
 -- The answer, the files that were put, what was put out and what is left of the input are those to which the command
--- comes; a fault or want of memory may come in its place, and then a front of the files was put, a front of the output
+-- comes; a fault or want of memory may come in its place, and then a prefix of the files was put, a prefix of the output
 -- was put out, and no more was read than the command reads.
 pub record Does (comes : Effect → Type 0) (answer : Answer) (told : Told) (told' : Option Told) (input : List ℕ) (input' taken taken' : Option (List ℕ)) : Type 0 where
   pub answers : (effect : Effect) → comes effect → Answers effect.answer answer
@@ -42,13 +42,13 @@ pub record DoesSession (opts : SessionOpts) (answer : Answer) (told : Told) (tol
 abbrev pub DoesAs : Option Command → Answer → Told → Option Told → List ℕ → Option (List ℕ) → Option (List ℕ) → Option (List ℕ) → Type 0
 DoesAs None answer told told' input input' taken taken' = Does (λ effect. effect ≡ answers_alone Usage input) answer told told' input input' taken taken'
 DoesAs (Some (Go colours stack steps)) answer told told' input input' taken taken' = Does (λ effect. effect ≡ build_effect (full_build told.files) steps input) answer told told' input input' taken taken'
-DoesAs (Some (Build colours stack)) answer told told' input input' taken taken' = Does (BuildComesTo told.files colours stack input) answer told told' input input' taken taken'
+DoesAs (Some (Build colours stack)) answer told told' input input' taken taken' = Does (BuildEffect told.files colours stack input) answer told told' input input' taken taken'
 DoesAs (Some (Session colours stack steps)) answer told told' input input' taken taken' = DoesSession (opts_of colours stack steps) answer told told' input input' taken taken'
-DoesAs (Some (Bench number colours stack steps)) answer told told' input input' taken taken' = Does (BenchComes number (opts_of colours stack steps) input) answer told told' input input' taken taken'
-DoesAs (Some (PhaseOne name)) answer told told' input input' taken taken' = Does (PhaseOneComes told.files name input) answer told told' input input' taken taken'
-DoesAs (Some (Analyse colours)) answer told told' input input' taken taken' = Does (AnalyseComes told.files colours input) answer told told' input input' taken taken'
-DoesAs (Some (PhaseTwo name)) answer told told' input input' taken taken' = Does (PhaseTwoComes told.files name input) answer told told' input input' taken taken'
-DoesAs (Some (Link stack)) answer told told' input input' taken taken' = Does (LinkComes told.files stack input) answer told told' input input' taken taken'
+DoesAs (Some (Bench number colours stack steps)) answer told told' input input' taken taken' = Does (BenchEffect number (opts_of colours stack steps) input) answer told told' input input' taken taken'
+DoesAs (Some (PhaseOne name)) answer told told' input input' taken taken' = Does (PhaseOneEffect told.files name input) answer told told' input input' taken taken'
+DoesAs (Some (Analyse colours)) answer told told' input input' taken taken' = Does (AnalyseEffect told.files colours input) answer told told' input input' taken taken'
+DoesAs (Some (PhaseTwo name)) answer told told' input input' taken taken' = Does (PhaseTwoEffect told.files name input) answer told told' input input' taken taken'
+DoesAs (Some (Link stack)) answer told told' input input' taken taken' = Does (LinkEffect told.files stack input) answer told told' input input' taken taken'
 DoesAs (Some (Run steps)) answer told told' input input' taken taken' = Does (λ effect. effect ≡ run_effect told.files steps input) answer told told' input input' taken taken'
-DoesAs (Some ListImage) answer told told' input input' taken taken' = Does (ListComes told.files input) answer told told' input input' taken taken'
-DoesAs (Some Db) answer told told' input input' taken taken' = Does (DatabaseComes told.files input) answer told told' input input' taken taken'
+DoesAs (Some ListImage) answer told told' input input' taken taken' = Does (ListEffect told.files input) answer told told' input input' taken taken'
+DoesAs (Some Db) answer told told' input input' taken taken' = Does (DatabaseEffect told.files input) answer told told' input input' taken taken'

@@ -6,7 +6,7 @@ ghost use Rattle.pw_top_answer.specs.Answers.{line_text};
 ghost use Rattle.pw_top_answer.specs.Outcomes.{InputCount, LeavesStreams, OutputCount, StoreCount, Tells, TellsSome};
 ghost use Rattle.pw_law_session.specs.FromGo.FullBuild.{full_build};
 ghost use Rattle.pw_law_session.specs.FromGo.Going.{AnswersBuild, BuiltAgrees, IsNoUsage, ReturnsSum};
-ghost use Rattle.pw_law_session.specs.FromGo.Refusals.{HoldsNoWantOfMemory, NoMainComes, NoMainIs, RefusalComes, RefusalIs};
+ghost use Rattle.pw_law_session.specs.FromGo.Refusals.{HoldsNoWantOfMemory, AnswersNoMain, NoMainIs, AnswersRefusal, RefusalIs};
 ghost use Rattle.pw_store_modules.specs.Modules.{modules_of};
 ghost use Rattle.pw_law_session.specs.FromBuilding.Genuine.{KeepsGenuine};
 ghost use Rattle.pw_top.specs.Commands.{BuildsWhole, EndsScript, IsGo, IsNoSession, KeepsTheRest, OnlyReads, is_builder, is_phase, is_reader, line_of, opts_of};
@@ -18,7 +18,11 @@ ghost use Rattle.pw_top_words.specs.Limits.{IsWithin};
 use pw_commands_phases::{compile_flow, compile_text};
 use pw_io::laws::other_files;
 use pw_io::{Sink, Source, Store};
-use pw_law_session::{Opts, SessionOpts, a_build_leaves_the_whole_program, analyse_modules, bench, build_modules, builds_agree, genuine_files_keep_genuine, go, link_modules, list_image, refusals_are_due, run_image, run_session, runs_leave_an_end, sessions_build_in_full, show_database};
+use pw_law_session::{
+    Opts, SessionOpts, a_build_leaves_the_whole_program, analyse_modules, bench, build_modules,
+    builds_agree, genuine_files_keep_genuine, go, link_modules, list_image, refusals_are_due,
+    run_image, run_session, runs_leave_an_end, sessions_build_in_full, show_database,
+};
 use pw_top_answer::{Answer, Reply, tell};
 use pw_top_words::laws::commands_are_within;
 use pw_top_words::{Command, WordsFault, command};
@@ -216,9 +220,9 @@ pub fn pawc_top<S: Store, I: Source, O: Sink, E: Sink>(
 
     // the refusals of `go`
     ensures refusal_is { IfSome (S.told store.old) (λ told. IsGo (command_of (map string_bytes words.now)) → RefusalIs (modules_of told.files) result) }
-    ensures refusal_comes { IfSome (S.told store.old) (λ told. IsGo (command_of (map string_bytes words.now)) → RefusalComes (modules_of told.files) result) }
+    ensures refusal_comes { IfSome (S.told store.old) (λ told. IsGo (command_of (map string_bytes words.now)) → AnswersRefusal (modules_of told.files) result) }
     ensures no_main_is { IfSome (S.told store.old) (λ told. IsGo (command_of (map string_bytes words.now)) → NoMainIs (modules_of told.files) result) }
-    ensures no_main_comes { IfSome (S.told store.old) (λ told. IsGo (command_of (map string_bytes words.now)) → NoMainComes (modules_of told.files) result) }
+    ensures no_main_comes { IfSome (S.told store.old) (λ told. IsGo (command_of (map string_bytes words.now)) → AnswersNoMain (modules_of told.files) result) }
     ensures refuses { IfSome (S.told store.old) (λ told. IsGo (command_of (map string_bytes words.now)) → AnswersBuild (full_build told.files) result) }
 
     // source and machine

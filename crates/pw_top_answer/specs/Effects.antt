@@ -41,22 +41,22 @@ IsLeft told [] new = new ≡ Some told
 IsLeft told (file ∷ files) new =
     (new ≡ Some told) ⊎ IsSomeAnd new (λ left. (left.puts ≡ told.puts) × LeavesFile told.files left.files file.0 file.1)
 
--- a front of the files was put, whole
-pub record PutFront (told : Told) (files : List NamedFile) (new : Option Told) : Type 0 where
+-- a prefix of the files was put, whole
+pub record PutPrefix (told : Told) (files : List NamedFile) (new : Option Told) : Type 0 where
   pub done : List NamedFile
   pub more : List NamedFile
   pub split : files ≡ done ++ more
   pub left : new ≡ Some (after_puts told done)
 
--- a front of the files was put, and of the next perhaps a part
+-- a prefix of the files was put, and of the next perhaps a part
 pub record PutPart (told : Told) (files : List NamedFile) (new : Option Told) : Type 0 where
   pub done : List NamedFile
   pub more : List NamedFile
   pub split : files ≡ done ++ more
   pub left : IsLeft (after_puts told done) more new
 
--- The files were put, in order, and no others; where the store failed or memory ran out, a front of them.
+-- The files were put, in order, and no others; where the store failed or memory ran out, a prefix of them.
 abbrev pub PutsFiles : List NamedFile → Answer → Told → Option Told → Type 0
 PutsFiles files StoreFault told new = PutPart told files new
-PutsFiles files NoMemory told new = PutFront told files new
+PutsFiles files NoMemory told new = PutPrefix told files new
 PutsFiles files _ told new = new ≡ Some (after_puts told files)

@@ -55,7 +55,7 @@ IsWhole StoreFault more = Unit {0}
 IsWhole NoMemory more = Unit {0}
 IsWhole _ more = more ≡ []
 
--- The output is a front of what is wanted, and all of it where nothing fails.
+-- The output is a prefix of what is wanted, and all of it where nothing fails.
 pub record PutsOut (wanted : List ℕ) (answer : Answer) (old new : Option (List ℕ)) : Type 0 where
   pub output : List ℕ
   pub more : List ℕ
@@ -65,12 +65,12 @@ pub record PutsOut (wanted : List ℕ) (answer : Answer) (old new : Option (List
 
 -- ---- what it leaves of the input
 
--- Some front of the input was read, no more of it than the run reads, and the source tells what is behind it.
+-- Some prefix of the input was read, no more of it than the run reads, and the source tells what is behind it.
 abbrev pub WasReadInPart : List ℕ → List ℕ → Option (List ℕ) → Type 0
 WasReadInPart wanted input new =
     (front : List ℕ) × (more : List ℕ) × IsSomeAnd new (λ left. (input ≡ front ++ left) × (left ≡ more ++ wanted))
 
--- The source tells what the run left of the input; where a fault or want of memory came, some front was read.
+-- The source tells what the run left of the input; where a fault or want of memory came, some prefix was read.
 abbrev pub LeavesInput : List ℕ → List ℕ → Answer → Option (List ℕ) → Type 0
 LeavesInput wanted input ReadFault new = WasReadInPart wanted input new
 LeavesInput wanted input WriteFault new = WasReadInPart wanted input new
@@ -108,7 +108,7 @@ IsPrintAnswer _ = ⊥
 
 -- ---- the line that is told
 
--- The line was told, or a front of it where the sink's count of faults rose.
+-- The line was told, or a prefix of it where the sink's count of faults rose.
 abbrev pub Tells : List ℕ → Option (List ℕ) → Option (List ℕ) → ℕ → ℕ → Type 0
 Tells line old new before now =
     IfSome new (λ after. IsSomeAnd old (λ first. (told : List ℕ) × (more : List ℕ) × (line ≡ told ++ more) × (after ≡ first ++ told) × ((more ≡ []) ⊎ Rose before now)))

@@ -3,7 +3,7 @@ use Rattle.std.proofs.Common.{◌≡◌, ℕ, ◌≤◌, ◌&&◌, subst, Bool, 
 use Rattle.std.specs.Str.{bytes_eq}
 use Rattle.std.specs.Str.Parse.{digits_value}
 use Rattle.std.proofs.lemmas.Bool.Decides.{nat_tests}
-use Rattle.pw_value.specs.Limits.{stack_least, stack_most}
+use Rattle.pw_value.specs.Limits.{stack_least, stack_limit}
 use Rattle.pw_store_modules.specs.Modules.{is_module_name}
 use Rattle.pw_top_words.specs.declared.commands.Command.{Command}
 use Rattle.pw_top_words.specs.declared.commands.Command.TheVariants.{Go, Build, Session, PhaseOne, Analyse, PhaseTwo, Link, Run, List as ListImage, Db, Bench}
@@ -54,8 +54,8 @@ number_or_is_in least most default (Some text) h k = number_is_in least most tex
 colours_are_in : (parts : List Part) → IsIn 0 colour_limit (colours_in parts)
 colours_are_in parts = number_or_is_in 0 colour_limit colour_limit (value_of colours parts) (omega arith) (omega arith)
 
-stack_is_in : (parts : List Part) → IsIn stack_least stack_most (stack_in parts)
-stack_is_in parts = number_or_is_in stack_least stack_most usual_stack (value_of stack parts) (omega arith) (omega arith)
+stack_is_in : (parts : List Part) → IsIn stack_least stack_limit (stack_in parts)
+stack_is_in parts = number_or_is_in stack_least stack_limit usual_stack (value_of stack parts) (omega arith) (omega arith)
 
 -- ---- names
 
@@ -94,7 +94,7 @@ any_within make (Some n) k = some_within (make n) (k n)
 abbrev Runs : (ℕ → ℕ → ℕ → Command) → Type 0
 Runs say = (c s n : ℕ) → c ≤ colour_limit → IsStack s → IsWithin (say c s n)
 
-stacked : (say : ℕ → ℕ → ℕ → Command) (c : ℕ) (given : Option ℕ) (parts : List Part) → Runs say → c ≤ colour_limit → IsIn stack_least stack_most given → Within (option_and_then (λ s. option_map (λ n. say c s n) (steps_in parts)) given)
+stacked : (say : ℕ → ℕ → ℕ → Command) (c : ℕ) (given : Option ℕ) (parts : List Part) → Runs say → c ≤ colour_limit → IsIn stack_least stack_limit given → Within (option_and_then (λ s. option_map (λ n. say c s n) (steps_in parts)) given)
 stacked say c None parts all h k = none_within
 stacked say c (Some s) parts all h k = any_within (λ n. say c s n) (steps_in parts) (λ n. all c s n h k)
 
@@ -119,7 +119,7 @@ bench_within : (words : List Text) → Within (bench_of words)
 bench_within words = parts_within (parts_of (colours ∷ stack ∷ steps ∷ []) 1 words) (λ parts. option_and_then (λ x. with_run (Bench x) parts) (seed_in parts)) (λ parts. seeded (seed_in parts) parts)
 
 -- the numbers of a build
-built : (c : ℕ) (given : Option ℕ) → c ≤ colour_limit → IsIn stack_least stack_most given → Within (option_map (λ s. Build c s) given)
+built : (c : ℕ) (given : Option ℕ) → c ≤ colour_limit → IsIn stack_least stack_limit given → Within (option_map (λ s. Build c s) given)
 built c None h k = none_within
 built c (Some s) h k = some_within (Build c s) (h, k)
 
@@ -139,7 +139,7 @@ analyse_within : (words : List Text) → Within (analyse_of words)
 analyse_within words = parts_within (parts_of (colours ∷ []) 0 words) (λ parts. option_map Analyse (colours_in parts)) (λ parts. map_within Analyse 0 colour_limit (colours_in parts) (colours_are_in parts) (λ n h k. k))
 
 link_within : (words : List Text) → Within (link_of words)
-link_within words = parts_within (parts_of (stack ∷ []) 0 words) (λ parts. option_map Link (stack_in parts)) (λ parts. map_within Link stack_least stack_most (stack_in parts) (stack_is_in parts) (λ n h k. (h, k)))
+link_within words = parts_within (parts_of (stack ∷ []) 0 words) (λ parts. option_map Link (stack_in parts)) (λ parts. map_within Link stack_least stack_limit (stack_in parts) (stack_is_in parts) (λ n h k. (h, k)))
 
 run_within : (words : List Text) → Within (run_of words)
 run_within words = parts_within (parts_of (steps ∷ []) 0 words) (λ parts. option_map Run (steps_in parts)) (λ parts. any_within Run (steps_in parts) (λ n. tt))

@@ -4,7 +4,7 @@ use Rattle.std.specs.List.{list_any, list_all, before_first, after_first}
 use Rattle.std.specs.Char.{is_ascii_digit}
 use Rattle.std.specs.Str.{bytes_eq}
 use Rattle.std.specs.Str.Parse.{digits_value}
-use Rattle.pw_value.specs.Limits.{stack_least, stack_most}
+use Rattle.pw_value.specs.Limits.{stack_least, stack_limit}
 use Rattle.pw_store_modules.specs.Modules.{is_module_name}
 use Rattle.pw_top_words.specs.declared.fault.WordsFault.{WordsFault}
 use Rattle.pw_top_words.specs.declared.fault.WordsFault.TheVariants.{Usage, NoMemory}
@@ -154,7 +154,7 @@ colours_in parts = number_or 0 colour_limit colour_limit (value_of colours parts
 
 -- the bytes of the stack
 abbrev pub stack_in : List Part → Option ℕ
-stack_in parts = number_or stack_least stack_most usual_stack (value_of stack parts)
+stack_in parts = number_or stack_least stack_limit usual_stack (value_of stack parts)
 
 -- how many instructions a run may take
 abbrev pub steps_in : List Part → Option ℕ

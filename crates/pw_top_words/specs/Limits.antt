@@ -1,6 +1,6 @@
 -- The limits within which a command's numbers lie.
 use Rattle.std.specs.Prelude.{◌≡◌, ℕ, ◌≤◌, true}
-use Rattle.pw_value.specs.Limits.{stack_least, stack_most}
+use Rattle.pw_value.specs.Limits.{stack_least, stack_limit}
 use Rattle.pw_store_modules.specs.Modules.{is_module_name}
 use Rattle.pw_top_words.specs.declared.commands.Command.{Command}
 use Rattle.pw_top_words.specs.declared.commands.Command.TheVariants.{Go, Build, Session, PhaseOne, Analyse, PhaseTwo, Link, Run, List as ListImage, Db, Bench}
@@ -8,7 +8,7 @@ use Rattle.pw_db.specs.Limits.{colour_limit}
 
 -- the bytes of a stack
 abbrev pub IsStack : ℕ → Type 0
-IsStack stack = (stack_least ≤ stack) × (stack ≤ stack_most)
+IsStack stack = (stack_least ≤ stack) × (stack ≤ stack_limit)
 
 -- Webs have so many registers at most, a stack lies within its limits, and a module's name is one.
 abbrev pub IsWithin : Command → Type 0

@@ -12,7 +12,7 @@ use crate::reader::{OPERAND, read_parts};
 use clap::ArgMatches;
 use pw_db::COLOUR_LIMIT;
 use pw_store_modules::is_module_name;
-use pw_value::limits::{STACK_LEAST, STACK_MOST};
+use pw_value::limits::{STACK_LEAST, STACK_LIMIT};
 use pw_value::{Name, NameError};
 use std::alloc::Global;
 
@@ -38,7 +38,7 @@ const LINK: [&str; 1] = [STACK];
 const RUN: [&str; 1] = [STEPS];
 
 /// The greatest count of registers of webs, and the one that stands for none given.
-const MOST_COLOURS: u64 = COLOUR_LIMIT as u64;
+const WIDE_COLOUR_LIMIT: u64 = COLOUR_LIMIT as u64;
 
 /// The stack that stands for none given.
 pub const USUAL_STACK: u64 = 1_048_576;
@@ -85,7 +85,7 @@ fn colours(matches: &ArgMatches) -> Result<u8, WordsFault>
     ensures read { (parts : List Part) → IsMatchOf parts matches.now → Reads (colours_in parts) result }
     ensures no_memory { IfErr result (λ fault. fault ≢ WordsFault.NoMemory) }
 {
-    Ok(number_or(matches, COLOURS, 0, MOST_COLOURS, MOST_COLOURS)? as u8)
+    Ok(number_or(matches, COLOURS, 0, WIDE_COLOUR_LIMIT, WIDE_COLOUR_LIMIT)? as u8)
 }
 
 /// The bytes of the stack, by the words.
@@ -97,7 +97,7 @@ fn stack(matches: &ArgMatches) -> Result<u32, WordsFault>
         matches,
         STACK,
         u64::from(STACK_LEAST),
-        u64::from(STACK_MOST),
+        u64::from(STACK_LIMIT),
         USUAL_STACK,
     )? as u32)
 }

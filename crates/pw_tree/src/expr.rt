@@ -156,7 +156,7 @@ pub enum RecordKind {
     Union,
 }
 
-/// One of the specifiers at the front of a declaration, in the source's order (C90 6.5).
+/// One of the specifiers at the beginning of a declaration, in the source's order (C90 6.5).
 #[cycle(expr)]
 pub enum Specifier {
     Storage {

@@ -56,7 +56,7 @@ map-clipped-offsets from (l ∷ rest) all within =
     ap (λ n. n ∷ map clipped (offsets_from (round_up from l.align + l.size) rest)) here
     ∙ ap (λ ns. round_up from l.align ∷ ns) there
 
--- the members of a union all stand at its front
+-- the members of a union all stand at its beginning
 record_offsets-Union : (ls : List Layout) → record_offsets Union ls ≡ replicate (length ls) 0
 record_offsets-Union [] = refl
 record_offsets-Union (l ∷ rest) = ap (λ (ns : List ℕ). 0 ∷ ns) (record_offsets-Union rest)

@@ -3,7 +3,7 @@
 use crate::ctype::QType;
 use pw_value::{Name, Shape};
 
-/// Whether members stand one after another or all at the front.
+/// Whether members stand one after another or all at the beginning.
 #[derive(Clone, Copy, PartialEq, Eq)]
 pub enum RecordKind {
     Structure,

@@ -1,4 +1,4 @@
--- Decimal digits at the front of a text.
+-- Decimal digits at the beginning of a text.
 use Rattle.std.proofs.Common.{◌≡◌, ℕ, ◌+◌, ◌<◌, Bool, true, false, cond, ◌&&◌, List, [], ◌∷◌, ◌++◌, length, take, drop, arith, refl, IsTrue, ap, ◌∙◌, sym, one-add}
 use Rattle.std.proofs.lemmas.Grind.{common_steps}
 use Rattle.std.proofs.lemmas.List.{take-append-drop}
@@ -21,7 +21,7 @@ list_all-take_prefix_len p (x ∷ xs) =
       | false ↦ λ e. refl
     ] refl
 
--- elements that pass, before one that fails, are all that pass at the front
+-- elements that pass, before one that fails, are all that pass at the beginning
 prefix_len-append_fails :
     (p : ℕ → Bool) (xs : List ℕ) (y : ℕ) (ys : List ℕ)
     → list_all p xs ≡ true
@@ -30,7 +30,7 @@ prefix_len-append_fails :
 prefix_len-append_fails p [] y ys all fails = grind (arith, common_steps)
 prefix_len-append_fails p (x ∷ xs) y ys all fails = grind (arith, common_steps, prefix_len-append_fails p xs y ys)
 
--- the digits at the front, and after them the closing text
+-- the digits at the beginning, and after them the closing text
 GivesDigits-from_front :
     (closing text : List ℕ)
     → 0 < prefix_len is_ascii_digit text
@@ -44,7 +44,7 @@ GivesDigits-from_front closing text some ends = (
   ),
 )
 
--- a number before a text that begins with no digit is all the digits at the front
+-- a number before a text that begins with no digit is all the digits at the beginning
 drop-of_GivesDigits :
     (closing text : List ℕ)
     → Begins 93 closing
@@ -72,7 +72,7 @@ GivesDigits-by_front closing text part digits same begins many some is tests = (
       (is ∙ ap (λ n. drop n text) many ∙ drop-of_GivesDigits closing text begins gives)),
 )
 
--- with no digit at the front no number stands there
+-- with no digit at the beginning no number stands there
 pub no_GivesDigits :
     (closing text : List ℕ)
     → Begins 93 closing

@@ -7,11 +7,11 @@ use Rattle.std.proofs.lemmas.Int.{wrapping_mul-bits, int_wrap_fits, of_z-to_z}
 use Rattle.std.proofs.lemmas.Bool.{leb-true}
 use Rattle.pw_value.specs.declared.words.WordFault.{WordFault}
 use Rattle.pw_value.specs.declared.words.WordFault.TheVariants.{Overflow}
-use Rattle.pw_value.specs.Words.{signed, word, int_most, fits, exact, signed_product, unsigned_product}
+use Rattle.pw_value.specs.Words.{signed, word, int_max, fits, exact, signed_product, unsigned_product}
 
 fits_signed : (z : ℤ) → fits z ≡ true → FitsSigned w32 z
-fits_signed (pos n) e = record { sfits = let h : n ≤ int_most = leb-true n int_most e in omega arith }
-fits_signed (negsuc n) e = record { sfits = let h : n ≤ int_most = leb-true n int_most e in omega arith }
+fits_signed (pos n) e = record { sfits = let h : n ≤ int_max = leb-true n int_max e in omega arith }
+fits_signed (negsuc n) e = record { sfits = let h : n ≤ int_max = leb-true n int_max e in omega arith }
 
 product_by : (a b : ℕ) → a < 2 ^ 32 → b < 2 ^ 32 → fits (signed a *ℤ signed b) ≡ true → word (signed a *ℤ signed b) ≡ unsigned_product a b
 product_by a b small little e =

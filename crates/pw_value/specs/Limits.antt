@@ -53,8 +53,8 @@ global_limit = 8192
 abbrev pub stack_least : ℕ
 stack_least = 4096
 
-abbrev pub stack_most : ℕ
-stack_most = 16777216
+abbrev pub stack_limit : ℕ
+stack_limit = 16777216
 
 -- bytes of a kept file that are read, and count as the file
 abbrev pub kept_limit : ℕ

@@ -16,13 +16,13 @@ Begins byte text = (rest : List ℕ) × (text ≡ byte ∷ rest)
 abbrev pub GivesDigits : List ℕ → List ℕ → Type 0
 GivesDigits closing text = (count : List ℕ) × (IsDecimal count × (text ≡ count ++ closing))
 
--- the second text is the first with a length put into the empty brackets at its front
+-- the second text is the first with a length put into the empty brackets at its beginning
 abbrev pub GivesLength : List ℕ → List ℕ → Type 0
 GivesLength without given =
     (element : List ℕ)
     × (rest : List ℕ)
     × ((without ≡ 91 ∷ 93 ∷ element) × (given ≡ 91 ∷ rest) × GivesDigits (93 ∷ element) rest)
 
--- the shapes are equal, or one is the other with the length left out at its front
+-- the shapes are equal, or one is the other with the length left out at its beginning
 abbrev pub Agree : List ℕ → List ℕ → Type 0
 Agree a b = (a ≡ b) ⊎ GivesLength a b ⊎ GivesLength b a

@@ -13,8 +13,8 @@ abbrev pub word : ℤ → ℕ
 word z = cast_unsigned w32 z
 
 -- the greatest int (5.2.4.2.1)
-abbrev pub int_most : ℕ
-int_most = 2 ^ 31 - 1
+abbrev pub int_max : ℕ
+int_max = 2 ^ 31 - 1
 
 -- what a read of a byte answers at the end of the input: the word of -1 (7.9.7.6)
 abbrev pub end_of_input : ℕ
@@ -27,15 +27,15 @@ complement a = 2 ^ 32 - 1 - a
 -- whether a word stands for a negative number, where it is an int's or an unsigned int's; and how far from 0
 -- the number is that it stands for, where it is negative or not
 abbrev pub is_negative : Bool → ℕ → Bool
-is_negative sign a = sign && nat_lt int_most a
+is_negative sign a = sign && nat_lt int_max a
 
 abbrev pub magnitude : Bool → ℕ → ℕ
 magnitude negative a = if negative then 2 ^ 32 - a else a
 
 -- whether an int can hold the number: it lies in -2^31 to 2^31 - 1
 abbrev pub fits : ℤ → Bool
-fits (pos n) = nat_le n int_most
-fits (negsuc n) = nat_le n int_most
+fits (pos n) = nat_le n int_max
+fits (negsuc n) = nat_le n int_max
 
 -- The exact result of an operation on ints, where an int can hold it; else the operation overflows (6.3).
 abbrev pub exact : ℤ → Result ℕ WordFault

@@ -2,11 +2,11 @@
 
 ghost use Rattle.std.specs.Prelude.{◌≡◌};
 ghost use Rattle.pw_value.specs.Limits.{name_limit, size_limit, shape_limit, depth_limit, parameter_limit, node_limit, room_limit};
-ghost use Rattle.pw_value.specs.Limits.{module_limit, texts_limit, function_limit, global_limit, stack_least, stack_most, kept_limit};
+ghost use Rattle.pw_value.specs.Limits.{module_limit, texts_limit, function_limit, global_limit, stack_least, stack_limit, kept_limit};
 ghost use Rattle.pw_value.specs.Limits.{text_start, word_limit, memory_size};
 
 /// The greatest count of bytes of a name.
-pub const NAME_MAX: usize = 400;
+pub const NAME_LIMIT: usize = 400;
 
 /// The greatest size of an object and of every other complete type, in bytes.
 pub const SIZE_LIMIT: u32 = 1_048_576;
@@ -43,7 +43,7 @@ pub const GLOBAL_LIMIT: u64 = 8192;
 pub const STACK_LEAST: u32 = 4096;
 
 /// The greatest size of the stack, in bytes.
-pub const STACK_MOST: u32 = 16_777_216;
+pub const STACK_LIMIT: u32 = 16_777_216;
 
 /// How many bytes of a kept file are read, and count as the file.
 pub const KEPT_LIMIT: usize = 268_435_456;
@@ -59,7 +59,7 @@ pub const MEMORY_SIZE: u32 = 67_108_864;
 
 /// The limits of a module are those that its definitions speak of.
 pub fn limits_of_a_module()
-    ensures name { NAME_MAX ≡ name_limit }
+    ensures name { NAME_LIMIT ≡ name_limit }
     ensures size { SIZE_LIMIT ≡ size_limit }
     ensures shape { SHAPE_LIMIT ≡ shape_limit }
     ensures depth { DEPTH_LIMIT ≡ depth_limit }
@@ -75,7 +75,7 @@ pub fn limits_of_a_program()
     ensures functions { FUNCTION_LIMIT ≡ function_limit }
     ensures globals { GLOBAL_LIMIT ≡ global_limit }
     ensures least_stack { STACK_LEAST ≡ stack_least }
-    ensures greatest_stack { STACK_MOST ≡ stack_most }
+    ensures greatest_stack { STACK_LIMIT ≡ stack_limit }
     ensures kept { KEPT_LIMIT ≡ kept_limit }
 {}
 

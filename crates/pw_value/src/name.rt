@@ -8,12 +8,12 @@ ghost use Rattle.std.specs.Cmp.Lexicographic.{pointwise, slice_cmp};
 ghost use Rattle.std.specs.Ordering.{nat_cmp, as_partial_cmp};
 ghost use Rattle.pw_value.specs.Names.{IsNameLength};
 
-use crate::limits::NAME_MAX;
+use crate::limits::NAME_LIMIT;
 use std::alloc::{AllocError, Global};
 use std::cmp::Ordering;
 use std::marker::Model;
 
-/// A name: 1 to `NAME_MAX` bytes, of any values. Names are equal where their bytes are, and they are ordered
+/// A name: 1 to `NAME_LIMIT` bytes, of any values. Names are equal where their bytes are, and they are ordered
 /// byte by byte, a proper prefix first. A contract sees a name as the list of its bytes.
 #[derive(Debug, Drop)]
 pub struct Name {
@@ -31,7 +31,7 @@ impl Model for Name {
     ghost invariant = { λ inside. IsNameLength (length inside.bytes.items) };
 }
 
-/// Why there is no name: the count of bytes is 0 or passes `NAME_MAX`, or there is no memory.
+/// Why there is no name: the count of bytes is 0 or passes `NAME_LIMIT`, or there is no memory.
 #[derive(Clone, Copy, Debug)]
 pub enum NameError {
     Length,
@@ -54,7 +54,7 @@ impl Name {
         ensures holds { IfOk result (λ name. name ≡ bytes.now) }
         ensures refuses { result ≡ Err NameError.Length ↔ ¬ IsNameLength (length bytes.now) }
     {
-        if bytes.is_empty() || bytes.len() > NAME_MAX {
+        if bytes.is_empty() || bytes.len() > NAME_LIMIT {
             return Err(NameError::Length);
         }
         Ok(Name {

@@ -113,8 +113,8 @@ pub fn copied_shapes(
     Ok(copies)
 }
 
-/// Whether two shapes agree: they are equal, or become equal when a `[]` at the front of one is
-/// replaced by the length in brackets at the front of the other.
+/// Whether two shapes agree: they are equal, or become equal when a `[]` at the beginning of one is
+/// replaced by the length in brackets at the beginning of the other.
 pub fn agree(a: &Shape, b: &Shape) -> bool
     ensures { IsTrue result ↔ Agree a.now b.now }
 {
@@ -122,7 +122,7 @@ pub fn agree(a: &Shape, b: &Shape) -> bool
     a == b || gives_length(a, b) || gives_length(b, a)
 }
 
-/// Whether `given` is `without` with a length put into the empty brackets at its front.
+/// Whether `given` is `without` with a length put into the empty brackets at its beginning.
 fn gives_length(without: &[u8], given: &[u8]) -> bool
     ensures { IsTrue result ↔ GivesLength without.now given.now }
 {

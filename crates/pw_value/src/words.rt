@@ -49,14 +49,14 @@ pub fn next_word(count: u32) -> Result<u32, AllocError>
 }
 
 /// The greatest int.
-pub const INT_MOST: u32 = (1 << 31) - 1;
+pub const INT_MAX: u32 = (1 << 31) - 1;
 
 /// What a read of a byte answers at the end of the input: the word of -1 (7.9.7.6).
 pub const END_OF_INPUT: u32 = u32::MAX;
 
 /// The greatest int, and the word of the end of the input, are those of the definitions.
 pub fn words_with_names()
-    ensures int_most { INT_MOST ≡ spec.int_most }
+    ensures int_max { INT_MAX ≡ spec.int_max }
     ensures end_of_input { END_OF_INPUT ≡ spec.end_of_input }
 {}
 
@@ -71,7 +71,7 @@ pub fn complement(a: u32) -> u32
 pub fn is_negative(signed: bool, a: u32) -> bool
     ensures { result ≡ spec.is_negative signed a }
 {
-    signed && a > INT_MOST
+    signed && a > INT_MAX
 }
 
 /// How far from 0 the number is that a word stands for, where it is negative or not.

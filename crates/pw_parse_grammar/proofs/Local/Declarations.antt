@@ -67,7 +67,7 @@ init-local r w limit limit' (suc m) g (suc depth) (suc depth') e e' k c = init-a
 abbrev listed : ℕ → Parser (Option (List Decl → List Decl))
 listed limit = (λ d. Some (λ more. d ∷ more)) <$> declaration limit
 
--- a declaration reads a typedef name that stands at its front
+-- a declaration reads a typedef name that stands at its beginning
 declaration-typed : (limit : ℕ) → 1 ≤ limit → (r : List (Option Symbol)) (names : List Binding) (n : ℕ) (x : List ℕ) → is_typedef_name (input names r n) x ≡ true → Left (length r) (declaration limit (input names (Some (Identifier x) ∷ r) n))
 unfolding declaration some_specifiers
 declaration-typed limit c r names n x e =

@@ -18,7 +18,7 @@ use Rattle.pw_parse_grammar.proofs.Local.Tests.{may_be_enclosed-steady, opens_pa
 use Rattle.pw_parse_grammar.proofs.Local.Parts.{LocalParts, declarator-at}
 use Rattle.pw_parse_grammar.proofs.Local.Suffixes.{pointers-local, suffixes-local}
 
--- ---- a `(` at the front of suffixes is read
+-- ---- a `(` at the beginning of suffixes is read
 
 module _ (parts : Parts) (part : ForwardParts parts) where
   list-paren : (named : Bool) (names : List Binding) (n : ℕ) (s : Option Symbol) (t : List (Option Symbol)) → Left (length t) (parameter_list parts named (input names (s ∷ t) n))

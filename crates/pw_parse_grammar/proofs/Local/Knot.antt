@@ -24,7 +24,7 @@ unfolding parts
 parts-open zero h = no_turns h
 parts-open (suc depth) h = record { paren = expr_of-paren (parts depth) (parts-left depth); name = expr_of-name (parts depth) (parts-left depth) }
 
--- specifiers read a typedef name that stands at their front
+-- specifiers read a typedef name that stands at their beginning
 pub parts-typed : (depth : ℕ) → 1 ≤ depth → (storage : Bool) (names : List Binding) (n : ℕ) (x : List ℕ) (t : List (Option Symbol)) → is_typedef_name (input names t n) x ≡ true → Left (length t) ((parts depth).specifiers storage (input names (Some (Identifier x) ∷ t) n))
 unfolding parts
 parts-typed zero h storage names n x t e = no_turns h

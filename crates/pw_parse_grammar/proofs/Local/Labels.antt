@@ -83,7 +83,7 @@ label-typed limit r names n x e =
     let i = input names (Some (Identifier x) ∷ r) n in
     left-chosen (sees m.Colon (step i) || is_typedef_name i x) (before_label <$> name_label x) (pure None) i (or-true (sees m.Colon (step i)) (is_typedef_name i x) e) (label-read r x names n)
 
--- a typedef name at the front of labels is read
+-- a typedef name at the beginning of labels is read
 pub labels-typed : (limit : ℕ) (r : List (Option Symbol)) (names : List Binding) (n : ℕ) (x : List ℕ) → is_typedef_name (input names r n) x ≡ true → Left (length r) (labels limit (input names (Some (Identifier x) ∷ r) n))
 unfolding labels
 labels-typed limit r names n x e = while-first [] (label limit) (label-left limit) (length r) (input names (Some (Identifier x) ∷ r) n) (label-typed limit r names n x e)

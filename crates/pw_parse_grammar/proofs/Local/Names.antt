@@ -58,7 +58,7 @@ module _ (r w : List (Option Symbol)) (typed : Bool) {L : Type 0} (none : L) (it
       → Upto r w typed m (while_some none item (input names t number)) (while_some none item' (input names t' number))
   while-upto names number t t' h = let k = nearer h in upto-higher k.lower (repeat-upto k.count k.lower (turns (input names t number)) (turns (input names t' number)) k.left k.right names number t t' k.near)
 
--- ---- what reads a name at its front
+-- ---- what reads a name at its beginning
 
 -- a choice of which the test is known
 pub left-chosen : {A : Type 0} {n : ℕ} (b : Bool) (p q : Parser A) (i : Input) → b ≡ true → Left n (p i) → Left n ((if b then p else q) i)

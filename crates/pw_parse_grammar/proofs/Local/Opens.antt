@@ -1,4 +1,4 @@
--- An expression reads a `(` and an ordinary name that stand at its front, and specifiers a typedef name.
+-- An expression reads a `(` and an ordinary name that stand at its beginning, and specifiers a typedef name.
 use Rattle.std.proofs.Common.{◌≡◌, ℕ, zero, suc, ◌+◌, ◌-◌, ◌≤◌, Bool, true, false, nat_le, List, ◌∷◌, length, Option, Some, arith}
 use Rattle.pw_tree.specs.Levels.{cast, unary, comma}
 use Rattle.pw_tree.specs.Symbols.{Symbol, Sign, Identifier}
@@ -67,7 +67,7 @@ module _ (parts : Parts) (part : ForwardParts parts) where
   specifiers_from-typed storage (suc k) c names n x t e =
       left-bind (rw e (left-answer (omega arith))) (λ o j h. specifiers_behind-left (specifiers_from parts storage k) (specifiers_from-left parts part storage k) false o (length t) j h)
 
-  -- specifiers read a typedef name that stands at their front
+  -- specifiers read a typedef name that stands at their beginning
   pub specifiers_of-typed : (storage : Bool) (names : List Binding) (n : ℕ) (x : List ℕ) (t : List (Option Symbol)) → is_typedef_name (input names t n) x ≡ true → Left (length t) (specifiers_of parts storage (input names (Some (Identifier x) ∷ t) n))
   unfolding specifiers_of
   specifiers_of-typed storage names n x t e = specifiers_from-typed storage (turns (input names (Some (Identifier x) ∷ t) n)) (omega arith) names n x t e

@@ -8,7 +8,7 @@ use Rattle.pw_parse_grammar.specs.Parts.{Parts}
 use Rattle.pw_parse_grammar.proofs.Progress.Base.{Left, ForwardParts}
 use Rattle.pw_parse_grammar.proofs.Local.Base.{input, Local}
 
--- An expression reads a `(` and an ordinary name that stand at its front, whether or not it comes to an end.
+-- An expression reads a `(` and an ordinary name that stand at its beginning, whether or not it comes to an end.
 pub record Opens (parts : Parts) : Type 0 where
   pub paren : (level : ℕ) (names : List Binding) (n : ℕ) (t : List (Option Symbol)) → Left (length t) (parts.expr level (input names (Some (Sign marks.OpenParen) ∷ t) n))
   pub name : (level : ℕ) (names : List Binding) (n : ℕ) (x : List ℕ) (t : List (Option Symbol)) → is_typedef_name (input names t n) x ≡ false → Left (length t) (parts.expr level (input names (Some (Identifier x) ∷ t) n))

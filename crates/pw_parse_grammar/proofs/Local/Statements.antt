@@ -217,7 +217,7 @@ module _ (r w : List (Option Symbol)) (limit limit' d : ℕ) (c : suc d ≤ limi
       (λ ls n i h. search (forward-rules, unlabeled-left limit p g.left))
       (λ ls names n x pos e. left-bind (unlabeled-name names n x e) (λ s j h. search forward-rules))
 
-  -- a typedef name at the front is a label
+  -- a typedef name at the beginning is a label
   stmt_of-typed : (names : List Binding) (n : ℕ) (x : List ℕ) → is_typedef_name (input names r n) x ≡ true → Left (length r) (stmt_of limit p (input names (Some (Identifier x) ∷ r) n))
   unfolding stmt_of
   stmt_of-typed names n x e = left-bind (labels-typed limit r names n x e) (λ ls j h. search (forward-rules, unlabeled-left limit p g.left))

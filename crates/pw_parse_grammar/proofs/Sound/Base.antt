@@ -4,8 +4,8 @@ use Rattle.std.proofs.lemmas.List.{length-append, map-append}
 use denote.Enum.Bare.{same_true}
 use Rattle.pw_tree.specs.Scopes.{Env}
 use Rattle.pw_tree.specs.Symbols.{Symbol, Reserved, Sign}
-use Rattle.pw_tree.specs.contracts.symbol.Keyword.{the_type as the_keywords}
-use Rattle.pw_tree.specs.contracts.symbol.Mark.{the_type as the_marks}
+use Rattle.pw_token.specs.contracts.symbol.Keyword.{the_type as the_keywords}
+use Rattle.pw_token.specs.contracts.symbol.Mark.{the_type as the_marks}
 use Rattle.pw_token.specs.declared.symbol.Keyword.{Keyword}
 use Rattle.pw_token.specs.declared.symbol.Mark.{Mark}
 use Rattle.pw_parse_grammar.specs.Input.{Input, Outcome, Parser, and_then, first_of_rest, ahead, step_to, step, same_mark, same_keyword, is_mark, is_keyword, sees, sees_keyword, past, past_keyword, eat, eat_keyword, expect, expect_keyword}

@@ -4,7 +4,7 @@ use Rattle.pw_store_modules.specs.Modules.{modules_of}
 use Rattle.pw_store_modules.specs.Views.{source}
 use Rattle.pw_build_files.specs.FromBuild.Phases.{IsLine, refused_line}
 use Rattle.pw_store_kept.specs.Files.{changed_files}
-use Rattle.pw_build_files.specs.Building.{BuildComes}
+use Rattle.pw_build_files.specs.Building.{BuildOutcome}
 use Rattle.pw_build_files.specs.Genuine.{IsOwnFile}
 use Rattle.pw_build_files.specs.Outcomes.{CountsFound, FaultFound, outcome_of}
 use Rattle.pw_value.specs.Limits.{module_limit}
@@ -14,7 +14,7 @@ use Rattle.pw_build_files.proofs.prepared.prepare.Goals as goal
 
 pub returns-in-Ok-clause-comes : goal.returns-in-Ok-clause-comes
 returns-in-Ok-clause-comes g c =
-    on_modules (λ told. map source c.in-Ok.modules.items ≡ modules_of told.files) (λ told. IfOk c.prepared_of.result (λ p. BuildComes told.files c.args.opts.now.colours c.args.opts.now.stack (Ok (outcome_of p))))
+    on_modules (λ told. map source c.in-Ok.modules.items ≡ modules_of told.files) (λ told. IfOk c.prepared_of.result (λ p. BuildOutcome told.files c.args.opts.now.colours c.args.opts.now.stack (Ok (outcome_of p))))
     (g.S.Store.told c.args.store.now) _ c.in-Ok.ensures.modules c.few_modules.ensures.same (rw c.deref.ensures.value at c.prepared_of.ensures.comes)
 
 pub returns-in-Ok-clause-own : goal.returns-in-Ok-clause-own

@@ -1,7 +1,7 @@
 use Rattle.std.proofs.Common.{◌∙◌, ℕ, List, ap, subst, sym, vec_len}
 use Rattle.std.specs.Prelude.{◌↔◌}
 use Rattle.pw_fix.specs.Table.{HoldsAt}
-use Rattle.pw_graph_refs.specs.Flows.{AreWithin, Comes, edges_from, turned}
+use Rattle.pw_graph_refs.specs.Flows.{AreWithin, FlowsTo, edges_from, turned}
 use Rattle.pw_graph_refs.proofs.Edges.{calls_within, back_within, from_callers, from_callees}
 use Rattle.pw_graph_refs.proofs.flows.ref_sets.Goals as goal
 
@@ -26,8 +26,8 @@ returns c =
     let callers = c.in_ok-from_callers.from_callers in
     let callees = c.in_ok-from_callees.from_callees in
     let back_is = c.in_ok-back.ensures ∙ ap (λ (es : List (ℕ × ℕ)). turned es) (c.deref.ensures.value ∙ c.in_ok-calls.ensures) in
-    let down = subst (λ (es : List (ℕ × ℕ)). (n v : ℕ) → HoldsAt callers n v ↔ Comes es own n v) c.in_ok-calls.ensures c.in_ok-from_callers.ensures.holds in
-    let up = subst (λ (es : List (ℕ × ℕ)). (n v : ℕ) → HoldsAt callees n v ↔ Comes es own n v) back_is c.in_ok-from_callees.ensures.holds in
+    let down = subst (λ (es : List (ℕ × ℕ)). (n v : ℕ) → HoldsAt callers n v ↔ FlowsTo es own n v) c.in_ok-calls.ensures c.in_ok-from_callers.ensures.holds in
+    let up = subst (λ (es : List (ℕ × ℕ)). (n v : ℕ) → HoldsAt callees n v ↔ FlowsTo es own n v) back_is c.in_ok-from_callees.ensures.holds in
     record {
       itself = owns;
       from_callers = record { count = c.in_ok-from_callers.ensures.count ∙ owns.count; width = c.in_ok-from_callers.ensures.length ∙ owns.width; of = from_callers g own callers owns down };

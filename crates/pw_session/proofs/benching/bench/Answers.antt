@@ -1,11 +1,11 @@
 use Rattle.std.proofs.Common.{ap}
 use Rattle.pw_io.specs.Files.{Told}
-use Rattle.pw_session.specs.Bench.{BenchComes}
+use Rattle.pw_session.specs.Bench.{BenchEffect}
 use Rattle.pw_session.proofs.BenchLemmas.{alone_streams, bench_built, bench_none, bench_refused, fault_write, refused_at, refused_is, said_at, said_is, said_streams}
 use Rattle.pw_session.proofs.benching.bench.Goals as goal
 
 pub returns-in_default-clause-obeys : goal.returns-in_default-clause-obeys
-returns-in_default-clause-obeys g c = λ input. bench_none (BenchComes c.args.number c.args.opts.now input) (g.O.Sink.taken c.args.out.now)
+returns-in_default-clause-obeys g c = λ input. bench_none (BenchEffect c.args.number c.args.opts.now input) (g.O.Sink.taken c.args.out.now)
 
 pub returns-in-Ok-build_uncounted-clause-obeys : goal.returns-in-Ok-build_uncounted-clause-obeys
 returns-in-Ok-build_uncounted-clause-obeys g c = λ input.

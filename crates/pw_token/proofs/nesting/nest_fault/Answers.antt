@@ -14,8 +14,8 @@ role_at-role-requires c = tokens_within c.args.text.now c.args.tokens.now c.requ
 pub role_at-next-requires : goal.role_at-next-requires
 role_at-next-requires c = tokens_within c.args.text.now c.args.tokens.now c.requires
 
-pub returns-then-nest-gt-MAX_NEST : goal.returns-then-nest-gt-MAX_NEST
-returns-then-nest-gt-MAX_NEST c =
+pub returns-then-nest-gt-NEST_LIMIT : goal.returns-then-nest-gt-NEST_LIMIT
+returns-then-nest-gt-NEST_LIMIT c =
     let deep : nat_lt nest_limit c.step-nest.result ≡ true = grind (arith, nat_tests) in
     sym (sym c.loop-index.invariant.0
     ∙ found-here c.args.text.now c.args.tokens.now c.loop-index.index (record { before = c.loop-index.before; operand = c.loop-index.operand; levels = levels_of c.loop-index.levels })

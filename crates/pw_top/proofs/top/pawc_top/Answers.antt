@@ -4,7 +4,7 @@ use Rattle.pw_store_modules.specs.Modules.{modules_of}
 use Rattle.pw_top_answer.specs.Outcomes.{Tells}
 use Rattle.pw_law_session.specs.FromGo.FullBuild.{full_build}
 use Rattle.pw_law_session.specs.FromGo.Going.{BuiltAgrees}
-use Rattle.pw_law_session.specs.FromGo.Refusals.{NoMainComes, NoMainIs, RefusalComes, RefusalIs}
+use Rattle.pw_law_session.specs.FromGo.Refusals.{AnswersNoMain, NoMainIs, AnswersRefusal, RefusalIs}
 use Rattle.pw_top_words.specs.CommandLine.{command_of}
 use Rattle.pw_top.specs.Commands.{IsGo, IsNoSession, line_of}
 use Rattle.pw_top.proofs.ToldLemmas.{by_law, ends_told, input_told, of_files, output_told, rest_told, returns_sum, store_told, streams_told, told_does, told_line, told_proper, told_refuses, usage_comes, usage_is}
@@ -38,7 +38,7 @@ returns-clause-refusal_is g c =
 
 pub returns-clause-refusal_comes : goal.returns-clause-refusal_comes
 returns-clause-refusal_comes g c =
-    by_law (IsGo (command_of (map string_bytes c.args.words.now))) (λ files answer. RefusalComes (modules_of files) answer) (g.S.Store.told c.args.store.now) c.tell.result c.refusals_are_due.ensures.comes
+    by_law (IsGo (command_of (map string_bytes c.args.words.now))) (λ files answer. AnswersRefusal (modules_of files) answer) (g.S.Store.told c.args.store.now) c.tell.result c.refusals_are_due.ensures.comes
     (returns-clause-refuses g c)
 
 pub returns-clause-no_main_is : goal.returns-clause-no_main_is
@@ -48,7 +48,7 @@ returns-clause-no_main_is g c =
 
 pub returns-clause-no_main_comes : goal.returns-clause-no_main_comes
 returns-clause-no_main_comes g c =
-    by_law (IsGo (command_of (map string_bytes c.args.words.now))) (λ files answer. NoMainComes (modules_of files) answer) (g.S.Store.told c.args.store.now) c.tell.result c.refusals_are_due.ensures.no_main_comes
+    by_law (IsGo (command_of (map string_bytes c.args.words.now))) (λ files answer. AnswersNoMain (modules_of files) answer) (g.S.Store.told c.args.store.now) c.tell.result c.refusals_are_due.ensures.no_main_comes
     (returns-clause-refuses g c)
 
 pub returns-clause-no_want_refused : goal.returns-clause-no_want_refused
