@@ -2,14 +2,13 @@
 use Rattle.std.proofs.Common.{◌≡◌, ℕ, ◌<◌, ◌≤◌, List, [], ◌∷◌, ◌++◌, length, take, drop, Bool, true, false, Option, Some, None, IfSome, inl, inr, eqb, arith, refl, ap, sym, ◌∙◌, subst, length-append}
 use Rattle.std.proofs.lemmas.Bool.{eqb-false}
 use Rattle.std.proofs.lemmas.List.{take-append-drop, take_at, drop_at, length-take-le}
-use Rattle.pw_token.proofs.PieceLaws.{piece-sound, piece-complete, StandsHere}
+use Rattle.pw_token.proofs.PieceLaws.{piece-sound, piece-complete}
 use Rattle.pw_token.proofs.CutLaws.{stands-long}
 use Rattle.pw_token.proofs.Runs.{either}
 use Rattle.pw_token.proofs.TokenLaws.{token-sound}
-use Rattle.pw_token.specs.Pieces.{piece_at, token_at, found_piece, longest_at}
+use Rattle.pw_token.specs.Pieces.{piece_at, token_at, longest_at}
 use Rattle.pw_token.specs.Tokenization.{Stands, BeginsWith}
 use Rattle.pw_token.specs.declared.piece.PieceKind.{PieceKind}
-use Rattle.pw_token.specs.declared.piece.PieceKind.TheVariants as piece
 
 -- no token stands in an empty text
 no-token : token_at [] ≡ None

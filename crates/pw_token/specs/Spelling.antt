@@ -1,5 +1,5 @@
 -- The spellings of the tokens of C90, by kind (ISO/IEC 9899:1990, 6.1).
-use Rattle.std.specs.Prelude.{◌≡◌, ◌≢◌, ℕ, Bool, true, false, ◌&&◌, ◌||◌, ◌⊎◌, ◌==◌, ◌≤◌, if◌then◌else◌, length, List, [], ◌∷◌, ◌++◌, ⊤}
+use Rattle.std.specs.Prelude.{◌≡◌, ◌≢◌, ℕ, true, false, ◌&&◌, ◌||◌, ◌⊎◌, ◌==◌, ◌≤◌, if◌then◌else◌, length, List, [], ◌∷◌, ◌++◌, ⊤}
 use Rattle.std.specs.List.{AllByRecursion, flat_map}
 use Rattle.pw_token.specs.Bytes.{is_in, is_nondigit, is_either, AllIn, SomeIn, is_u, is_l, is_simple_escape}
 use Rattle.pw_token.specs.Words.{is_keyword, is_mark}
