@@ -1,4 +1,4 @@
-use Rattle.pw_run_languages.proofs.Traffic.{traffic_again}
+use Rattle.pw_run_languages.proofs.LikeTraffic.{traffic_again}
 use Rattle.pw_run_languages.proofs.traffic.traffic_rests_on_relations.Goals as goal
 
 pub returns : goal.returns
