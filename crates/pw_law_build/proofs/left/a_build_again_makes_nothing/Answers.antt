@@ -1,7 +1,7 @@
 use Rattle.std.proofs.Common.{refl}
 use Rattle.pw_top_answer.specs.Effects.{after_puts}
 use Rattle.pw_law_build.proofs.AgainLemmas.{same_put}
-use Rattle.pw_law_build.proofs.stores.a_build_again_makes_nothing.Goals as goal
+use Rattle.pw_law_build.proofs.left.a_build_again_makes_nothing.Goals as goal
 
 -- nothing was edited
 pub returns-clause-again : goal.returns-clause-again

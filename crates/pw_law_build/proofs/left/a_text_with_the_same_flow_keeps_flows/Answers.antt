@@ -1,8 +1,8 @@
-use Rattle.pw_law_build.proofs.AgainLemmas.{edit_comes}
-use Rattle.pw_law_build.proofs.stores.an_edit_that_keeps_flows_makes_nothing.Goals as goal
+use Rattle.pw_law_build.proofs.TextLemmas.{text_keeps}
+use Rattle.pw_law_build.proofs.left.a_text_with_the_same_flow_keeps_flows.Goals as goal
 
 pub returns : goal.returns
-returns c = edit_comes (record {
+returns c = text_keeps (record {
   files = record { inserted = c.other_files.ensures.inserted; insertion = c.other_files.ensures.insertion };
   front = c.front.ensures.whole;
   modules = c.modules_are_exact.ensures.exact;
