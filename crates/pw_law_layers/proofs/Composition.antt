@@ -20,7 +20,7 @@ use Rattle.pw_run_languages.specs.Meeting.{MetWith}
 use Rattle.pw_run_languages.specs.Late.{RefinesLately}
 use Rattle.pw_run_languages.proofs.Meeting.{met_with, met_through, of_shown, carried}
 use Rattle.pw_run_languages.proofs.Late.{late_same, carried_late, same_kind}
-use Rattle.pw_run_languages.proofs.LikeTraffic.{traffic_alike}
+use Rattle.pw_run_languages.proofs.Traffic.{traffic_alike}
 use Rattle.pw_run_languages.specs.Programs.{Program}
 use Rattle.pw_run_languages.specs.FlowRun.{flow_run}
 use Rattle.pw_run_languages.specs.LawfulPrograms.{graph_of}

@@ -1,6 +1,6 @@
 pub mod Likeness
 pub mod Meeting
-pub mod LikeTraffic
+pub mod Traffic
 pub mod Late
 pub mod Forgetting
 pub mod Growing
