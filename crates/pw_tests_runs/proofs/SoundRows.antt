@@ -10,7 +10,7 @@ use Rattle.pw_db.specs.declared.database.Role.TheVariants.{Entry, Member}
 use Rattle.pw_db.specs.declared.database.Directives.{Directives}
 use Rattle.pw_db.specs.Database.{IsDirectives, IsDatabase}
 use Rattle.pw_db_sound.specs.CallGraphs.{Node, Graph, Calls, Path, call, on, References}
-use Rattle.pw_db_sound.specs.Sound.{In, Needs, refers, keeps, Sound}
+use Rattle.pw_db_sound.specs.Sound.{In, Needs, refers, keeps, IsFree, Sound}
 use Rattle.pw_db_sound.specs.Sound as sound
 use Rattle.pw_run_languages.specs.LawfulPrograms.{graph_of}
 use Rattle.pw_tests_runs.proofs.Programs.{bumping, bump_directives, web, only}
@@ -192,10 +192,11 @@ eligible_so : (w : Web) → w ≡ n_web → Contains graph.eligible (w.global, w
 unfolding graph_of
 eligible_so w e = subst (λ (w : Web). Contains graph.eligible (w.global, w.kind)) (sym e) (0, omega arith, refl)
 
-none_free : (f : List ℕ) (ds : Directives) → Contains bump_directives (f, ds) → ds.free ≡ []
-none_free f ds c =
-    let own : List ℕ × Directives = (f, ds) in
-    has_each (λ (x : List ℕ × Directives). x.1.free ≡ []) bump_directives own (refl, (refl, tt)) (has_by own bump_directives c)
+none_free : (f : List ℕ) (r : ℕ) → IsFree bump_directives f r → ⊥
+none_free f r i =
+    let own : List ℕ × Directives = (f, i.directives) in
+    let none = has_each (λ (x : List ℕ × Directives). x.1.free ≡ []) bump_directives own (refl, (refl, tt)) (has_by own bump_directives i.there) in
+    has_by r [] (subst (λ (rs : List ℕ). Contains rs r) none i.register)
 
 sound_database : Sound graph bump_directives
 sound_database = record {
@@ -207,5 +208,6 @@ sound_database = record {
   registers = λ w u f i j apart. absurd (apart ((seats w f i).0 ∙ sym (seats u f j).0));
   eligible = λ w f i. eligible_so w (seats w f i).0;
   writes = λ w f i written. ap (λ (w : Web). w.writes) (seats w f i).0;
-  free = none_free;
+  free = λ f r i. absurd (none_free f r i);
+  saves = λ f r i w has. absurd (has_by r [] i.register);
 }
