@@ -2,7 +2,7 @@
 use Rattle.std.specs.Prelude.{ℕ, List}
 use Rattle.std.proofs.Common.{inl, inr}
 use Rattle.pw_db.specs.declared.database.Directives.{Directives}
-use Rattle.pw_db_sound.specs.CallGraphs.{Graph, Calls, Path, call, on, References, SayTheSame, IsInner, RootOf, outer, of_callers, of_two, PathBelow, here, further}
+use Rattle.pw_db_sound.specs.CallGraphs.{Graph, Path, call, on, References, SayTheSame, IsInner, RootOf, outer, of_callers, of_two, PathBelow, here, further}
 use Rattle.pw_db_sound.specs.Sound.{Needs, refers, keeps, IsSavedAbove, Sound}
 
 -- ---- from the second graph back to the first

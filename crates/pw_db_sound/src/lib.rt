@@ -20,7 +20,6 @@ pub fn soundness_rests_on_relations()
 
 /// Whoever calls a function that is free to use a register, which that function does not save, keeps nothing in it over
 /// the call.
-#[tactic(auto, using(crate::proofs::Roots::left_alone_above))]
 pub fn callers_leave_free_registers_alone()
     ensures { (g : Graph) (d : List (List ℕ × Directives)) (a f : List ℕ) (r : ℕ) → Sound g d → Calls g a f → IsFree d f r → ¬ IsSaver d f r → LeavesAlone d a r }
 {}
