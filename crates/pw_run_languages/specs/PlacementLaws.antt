@@ -11,6 +11,7 @@ use Rattle.pw_run.specs.Runs.{Refines, Same}
 use Rattle.pw_db_sound.specs.Sound.{Sound}
 use Rattle.pw_run_languages.specs.Traces.{EventAlike, calls_of, Notes, KeepRegisters}
 use Rattle.pw_run_languages.specs.Traffic.{ObeysTraffic}
+use Rattle.pw_run_languages.specs.Calls.{FollowsCalls}
 use Rattle.pw_run_languages.specs.Programs.{Program}
 use Rattle.pw_run_languages.specs.FlowRun.{flow_run}
 use Rattle.pw_run_languages.specs.LawfulPrograms.{IsProgram, graph_of}
@@ -19,10 +20,11 @@ use Rattle.pw_run_languages.specs.Direction.{web_run, directed_functions, with_f
 use Rattle.pw_run_languages.specs.Serving.{Serves, AllServe}
 
 -- The directed run does what the flow run does, with each global in its place at each call and return; returns keep
--- the registers; and the traffic law holds of all that it notes.
+-- the registers; its calls are those of the graph; and the traffic law holds of all that it notes.
 pub record DirectionKeeps (p : Program) (d : List (List ℕ × Directives)) (input : List ℕ) : Type 0 where
   pub runs : Refines (MomentAlike p) (flow_run p input) (calls_of (web_run p d input))
   pub registers : (n : ℕ) → Notes (KeepRegisters d) (web_run p d input n)
+  pub calls : (n : ℕ) → Notes (FollowsCalls (graph_of p)) (web_run p d input n)
   pub traffic : (n : ℕ) → Notes (ObeysTraffic (graph_of p) d) (web_run p d input n)
 
 abbrev pub DirectionKeepsRuns : Type 0
