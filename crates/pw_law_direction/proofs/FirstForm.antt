@@ -261,4 +261,4 @@ serves f lawful =
 
 pub allocation_serves : AllocationServes
 unfolding directed
-allocation_serves f d lawful directives = serves (directed f d) directives.each
+allocation_serves f d l lawful directives is = subst (Serves (directed f d)) (sym is) (serves (directed f d) directives.each)

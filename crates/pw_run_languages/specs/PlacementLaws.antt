@@ -1,10 +1,11 @@
 -- What direction and allocation owe to the layers between which they stand: the statements of their laws.
-use Rattle.std.specs.Prelude.{ℕ, List}
+use Rattle.std.specs.Prelude.{ℕ, ◌≡◌, List}
 use Rattle.pw_db.specs.declared.database.Directives.{Directives}
 use Rattle.pw_db.specs.Database.{IsDatabase, IsDirectives}
 use Rattle.pw_flow.specs.declared.flow.FlowFn.{FlowFn}
 use Rattle.pw_flow.specs.ValidFlow.{IsFunction}
 use Rattle.pw_webflow.specs.Direction.{directed}
+use Rattle.pw_webflow.specs.declared.web.WebFn.{WebFn}
 use Rattle.pw_alloc.specs.declared.located.Located.{Located}
 use Rattle.pw_alloc.specs.Allocation.{allocated}
 use Rattle.pw_run.specs.Runs.{Refines, Same}
@@ -43,6 +44,17 @@ PlacesKeepRuns =
     (p : Program) (d : List (List ℕ × Directives)) (functions : List Located) (input : List ℕ) →
     IsProgram p → IsDatabase d → Sound (graph_of p) d → AllServe (directed_functions p d) functions → PlacesKeep p d functions input
 
--- The places that allocation gives, in its first form, serve.
+-- ---- allocation
+
+-- The places that allocation gives a function. They are those of its first form.
+abbrev pub IsAllocated : WebFn → Located → Type 0
+IsAllocated f l = l ≡ allocated f
+
+-- there is one answer
+abbrev pub AllocationIsOne : Type 0
+AllocationIsOne = (f : WebFn) (l m : Located) → IsAllocated f l → IsAllocated f m → l ≡ m
+
+-- it serves
 abbrev pub AllocationServes : Type 0
-AllocationServes = (f : FlowFn) (d : Directives) → IsFunction f → IsDirectives d → Serves (directed f d) (allocated (directed f d))
+AllocationServes =
+    (f : FlowFn) (d : Directives) (l : Located) → IsFunction f → IsDirectives d → IsAllocated (directed f d) l → Serves (directed f d) l
