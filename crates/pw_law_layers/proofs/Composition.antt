@@ -115,7 +115,7 @@ holds p d functions objects stack input l =
     let q = program_of p objects stack in
     let v = image_of objects stack in
     let h = whole p q d functions v (frame_in v) stack input
-    (record { low = l.lowering; direction = l.direction; places = l.places; link = l.linking; selection = l.selection; placement = l.placement })
+    (record { low = l.lowering; direction = l.direction; places = l.places; link = l.linking; selection = l.selection; placement = l.placement.runs })
     (subst (λ named. Refines (EventInWords q named) (placed_run (with_functions q functions) input) (line_run (line_program q functions) l.linking.addresses l.linking.scratch input)) l.linking.named l.selection.runs) in
     record { agree = h.agree; places = h.places; registers = h.registers; traffic = h.traffic }
 

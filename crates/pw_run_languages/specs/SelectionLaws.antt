@@ -1,6 +1,8 @@
 -- What selection and placement owe to the layers between which they stand: the statements of their laws.
 use Rattle.std.specs.Prelude.{ℕ, ◌≡◌, List, map, Contains}
 use Rattle.std.specs.List.{AllByRecursion}
+use Rattle.pw_value.specs.declared.value.Byte.{Byte}
+use Rattle.pw_value.specs.declared.value.Value.{Value}
 use Rattle.pw_db.specs.declared.database.Directives.{Directives}
 use Rattle.pw_db.specs.Database.{IsDirectives, IsDatabase}
 use Rattle.pw_alloc.specs.declared.located.Located.{Located}
@@ -8,8 +10,8 @@ use Rattle.pw_select.specs.Selection.{selected}
 use Rattle.pw_inst.specs.declared.line.Line.{Line}
 use Rattle.pw_delay.specs.declared.items.Item.{Item}
 use Rattle.pw_delay.specs.Items.{slotted}
-use Rattle.pw_run.specs.Runs.{Refines, Same}
-use Rattle.pw_run_languages.specs.Traces.{Notes, KeepRegisters}
+use Rattle.pw_run.specs.Runs.{Stage, Refines, Same}
+use Rattle.pw_run_languages.specs.Traces.{Event, Notes, KeepRegisters}
 use Rattle.pw_run_languages.specs.Calls.{FollowsCalls, AreGuarded}
 use Rattle.pw_run_languages.specs.Meeting.{MetWith, MetIn}
 use Rattle.pw_run_languages.specs.Late.{RefinesLately}
@@ -65,10 +67,15 @@ SelectionKeepsRuns =
 
 -- Placement may move a word into the slot of a turn behind it. So the run of the items that are placed does what the run
 -- of the lines' own items does, and notes the same; only a load or store of a global that is done in the slot of a call
--- it notes together with that call.
+-- it notes together with that call. And where return addresses stand in memory, they stand in its run too.
+pub record PlacementKeeps (p : Program) (functions : List Located) (w : Addresses) (scratch : ℕ → (ℕ → ℕ) → ℕ → ℕ) (input : List ℕ) : Type 0 where
+  pub runs : RefinesLately Same (line_run (line_program p functions) w scratch input) (line_run (placed_program p functions) w scratch input)
+  pub links : (s : Stage (Event Byte Value)) →
+      MetIn (HaveLinks (line_program p functions) w scratch input) s (line_run (line_program p functions) w scratch input) →
+      MetIn (HaveLinks (placed_program p functions) w scratch input) s (line_run (placed_program p functions) w scratch input)
+
 abbrev pub PlacementKeepsRuns : Type 0
 PlacementKeepsRuns =
     (p : Program) (d : List (List ℕ × Directives)) (functions : List Located) (w : Addresses) (scratch : ℕ → (ℕ → ℕ) → ℕ → ℕ) (input : List ℕ) →
     IsProgram p → IsDatabase d → AllServe (directed_functions p d) functions → FramesAre p functions →
-    StartFits p → AreLawful p w → AreBytes input →
-    RefinesLately Same (line_run (line_program p functions) w scratch input) (line_run (placed_program p functions) w scratch input)
+    StartFits p → AreLawful p w → AreBytes input → PlacementKeeps p functions w scratch input
