@@ -8,7 +8,7 @@ use Rattle.pw_top_answer.specs.declared.answer.Answer.TheVariants.{Usage, Refuse
 use Rattle.pw_top_answer.specs.Answers.{line_text, NeedsMemory}
 use Rattle.pw_top_answer.specs.Effects.{Effect, NamedFile, PutsFiles, PutPrefix}
 use Rattle.pw_top_answer.specs.Outcomes.{Answers, InputCount, IsLineDue, LeavesInput, LeavesStreams, OutputCount, StoreCount, ToldAs, WasReadInPart}
-use Rattle.pw_commands.specs.Ends.{Ends}
+use Rattle.pw_go.specs.Ends.{Ends}
 use Rattle.pw_commands.specs.Others.{KeepsOthers}
 use Rattle.pw_go.specs.FullBuild as build
 use Rattle.pw_go.specs.FullBuild.{Build, full_build}
