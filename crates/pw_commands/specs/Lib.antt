@@ -1,3 +1,4 @@
+pub mod Ends
 pub mod MachineRun
 pub mod Needed
 pub mod Linking

@@ -14,20 +14,20 @@ use Rattle.pw_top_answer.specs.declared.answer.Answer.{Answer}
 use Rattle.pw_top_answer.specs.declared.answer.Answer.TheVariants.{Usage, Refused, LinkRefused, ReadFault, WriteFault, StoreFault, NoMemory, BadFile}
 use Rattle.pw_top_answer.specs.Effects.{Effect, NamedFile, PutsFiles, answers_alone, prints}
 use Rattle.pw_top_answer.specs.Outcomes.{Answers, InputCount, IsLineDue, LeavesInput, LeavesStreams, OutputCount, PutsOut}
-use Rattle.pw_law_session.specs.Ends.{Ends}
-use Rattle.pw_law_session.specs.FromBuild.BuildFault.{BuildFault}
-use Rattle.pw_law_session.specs.FromBuilding.Building.{Outcome}
-use Rattle.pw_law_session.specs.FromDriving.Driving.{BuildEffect, IsBuildAnswer, built_effect}
-use Rattle.pw_law_session.specs.FromGo.FullBuild.{Build, full_build}
-use Rattle.pw_law_session.specs.FromGo.FullBuild as build
-use Rattle.pw_law_session.specs.FromGo.Going.{IsLineOf, IsNoUsage, build_effect, refused_line}
-use Rattle.pw_law_session.specs.FromCommands.Analysing.{AnalyseEffect, AnalyseOver, summaries_of}
-use Rattle.pw_law_session.specs.FromCommands.Linking.{LinkEffect, LinkOver, objects_of}
-use Rattle.pw_law_session.specs.FromCommands.Needed.{needed, needed_bytes}
-use Rattle.pw_law_session.specs.FromCommands.Outcome.{IsStoreAnswer, Obeys}
-use Rattle.pw_law_session.specs.FromCommands.Running.{IsRunOrStop, core_in, run_effect, runs}
-use Rattle.pw_law_session.specs.FromCommands.Showing.{DatabaseEffect, IsShowAnswer, ListEffect, ListOver, Shows, database_text, image_in, printed}
-use Rattle.pw_law_session.specs.FromSession.Bench.{BenchEffect}
+use Rattle.pw_commands.specs.Ends.{Ends}
+use Rattle.pw_session.specs.FromBuild.BuildFault.{BuildFault}
+use Rattle.pw_session.specs.FromBuildFiles.Building.{Outcome}
+use Rattle.pw_session.specs.FromBuildFiles.Driving.{BuildEffect, IsBuildAnswer, built_effect}
+use Rattle.pw_go.specs.FullBuild.{Build, full_build}
+use Rattle.pw_go.specs.FullBuild as build
+use Rattle.pw_go.specs.Going.{IsLineOf, IsNoUsage, build_effect, refused_line}
+use Rattle.pw_commands.specs.Analysing.{AnalyseEffect, AnalyseOver, summaries_of}
+use Rattle.pw_commands.specs.Linking.{LinkEffect, LinkOver, objects_of}
+use Rattle.pw_commands.specs.Needed.{needed, needed_bytes}
+use Rattle.pw_commands.specs.Outcome.{IsStoreAnswer, Obeys}
+use Rattle.pw_commands.specs.Running.{IsRunOrStop, core_in, run_effect, runs}
+use Rattle.pw_commands.specs.Showing.{DatabaseEffect, IsShowAnswer, ListEffect, ListOver, Shows, database_text, image_in, printed}
+use Rattle.pw_session.specs.Bench.{BenchEffect}
 use Rattle.pw_top_words.specs.declared.commands.Command.{Command}
 use Rattle.pw_top_words.specs.declared.commands.Command.TheVariants.{Go, Build as BuildAll, Session, PhaseOne, Analyse, PhaseTwo, Link, Run, List as ListImage, Db, Bench}
 use Rattle.pw_commands_phases.specs.First.{EffectOfPhase, PhaseOneEffect, PhaseOneOver}

@@ -7,9 +7,9 @@ use Rattle.pw_top_answer.specs.declared.answer.Answer.{Answer}
 use Rattle.pw_top_answer.specs.declared.answer.Answer.TheVariants.{Usage, ReadFault, WriteFault, StoreFault, NoMemory}
 use Rattle.pw_top_answer.specs.Effects.{Effect, NamedFile, PutsFiles, answers_alone}
 use Rattle.pw_top_answer.specs.Outcomes.{Answers, IsWhole, LeavesInput, PutsOut, WasReadInPart}
-use Rattle.pw_law_session.specs.Ends.{Ends}
-use Rattle.pw_law_session.specs.FromCommands.Outcome.{IsFound, Obeys}
-use Rattle.pw_law_session.specs.FromCommands.Showing.{Shows}
+use Rattle.pw_commands.specs.Ends.{Ends}
+use Rattle.pw_commands.specs.Outcome.{IsFound, Obeys}
+use Rattle.pw_commands.specs.Showing.{Shows}
 use Rattle.pw_top.specs.Does.{Does}
 
 -- ---- nothing was put, put out or read

@@ -8,16 +8,16 @@ use Rattle.pw_top_answer.specs.declared.answer.Answer.TheVariants.{Usage, Refuse
 use Rattle.pw_top_answer.specs.Answers.{line_text, NeedsMemory}
 use Rattle.pw_top_answer.specs.Effects.{Effect, NamedFile, PutsFiles, PutPrefix}
 use Rattle.pw_top_answer.specs.Outcomes.{Answers, InputCount, IsLineDue, LeavesInput, LeavesStreams, OutputCount, StoreCount, ToldAs, WasReadInPart}
-use Rattle.pw_law_session.specs.Ends.{Ends}
-use Rattle.pw_law_session.specs.FromCommands.Others.{KeepsOthers}
-use Rattle.pw_law_session.specs.FromGo.FullBuild as build
-use Rattle.pw_law_session.specs.FromGo.FullBuild.{Build, full_build}
-use Rattle.pw_law_session.specs.FromGo.Going.{AnswersBuild, ReturnsSum, build_effect}
-use Rattle.pw_law_session.specs.FromGo.Refusals.{HoldsNoWantOfMemory}
+use Rattle.pw_commands.specs.Ends.{Ends}
+use Rattle.pw_commands.specs.Others.{KeepsOthers}
+use Rattle.pw_go.specs.FullBuild as build
+use Rattle.pw_go.specs.FullBuild.{Build, full_build}
+use Rattle.pw_go.specs.Going.{AnswersBuild, ReturnsSum, build_effect}
+use Rattle.pw_go.specs.Refusals.{HoldsNoWantOfMemory}
 use Rattle.pw_top_words.specs.declared.commands.Command.{Command}
 use Rattle.pw_top_words.specs.declared.commands.Command.TheVariants.{Go, Build as BuildAll, Session}
-use Rattle.pw_law_session.specs.FromDriving.Driving.{KeepsUnput, Unput}
-use Rattle.pw_law_session.specs.FromSession.Removals.{MayRemove}
+use Rattle.pw_session.specs.FromBuildFiles.Driving.{KeepsUnput, Unput}
+use Rattle.pw_session.specs.Removals.{MayRemove}
 use Rattle.pw_top.specs.Commands.{EndsScript, KeepsTheRest, files_put, opts_of}
 use Rattle.pw_top.specs.Does.{Does, DoesAs}
 use Rattle.pw_top.proofs.DoesLemmas.{memory_here, out_part}
