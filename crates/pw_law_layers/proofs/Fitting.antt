@@ -50,7 +50,7 @@ few_registers (x ∷ rs) low within rise =
 saved_within : (f : FlowFn) (d : Directives) (l : Located) → IsDirectives d → Serves (directed f d) l
     → (r : ℕ) → Changes (directed f d) l r → (first_register ≤ r) × (r ≤ last_register)
 unfolding directed
-saved_within f d l lawful s r (places c high) = (((s.registers r c).0).low, high)
+saved_within f d l lawful s r (places c high unfree) = (((s.registers r c).0).low, high)
 saved_within f d l lawful s r (saves c) = absurd (let none : c.0 < 0 = c.1 in omega (arith, none))
 saved_within f d l lawful s r (enters has) =
     let web : IsWeb has.web = All-contains IsWeb (map (λ w. w.0) d.webs) has.web
