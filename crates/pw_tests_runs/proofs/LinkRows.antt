@@ -49,7 +49,7 @@ looked_at w m rest =
     if goes_on m.frame then stand w m.core (m.frame ∷ m.callers) ∷ rest else rest
 
 -- at each call and each return of so many steps, whether the return addresses stand
-abbrev links : LineProgram → Addresses → ℕ → Step → List Bool
+links : LineProgram → Addresses → ℕ → Step → List Bool
 links p w zero s = []
 links p w (suc n) (On m) = looked_at w m (links p w n (step p w (λ k registers r. 99) m))
 links p w (suc n) s = []
