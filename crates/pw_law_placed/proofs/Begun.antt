@@ -88,7 +88,7 @@ uncleared (Reg r ∷ rest) bank q lacks =
     other true e = absurd (lacks (subst (λ (n : ℕ). Contains (Reg n ∷ rest) (Reg q)) (eqb-true q r e) (first_there (Reg q) rest)))
     other false e = refl
 
-nothing_there : (n t : ℕ) → slice_index_or (replicate n Undefined) t Undefined ≡ Undefined
+pub nothing_there : (n t : ℕ) → slice_index_or (replicate n Undefined) t Undefined ≡ Undefined
 nothing_there n t = elim (cases_lt t n) [
   | inl lt ↦ get_or-replicate n t Undefined Undefined lt
   | inr ge ↦ let count : length (replicate n Undefined) ≡ n = length-replicate n Undefined in get_or_past (replicate n Undefined) t Undefined (omega (arith, ge, count))

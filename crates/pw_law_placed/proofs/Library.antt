@@ -106,7 +106,7 @@ module _ (p : Program) (d : List (List ℕ × Directives)) (ls : List Located) w
   abbrev library_by : PlacedProgram → Library → Option ℕ → List ℕ → List Value → Machine → ℕ → Step
   library_by q g t f args m n = if nat_lt q.flow.stack (q.flow.frame_of f + n) then Stopped run.StackFull (noted (Refused f) m) else calls_library q g t args m
 
-  abbrev calls_by : PlacedProgram → Option ℕ → List ℕ → List Value → Machine → Option Library → Option Located → Step
+  abbrev pub calls_by : PlacedProgram → Option ℕ → List ℕ → List Value → Machine → Option Library → Option Located → Step
   calls_by q t f args m (Some g) defined = library_by q g t f args m (depth q (m.frame ∷ m.callers))
   calls_by q t f args m None (Some defined) = calls_defined q defined t args m
   calls_by q t f args m None None = Astray
@@ -122,7 +122,7 @@ module _ (p : Program) (d : List (List ℕ × Directives)) (ls : List Located) w
       subst (λ (n : ℕ). Follows p d (library_by bare lib to f args (bare_side x) deep) (library_by full lib to f args (placed_side x) n)) (sym (depth_same p d ls (x.frame ∷ x.callers)))
       (either_follows (nat_lt p.stack (p.frame_of f + deep)) (refusal_follows f x to c.ready) (each_follows lib x to args c))
 
-  by_library : (lib : Library) (x : Twin) (to : Option ℕ) (f : List ℕ) (args : List Value) (own : Option Library) → own ≡ Some lib → IsCalling p d x to
+  pub by_library : (lib : Library) (x : Twin) (to : Option ℕ) (f : List ℕ) (args : List Value) (own : Option Library) → own ≡ Some lib → IsCalling p d x to
       → Follows p d (calls_by bare to f args (bare_side x) own (function_named bare f)) (calls_by full to f args (placed_side x) own (function_named full f))
   by_library lib x to f args (Some g) e c = within_stack g x to f args c
   by_library lib x to f args None e c = absurd cc
