@@ -1,6 +1,6 @@
 -- Calls of functions that a module of the program defines.
-use Rattle.std.specs.Prelude.{ℕ, zero, suc, ◌≡◌, ◌≤◌, ◌<◌, ◌+◌, ◌-◌, ◌==◌, ◌&&◌, nat_lt, Bool, true, false, if◌then◌else◌, Option, Some, None, List, [], ◌∷◌, length, map, replicate, slice_get, Contains}
-use Rattle.std.proofs.Common.{◌⊎◌, arith, refl, sym, ap, subst, ◌∙◌, inl, inr}
+use Rattle.std.specs.Prelude.{ℕ, zero, suc, ◌≡◌, ◌≤◌, ◌<◌, ◌+◌, ◌-◌, ◌==◌, ◌&&◌, nat_lt, Bool, true, false, if◌then◌else◌, Option, Some, None, List, [], ◌∷◌, length, map, slice_get, Contains}
+use Rattle.std.proofs.Common.{arith, refl, sym, ap, subst, ◌∙◌, inl, inr}
 use Rattle.std.specs.List.{flat_map, range_with_len, AllByRecursion}
 use Rattle.std.specs.Str.{bytes_eq}
 use Rattle.std.proofs.lemmas.Bool.{cases_eq, cases_lt, eqb-true, eqb-false}
@@ -24,7 +24,6 @@ use Rattle.pw_webflow.specs.ValidWebs.{HasRegister, IsWebFn}
 use Rattle.pw_webflow.proofs.DirectionLaws.{directed_lawful}
 use Rattle.pw_alloc.specs.Allocation.{is_entry, saved_of}
 use Rattle.pw_alloc.specs.declared.located.Located.{Located}
-use Rattle.pw_alloc.specs.declared.located.Place.TheVariants.{Reg}
 use Rattle.pw_run.specs.Runs as run
 use Rattle.pw_db_sound.specs.CallGraphs.{Calls}
 use Rattle.pw_db_sound.specs.Sound.{Sound, In}
@@ -43,7 +42,7 @@ use Rattle.pw_law_placed.proofs.Entering.{Entering, LoadsBoth, all_loaded, unloa
 use Rattle.pw_law_placed.proofs.Receiving.{Receiving, all_received, received_alike}
 use Rattle.pw_law_placed.proofs.Library.{call_noted, call_ready, refusal_follows, calls_by, by_library}
 use Rattle.pw_law_placed.proofs.Naming.{same_functions}
-use Rattle.pw_law_placed.proofs.Noting.{bare_globals, placed_globals, depth_same}
+use Rattle.pw_law_placed.proofs.Noting.{depth_same}
 use Rattle.pw_law_placed.proofs.WebSteps.{register_web}
 use Rattle.pw_law_placed.proofs.Webs.{web_has, web_register}
 use Rattle.pw_law_direction.proofs.Directives.{web_range, entered_role}

@@ -1,14 +1,12 @@
 -- The webs that a function enters are loaded, in both runs.
-use Rattle.std.specs.Prelude.{ℕ, ◌≡◌, ◌≤◌, ◌≢◌, Bool, true, false, Option, Some, None, List, [], ◌∷◌, map, slice_get}
+use Rattle.std.specs.Prelude.{ℕ, ◌≡◌, ◌≤◌, Bool, true, false, Option, Some, None, List, [], ◌∷◌, slice_get}
 use Rattle.std.proofs.Common.{refl, sym, ap, subst, ◌∙◌, inl, inr}
 use Rattle.std.proofs.lemmas.Bool.{cases_eq}
 use Rattle.pw_value.specs.declared.value.Value.{Value}
-use Rattle.pw_value.specs.declared.value.Byte.{Byte}
-use Rattle.pw_files.proofs.Standing.{Has, contains_by, has_map}
-use Rattle.pw_db.specs.Limits.{first_register, last_register}
+use Rattle.pw_files.proofs.Standing.{Has}
+use Rattle.pw_db.specs.Limits.{last_register}
 use Rattle.pw_db.specs.Database.{IsDatabase}
 use Rattle.pw_db.specs.declared.database.Web.{Web}
-use Rattle.pw_db.specs.declared.database.Role.{Role}
 use Rattle.pw_db.specs.declared.database.Role.TheVariants.{Entry}
 use Rattle.pw_db.specs.declared.database.Directives.{Directives}
 use Rattle.pw_webflow.specs.ValidWebs.{HasRegister}
@@ -17,15 +15,15 @@ use Rattle.pw_alloc.specs.declared.located.Located.{Located}
 use Rattle.pw_alloc.specs.declared.located.Place.TheVariants.{Reg}
 use Rattle.pw_run.specs.Runs as run
 use Rattle.pw_run.specs.Runs.{Same}
-use Rattle.pw_db_sound.specs.Sound.{Sound, In}
+use Rattle.pw_db_sound.specs.Sound.{Sound}
 use Rattle.pw_db_sound.specs.Sound.{Has as HasRole}
-use Rattle.pw_run_languages.specs.Traces.{Event, Loaded, EventAlike, loaded, KeepRegisters}
+use Rattle.pw_run_languages.specs.Traces.{Loaded, EventAlike, loaded, KeepRegisters}
 use Rattle.pw_run_languages.specs.Programs.{Program}
 use Rattle.pw_run_languages.specs.FlowRun.{get_global}
 use Rattle.pw_run_languages.specs.LawfulPrograms.{graph_of}
 use Rattle.pw_run_languages.specs.Direction.{with_functions}
 use Rattle.pw_run_languages.specs.PlacedRun.{PlacedProgram, Machine, Step, On, Astray, kept, with_register, noted_if, is_eligible, and_then, enters_webs}
-use Rattle.pw_law_direction.proofs.Banks.{with_same, with_covered, written_other, is_entered_by}
+use Rattle.pw_law_direction.proofs.Banks.{written_other, is_entered_by}
 use Rattle.pw_law_direction.proofs.Directives.{web_range}
 use Rattle.pw_law_placed.specs.Twins.{Active, Twin, bare_side, placed_side, bare_program, bare_value, placed_value}
 use Rattle.pw_law_placed.specs.Alike.{Registers, given_back, name_of, IsPlaced}

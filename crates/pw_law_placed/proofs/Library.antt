@@ -1,23 +1,20 @@
 -- Calls of the library.
-use Rattle.std.specs.Prelude.{ℕ, ◌≡◌, ◌≤◌, ◌+◌, ◌%◌, nat_lt, Bool, true, false, if◌then◌else◌, Option, Some, None, List, [], ◌∷◌, ◌++◌, map}
-use Rattle.std.proofs.Common.{refl, sym, ap, subst, ◌∙◌}
+use Rattle.std.specs.Prelude.{ℕ, ◌≡◌, ◌+◌, ◌%◌, nat_lt, Bool, true, false, if◌then◌else◌, Option, Some, None, List, [], ◌∷◌, ◌++◌}
+use Rattle.std.proofs.Common.{refl, sym, subst}
 use Rattle.pw_value.specs.declared.value.Value.{Value}
-use Rattle.pw_value.specs.declared.value.Value.TheVariants.{Undefined, Num, Null, At, Piece}
-use Rattle.pw_value.specs.declared.value.Byte.{Byte}
+use Rattle.pw_value.specs.declared.value.Value.TheVariants.{Num}
 use Rattle.pw_value.specs.ProgramNames.{exit_name, getchar_name, putchar_name}
 use Rattle.pw_value.specs.Words.{end_of_input}
-use Rattle.pw_db.specs.Limits.{last_register}
 use Rattle.pw_db.specs.declared.database.Directives.{Directives}
 use Rattle.pw_alloc.specs.declared.located.Located.{Located}
 use Rattle.pw_run.specs.Runs as run
-use Rattle.pw_run.specs.Runs.{Same}
-use Rattle.pw_run_languages.specs.Traces.{Event, Called, Refused, Returned, EventAlike, called, refused, returned}
+use Rattle.pw_run_languages.specs.Traces.{Called, Refused, Returned, called, refused, returned}
 use Rattle.pw_run_languages.specs.Programs.{Program, Library, GetChar, PutChar, Exit, library_at}
-use Rattle.pw_run_languages.specs.PlacedRun.{PlacedProgram, Machine, Step, On, Stopped, Astray, kept, noted, depth, without_scratch, library_call, gives_back, calls_library, calls_defined, calls, function_named, takes_result}
+use Rattle.pw_run_languages.specs.PlacedRun.{PlacedProgram, Machine, Step, Stopped, Astray, kept, noted, depth, without_scratch, library_call, gives_back, calls_library, calls_defined, calls, function_named}
 use Rattle.pw_run_languages.specs.Direction.{with_functions}
 use Rattle.pw_law_direction.proofs.Banks.{with_same, scratch_keeps}
-use Rattle.pw_law_placed.specs.Twins.{Active, Twin, bare_side, placed_side, bare_program}
-use Rattle.pw_law_placed.specs.Alike.{Registers, given_back, IsReady, IsCalling, IsAlike, Follows, stops, strays}
+use Rattle.pw_law_placed.specs.Twins.{Twin, bare_side, placed_side, bare_program}
+use Rattle.pw_law_placed.specs.Alike.{given_back, IsReady, IsCalling, Follows, stops, strays}
 use Rattle.pw_law_placed.specs.Laws.{LibraryFollows}
 use Rattle.pw_law_placed.proofs.Waiting.{gets_kept, waiting_same}
 use Rattle.pw_law_placed.proofs.Writing.{results_follow}

@@ -1,12 +1,10 @@
 -- A name is that of the same function in both runs.
-use Rattle.std.specs.Prelude.{ℕ, ◌≡◌, Bool, true, false, cond, find, Option, Some, None, List, [], ◌∷◌, map, Contains}
+use Rattle.std.specs.Prelude.{ℕ, ◌≡◌, Bool, true, false, cond, find, Option, Some, List, [], ◌∷◌, map, Contains}
 use Rattle.std.proofs.Common.{refl, sym, ap, subst, ◌∙◌}
 use Rattle.std.specs.Str.{bytes_eq}
 use Rattle.std.proofs.lemmas.Slice.Eq.{bytes_eq-Decides}
-use Rattle.pw_db.specs.declared.database.Directives.{Directives}
 use Rattle.pw_webflow.specs.declared.web.WebFn.{WebFn}
 use Rattle.pw_alloc.specs.declared.located.Located.{Located}
-use Rattle.pw_run_languages.specs.Programs.{Program}
 use Rattle.pw_run_languages.specs.Direction.{directed_functions, unplaced}
 use Rattle.pw_run_languages.specs.Serving.{Serves, AllServe}
 use Rattle.pw_law_placed.specs.Laws.{BothNamed, neither, both, SameFunctions}

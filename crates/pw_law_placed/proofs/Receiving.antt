@@ -1,12 +1,10 @@
 -- The parameters of a function that was called, which are its first temporaries.
-use Rattle.std.specs.Prelude.{ℕ, suc, ◌≡◌, ◌≢◌, ◌≤◌, ◌<◌, ◌+◌, ◌-◌, Option, Some, None, List, [], ◌∷◌, length, map, slice_get, slice_set, Contains}
+use Rattle.std.specs.Prelude.{ℕ, suc, ◌≡◌, ◌≤◌, ◌<◌, ◌+◌, ◌-◌, Option, Some, None, List, [], ◌∷◌, length, slice_get, Contains}
 use Rattle.std.proofs.Common.{◌⊎◌, arith, refl, sym, ap, subst, ◌∙◌, inl, inr}
 use Rattle.std.proofs.lemmas.Bool.{cases_eq}
-use Rattle.std.proofs.lemmas.List.{length-set}
 use Rattle.std.proofs.lemmas.List.Elements.{Contains-get_or}
 use Rattle.std.proofs.lemmas.Option.{slice_get_within, get_or_from_slice_get}
 use Rattle.pw_value.specs.declared.value.Value.{Value}
-use Rattle.pw_value.specs.declared.value.Byte.{Byte}
 use Rattle.pw_value.specs.ProgramNames.{start_name}
 use Rattle.pw_db.specs.Limits.{first_register, last_register}
 use Rattle.pw_db.specs.declared.database.Directives.{Directives}
@@ -21,7 +19,7 @@ use Rattle.pw_db_sound.specs.CallGraphs.{Calls}
 use Rattle.pw_run_languages.specs.Traces.{EventAlike, KeepRegisters}
 use Rattle.pw_run_languages.specs.Programs.{Program}
 use Rattle.pw_run_languages.specs.LawfulPrograms.{graph_of}
-use Rattle.pw_run_languages.specs.PlacedRun.{Machine, kept, with_register, with_parameters}
+use Rattle.pw_run_languages.specs.PlacedRun.{Machine, kept, with_parameters}
 use Rattle.pw_run_languages.specs.Serving.{Live, Interfere, by_start, parameters}
 use Rattle.pw_law_direction.proofs.Banks.{kept_at, with_same, written_other}
 use Rattle.pw_law_placed.specs.Twins.{Active, Twin, bare_side, placed_side, bare_value, placed_value}

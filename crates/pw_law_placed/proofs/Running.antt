@@ -1,5 +1,5 @@
 -- Both runs, step by step.
-use Rattle.std.specs.Prelude.{ℕ, zero, suc, ◌≡◌, List, map}
+use Rattle.std.specs.Prelude.{ℕ, zero, suc, ◌≡◌, List}
 use Rattle.std.proofs.Common.{arith, refl, sym, ap, subst, ◌∙◌}
 use Rattle.pw_value.specs.declared.value.Byte.{Byte}
 use Rattle.pw_value.specs.declared.value.Value.{Value}
@@ -16,8 +16,8 @@ use Rattle.pw_run_languages.specs.PlacedRun.{PlacedProgram, Machine, Step, On, a
 use Rattle.pw_run_languages.specs.PlacementLaws.{PlacesKeepRuns}
 use Rattle.pw_law_direction.specs.Values.{AreFine}
 use Rattle.pw_law_direction.specs.DirectedLaws.{ValuesAreFine}
-use Rattle.pw_law_placed.specs.Twins.{Twin, bare_side, placed_side, bare_program}
-use Rattle.pw_law_placed.specs.Alike.{IsAlike, Follows, goes, stops, strays}
+use Rattle.pw_law_placed.specs.Twins.{bare_side, placed_side, bare_program}
+use Rattle.pw_law_placed.specs.Alike.{Follows, goes, stops, strays}
 use Rattle.pw_law_placed.specs.Laws.{IsServed, StartsFollow, StepsFollow}
 
 -- what the one run shows and notes, so does the other

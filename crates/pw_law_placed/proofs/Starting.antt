@@ -1,5 +1,5 @@
 -- The starts of both runs.
-use Rattle.std.specs.Prelude.{ℕ, ◌≡◌, ◌≤◌, Option, Some, None, List, [], ◌∷◌, length, map, replicate, slice_get}
+use Rattle.std.specs.Prelude.{ℕ, ◌≡◌, Option, Some, None, List, [], ◌∷◌, length, map, replicate, slice_get}
 use Rattle.std.proofs.Common.{refl, sym, ◌∙◌}
 use Rattle.std.proofs.lemmas.List.{length-replicate}
 use Rattle.pw_value.specs.declared.value.Value.{Value}
@@ -22,10 +22,10 @@ use Rattle.pw_run_languages.specs.Programs.{Program, start_objects}
 use Rattle.pw_run_languages.specs.LawfulPrograms.{IsProgram, graph_of}
 use Rattle.pw_run_languages.specs.FlowRun.{with_slots}
 use Rattle.pw_run_languages.specs.Direction.{directed_functions, unplaced, with_functions}
-use Rattle.pw_run_languages.specs.PlacedRun.{PlacedProgram, Machine, Step, Astray, kept, globals_now, entered_webs, enters_webs, first_block, function_named, start}
+use Rattle.pw_run_languages.specs.PlacedRun.{PlacedProgram, Machine, Step, Astray, kept, globals_now, entered_webs, enters_webs, first_block, function_named}
 use Rattle.pw_run_languages.specs.Serving.{Serves}
 use Rattle.pw_law_direction.proofs.Banks.{saved_same}
-use Rattle.pw_law_placed.specs.Twins.{Active, Twin, bare_side, placed_side, bare_value, placed_value, bare_program}
+use Rattle.pw_law_placed.specs.Twins.{Twin, bare_side, placed_side, bare_value, placed_value, bare_program}
 use Rattle.pw_law_placed.specs.Alike.{Registers, IsPlaced, Follows, goes, strays}
 use Rattle.pw_law_placed.specs.Laws.{BothNamed, neither, both, StartsFollow}
 use Rattle.pw_law_placed.proofs.Places.{register_of_place, value_at}

@@ -1,5 +1,5 @@
 -- Every step of both runs.
-use Rattle.std.specs.Prelude.{ℕ, zero, suc, ◌≡◌, true, Option, Some, None, List, [], ◌∷◌, ◌++◌, map, slice_index_or, Contains}
+use Rattle.std.specs.Prelude.{ℕ, zero, suc, ◌≡◌, true, Option, List, [], ◌∷◌, ◌++◌, slice_index_or, Contains}
 use Rattle.std.proofs.Common.{◌⊎◌, refl, sym, ap, subst, ◌∙◌, inl, inr}
 use Rattle.std.specs.List.{AllByRecursion}
 use Rattle.std.proofs.lemmas.List.Elements.{Contains-append_right}
@@ -27,7 +27,7 @@ use Rattle.pw_run_languages.specs.Direction.{with_functions}
 use Rattle.pw_run_languages.specs.PlacedRun.{PlacedProgram, Machine, Step, entered_webs, calls, obeys, ends, does, step}
 use Rattle.pw_law_direction.specs.Values.{FineValue, AreFine}
 use Rattle.pw_law_direction.specs.DirectedLaws.{OperationsCallByTheGraph}
-use Rattle.pw_law_placed.specs.Twins.{Active, Twin, bare_side, placed_side, bare_program, bare_value, placed_value}
+use Rattle.pw_law_placed.specs.Twins.{Twin, bare_side, placed_side, bare_program, bare_value, placed_value}
 use Rattle.pw_law_placed.specs.Alike.{name_of, IsCalling, IsAlike, Follows}
 use Rattle.pw_law_placed.specs.Laws.{IsServed, StaysInside, HasResult, StaysInFunction, ReturnsFollow, StepsFollow}
 use Rattle.pw_law_placed.proofs.Lists.{first_there}
