@@ -4,7 +4,7 @@
 ghost use Rattle.pw_law_analysis.specs.OwedLaws.{DatabaseIsLawful, DatabaseIsSound, ColouredIsCovered};
 ghost use Rattle.pw_law_analysis.specs.AnalyserLaws.{NamedGraphsSayTheSame, DatabasesServe, LayersGiveAll};
 
-use crate::composition::{all_laws_compose, analyses_compose};
+use crate::owed::{all_laws_compose, analyses_compose};
 use pw_colour::laws;
 use pw_law_direction::direction_keeps;
 use pw_law_placed::places_keep;
