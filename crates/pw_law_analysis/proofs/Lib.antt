@@ -10,6 +10,8 @@ mod Used
 mod Eligible
 mod Same
 mod Composition
+mod Symbols
+mod ImageTraffic
 mod Joined
 mod Naming
 mod Covering

@@ -2,7 +2,7 @@
 #![tactic(auto)]
 
 ghost use Rattle.pw_law_layers.specs.Rooms.{PlacesFit, MapHasFrames};
-ghost use Rattle.pw_law_layers.specs.Whole.{LayersCompose, LayersHold, AllFramesFit, RefinementGoesThrough};
+ghost use Rattle.pw_law_layers.specs.Whole.{AllFramesFit, LayersCompose, LayersHold, LoweredImplements, RefinementGoesThrough};
 
 use pw_law_code::code::placement_keeps_runs;
 use pw_law_link::laws::modules_stand_in_order;
@@ -26,6 +26,14 @@ pub fn maps_have_frames()
     modules_stand_in_order();
 }
 
+/// From the law of lowering follows: the lowered flow graphs of an accepted program of checked texts implement it: they do
+/// what it means, and no function takes more room than its source.
+pub fn lowering_implements()
+    ensures { LoweredImplements }
+{
+    frames_fit();
+}
+
 /// From what the layers keep of one program, with its directives and its places, follows: the source agrees with the
 /// machine; each global has its value in its place at each call and return; and where the source is defined, each return
 /// keeps the registers, and the traffic law holds.
@@ -33,8 +41,8 @@ pub fn layers_hold()
     ensures { LayersHold }
 {}
 
-/// The same follows of each built program from the laws of lowering, selection and linking, and from those of direction and
-/// of places for the program's own directives and places.
+/// The same follows of each built program from the laws of selection and linking, and from those of direction and of places
+/// for the program's own directives and places. The flow graphs that it was built of are any that implement the program.
 pub fn layers_compose()
     ensures { LayersCompose }
 {
@@ -47,7 +55,6 @@ pub fn layers_compose()
 pub fn frames_are_within_rooms()
     ensures { AllFramesFit }
 {
-    frames_fit();
     places_fit_their_rooms();
     maps_have_frames();
 }

@@ -5,3 +5,4 @@ pub mod Late
 pub mod Forgetting
 pub mod Growing
 pub mod OwnCalls
+pub mod Telling

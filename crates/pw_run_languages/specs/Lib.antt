@@ -18,6 +18,7 @@ pub mod LineRun
 pub mod Words
 pub mod SelectionLaws
 pub mod Late
+pub mod ImageTrace
 pub mod MachineRun
 pub mod CodeStands
 pub mod LinkingLaws
