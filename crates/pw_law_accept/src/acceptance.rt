@@ -23,7 +23,7 @@ ghost use Rattle.pw_law_refine.specs.Whole.{CheckedIsLowerable, ProgramsKeepRuns
 ghost use Rattle.pw_law_accept.specs.Linked.{AreLinked, AreNamedPlainly, AreOfWords, HaveRightItems};
 
 use crate::formed::accepted_functions_are_formed;
-use crate::references::lowered_functions_refer_rightly;
+use crate::operations::lowered_functions_refer_rightly;
 use pw_law_checked::{
     accepted_addresses_lead_inside, accepted_bodies_keep_limits, accepted_functions_are_no_objects,
     accepted_functions_are_typed, accepted_functions_keep_limits, accepted_initialisers_have_parts,
