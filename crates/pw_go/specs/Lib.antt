@@ -1,4 +1,2 @@
-pub mod FullBuild
-pub mod BuildViews
+pub mod FromBuild
 pub mod Going
-pub mod Refusals

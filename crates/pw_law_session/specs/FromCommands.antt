@@ -1,6 +1,7 @@
 -- The definitions of pw_commands that crates above name.
 pub use Rattle.pw_commands.specs.Analysing
 pub use Rattle.pw_commands.specs.Linking
+pub use Rattle.pw_commands.specs.MachineRun
 pub use Rattle.pw_commands.specs.Needed
 pub use Rattle.pw_commands.specs.Others
 pub use Rattle.pw_commands.specs.Outcome

@@ -7,3 +7,4 @@ pub mod FromBuilding
 pub mod FromDriving
 pub mod FromSession
 pub mod Full
+pub mod Whole

@@ -12,10 +12,10 @@ use Rattle.pw_law_session.specs.FromBuild.Phases.{refused_line}
 use Rattle.pw_law_session.specs.FromBuild.BuildFault.{BuildFault}
 use Rattle.pw_law_session.specs.FromBuilding.Building.{Outcome}
 use Rattle.pw_law_session.specs.FromCommands.Outcome.{IsFound}
-use Rattle.pw_law_session.specs.FromGo.Going.{IsNoUsage}
 use Rattle.pw_law_session.specs.FromSession.SessionOpts.{SessionOpts}
 use Rattle.pw_law_session.specs.FromSession.Bench.{BenchEffect, BenchOver, IsBenchAnswer, IsBenchFound, IsBenchLine, ObeysBench, bench_files}
 use Rattle.pw_law_session.specs.FromSession.Changes.{Change, ChangePrefix, MakesChanges, MakesSome}
+use Rattle.pw_top.specs.Answers.{IsNoUsage}
 use Rattle.pw_top.specs.Rest.{LeavesRest}
 use Rattle.pw_law_session.specs.FromSession.Outcomes.{IsSessionAnswer, LeavesScript, ObeysSession}
 use Rattle.pw_top.specs.Does.{Does, DoesSession}
