@@ -1,2 +1,2 @@
-pub mod FromBuild
+pub mod Ends
 pub mod Going

@@ -2,6 +2,6 @@
 #![tactic(auto)]
 
 mod going;
+pub mod laws;
 
 pub use going::go;
-pub use pw_build_files::texts_have_one_image;

@@ -6,9 +6,9 @@ use Rattle.pw_store_modules.specs.Modules.{Texts, module_map}
 use Rattle.pw_top_answer.specs.Effects.{after_puts}
 use Rattle.pw_law_build.specs.Whole.{HoldsFile, HoldsFullBuild}
 use Rattle.pw_session.specs.FromBuild.BuildFault.{BuildFault}
-use Rattle.pw_session.specs.FromBuilding.Building.{BuildOutcome, Outcome}
-use Rattle.pw_session.specs.FromBuilding.Full.{BuildsImage, image_of}
-use Rattle.pw_session.specs.FromBuilding.Genuine.{KeepsGenuine}
+use Rattle.pw_session.specs.FromBuildFiles.Building.{BuildOutcome, Outcome}
+use Rattle.pw_session.specs.FromBuildFiles.Full.{BuildsImage, image_of}
+use Rattle.pw_session.specs.FromBuildFiles.Genuine.{KeepsGenuine}
 use Rattle.pw_law_session.specs.Whole.{IsBuiltInFull}
 
 -- the laws on which it stands, for so many registers

@@ -6,8 +6,8 @@ use Rattle.pw_store_modules.specs.Modules.{Texts, module_map}
 use Rattle.pw_top_answer.specs.Effects.{after_puts}
 use Rattle.pw_law_build.specs.Whole.{HoldsFile, HoldsFullBuild}
 use Rattle.pw_session.specs.FromBuild.BuildFault.{BuildFault}
-use Rattle.pw_session.specs.FromBuilding.Building.{Outcome, puts_of}
-use Rattle.pw_session.specs.FromBuilding.Full.{BuildsImage, image_of}
+use Rattle.pw_session.specs.FromBuildFiles.Building.{Outcome, puts_of}
+use Rattle.pw_session.specs.FromBuildFiles.Full.{BuildsImage, image_of}
 
 -- Behind a full build that comes to an image, its database and this image stand in their files; behind one that is refused, the
 -- store tells what it told.

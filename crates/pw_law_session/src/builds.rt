@@ -3,15 +3,14 @@
 ghost use Rattle.std.specs.Prelude.{Result};
 ghost use Rattle.pw_io.specs.Files.{Told};
 ghost use Rattle.pw_session.specs.FromBuild.BuildFault.{BuildFault};
-ghost use Rattle.pw_session.specs.FromBuilding.Building.{BuildOutcome, Outcome};
-ghost use Rattle.pw_session.specs.FromBuilding.Genuine.{KeepsGenuine};
-ghost use Rattle.pw_session.specs.FromBuilding.Outcomes.{AreOpts};
-ghost use Rattle.pw_go.specs.FromBuild.Opts.{Opts};
+ghost use Rattle.pw_session.specs.FromBuildFiles.Building.{BuildOutcome, Outcome};
+ghost use Rattle.pw_session.specs.FromBuildFiles.Genuine.{KeepsGenuine};
+ghost use Rattle.pw_session.specs.FromBuildFiles.Outcomes.{AreOpts};
+ghost use Rattle.pw_session.specs.FromBuildFiles.Opts.{Opts};
 ghost use Rattle.pw_law_session.specs.Whole.{IsBuiltInFull};
 
-use pw_go::texts_have_one_image;
 use pw_law_build::a_build_leaves_the_whole_program;
-use pw_session::genuine_objects_give_the_full_image;
+use pw_session::{genuine_objects_give_the_full_image, texts_have_one_image};
 
 /// Where the kept objects are genuine, a build over a store's files comes to the image of the full build of the modules, byte
 /// for byte, or to its refusal; and it leaves that build's database and that image in their files.

@@ -7,16 +7,16 @@ use Rattle.pw_top_answer.specs.declared.answer.Answer.{Answer}
 use Rattle.pw_top_answer.specs.declared.answer.Answer.TheVariants.{ReadFault, WriteFault, StoreFault, NoMemory}
 use Rattle.pw_top_answer.specs.Effects.{Effect, after_puts}
 use Rattle.pw_top_answer.specs.Outcomes.{Answers, LeavesInput, PutsOut}
-use Rattle.pw_law_session.specs.FromBuild.BuildFault.{BuildFault}
-use Rattle.pw_law_session.specs.FromBuilding.Building.{BuildOutcome, Outcome}
-use Rattle.pw_law_session.specs.FromBuilding.Genuine.{KeepsGenuine}
-use Rattle.pw_law_session.specs.FromBuilding.Outcomes.{AreOpts}
-use Rattle.pw_law_session.specs.FromDriving.Driving.{BuildEffect, built_effect}
-use Rattle.pw_law_session.specs.FromGo.Going.{GoEffect, GoOver}
-use Rattle.pw_law_session.specs.FromGo.Opts.{Opts}
+use Rattle.pw_session.specs.FromBuild.BuildFault.{BuildFault}
+use Rattle.pw_session.specs.FromBuildFiles.Building.{BuildOutcome, Outcome}
+use Rattle.pw_session.specs.FromBuildFiles.Genuine.{KeepsGenuine}
+use Rattle.pw_session.specs.FromBuildFiles.Outcomes.{AreOpts}
+use Rattle.pw_session.specs.FromBuildFiles.Driving.{BuildEffect, built_effect}
+use Rattle.pw_go.specs.Going.{GoEffect, GoOver}
+use Rattle.pw_session.specs.FromBuildFiles.Opts.{Opts}
 use Rattle.pw_law_session.specs.Whole.{IsBuiltInFull, LeavesFull}
 use Rattle.pw_law_session.specs.Full.{SessionBuildsInFull}
-use Rattle.pw_law_session.specs.FromSession.SessionOpts.{SessionOpts}
+use Rattle.pw_session.specs.declared.opts.SessionOpts.{SessionOpts}
 use Rattle.pw_top_words.specs.declared.commands.Command.{Command}
 use Rattle.pw_top_words.specs.declared.commands.Command.TheVariants.{Go, Build as BuildAll, Session}
 use Rattle.pw_top_words.specs.Limits.{IsWithin}

@@ -8,13 +8,13 @@ use Rattle.pw_store_modules.specs.Modules.{module_map}
 use Rattle.pw_top_answer.specs.declared.answer.Answer.{Answer}
 use Rattle.pw_top_answer.specs.declared.answer.Answer.TheVariants.{Done, StoreFault, NoMemory}
 use Rattle.pw_top_answer.specs.Outcomes.{Answers, LeavesInput, PutsOut}
-use Rattle.pw_law_session.specs.FromBuild.BuildFault.{BuildFault}
-use Rattle.pw_law_session.specs.FromBuilding.Building.{Outcome}
-use Rattle.pw_law_session.specs.FromBuilding.Full.{BuildsImage}
-use Rattle.pw_law_session.specs.FromBuilding.Outcomes.{fault_answer}
-use Rattle.pw_law_session.specs.FromCommands.MachineRun.{run_answer, run_output, run_rest}
-use Rattle.pw_law_session.specs.FromDriving.Driving.{outcome_lines}
-use Rattle.pw_law_session.specs.FromGo.Going.{run_from}
+use Rattle.pw_session.specs.FromBuild.BuildFault.{BuildFault}
+use Rattle.pw_session.specs.FromBuildFiles.Building.{Outcome}
+use Rattle.pw_session.specs.FromBuildFiles.Full.{BuildsImage}
+use Rattle.pw_session.specs.FromBuildFiles.Outcomes.{fault_answer}
+use Rattle.pw_commands.specs.MachineRun.{run_answer, run_output, run_rest}
+use Rattle.pw_session.specs.FromBuildFiles.Driving.{outcome_lines}
+use Rattle.pw_go.specs.Going.{run_from}
 use Rattle.pw_law_session.specs.Whole.{LeavesFull}
 
 -- what holds of each answer but a fault of the store and want of memory

@@ -4,7 +4,7 @@ ghost use Rattle.std.specs.Prelude.{◌≡◌, ◌⊎◌, ℕ, IfSome, List, Non
 ghost use Rattle.pw_io.specs.Files.{Keeps};
 ghost use Rattle.pw_top_answer.specs.Answers.{line_text};
 ghost use Rattle.pw_top_answer.specs.Outcomes.{InputCount, LeavesStreams, OutputCount, StoreCount, Tells, TellsSome};
-ghost use Rattle.pw_law_session.specs.FromBuilding.Genuine.{KeepsGenuine};
+ghost use Rattle.pw_session.specs.FromBuildFiles.Genuine.{KeepsGenuine};
 ghost use Rattle.pw_top.specs.Answers.{HoldsNoWantOfMemory, IsNoUsage};
 ghost use Rattle.pw_top.specs.Commands.{BuildsWhole, EndsScript, IsNoSession, KeepsTheRest, OnlyReads, RefusesAsBuilt, is_builder, is_phase, is_reader, line_of, opts_of};
 ghost use Rattle.pw_top.specs.Does.{DoesAs};
@@ -12,13 +12,15 @@ ghost use Rattle.pw_top.specs.Obeying.{CarriesOut, outside_of};
 ghost use Rattle.pw_top_words.specs.CommandLine.{command_of};
 ghost use Rattle.pw_top_words.specs.Limits.{IsWithin};
 
+use pw_commands::{analyse_modules, link_modules, list_image, run_image, show_database};
 use pw_commands_phases::{compile_flow, compile_text};
+use pw_go::go;
+use pw_go::laws::runs_leave_an_end;
 use pw_io::laws::other_files;
 use pw_io::{Sink, Source, Store};
-use pw_law_session::{
-    Opts, SessionOpts, analyse_modules, bench, build_modules, builds_are_full,
-    genuine_files_keep_genuine, go, link_modules, list_image, run_image, run_session,
-    runs_leave_an_end, sessions_build_in_full, show_database,
+use pw_law_session::{builds_are_full, sessions_build_in_full};
+use pw_session::{
+    Opts, SessionOpts, bench, build_modules, genuine_files_keep_genuine, run_session,
 };
 use pw_top_answer::{Answer, Reply, tell};
 use pw_top_words::laws::commands_are_within;
