@@ -1,14 +1,15 @@
 -- Laws of the run of a program under directives, of that run alone.
-use Rattle.std.specs.Prelude.{ℕ, ◌≡◌, List, [], ◌∷◌, map, Contains}
+use Rattle.std.specs.Prelude.{ℕ, ◌≡◌, List, map, Contains}
 use Rattle.pw_value.specs.declared.value.Pointer.TheVariants.{Function}
 use Rattle.pw_value.specs.ProgramNames.{start_name}
 use Rattle.pw_db.specs.declared.database.Directives.{Directives}
 use Rattle.pw_db.specs.Database.{IsDatabase}
-use Rattle.pw_db_sound.specs.CallGraphs.{Graph, Calls}
+use Rattle.pw_db_sound.specs.CallGraphs.{Calls}
 use Rattle.pw_db_sound.specs.Sound.{Sound}
 use Rattle.pw_run.specs.Runs.{Refines}
-use Rattle.pw_run_languages.specs.Traces.{Event, Called, Refused, Notes, KeepRegisters, calls_of}
-use Rattle.pw_run_languages.specs.Traffic.{Open, active, ObeysTraffic}
+use Rattle.pw_run_languages.specs.Traces.{Notes, KeepRegisters, calls_of}
+use Rattle.pw_run_languages.specs.Traffic.{ObeysTraffic}
+use Rattle.pw_run_languages.specs.Calls.{FollowsCalls}
 use Rattle.pw_run_languages.specs.Programs.{Program, names_of, function_number}
 use Rattle.pw_run_languages.specs.LawfulPrograms.{IsProgram, graph_of}
 use Rattle.pw_run_languages.specs.FlowRun.{flow_run}
@@ -16,18 +17,6 @@ use Rattle.pw_run_languages.specs.Direction.{unplaced, directed_functions, with_
 use Rattle.pw_run_languages.specs.PlacedRun.{Machine, On, steps, start}
 use Rattle.pw_run_languages.specs.PlacementLaws.{DirectionKeepsRuns}
 use Rattle.pw_law_direction.specs.Values.{IsTaken, FinePointer, AreFine}
-
--- the innermost active call calls the function; where none is active it is `$start`
-abbrev pub IsCalledBy : {B V : Type 0} → Graph → List ℕ → List (Open B V) → Type 0
-IsCalledBy g f [] = f ≡ start_name
-IsCalledBy g f (c ∷ cs) = Calls g c.function f
-
--- each call of a trace is one of the graph, whether there was stack for it or not
-abbrev pub FollowsCalls : {B V : Type 0} → Graph → List (Event B V) → Type 0
-FollowsCalls g [] = Unit {0}
-FollowsCalls g (Called f gs rs ∷ l) = IsCalledBy g f (active l) × FollowsCalls g l
-FollowsCalls g (Refused f ∷ l) = IsCalledBy g f (active l) × FollowsCalls g l
-FollowsCalls g (e ∷ l) = FollowsCalls g l
 
 abbrev pub CallsAreOfTheGraph : Type 0
 CallsAreOfTheGraph =

@@ -41,6 +41,7 @@ pub fn directed_runs_keep_registers()
 pub fn direction_rests_on_runs()
     ensures { DirectionRestsOnRuns }
 {
+    directed_calls_are_of_the_graph();
     directed_runs_keep_registers();
     directed_runs_obey_traffic();
 }

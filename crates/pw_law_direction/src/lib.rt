@@ -9,7 +9,7 @@ pub mod undirected;
 
 pub use allocation::{
     first_allocation_serves, first_places_keep, first_places_run, first_places_serve,
-    without_registers,
+    one_allocation, without_registers,
 };
 pub use directed::{
     directed_calls_are_of_the_graph, directed_runs_keep_registers, directed_runs_obey_traffic,

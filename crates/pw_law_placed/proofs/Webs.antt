@@ -22,7 +22,7 @@ use Rattle.pw_run_languages.specs.Programs.{Program}
 use Rattle.pw_run_languages.specs.LawfulPrograms.{graph_of}
 use Rattle.pw_run_languages.specs.Direction.{directives_of, directed_by}
 use Rattle.pw_run_languages.specs.PlacedRun.{with_register, with_registers}
-use Rattle.pw_run_languages.specs.Serving.{Changes, places, enters}
+use Rattle.pw_run_languages.specs.Serving.{Changes, places, enters, saves}
 use Rattle.pw_law_direction.proofs.Banks.{with_same, with_covered, in_from, is_entered_by}
 use Rattle.pw_law_direction.proofs.Directives.{role_there, web_range}
 use Rattle.pw_law_placed.specs.Twins.{Active}
@@ -109,6 +109,7 @@ module _ (p : Program) (d : List (List ℕ × Directives)) (base : IsDatabase d)
   ) where
     not_changed : Changes f.function.body f.function r → ⊥
     not_changed (places c high free) = (is.serves.registers r c).1 own
+    not_changed (saves c) = absurd (has_by r [] c)
     not_changed (enters has) =
         differ (is_entered f.function.body.directives.webs r) (subst (λ (q : ℕ). is_entered f.function.body.directives.webs q ≡ true) has.is
         (is_entered_by f.function.body.directives.webs has.web (has_by (has.web, Entry) f.function.body.directives.webs has.there))) e

@@ -1,0 +1,5 @@
+mod Expressions
+pub mod Functions
+pub mod Named
+pub mod Folds
+mod Among
