@@ -1,3 +1,2 @@
 pub mod Phases
-pub mod Origins
 pub mod Numbers
