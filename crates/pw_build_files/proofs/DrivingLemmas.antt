@@ -6,7 +6,7 @@ use Rattle.pw_io.specs.Streams.{Appends}
 use Rattle.pw_top_answer.specs.declared.answer.Answer.{Answer}
 use Rattle.pw_top_answer.specs.declared.answer.Answer.TheVariants as answer
 use Rattle.pw_top_answer.specs.Effects.{Effect, NamedFile, PutsFiles, after_puts}
-use Rattle.pw_top_answer.specs.Outcomes.{Answers, IsLineDue, IsNoRefusal, IsPrintAnswer, LeavesStreams, OutputCount, PutsOut, StoreCount}
+use Rattle.pw_top_answer.specs.Outcomes.{Answers, IsLineDue, IsPrintAnswer, LeavesStreams, OutputCount, PutsOut, StoreCount}
 use Rattle.pw_store_modules.specs.Modules.{modules_of}
 use Rattle.pw_build_files.specs.FromBuild.BuildFault.{BuildFault}
 use Rattle.pw_build_files.specs.FromBuild.BuildFault.TheVariants as build
@@ -14,9 +14,9 @@ use Rattle.pw_build_files.specs.FromBuild.Unbuilt.{Unbuilt}
 use Rattle.pw_build_files.specs.FromBuild.Phases.{IsLine, refused_line}
 use Rattle.pw_build_files.specs.declared.report.Opts.{Opts}
 use Rattle.pw_build_files.specs.declared.report.Report.{Report}
-use Rattle.pw_build_files.specs.Building.{BuildOutcome, Outcome, puts_of}
+use Rattle.pw_build_files.specs.Building.{Outcome, puts_of}
 use Rattle.pw_build_files.specs.Lines.{report_lines, report_text}
-use Rattle.pw_build_files.specs.Outcomes.{AnswersFault, AnswersOutcome, FaultFound, IsLineOfBuild, IsNoWant, ObeysBuild, Reports, fault_answer}
+use Rattle.pw_build_files.specs.Outcomes.{AnswersFault, FaultFound, IsLineOfBuild, IsNoWant, ObeysBuild, Reports, fault_answer}
 use Rattle.pw_commands.specs.Outcome.{IsFound, Obeys}
 use Rattle.pw_build_files.specs.Driving.{BuildEffect, IsBuildAnswer, built_effect, outcome_lines}
 
@@ -200,35 +200,3 @@ pub fault_line : (told : Option Told) (unbuilt : Unbuilt) (a : Answer) (line : �
     → IfSome told (λ t. IsLineDue (refused_line (modules_of t.files)) a line)
 fault_line None unbuilt a line e f h = tt
 fault_line (Some t) unbuilt a line e f h = rw (e, f) (line_due (refused_line (modules_of t.files)) unbuilt.fault unbuilt.line h)
-
--- ---- refusals, whatever the input tells
-
-print_no_refusal : (a : Answer) → IsPrintAnswer a → IsNoRefusal a
-print_no_refusal answer.Done h = tt
-print_no_refusal answer.WriteFault h = tt
-print_no_refusal answer.NoMemory h = tt
-print_no_refusal _ h = absurd h
-
-pub report_refusal : (told new : Option Told) (opts : Opts) (report : Report) (a : Answer) → IsPrintAnswer a → IfSome told (λ t. ObeysBuild opts (Ok report) t new)
-    → IfSome told (λ t. (comes : Result Outcome BuildFault) → BuildOutcome t.files opts.colours opts.stack comes → AnswersOutcome comes a)
-report_refusal None new opts report a ok h = tt
-report_refusal (Some t) new opts report a ok h = λ comes b. subst (λ (x : Result Outcome BuildFault). AnswersOutcome x a) (sym (h.answers comes b).1) (print_no_refusal a ok)
-
-in_store : (comes : Result Outcome BuildFault) → AnswersOutcome comes answer.StoreFault
-in_store (Ok outcome) = tt
-in_store (Err fault) = tt
-
-in_memory : (comes : Result Outcome BuildFault) → AnswersOutcome comes answer.NoMemory
-in_memory (Ok outcome) = tt
-in_memory (Err fault) = tt
-
-pub refused_outcome : (fault : BuildFault) (comes : Result Outcome BuildFault) → AnswersFault comes fault → AnswersOutcome comes (fault_answer fault)
-refused_outcome (build.Refused name refusal) comes is = subst (λ (x : Result Outcome BuildFault). AnswersOutcome x (answer.Refused name refusal)) (sym is) refl
-refused_outcome (build.LinkRefused fault) comes is = subst (λ (x : Result Outcome BuildFault). AnswersOutcome x (answer.LinkRefused fault)) (sym is) refl
-refused_outcome build.StoreFault comes is = in_store comes
-refused_outcome build.NoMemory comes is = in_memory comes
-
-pub fault_refusal : (told new : Option Told) (opts : Opts) (unbuilt : Unbuilt) (a : Answer) → a ≡ fault_answer unbuilt.fault → IfSome told (λ t. ObeysBuild opts (Err unbuilt) t new)
-    → IfSome told (λ t. (comes : Result Outcome BuildFault) → BuildOutcome t.files opts.colours opts.stack comes → AnswersOutcome comes a)
-fault_refusal None new opts unbuilt a e h = tt
-fault_refusal (Some t) new opts unbuilt a e h = λ comes b. subst (AnswersOutcome comes) (sym e) (refused_outcome unbuilt.fault comes (h.answers comes b))

@@ -7,7 +7,6 @@ use Rattle.pw_value.specs.Limits.{stack_least, stack_limit}
 use Rattle.pw_top_answer.specs.declared.answer.Answer.{Answer}
 use Rattle.pw_top_answer.specs.declared.answer.Answer.TheVariants as answer
 use Rattle.pw_top_answer.specs.Effects.{NamedFile, PutPart, PutsFiles, after_puts}
-use Rattle.pw_top_answer.specs.Outcomes.{IsNoRefusal, RefusesAs}
 use Rattle.pw_store_modules.specs.Modules.{modules_of}
 use Rattle.pw_build_files.specs.FromBuild.BuildFault.{BuildFault}
 use Rattle.pw_build_files.specs.FromBuild.BuildFault.TheVariants as build
@@ -44,12 +43,6 @@ build_answer (Err unbuilt) = fault_answer unbuilt.fault
 abbrev pub AnswersBuild : Result Outcome BuildFault → Result Report Unbuilt → Type 0
 AnswersBuild comes (Ok report) = (outcome : Outcome) × (comes ≡ Ok outcome) × Reports outcome report
 AnswersBuild comes (Err unbuilt) = AnswersFault comes unbuilt.fault
-
--- The refusal to which a build comes is a command's answer, before the input and the output are touched; want of memory and a
--- fault of the store may come in its place. A build that comes to a program is not refused.
-abbrev pub AnswersOutcome : Result Outcome BuildFault → Answer → Type 0
-AnswersOutcome (Ok outcome) reply = IsNoRefusal reply
-AnswersOutcome (Err fault) reply = RefusesAs (fault_answer fault) reply
 
 -- the build comes to something with that answer, where it is no fault of the store and no want of memory
 abbrev pub FaultFound : Files → Opts → BuildFault → Type 0

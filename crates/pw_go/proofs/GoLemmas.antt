@@ -18,8 +18,8 @@ use Rattle.pw_build_files.specs.FromBuild.Unbuilt.{Unbuilt}
 use Rattle.pw_build_files.specs.declared.report.Opts.{Opts}
 use Rattle.pw_build_files.specs.declared.report.Report.{Report}
 use Rattle.pw_build_files.specs.Building.{BuildOutcome, Outcome, puts_of}
-use Rattle.pw_build_files.specs.Outcomes.{AnswersFault, AnswersOutcome, FaultFound, HoldsImage, IsNoWant, ObeysBuild, Reports, fault_answer}
-use Rattle.pw_go.specs.Going.{GoEffect, GoOver, IsGoAnswer, RunsImage, ran_behind, run_from}
+use Rattle.pw_build_files.specs.Outcomes.{AnswersFault, FaultFound, HoldsImage, IsNoWant, ObeysBuild, Reports, fault_answer}
+use Rattle.pw_go.specs.Going.{AnswersComes, GoEffect, GoOver, IsGoAnswer, RunsImage, ran_behind, run_from}
 use Rattle.pw_go.proofs.RunLemmas.{appends_none, none_out}
 
 -- ---- what the command comes to
@@ -102,9 +102,9 @@ no_refusal (answer.BadScript at) k = absurd k
 no_refusal _ k = tt
 
 pub run_comes : (told new : Option Told) (opts : Opts) (report : Report) (a : Answer) → IsRunAnswer a → IfSome told (λ t. ObeysBuild opts (Ok report) t new)
-    → IfSome told (λ t. (comes : Result Outcome BuildFault) → BuildOutcome t.files opts.colours opts.stack comes → AnswersOutcome comes a)
+    → IfSome told (λ t. (comes : Result Outcome BuildFault) → BuildOutcome t.files opts.colours opts.stack comes → AnswersComes comes a)
 run_comes None new opts report a k b = tt
-run_comes (Some t) new opts report a k b = λ comes h. subst (λ (x : Result Outcome BuildFault). AnswersOutcome x a) (sym (b.answers comes h).1) (no_refusal a k)
+run_comes (Some t) new opts report a k b = λ comes h. subst (λ (x : Result Outcome BuildFault). AnswersComes x a) (sym (b.answers comes h).1) (no_refusal a k)
 
 pub run_line : (due : Files → ℕ) (told : Option Told) (a : Answer) → IsRunAnswer a → IfSome told (λ t. IsLineDue (due t.files) a 1)
 run_line due None a k = tt
@@ -196,6 +196,25 @@ fault_rest None new old opts unbuilt a budget is b = tt
 fault_rest (Some t) new None opts unbuilt a budget is b = tt
 fault_rest (Some t) new (Some input) opts unbuilt a budget is b =
     λ e d. subst (λ (x : Answer). LeavesInput e.rest input x (Some input)) (sym is) (refused_rest unbuilt.fault budget input d.0 e (b.answers d.0 d.1) d.2)
+
+in_store : (comes : Result Outcome BuildFault) → AnswersComes comes answer.StoreFault
+in_store (Ok outcome) = tt
+in_store (Err fault) = tt
+
+in_memory : (comes : Result Outcome BuildFault) → AnswersComes comes answer.NoMemory
+in_memory (Ok outcome) = tt
+in_memory (Err fault) = tt
+
+refused_as : (fault : BuildFault) (comes : Result Outcome BuildFault) → AnswersFault comes fault → AnswersComes comes (fault_answer fault)
+refused_as (build.Refused name refusal) comes is = subst (λ (x : Result Outcome BuildFault). AnswersComes x (answer.Refused name refusal)) (sym is) refl
+refused_as (build.LinkRefused fault) comes is = subst (λ (x : Result Outcome BuildFault). AnswersComes x (answer.LinkRefused fault)) (sym is) refl
+refused_as build.StoreFault comes is = in_store comes
+refused_as build.NoMemory comes is = in_memory comes
+
+pub fault_comes : (told new : Option Told) (opts : Opts) (unbuilt : Unbuilt) (a : Answer) → a ≡ fault_answer unbuilt.fault → IfSome told (λ t. ObeysBuild opts (Err unbuilt) t new)
+    → IfSome told (λ t. (comes : Result Outcome BuildFault) → BuildOutcome t.files opts.colours opts.stack comes → AnswersComes comes a)
+fault_comes None new opts unbuilt a is b = tt
+fault_comes (Some t) new opts unbuilt a is b = λ comes h. subst (AnswersComes comes) (sym is) (refused_as unbuilt.fault comes (b.answers comes h))
 
 fault_is_go : (fault : BuildFault) → IsNoWant fault → IsGoAnswer (fault_answer fault)
 fault_is_go (build.Refused name refusal) h = h

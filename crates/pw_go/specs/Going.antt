@@ -10,7 +10,7 @@ use Rattle.pw_machine.specs.Start.{image_start}
 use Rattle.pw_top_answer.specs.declared.answer.Answer.{Answer}
 use Rattle.pw_top_answer.specs.declared.answer.Answer.TheVariants.{Done, Usage, Refused, LinkRefused, BadFile, BadScript}
 use Rattle.pw_top_answer.specs.Effects.{Effect, NamedFile, answers_alone}
-use Rattle.pw_top_answer.specs.Outcomes.{Answers, LeavesInput, PutsOut}
+use Rattle.pw_top_answer.specs.Outcomes.{Answers, IsNoRefusal, LeavesInput, PutsOut, RefusesAs}
 use Rattle.pw_commands.specs.MachineRun.{run_answer, run_output, run_rest, started}
 use Rattle.pw_build_files.specs.FromBuild.BuildFault.{BuildFault}
 use Rattle.pw_build_files.specs.Building.{BuildOutcome, Outcome}
@@ -33,6 +33,12 @@ GoOver budget input (Err fault) effect = effect ≡ answers_alone (fault_answer 
 abbrev pub GoEffect : Files → ℕ → ℕ → ℕ → List ℕ → Effect → Type 0
 GoEffect files colours stack budget input effect =
     (comes : Result Outcome BuildFault) × BuildOutcome files colours stack comes × GoOver budget input comes effect
+
+-- The refusal to which the build comes is the answer, before the input and the output are touched; want of memory and a fault of
+-- the store may come in its place. A build that comes to a program is not refused.
+abbrev pub AnswersComes : Result Outcome BuildFault → Answer → Type 0
+AnswersComes (Ok outcome) answer = IsNoRefusal answer
+AnswersComes (Err fault) answer = RefusesAs (fault_answer fault) answer
 
 -- the answers of the command, whose refusals are none for want of memory
 abbrev pub IsGoAnswer : Answer → Type 0

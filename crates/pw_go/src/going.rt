@@ -11,8 +11,8 @@ ghost use Rattle.pw_build_files.specs.FromBuild.Phases.{refused_line};
 ghost use Rattle.pw_build_files.specs.Building.{BuildOutcome, Outcome};
 ghost use Rattle.pw_build_files.specs.Driving.{KeepsUnput};
 ghost use Rattle.pw_build_files.specs.Genuine.{KeepsGenuine};
-ghost use Rattle.pw_build_files.specs.Outcomes.{AnswersOutcome, AreOpts, HoldsImage};
-ghost use Rattle.pw_go.specs.Going.{GoEffect, IsGoAnswer, RunsImage};
+ghost use Rattle.pw_build_files.specs.Outcomes.{AreOpts, HoldsImage};
+ghost use Rattle.pw_go.specs.Going.{AnswersComes, GoEffect, IsGoAnswer, RunsImage};
 
 use pw_build_files::{Opts, answer_of, build_uncounted};
 use pw_commands::run_machine;
@@ -62,7 +62,7 @@ pub fn go<S: Store, I: Source, O: Sink>(
     ensures obeys { IfSome (S.told store.old) (λ told. IfSome (I.rest input.old) (λ rest. Obeys (GoEffect told.files opts.now.colours opts.now.stack budget rest) result.answer told (S.told store.new))) }
     ensures output { IfSome (S.told store.old) (λ told. IfSome (I.rest input.old) (λ rest. (effect : Effect) → GoEffect told.files opts.now.colours opts.now.stack budget rest effect → PutsOut effect.output result.answer (O.taken out.old) (O.taken out.new))) }
     ensures rest { IfSome (S.told store.old) (λ told. IfSome (I.rest input.old) (λ rest. (effect : Effect) → GoEffect told.files opts.now.colours opts.now.stack budget rest effect → LeavesInput effect.rest rest result.answer (I.rest input.new))) }
-    ensures refusal { IfSome (S.told store.old) (λ told. (comes : Result Outcome BuildFault) → BuildOutcome told.files opts.now.colours opts.now.stack comes → AnswersOutcome comes result.answer) }
+    ensures refusal { IfSome (S.told store.old) (λ told. (comes : Result Outcome BuildFault) → BuildOutcome told.files opts.now.colours opts.now.stack comes → AnswersComes comes result.answer) }
     ensures others { IfSome (S.told store.old) (λ told. KeepsUnput result.answer told (S.told store.new)) }
     ensures genuine { IfSome (S.told store.old) (λ told. KeepsGenuine told.files → IfSome (S.told store.new) (λ now. KeepsGenuine now.files)) }
     ensures line { IfSome (S.told store.old) (λ told. IsLineDue (refused_line (modules_of told.files)) result.answer result.line) }

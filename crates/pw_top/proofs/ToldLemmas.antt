@@ -12,7 +12,7 @@ use Rattle.pw_go.specs.Ends.{EndsIn}
 use Rattle.pw_commands.specs.Others.{KeepsOthers}
 use Rattle.pw_session.specs.FromBuild.BuildFault.{BuildFault}
 use Rattle.pw_session.specs.FromBuildFiles.Building.{Outcome}
-use Rattle.pw_session.specs.FromBuildFiles.Outcomes.{AnswersOutcome}
+use Rattle.pw_go.specs.Going.{AnswersComes}
 use Rattle.pw_top_words.specs.declared.commands.Command.{Command}
 use Rattle.pw_top_words.specs.declared.commands.Command.TheVariants.{Go, Build as BuildAll, Session}
 use Rattle.pw_session.specs.FromBuildFiles.Driving.{KeepsUnput, Unput}
@@ -112,15 +112,14 @@ memory_ends command script = tt
 pub ends_told : (command : Option Command) (script : Option (List ℕ)) (answer last : Answer) → ToldAs answer last → EndsScript command script answer → EndsScript command script last
 ends_told command script answer last t h = told_by (EndsScript command script) answer last t h (λ n x. memory_ends command script)
 
--- ---- the refusals of builds
+-- ---- the refusals of `go`
 
-comes_no_memory : (comes : Result Outcome BuildFault) → AnswersOutcome comes NoMemory
+comes_no_memory : (comes : Result Outcome BuildFault) → AnswersComes comes NoMemory
 comes_no_memory (Ok outcome) = tt
 comes_no_memory (Err fault) = tt
 
 refuses_no_memory : (command : Option Command) (files : Files) → RefusesAsBuilt command files NoMemory
 refuses_no_memory (Some (Go colours stack steps)) files = λ comes h. comes_no_memory comes
-refuses_no_memory (Some (BuildAll colours stack)) files = λ comes h. comes_no_memory comes
 refuses_no_memory command files = tt
 
 pub memory_refuses : (command : Option Command) (told : Option Told) → IfSome told (λ t. RefusesAsBuilt command t.files NoMemory)

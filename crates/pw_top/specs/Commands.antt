@@ -7,7 +7,7 @@ use Rattle.pw_store_modules.specs.Modules.{modules_of}
 use Rattle.pw_session.specs.FromBuild.Phases as phases
 use Rattle.pw_session.specs.FromBuild.BuildFault.{BuildFault}
 use Rattle.pw_session.specs.FromBuildFiles.Building.{BuildOutcome, Outcome}
-use Rattle.pw_session.specs.FromBuildFiles.Outcomes.{AnswersOutcome}
+use Rattle.pw_go.specs.Going.{AnswersComes}
 use Rattle.pw_commands.specs.Others.{KeepsOthers}
 use Rattle.pw_session.specs.FromBuildFiles.Genuine.{KeepsGenuine}
 use Rattle.pw_session.specs.declared.opts.SessionOpts.{SessionOpts}
@@ -85,11 +85,10 @@ KeepsTheRest (Some (Session colours stack steps)) script answer old new =
     IfSome old (λ told. MakesSome (MayRemove script) answer told new × IsSomeAnd new (LeavesRest (MayRemove script) answer told))
 KeepsTheRest command script answer old new = KeepsOthers (files_put command) answer old new
 
--- The refusal to which the build of `build` and of `go` comes is their answer, whatever the input tells; only want of memory and
--- a fault of the store may come in its place.
+-- The refusal to which the build of `go` comes is its answer, whatever the input tells; only want of memory and a fault of the
+-- store may come in its place.
 abbrev pub RefusesAsBuilt : Option Command → Files → Answer → Type 0
-RefusesAsBuilt (Some (Go colours stack steps)) files answer = (comes : Result Outcome BuildFault) → BuildOutcome files colours stack comes → AnswersOutcome comes answer
-RefusesAsBuilt (Some (Build colours stack)) files answer = (comes : Result Outcome BuildFault) → BuildOutcome files colours stack comes → AnswersOutcome comes answer
+RefusesAsBuilt (Some (Go colours stack steps)) files answer = (comes : Result Outcome BuildFault) → BuildOutcome files colours stack comes → AnswersComes comes answer
 RefusesAsBuilt _ files answer = Unit {0}
 
 -- Where the kept objects were genuine, `build` and `go` come to the report and to the run of the full build's image, or to its

@@ -231,7 +231,7 @@ pub fn pawc_top<S: Store, I: Source, O: Sink, E: Sink>(
     // no refusal is one for want of memory
     ensures no_want_refused { HoldsNoWantOfMemory result }
 
-    // the refusals of `build` and `go`, whatever the input tells
+    // the refusals of `go`, whatever the input tells
     ensures refuses { IfSome (S.told store.old) (λ told. RefusesAsBuilt (command_of (map string_bytes words.now)) told.files result) }
 
     // what stays

@@ -1,9 +1,9 @@
 use Rattle.std.proofs.Common.{refl}
 use Rattle.pw_store_modules.specs.Modules.{modules_of}
 use Rattle.pw_build_files.specs.FromBuild.Phases.{refused_line}
-use Rattle.pw_build_files.proofs.DrivingLemmas.{fault_line, fault_refusal, fault_streams, fault_writes}
+use Rattle.pw_build_files.proofs.DrivingLemmas.{fault_line, fault_streams, fault_writes}
 use Rattle.pw_build_files.proofs.OthersLemmas.{built_unput, unbuilt_unput}
-use Rattle.pw_go.proofs.GoLemmas.{fault_is, fault_obeys, fault_output, fault_reads, fault_rest, run_comes, run_is, run_line, run_obeys, run_output_is, run_rest_is, run_stores, run_streams}
+use Rattle.pw_go.proofs.GoLemmas.{fault_comes, fault_is, fault_obeys, fault_output, fault_reads, fault_rest, run_comes, run_is, run_line, run_obeys, run_output_is, run_rest_is, run_stores, run_streams}
 use Rattle.pw_go.proofs.going.go.Goals as goal
 
 pub returns-in-Ok-clause-obeys : goal.returns-in-Ok-clause-obeys
@@ -48,7 +48,7 @@ pub returns-in-Err-clause-rest : goal.returns-in-Err-clause-rest
 returns-in-Err-clause-rest g c = fault_rest (g.S.Store.told c.args.store.now) _ (g.I.Source.rest c.args.input.now) c.args.opts.now c.in-Err.unbuilt c.answer_of.result c.args.budget c.answer_of.ensures c.in-Err.ensures.obeys
 
 pub returns-in-Err-clause-refusal : goal.returns-in-Err-clause-refusal
-returns-in-Err-clause-refusal g c = fault_refusal (g.S.Store.told c.args.store.now) _ c.args.opts.now c.in-Err.unbuilt c.answer_of.result c.answer_of.ensures c.in-Err.ensures.obeys
+returns-in-Err-clause-refusal g c = fault_comes (g.S.Store.told c.args.store.now) _ c.args.opts.now c.in-Err.unbuilt c.answer_of.result c.answer_of.ensures c.in-Err.ensures.obeys
 
 pub returns-in-Err-clause-others : goal.returns-in-Err-clause-others
 returns-in-Err-clause-others g c =

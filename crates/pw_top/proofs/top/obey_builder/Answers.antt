@@ -40,7 +40,7 @@ returns-in-Build-clause-obeys g c =
     rw c.in-Build.is (record {
       does = build_does told _ rest taken _ _ _ _ c.build_modules.ensures.obeys c.build_modules.ensures.output;
       ends = tt;
-      refusal = c.build_modules.ensures.refusal;
+      refusal = none_due told;
       proper = build_proper _ c.build_modules.ensures.answer;
       others = c.build_modules.ensures.others;
       genuine = c.build_modules.ensures.genuine;
