@@ -2,7 +2,6 @@
 use Rattle.std.proofs.Common.{◌≡◌, ◌⊎◌, inl, inr, arith, ℕ, Bool, true, false, not, cond, List, [], ◌∷◌, ◌++◌, length, map, Option, Some, None, Result, Ok, Err, refl, sym, ap, ◌∙◌, subst}
 use Rattle.std.specs.Prelude.{IfErr, IfSome}
 use Rattle.std.proofs.lemmas.List.{length-map}
-use Rattle.std.specs.FinMap as finite
 use Rattle.pw_io.specs.Files.{Files, Told, Keeps}
 use Rattle.pw_io.specs.declared.StoreError.{StoreError}
 use Rattle.pw_io.specs.declared.StoreError.TheVariants as store
@@ -25,7 +24,7 @@ use Rattle.pw_build_files.specs.FromBuild.Stores.{store_fault}
 use Rattle.pw_build_files.specs.declared.report.Opts.{Opts}
 use Rattle.pw_store_kept.specs.declared.files.ProgramFiles.{ProgramFiles}
 use Rattle.pw_store_kept.specs.declared.prepared.Prepared.{Prepared}
-use Rattle.pw_store_kept.specs.Kept.{is_same, kept_object}
+use Rattle.pw_store_kept.specs.Kept.{is_same, kept_bytes, kept_object}
 use Rattle.pw_store_kept.specs.Files.{AreObjectFiles, HoldBytes, IsCompared, file_view, made_anew, one_if}
 use Rattle.pw_build_files.specs.Building.{BuildOutcome, if_changed, kept_objects}
 use Rattle.pw_build_files.specs.Programs.{BuildsFiles, FaultBuilds, AnswersFault}
@@ -74,11 +73,11 @@ comes_told files opts ms made p count sources builds fits few cmp =
         image_file = subst (λ (b : List ℕ). IsImageFile b (record { names = m.image_names; value = linked parts.objects opts.stack })) (sym cmp.image) m.image;
         puts = ap (λ (fs : List NamedFile). map file_view p.objects.items ++ fs)
             (ap (λ (fs : List NamedFile). fs ++ one_if p.image_changed image_name p.image.items)
-            (one_if_changed (is_same (finite.get files database_name) p.database.items) p.database_changed database_name p.database.items
-            (cmp.database_changed ∙ ap (λ (b : List ℕ). not (is_same (finite.get files database_name) b)) (sym cmp.database)))
+            (one_if_changed (is_same (kept_bytes files database_name) p.database.items) p.database_changed database_name p.database.items
+            (cmp.database_changed ∙ ap (λ (b : List ℕ). not (is_same (kept_bytes files database_name) b)) (sym cmp.database)))
             ∙ ap (λ (fs : List NamedFile). if_changed files database_name p.database.items ++ fs)
-            (one_if_changed (is_same (finite.get files image_name) p.image.items) p.image_changed image_name p.image.items
-            (cmp.image_changed ∙ ap (λ (b : List ℕ). not (is_same (finite.get files image_name) b)) (sym cmp.image))));
+            (one_if_changed (is_same (kept_bytes files image_name) p.image.items) p.image_changed image_name p.image.items
+            (cmp.image_changed ∙ ap (λ (b : List ℕ). not (is_same (kept_bytes files image_name) b)) (sym cmp.image))));
       },
     )
 

@@ -15,7 +15,7 @@ use Rattle.pw_build_objects.specs.Kept.{all_fresh}
 use Rattle.pw_build_files.specs.FromBuild.BuildFault.{BuildFault}
 use Rattle.pw_build_files.specs.FromBuild.Builds.{Builds, first_phases}
 use Rattle.pw_build_files.specs.FromBuild.Full.{built_anew}
-use Rattle.pw_store_kept.specs.Kept.{is_same}
+use Rattle.pw_store_kept.specs.Kept.{is_same, kept_bytes}
 use Rattle.pw_store_kept.specs.Files.{made_anew}
 use Rattle.pw_build_files.specs.Building.{BuildOutcome, IsOutcome, Outcome, if_changed, kept_objects}
 use Rattle.pw_build_files.specs.Full.{BuildsImage, image_of}
@@ -60,7 +60,7 @@ full_image full files colours stack (Err fault) keeps h = full files colours sta
 -- ---- what is left
 
 if_changed_good : (files : Files) (name bytes : List ℕ) → IsBuiltName name → ((other : List ℕ) → object_name other ≡ name → ⊥) → AllByRecursion IsOwnFile (if_changed files name bytes)
-if_changed_good files name bytes built apart = by_same (is_same (finite.get files name) bytes)
+if_changed_good files name bytes built apart = by_same (is_same (kept_bytes files name) bytes)
   where
     by_same : (same : Bool) → AllByRecursion IsOwnFile (cond same [] ((name, bytes) ∷ []))
     by_same true = tt

@@ -1,6 +1,5 @@
 -- What a build comes to over the files of a store: its report, and the files that it puts.
 use Rattle.std.specs.Prelude.{◌≡◌, ℕ, if◌then◌else◌, List, [], ◌∷◌, ◌++◌, length, map, Option, Result, Ok, Err}
-use Rattle.std.specs.FinMap as finite
 use Rattle.pw_io.specs.Files.{Files}
 use Rattle.pw_db.specs.Database.{IsDatabaseFile}
 use Rattle.pw_object.specs.declared.object.Object.{Object}
@@ -12,7 +11,7 @@ use Rattle.pw_top_answer.specs.Effects.{NamedFile}
 use Rattle.pw_build_objects.specs.Programs.{Parts}
 use Rattle.pw_build_files.specs.FromBuild.BuildFault.{BuildFault}
 use Rattle.pw_build_files.specs.FromBuild.Builds.{Builds}
-use Rattle.pw_store_kept.specs.Kept.{is_same}
+use Rattle.pw_store_kept.specs.Kept.{is_same, kept_bytes}
 pub use Rattle.pw_store_kept.specs.Kept.{counted, kept_object, object_in}
 use Rattle.pw_store_kept.specs.Files.{AreObjectFiles, HoldBytes, made_anew}
 
@@ -20,9 +19,9 @@ use Rattle.pw_store_kept.specs.Files.{AreObjectFiles, HoldBytes, made_anew}
 abbrev pub kept_objects : Files → List (Option Object)
 kept_objects files = map (kept_object files) (names_of_modules files)
 
--- a file is put only where its bytes differ from those that stand there
+-- a file is put only where its bytes differ from those that are kept
 abbrev pub if_changed : Files → List ℕ → List ℕ → List NamedFile
-if_changed files name bytes = if is_same (finite.get files name) bytes then [] else (name, bytes) ∷ []
+if_changed files name bytes = if is_same (kept_bytes files name) bytes then [] else (name, bytes) ∷ []
 
 -- ---- the build
 
@@ -35,7 +34,7 @@ pub record Outcome : Type 0 where
   pub puts : List NamedFile
 
 -- The objects that are made anew are put, then the database and the image, each of the two where its bytes differ from
--- those that stand there.
+-- those that are kept.
 pub record IsOutcome (files : Files) (stack : ℕ) (parts : Parts) (outcome : Outcome) : Type 0 where
   pub modules : outcome.modules ≡ length (names_of_modules files)
   pub rebuilt : outcome.rebuilt ≡ map (λ made. made.0) (made_anew (names_of_modules files) parts.objects parts.fresh)

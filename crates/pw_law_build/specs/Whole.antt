@@ -1,18 +1,18 @@
 -- The program of a full build, as it stands in the files of a store.
 use Rattle.std.specs.Prelude.{◌≡◌, ℕ, List, Some, Ok}
-use Rattle.std.specs.FinMap as finite
 use Rattle.pw_io.specs.Files.{Files}
 use Rattle.pw_db.specs.Database.{IsDatabaseFile}
 use Rattle.pw_store_modules.specs.FileNames.{database_name, image_name}
 use Rattle.pw_build_objects.specs.Programs.{Parts}
 use Rattle.pw_store_modules.specs.Modules.{Texts, modules_of}
 use Rattle.pw_build_files.specs.FromBuild.Builds.{Builds, FullBuild}
+use Rattle.pw_store_kept.specs.Kept.{counted, kept_bytes}
 use Rattle.pw_build_files.specs.Building.{kept_objects}
 use Rattle.pw_build_files.specs.Full.{IsImageOf}
 
--- exactly these bytes stand under the name
+-- these bytes stand under the name, as far as a kept file counts
 abbrev pub HoldsFile : Files → List ℕ → List ℕ → Type 0
-HoldsFile files name bytes = finite.get files name ≡ Some bytes
+HoldsFile files name bytes = kept_bytes files name ≡ counted (Some bytes)
 
 -- the database and the image of a program's parts stand in their files
 pub record HoldsProgram (parts : Parts) (stack : ℕ) (files : Files) : Type 0 where

@@ -11,7 +11,7 @@ ghost use Rattle.pw_build_files.specs.FromBuild.Builds.{Builds, limit_passed};
 ghost use Rattle.pw_build_files.specs.FromBuild.FirstPhase.{compiled};
 ghost use Rattle.pw_build_files.specs.Building.{BuildOutcome, IsOutcome, Outcome, kept_objects};
 ghost use Rattle.pw_build_files.specs.Genuine.{KeepsGenuine};
-ghost use Rattle.pw_law_build.specs.Kept.{FitObjects, KeepsFlows, KeepsObjects, unchanged};
+ghost use Rattle.pw_law_build.specs.Kept.{FitsWhole, KeepsFlows, KeepsObjects, unchanged};
 ghost use Rattle.pw_law_build.specs.Whole.{HoldsBuild, HoldsFullBuild};
 
 use pw_build_files::genuine_objects_give_the_full_build;
@@ -46,10 +46,10 @@ pub fn a_build_keeps_its_objects()
 }
 
 /// A build makes nothing anew and puts nothing over files that differ from what a build left in texts whose flow graphs are as
-/// they were, where kept files can hold the objects. So an edit that changes a text but no flow graph, as one more comment,
+/// they were, where kept files can hold what was made. So an edit that changes a text but no flow graph, as one more comment,
 /// rebuilds nothing.
 pub fn an_edit_that_keeps_flows_makes_nothing()
-    ensures { (told : Told) (colours stack : ℕ) (parts : Parts) (outcome : Outcome) (files : Files) → Builds (modules_of told.files) (kept_objects told.files) colours stack (Ok parts) → IsOutcome told.files stack parts outcome → FitObjects parts.objects → KeepsFlows (after_puts told outcome.puts).files files → BuildOutcome files colours stack (Ok (unchanged outcome)) }
+    ensures { (told : Told) (colours stack : ℕ) (parts : Parts) (outcome : Outcome) (files : Files) → Builds (modules_of told.files) (kept_objects told.files) colours stack (Ok parts) → IsOutcome told.files stack parts outcome → FitsWhole parts outcome → KeepsFlows (after_puts told outcome.puts).files files → BuildOutcome files colours stack (Ok (unchanged outcome)) }
 {
     front();
     modules_are_exact();
@@ -66,10 +66,10 @@ pub fn a_text_with_the_same_flow_keeps_flows()
     other_files();
 }
 
-/// A build over what a build left makes nothing anew and puts nothing, where kept files can hold the objects; and a text that
+/// A build over what a build left makes nothing anew and puts nothing, where kept files can hold what was made; and a text that
 /// is put where it stands already leaves the files as they are. So an edit that changes nothing rebuilds nothing.
 pub fn a_build_again_makes_nothing()
-    ensures again { (told : Told) (colours stack : ℕ) (parts : Parts) (outcome : Outcome) → Builds (modules_of told.files) (kept_objects told.files) colours stack (Ok parts) → IsOutcome told.files stack parts outcome → FitObjects parts.objects → BuildOutcome (after_puts told outcome.puts).files colours stack (Ok (unchanged outcome)) }
+    ensures again { (told : Told) (colours stack : ℕ) (parts : Parts) (outcome : Outcome) → Builds (modules_of told.files) (kept_objects told.files) colours stack (Ok parts) → IsOutcome told.files stack parts outcome → FitsWhole parts outcome → BuildOutcome (after_puts told outcome.puts).files colours stack (Ok (unchanged outcome)) }
     ensures same_text { (files : Files) (name text : List ℕ) → finite.get files name ≡ Some text → finite.insert files name text ≡ files }
 {
     an_edit_that_keeps_flows_makes_nothing();

@@ -13,7 +13,7 @@ use pw_law_build::a_build_leaves_the_whole_program;
 use pw_session::{genuine_objects_give_the_full_image, texts_have_one_image};
 
 /// Where the kept objects are genuine, a build over a store's files comes to the image of the full build of the modules, byte
-/// for byte, or to its refusal; and it leaves that build's database and that image in their files.
+/// for byte, or to its refusal; and it leaves that build's database and that image in their files, as far as kept files count.
 pub fn builds_are_full()
     ensures { (told : Told) (opts : Opts) (comes : Result Outcome BuildFault) → AreOpts opts → KeepsGenuine told.files → BuildOutcome told.files opts.colours opts.stack comes → IsBuiltInFull told opts.colours opts.stack comes }
 {

@@ -16,7 +16,7 @@ use pw_session::{
 
 /// Where the kept objects are genuine before a session, each of its builds comes to the image of the full build of the
 /// texts as its lines left them, byte for byte, or to that build's fault; one that is done leaves the database and the image of
-/// that full build in their files, and genuine objects.
+/// that full build in their files, as far as kept files count, and genuine objects.
 pub fn sessions_build_in_full()
     ensures { (opts : SessionOpts) (told : Told) (script : List ℕ) → KeepsGenuine told.files → SessionBuildsInFull opts told script }
 {
