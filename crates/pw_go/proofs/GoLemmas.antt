@@ -1,5 +1,5 @@
 -- What `go` did, by what its build did and by the run of the image.
-use Rattle.std.proofs.Common.{◌≡◌, ℕ, List, [], ◌++◌, Option, Some, None, Result, Ok, Err, refl, sym, ap, subst, append-nil}
+use Rattle.std.proofs.Common.{◌≡◌, ℕ, List, [], Option, Some, None, Result, Ok, Err, refl, sym, ap, subst, append-nil}
 use Rattle.std.specs.Prelude.{IfSome}
 use Rattle.pw_io.specs.Files.{Files, Told}
 use Rattle.pw_image.specs.declared.image.Image.{Image}
@@ -9,7 +9,7 @@ use Rattle.pw_top_answer.specs.declared.answer.Answer.{Answer}
 use Rattle.pw_top_answer.specs.declared.answer.Answer.TheVariants as answer
 use Rattle.pw_top_answer.specs.Effects.{Effect, PutsFiles, NamedFile, after_puts, answers_alone}
 use Rattle.pw_top_answer.specs.Outcomes.{Answers, InputCount, IsLineDue, IsNoRefusal, LeavesInput, LeavesStreams, PutsOut, StoreCount, WasReadInPart}
-use Rattle.pw_commands.specs.MachineRun.{IsRunAnswer, run_answer, run_output, run_rest, started}
+use Rattle.pw_commands.specs.MachineRun.{IsRunAnswer, started}
 use Rattle.pw_commands.specs.Outcome.{IsFound, Obeys}
 use Rattle.pw_commands.proofs.RunLemmas.{Ends, ends_itself, run_ends}
 use Rattle.pw_build_files.specs.FromBuild.BuildFault.{BuildFault}
@@ -18,7 +18,7 @@ use Rattle.pw_build_files.specs.FromBuild.Unbuilt.{Unbuilt}
 use Rattle.pw_build_files.specs.declared.report.Opts.{Opts}
 use Rattle.pw_build_files.specs.declared.report.Report.{Report}
 use Rattle.pw_build_files.specs.Building.{BuildOutcome, Outcome, puts_of}
-use Rattle.pw_build_files.specs.Outcomes.{AnswersFault, FaultFound, HoldsImage, IsNoWant, ObeysBuild, Reports, fault_answer}
+use Rattle.pw_build_files.specs.Outcomes.{AnswersFault, FaultFound, HoldsImage, IsNoWant, ObeysBuild, fault_answer}
 use Rattle.pw_go.specs.Going.{AnswersComes, GoEffect, GoOver, IsGoAnswer, RunsImage, ran_behind, run_from}
 use Rattle.pw_go.proofs.RunLemmas.{appends_none, none_out}
 
