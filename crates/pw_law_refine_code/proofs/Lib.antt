@@ -1,0 +1,12 @@
+mod Spreads
+mod Totals
+mod Opening
+mod StatementsSpread
+mod FunctionCode
+mod Ending
+mod Slots
+mod Addressed
+mod Labelling
+mod Switching
+mod Body
+mod Setting
