@@ -88,11 +88,11 @@ body-labelled known x home m typed formed =
     let labels = typed.labels in
     let used = held (f.named ++ cased) own (recursion_from_All (Contains (f.named ++ cased)) own labels.used) in
     let room : AllByRecursion (λ l. l < length (replicate f.labels 0)) f.named =
-        subst (λ (n : ℕ). AllByRecursion (λ l. l < n) f.named) (sym (length-replicate f.labels 0))
-        (below-all f.labels own f.named labels.below (recursion_from_All (Contains own) f.named labels.there)) in
+    subst (λ (n : ℕ). AllByRecursion (λ l. l < n) f.named) (sym (length-replicate f.labels 0))
+    (below-all f.labels own f.named labels.below (recursion_from_All (Contains own) f.named labels.there)) in
     let block : (l i : ℕ) → slice_get f.named i ≡ Some l → block_of_label (entered f) l ≡ i + 1 = λ l i e.
-        ap (λ (ls : List ℕ). look ls l) (entered-labels known home m f typed)
-        ∙ numbered-at 1 f.named (replicate f.labels 0) l i (split f.named cased labels.one_use).0 room e ∙ (let sum : 1 + i ≡ i + 1 = omega arith in sum) in
+    ap (λ (ls : List ℕ). look ls l) (entered-labels known home m f typed)
+    ∙ numbered-at 1 f.named (replicate f.labels 0) l i (split f.named cased labels.one_use).0 room e ∙ (let sum : 1 + i ≡ i + 1 = omega arith in sum) in
     let name-of : (l : ℕ) → IsOpen own cased l → Contains f.named l = λ l o. contained-held f.named l (named-open f.named own cased l used o) in
     record {
       once = labels.once;
@@ -103,7 +103,7 @@ body-labelled known x home m typed formed =
       named = block;
       first = omega (arith, entered-blocks known home m f typed, at-start f.named);
       given = λ l o. (let w = name-of l o in
-        omega (arith, block l w.0 (there f.named l w), w.1, entered-blocks known home m f typed, two-more f.named w.0 w.1));
+          omega (arith, block l w.0 (there f.named l w), w.1, entered-blocks known home m f typed, two-more f.named w.0 w.1));
       cases = λ l o n. absurd (n (name-of l o));
     }
   where

@@ -108,7 +108,7 @@ ends-join {c = c} {d = d} {e = e} {own1 = own1} {cased1 = cased1} {own2 = own2} 
     at-second : IsAtLastLabel d e own2 cased2 → Ends c e (own1 ++ own2) (cased1 ++ cased2)
     at-second a =
         let outside-first = last-of (λ l. holds cased1 l ≡ false) a.before a.label
-            (subst (λ (ls : List ℕ). AllByRecursion (λ l. holds cased1 l ≡ false) ls) a.last (each-outside own1 cased1 own2 f.among (turned-apart own1 own2 apart))) in
+        (subst (λ (ls : List ℕ). AllByRecursion (λ l. holds cased1 l ≡ false) ls) a.last (each-outside own1 cased1 own2 f.among (turned-apart own1 own2 apart))) in
         inr (inr (record {
           before = own1 ++ a.before;
           label = a.label;
@@ -214,7 +214,7 @@ module _ (known : OfExpressions) (kept : (h : Home) (e : Expression) (c : Code) 
       first (Value k e) = initialised_by-goes h (kind_of (local_type locals k)) (local_type locals k) (place_at h.places k) e c
       first (Bytes k hidden parts) = inl (address-stays (place_at h.places k) c)
 
--- ---- statements
+  -- ---- statements
 
   mutual
     unfolding lower_statement IsStatement

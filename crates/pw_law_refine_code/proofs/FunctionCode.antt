@@ -121,7 +121,7 @@ start-begins : (b : ℕ) (named : List ℕ) → same 0 b + times_closed b (close
 start-begins b [] = omega (arith, zero-given b)
 start-begins b (l ∷ rest) =
     let last : given b (length rest + 3) ≡ given b (length rest + 2) + same (length rest + 2) b =
-        ap (λ (n : ℕ). given b n) (let sum : length rest + 3 ≡ (length rest + 2) + 1 = omega arith in sum) ∙ given-more b (length rest + 2) in
+    ap (λ (n : ℕ). given b n) (let sum : length rest + 3 ≡ (length rest + 2) + 1 = omega arith in sum) ∙ given-more b (length rest + 2) in
     let names : given b (1 + length (l ∷ rest)) ≡ given b (length rest + 2) = ap (λ (n : ℕ). given b n) (let sum : 1 + length (l ∷ rest) ≡ length rest + 2 = omega arith in sum) in
     omega (arith, zero-given b, last, names)
 
@@ -188,13 +188,13 @@ module _ (known : OfExpressions) (home : List ℕ) (m : ModuleValue) (f : Functi
   begun-once b =
       let first = numbered 1 f.named (replicate f.labels 0) in
       let room : AllByRecursion (λ l. l < length (replicate f.labels 0)) f.named =
-          subst (λ (n : ℕ). AllByRecursion (λ l. l < n) f.named) (sym (length-replicate f.labels 0))
-          (below-all f.labels (labels_in f.body) f.named typed.labels.below (recursion_from_All (Contains (labels_in f.body)) f.named typed.labels.there)) in
+      subst (λ (n : ℕ). AllByRecursion (λ l. l < n) f.named) (sym (length-replicate f.labels 0))
+      (below-all f.labels (labels_in f.body) f.named typed.labels.below (recursion_from_All (Contains (labels_in f.body)) f.named typed.labels.there)) in
       let names = numbered-total b 1 f.named (replicate f.labels 0) (split f.named (cases_in f.body) typed.labels.one_use).0 room in
       let opens = open-named b first f.named (cases_in f.body) (labels_in f.body) typed.labels.once
-          (held (f.named ++ cases_in f.body) (labels_in f.body) (recursion_from_All (Contains (f.named ++ cases_in f.body)) (labels_in f.body) typed.labels.used)) in
+      (held (f.named ++ cases_in f.body) (labels_in f.body) (recursion_from_All (Contains (f.named ++ cases_in f.body)) (labels_in f.body) typed.labels.used)) in
       let same_labels : opened b (entered f).labels (labels_in f.body) (cases_in f.body) ≡ opened b first (labels_in f.body) (cases_in f.body)
-          = ap (λ (ls : List ℕ). opened b ls (labels_in f.body) (cases_in f.body)) before-body.labels in
+      = ap (λ (ls : List ℕ). opened b ls (labels_in f.body) (cases_in f.body)) before-body.labels in
       omega (arith, body-opens.blocks b, before-body.blocks b, start-begins b f.named, names, opens, same_labels)
 
   pub function-contains : ContainsCode (lowered_function home m.records f) (code_of_body home m.records f)

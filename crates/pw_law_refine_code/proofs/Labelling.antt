@@ -255,14 +255,17 @@ module _ (x : Activation) (own1 own2 cased1 cased2 : List ℕ) (among1 : Among o
       (c d : Code) → c.blocks ≤ d.blocks → KeepLabels c d cased1 → AreLabelled x (own1 ++ own2) (cased1 ++ cased2) c → AreLabelled x own2 cased2 d
   labelled-second c d more keep a =
       let named-free : (l : ℕ) → Contains x.function.named l → ¬ Contains cased1 l = λ l v w.
-          apart-contains x.function.named (cased1 ++ cased2) l (split x.function.named (cased1 ++ cased2) a.one_use).2 v (Contains-append_left cased1 cased2 l w) in
+      apart-contains x.function.named (cased1 ++ cased2) l (split x.function.named (cased1 ++ cased2) a.one_use).2 v (Contains-append_left cased1 cased2 l w) in
       record {
         once = (split own1 own2 a.once).1;
         one_use = distinct-ends x.function.named cased1 cased2 a.one_use;
         below = all-second (λ l. l < x.function.labels) own1 own2 a.below;
         all = keep.count ∙ a.all;
-        order = (a.order.0 ++ filter (holds x.function.named) own1, a.order.1,
-          grouped c a ∙ sym (append_assoc (a.order.0 ++ filter (holds x.function.named) own1) (filter (holds x.function.named) own2) a.order.1));
+        order = (
+          a.order.0 ++ filter (holds x.function.named) own1,
+          a.order.1,
+          grouped c a ∙ sym (append_assoc (a.order.0 ++ filter (holds x.function.named) own1) (filter (holds x.function.named) own2) a.order.1),
+        );
         named = λ l i there. keep.others l (named-free l (i, slice_get_within x.function.named i l there, index-of x.function.named i l there)) ∙ a.named l i there;
         first = omega (arith, a.first, more);
         given = λ l o. (let is = keep.others l (free-second a.once l o) in omega (arith, is, a.given l (open-second a.once l o), more));
@@ -310,8 +313,13 @@ module _ (x : Activation) (own1 own2 cased1 cased2 : List ℕ) (among1 : Among o
             omega (arith, one.below, two.from, a.named k one.place one.there, a.named l two.place two.there, same)
         by_test false e same =
             let one = first-place k w h in
-            omega (arith, a.cases l (open-second a.once l o) (λ v. true≢false (sym (holds-contained x.function.named l v) ∙ e)),
-              a.named k one.place one.there, slice_get_within x.function.named one.place k one.there, same)
+            omega (
+              arith,
+              a.cases l (open-second a.once l o) (λ v. true≢false (sym (holds-contained x.function.named l v) ∙ e)),
+              a.named k one.place one.there,
+              slice_get_within x.function.named one.place k one.there,
+              same,
+            )
 
     -- nor is one the next to the last label
     last-higher : (k : ℕ) (d : Code) → Contains own1 k → holds x.function.named k ≡ true → IsAtLastLabel c d own1 cased1 → d.cur + 1 ≢ block_of_label c k
@@ -325,19 +333,35 @@ module _ (x : Activation) (own1 own2 cased1 cased2 : List ℕ) (among1 : Among o
             let one = first-place k w h in
             let names = filter (holds x.function.named) z.before in
             let last : filter (holds x.function.named) own1 ≡ names ++ (z.label ∷ []) =
-                ap (λ (ls : List ℕ). filter (holds x.function.named) ls) z.last ∙ filter-append (holds x.function.named) z.before (z.label ∷ [])
-                ∙ ap (λ (v : Bool). names ++ cond v (z.label ∷ []) []) e in
+            ap (λ (ls : List ℕ). filter (holds x.function.named) ls) z.last ∙ filter-append (holds x.function.named) z.before (z.label ∷ [])
+            ∙ ap (λ (v : Bool). names ++ cond v (z.label ∷ []) []) e in
             let rest = filter (holds x.function.named) own2 ++ a.order.1 in
             let whole : x.function.named ≡ (a.order.0 ++ names) ++ ((z.label ∷ []) ++ rest) =
-                grouped c a ∙ append_assoc a.order.0 (filter (holds x.function.named) own1) rest ∙ ap (λ (ls : List ℕ). a.order.0 ++ (ls ++ rest)) last ∙ ap (λ (ls : List ℕ). a.order.0 ++ ls) (append_assoc names (z.label ∷ []) rest)
-                ∙ sym (append_assoc a.order.0 names ((z.label ∷ []) ++ rest)) in
+            grouped c a ∙ append_assoc a.order.0 (filter (holds x.function.named) own1) rest ∙ ap (λ (ls : List ℕ). a.order.0 ++ (ls ++ rest)) last ∙ ap (λ (ls : List ℕ). a.order.0 ++ ls) (append_assoc names (z.label ∷ []) rest)
+            ∙ sym (append_assoc a.order.0 names ((z.label ∷ []) ++ rest)) in
             let two = in-middle (a.order.0 ++ names) (z.label ∷ []) rest z.label (0, omega arith, refl) in
-            omega (arith, one.below, two.from, ap (λ (ls : List ℕ). length ls) last, length-append names (z.label ∷ []), length-append a.order.0 names,
-              a.named k one.place one.there, a.named z.label two.place (ap (λ (ls : List ℕ). slice_get ls two.place) whole ∙ two.there), z.here, same)
+            omega (
+              arith,
+              one.below,
+              two.from,
+              ap (λ (ls : List ℕ). length ls) last,
+              length-append names (z.label ∷ []),
+              length-append a.order.0 names,
+              a.named k one.place one.there,
+              a.named z.label two.place (ap (λ (ls : List ℕ). slice_get ls two.place) whole ∙ two.there),
+              z.here,
+              same,
+            )
         by_test false e same =
             let one = first-place k w h in
-            omega (arith, a.cases z.label (open-first a.once z.label open-label) (λ v. true≢false (sym (holds-contained x.function.named z.label v) ∙ e)),
-              a.named k one.place one.there, slice_get_within x.function.named one.place k one.there, z.here, same)
+            omega (
+              arith,
+              a.cases z.label (open-first a.once z.label open-label) (λ v. true≢false (sym (holds-contained x.function.named z.label v) ∙ e)),
+              a.named k one.place one.there,
+              slice_get_within x.function.named one.place k one.there,
+              z.here,
+              same,
+            )
 
     pub behind-second :
         (back : List ℕ) (d : Code) → c.blocks ≤ d.blocks → KeepLabels c d cased1 → Ends c d own1 cased1 → LieBehind back (own1 ++ own2) (cased1 ++ cased2) c
@@ -349,9 +373,10 @@ module _ (x : Activation) (own1 own2 cased1 cased2 : List ℕ) (among1 : Among o
     }
       where
         open-named : (k : ℕ) → Contains own1 k → holds x.function.named k ≡ true → IsOpen (own1 ++ own2) (cased1 ++ cased2) k
-        open-named k w h =
-            (Contains-append_left own1 own2 k w,
-            λ v. apart-contains x.function.named (cased1 ++ cased2) k (split x.function.named (cased1 ++ cased2) a.one_use).2 (contained-held x.function.named k h) v)
+        open-named k w h = (
+          Contains-append_left own1 own2 k w,
+          λ v. apart-contains x.function.named (cased1 ++ cased2) k (split x.function.named (cased1 ++ cased2) a.one_use).2 (contained-held x.function.named k h) v,
+        )
 
         was-given : (n : ℕ) → IsNamedBlock x.function.named own1 c n → n + 1 < c.blocks
         was-given n s = omega (arith, a.given s.label (open-named s.label s.stands s.named), s.is)
@@ -365,7 +390,7 @@ module _ (x : Activation) (own1 own2 cased1 cased2 : List ℕ) (among1 : Among o
         here-of n (inl w) (inr (inl new)) e = omega (arith, b.given n w, new, e)
         here-of n (inl w) (inr (inr z)) e =
             let label : IsOpen own1 cased1 z.label =
-                (subst (λ (ls : List ℕ). Contains ls z.label) (sym z.last) (Contains-append_right z.before (z.label ∷ []) z.label (0, omega arith, refl)), z.free) in
+            (subst (λ (ls : List ℕ). Contains ls z.label) (sym z.last) (Contains-append_right z.before (z.label ∷ []) z.label (0, omega arith, refl)), z.free) in
             b.labels n z.label w (open-first a.once z.label label) (omega (arith, z.here, e))
         here-of n (inr w) (inl s) e =
             let k = named-block x own1 c n w in

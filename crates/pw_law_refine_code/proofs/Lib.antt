@@ -10,3 +10,4 @@ mod Labelling
 mod Switching
 mod Body
 mod Setting
+mod Arms

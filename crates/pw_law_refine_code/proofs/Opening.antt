@@ -193,9 +193,14 @@ pub joined :
 joined {c = c} {d = d} {e = e} {own1 = own1} {cased1 = cased1} {own2 = own2} {cased2 = cased2} distinct f g =
     let apart : Apart own1 own2 = (split own1 own2 distinct).2 in
     record {
-      blocks = λ b. omega (arith, f.blocks b, g.blocks b, total-append (opened_at b c.labels (cased1 ++ cased2)) own1 own2,
+      blocks = λ b. omega (
+        arith,
+        f.blocks b,
+        g.blocks b,
+        total-append (opened_at b c.labels (cased1 ++ cased2)) own1 own2,
         opened-left b c.labels cased1 cased2 own1 (each-outside own2 cased2 own1 g.among apart),
-        opened-right b c.labels d.labels cased1 cased2 own2 (each-outside own1 cased1 own2 f.among (turned-apart own1 own2 apart)) f.kept);
+        opened-right b c.labels d.labels cased1 cased2 own2 (each-outside own1 cased1 own2 f.among (turned-apart own1 own2 apart)) f.kept,
+      );
       counts = omega (arith, f.counts, g.counts);
       temps = omega (arith, f.temps, g.temps);
       size = g.size ∙ f.size;

@@ -44,7 +44,7 @@ use Rattle.pw_law_refine_code.proofs.Switching.{labelled-switch, behind-switch}
 
 -- ---- code in a graph
 
-contains-cut : (g : FlowFn) (end : End) (number depth : ℕ) (c : Code) → ContainsCode g (cut end number depth c) → ContainsCode g c
+pub contains-cut : (g : FlowFn) (end : End) (number depth : ℕ) (c : Code) → ContainsCode g (cut end number depth c) → ContainsCode g c
 contains-cut g end number depth c w =
     let last : Numbered = record { number = c.cur; block = record { depth = c.depth; ops = c.ops; end = end } } in
     record {
@@ -80,27 +80,27 @@ test_or_go-at h (Some e) so other depth c = refl
 
 -- ---- what a part has of the whole
 
-fits : (x : Activation) (own cased : List ℕ) (c : Code) → AreLabelled x own cased c → FitsIn (length c.labels) own cased
+pub fits : (x : Activation) (own cased : List ℕ) (c : Code) → AreLabelled x own cased c → FitsIn (length c.labels) own cased
 fits x own cased c a = record {
   once = a.once;
   one_use = (split x.function.named cased a.one_use).1;
   below = subst (λ (n : ℕ). AllByRecursion (λ l. l < n) own) (sym a.all) (recursion_from_All (λ l. l < x.function.labels) own a.below);
 }
 
-slots-first : (x : Activation) (us vs : List ℕ) → HaveSlots x (us ++ vs) → HaveSlots x us
+pub slots-first : (x : Activation) (us vs : List ℕ) → HaveSlots x (us ++ vs) → HaveSlots x us
 slots-first x us vs h k w = h k (Contains-append_left us vs k w)
 
-slots-second : (x : Activation) (us vs : List ℕ) → HaveSlots x (us ++ vs) → HaveSlots x vs
+pub slots-second : (x : Activation) (us vs : List ℕ) → HaveSlots x (us ++ vs) → HaveSlots x vs
 slots-second x us vs h k w = h k (Contains-append_right us vs k w)
 
-suits-first : (x : Activation) (us vs : List Initialiser) → All (SuitsLocal x.function.locals) (us ++ vs) → All (SuitsLocal x.function.locals) us
+pub suits-first : (x : Activation) (us vs : List Initialiser) → All (SuitsLocal x.function.locals) (us ++ vs) → All (SuitsLocal x.function.locals) us
 suits-first x us vs h = All-from_recursion (SuitsLocal x.function.locals) us (front us (recursion_from_All (SuitsLocal x.function.locals) (us ++ vs) h))
   where
     front : (is : List Initialiser) → AllByRecursion (SuitsLocal x.function.locals) (is ++ vs) → AllByRecursion (SuitsLocal x.function.locals) is
     front [] g = tt
     front (i ∷ is) g = (g.0, front is g.1)
 
-suits-second : (x : Activation) (us vs : List Initialiser) → All (SuitsLocal x.function.locals) (us ++ vs) → All (SuitsLocal x.function.locals) vs
+pub suits-second : (x : Activation) (us vs : List Initialiser) → All (SuitsLocal x.function.locals) (us ++ vs) → All (SuitsLocal x.function.locals) vs
 suits-second x us vs h = All-from_recursion (SuitsLocal x.function.locals) vs (back us (recursion_from_All (SuitsLocal x.function.locals) (us ++ vs) h))
   where
     back : (is : List Initialiser) → AllByRecursion (SuitsLocal x.function.locals) (is ++ vs) → AllByRecursion (SuitsLocal x.function.locals) vs
@@ -128,31 +128,33 @@ module _ (known : OfExpressions) (kept : (h : Home) (e : Expression) (c : Code) 
       let opens = statement-opens known x.home.tree x.function breaks continues from (lowering_of x) ways a c s.typed.0 front in
       let ends = statement-ends known kept x.home.tree x.function breaks continues from (lowering_of x) ways a c s.typed.0 front in
       let others = statements-open known x.home.tree x.function breaks continues from (lowering_of x) ways rest d s.typed.1
-          (fits-back (length c.labels) (length d.labels) own1 own2 cased1 cased2 opens.size whole) in
-      let code = contains-list contain (graph_of x) (lowering_of x) ways rest d p.code in
-      (record {
-        typed = s.typed.0;
-        placed = record {
-          slots = slots-first x (addressed_in_statement a) (addressed_in_statements rest) p.slots;
-          suits = suits-first x (initialisers_in a) (initialisers_among rest) p.suits;
-          scope = p.scope;
-          labels = labelled-first x own1 own2 cased1 cased2 opens.among others.among c p.labels;
-          behind = behind-first x own1 own2 cased1 cased2 opens.among others.among back c p.labels p.behind;
-          code = code;
-          temps = p.temps;
-        };
-      }, record {
-        typed = s.typed.1;
-        placed = record {
-          slots = slots-second x (addressed_in_statement a) (addressed_in_statements rest) p.slots;
-          suits = suits-second x (initialisers_in a) (initialisers_among rest) p.suits;
-          scope = p.scope;
-          labels = labelled-second x own1 own2 cased1 cased2 opens.among others.among c d opens.counts (keep-labels opens) p.labels;
-          behind = behind-second x own1 own2 cased1 cased2 opens.among others.among c p.labels back d opens.counts (keep-labels opens) ends p.behind;
-          code = p.code;
-          temps = omega (arith, p.temps, opens.temps);
-        };
-      })
+      (fits-back (length c.labels) (length d.labels) own1 own2 cased1 cased2 opens.size whole) in
+      let code = contains-list contain (graph_of x) (lowering_of x) ways rest d p.code in (
+        record {
+          typed = s.typed.0;
+          placed = record {
+            slots = slots-first x (addressed_in_statement a) (addressed_in_statements rest) p.slots;
+            suits = suits-first x (initialisers_in a) (initialisers_among rest) p.suits;
+            scope = p.scope;
+            labels = labelled-first x own1 own2 cased1 cased2 opens.among others.among c p.labels;
+            behind = behind-first x own1 own2 cased1 cased2 opens.among others.among back c p.labels p.behind;
+            code = code;
+            temps = p.temps;
+          };
+        },
+        record {
+          typed = s.typed.1;
+          placed = record {
+            slots = slots-second x (addressed_in_statement a) (addressed_in_statements rest) p.slots;
+            suits = suits-second x (initialisers_in a) (initialisers_among rest) p.suits;
+            scope = p.scope;
+            labels = labelled-second x own1 own2 cased1 cased2 opens.among others.among c d opens.counts (keep-labels opens) p.labels;
+            behind = behind-second x own1 own2 cased1 cased2 opens.among others.among c p.labels back d opens.counts (keep-labels opens) ends p.behind;
+            code = p.code;
+            temps = omega (arith, p.temps, opens.temps);
+          };
+        },
+      )
 
   pub labelled-are-set :
       (x : Activation) (numbers : Numbers) (breaks continues : Bool) (from : ℕ) (back : List ℕ) (ways : Ways) (t : ℕ) (labels : List ℕ) (body : Statement) (c : Code)
@@ -169,7 +171,7 @@ module _ (known : OfExpressions) (kept : (h : Home) (e : Expression) (c : Code) 
       let d = begun own1 c in
       let opens = begun-opens known own1 c in
       let others = statement-opens known x.home.tree x.function breaks continues from (lowering_of x) ways body d s.typed.1
-          (fits-back (length c.labels) (length d.labels) own1 own2 [] cased2 opens.size whole) in
+      (fits-back (length c.labels) (length d.labels) own1 own2 [] cased2 opens.size whole) in
       record {
         typed = s.typed.1;
         placed = record {

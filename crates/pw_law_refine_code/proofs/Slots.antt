@@ -221,8 +221,8 @@ param-at addressed params [] k temp slot i q t is l e = absurd (cc)
 param-at addressed params (local ∷ rest) k temp slot zero q t is l e =
     let below : k < params = omega arith in
     let first = head-param (is_kept addressed k local) (nat_lt k params) k temp slot t
-        (places_from addressed params (k + 1) temp slot rest) (places_from addressed params (k + 1) (temp + 1) slot rest) (places_from addressed params (k + 1) temp (slot + 1) rest)
-        (lt-ltb k params below) e in
+    (places_from addressed params (k + 1) temp slot rest) (places_from addressed params (k + 1) (temp + 1) slot rest) (places_from addressed params (k + 1) temp (slot + 1) rest)
+    (lt-ltb k params below) e in
     omega (arith, first)
 param-at addressed params (local ∷ rest) k temp slot (suc i) q t is l e =
     tail-param (is_kept addressed k local) (nat_lt k params) k temp slot i q t

@@ -372,17 +372,23 @@ module _ (known : OfExpressions) where
         let o = g out entered size in
         let q = cuts (Jump out) out c.depth (body out entered) in
         record {
-          blocks = λ b. omega (arith, front.blocks b, o.blocks b, q.blocks b, given-more b c.blocks,
+          blocks = λ b. omega (
+            arith,
+            front.blocks b,
+            o.blocks b,
+            q.blocks b,
+            given-more b c.blocks,
             ap (λ (ls : List ℕ). opened b ls own cased) front.labels,
             ap (λ (n : ℕ). given b n) (let sum : (c.blocks + 1) + length names ≡ c.blocks + (1 + length names) = omega arith in sum),
             numbered-total b (c.blocks + 1) names c.labels once below,
             total-among (λ l. same (look named.labels l) b) names own distinct,
-            opened-switch b c.labels named.labels names all own is (λ l other. numbered-other (c.blocks + 1) names c.labels l other));
+            opened-switch b c.labels named.labels names all own is (λ l other. numbered-other (c.blocks + 1) names c.labels l other),
+          );
           counts = omega (arith, front.counts, o.counts, q.counts);
           temps = omega (arith, front.temps, o.temps, q.temps);
           size = o.size ∙ size;
           kept = λ l absent. (let two = neither (holds names l) (holds cased l) (sym (is l) ∙ absent) in
-          o.kept l two.1 ∙ ap (λ (ls : List ℕ). look ls l) front.labels ∙ numbered-other (c.blocks + 1) names c.labels l two.0);
+              o.kept l two.1 ∙ ap (λ (ls : List ℕ). look ls l) front.labels ∙ numbered-other (c.blocks + 1) names c.labels l two.0);
           among = all-three (λ l. holds own l ≡ true) (case_labels cases) (option_to_list default) cased held o.among;
         }
 
@@ -414,7 +420,7 @@ module _ (known : OfExpressions) where
       settled (joined once one two) (λ b. omega (arith, given-three b x.code.blocks))
 
   -- what stands behind the arms of an `if`
-  abbrev LastOpens : Option (Code → Code) → (own cased : List ℕ) → ℕ → Type 0
+  abbrev pub LastOpens : Option (Code → Code) → (own cased : List ℕ) → ℕ → Type 0
   LastOpens None own cased n = (own ≡ []) × (cased ≡ [])
   LastOpens (Some g) own cased n = (c : Code) → length c.labels ≡ n → Opens c (g c) own cased none none
 
@@ -474,7 +480,7 @@ module _ (known : OfExpressions) where
         (statements-open m f breaks continues from frame ways rest d typed.1 (fits-back (length c.labels) (length d.labels) (labels_in s) (labels_among rest) (cases_in s) (cases_among rest) first.size fits)))
         (λ b. omega arith)
 
-    otherwise-opens :
+    pub otherwise-opens :
         (m : ModuleValue) (f : FunctionValue) (breaks continues : Bool) (from : ℕ) (frame : Frame) (ways : Ways) (otherwise : Otherwise) (n : ℕ)
         → IsElse m f breaks continues from otherwise → FitsIn n (labels_behind otherwise) (cases_behind otherwise)
         → LastOpens (lower_otherwise frame ways otherwise) (labels_behind otherwise) (cases_behind otherwise) n
@@ -482,7 +488,7 @@ module _ (known : OfExpressions) where
     otherwise-opens m f breaks continues from frame ways (Else s) n typed fits =
         λ c h. statement-opens m f breaks continues from frame ways s c typed (fits-at n (length c.labels) (labels_in s) (cases_in s) h fits)
 
-    arms-open :
+    pub arms-open :
         (m : ModuleValue) (f : FunctionValue) (breaks continues : Bool) (from : ℕ) (frame : Frame) (ways : Ways) (arms : Arms) (last : Option (Code → Code)) (own cased : List ℕ) (c : Code)
         → AreArms m f breaks continues from arms → LastOpens last own cased (length c.labels)
         → FitsIn (length c.labels) (labels_of_arms arms ++ own) (cases_of_arms arms ++ cased)
@@ -517,14 +523,14 @@ module _ (known : OfExpressions) where
         let os : (labels_in s ++ labels_of_arms more) ++ own ≡ labels_in s ++ (labels_of_arms more ++ own) = append_assoc (labels_in s) (labels_of_arms more) own in
         let ks : (cases_in s ++ cases_of_arms more) ++ cased ≡ cases_in s ++ (cases_of_arms more ++ cased) = append_assoc (cases_in s) (cases_of_arms more) cased in
         let both : FitsIn n (labels_in s ++ (labels_of_arms more ++ own)) (cases_in s ++ (cases_of_arms more ++ cased)) =
-            subst (λ (ls : List ℕ). FitsIn n ls (cases_in s ++ (cases_of_arms more ++ cased))) os
-            (subst (λ (ls : List ℕ). FitsIn n ((labels_in s ++ labels_of_arms more) ++ own) ls) ks fits) in
+        subst (λ (ls : List ℕ). FitsIn n ls (cases_in s ++ (cases_of_arms more ++ cased))) os
+        (subst (λ (ls : List ℕ). FitsIn n ((labels_in s ++ labels_of_arms more) ++ own) ls) ks fits) in
         subst (λ (ls : List ℕ). Opens c (lower_arms frame ways (Arm t e s more) last c) ls ((cases_in s ++ cases_of_arms more) ++ cased) none none) (sym os)
         (subst (λ (ls : List ℕ). Opens c (lower_arms frame ways (Arm t e s more) last c) (labels_in s ++ (labels_of_arms more ++ own)) ls none none) (sym ks)
         (two-ways frame.home e c (λ d. lower_statement frame ways s d) (λ d. lower_arms frame ways more last d) (labels_in s) (cases_in s) (labels_of_arms more ++ own) (cases_of_arms more ++ cased) both.once
         (λ d k. statement-opens m f breaks continues from frame ways s d typed.1 (fits-at n (length d.labels) (labels_in s) (cases_in s) k (fits-front n (labels_in s) (labels_of_arms more ++ own) (cases_in s) (cases_of_arms more ++ cased) both)))
         (λ d k. arms-open m f breaks continues from frame ways (Arm u a r rest) last own cased d typed.2 (subst (λ (j : ℕ). LastOpens last own cased j) (sym k) h)
-          (fits-back n (length d.labels) (labels_in s) (labels_of_arms more ++ own) (cases_in s) (cases_of_arms more ++ cased) k both))))
+        (fits-back n (length d.labels) (labels_in s) (labels_of_arms more ++ own) (cases_in s) (cases_of_arms more ++ cased) k both))))
 
   -- what is opened, as a list
   times-open : (b : ℕ) (c : Code) (own cased : List ℕ) → opened b c.labels own cased ≡ times b (map (block_of_label c) (open_labels own cased))

@@ -16,10 +16,10 @@ use Rattle.pw_law_refine_code.proofs.StatementsSpread.{case_labels, holds-cases}
 use Rattle.pw_law_refine_code.proofs.Labelling.{apart-contains, distinct-ends}
 
 module _
-  (x : Activation) (own : List ℕ) (cases : List CaseValue) (default : Option ℕ) (cased : List ℕ) (c d : Code)
-  (same : d.labels ≡ numbered (c.blocks + 1) (labels_of cases default) c.labels) (more : c.blocks + 1 + length (labels_of cases default) < d.blocks)
-  (room : AllByRecursion (λ l. l < length c.labels) (labels_of cases default))
-  (a : AreLabelled x own (case_labels cases ++ (option_to_list default ++ cased)) c) where
+    (x : Activation) (own : List ℕ) (cases : List CaseValue) (default : Option ℕ) (cased : List ℕ) (c d : Code)
+    (same : d.labels ≡ numbered (c.blocks + 1) (labels_of cases default) c.labels) (more : c.blocks + 1 + length (labels_of cases default) < d.blocks)
+    (room : AllByRecursion (λ l. l < length c.labels) (labels_of cases default))
+    (a : AreLabelled x own (case_labels cases ++ (option_to_list default ++ cased)) c) where
   -- an open label of the body is one of the switch, with a block that was given out by it, or one that was open before
   record IsNew (l : ℕ) : Type 0 where
     from : c.blocks + 1 ≤ block_of_label d l
@@ -66,9 +66,9 @@ module _
           by_test : (v : Bool) → holds (labels_of cases default) l ≡ v → v ≡ false
           by_test false e = refl
           by_test true e = absurd (apart-contains x.function.named (case_labels cases ++ (option_to_list default ++ cased)) l
-            (split x.function.named (case_labels cases ++ (option_to_list default ++ cased)) a.one_use).2
-            (i, slice_get_within x.function.named i l there, get_or_from_slice_get x.function.named i l l there)
-            (contained-held (case_labels cases ++ (option_to_list default ++ cased)) l (holds-cases cases default cased l ∙ ap (λ (v : Bool). v || holds cased l) e)))
+              (split x.function.named (case_labels cases ++ (option_to_list default ++ cased)) a.one_use).2
+              (i, slice_get_within x.function.named i l there, get_or_from_slice_get x.function.named i l l there)
+              (contained-held (case_labels cases ++ (option_to_list default ++ cased)) l (holds-cases cases default cased l ∙ ap (λ (v : Bool). v || holds cased l) e)))
 
       given-of : (l : ℕ) → IsOld l ⊎ IsNew l → block_of_label d l + 1 < d.blocks
       given-of l (inl o) = omega (arith, o.is, a.given l o.still, more)

@@ -155,10 +155,10 @@ pub numbered-total :
 numbered-total b n [] blocks d h = let none : n + 0 ≡ n = omega arith in omega (arith, ap (λ (m : ℕ). given b m) none)
 numbered-total b n (l ∷ own) blocks d h =
     let is : look (numbered (n + 1) own (slice_set blocks l n)) l ≡ n
-        = numbered-other (n + 1) own (slice_set blocks l n) l (not-held l own (IsDistinct-head nat_eq l own d)) ∙ look-same blocks l n h.0 in
+    = numbered-other (n + 1) own (slice_set blocks l n) l (not-held l own (IsDistinct-head nat_eq l own d)) ∙ look-same blocks l n h.0 in
     let first : same (look (numbered n (l ∷ own) blocks) l) b ≡ same n b = ap (λ (m : ℕ). same m b) is in
     let rest : given b (n + 1) + total (λ k. same (look (numbered n (l ∷ own) blocks) k) b) own ≤ given b ((n + 1) + length own) =
-        numbered-total b (n + 1) own (slice_set blocks l n) (IsDistinct-tail nat_eq l own d) (kept own h.1) in
+    numbered-total b (n + 1) own (slice_set blocks l n) (IsDistinct-tail nat_eq l own d) (kept own h.1) in
     let sum : (n + 1) + length own ≡ n + length (l ∷ own) = omega arith in
     omega (arith, first, given-more b n, rest, ap (λ (m : ℕ). given b m) sum)
   where
@@ -189,7 +189,7 @@ numbered-among n (l ∷ own) blocks k h e =
     by_rest false there later =
         let here : l ≡ k = eqb-true l k (by_first (l == k) (sym (ap (λ (v : Bool). (l == k) || v) there) ∙ e)) in
         let is : look (numbered (n + 1) own (slice_set blocks l n)) k ≡ n =
-            numbered-other (n + 1) own (slice_set blocks l n) k there ∙ ap (λ (j : ℕ). look (slice_set blocks l n) j) (sym here) ∙ look-same blocks l n h.0 in
+        numbered-other (n + 1) own (slice_set blocks l n) k there ∙ ap (λ (j : ℕ). look (slice_set blocks l n) j) (sym here) ∙ look-same blocks l n h.0 in
         record { from = omega (arith, is); below = omega (arith, is) }
       where
         by_first : (p : Bool) → (p || false) ≡ true → p ≡ true

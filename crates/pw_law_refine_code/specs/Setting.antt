@@ -1,11 +1,11 @@
 -- That parts are set where the part is that they stand in: the statements of laws.
 use Rattle.std.specs.Prelude.{ℕ, ◌≡◌, ◌≤◌, ◌+◌, Bool, true, false, Option, None, List, [], ◌∷◌, ◌++◌, length}
 use Rattle.pw_types.specs.Labels.{labels_in}
-use Rattle.pw_types.specs.TypedTrees.{Expression, Initialiser, CaseValue, Statement, Block, If, While, Do, For, Switch, Label, Arms, Otherwise, Statements, OneStatement}
-use Rattle.pw_flow.specs.declared.flow.End.TheVariants.{Jump}
+use Rattle.pw_types.specs.TypedTrees.{Expression, Initialiser, CaseValue, Statement, Block, If, While, Do, For, Switch, Label, Arms, NoArm, Arm, Otherwise, NoElse, Statements, OneStatement}
+use Rattle.pw_flow.specs.declared.flow.End.TheVariants.{Jump, Branch}
 use Rattle.pw_lower.specs.declared.code.Code.{Code}
 use Rattle.pw_lower.specs.declared.place.Ways.{Ways}
-use Rattle.pw_lower.specs.Codes.{temp_of, reserve, cut, named_from}
+use Rattle.pw_lower.specs.Codes.{temp_of, reserve, cut, cut_here, named_from}
 use Rattle.pw_lower.specs.Expressions.{lower}
 use Rattle.pw_lower.specs.Modules.{entered}
 use Rattle.pw_lower.specs.Statements.{begun, effects, test, test_or_go, initialised_all, labels_of, choose, chosen}
@@ -45,6 +45,31 @@ IfsAreSet =
     (x : Activation) (numbers : Numbers) (breaks continues : Bool) (from : ℕ) (back : List ℕ) (ways : Ways) (t : ℕ) (arms : Arms) (otherwise : Otherwise) (c : Code) →
     IsActivation x → IsSet x numbers breaks continues from back ways (If t arms otherwise) c →
     AreArmsSet x numbers breaks continues from back ways arms otherwise c
+
+-- the code of an arm before its statement, with so many new blocks; and behind an arm that is not the last
+abbrev pub code_of_arm : Activation → Expression → ℕ → Code → Code
+code_of_arm x e n c =
+    let value = lower (home_of x) e c in
+    cut_here (Branch (temp_of value) value.code.blocks (value.code.blocks + 1)) value.code.blocks (reserve n value.code)
+
+abbrev pub code_between : Activation → Ways → Expression → Statement → Code → Code
+code_between x ways e a c =
+    let value = lower (home_of x) e c in
+    cut_here (Jump (value.code.blocks + 2)) (value.code.blocks + 1) (code_behind x ways a (code_of_arm x e 3 c))
+
+-- something stands behind an arm
+abbrev pub HasMore : Arms → Otherwise → Type 0
+HasMore NoArm NoElse = ⊥
+HasMore arms otherwise = Unit {0}
+
+abbrev pub ArmsAreSet : Type 0
+ArmsAreSet =
+    (x : Activation) (numbers : Numbers) (breaks continues : Bool) (from : ℕ) (back : List ℕ) (ways : Ways) (t : ℕ) (e : Expression) (a : Statement) (c : Code) →
+    IsActivation x →
+    (AreArmsSet x numbers breaks continues from back ways (Arm t e a NoArm) NoElse c → IsSet x numbers breaks continues from back ways a (code_of_arm x e 2 c))
+    × ((rest : Arms) (otherwise : Otherwise) → HasMore rest otherwise → AreArmsSet x numbers breaks continues from back ways (Arm t e a rest) otherwise c →
+    IsSet x numbers breaks continues from back ways a (code_of_arm x e 3 c)
+    × AreArmsSet x numbers breaks continues from (back ++ named_blocks x (labels_in a) c) ways rest otherwise (code_between x ways e a c))
 
 -- ---- loops, whose tops lie behind their bodies
 

@@ -11,7 +11,7 @@ ghost use Rattle.pw_lower.specs.Places.{addressed_in_statement, place_at, places
 ghost use Rattle.pw_lower.specs.declared.place.LocalPlace.TheVariants.{Temp, Slot};
 ghost use Rattle.pw_types.specs.TypeTrees.{RecordValue};
 ghost use Rattle.pw_law_refine_code.specs.Slots.{IsSlotOf};
-ghost use Rattle.pw_law_refine_code.specs.Setting.{ListsAreSet, LabelledAreSet, BlocksAreSet, IfsAreSet, LoopsAreSet, SwitchesAreSet, BodiesAreSet};
+ghost use Rattle.pw_law_refine_code.specs.Setting.{ListsAreSet, LabelledAreSet, BlocksAreSet, IfsAreSet, ArmsAreSet, LoopsAreSet, SwitchesAreSet, BodiesAreSet};
 ghost use Rattle.pw_lower.specs.Modules.{lowered_function};
 ghost use Rattle.pw_lower.specs.Statements.{Frame, lower_statement};
 ghost use Rattle.pw_lower.specs.declared.code.Code.{Code};
@@ -74,6 +74,7 @@ pub fn parts_are_set()
     ensures labelled { LabelledAreSet }
     ensures blocks { BlocksAreSet }
     ensures ifs { IfsAreSet }
+    ensures arms { ArmsAreSet }
     ensures loops { LoopsAreSet }
     ensures switches { SwitchesAreSet }
     ensures bodies { BodiesAreSet }
