@@ -109,9 +109,9 @@ module _ (known : OfExpressions) (contain : Contain) where
       let d = code_of_arm x e 2 c in
       let inner = code_behind x ways a d in
       let labels : AreLabelled x own cased c =
-          subst (λ (ls : List ℕ). AreLabelled x ls cased c) (nothing-more own) (subst (λ (ks : List ℕ). AreLabelled x ((own ++ []) ++ []) ks c) (nothing-more cased) p.labels) in
+      subst (λ (ls : List ℕ). AreLabelled x ls cased c) (nothing-more own) (subst (λ (ks : List ℕ). AreLabelled x ((own ++ []) ++ []) ks c) (nothing-more cased) p.labels) in
       let behind : LieBehind back own cased c =
-          subst (λ (ls : List ℕ). LieBehind back ls cased c) (nothing-more own) (subst (λ (ks : List ℕ). LieBehind back ((own ++ []) ++ []) ks c) (nothing-more cased) p.behind) in
+      subst (λ (ls : List ℕ). LieBehind back ls cased c) (nothing-more own) (subst (λ (ks : List ℕ). LieBehind back ((own ++ []) ++ []) ks c) (nothing-more cased) p.behind) in
       record {
         typed = s.typed.1;
         placed = record {
@@ -144,57 +144,59 @@ module _ (known : OfExpressions) (contain : Contain) where
       let d = code_of_arm x e 3 c in
       let between = code_between x ways e a c in
       let labels : AreLabelled x (own1 ++ own2) (cased1 ++ cased2) c =
-          subst (λ (ls : List ℕ). AreLabelled x ls (cased1 ++ cased2) c) (append_assoc own1 (labels_of_arms rest) (labels_behind otherwise))
-          (subst (λ (ks : List ℕ). AreLabelled x ((own1 ++ labels_of_arms rest) ++ labels_behind otherwise) ks c) (append_assoc cased1 (cases_of_arms rest) (cases_behind otherwise)) p.labels) in
+      subst (λ (ls : List ℕ). AreLabelled x ls (cased1 ++ cased2) c) (append_assoc own1 (labels_of_arms rest) (labels_behind otherwise))
+      (subst (λ (ks : List ℕ). AreLabelled x ((own1 ++ labels_of_arms rest) ++ labels_behind otherwise) ks c) (append_assoc cased1 (cases_of_arms rest) (cases_behind otherwise)) p.labels) in
       let behind : LieBehind back (own1 ++ own2) (cased1 ++ cased2) c =
-          subst (λ (ls : List ℕ). LieBehind back ls (cased1 ++ cased2) c) (append_assoc own1 (labels_of_arms rest) (labels_behind otherwise))
-          (subst (λ (ks : List ℕ). LieBehind back ((own1 ++ labels_of_arms rest) ++ labels_behind otherwise) ks c) (append_assoc cased1 (cases_of_arms rest) (cases_behind otherwise)) p.behind) in
+      subst (λ (ls : List ℕ). LieBehind back ls (cased1 ++ cased2) c) (append_assoc own1 (labels_of_arms rest) (labels_behind otherwise))
+      (subst (λ (ks : List ℕ). LieBehind back ((own1 ++ labels_of_arms rest) ++ labels_behind otherwise) ks c) (append_assoc cased1 (cases_of_arms rest) (cases_behind otherwise)) p.behind) in
       let whole = fits x (own1 ++ own2) (cased1 ++ cased2) c labels in
       let size : length d.labels ≡ length c.labels = ap (λ (ls : List ℕ). length ls) start.labels in
       let front = fits-front (length c.labels) own1 own2 cased1 cased2 whole in
       let opens = statement-opens known x.home.tree x.function breaks continues from (lowering_of x) ways a d s.typed.1
-          (subst (λ (n : ℕ). FitsIn n own1 cased1) (sym size) front) in
+      (subst (λ (n : ℕ). FitsIn n own1 cased1) (sym size) front) in
       let long : length between.labels ≡ length c.labels = opens.size ∙ size in
       let back-fits = fits-back (length c.labels) (length between.labels) own1 own2 cased1 cased2 long whole in
       let others = arms-open known x.home.tree x.function breaks continues from (lowering_of x) ways rest (lower_otherwise (lowering_of x) ways otherwise) (labels_behind otherwise) (cases_behind otherwise) between s.typed.2
-          (otherwise-opens known x.home.tree x.function breaks continues from (lowering_of x) ways otherwise (length between.labels) s.last
-          (fits-back (length between.labels) (length between.labels) (labels_of_arms rest) (labels_behind otherwise) (cases_of_arms rest) (cases_behind otherwise) refl back-fits)) back-fits in
+      (otherwise-opens known x.home.tree x.function breaks continues from (lowering_of x) ways otherwise (length between.labels) s.last
+      (fits-back (length between.labels) (length between.labels) (labels_of_arms rest) (labels_behind otherwise) (cases_of_arms rest) (cases_behind otherwise) refl back-fits)) back-fits in
       let keep : KeepLabels c between cased1 = (let k = keep-labels opens in record {
         count = k.count ∙ size;
         others = λ l free. k.others l free ∙ ap (λ (ls : List ℕ). look ls l) start.labels;
       }) in
       let higher : c.blocks ≤ between.blocks = omega (arith, start.counts, opens.counts) in
-      let entered : c.blocks ≤ d.blocks = omega (arith, start.counts) in
-      (record {
-        typed = s.typed.1;
-        placed = record {
-          slots = slots-second x (addressed_in e) (addressed_in_statement a) (slots-first x (addressed_in e ++ addressed_in_statement a) (addressed_in_arms rest)
-              (slots-first x ((addressed_in e ++ addressed_in_statement a) ++ addressed_in_arms rest) (addressed_in_otherwise otherwise) p.slots));
-          suits = suits-first x (initialisers_in a) (initialisers_of_arms rest) (suits-first x (initialisers_in a ++ initialisers_of_arms rest) (initialisers_behind otherwise) p.suits);
-          scope = p.scope;
-          labels = labelled-same x own1 cased1 c d start.labels entered (labelled-first x own1 own2 cased1 cased2 opens.among others.among c labels);
-          behind = behind-same x own1 cased1 back c d start.labels entered (inr start.counts) (labelled-first x own1 own2 cased1 cased2 opens.among others.among c labels)
-              (behind-first x own1 own2 cased1 cased2 opens.among others.among back c labels behind);
-          code = contains-between contain x ways e a c (contains-arms contain x ways rest otherwise between (contains-others contain x ways t e a rest otherwise c more p.code));
-          temps = omega (arith, p.temps, start.temps);
-        };
-      }, record {
-        typed = s.typed.2;
-        last = s.last;
-        placed = record {
-          slots = slots-both x (addressed_in_arms rest) (addressed_in_otherwise otherwise)
-              (slots-second x (addressed_in e ++ addressed_in_statement a) (addressed_in_arms rest)
-              (slots-first x ((addressed_in e ++ addressed_in_statement a) ++ addressed_in_arms rest) (addressed_in_otherwise otherwise) p.slots))
-              (slots-second x ((addressed_in e ++ addressed_in_statement a) ++ addressed_in_arms rest) (addressed_in_otherwise otherwise) p.slots);
-          suits = suits-second x (initialisers_in a) (initialisers_of_arms rest ++ initialisers_behind otherwise)
-              (subst (λ (is : List Initialiser). All (SuitsLocal x.function.locals) is) (append_assoc (initialisers_in a) (initialisers_of_arms rest) (initialisers_behind otherwise)) p.suits);
-          scope = p.scope;
-          labels = labelled-second x own1 own2 cased1 cased2 opens.among others.among c between higher keep labels;
-          behind = behind-second x own1 own2 cased1 cased2 opens.among others.among c labels back between higher keep (inr (inl (omega (arith, start.counts)))) behind;
-          code = contains-others contain x ways t e a rest otherwise c more p.code;
-          temps = omega (arith, p.temps, start.temps, opens.temps);
-        };
-      })
+      let entered : c.blocks ≤ d.blocks = omega (arith, start.counts) in (
+        record {
+          typed = s.typed.1;
+          placed = record {
+            slots = slots-second x (addressed_in e) (addressed_in_statement a) (slots-first x (addressed_in e ++ addressed_in_statement a) (addressed_in_arms rest)
+                (slots-first x ((addressed_in e ++ addressed_in_statement a) ++ addressed_in_arms rest) (addressed_in_otherwise otherwise) p.slots));
+            suits = suits-first x (initialisers_in a) (initialisers_of_arms rest) (suits-first x (initialisers_in a ++ initialisers_of_arms rest) (initialisers_behind otherwise) p.suits);
+            scope = p.scope;
+            labels = labelled-same x own1 cased1 c d start.labels entered (labelled-first x own1 own2 cased1 cased2 opens.among others.among c labels);
+            behind = behind-same x own1 cased1 back c d start.labels entered (inr start.counts) (labelled-first x own1 own2 cased1 cased2 opens.among others.among c labels)
+                (behind-first x own1 own2 cased1 cased2 opens.among others.among back c labels behind);
+            code = contains-between contain x ways e a c (contains-arms contain x ways rest otherwise between (contains-others contain x ways t e a rest otherwise c more p.code));
+            temps = omega (arith, p.temps, start.temps);
+          };
+        },
+        record {
+          typed = s.typed.2;
+          last = s.last;
+          placed = record {
+            slots = slots-both x (addressed_in_arms rest) (addressed_in_otherwise otherwise)
+                (slots-second x (addressed_in e ++ addressed_in_statement a) (addressed_in_arms rest)
+                (slots-first x ((addressed_in e ++ addressed_in_statement a) ++ addressed_in_arms rest) (addressed_in_otherwise otherwise) p.slots))
+                (slots-second x ((addressed_in e ++ addressed_in_statement a) ++ addressed_in_arms rest) (addressed_in_otherwise otherwise) p.slots);
+            suits = suits-second x (initialisers_in a) (initialisers_of_arms rest ++ initialisers_behind otherwise)
+                (subst (λ (is : List Initialiser). All (SuitsLocal x.function.locals) is) (append_assoc (initialisers_in a) (initialisers_of_arms rest) (initialisers_behind otherwise)) p.suits);
+            scope = p.scope;
+            labels = labelled-second x own1 own2 cased1 cased2 opens.among others.among c between higher keep labels;
+            behind = behind-second x own1 own2 cased1 cased2 opens.among others.among c labels back between higher keep (inr (inl (omega (arith, start.counts)))) behind;
+            code = contains-others contain x ways t e a rest otherwise c more p.code;
+            temps = omega (arith, p.temps, start.temps, opens.temps);
+          };
+        },
+      )
     where
       slots-both : (y : Activation) (us vs : List ℕ) → HaveSlots y us → HaveSlots y vs → HaveSlots y (us ++ vs)
       slots-both y us vs g h k w = elim (Contains-append_cases us vs k w) [

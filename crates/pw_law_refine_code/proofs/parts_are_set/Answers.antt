@@ -54,9 +54,9 @@ returns-clause-bodies c = λ x numbers active scope.
 pub returns-clause-arms : goal.returns-clause-arms
 returns-clause-arms c = λ x numbers breaks continues from back ways t e a d active. (
   λ s. one-arm-is-set (record { blocks = c.expressions_spread.ensures.blocks; labels = c.expressions_spread.ensures.labels })
-    (record { expressions = c.graphs_contain_the_parts.ensures.expressions; statements = c.graphs_contain_the_parts.ensures.statements })
-    x numbers breaks continues from back ways t e a d s,
+      (record { expressions = c.graphs_contain_the_parts.ensures.expressions; statements = c.graphs_contain_the_parts.ensures.statements })
+      x numbers breaks continues from back ways t e a d s,
   λ rest otherwise more s. arms-are-set (record { blocks = c.expressions_spread.ensures.blocks; labels = c.expressions_spread.ensures.labels })
-    (record { expressions = c.graphs_contain_the_parts.ensures.expressions; statements = c.graphs_contain_the_parts.ensures.statements })
-    x numbers breaks continues from back ways t e a rest otherwise d more s,
+      (record { expressions = c.graphs_contain_the_parts.ensures.expressions; statements = c.graphs_contain_the_parts.ensures.statements })
+      x numbers breaks continues from back ways t e a rest otherwise d more s,
 )
