@@ -17,7 +17,7 @@ use Rattle.pw_inst.specs.declared.relocation.Symbol.TheVariants as symbol
 use Rattle.pw_webflow.specs.Direction.{register_of, read_of, write_of, directed_op, directed_block, directed}
 use Rattle.pw_alloc.specs.Allocation.{allocated}
 use Rattle.pw_select.specs.Selection.{selected}
-use Rattle.pw_law_select_walk.specs.Rows.{IsAddressed, IsRow, KnowsOp, KnowsBlock, KnowsWeb}
+use Rattle.pw_law_select_walk.specs.Rows.{IsAddressed, IsRow, KnowsFlow, KnowsOp, KnowsBlock, KnowsWeb}
 use Rattle.pw_law_select_walk.proofs.EachLine.{each_selected}
 use Rattle.pw_files.proofs.Standing.{Has, has_left, has_right, each_by}
 
@@ -39,7 +39,7 @@ module _ (P : List ℕ → Type 0) where
   addressed_named (symbol.Named name) h = h
   addressed_named _ h = tt
 
-  row_named : (l : Line) → IsRow P l → IsNamed P l
+  row_named : (l : Line) → IsRow P P l → IsNamed P l
   row_named (Fixed x k s n) h = addressed_named s h.1
   row_named (CallTo (symbol.Named f) r) h = h.1
   row_named (CallTo _ r) h = tt
@@ -47,20 +47,24 @@ module _ (P : List ℕ → Type 0) where
 
   -- ---- operations, by the names in them
 
-  read_op : (r : Option ℕ) (t : ℕ) (o : Op) → AllByRecursion P (op_names o) → KnowsOp P (read_of r t o)
-  read_op None t o h = h
+  flow_known : (o : Op) → AllByRecursion P (op_names o) → KnowsFlow P P o
+  flow_known (op.Call t f args) h = h.0
+  flow_known _ h = h
+
+  read_op : (r : Option ℕ) (t : ℕ) (o : Op) → AllByRecursion P (op_names o) → KnowsOp P P (read_of r t o)
+  read_op None t o h = flow_known o h
   read_op (Some r) t o h = tt
 
-  write_op : (r : Option ℕ) (a : ℕ) (o : Op) → AllByRecursion P (op_names o) → KnowsOp P (write_of r a o)
-  write_op None a o h = h
+  write_op : (r : Option ℕ) (a : ℕ) (o : Op) → AllByRecursion P (op_names o) → KnowsOp P P (write_of r a o)
+  write_op None a o h = flow_known o h
   write_op (Some r) a o h = tt
 
-  op_known : (webs : List (Web × Role)) (o : Op) → AllByRecursion P (op_names o) → KnowsOp P (directed_op webs o)
+  op_known : (webs : List (Web × Role)) (o : Op) → AllByRecursion P (op_names o) → KnowsOp P P (directed_op webs o)
   op_known webs (op.LoadG t g k) h = read_op (register_of webs g) t (op.LoadG t g k) h
   op_known webs (op.StoreG g a k) h = write_op (register_of webs g) a (op.StoreG g a k) h
-  op_known webs o h = h
+  op_known webs o h = flow_known o h
 
-  ops_known : (webs : List (Web × Role)) (ops : List Op) → ((n : List ℕ) → Has n (flat_map op_names ops) → P n) → AllByRecursion (KnowsOp P) (map (directed_op webs) ops)
+  ops_known : (webs : List (Web × Role)) (ops : List Op) → ((n : List ℕ) → Has n (flat_map op_names ops) → P n) → AllByRecursion (KnowsOp P P) (map (directed_op webs) ops)
   ops_known webs [] own = tt
   ops_known webs (o ∷ rest) own =
       let own_split = λ (n : List ℕ) (h : Has n (op_names o ++ flat_map op_names rest)). own n (subst (λ (ns : List (List ℕ)). Has n ns) (sym (flat_map-cons op_names o rest)) h) in (
@@ -68,7 +72,7 @@ module _ (P : List ℕ → Type 0) where
         ops_known webs rest (λ n h. own_split n (has_right n (op_names o) (flat_map op_names rest) h)),
       )
 
-  blocks_known : (webs : List (Web × Role)) (blocks : List Block) → ((n : List ℕ) → Has n (flat_map names_in_block blocks) → P n) → AllByRecursion (KnowsBlock P) (map (directed_block webs) blocks)
+  blocks_known : (webs : List (Web × Role)) (blocks : List Block) → ((n : List ℕ) → Has n (flat_map names_in_block blocks) → P n) → AllByRecursion (KnowsBlock P P) (map (directed_block webs) blocks)
   blocks_known webs [] own = tt
   blocks_known webs (b ∷ rest) own =
       let own_split = λ (n : List ℕ) (h : Has n (names_in_block b ++ flat_map names_in_block rest)). own n (subst (λ (ns : List (List ℕ)). Has n ns) (sym (flat_map-cons names_in_block b rest)) h) in (
@@ -80,4 +84,4 @@ module _ (P : List ℕ → Type 0) where
   pub lines_named : (f : FlowFn) (d : Directives) → ((n : List ℕ) → Has n (names_in_function f) → P n) → AllByRecursion (KnowsWeb P) d.webs → AreNamed P (selected (allocated (directed f d)))
   unfolding allocated directed
   lines_named f d own known =
-      each_selected P (IsNamed P) row_named (λ (b : ℕ). tt) (allocated (directed f d)) (record { blocks = blocks_known d.webs f.blocks own; webs = known })
+      each_selected P P (IsNamed P) row_named (λ (b : ℕ). tt) (allocated (directed f d)) (record { blocks = blocks_known d.webs f.blocks own; webs = known })
