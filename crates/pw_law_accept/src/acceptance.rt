@@ -17,7 +17,7 @@ ghost use Rattle.pw_cmean.specs.Typed.{IsWellTyped};
 ghost use Rattle.pw_law_lower.specs.Within.{IsWithin};
 ghost use Rattle.pw_run_languages.specs.LawfulPrograms.{IsProgram, NamesRightly, ops_of};
 ghost use Rattle.pw_run_languages.specs.LinkingLaws.{AreNamesApart};
-ghost use Rattle.pw_law_layers.specs.Accepting.{AreFormed, IsWhole, LeadInside};
+ghost use Rattle.pw_law_layers.specs.Accepting.{AreFormed, CheckedIsAccepted, IsWhole, LeadInside};
 ghost use Rattle.pw_law_layers.specs.Lowering.{AreChecked, DeclareAlike, HaveParts, IsAccepted, flow_program};
 ghost use Rattle.pw_law_refine.specs.Lowerable.{IsLowerable};
 ghost use Rattle.pw_law_accept.specs.Linked.{AreAllNumbered, AreLinked, AreNamedPlainly, AreOfWords, HaveRightItems};
@@ -31,6 +31,7 @@ use pw_law_checked::{
     accepted_names_of_objects_are_no_functions, accepted_strings_are_short, strings_of_texts,
 };
 use pw_law_lower::modules_are_lawful;
+use pw_law_words::accepted_numbers_are_words;
 use pw_tree::words_spell_what_they_are;
 
 /// Where the objects of checked modules link, all declarations of a name agree, the library's among them, and `main` takes nothing
@@ -185,6 +186,23 @@ pub fn checked_is_accepted_but_for_numbers()
     checked_functions_are_formed();
     linked_names_are_apart();
     linked_addresses_lead_inside();
+}
+
+/// The numbers of the typed trees that checking answers for texts are of 32 bits.
+pub fn checked_numbers_are_words()
+    ensures { (p : Program) → AreChecked p → AreOfWords p }
+{
+    strings_of_texts();
+    accepted_numbers_are_words();
+}
+
+/// What checking and linking accept is accepted in the words of C's meaning, with all that built programs want of it: checked modules
+/// in the order of their names, of which none has a colon, whose objects link, with a stack that may be asked for.
+pub fn checked_is_accepted()
+    ensures { CheckedIsAccepted }
+{
+    checked_numbers_are_words();
+    checked_is_accepted_but_for_numbers();
 }
 
 /// Accepted programs of checked texts are lowerable, but for what is a premise here: that objects without a name have numbers of 32

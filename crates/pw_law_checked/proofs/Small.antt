@@ -18,7 +18,8 @@ use Rattle.pw_types.specs.TypeTrees.{CType, Void, Int, Pointer, Array, Function,
 use Rattle.pw_types.specs.TypedTrees.{Expression, Expressions, Node, Form, token_of, type_at, form_of}
 use Rattle.pw_types.specs.TypedTrees as T
 use Rattle.pw_types.specs.WellTyped.{type_in}
-use Rattle.pw_law_lower.specs.Within.{IsSized, IsSmall, HasSmall, AreSmall, count_of}
+use Rattle.pw_law_lower.specs.Within.{IsSized, count_of}
+use Rattle.pw_law_checked.specs.Bounded.{IsBounded, HasBounded, AreBounded}
 use Rattle.pw_check_rules.specs.Compatible.{compatible_types, composite_type}
 use Rattle.pw_check_rules.specs.Constants.{is_null_constant}
 use Rattle.pw_check_rules.specs.Kinds.{plain, unqualified, int_type, is_integral, is_pointer, is_void, pointee, same_type, points_to_void, points_to_function, parameters_of, result_of, count_of_types}
@@ -36,14 +37,14 @@ HasInner r _ = Unit {0}
 
 -- its types, and those that it is made of, keep the limits
 pub record Keeps (r : List RecordValue) (e : Expression) : Type 0 where
-  pub small : IsSmall r e
+  pub small : IsBounded r e
   pub kept : IsKept r (type_in e)
   pub inner : HasInner r (form_of e)
 
-pub node_keeps : (r : List RecordValue) (t : ℕ) (q : QType) (form : Form) → IsKept r (type_of q) → HasSmall r form → HasInner r form → Keeps r (Node t q form)
+pub node_keeps : (r : List RecordValue) (t : ℕ) (q : QType) (form : Form) → IsKept r (type_of q) → HasBounded r form → HasInner r form → Keeps r (Node t q form)
 node_keeps r t q form k h i = record { small = (k.sized, h); kept = k; inner = i }
 
-pub int_keeps : (r : List RecordValue) (t : ℕ) (form : Form) → HasSmall r form → HasInner r form → Keeps r (Node t int_type form)
+pub int_keeps : (r : List RecordValue) (t : ℕ) (form : Form) → HasBounded r form → HasInner r form → Keeps r (Node t int_type form)
 int_keeps r t form h i = node_keeps r t int_type form (kept_int r K.Int) h i
 
 pub cast_keeps : (r : List RecordValue) (ty : CType) (e : Expression) → IsKept r ty → Keeps r e → Keeps r (cast_to ty e)
@@ -53,10 +54,10 @@ cast_keeps r ty e k h = by (same_type ty (type_in e))
     by true = h
     by false = node_keeps r (token_of e) (plain ty) (T.Cast e) k h.small tt
 
-cast_small : (r : List RecordValue) (ty : CType) (e : Expression) → IsSized r ty → IsSmall r e → IsSmall r (cast_to ty e)
+cast_small : (r : List RecordValue) (ty : CType) (e : Expression) → IsSized r ty → IsBounded r e → IsBounded r (cast_to ty e)
 cast_small r ty e k h = by (same_type ty (type_in e))
   where
-    by : (b : Bool) → IsSmall r (if b then e else Node (token_of e) (plain ty) (T.Cast e))
+    by : (b : Bool) → IsBounded r (if b then e else Node (token_of e) (plain ty) (T.Cast e))
     by true = h
     by false = (k, h)
 
@@ -294,7 +295,7 @@ none_first : (a b : Option ℕ) → Rattle.std.specs.Option.option_or a b ≡ No
 none_first None b e = (refl, e)
 none_first (Some n) b e = Rattle.pw_law_checked.proofs.Lists.never_some (sym e)
 
-arguments_small : (r : List RecordValue) (ps : QTypes) (es : List Expression) → first_oversize r ps ≡ None → AllKeep r es → AreSmall r (arguments_cast ps es)
+arguments_small : (r : List RecordValue) (ps : QTypes) (es : List Expression) → first_oversize r ps ≡ None → AllKeep r es → AreBounded r (arguments_cast ps es)
 arguments_small r NoType [] h all = tt
 arguments_small r NoType (e ∷ es) h all = (all.0.small, arguments_small r NoType es h all.1)
 arguments_small r (OneType q ps) [] h all = tt
