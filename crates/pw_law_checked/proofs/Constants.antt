@@ -1,5 +1,5 @@
 -- Constant expressions: each operation on words makes a word.
-use Rattle.std.specs.Prelude.{ℕ, ℤ, pos, negsuc, int_div, int_rem, ◌≡◌, ◌<◌, ◌≤◌, ◌+◌, ◌-◌, ◌*◌, ◌/◌, ◌%◌, ◌^◌, ◌==◌, ◌&&◌, Bool, true, false, not, nat_le, if◌then◌else◌, Option, None, Some, unwrap_or, Result, Ok, Err, bit_and, bit_or, bit_xor, refl}
+use Rattle.std.specs.Prelude.{ℕ, ℤ, pos, negsuc, neg_ℤ, ◌+ℤ◌, ◌-ℤ◌, ◌*ℤ◌, int_div, int_rem, ◌≡◌, ◌<◌, ◌≤◌, ◌+◌, ◌-◌, ◌*◌, ◌/◌, ◌%◌, ◌^◌, ◌==◌, ◌&&◌, Bool, true, false, not, nat_le, if◌then◌else◌, Option, None, Some, unwrap_or, Result, Ok, Err, bit_and, bit_or, bit_xor, refl}
 use Rattle.std.proofs.Common.{arith, subst, sym}
 use Rattle.std.specs.Int.{int_shr}
 use Rattle.std.specs.Int.RustNames.{unsigned_abs}
@@ -213,16 +213,16 @@ unary_known U.Plus kind n h = h
 unary_known U.Minus kind n h = by (is_signed_kind kind)
   where
     by : (x : Bool) → IsWord (if x then by_result (w.signed_negation n) else Known (w.unsigned_negation n))
-    by true = result_word (w.signed_negation n) (exact_word _)
+    by true = result_word (w.signed_negation n) (exact_word (neg_ℤ (w.signed n)))
     by false = reduced _
 unary_known U.Complement kind n h = omega arith
 unary_known U.Not kind n h = truth_word (n == 0)
 
 binary_known : (op : BinaryOperator) (x : Bool) (a b : ℕ) → a < 2 ^ 32 → b < 2 ^ 32 → IsWord (binary_word op x a b)
-binary_known B.Add x a b h k = either_word x _ _ (exact_word _) (ok_word _ (reduced _))
-binary_known B.Subtract x a b h k = either_word x _ _ (exact_word _) (ok_word _ (reduced _))
-binary_known B.Multiply x a b h k = either_word x _ _ (exact_word _) (ok_word _ (reduced _))
-binary_known B.Divide x a b h k = either_word x _ _ (divided_word b _ (exact_word _)) (divided_word b _ (ok_word (a / b) (quotient_word a b h)))
+binary_known B.Add x a b h k = either_word x _ _ (exact_word (w.signed a +ℤ w.signed b)) (ok_word (w.unsigned_sum a b) (reduced (a + b)))
+binary_known B.Subtract x a b h k = either_word x _ _ (exact_word (w.signed a -ℤ w.signed b)) (ok_word (w.unsigned_difference a b) (reduced (a + (2 ^ 32 - b))))
+binary_known B.Multiply x a b h k = either_word x _ _ (exact_word (w.signed a *ℤ w.signed b)) (ok_word (w.unsigned_product a b) (reduced (a * b)))
+binary_known B.Divide x a b h k = either_word x _ _ (divided_word b _ (exact_word (int_div (w.signed a) (w.signed b)))) (divided_word b _ (ok_word (a / b) (quotient_word a b h)))
 binary_known B.Remainder x a b h k = either_word x _ _ (left_word a b k) (remainder_word a b k)
 binary_known B.ShiftLeft x a b h k = result_word _ (shifted_word b (a * 2 ^ b % 2 ^ 32) (reduced _))
 binary_known B.ShiftRight x a b h k = either_word x _ _ (shifted_word b _ (right_word (w.signed a) b (signed_near a h))) (shifted_word b (a / 2 ^ b) (quotient_word a (2 ^ b) h))

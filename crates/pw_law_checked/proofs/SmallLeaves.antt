@@ -166,14 +166,15 @@ greatest_word K.ULong = omega arith
 
 one_holds : (n : ℕ) (kinds : List IntKind) → is_some (find (λ kind. nat_le n (greatest_of_kind kind)) kinds) ≡ true → n < 2 ^ 32
 one_holds n [] e = no e
-one_holds n (kind ∷ kinds) e = by (nat_le n (greatest_of_kind kind)) refl e
+one_holds n (kind ∷ kinds) e = by (nat_le n (greatest_of_kind kind)) refl e (one_holds n kinds)
   where
     below : nat_le n (greatest_of_kind kind) ≡ true → n < 2 ^ 32
     below f = let k = greatest_word kind in let l : n ≤ greatest_of_kind kind = grind (arith, nat_tests, f) in omega (arith, k, l)
 
-    by : (b : Bool) → nat_le n (greatest_of_kind kind) ≡ b → is_some (cond b (Some kind) (find (λ kind. nat_le n (greatest_of_kind kind)) kinds)) ≡ true → n < 2 ^ 32
-    by true f g = below f
-    by false f g = one_holds n kinds g
+    by : (b : Bool) → nat_le n (greatest_of_kind kind) ≡ b → is_some (cond b (Some kind) (find (λ kind. nat_le n (greatest_of_kind kind)) kinds)) ≡ true
+        → (is_some (find (λ kind. nat_le n (greatest_of_kind kind)) kinds) ≡ true → n < 2 ^ 32) → n < 2 ^ 32
+    by true f g rest = below f
+    by false f g rest = rest g
 
 -- the value of a constant that has a type
 integer_word : (text : List ℕ) → is_some (integer_type text) ≡ true → integer_value text < 2 ^ 32
