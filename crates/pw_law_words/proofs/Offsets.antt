@@ -1,6 +1,7 @@
 -- The offset of an address in the first bytes of an object is a word: it leads into what keeps the limit on sizes.
-use Rattle.std.specs.Prelude.{ℕ, ◌≡◌, ◌<◌, ◌≤◌, ◌^◌, ◌⊎◌, ◌==◌, true, Bool, nat_le, Option, None, Some, List, slice_get, option_map, All, Contains, refl}
-use Rattle.std.proofs.Common.{arith, inl, inr}
+use Rattle.std.specs.Prelude.{ℕ, ◌≡◌, ◌<◌, ◌≤◌, ◌^◌, true, Option, None, Some, option_map, All, refl}
+use Rattle.std.specs.Option.{IsSomeAnd}
+use Rattle.std.proofs.Common.{arith, subst, inl, inr}
 use Rattle.std.proofs.lemmas.Bool.{eqb-true}
 use Rattle.std.proofs.lemmas.Bool.Decides.{nat_tests}
 use Rattle.std.proofs.lemmas.Option.{slice_get-get_or}
@@ -9,7 +10,7 @@ use Rattle.pw_value.specs.Limits.{size_limit}
 use Rattle.pw_types.specs.declared.record.Layout.{Layout}
 use Rattle.pw_types.specs.Layouts.{layout_of}
 use Rattle.pw_types.specs.Records.{IsObjectType}
-use Rattle.pw_types.specs.TypeTrees.{CType, type_of, RecordValue}
+use Rattle.pw_types.specs.TypeTrees.{type_of}
 use Rattle.pw_types.specs.TypedTrees.{Symbol, External, Internal, Hidden, ItemValue, ItemBytes, ItemAddress, PlacedItem, GlobalValue, ModuleValue}
 use Rattle.pw_check_rules.specs.Constants.{is_within}
 use Rattle.pw_law_checked.specs.Leading.{LeadsIntoOwn, Leads, ItemLeads, ItemsLead}
@@ -20,9 +21,9 @@ within_word : (offset : ℕ) (o : Option Layout) → ((l : Layout) → o ≡ Som
 within_word offset None small e = let k : offset ≡ 0 = eqb-true offset 0 e in omega (arith, k)
 within_word offset (Some l) small e = let h = small l refl in let k : offset ≤ l.size = grind (arith, nat_tests, e) in omega (arith, h, k)
 
-object_small : (o : Option Layout) → Rattle.std.specs.Option.IsSomeAnd o (λ l. l.size ≤ size_limit) → (l : Layout) → o ≡ Some l → l.size ≤ size_limit
+object_small : (o : Option Layout) → IsSomeAnd o (λ l. l.size ≤ size_limit) → (l : Layout) → o ≡ Some l → l.size ≤ size_limit
 object_small None h l e = absurd h
-object_small (Some k) h l e = grind (arith, h, e)
+object_small (Some k) h l e = let same : k ≡ l = cc in subst (λ (x : Layout). x.size ≤ size_limit) same h
 
 module _ (m : ModuleValue) (sized : All (λ g. IsObjectType m.records (type_of g.ty)) m.globals) where
   own_word : (symbol : Symbol) (offset : ℕ) → LeadsIntoOwn m symbol offset → offset < 2 ^ 32
