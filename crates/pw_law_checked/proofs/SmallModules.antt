@@ -11,7 +11,7 @@ use Rattle.pw_tree.specs.Trees as S
 use Rattle.pw_tree.specs.Spelling.{symbols, spell_block, spell_external, spell_externals}
 use Rattle.pw_tree.specs.Symbols.{Symbol}
 use Rattle.pw_types.specs.TypeTrees.{QType, type_of, RecordValue}
-use Rattle.pw_types.specs.TypedTrees.{External as Shared, Internal, Hidden, FunctionValue, GlobalValue, ModuleValue}
+use Rattle.pw_types.specs.TypedTrees.{External as Shared, Internal, Hidden, Statement, FunctionValue, GlobalValue, ModuleValue}
 use Rattle.pw_flow.proofs.Lists.{all_flat}
 use Rattle.pw_law_checked.specs.Bounded.{IsBoundedStatement}
 use Rattle.pw_check_walk.specs.Walks.{Walk, Done, bind}
@@ -288,11 +288,14 @@ kept_module : (tree : Module) (m : ModuleValue) → HasShortStrings tree → Che
 unfolding checking
 kept_module tree m short h = post_end (checking tree) m IsKeptModule h (checking_kept tree short)
 
+of_bodies : (P Q : Statement → Type 0) (fs : List FunctionValue) → ((s : Statement) → P s → Q s) → All (λ f. P f.body) fs → All (λ f. Q f.body) fs
+of_bodies P Q fs step h = λ k d below. step _ (h k d below)
+
 pub module_small : (tree : Module) (m : ModuleValue) → HasShortStrings tree → Checks tree (Ok m) → All (λ f. KeepsLimits m.records f.body) m.functions
-module_small tree m short h = λ k d below. statement_limits m.records _ ((kept_module tree m short h).bodies k d below)
+module_small tree m short h = of_bodies (IsBoundedStatement m.records) (KeepsLimits m.records) m.functions (statement_limits m.records) (kept_module tree m short h).bodies
 
 pub module_words : (tree : Module) (m : ModuleValue) → HasShortStrings tree → Checks tree (Ok m) → All (λ f. WordsInStatement f.body) m.functions
-module_words tree m short h = λ k d below. statement_words m.records _ ((kept_module tree m short h).bodies k d below)
+module_words tree m short h = of_bodies (IsBoundedStatement m.records) WordsInStatement m.functions (statement_words m.records) (kept_module tree m short h).bodies
 
 pub module_strings : (tree : Module) (m : ModuleValue) → HasShortStrings tree → Checks tree (Ok m) → AreShortStrings m
 module_strings tree m short h = (kept_module tree m short h).strings

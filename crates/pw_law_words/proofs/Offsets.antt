@@ -1,5 +1,5 @@
 -- The offset of an address in the first bytes of an object is a word: it leads into what keeps the limit on sizes.
-use Rattle.std.specs.Prelude.{ℕ, ◌≡◌, ◌<◌, ◌≤◌, ◌^◌, true, Option, None, Some, option_map, All, refl}
+use Rattle.std.specs.Prelude.{ℕ, ◌≡◌, ◌<◌, ◌≤◌, ◌^◌, true, Option, None, Some, List, option_map, slice_get, All, refl}
 use Rattle.std.specs.Option.{IsSomeAnd}
 use Rattle.std.proofs.Common.{arith, subst, inl, inr}
 use Rattle.std.proofs.lemmas.Bool.{eqb-true}
@@ -25,6 +25,12 @@ object_small : (o : Option Layout) → IsSomeAnd o (λ l. l.size ≤ size_limit)
 object_small None h l e = absurd h
 object_small (Some k) h l e = let same : k ≡ l = cc in subst (λ (x : Layout). x.size ≤ size_limit) same h
 
+each_at : {X : Type 0} (P : X → Type 0) (xs : List X) → ((i : ℕ) (x : X) → slice_get xs i ≡ Some x → P x) → All P xs
+each_at P xs h = λ k d below. h k _ (slice_get-get_or xs k d below)
+
+each_so : {X : Type 0} (P Q : X → Type 0) (xs : List X) → ((x : X) → P x → Q x) → All P xs → All Q xs
+each_so P Q xs step h = λ k d below. step _ (h k d below)
+
 module _ (m : ModuleValue) (sized : All (λ g. IsObjectType m.records (type_of g.ty)) m.globals) where
   own_word : (symbol : Symbol) (offset : ℕ) → LeadsIntoOwn m symbol offset → offset < 2 ^ 32
   own_word symbol offset h =
@@ -42,7 +48,7 @@ module _ (m : ModuleValue) (sized : All (λ g. IsObjectType m.records (type_of g
   item_word (ItemAddress symbol offset) h = leads_word symbol offset h
 
   items_words : (g : GlobalValue) → ItemsLead m g → WordsInItems g.items
-  items_words g h = λ k d below. item_word _ (h k _ (slice_get-get_or g.items k d below))
+  items_words g h = each_at (λ (p : PlacedItem). HasOffset p.item) g.items (λ i p e. item_word p.item (h i p e))
 
   pub objects_words : All (ItemsLead m) m.globals → All (λ g. WordsInItems g.items) m.globals
-  objects_words h = λ k d below. items_words _ (h k d below)
+  objects_words h = each_so (ItemsLead m) (λ g. WordsInItems g.items) m.globals items_words h
