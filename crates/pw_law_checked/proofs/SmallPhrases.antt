@@ -329,9 +329,11 @@ Sized r = IsReady r.1 × ((t : State) → KeptOperand t r.0)
 
 size_made : (t : ℕ) (spot : Rattle.pw_check_rules.specs.Limits.Spot) (q : QType) (s : State) → IsReady s → IsKeptFrom s.types.records (type_of q) → Post (Rattle.pw_check_rules.specs.Operators.type_size_rule t spot q s) Sized
 unfolding Rattle.pw_check_rules.specs.Operators.type_size_rule bind
-size_made t spot q s l kept = λ met.
-    (l, λ u r c. Rattle.pw_law_checked.proofs.Small.node_keeps r t (Rattle.pw_check_rules.specs.Kinds.plain (Int K.UInt)) (T.Number _) (Rattle.pw_law_checked.proofs.Sizes.kept_int r K.UInt)
-    (sized_word s.types.records (type_of q) l.0.laid (kept s.types.records l.0.laid (extends_same s.types.records)).sized) tt)
+size_made t spot q s l kept = λ met. (
+  l,
+  λ u r c. Rattle.pw_law_checked.proofs.Small.node_keeps r t (Rattle.pw_check_rules.specs.Kinds.plain (Int K.UInt)) (T.Number _) (Rattle.pw_law_checked.proofs.Sizes.kept_int r K.UInt)
+      (sized_word s.types.records (type_of q) l.0.laid (kept s.types.records l.0.laid (extends_same s.types.records)).sized) tt,
+)
 
 sized_made : (s : State) (inside : Rule Operand) → IsReady s → ((t : State) → IsReady t → Post (inside t) Sized) → Post (uncounted inside s) Made
 unfolding uncounted bind
