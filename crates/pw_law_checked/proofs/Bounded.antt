@@ -1,5 +1,5 @@
 -- What is bounded has numbers that are words, and types and calls that keep their limits.
-use Rattle.std.specs.Prelude.{ℕ, Option, None, Some, List, [], ◌∷◌, All}
+use Rattle.std.specs.Prelude.{Option, None, Some, List, [], ◌∷◌, All}
 use Rattle.std.specs.List.{AllByRecursion}
 use Rattle.std.proofs.lemmas.Option.{slice_get-get_or}
 use Rattle.pw_types.specs.TypeTrees.{RecordValue}

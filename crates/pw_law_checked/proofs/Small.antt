@@ -3,7 +3,6 @@ use Rattle.std.specs.Prelude.{ℕ, suc, ◌≡◌, ◌≤◌, ◌⊎◌, ◌==�
 use Rattle.std.proofs.Common.{arith, ap, sym, subst, ◌∙◌, inl, inr}
 use Rattle.std.proofs.lemmas.Bool.{eqb-true}
 use Rattle.pw_value.specs.Limits.{parameter_limit}
-use Rattle.pw_tree.specs.declared.operator.AssignOperator.TheVariants as A
 use Rattle.pw_tree.specs.declared.operator.BinaryOperator.{BinaryOperator}
 use Rattle.pw_tree.specs.declared.operator.BinaryOperator.TheVariants as O
 use Rattle.pw_tree.specs.declared.operator.UnaryOperator.{UnaryOperator}
@@ -14,7 +13,7 @@ use Rattle.pw_types.specs.declared.tree.BinaryOperator.TheVariants as B
 use Rattle.pw_types.specs.declared.tree.UnaryOperator.TheVariants as U
 use Rattle.pw_types.specs.Conversions.{promoted}
 use Rattle.pw_types.specs.Sizes.{oversize_of, first_oversize}
-use Rattle.pw_types.specs.TypeTrees.{CType, Void, Int, Pointer, Array, Function, Record, QType, Qualified, QTypes, NoType, OneType, type_of, is_constant, is_volatile, RecordValue}
+use Rattle.pw_types.specs.TypeTrees.{CType, Void, Int, Pointer, Array, Function, Record, QType, Qualified, QTypes, NoType, OneType, type_of, RecordValue}
 use Rattle.pw_types.specs.TypedTrees.{Expression, Expressions, Node, Form, token_of, type_at, form_of}
 use Rattle.pw_types.specs.TypedTrees as T
 use Rattle.pw_types.specs.WellTyped.{type_in}
@@ -22,11 +21,11 @@ use Rattle.pw_law_lower.specs.Within.{IsSized, count_of}
 use Rattle.pw_law_checked.specs.Bounded.{IsBounded, HasBounded, AreBounded}
 use Rattle.pw_check_rules.specs.Compatible.{compatible_types, composite_type}
 use Rattle.pw_check_rules.specs.Constants.{is_null_constant}
-use Rattle.pw_check_rules.specs.Kinds.{plain, unqualified, int_type, is_integral, is_pointer, is_void, pointee, same_type, points_to_void, points_to_function, parameters_of, result_of, count_of_types}
+use Rattle.pw_check_rules.specs.Kinds.{plain, unqualified, int_type, is_pointer, is_void, pointee, same_type, points_to_void, points_to_function, parameters_of, result_of, count_of_types}
 use Rattle.pw_check_rules.specs.Operands.{Operand, cast_to, promote, promoted_type, common_type, value_of, value_by}
-use Rattle.pw_check_rules.specs.Operators.{typed_unary, unary_node, deref, both_integral, pointers_agree, pointer_and_void, pointer_and_null, pointers_meet, fits_order, fits_binary, typed_binary, in_common, arithmetic_node, shift_node, pointer_with_both, chosen_pointer, comparison_node, sum_node, difference_node, binary_node, comma_node, same_record, fits_choice, choice_type, compound_node, arguments_cast, callee_type, call_node}
+use Rattle.pw_check_rules.specs.Operators.{typed_unary, unary_node, deref, both_integral, pointers_agree, pointer_and_void, pointer_and_null, pointers_meet, fits_order, fits_binary, typed_binary, in_common, arithmetic_node, shift_node, pointer_with_both, chosen_pointer, comparison_node, sum_node, difference_node, binary_node, same_record, fits_choice, choice_type, compound_node, arguments_cast, callee_type, call_node}
 use Rattle.pw_law_checked.proofs.Types.{no, left, right, one_of}
-use Rattle.pw_law_checked.proofs.Sizes.{IsKept, kept_target, kept_pointer, kept_element, kept_int, kept_void, kept_pointee, IsKeptCallee, kept_callee, kept_composite}
+use Rattle.pw_law_checked.proofs.Sizes.{IsKept, kept_pointer, kept_element, kept_int, kept_void, kept_pointee, kept_callee, kept_composite}
 
 -- ---- expressions
 

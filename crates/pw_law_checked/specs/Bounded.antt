@@ -1,6 +1,6 @@
 -- What each expression that the rules make keeps, besides being well typed: its types keep the limit on sizes, its calls that on
 -- arguments, and its numbers are words of 32 bits.
-use Rattle.std.specs.Prelude.{ℕ, ◌<◌, ◌≤◌, ◌^◌, Option, List}
+use Rattle.std.specs.Prelude.{◌<◌, ◌≤◌, ◌^◌, Option, List}
 use Rattle.pw_value.specs.Limits.{parameter_limit}
 use Rattle.pw_types.specs.TypeTrees.{type_of, RecordValue}
 use Rattle.pw_types.specs.TypedTrees.{Expression, Node, Form, Expressions, NoExpression, OneExpression, Initialiser, Statement, Statements, Arms, Otherwise}
