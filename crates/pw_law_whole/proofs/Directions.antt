@@ -1,6 +1,6 @@
 -- The directives of a module by a database, function by function.
-use Rattle.std.proofs.Common.{◌≡◌, ℕ, Bool, true, false, if◌then◌else◌, List, [], ◌∷◌, map, refl, sym, ap, subst, ◌∙◌, inl, inr}
-use Rattle.std.specs.Prelude.{Contains, All}
+use Rattle.std.proofs.Common.{◌≡◌, ℕ, Bool, true, false, if◌then◌else◌, List, [], ◌∷◌, map, refl, sym, ap, ◌∙◌, inl, inr}
+use Rattle.std.specs.Prelude.{All}
 use Rattle.std.specs.List.{AllByRecursion}
 use Rattle.std.specs.Str.{bytes_eq}
 use Rattle.std.proofs.lemmas.Slice.Eq.{bytes_eq-Decides}
@@ -8,7 +8,7 @@ use Rattle.std.proofs.lemmas.List.Elements.{All-from_recursion}
 use Rattle.pw_files.proofs.Standing.{Has, has_by, contains_by}
 use Rattle.pw_flow.specs.declared.flow.FlowFn.{FlowFn}
 use Rattle.pw_db.specs.declared.database.Directives.{Directives}
-use Rattle.pw_db.specs.Database.{IsDirectives, HasDirectives, empty}
+use Rattle.pw_db.specs.Database.{HasDirectives, empty}
 use Rattle.pw_build_objects.specs.Programs.{DirectivesList}
 use Rattle.pw_run_languages.specs.Direction.{directives_of}
 
@@ -59,13 +59,3 @@ pub entries_are : (db : DirectivesList) →
     (fs : List FlowFn) (ds : DirectivesList) → All (HasDirectives db) ds → map (λ d. d.0) ds ≡ map (λ f. f.name) fs → ds ≡ map (entry_in db) fs
 entries_are db one fs ds all names =
     one ds (map (entry_in db) fs) all (All-from_recursion (HasDirectives db) (map (entry_in db) fs) (each_entry db fs)) (names ∙ sym (entry_names db fs))
-
--- ---- they are lawful, as those of the database
-
-chosen : (b : Bool) (x y : Directives) → IsDirectives x → IsDirectives y → IsDirectives (if b then x else y)
-chosen true x y h k = h
-chosen false x y h k = k
-
-pub are_directives : (db : DirectivesList) → AllByRecursion (λ f. IsDirectives f.1) db → (name : List ℕ) → IsDirectives (directives_of db name)
-are_directives [] all name = record { each = tt; numbers = tt; globals = tt; registers = tt; free = refl }
-are_directives (g ∷ rest) all name = chosen (bytes_eq g.0 name) g.1 (directives_of rest name) all.0 (are_directives rest all.1 name)

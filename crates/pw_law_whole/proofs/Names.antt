@@ -1,9 +1,9 @@
 -- The names of a store's modules have no colon.
-use Rattle.std.proofs.Common.{◌≡◌, ◌≢◌, ◌↔◌, ℕ, Bool, true, false, ◌&&◌, List, [], ◌∷◌, length, Option, Some, None, IsSome, refl, sym, ap, subst, ◌∙◌}
-use Rattle.std.specs.Prelude.{Contains, nat_le}
-use Rattle.std.specs.List.{AllByRecursion, list_all}
+use Rattle.std.proofs.Common.{◌≡◌, ◌↔◌, ℕ, Bool, true, false, ◌&&◌, List, [], ◌∷◌, length, Option, Some, None, IsSome, refl, subst}
+use Rattle.std.specs.Prelude.{nat_le}
+use Rattle.std.specs.List.{list_all}
 use Rattle.std.specs.FinMap as finite
-use Rattle.pw_files.proofs.Standing.{Has, apart, contains_by, each_by}
+use Rattle.pw_files.proofs.Standing.{apart, contains_by, each_by}
 use Rattle.pw_io.specs.Files.{Files}
 use Rattle.pw_io.proofs.FileMaps.{keys-exact}
 use Rattle.pw_store_modules.specs.Limits.{module_name_limit}

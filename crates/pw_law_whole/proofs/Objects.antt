@@ -1,31 +1,24 @@
--- The objects of a full build are those of its functions, with the places that allocation gives.
-use Rattle.std.proofs.Common.{◌≡◌, ℕ, Bool, true, false, List, [], ◌∷◌, ◌++◌, map, Option, Some, None, refl, sym, ap, subst, ◌∙◌}
-use Rattle.std.specs.Prelude.{Contains, All}
-use Rattle.std.specs.List.{AllByRecursion, flat_map}
+-- The objects of a full build: its functions as words, with the places that allocation gives, and what they show.
+use Rattle.std.proofs.Common.{◌≡◌, ℕ, Bool, true, false, List, [], ◌∷◌, ◌++◌, map, Some, None, refl, sym, ap, ◌∙◌}
+use Rattle.std.specs.Prelude.{All}
+use Rattle.std.specs.List.{flat_map}
 use Rattle.std.proofs.lemmas.List.Concat.{flat_map-cons}
-use Rattle.std.proofs.lemmas.List.{map-append}
 use Rattle.pw_flow.specs.declared.flow.FlowFn.{FlowFn}
 use Rattle.pw_flow.specs.declared.flow.FlowGlobal.{FlowGlobal}
 use Rattle.pw_flow.specs.declared.flow.FlowModule.{FlowModule}
-use Rattle.pw_flow.specs.FlowGraph.{function_names}
-use Rattle.pw_flow.specs.ValidFlow.{IsFunction, IsValid}
 use Rattle.pw_db.specs.declared.database.Directives.{Directives}
-use Rattle.pw_db.specs.Database.{IsDirectives, HasDirectives}
-use Rattle.pw_webflow.specs.declared.web.WebFn.{WebFn}
+use Rattle.pw_db.specs.Database.{HasDirectives}
 use Rattle.pw_webflow.specs.Direction.{directed}
 use Rattle.pw_alloc.specs.Allocation.{allocated}
 use Rattle.pw_object.specs.declared.functions.ObjectFn.{ObjectFn}
 use Rattle.pw_object.specs.declared.object.Object.{Object}
-use Rattle.pw_object.specs.Object as object
 use Rattle.pw_phase_two.specs.Phases as phases
 use Rattle.pw_phase_two.specs.Phases.{IsObjectOf, all_compiled}
-use Rattle.pw_build_objects.specs.Programs.{DirectivesList, AreDirectivesIn, IsObjectFrom, IsModuleFrom, AreObjectsFrom}
+use Rattle.pw_build_objects.specs.Programs.{DirectivesList, IsObjectFrom, IsModuleFrom, AreObjectsFrom}
 use Rattle.pw_run_languages.specs.Direction.{directives_of, directed_by}
-use Rattle.pw_run_languages.specs.Serving.{Serves, AllServe}
-use Rattle.pw_run_languages.specs.PlacementLaws.{AllocationServes}
 use Rattle.pw_run_languages.specs.LinkingLaws.{compiled}
 use Rattle.pw_law_layers.specs.Accepting.{Shows, AllShow}
-use Rattle.pw_law_whole.proofs.Directions.{entry_in, entries_are, are_directives}
+use Rattle.pw_law_whole.proofs.Directions.{entry_in, entries_are}
 
 -- ---- code
 
@@ -125,21 +118,3 @@ module _ (db : DirectivesList)
       ∙ ap (λ (fs : List ObjectFn). code_under db flow.functions ++ fs) (code_of_all flows os bs more)
       ∙ sym (code_both db flow.functions (flat_map (λ (m : FlowModule). m.functions) flows))
       ∙ ap (λ (fs : List FlowFn). code_under db fs) (sym (flat_map-cons (λ (m : FlowModule). m.functions) flow flows))
-
--- ---- places
-
-both_all : {X : Type 0} (P : X → Type 0) (xs ys : List X) → AllByRecursion P xs → AllByRecursion P ys → AllByRecursion P (xs ++ ys)
-both_all P [] ys all more = more
-both_all P (x ∷ xs) ys all more = (all.0, both_all P xs ys all.1 more)
-
-pub all_functions : (flows : List FlowModule) → AllByRecursion IsValid flows → AllByRecursion IsFunction (flat_map (λ m. m.functions) flows)
-all_functions [] all = tt
-all_functions (flow ∷ flows) all =
-    subst (λ (fs : List FlowFn). AllByRecursion IsFunction fs) (sym (flat_map-cons (λ (m : FlowModule). m.functions) flow flows))
-    (both_all IsFunction flow.functions (flat_map (λ (m : FlowModule). m.functions) flows) all.0.parts.functions (all_functions flows all.1))
-
--- the places that allocation gives serve all functions
-pub all_serve : AllocationServes → (db : DirectivesList) → AllByRecursion (λ f. IsDirectives f.1) db → (fs : List FlowFn) → AllByRecursion IsFunction fs →
-    AllServe (map (directed_by db) fs) (map allocated (map (directed_by db) fs))
-all_serve serve db lawful [] all = tt
-all_serve serve db lawful (f ∷ fs) all = (serve f (directives_of db f.name) all.0 (are_directives db lawful f.name), all_serve serve db lawful fs all.1)

@@ -1,7 +1,7 @@
 -- The parts of a full build, as those of an analysed program.
-use Rattle.std.proofs.Common.{◌≡◌, ◌≢◌, ◌≤◌, ℕ, true, false, List, [], ◌∷◌, map, refl, sym, ap, subst, ◌∙◌, arith}
-use Rattle.std.specs.Prelude.{Contains, All, Ok}
-use Rattle.std.specs.List.{AllByRecursion, flat_map}
+use Rattle.std.proofs.Common.{◌≡◌, ◌≤◌, ℕ, List, [], ◌∷◌, map, sym, subst, arith}
+use Rattle.std.specs.Prelude.{All, Ok}
+use Rattle.std.specs.List.{AllByRecursion}
 use Rattle.std.specs.FinMap as finite
 use Rattle.pw_value.specs.Limits.{stack_least, stack_limit}
 use Rattle.pw_files.specs.Rising.{IsRising}
@@ -16,20 +16,20 @@ use Rattle.pw_summary.specs.declared.summary.Summary.{Summary}
 use Rattle.pw_summary.specs.Summary.{IsSummary}
 use Rattle.pw_summarise.proofs.LawfulLaws.{lawful}
 use Rattle.pw_colour.specs.Colours.{IsDatabaseOf}
-use Rattle.pw_store_modules.specs.Modules.{Source, Texts}
+use Rattle.pw_store_modules.specs.Modules.{Texts}
 use Rattle.pw_build_objects.specs.Programs.{DirectivesList, AreSummariesOf, Completes, Parts}
-use Rattle.pw_run_languages.specs.PlacementLaws.{AllocationServes}
+use Rattle.pw_law_direction.specs.Laws.{FirstPlacesServe}
 use Rattle.pw_run_languages.specs.LinkingLaws.{frame_in}
 use Rattle.pw_cmean.specs.Worlds.{Program, ProgramModule}
-use Rattle.pw_law_layers.specs.Lowering.{AreChecked}
+use Rattle.pw_law_layers.specs.Lowering.{flow_program, AreChecked}
 use Rattle.pw_law_layers.specs.Accepting.{HasNoColon, AreNamedPlainly, IsWhole}
-use Rattle.pw_law_layers.specs.Whole.{image_of, program_of, FramesFit, AllFramesFit}
+use Rattle.pw_law_layers.specs.Whole.{image_of, FramesFit, AllFramesFit}
 use Rattle.pw_law_analysis.specs.SummaryGraphs.{AllSummarise}
 use Rattle.pw_law_accept.specs.Linked.{AreLinked, AreOfWords}
 use Rattle.pw_law_analysis.specs.AnalyserLaws.{DatabasesServe}
-use Rattle.pw_law_whole.specs.Programs.{AreModulesOf, IsProgramOf, HavePlainNames, IsWholeWith, functions_under}
+use Rattle.pw_law_whole.specs.Programs.{IsProgramOf, HavePlainNames, IsWholeWith, functions_under}
 use Rattle.pw_law_whole.proofs.Texts.{flow_of, names_same, all_checked}
-use Rattle.pw_law_whole.proofs.Objects.{all_show, modules_named, same_globals, code_of_all, all_functions, all_serve}
+use Rattle.pw_law_whole.proofs.Objects.{all_show, modules_named, same_globals, code_of_all}
 
 -- ---- summaries
 
@@ -59,7 +59,7 @@ plain_names texts p plain are m there =
 
 -- ---- together
 
-pub whole_with : AllocationServes →
+pub whole_with : FirstPlacesServe →
     ((ss : List Summary) (colours : ℕ) (d : DirectivesList) → colours ≤ register_count → IsDatabaseOf ss colours d → IsDatabase d) →
     ((db : DirectivesList) → IsDatabase db → (gs hs : DirectivesList) → All (HasDirectives db) gs → All (HasDirectives db) hs → map (λ f. f.0) gs ≡ map (λ f. f.0) hs → gs ≡ hs) →
     ((p : Program) (frame_of : List ℕ → ℕ) (stack : ℕ) → AreChecked p → AreNamedPlainly p → IsRising (map (λ m. m.name) p.modules) → stack ≤ stack_limit →
@@ -88,7 +88,7 @@ whole_with serve databases one accepted texts colours stack parts p (are, linked
         linked = record { each = all_lawful flows has.summaries are.lawful has.of_flows; linked = has.linked };
         few = omega (arith, few);
         database = has.database;
-        serve = all_serve serve db lawful_db.directives (flat_map (λ (m : FlowModule). m.functions) flows) (all_functions flows are.lawful);
+        serve = serve (flow_program p (frame_in (image_of parts.objects stack)) stack) db whole.accepted.program lawful_db;
         made = record {
           modules = modules_named db single flows parts.objects parts.fresh are.objects;
           globals = same_globals db single flows parts.objects parts.fresh are.objects;

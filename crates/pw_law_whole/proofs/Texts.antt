@@ -1,6 +1,6 @@
 -- From texts to the modules of their program, and to its flow graphs.
-use Rattle.std.proofs.Common.{◌≡◌, ◌≢◌, ◌↔◌, ℕ, List, [], ◌∷◌, map, Option, Some, None, refl, sym, ap, subst, ◌∙◌}
-use Rattle.std.specs.Prelude.{Result, Ok, Err, Contains}
+use Rattle.std.proofs.Common.{◌≡◌, ◌↔◌, ℕ, List, [], ◌∷◌, map, Option, Some, None, refl, sym, ap, subst, ◌∙◌}
+use Rattle.std.specs.Prelude.{Result, Ok, Err}
 use Rattle.pw_value.specs.declared.fault.LinkFault.{LinkFault}
 use Rattle.pw_flow.specs.declared.flow.FlowModule.{FlowModule}
 use Rattle.pw_files.proofs.Standing.{Has}
@@ -14,7 +14,7 @@ use Rattle.pw_phase_one.specs.FirstPhase.{Phase, CompilesTo, Compiles, compiled}
 use Rattle.pw_object.specs.declared.object.Object.{Object}
 use Rattle.pw_store_modules.specs.Modules.{Source}
 use Rattle.pw_build_objects.specs.Programs.{Completes, Parts}
-use Rattle.pw_build.specs.Builds.{before_others, flows_of, within, limit_passed, first_phases, BuildsBy, Builds}
+use Rattle.pw_build.specs.Builds.{before_others, flows_of, within, limit_passed, BuildsBy, Builds}
 use Rattle.pw_build.specs.declared.fault.BuildFault.{BuildFault}
 use Rattle.pw_build.specs.declared.fault.BuildFault.TheVariants.{LinkRefused}
 use Rattle.pw_cmean.specs.Worlds.{Program, ProgramModule}

@@ -1,5 +1,5 @@
 -- The program of a full build's texts, and its parts as the layers between C and words see them.
-use Rattle.std.specs.Prelude.{◌≡◌, ℕ, List, [], ◌∷◌, map, Ok}
+use Rattle.std.specs.Prelude.{◌≡◌, ℕ, List, [], ◌∷◌, Ok}
 use Rattle.std.specs.List.{AllByRecursion}
 use Rattle.std.specs.FinMap as finite
 use Rattle.pw_front_end.specs.Fronts.{HasTree}
@@ -7,11 +7,10 @@ use Rattle.pw_tree.specs.Trees.{Module}
 use Rattle.pw_check_rules.specs.Checks.{Checks}
 use Rattle.pw_store_modules.specs.Modules.{Source, Texts}
 use Rattle.pw_alloc.specs.declared.located.Located.{Located}
-use Rattle.pw_alloc.specs.Allocation.{allocated}
 use Rattle.pw_summary.specs.declared.summary.Summary.{Summary}
 use Rattle.pw_build_objects.specs.Programs.{Parts}
-use Rattle.pw_run_languages.specs.Direction.{directed_functions}
 use Rattle.pw_cmean.specs.Worlds.{Program, ProgramModule}
+use Rattle.pw_law_direction.specs.Laws.{first_places}
 use Rattle.pw_law_layers.specs.Accepting.{HasNoColon}
 use Rattle.pw_law_layers.specs.Whole.{program_of}
 use Rattle.pw_law_analysis.specs.OwedLaws.{IsAnalysed}
@@ -42,7 +41,7 @@ HavePlainNames texts = AllByRecursion HasNoColon (finite.keys texts)
 
 -- its functions under the directives of the database, each with the places that the second phase gives
 abbrev pub functions_under : Program → Parts → ℕ → List Located
-functions_under p parts stack = map allocated (directed_functions (program_of p parts.objects stack) parts.database)
+functions_under p parts stack = first_places (program_of p parts.objects stack) parts.database
 
 -- an accepted program, and the parts are what the analyser, allocation and selection make of it
 pub record IsWholeWith (p : Program) (parts : Parts) (colours stack : ℕ) : Type 0 where

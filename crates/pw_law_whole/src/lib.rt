@@ -19,7 +19,7 @@ use pw_db::laws::directives_are_one;
 use pw_front_end::front_is_exact;
 use pw_law_accept::checked_is_accepted_but_for_numbers;
 use pw_law_analysis::databases_serve;
-use pw_law_direction::first_allocation_serves;
+use pw_law_direction::first_places_serve;
 use pw_law_layers::frames_are_within_rooms;
 use pw_phase_one::laws::phase_one_is_exact;
 use pw_store_modules::modules_are_exact;
@@ -51,7 +51,7 @@ pub fn full_builds_are_whole()
     phase_one_is_exact();
     databases_are_lawful();
     directives_are_one();
-    first_allocation_serves();
+    first_places_serve();
     checked_is_accepted_but_for_numbers();
 }
 

@@ -6,7 +6,7 @@ use Rattle.pw_law_whole.proofs.full_builds_are_whole.Goals as goal
 
 pub returns : goal.returns
 returns c = λ texts colours stack parts p built of_texts.
-    whole_with c.first_allocation_serves.ensures c.databases_are_lawful.ensures c.directives_are_one.ensures c.checked_is_accepted_but_for_numbers.ensures
+    whole_with c.first_places_serve.ensures c.databases_are_lawful.ensures c.directives_are_one.ensures c.checked_is_accepted_but_for_numbers.ensures
     texts colours stack parts p
     (completes_with (finite.entries texts) (map flow_of p.modules) colours stack parts
     (flows_are c.phase_one_is_exact.ensures (finite.entries texts) p.modules of_texts) built)
