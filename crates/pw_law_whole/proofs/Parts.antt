@@ -1,5 +1,5 @@
 -- The parts of a full build, as those of an analysed program.
-use Rattle.std.proofs.Common.{◌≡◌, ◌≤◌, ℕ, List, [], ◌∷◌, map, sym, subst, arith}
+use Rattle.std.proofs.Common.{◌≡◌, ◌≤◌, ℕ, List, [], ◌∷◌, map, refl, sym, subst, arith}
 use Rattle.std.specs.Prelude.{All, Ok}
 use Rattle.std.specs.List.{AllByRecursion}
 use Rattle.std.specs.FinMap as finite
@@ -21,13 +21,14 @@ use Rattle.pw_build_objects.specs.Programs.{DirectivesList, AreSummariesOf, Comp
 use Rattle.pw_law_direction.specs.Laws.{FirstPlacesServe}
 use Rattle.pw_run_languages.specs.LinkingLaws.{frame_in}
 use Rattle.pw_cmean.specs.Worlds.{Program, ProgramModule}
-use Rattle.pw_law_layers.specs.Lowering.{flow_program, AreChecked}
+use Rattle.pw_law_layers.specs.Lowering.{flow_program, AreChecked, LoweringKeepsRuns}
 use Rattle.pw_law_layers.specs.Accepting.{HasNoColon, AreNamedPlainly, IsWhole}
-use Rattle.pw_law_layers.specs.Whole.{image_of, FramesFit, AllFramesFit}
+use Rattle.pw_law_layers.specs.Whole.{image_of, FramesFit, AllFramesFit, LoweredImplements}
 use Rattle.pw_law_analysis.specs.SummaryGraphs.{AllSummarise}
 use Rattle.pw_law_accept.specs.Linked.{AreLinked, AreOfWords}
+use Rattle.pw_law_analysis.specs.SummaryLaws.{SummariesSayTheSame}
 use Rattle.pw_law_analysis.specs.AnalyserLaws.{DatabasesServe}
-use Rattle.pw_law_whole.specs.Programs.{IsProgramOf, HavePlainNames, IsWholeWith, functions_under}
+use Rattle.pw_law_whole.specs.Programs.{IsProgramOf, HavePlainNames, IsWholeWith, flows_in, functions_under}
 use Rattle.pw_law_whole.proofs.Texts.{flow_of, names_same, all_checked}
 use Rattle.pw_law_whole.proofs.Objects.{all_show, modules_named, same_globals, code_of_all}
 
@@ -59,14 +60,14 @@ plain_names texts p plain are m there =
 
 -- ---- together
 
-pub whole_with : FirstPlacesServe →
+pub whole_with : LoweringKeepsRuns → LoweredImplements → SummariesSayTheSame → FirstPlacesServe →
     ((ss : List Summary) (colours : ℕ) (d : DirectivesList) → colours ≤ register_count → IsDatabaseOf ss colours d → IsDatabase d) →
     ((db : DirectivesList) → IsDatabase db → (gs hs : DirectivesList) → All (HasDirectives db) gs → All (HasDirectives db) hs → map (λ f. f.0) gs ≡ map (λ f. f.0) hs → gs ≡ hs) →
     ((p : Program) (frame_of : List ℕ → ℕ) (stack : ℕ) → AreChecked p → AreNamedPlainly p → IsRising (map (λ m. m.name) p.modules) → stack ≤ stack_limit →
     AreLinked (map flow_of p.modules) → AreOfWords p → IsWhole p frame_of stack) →
     (texts : Texts) (colours stack : ℕ) (parts : Parts) (p : Program) → Completes (map flow_of p.modules) [] colours stack (Ok parts) → IsProgramOf texts p →
     HavePlainNames texts → AreOfWords p → colours ≤ colour_limit → stack_least ≤ stack → stack ≤ stack_limit → IsWholeWith p parts colours stack
-whole_with serve databases one accepted texts colours stack parts p (are, linked) of_texts plain words few enough room =
+whole_with low implements same serve databases one accepted texts colours stack parts p (are, linked) of_texts plain words few enough room =
     let flows = map flow_of p.modules in
     let db = parts.database in
     let has = are.database in
@@ -76,18 +77,18 @@ whole_with serve databases one accepted texts colours stack parts p (are, linked
     let objects : AreLinked flows = record { objects = parts.objects; show = all_show db single flows parts.objects parts.fresh are.objects; links = linked.program } in
     let whole : IsWhole p (frame_in (image_of parts.objects stack)) stack =
     accepted p (frame_in (image_of parts.objects stack)) stack checked (plain_names texts p plain of_texts) (rise texts p of_texts) room objects words in
+    let summarised : AllSummarise flows has.summaries = all_summarise flows has.summaries has.of_flows in
     record {
       summaries = has.summaries;
       analysed = record {
-        checked = checked;
-        parts = whole.parts;
-        accepted = whole.accepted;
+        implements = implements low p (frame_in (image_of parts.objects stack)) stack checked whole.parts whole.accepted;
+        frames = refl;
         names = whole.names;
         enough = enough;
-        summarised = all_summarise flows has.summaries has.of_flows;
         linked = record { each = all_lawful flows has.summaries are.lawful has.of_flows; linked = has.linked };
         few = omega (arith, few);
         database = has.database;
+        alike = same p (frame_in (image_of parts.objects stack)) stack has.summaries has.database.graph whole.accepted summarised has.database.graph_of;
         serve = serve (flow_program p (frame_in (image_of parts.objects stack)) stack) db whole.accepted.program lawful_db;
         made = record {
           modules = modules_named db single flows parts.objects parts.fresh are.objects;
@@ -103,11 +104,11 @@ whole_with serve databases one accepted texts colours stack parts p (are, linked
 pub frames_fit : DatabasesServe → AllFramesFit → (p : Program) (parts : Parts) (colours stack : ℕ) → IsWholeWith p parts colours stack → FramesFit p (image_of parts.objects stack)
 frames_fit serves fit p parts colours stack whole =
     let built = whole.analysed in
-    let s = serves p (frame_in (image_of parts.objects stack)) stack whole.summaries colours parts.database built.accepted built.summarised built.linked built.few built.database in
-    fit p parts.database (functions_under p parts stack) parts.objects stack (record {
-      checked = built.checked;
-      parts = built.parts;
-      accepted = built.accepted;
+    let q = flows_in p parts stack in
+    let s = serves q whole.summaries colours parts.database built.linked built.few built.database built.alike in
+    fit p q parts.database (functions_under p parts stack) parts.objects (record {
+      implements = built.implements;
+      frames = built.frames;
       names = built.names;
       enough = built.enough;
       database = s.database;

@@ -9,10 +9,13 @@ use Rattle.pw_store_modules.specs.Modules.{Source, Texts}
 use Rattle.pw_alloc.specs.declared.located.Located.{Located}
 use Rattle.pw_summary.specs.declared.summary.Summary.{Summary}
 use Rattle.pw_build_objects.specs.Programs.{Parts}
+use Rattle.pw_run_languages.specs.Programs as flows
+use Rattle.pw_run_languages.specs.LinkingLaws.{frame_in}
 use Rattle.pw_cmean.specs.Worlds.{Program, ProgramModule}
 use Rattle.pw_law_direction.specs.Laws.{first_places}
 use Rattle.pw_law_layers.specs.Accepting.{HasNoColon}
-use Rattle.pw_law_layers.specs.Whole.{program_of}
+use Rattle.pw_law_layers.specs.Lowering.{flow_program}
+use Rattle.pw_law_layers.specs.Whole.{image_of}
 use Rattle.pw_law_analysis.specs.OwedLaws.{IsAnalysed}
 
 -- ---- the program of texts
@@ -39,11 +42,15 @@ HavePlainNames texts = AllByRecursion HasNoColon (finite.keys texts)
 
 -- ---- the parts of its build
 
+-- its lowered flow graphs, with the frames of its image
+abbrev pub flows_in : Program → Parts → ℕ → flows.Program
+flows_in p parts stack = flow_program p (frame_in (image_of parts.objects stack)) stack
+
 -- its functions under the directives of the database, each with the places that the second phase gives
 abbrev pub functions_under : Program → Parts → ℕ → List Located
-functions_under p parts stack = first_places (program_of p parts.objects stack) parts.database
+functions_under p parts stack = first_places (flows_in p parts stack) parts.database
 
--- an accepted program, and the parts are what the analyser, allocation and selection make of it
+-- the flow graphs implement the program, and the parts are what the analyser, allocation and selection make of them
 pub record IsWholeWith (p : Program) (parts : Parts) (colours stack : ℕ) : Type 0 where
   pub summaries : List Summary
-  pub analysed : IsAnalysed p summaries colours parts.database (functions_under p parts stack) parts.objects stack
+  pub analysed : IsAnalysed p (flows_in p parts stack) summaries colours parts.database (functions_under p parts stack) parts.objects
