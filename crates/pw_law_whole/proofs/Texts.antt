@@ -1,5 +1,5 @@
 -- From texts to the modules of their program, and to its flow graphs.
-use Rattle.std.proofs.Common.{◌≡◌, ◌↔◌, ℕ, List, [], ◌∷◌, map, Option, Some, None, refl, sym, ap, subst, ◌∙◌}
+use Rattle.std.proofs.Common.{◌≡◌, ◌↔◌, ℕ, List, [], ◌∷◌, map, Option, Some, None, refl, sym, ap, subst, ◌∙◌, inl, inr}
 use Rattle.std.specs.Prelude.{Result, Ok, Err}
 use Rattle.pw_value.specs.declared.fault.LinkFault.{LinkFault}
 use Rattle.pw_flow.specs.declared.flow.FlowModule.{FlowModule}
@@ -120,7 +120,7 @@ module _ (exact : (name text : List ℕ) (answer : Phase) → Compiles name text
       let comes : CompilesTo source.0 source.1 p.flow = (exact source.0 source.1 (Ok p.flow)).1 (sym p.first) in
       let behind = modules_from sources p.rest p.more in
       let m : ProgramModule = record { name = source.0; tree = comes.typed } in
-      (m ∷ behind.0, record { name = refl; tree = comes.tree; has_tree = comes.has_tree; checks = comes.checks }, behind.1)
+      (m ∷ behind.0, (record { name = refl; tree = comes.tree; has_tree = comes.has_tree; checks = comes.checks }, behind.1))
 
 -- ---- the build
 

@@ -1,3 +1,4 @@
+use Rattle.std.specs.Prelude.{[]}
 use Rattle.std.specs.FinMap as finite
 use Rattle.pw_build.specs.Builds.{flows_of, limit_passed}
 use Rattle.pw_law_whole.proofs.Texts.{flows_within, modules_from, one_program}
