@@ -11,7 +11,6 @@ ghost use Rattle.pw_build.specs.Builds.{FullBuild};
 ghost use Rattle.pw_cmean.specs.Worlds.{Program};
 ghost use Rattle.pw_law_layers.specs.Lowering.{LoweringKeepsRuns};
 ghost use Rattle.pw_law_layers.specs.Whole.{FramesFit, image_of};
-ghost use Rattle.pw_law_accept.specs.Linked.{AreOfWords};
 ghost use Rattle.pw_law_whole.specs.Programs.{HavePlainNames, IsProgramOf, IsWholeWith};
 
 use pw_check_rules::checks_is_exact;
@@ -20,8 +19,10 @@ use pw_db::laws::directives_are_one;
 use pw_front_end::front_is_exact;
 use pw_law_accept::checked_is_accepted_but_for_numbers;
 use pw_law_analysis::{databases_serve, summaries_say_the_same};
+use pw_law_checked::strings_of_texts;
 use pw_law_direction::first_places_serve;
 use pw_law_layers::{frames_are_within_rooms, lowering_implements};
+use pw_law_words::accepted_numbers_are_words;
 use pw_phase_one::laws::phase_one_is_exact;
 use pw_store_modules::modules_are_exact;
 
@@ -44,10 +45,10 @@ pub fn modules_of_files_have_plain_names()
 
 /// The parts of a full build are those of its texts' program: it is accepted in the words of C's meaning; the database is the
 /// one that the analyser makes of its summaries; the places that allocation gives serve its functions; and the objects are made
-/// of these, and fit into the memory. What are premises here: the law of lowering, and that the numbers of the typed trees are of 32 bits.
+/// of these, and fit into the memory. The law of lowering is a premise.
 pub fn full_builds_are_whole()
     ensures { LoweringKeepsRuns → (texts : Texts) (colours stack : ℕ) (parts : Parts) (p : Program) → FullBuild texts colours stack (Ok parts) → IsProgramOf texts p →
-        HavePlainNames texts → AreOfWords p → colours ≤ colour_limit → stack_least ≤ stack → stack ≤ stack_limit → IsWholeWith p parts colours stack }
+        HavePlainNames texts → colours ≤ colour_limit → stack_least ≤ stack → stack ≤ stack_limit → IsWholeWith p parts colours stack }
 {
     phase_one_is_exact();
     databases_are_lawful();
@@ -55,13 +56,15 @@ pub fn full_builds_are_whole()
     first_places_serve();
     lowering_implements();
     summaries_say_the_same();
+    strings_of_texts();
+    accepted_numbers_are_words();
     checked_is_accepted_but_for_numbers();
 }
 
 /// So each frame of the map of its image is at most the room of its function.
 pub fn frames_of_full_builds_fit()
     ensures { LoweringKeepsRuns → (texts : Texts) (colours stack : ℕ) (parts : Parts) (p : Program) → FullBuild texts colours stack (Ok parts) → IsProgramOf texts p →
-        HavePlainNames texts → AreOfWords p → colours ≤ colour_limit → stack_least ≤ stack → stack ≤ stack_limit → FramesFit p (image_of parts.objects stack) }
+        HavePlainNames texts → colours ≤ colour_limit → stack_least ≤ stack → stack ≤ stack_limit → FramesFit p (image_of parts.objects stack) }
 {
     full_builds_are_whole();
     databases_serve();
