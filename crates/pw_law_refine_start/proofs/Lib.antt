@@ -1,6 +1,7 @@
 mod Lists
 mod Functions
 mod Named
+mod Numbers
 mod Bytes
 mod Pairs
 mod Objects

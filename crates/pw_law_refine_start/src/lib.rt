@@ -5,7 +5,7 @@ ghost use Rattle.std.specs.Prelude.{◌≡◌, ◌<◌, ◌≤◌, ℕ, List, []
 ghost use Rattle.pw_value.specs.Limits.{size_limit};
 ghost use Rattle.pw_value.specs.ProgramNames.{main_name};
 ghost use Rattle.pw_value.specs.Objects.{Object};
-ghost use Rattle.pw_cmean.specs.Worlds.{World, Callable, function_number, function_named, global_number, start_objects};
+ghost use Rattle.pw_cmean.specs.Worlds.{World, Callable, function_number, function_named, function_at, global_number, start_objects};
 ghost use Rattle.pw_cmean.specs.Typed.{IsByte};
 ghost use Rattle.pw_run_languages.specs.Programs as flows;
 ghost use Rattle.pw_run_languages.specs.FlowRun.{On, start};
@@ -29,10 +29,12 @@ pub fn names_have_one_number()
 {}
 
 /// What a name calls is found by both runs alike: a function of the library, or one of a module with its flow graph, which has
-/// its shape.
+/// its shape; and by a number both find a function of the same name.
 pub fn functions_are_found()
-    ensures { (world : World) (name : List ℕ) (f : Callable) → IsLowerableWorld world → function_named world.program name ≡ Some f →
+    ensures names { (world : World) (name : List ℕ) (f : Callable) → IsLowerableWorld world → function_named world.program name ≡ Some f →
         IsFoundAs world name f }
+    ensures numbers { (world : World) (n : ℕ) (f : Callable) → IsLowerableWorld world → function_at world.program n ≡ Some f →
+        flows.function_at (graphs world) n ≡ Some f.name }
 {}
 
 /// The objects at the start: each stands in the object of its own number, has the bytes that stand for its own there,
