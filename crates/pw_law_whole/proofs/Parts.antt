@@ -77,14 +77,14 @@ of_words strings numbers p checked m there =
 
 -- ---- together
 
-pub whole_with : LoweringKeepsRuns → LoweredImplements → SummariesSayTheSame → FirstPlacesServe →
+pub whole_with : LoweredImplements → SummariesSayTheSame → FirstPlacesServe →
     ((ss : List Summary) (colours : ℕ) (d : DirectivesList) → colours ≤ register_count → IsDatabaseOf ss colours d → IsDatabase d) →
     ((db : DirectivesList) → IsDatabase db → (gs hs : DirectivesList) → All (HasDirectives db) gs → All (HasDirectives db) hs → map (λ f. f.0) gs ≡ map (λ f. f.0) hs → gs ≡ hs) →
     ((p : Program) (frame_of : List ℕ → ℕ) (stack : ℕ) → AreChecked p → AreNamedPlainly p → IsRising (map (λ m. m.name) p.modules) → stack ≤ stack_limit →
     AreLinked (map flow_of p.modules) → AreOfWords p → IsWhole p frame_of stack) → ((p : Program) → AreChecked p → AreOfWords p) →
     (texts : Texts) (colours stack : ℕ) (parts : Parts) (p : Program) → Completes (map flow_of p.modules) [] colours stack (Ok parts) → IsProgramOf texts p →
     HavePlainNames texts → colours ≤ colour_limit → stack_least ≤ stack → stack ≤ stack_limit → IsWholeWith p parts colours stack
-whole_with low implements same serve databases one accepted words texts colours stack parts p (are, linked) of_texts plain few enough room =
+whole_with implements same serve databases one accepted words texts colours stack parts p (are, linked) of_texts plain few enough room =
     let flows = map flow_of p.modules in
     let db = parts.database in
     let has = are.database in
@@ -96,8 +96,10 @@ whole_with low implements same serve databases one accepted words texts colours 
     accepted p (frame_in (image_of parts.objects stack)) stack checked (plain_names texts p plain of_texts) (rise texts p of_texts) room objects (words p checked) in
     let summarised : AllSummarise flows has.summaries = all_summarise flows has.summaries has.of_flows in
     record {
+      checked = checked;
+      whole = whole;
       summaries = has.summaries;
-      analysed = record {
+      analysed = λ low. record {
         implements = implements low p (frame_in (image_of parts.objects stack)) stack checked whole.parts whole.accepted;
         frames = refl;
         names = whole.names;
@@ -118,9 +120,9 @@ whole_with low implements same serve databases one accepted words texts colours 
 
 -- ---- frames
 
-pub frames_fit : DatabasesServe → AllFramesFit → (p : Program) (parts : Parts) (colours stack : ℕ) → IsWholeWith p parts colours stack → FramesFit p (image_of parts.objects stack)
-frames_fit serves fit p parts colours stack whole =
-    let built = whole.analysed in
+pub frames_fit : DatabasesServe → AllFramesFit → LoweringKeepsRuns → (p : Program) (parts : Parts) (colours stack : ℕ) → IsWholeWith p parts colours stack → FramesFit p (image_of parts.objects stack)
+frames_fit serves fit low p parts colours stack whole =
+    let built = whole.analysed low in
     let q = flows_in p parts stack in
     let s = serves q whole.summaries colours parts.database built.linked built.few built.database built.alike in
     fit p q parts.database (functions_under p parts stack) parts.objects (record {

@@ -43,11 +43,11 @@ pub fn modules_of_files_have_plain_names()
     modules_are_exact();
 }
 
-/// The parts of a full build are those of its texts' program: it is accepted in the words of C's meaning; the database is the
-/// one that the analyser makes of its summaries; the places that allocation gives serve its functions; and the objects are made
-/// of these, and fit into the memory. The law of lowering is a premise.
+/// The parts of a full build are those of its texts' program, which is accepted in the words of C's meaning. By the law of lowering
+/// its flow graphs do what it means; the database is the one that the analyser makes of their summaries; the places that allocation
+/// gives serve their functions; and the objects are made of these, and fit into the memory.
 pub fn full_builds_are_whole()
-    ensures { LoweringKeepsRuns → (texts : Texts) (colours stack : ℕ) (parts : Parts) (p : Program) → FullBuild texts colours stack (Ok parts) → IsProgramOf texts p →
+    ensures { (texts : Texts) (colours stack : ℕ) (parts : Parts) (p : Program) → FullBuild texts colours stack (Ok parts) → IsProgramOf texts p →
         HavePlainNames texts → colours ≤ colour_limit → stack_least ≤ stack → stack ≤ stack_limit → IsWholeWith p parts colours stack }
 {
     phase_one_is_exact();
@@ -61,7 +61,7 @@ pub fn full_builds_are_whole()
     checked_is_accepted_but_for_numbers();
 }
 
-/// So each frame of the map of its image is at most the room of its function.
+/// So, by the law of lowering, each frame of the map of its image is at most the room of its function.
 pub fn frames_of_full_builds_fit()
     ensures { LoweringKeepsRuns → (texts : Texts) (colours stack : ℕ) (parts : Parts) (p : Program) → FullBuild texts colours stack (Ok parts) → IsProgramOf texts p →
         HavePlainNames texts → colours ≤ colour_limit → stack_least ≤ stack → stack ≤ stack_limit → FramesFit p (image_of parts.objects stack) }
