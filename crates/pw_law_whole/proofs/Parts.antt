@@ -22,18 +22,9 @@ use Rattle.pw_law_direction.specs.Laws.{FirstPlacesServe}
 use Rattle.pw_run_languages.specs.LinkingLaws.{frame_in}
 use Rattle.pw_cmean.specs.Worlds.{Program, ProgramModule}
 use Rattle.pw_law_layers.specs.Lowering.{flow_program, AreChecked, LoweringKeepsRuns}
-use Rattle.pw_law_layers.specs.Accepting.{HasNoColon, AreNamedPlainly, IsWhole}
+use Rattle.pw_law_layers.specs.Accepting.{HasNoColon, AreNamedPlainly, CheckedIsAccepted, IsWhole}
 use Rattle.pw_law_layers.specs.Whole.{image_of, FramesFit, AllFramesFit, LoweredImplements}
 use Rattle.pw_law_analysis.specs.SummaryGraphs.{AllSummarise}
-use Rattle.pw_token.specs.declared.token.Token.{Token}
-use Rattle.pw_token.specs.Tokenization.{IsLexed}
-use Rattle.pw_tree.specs.Grammar.{IsTreeOf, spelled_all}
-use Rattle.pw_tree.specs.Trees.{Module}
-use Rattle.pw_types.specs.TypedTrees.{ModuleValue}
-use Rattle.pw_check_rules.specs.Checks.{Checks}
-use Rattle.pw_law_checked.specs.Names.{HasShortStrings}
-use Rattle.pw_law_checked.specs.Words.{AreWordsInModule}
-use Rattle.pw_law_accept.specs.Linked.{AreLinked, AreOfWords}
 use Rattle.pw_law_analysis.specs.SummaryLaws.{SummariesSayTheSame}
 use Rattle.pw_law_analysis.specs.AnalyserLaws.{DatabasesServe}
 use Rattle.pw_law_whole.specs.Programs.{IsProgramOf, HavePlainNames, IsWholeWith, flows_in, functions_under}
@@ -66,34 +57,23 @@ plain_names texts p plain are m there =
     (subst (λ (names : List (List ℕ)). Has m.name names) (names_same (finite.entries texts) p.modules are)
     (has_map (λ (n : ProgramModule). n.name) m p.modules (has_by m p.modules there)))
 
--- ---- numbers
-
-pub of_words : ((text : List ℕ) (tokens : List Token) (tree : Module) → IsLexed text tokens → IsTreeOf (spelled_all text tokens) tree → HasShortStrings tree) →
-    ((tree : Module) (m : ModuleValue) → HasShortStrings tree → Checks tree (Ok m) → AreWordsInModule m) →
-    (p : Program) → AreChecked p → AreOfWords p
-of_words strings numbers p checked m there =
-    let is = checked m there in
-    numbers is.syntax m.tree (strings is.text is.tokens is.syntax is.lexed is.parsed) is.is
-
 -- ---- together
 
 pub whole_with : LoweredImplements → SummariesSayTheSame → FirstPlacesServe →
     ((ss : List Summary) (colours : ℕ) (d : DirectivesList) → colours ≤ register_count → IsDatabaseOf ss colours d → IsDatabase d) →
     ((db : DirectivesList) → IsDatabase db → (gs hs : DirectivesList) → All (HasDirectives db) gs → All (HasDirectives db) hs → map (λ f. f.0) gs ≡ map (λ f. f.0) hs → gs ≡ hs) →
-    ((p : Program) (frame_of : List ℕ → ℕ) (stack : ℕ) → AreChecked p → AreNamedPlainly p → IsRising (map (λ m. m.name) p.modules) → stack ≤ stack_limit →
-    AreLinked (map flow_of p.modules) → AreOfWords p → IsWhole p frame_of stack) → ((p : Program) → AreChecked p → AreOfWords p) →
+    CheckedIsAccepted →
     (texts : Texts) (colours stack : ℕ) (parts : Parts) (p : Program) → Completes (map flow_of p.modules) [] colours stack (Ok parts) → IsProgramOf texts p →
     HavePlainNames texts → colours ≤ colour_limit → stack_least ≤ stack → stack ≤ stack_limit → IsWholeWith p parts colours stack
-whole_with implements same serve databases one accepted words texts colours stack parts p (are, linked) of_texts plain few enough room =
+whole_with implements same serve databases one accepted texts colours stack parts p (are, linked) of_texts plain few enough room =
     let flows = map flow_of p.modules in
     let db = parts.database in
     let has = are.database in
     let lawful_db : IsDatabase db = databases has.summaries colours db (omega (arith, few)) has.database in
     let single = one db lawful_db in
     let checked : AreChecked p = λ m there. all_checked (finite.entries texts) p.modules of_texts m (has_by m p.modules there) in
-    let objects : AreLinked flows = record { objects = parts.objects; show = all_show db single flows parts.objects parts.fresh are.objects; links = linked.program } in
     let whole : IsWhole p (frame_in (image_of parts.objects stack)) stack =
-    accepted p (frame_in (image_of parts.objects stack)) stack checked (plain_names texts p plain of_texts) (rise texts p of_texts) room objects (words p checked) in
+    accepted p (frame_in (image_of parts.objects stack)) stack parts.objects checked (plain_names texts p plain of_texts) (rise texts p of_texts) room (all_show db single flows parts.objects parts.fresh are.objects) linked.program in
     let summarised : AllSummarise flows has.summaries = all_summarise flows has.summaries has.of_flows in
     record {
       checked = checked;

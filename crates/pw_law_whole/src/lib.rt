@@ -17,12 +17,10 @@ use pw_check_rules::checks_is_exact;
 use pw_colour::laws::databases_are_lawful;
 use pw_db::laws::directives_are_one;
 use pw_front_end::front_is_exact;
-use pw_law_accept::checked_is_accepted_but_for_numbers;
+use pw_law_accept::checked_is_accepted;
 use pw_law_analysis::{databases_serve, summaries_say_the_same};
-use pw_law_checked::strings_of_texts;
 use pw_law_direction::first_places_serve;
 use pw_law_layers::{frames_are_within_rooms, lowering_implements};
-use pw_law_words::accepted_numbers_are_words;
 use pw_phase_one::laws::phase_one_is_exact;
 use pw_store_modules::modules_are_exact;
 
@@ -56,9 +54,7 @@ pub fn full_builds_are_whole()
     first_places_serve();
     lowering_implements();
     summaries_say_the_same();
-    strings_of_texts();
-    accepted_numbers_are_words();
-    checked_is_accepted_but_for_numbers();
+    checked_is_accepted();
 }
 
 /// So, by the law of lowering, each frame of the map of its image is at most the room of its function.
