@@ -49,17 +49,17 @@ fixed_no_call (i.Bl disp t n) kind.Im14 s a takes = absurd takes
 fixed_no_call (i.Bl disp t n) kind.Bl s a takes = absurd takes
 fixed_no_call x k s n takes = tt
 
-row_no_call : (l : Line) → IsRow Anything l → HasNoCall l
+row_no_call : (l : Line) → IsRow Anything Anything l → HasNoCall l
 row_no_call (Plain x) h = h
 row_no_call (Fixed x k s n) h = fixed_no_call x k s n h.0
 row_no_call l h = tt
 
 pub selected_no_call : (f : Located) → AllByRecursion HasNoCall (selected f)
-selected_no_call f = each_selected Anything HasNoCall row_no_call (λ (b : ℕ). tt) f (anything f)
+selected_no_call f = each_selected Anything Anything HasNoCall row_no_call (λ (b : ℕ). tt) f (anything f)
 
 -- ---- ready for words
 
-row_ready : (l : Line) → IsRow Anything l → IsLine l → IsReady l
+row_ready : (l : Line) → IsRow Anything Anything l → IsLine l → IsReady l
 row_ready (Plain x) h l = l
 row_ready (Fixed x k s n) h l = (l, takes_some k x h.0, addressed_of s h.1)
 row_ready (Jump b) h l = tt
@@ -82,7 +82,7 @@ lines_ready (x ∷ rest) h l = (h.0 l.0, lines_ready rest h.1 l.1)
 
 -- ---- where blocks begin
 
-inside_labels : (xs ys : List Line) → AreRows Anything xs → labels (xs ++ ys) ≡ labels ys
+inside_labels : (xs ys : List Line) → AreRows Anything Anything xs → labels (xs ++ ys) ≡ labels ys
 inside_labels [] ys h = refl
 inside_labels (Plain x ∷ xs) ys h = inside_labels xs ys h.1
 inside_labels (Fixed x k s n ∷ xs) ys h = inside_labels xs ys h.1
@@ -98,13 +98,13 @@ numbers : ℕ → List WebBlock → List ℕ
 numbers n [] = []
 numbers n (b ∷ rest) = n ∷ numbers (n + 1) rest
 
-block_labels : (f : Located) (slots : List ℤ) → AllByRecursion (KnowsWeb Anything) f.body.directives.webs → (n : ℕ) (blocks : List WebBlock) → AllByRecursion (KnowsBlock Anything) blocks
+block_labels : (f : Located) (slots : List ℤ) → AllByRecursion (KnowsWeb Anything) f.body.directives.webs → (n : ℕ) (blocks : List WebBlock) → AllByRecursion (KnowsBlock Anything Anything) blocks
     → labels (blocks_lines f slots n blocks) ≡ numbers n blocks
 unfolding numbers
 block_labels f slots webs n [] own_names = refl
 block_labels f slots webs n (b ∷ rest) own_names =
     let own = flat_map (web_op_lines (layout f.places slots)) b.ops ++ end_lines f b.end in
-    ap (λ (bs : List ℕ). n ∷ bs) (inside_labels own (blocks_lines f slots (n + 1) rest) (block_rows Anything f slots webs b own_names.0) ∙ block_labels f slots webs (n + 1) rest own_names.1)
+    ap (λ (bs : List ℕ). n ∷ bs) (inside_labels own (blocks_lines f slots (n + 1) rest) (block_rows Anything Anything f slots webs b own_names.0) ∙ block_labels f slots webs (n + 1) rest own_names.1)
 
 numbers_above : (n m : ℕ) (blocks : List WebBlock) → n < m → AllByRecursion (λ c. n ≢ c) (numbers m blocks)
 unfolding numbers
@@ -120,13 +120,13 @@ selected_apart : (f : Located) → labels (selected f) ≡ numbers 0 f.body.bloc
 unfolding selected
 selected_apart f =
     let known = anything f in
-    inside_labels (prologue f) (blocks_lines f (slot_offsets f) 0 f.body.blocks) (prologue_rows Anything f known.webs)
+    inside_labels (prologue f) (blocks_lines f (slot_offsets f) 0 f.body.blocks) (prologue_rows Anything Anything f known.webs)
     ∙ block_labels f (slot_offsets f) known.webs 0 f.body.blocks known.blocks
 
 pub ready_by : (f : Located) → AreLines (selected f) → AreReady (selected f)
 ready_by f lines =
     record {
-      each = lines_ready (selected f) (each_selected Anything IsReadyLine row_ready (λ (b : ℕ) l. tt) f (anything f)) lines;
+      each = lines_ready (selected f) (each_selected Anything Anything IsReadyLine row_ready (λ (b : ℕ) l. tt) f (anything f)) lines;
       labels = subst AreApart (sym (selected_apart f)) (numbers_apart 0 f.body.blocks);
     }
 
