@@ -1,0 +1,3 @@
+pub mod Straight
+pub mod Making
+pub mod Frames
