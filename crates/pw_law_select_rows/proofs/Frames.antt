@@ -1,27 +1,23 @@
 -- Words of the frame, near and far.
-use Rattle.std.proofs.Common.{ℕ, ℤ, zero, suc, ◌≡◌, ◌≢◌, ◌+◌, ◌*◌, ◌/◌, ◌%◌, ◌^◌, ◌<◌, ◌≤◌, refl, ap, sym, subst, ◌∙◌, arith, Bool, true, false, true≢false, ◌&&◌, if◌then◌else◌, Option, Some, None, List, [], ◌∷◌, ◌++◌}
-use Rattle.std.specs.Prelude.{pos, negsuc, ◌==◌, nat_lt, nat_le, Contains}
-use Rattle.std.specs.Int.{w32, cast_signed, cast_unsigned}
+use Rattle.std.proofs.Common.{ℕ, ℤ, ◌≡◌, ◌≢◌, ◌+◌, ◌*◌, ◌%◌, ◌^◌, refl, ap, subst, ◌∙◌, arith, Bool, true, false, ◌&&◌, if◌then◌else◌, Some, None, List, [], ◌∷◌, ◌++◌}
+use Rattle.std.specs.Prelude.{pos, nat_lt, Contains}
 use Rattle.std.proofs.lemmas.Bool.{le-ltb}
 use Rattle.std.proofs.lemmas.Int.{ints}
 use Rattle.pw_flow.specs.declared.flow.FlowGlobal.{FlowGlobal}
-use Rattle.pw_inst.specs.declared.Inst.{Inst}
 use Rattle.pw_inst.specs.declared.Inst.TheVariants.{Ldil, Ldo, Ldw, Stw, Addl}
 use Rattle.pw_inst.specs.Computing.{offset_by}
 use Rattle.pw_inst.specs.Setting.{left_part, right_part}
 use Rattle.pw_inst.specs.Registers.{help, stack_pointer}
-use Rattle.pw_inst.specs.declared.line.Line.{Line}
-use Rattle.pw_inst.specs.declared.line.Line.TheVariants as line
 use Rattle.pw_delay.specs.declared.items.Word.{Word}
 use Rattle.pw_delay.specs.Items.{bare}
 use Rattle.pw_run_languages.specs.Traces.{Event, touches}
 use Rattle.pw_run_languages.specs.Programs.{globals_of}
 use Rattle.pw_run_languages.specs.Addresses.{Addresses}
-use Rattle.pw_run_languages.specs.Acts.{Core, Act, Acts, Full, Fails, acts, executed, register, with_register, settled, number_at, with_number, is_open, loads, stores}
+use Rattle.pw_run_languages.specs.Acts.{Core, Act, Acts, Fails, acts, register, with_register, number_at, with_number, is_open, loads, stores}
 use Rattle.pw_run_languages.specs.LineRun.{LineProgram, accesses}
 use Rattle.pw_select_lines.specs.Registers.{Reach, word, long_constant, as_word, is_near, load_from, store_to}
 use Rattle.pw_law_select_rows.specs.Straight.{act_then, ran, noted_by, noted, words_of}
-use Rattle.pw_law_select_rows.specs.Making.{Puts, Makes}
+use Rattle.pw_law_select_rows.specs.Making.{Makes}
 use Rattle.pw_law_select_rows.specs.Frames.{frame_word, IsFrameWord, LoadsWord, StoresWord}
 use Rattle.pw_law_select_rows.proofs.Straight.{joined, noted_joined}
 use Rattle.pw_law_select_rows.proofs.Making.{IsPut, puts_word, word_acts, untouched_noted, more_makes, one_makes}

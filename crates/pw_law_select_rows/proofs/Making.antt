@@ -1,8 +1,8 @@
 -- Constants and addresses in registers.
-use Rattle.std.proofs.Common.{ℕ, ℤ, zero, suc, ◌≡◌, ◌≢◌, ◌+◌, ◌*◌, ◌/◌, ◌%◌, ◌^◌, ◌<◌, refl, ap, sym, subst, ◌∙◌, arith, Bool, true, false, true≢false, ◌&&◌, if◌then◌else◌, Option, Some, None, List, [], ◌∷◌, ◌++◌, length}
+use Rattle.std.proofs.Common.{ℕ, ℤ, suc, ◌≡◌, ◌≢◌, ◌+◌, ◌*◌, ◌%◌, ◌^◌, ◌<◌, refl, ap, ◌∙◌, arith, Bool, true, false, true≢false, ◌&&◌, if◌then◌else◌, Option, Some, None, List, [], ◌∷◌, ◌++◌}
 use Rattle.std.specs.Prelude.{pos, ◌==◌, nat_lt, count_by, Contains}
 use Rattle.std.specs.Str.{bytes_eq}
-use Rattle.std.specs.Int.{w32, cast_signed, cast_unsigned}
+use Rattle.std.specs.Int.{w32, cast_signed}
 use Rattle.std.specs.List.{flat_map}
 use Rattle.std.proofs.lemmas.Bool.{ne_eqb, eq-eqb}
 use Rattle.std.proofs.lemmas.Int.{ints, of_z-to_z}
@@ -19,7 +19,7 @@ use Rattle.pw_flow.specs.declared.flow.FlowGlobal.{FlowGlobal}
 use Rattle.pw_run_languages.specs.Traces.{Event, Loaded, Stored, touches}
 use Rattle.pw_run_languages.specs.Programs.{globals_of}
 use Rattle.pw_run_languages.specs.Addresses.{Addresses}
-use Rattle.pw_run_languages.specs.Acts.{Core, Act, Acts, Full, Fails, acts, executed, register, put, with_register, with_address, settled, symbol_address, loaded_at, stored_at}
+use Rattle.pw_run_languages.specs.Acts.{Core, Act, Acts, acts, executed, register, put, with_register, with_address, settled, symbol_address, loaded_at, stored_at}
 use Rattle.pw_run_languages.specs.LineRun.{LineProgram, accesses}
 use Rattle.pw_select_lines.specs.Registers.{word, constant, long_constant, address_of, is_near}
 use Rattle.pw_law_select_rows.specs.Straight.{act_then, ran, noted_by, noted, words_of}

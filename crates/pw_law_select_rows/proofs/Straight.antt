@@ -1,5 +1,5 @@
 -- Straight words: what they do together, and the run of lines through them.
-use Rattle.std.proofs.Common.{ℕ, zero, suc, ◌≡◌, refl, ap, sym, subst, ◌∙◌, Option, Some, None, List, [], ◌∷◌, ◌++◌, map, length}
+use Rattle.std.proofs.Common.{ℕ, suc, ◌≡◌, refl, ap, ◌∙◌, Some, List, [], ◌∷◌, ◌++◌, map, length}
 use Rattle.std.specs.List.{AllByRecursion}
 use Rattle.pw_inst.specs.declared.Inst.{Inst}
 use Rattle.pw_inst.specs.declared.Inst.TheVariants as i
@@ -12,7 +12,7 @@ use Rattle.pw_delay.specs.Items.{bare, slotted, plain_item}
 use Rattle.pw_run_languages.specs.Traces.{Event}
 use Rattle.pw_run_languages.specs.Addresses.{Addresses}
 use Rattle.pw_run_languages.specs.Acts.{Core, Act, Acts, Full, Fails, acts, settled}
-use Rattle.pw_run_languages.specs.LineRun.{LineProgram, Machine, Step, On, Stopped, Astray, accesses, left_behind, went_on, does, and_then, step, steps}
+use Rattle.pw_run_languages.specs.LineRun.{LineProgram, Machine, On, accesses, left_behind, went_on, does, step, steps}
 use Rattle.pw_law_select_rows.specs.Straight.{act_then, ran, noted_by, noted, IsStraight, words_of, behind_words}
 
 pub joined : (w : Addresses) (xs ys : List Word) (c : Core) → ran w (xs ++ ys) c ≡ act_then (ran w xs c) (ran w ys)

@@ -1,5 +1,5 @@
 -- Rows that make a word in a register: constants and addresses.
-use Rattle.std.specs.Prelude.{ℕ, false, ◌≡◌, ◌≢◌, ◌+◌, ◌%◌, ◌^◌, ◌<◌, Option, Some, None, List, []}
+use Rattle.std.specs.Prelude.{ℕ, false, ◌≡◌, ◌≢◌, ◌+◌, ◌%◌, ◌^◌, ◌<◌, Some, None, List, []}
 use Rattle.pw_inst.specs.declared.Inst.{Inst}
 use Rattle.pw_inst.specs.declared.relocation.Symbol.{Symbol}
 use Rattle.pw_delay.specs.declared.items.Word.{Word}
