@@ -5,6 +5,7 @@
 ghost use Rattle.pw_law_select_rows.specs.Straight.{JoinedWordsAct, JoinedWordsNote, StraightWordsRun, StraightLinesAreWords};
 ghost use Rattle.pw_law_select_rows.specs.Frames.{FrameWordsAreLoaded, FrameWordsAreStored};
 ghost use Rattle.pw_law_select_rows.specs.Making.{NothingIsNoted, ConstantsAreMade, AddressesAreMade};
+ghost use Rattle.pw_law_select_rows.specs.Places.{OperandsAreLoaded};
 
 /// Words of two rows act and note as those of the first and then those of the second. The run of lines goes through straight words as
 /// they act, and notes what they access; straight lines are items of such words.
@@ -28,4 +29,9 @@ pub fn words_are_made()
 pub fn frame_words_move()
     ensures loaded { FrameWordsAreLoaded }
     ensures stored { FrameWordsAreStored }
+{}
+
+/// An operand is in its own register, or its word of the frame comes to the register that is given for it.
+pub fn operands_are_loaded()
+    ensures { OperandsAreLoaded }
 {}
