@@ -5,7 +5,7 @@ use Rattle.pw_alloc.specs.declared.located.Place.TheVariants.{Slot, Reg}
 use Rattle.pw_run_languages.specs.Addresses.{Addresses}
 use Rattle.pw_run_languages.specs.Acts.{Core, register, number_at}
 use Rattle.pw_run_languages.specs.LineRun.{LineProgram}
-use Rattle.pw_select_lines.specs.Registers.{operand_register, operand_lines}
+use Rattle.pw_select_lines.specs.Registers.{operand_register, operand_lines, loaded}
 use Rattle.pw_law_select_rows.specs.Straight.{words_of}
 use Rattle.pw_law_select_rows.specs.Frames.{frame_word, IsFrameWord, LoadsWord}
 
@@ -24,3 +24,9 @@ abbrev pub OperandsAreLoaded : Type 0
 OperandsAreLoaded =
     (p : LineProgram) (w : Addresses) (a : Place) (other : ℕ) (c : Core) → other ≢ 0 → c.skip ≡ false → IsInReach p w c a
     → LoadsWord p w (words_of (operand_lines a other)) (operand_register a other) (place_word c a) c
+
+-- a temporary's word comes to a register, from another or from the frame
+abbrev pub TemporariesAreLoaded : Type 0
+TemporariesAreLoaded =
+    (p : LineProgram) (w : Addresses) (a : Place) (d : ℕ) (c : Core) → d ≢ 0 → c.skip ≡ false → IsInReach p w c a
+    → LoadsWord p w (words_of (loaded a d)) d (place_word c a) c

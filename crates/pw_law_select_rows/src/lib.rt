@@ -5,7 +5,7 @@
 ghost use Rattle.pw_law_select_rows.specs.Straight.{JoinedWordsAct, JoinedWordsNote, StraightWordsRun, StraightLinesAreWords};
 ghost use Rattle.pw_law_select_rows.specs.Frames.{FrameWordsAreLoaded, FrameWordsAreStored};
 ghost use Rattle.pw_law_select_rows.specs.Making.{NothingIsNoted, ConstantsAreMade, AddressesAreMade};
-ghost use Rattle.pw_law_select_rows.specs.Places.{OperandsAreLoaded};
+ghost use Rattle.pw_law_select_rows.specs.Places.{OperandsAreLoaded, TemporariesAreLoaded};
 
 /// Words of two rows act and note as those of the first and then those of the second. The run of lines goes through straight words as
 /// they act, and notes what they access; straight lines are items of such words.
@@ -31,7 +31,9 @@ pub fn frame_words_move()
     ensures stored { FrameWordsAreStored }
 {}
 
-/// An operand is in its own register, or its word of the frame comes to the register that is given for it.
+/// An operand is in its own register, or its word of the frame comes to the register that is given for it; so
+/// does that of any temporary, from its own register too.
 pub fn operands_are_loaded()
-    ensures { OperandsAreLoaded }
+    ensures operand { OperandsAreLoaded }
+    ensures temporary { TemporariesAreLoaded }
 {}
