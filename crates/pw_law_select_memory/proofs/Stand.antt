@@ -1,6 +1,5 @@
 -- Bytes that stand in memory: what is stored and loaded, parts, and what stays.
-use Rattle.std.proofs.Common.{ℕ, zero, suc, ◌≡◌, ◌+◌, ◌-◌, ◌*◌, ◌/◌, ◌%◌, ◌^◌, ◌<◌, ◌≤◌, ◌⊎◌, inl, inr, arith, refl, ap, ap₂, sym, subst, ◌∙◌, Bool, true, false, true≢false, ◌&&◌, nat_eq, if◌then◌else◌, Option, None, Some, option_map, List, [], ◌∷◌, length, replicate, get_or, set, length-set}
-use Rattle.std.specs.Prelude.{nat_le, nat_lt}
+use Rattle.std.proofs.Common.{ℕ, zero, suc, ◌≡◌, ◌+◌, ◌*◌, ◌/◌, ◌%◌, ◌^◌, ◌<◌, ◌≤◌, ◌⊎◌, inl, inr, arith, refl, ap, ap₂, sym, subst, ◌∙◌, Bool, true, false, true≢false, ◌&&◌, nat_eq, if◌then◌else◌, Option, None, Some, option_map, List, [], ◌∷◌, length, replicate, set, length-set}
 use Rattle.std.proofs.lemmas.Bool.{and_parts, eqb-true, cases_eq, cases_lt}
 use Rattle.std.proofs.lemmas.Bool.Decides.{nat_tests}
 use Rattle.pw_value.specs.declared.value.Kind.{Kind}
@@ -12,7 +11,7 @@ use Rattle.pw_value.specs.declared.value.Byte.TheVariants as B
 use Rattle.pw_value.specs.declared.value.Pointer.{Pointer}
 use Rattle.pw_value.specs.declared.value.Pointer.TheVariants as P
 use Rattle.pw_value.specs.Objects.{byte_at, bytes_from, with_bytes}
-use Rattle.pw_value.specs.Values.{number_bytes, pieces_of, encoding, number_in, scalar_in, extended, pointer_in, same_pointer, is_piece, is_zero}
+use Rattle.pw_value.specs.Values.{number_bytes, pieces_of, encoding, number_in, scalar_in, extended, same_pointer, is_piece, is_zero}
 use Rattle.pw_flow.specs.ValidFlow.{kind_size}
 use Rattle.pw_inst.specs.Computing.{extracted, sign_extended}
 use Rattle.pw_run.specs.Runs.{AreAlike}

@@ -1,0 +1,4 @@
+pub mod Straight
+pub mod Making
+pub mod Frames
+pub mod Places
