@@ -14,3 +14,6 @@ pub mod Served
 pub mod Relocated
 pub mod Own
 pub mod Words
+pub mod Fixes
+pub mod Callees
+pub mod KnownFixes

@@ -1,3 +1,4 @@
 pub mod Settings
 pub mod Standing
 pub mod Whole
+pub mod Relocations
