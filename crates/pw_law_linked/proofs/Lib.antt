@@ -14,6 +14,3 @@ pub mod Served
 pub mod Relocated
 pub mod Own
 pub mod Words
-pub mod Fixes
-pub mod Callees
-pub mod KnownFixes

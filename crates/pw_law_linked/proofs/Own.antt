@@ -38,11 +38,11 @@ both_all : (P : List ℕ → Type 0) (xs ys : List (List ℕ)) → AllByRecursio
 both_all P [] ys h k = k
 both_all P (x ∷ xs) ys h k = (h.0, both_all P xs ys h.1 k)
 
-pub left_distinct : (xs ys : List (List ℕ)) → AreDistinct (xs ++ ys) → AreDistinct xs
+left_distinct : (xs ys : List (List ℕ)) → AreDistinct (xs ++ ys) → AreDistinct xs
 left_distinct [] ys h = tt
 left_distinct (x ∷ xs) ys h = (left_all (λ n. n ≢ x) xs ys h.0, left_distinct xs ys h.1)
 
-pub right_distinct : (xs ys : List (List ℕ)) → AreDistinct (xs ++ ys) → AreDistinct ys
+right_distinct : (xs ys : List (List ℕ)) → AreDistinct (xs ++ ys) → AreDistinct ys
 right_distinct [] ys h = h
 right_distinct (x ∷ xs) ys h = right_distinct xs ys h.1
 

@@ -1,4 +1,3 @@
 pub mod Settings
 pub mod Standing
 pub mod Whole
-pub mod Relocations
