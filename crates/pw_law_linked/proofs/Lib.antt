@@ -14,3 +14,6 @@ pub mod Served
 pub mod Relocated
 pub mod Own
 pub mod Words
+pub mod Spans
+pub mod Ready
+pub mod InPlace

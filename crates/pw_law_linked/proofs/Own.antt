@@ -12,7 +12,6 @@ use Rattle.pw_alloc.specs.declared.located.Located.{Located}
 use Rattle.pw_milli.specs.Library.{routines}
 use Rattle.pw_link.specs.Layout.{Piece, piece_of, routine_piece, routine_pieces, Placed, placed_from, text_of, data_of, data_begin, pieces_of, global_site}
 use Rattle.pw_link.specs.Linking.{linked}
-use Rattle.pw_delay.specs.Placement.{placed}
 use Rattle.pw_run_languages.specs.Programs.{Program, functions_of, globals_of, names_of}
 use Rattle.pw_run_languages.specs.Addresses.{AreLawful}
 use Rattle.pw_run_languages.specs.LawfulPrograms.{IsProgram}
@@ -38,11 +37,11 @@ both_all : (P : List ℕ → Type 0) (xs ys : List (List ℕ)) → AllByRecursio
 both_all P [] ys h k = k
 both_all P (x ∷ xs) ys h k = (h.0, both_all P xs ys h.1 k)
 
-left_distinct : (xs ys : List (List ℕ)) → AreDistinct (xs ++ ys) → AreDistinct xs
+pub left_distinct : (xs ys : List (List ℕ)) → AreDistinct (xs ++ ys) → AreDistinct xs
 left_distinct [] ys h = tt
 left_distinct (x ∷ xs) ys h = (left_all (λ n. n ≢ x) xs ys h.0, left_distinct xs ys h.1)
 
-right_distinct : (xs ys : List (List ℕ)) → AreDistinct (xs ++ ys) → AreDistinct ys
+pub right_distinct : (xs ys : List (List ℕ)) → AreDistinct (xs ++ ys) → AreDistinct ys
 right_distinct [] ys h = h
 right_distinct (x ∷ xs) ys h = right_distinct xs ys h.1
 
