@@ -29,14 +29,11 @@ use Rattle.pw_law_linked.specs.Whole.{IsInPlace}
 use Rattle.pw_law_linked.proofs.Text.{OrderStays}
 use Rattle.pw_law_linked.proofs.Addresses.{address_is, each_function}
 use Rattle.pw_law_linked.proofs.Relocated.{words_there}
-use Rattle.pw_law_linked.proofs.Spans.{few_words, names_served, names_distinct, EndsBy, functions_within, words_count, GivesLawfulAddresses, addresses_lawful, globals_given, own_given}
+use Rattle.pw_law_linked.proofs.Spans.{few_words, names_served, names_distinct, EndsBy, functions_within, words_count, text_count, GivesLawfulAddresses, addresses_lawful, globals_given, own_given}
+use Rattle.pw_law_linked.proofs.LibraryBehind.{all_stand}
 use Rattle.pw_law_linked.proofs.Ready.{ready_given, frames_given, sparing_given}
 
 -- ---- the machine at its start
-
-text_count : (p : Program) (functions : List Located) (objects : List Object) (input : List ℕ) → (linked_setting p functions objects input).start.core.text ≡ word_count objects
-unfolding start_core
-text_count p functions objects input = words_count objects p.stack
 
 data_starts : (p : Program) (functions : List Located) (objects : List Object) (input : List ℕ) → (linked_setting p functions objects input).start.core.data_start ≡ data_begin objects
 unfolding start_core
@@ -129,7 +126,7 @@ in_place stays addresses ready p d functions objects input given h =
       code = each_code p functions objects input top functions lawful (omega arith) few own ends
           (each_function stays (HasItsWords x.start.core.memory objects p.stack) p functions objects given.program given.made distinct h.words) h.fixes;
       own = own;
-      behind = h.behind;
+      behind = all_stand stays addresses p d functions objects input given h.words;
       addresses = lawful;
       globals = globals_given stays addresses p d functions objects given;
       lawful = h.lawful;

@@ -16,4 +16,5 @@ pub mod Own
 pub mod Words
 pub mod Spans
 pub mod Ready
+pub mod LibraryBehind
 pub mod InPlace

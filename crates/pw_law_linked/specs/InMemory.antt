@@ -15,7 +15,6 @@ use Rattle.pw_run_languages.specs.SelectionLaws.{with_items}
 use Rattle.pw_run_languages.specs.LinkingLaws.{address_of}
 use Rattle.pw_law_code.specs.Lawful.{IsLawful}
 use Rattle.pw_law_link_run.specs.Placing.{text_of}
-use Rattle.pw_law_link_run.specs.Behind.{AllStand}
 use Rattle.pw_law_link_run.specs.Starting.{HasData}
 use Rattle.pw_law_linked.specs.Settings.{linked_setting}
 use Rattle.pw_law_linked.specs.Standing.{HasItsWords}
@@ -26,11 +25,10 @@ HasKnownFixes p functions objects input l =
     (f : Fix) → Contains (placed (selected l)).fixes f
     → IsKnown (sites objects p.stack) (text_of (linked_setting p functions objects input) (with_items l)) (address_of (linked objects p.stack) l.body.name) f f.symbol
 
--- The words of each piece of the text stand at its place, with relocations that are known; the library and the routines
--- stand behind the functions; the machine is lawful, and has the data that the lines have.
+-- The words of each piece of the text stand at its place, with relocations that are known; the machine is lawful, and
+-- has the data that the lines have.
 pub record IsInMemory (p : Program) (functions : List Located) (objects : List Object) (input : List ℕ) : Type 0 where
   pub words : AllByRecursion (HasItsWords (linked_setting p functions objects input).start.core.memory objects p.stack) (link.text_of objects)
   pub fixes : AllByRecursion (HasKnownFixes p functions objects input) functions
-  pub behind : AllStand (linked_setting p functions objects input)
   pub lawful : IsLawful (linked_setting p functions objects input).start
   pub memory : HasData (linked_setting p functions objects input) (linked objects p.stack).memory

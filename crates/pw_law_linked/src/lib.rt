@@ -167,8 +167,8 @@ pub fn linked_programs_are_framed()
     selected_functions_are_framed();
 }
 
-/// So what the law of linking is given is in its place, once it is in memory: the words of its pieces with relocations that are
-/// known, the library and the routines behind the functions, and the data.
+/// So what the law of linking is given is in its place, once it is in memory: the words of its pieces, with relocations that are
+/// known, and the data. For the library and the routines are the last pieces, and stand behind all functions.
 pub fn given_programs_are_in_place()
     ensures { (p : Program) (d : List (List ℕ × Directives)) (functions : List Located) (objects : List Object) (input : List ℕ) → IsGiven p d functions objects → IsInMemory p functions objects input → IsInPlace p functions objects input }
 {
