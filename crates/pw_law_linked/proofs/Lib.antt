@@ -17,4 +17,5 @@ pub mod Words
 pub mod Spans
 pub mod Ready
 pub mod LibraryBehind
+pub mod Held
 pub mod InPlace
