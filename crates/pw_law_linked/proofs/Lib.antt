@@ -14,3 +14,8 @@ pub mod Served
 pub mod Relocated
 pub mod Own
 pub mod Words
+pub mod Spans
+pub mod Ready
+pub mod LibraryBehind
+pub mod Held
+pub mod InPlace

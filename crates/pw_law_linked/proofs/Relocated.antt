@@ -19,7 +19,7 @@ use Rattle.pw_law_code.specs.LinkedAddresses.{linked_addresses}
 use Rattle.pw_law_linked.specs.Standing.{HasItsWords, AtItsAddress}
 use Rattle.pw_law_linked.proofs.Addresses.{address_is}
 
-fixes_length : (s : Sites) (own : ℕ) (fixes : List Fix) (words : List ℕ) → length (with_fixes s own fixes words) ≡ length words
+pub fixes_length : (s : Sites) (own : ℕ) (fixes : List Fix) (words : List ℕ) → length (with_fixes s own fixes words) ≡ length words
 fixes_length s own [] words = refl
 fixes_length s own (f ∷ fixes) words =
     let word = settled f.kind (word_address own f.word) ((symbol_address s own f.symbol + f.addend) % 2 ^ 32) (slice_index_or words f.word 0) in

@@ -3,6 +3,7 @@ use Rattle.std.specs.Prelude.{ℕ, zero, suc, ◌≡◌, ◌<◌, ◌≤◌, ◌
 use Rattle.std.specs.List.{AllByRecursion}
 use Rattle.std.proofs.Common.{arith, subst, sym, refl, get_or}
 use Rattle.std.proofs.lemmas.Bool.{ne_eqb}
+use Rattle.pw_db.specs.Limits.{first_register, last_register}
 use Rattle.pw_db.specs.Database.{IsWeb}
 use Rattle.pw_db.specs.declared.database.Web.{Web}
 use Rattle.pw_db.specs.declared.database.Role.{Role}
@@ -24,7 +25,7 @@ use Rattle.pw_law_linked.specs.Standing.{HasFrame}
 low_other : (r : ℕ) → r ≤ 20 → IsOther r
 low_other r le = ne_eqb r 30 (λ e. omega (arith, le, e))
 
-each : (P : ℕ → Type 0) (rs : List ℕ) → ((r : ℕ) → Contains rs r → P r) → AllByRecursion P rs
+pub each : (P : ℕ → Type 0) (rs : List ℕ) → ((r : ℕ) → Contains rs r → P r) → AllByRecursion P rs
 each P [] all = tt
 each P (r ∷ rs) all = (all r (0, omega arith, refl), each P rs (λ q c. all q (suc c.0, omega (arith, c.1), c.2)))
 
@@ -67,13 +68,14 @@ all_blocks f webs (b ∷ rest) h = (all_ops f webs b.ops h.0.ops, all_blocks f w
 
 -- ---- what is saved
 
-changed_low : (f : WebFn) (l : Located) → IsWebFn f → Serves f l → (r : ℕ) → Changes f l r → r ≤ 20
-changed_low f l is serves r (places c small free) = omega (arith, small)
-changed_low f l is serves r (saves c) = absurd (let none : c.0 < 0 = c.1 in omega (arith, none))
-changed_low f l is serves r (enters w) =
+pub changed_between : (f : WebFn) (l : Located) → IsWebFn f → Serves f l → (r : ℕ) → Changes f l r → (first_register ≤ r) × (r ≤ last_register)
+changed_between f l is serves r (places c small free) = let low = (serves.registers r c).0.low in (low, small)
+changed_between f l is serves r (saves c) = absurd (let none : c.0 < 0 = c.1 in omega (arith, none))
+changed_between f l is serves r (enters w) =
     let web = web_low f.directives.webs w.there.0 (w.web, Entry) is.directives.each w.there.1 w.there.2 in
+    let low = web.low in
     let high = web.high in
-    omega (arith, high, w.is)
+    (omega (arith, low, w.is), omega (arith, high, w.is))
 
 -- ---- the function
 
@@ -88,7 +90,7 @@ sparing_served f l is serves some small =
     let webs = is.directives.each in
     record {
       places = all_places l.places (λ r c. let high = (serves.registers r c).0.high in omega (arith, high));
-      saved = each IsOther l.saved (λ r c. low_other r (changed_low f l is serves r ((serves.saved r).0 c)));
+      saved = each IsOther l.saved (λ r c. let high = (changed_between f l is serves r ((serves.saved r).0 c)).1 in low_other r (omega (arith, high)));
       webs = subst (λ (b : WebFn). AllByRecursion SparesWeb b.directives.webs) (sym serves.body) (all_webs f.directives.webs webs);
       ops = subst (λ (b : WebFn). AllByRecursion (λ (c : WebBlock). AllByRecursion SparesOp c.ops) b.blocks) (sym serves.body) (all_blocks f webs f.blocks is.blocks);
       some = some;

@@ -1,3 +1,5 @@
 pub mod Settings
 pub mod Standing
 pub mod Whole
+pub mod Given
+pub mod InMemory

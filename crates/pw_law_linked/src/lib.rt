@@ -4,6 +4,7 @@
 ghost use Rattle.std.specs.Prelude.{ℕ, ◌≡◌, ◌+◌, ◌*◌, ◌<◌, ◌≤◌, ◌^◌, Bool, Some, List, ◌∷◌, ◌++◌, map, length, slice_index_or};
 ghost use Rattle.std.specs.List.{AllByRecursion};
 ghost use Rattle.pw_flow.specs.ValidFlow.{AreDistinct};
+ghost use Rattle.pw_db.specs.declared.database.Directives.{Directives};
 ghost use Rattle.pw_object.specs.declared.object.Object.{Object};
 ghost use Rattle.pw_alloc.specs.declared.located.Located.{Located};
 ghost use Rattle.pw_webflow.specs.declared.web.WebFn.{WebFn};
@@ -33,15 +34,21 @@ ghost use Rattle.pw_law_link_run.specs.Leveled.{AreFramed};
 ghost use Rattle.pw_law_levels.specs.Sparing.{IsSparing};
 ghost use Rattle.pw_law_linked.specs.Settings.{behind_in, behind_of, mark_of, long_of, linked_setting};
 ghost use Rattle.pw_law_linked.specs.Standing.{BeginsOutside, HasItsWords, AtItsAddress, IsFoundAmong, CodeAt, ItsAddressIsItsOwn, HasFrame, EndsBelow};
+ghost use Rattle.pw_law_linked.specs.Given.{IsGiven};
+ghost use Rattle.pw_law_linked.specs.InMemory.{IsInMemory};
 ghost use Rattle.pw_law_linked.specs.Whole.{IsInPlace};
 
-use pw_law_code::code::placed_code_stands;
+use pw_law_code::code::{
+    linked_addresses_are_lawful, placed_code_stands, selected_lines_are_ready,
+};
+use pw_law_code::machine::runs_keep_lawful_states;
 use pw_law_levels::selected_functions_are_framed;
-use pw_law_link::laws::modules_stand_in_order;
+use pw_law_link::laws::{modules_stand_in_order, words_stand_at_their_addresses};
 use pw_law_link_run::laws::{
     framed_runs_are_met, images_start_as_lines, lawful_starts_are_settings, library_is_there,
     ready_lines_fit, selected_calls_are_conventional,
 };
+use pw_machine::text_words;
 
 /// The return address of a call, told by how many turns are left behind it, is that of the word behind its slot.
 pub fn calls_return_behind_their_slots()
@@ -110,6 +117,27 @@ pub fn addresses_are_their_own()
     modules_stand_in_order();
 }
 
+/// What the law of linking is given: its functions have names of their own, and its functions and objects have lawful addresses,
+/// objects behind the beginning of the data, and functions addresses of their own.
+pub fn given_programs_have_lawful_addresses()
+    ensures distinct { (p : Program) (d : List (List ℕ × Directives)) (functions : List Located) (objects : List Object) → IsGiven p d functions objects → AreDistinct (map (λ l. l.body.name) functions) }
+    ensures addresses { (p : Program) (d : List (List ℕ × Directives)) (functions : List Located) (objects : List Object) (input : List ℕ) → IsGiven p d functions objects → AreLawful p (linked_setting p functions objects input).addresses }
+    ensures globals { (p : Program) (d : List (List ℕ × Directives)) (functions : List Located) (objects : List Object) → IsGiven p d functions objects → AllByRecursion (λ v. data_begin objects ≤ address_of (linked objects p.stack) v.name) (globals_of p) }
+    ensures own { (p : Program) (d : List (List ℕ × Directives)) (functions : List Located) (objects : List Object) → IsGiven p d functions objects → AllByRecursion (ItsAddressIsItsOwn p objects) functions }
+{
+    modules_stand_in_order();
+    linked_addresses_are_lawful();
+}
+
+/// The lines of its functions can be made words, and their frames and registers are such as linking asks.
+pub fn given_functions_are_ready()
+    ensures ready { (p : Program) (d : List (List ℕ × Directives)) (functions : List Located) (objects : List Object) → IsGiven p d functions objects → AllByRecursion (λ l. AreReady (selected l)) functions }
+    ensures frames { (p : Program) (d : List (List ℕ × Directives)) (functions : List Located) (objects : List Object) → IsGiven p d functions objects → AllByRecursion HasFrame functions }
+    ensures sparing { (p : Program) (d : List (List ℕ × Directives)) (functions : List Located) (objects : List Object) → IsGiven p d functions objects → AllByRecursion IsSparing functions }
+{
+    selected_lines_are_ready();
+}
+
 /// A program is linked as the machine's run wants it, where the machine starts lawfully with the data where the lines have
 /// them, each function's code stands at its address, and no other function of the program has that address.
 pub fn linked_programs_are_linked()
@@ -139,6 +167,20 @@ pub fn linked_programs_are_framed()
 {
     settings_know_their_functions();
     selected_functions_are_framed();
+}
+
+/// So what the law of linking is given is in its place, where the image is lawful, what its relocations are of is known, and its
+/// data are those of the lines. For its words stand in memory at their addresses, and the library and the routines are the last
+/// pieces, and stand behind all functions.
+pub fn given_programs_are_in_place()
+    ensures { (p : Program) (d : List (List ℕ × Directives)) (functions : List Located) (objects : List Object) (input : List ℕ) → IsGiven p d functions objects → IsInMemory p functions objects input → IsInPlace p functions objects input }
+{
+    modules_stand_in_order();
+    linked_addresses_are_lawful();
+    selected_lines_are_ready();
+    text_words();
+    words_stand_at_their_addresses();
+    runs_keep_lawful_states();
 }
 
 /// Where all is in its place, the image runs as the lines do, at the addresses of its map, and notes the same.
