@@ -15,6 +15,7 @@ use Rattle.pw_build_files.specs.FromBuild.Builds.{Builds}
 use Rattle.pw_store_kept.specs.Kept.{is_same}
 pub use Rattle.pw_store_kept.specs.Kept.{counted, kept_object, object_in}
 use Rattle.pw_store_kept.specs.Files.{AreObjectFiles, HoldBytes, made_anew}
+use Rattle.pw_build_opts.specs.declared.opts.Opts.{Opts}
 
 -- the objects that are kept of all modules, in their order
 abbrev pub kept_objects : Files → List (Option Object)
@@ -50,9 +51,9 @@ pub record IsOutcome (files : Files) (stack : ℕ) (parts : Parts) (outcome : Ou
 
 -- A build over the files of a store, for so many registers and such a stack, comes to this: its modules and the objects
 -- that are kept of them come to parts of a program and these to the outcome; or to a fault, and nothing is put.
-abbrev pub BuildOutcome : Files → ℕ → ℕ → Result Outcome BuildFault → Type 0
-BuildOutcome files colours stack (Ok outcome) = (parts : Parts) × Builds (modules_of files) (kept_objects files) colours stack (Ok parts) × IsOutcome files stack parts outcome
-BuildOutcome files colours stack (Err fault) = Builds (modules_of files) (kept_objects files) colours stack (Err fault)
+abbrev pub BuildOutcome : Files → Opts → Result Outcome BuildFault → Type 0
+BuildOutcome files opts (Ok outcome) = (parts : Parts) × Builds (modules_of files) (kept_objects files) opts (Ok parts) × IsOutcome files opts.stack parts outcome
+BuildOutcome files opts (Err fault) = Builds (modules_of files) (kept_objects files) opts (Err fault)
 
 -- the files that are put
 abbrev pub puts_of : Result Outcome BuildFault → List NamedFile

@@ -14,9 +14,10 @@ ghost use Rattle.pw_commands.specs.Outcome.{Obeys};
 ghost use Rattle.pw_build_files.specs.Driving.{BuildEffect, IsBuildAnswer, KeepsUnput};
 
 use crate::building::build;
-use crate::report::{Opts, Report, report_lines};
+use crate::report::{Report, report_lines};
 use pw_build::{BuildFault, Unbuilt};
 use pw_build_objects::Steps;
+use pw_build_opts::Opts;
 use pw_io::laws::other_files;
 use pw_io::{Sink, Store};
 use pw_top_answer::{Answer, Reply, print};
@@ -101,9 +102,9 @@ pub fn build_modules<S: Store, O: Sink>(
     opts: &Opts,
 ) -> Reply
     requires { AreOpts opts.now }
-    ensures obeys { IfSome (S.told store.old) (λ told. (input : List ℕ) → Obeys (BuildEffect told.files opts.now.colours opts.now.stack input) result.answer told (S.told store.new)) }
-    ensures output { IfSome (S.told store.old) (λ told. (input : List ℕ) (effect : Effect) → BuildEffect told.files opts.now.colours opts.now.stack input effect → PutsOut effect.output result.answer (O.taken out.old) (O.taken out.new)) }
-    ensures refusal { IfSome (S.told store.old) (λ told. (comes : Result Outcome BuildFault) → BuildOutcome told.files opts.now.colours opts.now.stack comes → AnswersOutcome comes result.answer) }
+    ensures obeys { IfSome (S.told store.old) (λ told. (input : List ℕ) → Obeys (BuildEffect told.files opts.now input) result.answer told (S.told store.new)) }
+    ensures output { IfSome (S.told store.old) (λ told. (input : List ℕ) (effect : Effect) → BuildEffect told.files opts.now input effect → PutsOut effect.output result.answer (O.taken out.old) (O.taken out.new)) }
+    ensures refusal { IfSome (S.told store.old) (λ told. (comes : Result Outcome BuildFault) → BuildOutcome told.files opts.now comes → AnswersOutcome comes result.answer) }
     ensures others { IfSome (S.told store.old) (λ told. KeepsUnput result.answer told (S.told store.new)) }
     ensures genuine { IfSome (S.told store.old) (λ told. KeepsGenuine told.files → IfSome (S.told store.new) (λ now. KeepsGenuine now.files)) }
     ensures line { IfSome (S.told store.old) (λ told. IsLineDue (refused_line (modules_of told.files)) result.answer result.line) }

@@ -20,6 +20,7 @@ use Rattle.pw_store_kept.specs.Files.{AreObjectFiles}
 use Rattle.pw_build_files.specs.Building.{BuildOutcome, IsOutcome, Outcome, if_changed, kept_objects}
 use Rattle.pw_build_files.specs.Genuine.{KeepsGenuine}
 use Rattle.pw_law_build.specs.Whole.{HoldsBuild, HoldsFile, HoldsFullBuild, HoldsProgram}
+use Rattle.pw_build_opts.specs.declared.opts.Opts.{Opts}
 
 -- what is known of files under puts
 pub record FileLaws : Type 0 where
@@ -141,13 +142,13 @@ all_anew parts stack files h = record {
 }
 
 pub holds_full_build : FileLaws
-    → ((files : Files) (colours stack : ℕ) (a : Result Parts BuildFault) → KeepsGenuine files → Builds (modules_of files) (kept_objects files) colours stack a → Builds (modules_of files) [] colours stack (built_anew a))
-    → (told : Told) (colours stack : ℕ) (outcome : Outcome) → KeepsGenuine told.files → BuildOutcome told.files colours stack (Ok outcome) → HoldsFullBuild (module_map told.files) colours stack (after_puts told outcome.puts).files
-holds_full_build laws full told colours stack outcome keeps comes = (
+    → ((files : Files) (opts : Opts) (a : Result Parts BuildFault) → KeepsGenuine files → Builds (modules_of files) (kept_objects files) opts a → Builds (modules_of files) [] opts (built_anew a))
+    → (told : Told) (opts : Opts) (outcome : Outcome) → KeepsGenuine told.files → BuildOutcome told.files opts (Ok outcome) → HoldsFullBuild (module_map told.files) opts (after_puts told outcome.puts).files
+holds_full_build laws full told opts outcome keeps comes = (
   all_fresh comes.0,
-  full told.files colours stack (Ok comes.0) keeps comes.1,
-  all_anew comes.0 stack (after_puts told outcome.puts).files (holds_program laws told stack comes.0 outcome comes.2),
+  full told.files opts (Ok comes.0) keeps comes.1,
+  all_anew comes.0 opts.stack (after_puts told outcome.puts).files (holds_program laws told opts.stack comes.0 outcome comes.2),
 )
 
-pub holds_build : FileLaws → (told : Told) (colours stack : ℕ) (outcome : Outcome) → BuildOutcome told.files colours stack (Ok outcome) → HoldsBuild told.files colours stack (after_puts told outcome.puts).files
-holds_build laws told colours stack outcome comes = (comes.0, comes.1, holds_program laws told stack comes.0 outcome comes.2)
+pub holds_build : FileLaws → (told : Told) (opts : Opts) (outcome : Outcome) → BuildOutcome told.files opts (Ok outcome) → HoldsBuild told.files opts (after_puts told outcome.puts).files
+holds_build laws told opts outcome comes = (comes.0, comes.1, holds_program laws told opts.stack comes.0 outcome comes.2)

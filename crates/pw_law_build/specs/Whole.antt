@@ -9,6 +9,7 @@ use Rattle.pw_store_modules.specs.Modules.{Texts, modules_of}
 use Rattle.pw_build_files.specs.FromBuild.Builds.{Builds, FullBuild}
 use Rattle.pw_build_files.specs.Building.{kept_objects}
 use Rattle.pw_build_files.specs.Full.{IsImageOf}
+use Rattle.pw_build_opts.specs.declared.opts.Opts.{Opts}
 
 -- exactly these bytes stand under the name
 abbrev pub HoldsFile : Files → List ℕ → List ℕ → Type 0
@@ -24,9 +25,9 @@ pub record HoldsProgram (parts : Parts) (stack : ℕ) (files : Files) : Type 0 w
   pub image_stands : HoldsFile files image_name image
 
 -- those to which the modules and the kept objects of a store's files come stand there
-abbrev pub HoldsBuild : Files → ℕ → ℕ → Files → Type 0
-HoldsBuild old colours stack files = (parts : Parts) × Builds (modules_of old) (kept_objects old) colours stack (Ok parts) × HoldsProgram parts stack files
+abbrev pub HoldsBuild : Files → Opts → Files → Type 0
+HoldsBuild old opts files = (parts : Parts) × Builds (modules_of old) (kept_objects old) opts (Ok parts) × HoldsProgram parts opts.stack files
 
 -- those of the full build of texts stand there
-abbrev pub HoldsFullBuild : Texts → ℕ → ℕ → Files → Type 0
-HoldsFullBuild texts colours stack files = (parts : Parts) × FullBuild texts colours stack (Ok parts) × HoldsProgram parts stack files
+abbrev pub HoldsFullBuild : Texts → Opts → Files → Type 0
+HoldsFullBuild texts opts files = (parts : Parts) × FullBuild texts opts (Ok parts) × HoldsProgram parts opts.stack files

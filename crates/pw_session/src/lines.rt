@@ -12,7 +12,7 @@ ghost use Rattle.pw_session.specs.Changes.{MakesSome, Puts, Removes, after_chang
 ghost use Rattle.pw_session.specs.Removals.{IsRemovedBy};
 ghost use Rattle.pw_session.specs.Outcomes.{DoesEffect, IsLineAnswer, IsLineObeyed, KeepsImage, ObeysLine, SaysFault, image_view};
 
-use crate::opts::SessionOpts;
+use pw_build_opts::RunOpts;
 use crate::runs::run_image;
 use pw_build_files::{
     BuildFault, Unbuilt, answer_of, build_uncounted, module_texts_are_no_objects, put_report,
@@ -95,7 +95,7 @@ fn build_program<S: Store, O: Sink>(
     alloc: Global,
     store: &mut S,
     out: &mut O,
-    opts: &SessionOpts,
+    opts: &RunOpts,
     image: &mut Option<Vec<u8>>,
 ) -> Answer
     requires opts { AreOpts opts.now.build }
@@ -123,7 +123,7 @@ pub fn obey_line<S: Store, O: Sink>(
     alloc: Global,
     store: &mut S,
     out: &mut O,
-    opts: &SessionOpts,
+    opts: &RunOpts,
     image: &mut Option<Vec<u8>>,
     line: &Line,
 ) -> Answer

@@ -8,6 +8,7 @@ use Rattle.pw_store_modules.specs.Modules.{module_map}
 use Rattle.pw_top_answer.specs.declared.answer.Answer.{Answer}
 use Rattle.pw_top_answer.specs.declared.answer.Answer.TheVariants.{Done, StoreFault, NoMemory}
 use Rattle.pw_top_answer.specs.Outcomes.{Answers, LeavesInput, PutsOut}
+use Rattle.pw_build_opts.specs.declared.opts.Opts.{Opts}
 use Rattle.pw_session.specs.FromBuild.BuildFault.{BuildFault}
 use Rattle.pw_session.specs.FromBuildFiles.Building.{Outcome}
 use Rattle.pw_session.specs.FromBuildFiles.Full.{BuildsImage}
@@ -39,6 +40,6 @@ RunsFull budget input (Ok image) answer input' taken taken' =
 RunsFull budget input (Err fault) answer input' taken taken' = TellsRefusal fault answer taken taken'
 
 -- The full build of the modules comes to an image, or to a fault, of which this holds, and the files are left so.
-abbrev pub ComesInFull : ℕ → ℕ → Told → Option Told → (Result (List ℕ) BuildFault → Type 0) → Type 0
-ComesInFull colours stack told new P =
-    (full : Result (List ℕ) BuildFault) × BuildsImage (module_map told.files) colours stack full × P full × LeavesFull (module_map told.files) colours stack full told new
+abbrev pub ComesInFull : Opts → Told → Option Told → (Result (List ℕ) BuildFault → Type 0) → Type 0
+ComesInFull opts told new P =
+    (full : Result (List ℕ) BuildFault) × BuildsImage (module_map told.files) opts full × P full × LeavesFull (module_map told.files) opts full told new

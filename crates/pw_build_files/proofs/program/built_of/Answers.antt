@@ -10,7 +10,7 @@ use Rattle.pw_build_files.proofs.program.built_of.Goals as goal
 
 pub returns-in-Ok-clause-many : goal.returns-in-Ok-clause-many
 returns-in-Ok-clause-many g c =
-    as_many c.args.modules.now c.in_ok-flows.flows.items c.in_ok-kept.kept.items c.args.colours c.args.stack c.in-Ok.built c.in_ok-flows.ensures.flows (rw c.deref.ensures.value at c.in-Ok.ensures.built)
+    as_many c.args.modules.now c.in_ok-flows.flows.items c.in_ok-kept.kept.items c.args.opts.now c.in-Ok.built c.in_ok-flows.ensures.flows (rw c.deref.ensures.value at c.in-Ok.ensures.built)
 
 pub returns-in-Ok-clause-few : goal.returns-in-Ok-clause-few
 returns-in-Ok-clause-few g c = few_modules c.args.modules.now c.in_ok-flows.flows.items c.in_ok-flows.ensures.flows
