@@ -7,9 +7,9 @@ ghost use Rattle.pw_build_files.specs.Outcomes.{AreOpts, HoldsImage};
 ghost use Rattle.pw_session.specs.Bench.{BenchEffect, IsBenchAnswer, IsBenchLine, ObeysBench, ObeysReport, StopsWithoutInput, bench_prefix, bench_functions, bench_line, bench_modules, made_files};
 ghost use Rattle.pw_session.specs.Runs.{runs_as};
 
-use pw_build_opts::RunOpts;
 use crate::runs::{is_stop, stop_text};
 use pw_build_files::{Report, answer_of, build_uncounted};
+use pw_build_opts::RunOpts;
 use pw_commands::run_machine;
 use pw_gen::generate;
 use pw_io::{DropSink, Sink, SureSource, SureStore};

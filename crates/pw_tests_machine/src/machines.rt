@@ -33,8 +33,10 @@ fn image_of(rt: &impl Abort, alloc: Global, words: &[u32]) -> Vec<u8> {
 
 /// A machine with these words at its start.
 pub(crate) fn machine(rt: &impl Abort, alloc: Global, words: &[u32]) -> Box<Machine> {
-    let machine =
-        Machine::load(alloc, &image_of(rt, alloc, words)).expect(rt, "memory for a machine");
+    let machine = Machine::load(alloc, &image_of(rt, alloc, words)).expect(
+        rt,
+        "memory for a machine",
+    );
     Box::new(alloc, machine).expect(rt, "memory for a machine")
 }
 

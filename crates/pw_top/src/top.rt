@@ -126,10 +126,8 @@ fn obey<S: Store, I: Source, O: Sink>(
         Command::Run { .. } | Command::List | Command::Db => {
             obey_reader(alloc, command, store, input, out)
         }
-        Command::Go(_)
-        | Command::Build(_)
-        | Command::Session(_)
-        | Command::Bench { .. } => obey_builder(alloc, command, store, input, out),
+        Command::Go(_) | Command::Build(_) | Command::Session(_) | Command::Bench { .. } =>
+            obey_builder(alloc, command, store, input, out),
     }
 }
 

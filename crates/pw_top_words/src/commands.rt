@@ -19,26 +19,17 @@ pub enum Command {
     /// The first phase of a module.
     PhaseOne(Name),
     /// The analysis of all modules.
-    Analyse {
-        colours: u8,
-    },
+    Analyse { colours: u8 },
     /// The second phase of a module.
     PhaseTwo(Name),
     /// The link of all modules.
-    Link {
-        stack: u32,
-    },
+    Link { stack: u32 },
     /// A run of the linked program.
-    Run {
-        steps: u64,
-    },
+    Run { steps: u64 },
     /// The linked program as text.
     List,
     /// The database as text.
     Db,
     /// A build and a run of modules that are made from a number.
-    Bench {
-        number: u32,
-        opts: RunOpts,
-    },
+    Bench { number: u32, opts: RunOpts },
 }
