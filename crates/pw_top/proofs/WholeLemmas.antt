@@ -13,16 +13,17 @@ use Rattle.pw_session.specs.FromBuildFiles.Genuine.{KeepsGenuine}
 use Rattle.pw_session.specs.FromBuildFiles.Outcomes.{AreOpts}
 use Rattle.pw_session.specs.FromBuildFiles.Driving.{BuildEffect, built_effect}
 use Rattle.pw_go.specs.Going.{GoEffect, GoOver}
+use Rattle.pw_session.specs.Bench.{BenchEffect}
 use Rattle.pw_build_opts.specs.declared.opts.Opts.{Opts}
 use Rattle.pw_law_session.specs.Whole.{IsBuiltInFull, LeavesFull}
-use Rattle.pw_law_session.specs.Full.{SessionBuildsInFull}
+use Rattle.pw_law_session.specs.Full.{BenchBuildsInFull, SessionBuildsInFull}
 use Rattle.pw_build_opts.specs.declared.opts.RunOpts.{RunOpts}
 use Rattle.pw_top_words.specs.declared.commands.Command.{Command}
-use Rattle.pw_top_words.specs.declared.commands.Command.TheVariants.{Go, Build as BuildAll, Session}
+use Rattle.pw_top_words.specs.declared.commands.Command.TheVariants.{Go, Build as BuildAll, Session, Bench}
 use Rattle.pw_top_words.specs.Limits.{IsWithin}
 use Rattle.pw_top.specs.Commands.{BuildsWhole}
 use Rattle.pw_top.specs.Does.{Does, DoesAs}
-use Rattle.pw_top.specs.Whole.{ComesInFull, IfMade, ReportsFull, RunsFull}
+use Rattle.pw_top.specs.Whole.{BenchesFull, ComesInFull, IfMade, ReportsFull, RunsFull}
 
 -- ---- the laws
 
@@ -31,6 +32,9 @@ BuildsAreFull = (told : Told) (opts : Opts) (comes : Result Outcome BuildFault) 
 
 abbrev pub SessionsAreFull : Type 0
 SessionsAreFull = (opts : RunOpts) (told : Told) (script : List ℕ) → KeepsGenuine told.files → SessionBuildsInFull opts told script
+
+abbrev pub BenchesAreFull : Type 0
+BenchesAreFull = (number : ℕ) (opts : RunOpts) (input : List ℕ) (effect : Effect) → BenchEffect number opts input effect → BenchBuildsInFull number opts input effect
 
 -- those of builds, of some options
 abbrev FullAt : Opts → Type 0
@@ -106,24 +110,32 @@ go_whole opts law _ told new input rest taken taken' d keeps =
     let c = d.found.1 in
     ran_full opts.build opts.budget law c.0 told new input rest taken taken' _ d.found.0 keeps c.1 c.2 (d.answers d.found.0 c) (d.puts d.found.0 c) (d.output d.found.0 c) (d.rest d.found.0 c)
 
+bench_whole : BenchesAreFull → (number : ℕ) (opts : RunOpts) (answer : Answer) (told : Told) (new : Option Told) (input : List ℕ) (rest taken taken' : Option (List ℕ)) → Does (BenchEffect number opts input) answer told new input rest taken taken'
+    → IfMade answer (BenchesFull number opts input answer taken taken')
+bench_whole law number opts StoreFault told new input rest taken taken' d = tt
+bench_whole law number opts NoMemory told new input rest taken taken' d = tt
+bench_whole law number opts _ told new input rest taken taken' d =
+    let c = d.found.1 in (d.found.0, law number opts input d.found.0 c, d.answers d.found.0 c, d.output d.found.0 c)
+
 -- the numbers of the command lie within their limits
 abbrev pub AreWithin : Option Command → Type 0
 AreWithin None = Unit {0}
 AreWithin (Some command) = IsWithin command
 
-whole_of : BuildsAreFull → SessionsAreFull → (command : Option Command) (answer : Answer) (told : Told) (new : Option Told) (input : List ℕ) (rest taken taken' : Option (List ℕ)) → AreWithin command → DoesAs command answer told new input rest taken taken' → BuildsWhole command answer told new input rest taken taken'
-whole_of law sessions (Some (BuildAll opts)) answer told new input rest taken taken' w d =
+whole_of : BuildsAreFull → SessionsAreFull → BenchesAreFull → (command : Option Command) (answer : Answer) (told : Told) (new : Option Told) (input : List ℕ) (rest taken taken' : Option (List ℕ)) → AreWithin command → DoesAs command answer told new input rest taken taken' → BuildsWhole command answer told new input rest taken taken'
+whole_of law sessions benches (Some (BuildAll opts)) answer told new input rest taken taken' w d =
     λ keeps. build_whole opts (full_at law opts (record { colours = w.0; least = w.1.0; most = w.1.1 })) answer told new input rest taken taken' d keeps
-whole_of law sessions (Some (Go opts)) answer told new input rest taken taken' w d =
+whole_of law sessions benches (Some (Go opts)) answer told new input rest taken taken' w d =
     λ keeps. go_whole opts (full_at law opts.build (record { colours = w.0; least = w.1.0; most = w.1.1 })) answer told new input rest taken taken' d keeps
-whole_of law sessions (Some (Session opts)) answer told new input rest taken taken' w d = λ keeps. sessions opts told input keeps
-whole_of law sessions command answer told new input rest taken taken' w d = tt
+whole_of law sessions benches (Some (Session opts)) answer told new input rest taken taken' w d = λ keeps. sessions opts told input keeps
+whole_of law sessions benches (Some (Bench number opts)) answer told new input rest taken taken' w d = bench_whole benches number opts answer told new input rest taken taken' d
+whole_of law sessions benches command answer told new input rest taken taken' w d = tt
 
-pub builds_whole : BuildsAreFull → SessionsAreFull → (command : Option Command) (first new : Option Told) (old rest taken taken' : Option (List ℕ)) (answer : Answer) → AreWithin command
+pub builds_whole : BuildsAreFull → SessionsAreFull → BenchesAreFull → (command : Option Command) (first new : Option Told) (old rest taken taken' : Option (List ℕ)) (answer : Answer) → AreWithin command
     → IfSome first (λ t. IfSome old (λ input. DoesAs command answer t new input rest taken taken')) → IfSome first (λ t. IfSome old (λ input. BuildsWhole command answer t new input rest taken taken'))
-builds_whole law sessions command None new old rest taken taken' answer w d = tt
-builds_whole law sessions command (Some t) new None rest taken taken' answer w d = tt
-builds_whole law sessions command (Some t) new (Some input) rest taken taken' answer w d = whole_of law sessions command answer t new input rest taken taken' w d
+builds_whole law sessions benches command None new old rest taken taken' answer w d = tt
+builds_whole law sessions benches command (Some t) new None rest taken taken' answer w d = tt
+builds_whole law sessions benches command (Some t) new (Some input) rest taken taken' answer w d = whole_of law sessions benches command answer t new input rest taken taken' w d
 
 -- a command that the words say lies within its limits
 pub are_within : (command : Option Command) → ((one : Command) → command ≡ Some one → IsWithin one) → AreWithin command

@@ -17,7 +17,7 @@ use Rattle.pw_session.specs.Removals.{MayRemove}
 use Rattle.pw_session.specs.FromBuildFiles.Driving.{KeepsUnput}
 use Rattle.pw_law_session.specs.Full.{SessionBuildsInFull}
 use Rattle.pw_top.specs.Rest.{LeavesRest}
-use Rattle.pw_top.specs.Whole.{ComesInFull, IfMade, ReportsFull, RunsFull}
+use Rattle.pw_top.specs.Whole.{BenchesFull, ComesInFull, IfMade, ReportsFull, RunsFull}
 use Rattle.pw_commands_phases.specs.First.{phase_line, phase_one_puts}
 use Rattle.pw_commands_phases.specs.Second.{phase_two_puts}
 use Rattle.pw_top_words.specs.declared.commands.Command.{Command}
@@ -89,13 +89,14 @@ RefusesAsBuilt _ files answer = Unit {0}
 
 -- Where the kept objects were genuine, `build` and `go` come to the report and to the run of the full build's image, or to its
 -- refusal, and leave its database and its image; and each build of a session, whatever ended it, is the full build of the
--- modules as they were then.
+-- modules as they were then. `bench` builds in full whatever the store keeps.
 abbrev pub BuildsWhole : Option Command → Answer → Told → Option Told → (input : List ℕ) → (input' taken taken' : Option (List ℕ)) → Type 0
 BuildsWhole (Some (Build opts)) answer told new input input' taken taken' =
     KeepsGenuine told.files → IfMade answer (ComesInFull opts told new (λ full. ReportsFull full answer taken taken'))
 BuildsWhole (Some (Go opts)) answer told new input input' taken taken' =
     KeepsGenuine told.files → IfMade answer (ComesInFull opts.build told new (λ full. RunsFull opts.budget input full answer input' taken taken'))
 BuildsWhole (Some (Session opts)) answer told new input input' taken taken' = KeepsGenuine told.files → SessionBuildsInFull opts told input
+BuildsWhole (Some (Bench number opts)) answer told new input input' taken taken' = IfMade answer (BenchesFull number opts input answer taken taken')
 BuildsWhole _ answer told new input input' taken taken' = Unit {0}
 
 -- How a session ends is a function of its script, whatever the store tells.

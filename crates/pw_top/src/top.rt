@@ -18,7 +18,7 @@ use pw_go::go;
 use pw_go::laws::runs_leave_an_end;
 use pw_io::laws::other_files;
 use pw_io::{Sink, Source, Store};
-use pw_law_session::{builds_are_full, sessions_build_in_full};
+use pw_law_session::{bench_builds_in_full, builds_are_full, sessions_build_in_full};
 use pw_session::{bench, build_modules, genuine_files_keep_genuine, run_session};
 use pw_top_answer::{Answer, Reply, tell};
 use pw_top_words::laws::commands_are_within;
@@ -204,6 +204,7 @@ pub fn pawc_top<S: Store, I: Source, O: Sink, E: Sink>(
     ensures line { IfSome (S.told store.old) (λ told. Tells (line_text (line_of (command_of (map string_bytes words.now)) told.files) result) (E.taken err.old) (E.taken err.new) (E.faults err.old) (E.faults err.new)) }
     ensures some_line { TellsSome result (E.taken err.old) (E.taken err.new) (E.faults err.old) (E.faults err.new) }
 {
+    bench_builds_in_full();
     builds_are_full();
     commands_are_within();
     runs_leave_an_end();
