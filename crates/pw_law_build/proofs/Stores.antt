@@ -58,7 +58,7 @@ module _ (never : (files : Files) (opts : Opts) (fault : BuildFault) → CanBeBu
   effect_done files opts input can genuine effect h = ap (λ (e : Effect). e.answer) h.2 ∙ done_by files opts input can genuine h.0 h.1
 
   -- an answer that is found is that of an effect
-  abbrev IsAnswered : Files → ℕ → ℕ → List ℕ → Answer → Type 0
+  abbrev IsAnswered : Files → Opts → List ℕ → Answer → Type 0
   IsAnswered files opts input a = (effect : Effect) × BuildEffect files opts input effect × (effect.answer ≡ a)
 
   found_done : (files : Files) (opts : Opts) (input : List ℕ) → CanBeBuilt (modules_of files) opts → KeepsGenuine files → (a : Answer) → IsAnswered files opts input a → a ≡ answer.Done
