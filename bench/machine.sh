@@ -15,14 +15,34 @@ rattle_program bench_machine LOOP="$(printf '0x%s, ' "${loop[@]}")" BUDGET="$bud
 #![tactic(auto)]
 
 use anyhow::Error;
+use pw_fields::frame::seal;
+use pw_image::KIND;
 use pw_io::{DropSink, SureSource};
 use pw_machine::Machine;
+use std::alloc::{AllocError, Global};
 use std::time::CpuClock;
 
 const LOOP: [u32; 12] = [@LOOP@];
 
+/// The file of an image that has the words, entered at the first, and no data, functions and globals.
+fn image_of(alloc: Global) -> Result<Vec<u8>, AllocError> {
+    let mut payload = Vec::new(alloc);
+    for number in [4096_u32, 4096, 1_048_576, 12] {
+        payload.extend_from_slice(&number.to_be_bytes())?;
+    }
+    for word in &LOOP {
+        payload.extend_from_slice(&word.to_be_bytes())?;
+    }
+    payload.extend_from_slice(&[0; 20])?;
+    let payload = payload.get(..84).unwrap_or(&[]);
+    seal(alloc, KIND, 1, payload)
+}
+
 fn main(rt: HostRuntime) -> Result<(), Error> {
-    let mut machine = Machine::from_words(rt.alloc(), &LOOP, 4096)?;
+    let image = image_of(rt.alloc())?;
+    let Ok(mut machine) = Machine::load(rt.alloc(), &image) else {
+        return Ok(());
+    };
     let mut input = SureSource::new(rt.alloc(), &[])?;
     let mut out = DropSink::new();
     let begin = rt.thread_cpu_time()?;

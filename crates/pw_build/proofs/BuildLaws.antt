@@ -14,31 +14,32 @@ use Rattle.pw_build.specs.declared.fault.BuildFault.TheVariants.{Refused, LinkRe
 use Rattle.pw_build.specs.Builds.{Builds, BuildsAnew, BuildsBy, CompletesAs, MakesBy, first_phases}
 use Rattle.pw_build.specs.Full.{built_anew}
 use Rattle.pw_db.specs.Limits.{colour_limit}
+use Rattle.pw_build_opts.specs.declared.opts.Opts.{Opts}
 
 abbrev pub OneAnswer : Type 0
-OneAnswer = (flows : List FlowModule) (kept : List (Option Object)) (colours stack : ℕ) (a b : Result Parts LinkFault) → colours ≤ colour_limit → Completes flows kept colours stack a → Completes flows kept colours stack b → a ≡ b
+OneAnswer = (flows : List FlowModule) (kept : List (Option Object)) (opts : Opts) (a b : Result Parts LinkFault) → opts.colours ≤ colour_limit → Completes flows kept opts a → Completes flows kept opts b → a ≡ b
 
 -- an answer to flow graphs, as one to a build
 abbrev as_build : Result Parts LinkFault → Result Parts BuildFault
 as_build (Ok parts) = Ok parts
 as_build (Err fault) = Err (LinkRefused fault)
 
-answered : (flows : List FlowModule) (kept : List (Option Object)) (colours stack : ℕ) (a : Result Parts BuildFault) → CompletesAs flows kept colours stack a → (x : Result Parts LinkFault) × Completes flows kept colours stack x × (as_build x ≡ a)
-answered flows kept colours stack (Ok parts) h = (Ok parts, h, refl)
-answered flows kept colours stack (Err (LinkRefused fault)) h = (Err fault, h, refl)
-answered flows kept colours stack (Err (Refused name refusal)) h = absurd h
-answered flows kept colours stack (Err StoreFault) h = absurd h
-answered flows kept colours stack (Err NoMemory) h = absurd h
+answered : (flows : List FlowModule) (kept : List (Option Object)) (opts : Opts) (a : Result Parts BuildFault) → CompletesAs flows kept opts a → (x : Result Parts LinkFault) × Completes flows kept opts x × (as_build x ≡ a)
+answered flows kept opts (Ok parts) h = (Ok parts, h, refl)
+answered flows kept opts (Err (LinkRefused fault)) h = (Err fault, h, refl)
+answered flows kept opts (Err (Refused name refusal)) h = absurd h
+answered flows kept opts (Err StoreFault) h = absurd h
+answered flows kept opts (Err NoMemory) h = absurd h
 
-one_by : OneAnswer → (flows : Result (List FlowModule) BuildFault) (kept : List (Option Object)) (colours stack : ℕ) (a b : Result Parts BuildFault) → colours ≤ colour_limit → BuildsBy flows kept colours stack a → BuildsBy flows kept colours stack b → a ≡ b
-one_by one (Err fault) kept colours stack a b few x y = x ∙ sym y
-one_by one (Ok flows) kept colours stack a b few x y =
-    let p = answered flows kept colours stack a x in
-    let q = answered flows kept colours stack b y in
-    sym p.2 ∙ ap as_build (one flows kept colours stack p.0 q.0 few p.1 q.1) ∙ q.2
+one_by : OneAnswer → (flows : Result (List FlowModule) BuildFault) (kept : List (Option Object)) (opts : Opts) (a b : Result Parts BuildFault) → opts.colours ≤ colour_limit → BuildsBy flows kept opts a → BuildsBy flows kept opts b → a ≡ b
+one_by one (Err fault) kept opts a b few x y = x ∙ sym y
+one_by one (Ok flows) kept opts a b few x y =
+    let p = answered flows kept opts a x in
+    let q = answered flows kept opts b y in
+    sym p.2 ∙ ap as_build (one flows kept opts p.0 q.0 few p.1 q.1) ∙ q.2
 
-pub one_build : OneAnswer → (sources : List Source) (kept : List (Option Object)) (colours stack : ℕ) (a b : Result Parts BuildFault) → colours ≤ colour_limit → Builds sources kept colours stack a → Builds sources kept colours stack b → a ≡ b
-one_build one sources kept colours stack a b few x y = one_by one (first_phases sources) kept colours stack a b few x y
+pub one_build : OneAnswer → (sources : List Source) (kept : List (Option Object)) (opts : Opts) (a b : Result Parts BuildFault) → opts.colours ≤ colour_limit → Builds sources kept opts a → Builds sources kept opts b → a ≡ b
+one_build one sources kept opts a b few x y = one_by one (first_phases sources) kept opts a b few x y
 
 abbrev pub OneCount : Type 0
 OneCount = (flows : List FlowModule) (kept : List (Option Object)) (colours made other : ℕ) → colours ≤ colour_limit → MakesAnew flows kept colours made → MakesAnew flows kept colours other → made ≡ other
@@ -51,15 +52,15 @@ pub one_count : OneCount → (sources : List Source) (kept : List (Option Object
 one_count one sources kept colours made other few x y = counted_by one (first_phases sources) kept colours made other few x y
 
 abbrev pub ChangeNothing : Type 0
-ChangeNothing = (flows : List FlowModule) (kept : List (Option Object)) (colours stack : ℕ) (a : Result Parts LinkFault) → AllByRecursion IsGenuineIfKept kept → Completes flows kept colours stack a → Completes flows [] colours stack (anew a)
+ChangeNothing = (flows : List FlowModule) (kept : List (Option Object)) (opts : Opts) (a : Result Parts LinkFault) → AllByRecursion IsGenuineIfKept kept → Completes flows kept opts a → Completes flows [] opts (anew a)
 
-anew_by : ChangeNothing → (flows : Result (List FlowModule) BuildFault) (kept : List (Option Object)) (colours stack : ℕ) (a : Result Parts BuildFault) → AllByRecursion IsGenuineIfKept kept → BuildsBy flows kept colours stack a → BuildsBy flows [] colours stack (built_anew a)
-anew_by same (Err fault) kept colours stack a all h = ap built_anew h
-anew_by same (Ok flows) kept colours stack (Ok parts) all h = same flows kept colours stack (Ok parts) all h
-anew_by same (Ok flows) kept colours stack (Err (LinkRefused fault)) all h = same flows kept colours stack (Err fault) all h
-anew_by same (Ok flows) kept colours stack (Err (Refused name refusal)) all h = absurd h
-anew_by same (Ok flows) kept colours stack (Err StoreFault) all h = absurd h
-anew_by same (Ok flows) kept colours stack (Err NoMemory) all h = absurd h
+anew_by : ChangeNothing → (flows : Result (List FlowModule) BuildFault) (kept : List (Option Object)) (opts : Opts) (a : Result Parts BuildFault) → AllByRecursion IsGenuineIfKept kept → BuildsBy flows kept opts a → BuildsBy flows [] opts (built_anew a)
+anew_by same (Err fault) kept opts a all h = ap built_anew h
+anew_by same (Ok flows) kept opts (Ok parts) all h = same flows kept opts (Ok parts) all h
+anew_by same (Ok flows) kept opts (Err (LinkRefused fault)) all h = same flows kept opts (Err fault) all h
+anew_by same (Ok flows) kept opts (Err (Refused name refusal)) all h = absurd h
+anew_by same (Ok flows) kept opts (Err StoreFault) all h = absurd h
+anew_by same (Ok flows) kept opts (Err NoMemory) all h = absurd h
 
-pub full_build : ChangeNothing → (sources : List Source) (kept : List (Option Object)) (colours stack : ℕ) (a : Result Parts BuildFault) → AllByRecursion IsGenuineIfKept kept → Builds sources kept colours stack a → Builds sources [] colours stack (built_anew a)
-full_build same sources kept colours stack a all h = anew_by same (first_phases sources) kept colours stack a all h
+pub full_build : ChangeNothing → (sources : List Source) (kept : List (Option Object)) (opts : Opts) (a : Result Parts BuildFault) → AllByRecursion IsGenuineIfKept kept → Builds sources kept opts a → Builds sources [] opts (built_anew a)
+full_build same sources kept opts a all h = anew_by same (first_phases sources) kept opts a all h

@@ -13,6 +13,7 @@ use Rattle.pw_build_objects.specs.Programs.{Completes, Parts}
 use Rattle.pw_build_objects.specs.Counting.{MakesAnew}
 use Rattle.pw_build.specs.declared.fault.BuildFault.{BuildFault}
 use Rattle.pw_build.specs.declared.fault.BuildFault.TheVariants.{Refused, LinkRefused}
+use Rattle.pw_build_opts.specs.declared.opts.Opts.{Opts}
 
 -- ---- the limits
 
@@ -50,20 +51,20 @@ first_phases sources = within (limit_passed sources) (flows_of sources)
 -- ---- the build
 
 -- flow graphs and kept objects come to this answer
-abbrev pub CompletesAs : List FlowModule → List (Option Object) → ℕ → ℕ → Result Parts BuildFault → Type 0
-CompletesAs flows kept colours stack (Ok parts) = Completes flows kept colours stack (Ok parts)
-CompletesAs flows kept colours stack (Err (LinkRefused fault)) = Completes flows kept colours stack (Err fault)
-CompletesAs flows kept colours stack (Err _) = ⊥
+abbrev pub CompletesAs : List FlowModule → List (Option Object) → Opts → Result Parts BuildFault → Type 0
+CompletesAs flows kept opts (Ok parts) = Completes flows kept opts (Ok parts)
+CompletesAs flows kept opts (Err (LinkRefused fault)) = Completes flows kept opts (Err fault)
+CompletesAs flows kept opts (Err _) = ⊥
 
-abbrev pub BuildsBy : Result (List FlowModule) BuildFault → List (Option Object) → ℕ → ℕ → Result Parts BuildFault → Type 0
-BuildsBy (Err fault) kept colours stack answer = answer ≡ Err fault
-BuildsBy (Ok flows) kept colours stack answer = CompletesAs flows kept colours stack answer
+abbrev pub BuildsBy : Result (List FlowModule) BuildFault → List (Option Object) → Opts → Result Parts BuildFault → Type 0
+BuildsBy (Err fault) kept opts answer = answer ≡ Err fault
+BuildsBy (Ok flows) kept opts answer = CompletesAs flows kept opts answer
 
 -- Modules in the byte order of their names, and what was kept of each, at its place, come to this answer for so many
 -- registers and such a stack: a limit that is passed; or the first module that is refused; or a rule of linking that is
 -- broken; or the parts of the program.
-abbrev pub Builds : List Source → List (Option Object) → ℕ → ℕ → Result Parts BuildFault → Type 0
-Builds sources kept colours stack answer = BuildsBy (first_phases sources) kept colours stack answer
+abbrev pub Builds : List Source → List (Option Object) → Opts → Result Parts BuildFault → Type 0
+Builds sources kept opts answer = BuildsBy (first_phases sources) kept opts answer
 
 -- how many objects the same build makes anew: none where a limit is passed or a module is refused
 abbrev pub MakesBy : Result (List FlowModule) BuildFault → List (Option Object) → ℕ → ℕ → Type 0
@@ -74,5 +75,5 @@ abbrev pub BuildsAnew : List Source → List (Option Object) → ℕ → ℕ →
 BuildsAnew sources kept colours made = MakesBy (first_phases sources) kept colours made
 
 -- the build of texts where nothing was kept
-abbrev pub FullBuild : Texts → ℕ → ℕ → Result Parts BuildFault → Type 0
-FullBuild texts colours stack answer = Builds (finite.entries texts) [] colours stack answer
+abbrev pub FullBuild : Texts → Opts → Result Parts BuildFault → Type 0
+FullBuild texts opts answer = Builds (finite.entries texts) [] opts answer

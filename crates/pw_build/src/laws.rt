@@ -10,12 +10,13 @@ ghost use Rattle.pw_build.specs.declared.fault.BuildFault.{BuildFault};
 ghost use Rattle.pw_build.specs.Builds.{Builds, BuildsAnew};
 ghost use Rattle.pw_build.specs.Full.{built_anew};
 ghost use Rattle.pw_db.specs.Limits.{colour_limit};
+ghost use Rattle.pw_build_opts.specs.declared.opts.Opts.{Opts};
 
 use pw_build_objects::laws::{flow_graphs_have_one_answer, genuine_objects_change_nothing};
 
 /// Modules and what was kept of them come to one answer, and so many objects of theirs are made anew.
 pub fn modules_have_one_build()
-    ensures answer { (sources : List Source) (kept : List (Option Object)) (colours stack : ℕ) (a b : Result Parts BuildFault) → colours ≤ colour_limit → Builds sources kept colours stack a → Builds sources kept colours stack b → a ≡ b }
+    ensures answer { (sources : List Source) (kept : List (Option Object)) (opts : Opts) (a b : Result Parts BuildFault) → opts.colours ≤ colour_limit → Builds sources kept opts a → Builds sources kept opts b → a ≡ b }
     ensures count { (sources : List Source) (kept : List (Option Object)) (colours made other : ℕ) → colours ≤ colour_limit → BuildsAnew sources kept colours made → BuildsAnew sources kept colours other → made ≡ other }
 {
     flow_graphs_have_one_answer();
@@ -23,7 +24,7 @@ pub fn modules_have_one_build()
 
 /// Where the second phase made what was kept, the answer is that of the full build, in which all objects are made anew.
 pub fn genuine_objects_give_the_full_build()
-    ensures { (sources : List Source) (kept : List (Option Object)) (colours stack : ℕ) (a : Result Parts BuildFault) → AllByRecursion IsGenuineIfKept kept → Builds sources kept colours stack a → Builds sources [] colours stack (built_anew a) }
+    ensures { (sources : List Source) (kept : List (Option Object)) (opts : Opts) (a : Result Parts BuildFault) → AllByRecursion IsGenuineIfKept kept → Builds sources kept opts a → Builds sources [] opts (built_anew a) }
 {
     genuine_objects_change_nothing();
 }

@@ -16,7 +16,7 @@ use Rattle.pw_build_files.specs.FromBuild.Stores.{store_fault}
 use Rattle.pw_build_files.specs.Programs.{AnswersFault, IsCounted}
 use Rattle.pw_build_files.proofs.ProgramLemmas.{stored}
 use Rattle.pw_store_kept.specs.Kept.{kept_object}
-use Rattle.pw_build_files.specs.declared.report.Opts.{Opts}
+use Rattle.pw_build_opts.specs.declared.opts.Opts.{Opts}
 use Rattle.pw_build_files.specs.declared.report.Report.{Report}
 use Rattle.pw_build_files.specs.Building.{kept_objects}
 use Rattle.pw_build_files.specs.Outcomes.{CountsFound, IsOfStore}

@@ -6,17 +6,17 @@ use Rattle.pw_io.specs.Streams.{Appends}
 use Rattle.pw_top_answer.specs.declared.answer.Answer.{Answer}
 use Rattle.pw_top_answer.specs.declared.answer.Answer.TheVariants as answer
 use Rattle.pw_top_answer.specs.Effects.{Effect, NamedFile, PutsFiles, after_puts}
-use Rattle.pw_top_answer.specs.Outcomes.{Answers, IsLineDue, IsPrintAnswer, LeavesStreams, OutputCount, PutsOut, StoreCount}
+use Rattle.pw_top_answer.specs.Outcomes.{Answers, IsLineDue, IsNoRefusal, IsPrintAnswer, LeavesStreams, OutputCount, PutsOut, StoreCount}
 use Rattle.pw_store_modules.specs.Modules.{modules_of}
 use Rattle.pw_build_files.specs.FromBuild.BuildFault.{BuildFault}
 use Rattle.pw_build_files.specs.FromBuild.BuildFault.TheVariants as build
 use Rattle.pw_build_files.specs.FromBuild.Unbuilt.{Unbuilt}
 use Rattle.pw_build_files.specs.FromBuild.Phases.{IsLine, refused_line}
-use Rattle.pw_build_files.specs.declared.report.Opts.{Opts}
+use Rattle.pw_build_opts.specs.declared.opts.Opts.{Opts}
 use Rattle.pw_build_files.specs.declared.report.Report.{Report}
-use Rattle.pw_build_files.specs.Building.{Outcome, puts_of}
+use Rattle.pw_build_files.specs.Building.{BuildOutcome, Outcome, puts_of}
 use Rattle.pw_build_files.specs.Lines.{report_lines, report_text}
-use Rattle.pw_build_files.specs.Outcomes.{AnswersFault, FaultFound, IsLineOfBuild, IsNoWant, ObeysBuild, Reports, fault_answer}
+use Rattle.pw_build_files.specs.Outcomes.{AnswersFault, AnswersOutcome, FaultFound, IsLineOfBuild, IsNoWant, ObeysBuild, Reports, fault_answer}
 use Rattle.pw_commands.specs.Outcome.{IsFound, Obeys}
 use Rattle.pw_build_files.specs.Driving.{BuildEffect, IsBuildAnswer, built_effect, outcome_lines}
 
@@ -44,21 +44,21 @@ found_done comes one answer.WriteFault c e h = (one, c)
 found_done comes one answer.NoMemory c e h = tt
 found_done comes one _ c e h = absurd h
 
-reported : (opts : Opts) (report : Report) (a : Answer) (told : Told) (new : Option Told) (input : List ℕ) → IsPrintAnswer a → ObeysBuild opts (Ok report) told new → Obeys (BuildEffect told.files opts.colours opts.stack input) a told new
+reported : (opts : Opts) (report : Report) (a : Answer) (told : Told) (new : Option Told) (input : List ℕ) → IsPrintAnswer a → ObeysBuild opts (Ok report) told new → Obeys (BuildEffect told.files opts input) a told new
 reported opts report a told new input ok b = record {
   answers = λ e d. subst (λ (x : Effect). Answers x.answer a) (sym (is e d)) (done_answers a ok);
   puts = λ e d. subst (λ (x : Effect). PutsFiles x.puts a told new) (sym (is e d)) (all_put (b.answers d.0 d.1).0.puts a told new ok (put e d));
-  found = found_done (BuildEffect told.files opts.colours opts.stack input) (built_effect (Ok b.found.0) input) a (Ok b.found.0, b.found.1, refl) refl ok;
+  found = found_done (BuildEffect told.files opts input) (built_effect (Ok b.found.0) input) a (Ok b.found.0, b.found.1, refl) refl ok;
 }
   where
-    is : (e : Effect) (d : BuildEffect told.files opts.colours opts.stack input e) → e ≡ built_effect (Ok (b.answers d.0 d.1).0) input
+    is : (e : Effect) (d : BuildEffect told.files opts input e) → e ≡ built_effect (Ok (b.answers d.0 d.1).0) input
     is e d = d.2 ∙ ap (λ (c : Result Outcome BuildFault). built_effect c input) (b.answers d.0 d.1).1
 
-    put : (e : Effect) (d : BuildEffect told.files opts.colours opts.stack input e) → new ≡ Some (after_puts told (b.answers d.0 d.1).0.puts)
+    put : (e : Effect) (d : BuildEffect told.files opts input e) → new ≡ Some (after_puts told (b.answers d.0 d.1).0.puts)
     put e d = subst (λ (c : Result Outcome BuildFault). new ≡ Some (after_puts told (puts_of c))) (b.answers d.0 d.1).1 (b.puts d.0 d.1)
 
 pub report_obeys : (told new : Option Told) (opts : Opts) (report : Report) (a : Answer) → IsPrintAnswer a → IfSome told (λ t. ObeysBuild opts (Ok report) t new)
-    → IfSome told (λ t. (input : List ℕ) → Obeys (BuildEffect t.files opts.colours opts.stack input) a t new)
+    → IfSome told (λ t. (input : List ℕ) → Obeys (BuildEffect t.files opts input) a t new)
 report_obeys None new opts report a ok h = tt
 report_obeys (Some t) new opts report a ok h = λ input. reported opts report a t new input ok h
 
@@ -71,7 +71,7 @@ lines_are outcome report r =
     ∙ ap (λ (digest : List ℕ). report_lines (length outcome.rebuilt) outcome.modules (length outcome.image) digest) r.digest
 
 put_out : (opts : Opts) (report : Report) (a : Answer) (told : Told) (new : Option Told) (old taken : Option (List ℕ)) (input : List ℕ) (e : Effect) → ObeysBuild opts (Ok report) told new → PutsOut (report_text report) a old taken
-    → BuildEffect told.files opts.colours opts.stack input e → PutsOut e.output a old taken
+    → BuildEffect told.files opts input e → PutsOut e.output a old taken
 put_out opts report a told new old taken input e b out d =
     let r = b.answers d.0 d.1 in
     let is : e ≡ built_effect (Ok r.0) input = d.2 ∙ ap (λ (c : Result Outcome BuildFault). built_effect c input) r.1 in
@@ -79,7 +79,7 @@ put_out opts report a told new old taken input e b out d =
     subst (λ (x : Effect). PutsOut x.output a old taken) (sym is) lines
 
 pub report_output : (told new : Option Told) (opts : Opts) (report : Report) (a : Answer) (old taken : Option (List ℕ)) → IfSome told (λ t. ObeysBuild opts (Ok report) t new) → PutsOut (report_text report) a old taken
-    → IfSome told (λ t. (input : List ℕ) (e : Effect) → BuildEffect t.files opts.colours opts.stack input e → PutsOut e.output a old taken)
+    → IfSome told (λ t. (input : List ℕ) (e : Effect) → BuildEffect t.files opts input e → PutsOut e.output a old taken)
 report_output None new opts report a old taken h out = tt
 report_output (Some t) new opts report a old taken h out = λ input e d. put_out opts report a t new old taken input e h out d
 
@@ -124,13 +124,13 @@ puts_are : (comes : Result Outcome BuildFault) (input : List ℕ) → puts_of co
 puts_are (Ok outcome) input = refl
 puts_are (Err fault) input = refl
 
-fault_found : (files : Files) (opts : Opts) (fault : BuildFault) (input : List ℕ) → FaultFound files opts fault → IsFound (BuildEffect files opts.colours opts.stack input) (fault_answer fault)
+fault_found : (files : Files) (opts : Opts) (fault : BuildFault) (input : List ℕ) → FaultFound files opts fault → IsFound (BuildEffect files opts input) (fault_answer fault)
 fault_found files opts (build.Refused name refusal) input h = (built_effect (Err (build.Refused name refusal)) input, (Err (build.Refused name refusal), h, refl), refl)
 fault_found files opts (build.LinkRefused fault) input h = (built_effect (Err (build.LinkRefused fault)) input, (Err (build.LinkRefused fault), h, refl), refl)
 fault_found files opts build.StoreFault input h = tt
 fault_found files opts build.NoMemory input h = tt
 
-unbuilt_obeys : (opts : Opts) (unbuilt : Unbuilt) (told : Told) (new : Option Told) (input : List ℕ) → ObeysBuild opts (Err unbuilt) told new → Obeys (BuildEffect told.files opts.colours opts.stack input) (fault_answer unbuilt.fault) told new
+unbuilt_obeys : (opts : Opts) (unbuilt : Unbuilt) (told : Told) (new : Option Told) (input : List ℕ) → ObeysBuild opts (Err unbuilt) told new → Obeys (BuildEffect told.files opts input) (fault_answer unbuilt.fault) told new
 unbuilt_obeys opts unbuilt told new input b = record {
   answers = λ e d. subst (λ (x : Effect). Answers x.answer (fault_answer unbuilt.fault)) (sym d.2) (fault_answers d.0 unbuilt.fault input (b.answers d.0 d.1));
   puts = λ e d.
@@ -140,10 +140,10 @@ unbuilt_obeys opts unbuilt told new input b = record {
 }
 
 pub fault_obeys : (told new : Option Told) (opts : Opts) (unbuilt : Unbuilt) (a : Answer) → a ≡ fault_answer unbuilt.fault → IfSome told (λ t. ObeysBuild opts (Err unbuilt) t new)
-    → IfSome told (λ t. (input : List ℕ) → Obeys (BuildEffect t.files opts.colours opts.stack input) a t new)
+    → IfSome told (λ t. (input : List ℕ) → Obeys (BuildEffect t.files opts input) a t new)
 fault_obeys None new opts unbuilt a e h = tt
 fault_obeys (Some t) new opts unbuilt a e h =
-    λ input. subst (λ (x : Answer). Obeys (BuildEffect t.files opts.colours opts.stack input) x t new) (sym e) (unbuilt_obeys opts unbuilt t new input h)
+    λ input. subst (λ (x : Answer). Obeys (BuildEffect t.files opts input) x t new) (sym e) (unbuilt_obeys opts unbuilt t new input h)
 
 -- nothing was put out
 none_out : (comes : Result Outcome BuildFault) (fault : BuildFault) (input : List ℕ) (taken : Option (List ℕ)) → AnswersFault comes fault → PutsOut (built_effect comes input).output (fault_answer fault) taken taken
@@ -157,7 +157,7 @@ none_out comes build.StoreFault input taken h = record { output = []; more = (bu
 none_out comes build.NoMemory input taken h = record { output = []; more = (built_effect comes input).output; taken = appends_none taken; front = refl; whole = tt }
 
 pub fault_output : (told new : Option Told) (opts : Opts) (unbuilt : Unbuilt) (a : Answer) (taken : Option (List ℕ)) → a ≡ fault_answer unbuilt.fault → IfSome told (λ t. ObeysBuild opts (Err unbuilt) t new)
-    → IfSome told (λ t. (input : List ℕ) (e : Effect) → BuildEffect t.files opts.colours opts.stack input e → PutsOut e.output a taken taken)
+    → IfSome told (λ t. (input : List ℕ) (e : Effect) → BuildEffect t.files opts input e → PutsOut e.output a taken taken)
 fault_output None new opts unbuilt a taken e h = tt
 fault_output (Some t) new opts unbuilt a taken e h =
     λ input x d. subst (λ (b : Answer). PutsOut x.output b taken taken) (sym e)
@@ -200,3 +200,35 @@ pub fault_line : (told : Option Told) (unbuilt : Unbuilt) (a : Answer) (line : �
     → IfSome told (λ t. IsLineDue (refused_line (modules_of t.files)) a line)
 fault_line None unbuilt a line e f h = tt
 fault_line (Some t) unbuilt a line e f h = rw (e, f) (line_due (refused_line (modules_of t.files)) unbuilt.fault unbuilt.line h)
+
+-- ---- refusals, whatever the input tells
+
+print_no_refusal : (a : Answer) → IsPrintAnswer a → IsNoRefusal a
+print_no_refusal answer.Done h = tt
+print_no_refusal answer.WriteFault h = tt
+print_no_refusal answer.NoMemory h = tt
+print_no_refusal _ h = absurd h
+
+pub report_refusal : (told new : Option Told) (opts : Opts) (report : Report) (a : Answer) → IsPrintAnswer a → IfSome told (λ t. ObeysBuild opts (Ok report) t new)
+    → IfSome told (λ t. (comes : Result Outcome BuildFault) → BuildOutcome t.files opts comes → AnswersOutcome comes a)
+report_refusal None new opts report a ok h = tt
+report_refusal (Some t) new opts report a ok h = λ comes b. subst (λ (x : Result Outcome BuildFault). AnswersOutcome x a) (sym (h.answers comes b).1) (print_no_refusal a ok)
+
+in_store : (comes : Result Outcome BuildFault) → AnswersOutcome comes answer.StoreFault
+in_store (Ok outcome) = tt
+in_store (Err fault) = tt
+
+in_memory : (comes : Result Outcome BuildFault) → AnswersOutcome comes answer.NoMemory
+in_memory (Ok outcome) = tt
+in_memory (Err fault) = tt
+
+pub refused_outcome : (fault : BuildFault) (comes : Result Outcome BuildFault) → AnswersFault comes fault → AnswersOutcome comes (fault_answer fault)
+refused_outcome (build.Refused name refusal) comes is = subst (λ (x : Result Outcome BuildFault). AnswersOutcome x (answer.Refused name refusal)) (sym is) refl
+refused_outcome (build.LinkRefused fault) comes is = subst (λ (x : Result Outcome BuildFault). AnswersOutcome x (answer.LinkRefused fault)) (sym is) refl
+refused_outcome build.StoreFault comes is = in_store comes
+refused_outcome build.NoMemory comes is = in_memory comes
+
+pub fault_refusal : (told new : Option Told) (opts : Opts) (unbuilt : Unbuilt) (a : Answer) → a ≡ fault_answer unbuilt.fault → IfSome told (λ t. ObeysBuild opts (Err unbuilt) t new)
+    → IfSome told (λ t. (comes : Result Outcome BuildFault) → BuildOutcome t.files opts comes → AnswersOutcome comes a)
+fault_refusal None new opts unbuilt a e h = tt
+fault_refusal (Some t) new opts unbuilt a e h = λ comes b. subst (AnswersOutcome comes) (sym e) (refused_outcome unbuilt.fault comes (h.answers comes b))

@@ -2,6 +2,7 @@
 use Rattle.std.proofs.Common.{◌≡◌, ◌⊎◌, inl, inr, arith, ℕ, Bool, true, false, not, cond, List, [], ◌∷◌, ◌++◌, length, map, Option, Some, None, Result, Ok, Err, refl, sym, ap, ◌∙◌, subst}
 use Rattle.std.specs.Prelude.{IfErr, IfSome}
 use Rattle.std.proofs.lemmas.List.{length-map}
+use Rattle.std.specs.FinMap as finite
 use Rattle.pw_io.specs.Files.{Files, Told, Keeps}
 use Rattle.pw_io.specs.declared.StoreError.{StoreError}
 use Rattle.pw_io.specs.declared.StoreError.TheVariants as store
@@ -21,10 +22,10 @@ use Rattle.pw_build_files.specs.FromBuild.Unbuilt.{Unbuilt}
 use Rattle.pw_build_files.specs.FromBuild.Builds.{Builds, BuildsBy, first_phases}
 use Rattle.pw_build_files.specs.FromBuild.Phases.{IsLine, refused_line}
 use Rattle.pw_build_files.specs.FromBuild.Stores.{store_fault}
-use Rattle.pw_build_files.specs.declared.report.Opts.{Opts}
+use Rattle.pw_build_opts.specs.declared.opts.Opts.{Opts}
 use Rattle.pw_store_kept.specs.declared.files.ProgramFiles.{ProgramFiles}
 use Rattle.pw_store_kept.specs.declared.prepared.Prepared.{Prepared}
-use Rattle.pw_store_kept.specs.Kept.{is_same, kept_bytes, kept_object}
+use Rattle.pw_store_kept.specs.Kept.{is_same, kept_object}
 use Rattle.pw_store_kept.specs.Files.{AreObjectFiles, HoldBytes, IsCompared, file_view, made_anew, one_if}
 use Rattle.pw_build_files.specs.Building.{BuildOutcome, if_changed, kept_objects}
 use Rattle.pw_build_files.specs.Programs.{BuildsFiles, FaultBuilds, AnswersFault}
@@ -51,15 +52,15 @@ one_if_changed true changed name bytes e = ap (λ (b : Bool). one_if b name byte
 one_if_changed false changed name bytes e = ap (λ (b : Bool). one_if b name bytes) e
 
 comes_told : (files : Files) (opts : Opts) (ms : List Module) (made : ProgramFiles) (p : Prepared) (count : ℕ) → map source ms ≡ modules_of files
-    → BuildsFiles (map source ms) (map (λ m. kept_object files m.name) ms) opts.colours opts.stack made → HoldBytes (map file_view made.fresh.files.items) → count ≡ length ms → IsCompared files count made p → BuildOutcome files opts.colours opts.stack (Ok (outcome_of p))
+    → BuildsFiles (map source ms) (map (λ m. kept_object files m.name) ms) opts made → HoldBytes (map file_view made.fresh.files.items) → count ≡ length ms → IsCompared files count made p → BuildOutcome files opts (Ok (outcome_of p))
 comes_told files opts ms made p count sources builds fits few cmp =
     let parts = builds.0 in
     let m = builds.2 in
     let names : map (λ s. s.0) (map source ms) ≡ names_of_modules files = ap (map (λ s. s.0)) sources in
     let anew : List (List ℕ) → List (List ℕ × Object) = λ ns. made_anew ns parts.objects parts.fresh in (
       parts,
-      subst (λ (s : List Source). Builds s (kept_objects files) opts.colours opts.stack (Ok parts)) sources
-          (subst (λ (k : List (Option Object)). Builds (map source ms) k opts.colours opts.stack (Ok parts)) (kept_are ms files sources) builds.1),
+      subst (λ (s : List Source). Builds s (kept_objects files) opts (Ok parts)) sources
+          (subst (λ (k : List (Option Object)). Builds (map source ms) k opts (Ok parts)) (kept_are ms files sources) builds.1),
       record {
         modules = cmp.modules ∙ few ∙ sym (length-map ms source) ∙ ap length sources ∙ sym (length-map (modules_of files) (λ s. s.0));
         rebuilt = cmp.rebuilt ∙ m.rebuilt ∙ ap (λ (ns : List (List ℕ)). map (λ x. x.0) (anew ns)) names;
@@ -73,16 +74,16 @@ comes_told files opts ms made p count sources builds fits few cmp =
         image_file = subst (λ (b : List ℕ). IsImageFile b (record { names = m.image_names; value = linked parts.objects opts.stack })) (sym cmp.image) m.image;
         puts = ap (λ (fs : List NamedFile). map file_view p.objects.items ++ fs)
             (ap (λ (fs : List NamedFile). fs ++ one_if p.image_changed image_name p.image.items)
-            (one_if_changed (is_same (kept_bytes files database_name) p.database.items) p.database_changed database_name p.database.items
-            (cmp.database_changed ∙ ap (λ (b : List ℕ). not (is_same (kept_bytes files database_name) b)) (sym cmp.database)))
+            (one_if_changed (is_same (finite.get files database_name) p.database.items) p.database_changed database_name p.database.items
+            (cmp.database_changed ∙ ap (λ (b : List ℕ). not (is_same (finite.get files database_name) b)) (sym cmp.database)))
             ∙ ap (λ (fs : List NamedFile). if_changed files database_name p.database.items ++ fs)
-            (one_if_changed (is_same (kept_bytes files image_name) p.image.items) p.image_changed image_name p.image.items
-            (cmp.image_changed ∙ ap (λ (b : List ℕ). not (is_same (kept_bytes files image_name) b)) (sym cmp.image))));
+            (one_if_changed (is_same (finite.get files image_name) p.image.items) p.image_changed image_name p.image.items
+            (cmp.image_changed ∙ ap (λ (b : List ℕ). not (is_same (finite.get files image_name) b)) (sym cmp.image))));
       },
     )
 
-pub comes_prepared : (opts : Opts) (first now : Option Told) (ms : List Module) (made : ProgramFiles) (p : Prepared) (count : ℕ) → IfSome first (λ told. BuildsFiles (map source ms) (map (λ m. kept_object told.files m.name) ms) opts.colours opts.stack made) → HoldBytes (map file_view made.fresh.files.items) → Keeps first now → count ≡ length ms
-    → IfSome now (λ told. IsCompared told.files count made p) → IfSome first (λ told. map source ms ≡ modules_of told.files → BuildOutcome told.files opts.colours opts.stack (Ok (outcome_of p)))
+pub comes_prepared : (opts : Opts) (first now : Option Told) (ms : List Module) (made : ProgramFiles) (p : Prepared) (count : ℕ) → IfSome first (λ told. BuildsFiles (map source ms) (map (λ m. kept_object told.files m.name) ms) opts made) → HoldBytes (map file_view made.fresh.files.items) → Keeps first now → count ≡ length ms
+    → IfSome now (λ told. IsCompared told.files count made p) → IfSome first (λ told. map source ms ≡ modules_of told.files → BuildOutcome told.files opts (Ok (outcome_of p)))
 comes_prepared opts None now ms made p count builds fits same few cmp = tt
 comes_prepared opts (Some told) now ms made p count builds fits same few cmp = λ sources.
     let Q : Option Told → Type 0 = λ o. IfSome o (λ t. IsCompared t.files count made p) in
@@ -98,25 +99,25 @@ on_modules P X (Some told) now is same h = subst (λ (o : Option Told). IfSome o
 early_told : (files : Files) (opts : Opts) (fault : BuildFault) → AnswersFault (first_phases (modules_of files)) fault → FaultFound files opts fault
 early_told files opts build.StoreFault h = tt
 early_told files opts build.NoMemory h = tt
-early_told files opts (build.Refused name refusal) h = subst (λ (r : Result (List FlowModule) BuildFault). BuildsBy r (kept_objects files) opts.colours opts.stack (Err (build.Refused name refusal))) (sym h) refl
-early_told files opts (build.LinkRefused fault) h = subst (λ (r : Result (List FlowModule) BuildFault). BuildsBy r (kept_objects files) opts.colours opts.stack (Err (build.LinkRefused fault))) (sym h) refl
+early_told files opts (build.Refused name refusal) h = subst (λ (r : Result (List FlowModule) BuildFault). BuildsBy r (kept_objects files) opts (Err (build.Refused name refusal))) (sym h) refl
+early_told files opts (build.LinkRefused fault) h = subst (λ (r : Result (List FlowModule) BuildFault). BuildsBy r (kept_objects files) opts (Err (build.LinkRefused fault))) (sym h) refl
 
 pub found_early : (opts : Opts) (first : Option Told) (fault : BuildFault) → IfSome first (λ told. AnswersFault (first_phases (modules_of told.files)) fault) → IfSome first (λ told. FaultFound told.files opts fault)
 found_early opts None fault h = tt
 found_early opts (Some told) fault h = early_told told.files opts fault h
 
-late_told : (files : Files) (opts : Opts) (ms : List Module) (fault : BuildFault) → map source ms ≡ modules_of files → FaultBuilds (map source ms) (map (λ m. kept_object files m.name) ms) opts.colours opts.stack fault → FaultFound files opts fault
+late_told : (files : Files) (opts : Opts) (ms : List Module) (fault : BuildFault) → map source ms ≡ modules_of files → FaultBuilds (map source ms) (map (λ m. kept_object files m.name) ms) opts fault → FaultFound files opts fault
 late_told files opts ms fault sources h =
-    by_fault fault (subst (λ (s : List Source). FaultBuilds s (kept_objects files) opts.colours opts.stack fault) sources (subst (λ (k : List (Option Object)). FaultBuilds (map source ms) k opts.colours opts.stack fault) (kept_are ms files sources) h))
+    by_fault fault (subst (λ (s : List Source). FaultBuilds s (kept_objects files) opts fault) sources (subst (λ (k : List (Option Object)). FaultBuilds (map source ms) k opts fault) (kept_are ms files sources) h))
   where
-    by_fault : (f : BuildFault) → FaultBuilds (modules_of files) (kept_objects files) opts.colours opts.stack f → FaultFound files opts f
+    by_fault : (f : BuildFault) → FaultBuilds (modules_of files) (kept_objects files) opts f → FaultFound files opts f
     by_fault build.StoreFault h = tt
     by_fault build.NoMemory h = tt
     by_fault (build.Refused name refusal) h = h
     by_fault (build.LinkRefused fault) h = h
 
 pub found_late : (opts : Opts) (first : Option Told) (ms : List Module) (fault : BuildFault)
-    → IfSome first (λ told. FaultBuilds (map source ms) (map (λ m. kept_object told.files m.name) ms) opts.colours opts.stack fault) → IfSome first (λ told. map source ms ≡ modules_of told.files → FaultFound told.files opts fault)
+    → IfSome first (λ told. FaultBuilds (map source ms) (map (λ m. kept_object told.files m.name) ms) opts fault) → IfSome first (λ told. map source ms ≡ modules_of told.files → FaultFound told.files opts fault)
 found_late opts None ms fault h = tt
 found_late opts (Some told) ms fault h = λ sources. late_told told.files opts ms fault sources h
 

@@ -15,13 +15,14 @@ use Rattle.pw_build_objects.specs.Kept.{all_fresh}
 use Rattle.pw_build_files.specs.FromBuild.BuildFault.{BuildFault}
 use Rattle.pw_build_files.specs.FromBuild.Builds.{Builds, first_phases}
 use Rattle.pw_build_files.specs.FromBuild.Full.{built_anew}
-use Rattle.pw_store_kept.specs.Kept.{is_same, kept_bytes}
+use Rattle.pw_store_kept.specs.Kept.{is_same}
 use Rattle.pw_store_kept.specs.Files.{made_anew}
 use Rattle.pw_build_files.specs.Building.{BuildOutcome, IsOutcome, Outcome, if_changed, kept_objects}
 use Rattle.pw_build_files.specs.Full.{BuildsImage, image_of}
 use Rattle.pw_build_files.specs.Genuine.{IsBuiltName, IsOwnFile, KeepsGenuine}
 use Rattle.pw_build_files.proofs.GenuineLemmas.{FileLaws, after_keeps, files_good, good_append, no_database, no_image, own_genuine, parts_genuine}
 use Rattle.pw_db.specs.Limits.{colour_limit}
+use Rattle.pw_build_opts.specs.declared.opts.Opts.{Opts}
 
 -- ---- one image
 
@@ -35,49 +36,49 @@ same_fault : (f g : BuildFault) → ◌≡◌ {A = Result Parts BuildFault} (Err
 same_fault f g e = cc
 
 abbrev HasOneBuild : Type 0
-HasOneBuild = (sources : List Source) (kept : List (Option Object)) (colours stack : ℕ) (a b : Result Parts BuildFault) → colours ≤ colour_limit → Builds sources kept colours stack a → Builds sources kept colours stack b → a ≡ b
+HasOneBuild = (sources : List Source) (kept : List (Option Object)) (opts : Opts) (a b : Result Parts BuildFault) → opts.colours ≤ colour_limit → Builds sources kept opts a → Builds sources kept opts b → a ≡ b
 
 abbrev HasOneFile : Type 0
 HasOneFile = (bytes others : List ℕ) (c d : Contents Image) → IsImageFile bytes c → IsImageFile others d → c.value ≡ d.value → bytes ≡ others
 
-pub one_image : HasOneBuild → HasOneFile → (texts : Texts) (colours stack : ℕ) (a b : Result (List ℕ) BuildFault) → colours ≤ colour_limit → BuildsImage texts colours stack a → BuildsImage texts colours stack b → a ≡ b
-one_image build file texts colours stack (Ok x) (Ok y) few a b =
-    let same : a.0 ≡ b.0 = ok_parts a.0 b.0 (build (finite.entries texts) [] colours stack (Ok a.0) (Ok b.0) few a.1 b.1) in
-    ap Ok (file x y _ _ a.2.1 b.2.1 (ap (λ (p : Parts). linked p.objects stack) same))
-one_image build file texts colours stack (Ok x) (Err fault) few a b = absurd (no_parts a.0 fault (build (finite.entries texts) [] colours stack (Ok a.0) (Err fault) few a.1 b))
-one_image build file texts colours stack (Err fault) (Ok y) few a b = absurd (no_parts b.0 fault (build (finite.entries texts) [] colours stack (Ok b.0) (Err fault) few b.1 a))
-one_image build file texts colours stack (Err f) (Err g) few a b = same_fault f g (build (finite.entries texts) [] colours stack (Err f) (Err g) few a b)
+pub one_image : HasOneBuild → HasOneFile → (texts : Texts) (opts : Opts) (a b : Result (List ℕ) BuildFault) → opts.colours ≤ colour_limit → BuildsImage texts opts a → BuildsImage texts opts b → a ≡ b
+one_image build file texts opts (Ok x) (Ok y) few a b =
+    let same : a.0 ≡ b.0 = ok_parts a.0 b.0 (build (finite.entries texts) [] opts (Ok a.0) (Ok b.0) few a.1 b.1) in
+    ap Ok (file x y _ _ a.2.1 b.2.1 (ap (λ (p : Parts). linked p.objects opts.stack) same))
+one_image build file texts opts (Ok x) (Err fault) few a b = absurd (no_parts a.0 fault (build (finite.entries texts) [] opts (Ok a.0) (Err fault) few a.1 b))
+one_image build file texts opts (Err fault) (Ok y) few a b = absurd (no_parts b.0 fault (build (finite.entries texts) [] opts (Ok b.0) (Err fault) few b.1 a))
+one_image build file texts opts (Err f) (Err g) few a b = same_fault f g (build (finite.entries texts) [] opts (Err f) (Err g) few a b)
 
 -- ---- the full build's
 
 abbrev GivesFull : Type 0
-GivesFull = (files : Files) (colours stack : ℕ) (a : Result Parts BuildFault) → KeepsGenuine files → Builds (modules_of files) (kept_objects files) colours stack a → Builds (modules_of files) [] colours stack (built_anew a)
+GivesFull = (files : Files) (opts : Opts) (a : Result Parts BuildFault) → KeepsGenuine files → Builds (modules_of files) (kept_objects files) opts a → Builds (modules_of files) [] opts (built_anew a)
 
-pub full_image : GivesFull → (files : Files) (colours stack : ℕ) (comes : Result Outcome BuildFault) → KeepsGenuine files → BuildOutcome files colours stack comes → BuildsImage (module_map files) colours stack (image_of comes)
-full_image full files colours stack (Ok outcome) keeps h = (all_fresh h.0, full files colours stack (Ok h.0) keeps h.1, (h.2.image_names, h.2.image_file))
-full_image full files colours stack (Err fault) keeps h = full files colours stack (Err fault) keeps h
+pub full_image : GivesFull → (files : Files) (opts : Opts) (comes : Result Outcome BuildFault) → KeepsGenuine files → BuildOutcome files opts comes → BuildsImage (module_map files) opts (image_of comes)
+full_image full files opts (Ok outcome) keeps h = (all_fresh h.0, full files opts (Ok h.0) keeps h.1, (h.2.image_names, h.2.image_file))
+full_image full files opts (Err fault) keeps h = full files opts (Err fault) keeps h
 
 -- ---- what is left
 
 if_changed_good : (files : Files) (name bytes : List ℕ) → IsBuiltName name → ((other : List ℕ) → object_name other ≡ name → ⊥) → AllByRecursion IsOwnFile (if_changed files name bytes)
-if_changed_good files name bytes built apart = by_same (is_same (kept_bytes files name) bytes)
+if_changed_good files name bytes built apart = by_same (is_same (finite.get files name) bytes)
   where
     by_same : (same : Bool) → AllByRecursion IsOwnFile (cond same [] ((name, bytes) ∷ []))
     by_same true = tt
     by_same false = ((built, λ other named. absurd (apart other named)), tt)
 
-objects_good : (files : Files) (colours stack : ℕ) (parts : Parts) (outcome : Outcome) → Builds (modules_of files) (kept_objects files) colours stack (Ok parts) → (o : IsOutcome files stack parts outcome) → AllByRecursion IsOwnFile o.objects
-objects_good files colours stack parts outcome builds o =
+objects_good : (files : Files) (opts : Opts) (parts : Parts) (outcome : Outcome) → Builds (modules_of files) (kept_objects files) opts (Ok parts) → (o : IsOutcome files opts.stack parts outcome) → AllByRecursion IsOwnFile o.objects
+objects_good files opts parts outcome builds o =
     let names = names_of_modules files in
-    files_good (made_anew names parts.objects parts.fresh) o.objects (parts_genuine names (first_phases (modules_of files)) (kept_objects files) colours stack parts builds) o.object_bytes o.object_files
+    files_good (made_anew names parts.objects parts.fresh) o.objects (parts_genuine names (first_phases (modules_of files)) (kept_objects files) opts parts builds) o.object_bytes o.object_files
 
-outcome_good : (files : Files) (colours stack : ℕ) (parts : Parts) (outcome : Outcome) → Builds (modules_of files) (kept_objects files) colours stack (Ok parts) → IsOutcome files stack parts outcome → AllByRecursion IsOwnFile outcome.puts
-outcome_good files colours stack parts outcome builds o =
+outcome_good : (files : Files) (opts : Opts) (parts : Parts) (outcome : Outcome) → Builds (modules_of files) (kept_objects files) opts (Ok parts) → IsOutcome files opts.stack parts outcome → AllByRecursion IsOwnFile outcome.puts
+outcome_good files opts parts outcome builds o =
     let db = if_changed files database_name o.database in
     let img = if_changed files image_name outcome.image in
     subst (AllByRecursion IsOwnFile) (sym o.puts)
-    (good_append o.objects (db ++ img) (objects_good files colours stack parts outcome builds o)
+    (good_append o.objects (db ++ img) (objects_good files opts parts outcome builds o)
     (good_append db img (if_changed_good files database_name o.database (inr (inl refl)) no_database) (if_changed_good files image_name outcome.image (inr (inr refl)) no_image)))
 
-pub genuine_left : FileLaws → (told : Told) (colours stack : ℕ) (outcome : Outcome) → KeepsGenuine told.files → BuildOutcome told.files colours stack (Ok outcome) → KeepsGenuine (after_puts told outcome.puts).files
-genuine_left laws told colours stack outcome keeps h = after_keeps laws told outcome.puts keeps (own_genuine outcome.puts (outcome_good told.files colours stack h.0 outcome h.1 h.2))
+pub genuine_left : FileLaws → (told : Told) (opts : Opts) (outcome : Outcome) → KeepsGenuine told.files → BuildOutcome told.files opts (Ok outcome) → KeepsGenuine (after_puts told outcome.puts).files
+genuine_left laws told opts outcome keeps h = after_keeps laws told outcome.puts keeps (own_genuine outcome.puts (outcome_good told.files opts h.0 outcome h.1 h.2))

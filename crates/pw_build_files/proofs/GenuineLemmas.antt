@@ -25,7 +25,7 @@ use Rattle.pw_store_kept.specs.declared.files.ProgramFiles.{ProgramFiles}
 use Rattle.pw_store_kept.specs.declared.prepared.Prepared.{Prepared}
 use Rattle.pw_store_kept.specs.Kept.{counted, kept_object, object_in}
 use Rattle.pw_store_kept.specs.Files.{AreObjectFiles, HoldBytes, IsCompared, changed_files, file_view, made_anew, one_if}
-use Rattle.pw_build_files.specs.declared.report.Opts.{Opts}
+use Rattle.pw_build_opts.specs.declared.opts.Opts.{Opts}
 use Rattle.pw_build_files.specs.declared.report.Report.{Report}
 use Rattle.pw_build_files.specs.Programs.{BuildsFiles}
 use Rattle.pw_build_files.specs.Genuine.{IsBuiltName, IsGenuineFile, IsOwnFile, KeepsGenuine}
@@ -181,21 +181,21 @@ good_append (x ∷ xs) ys a b = (a.0, good_append xs ys a.1 b)
 no_parts : (parts : Parts) (fault : BuildFault) → ◌≡◌ {A = Result Parts BuildFault} (Ok parts) (Err fault) → ⊥
 no_parts parts fault e = cc
 
-pub parts_genuine : (names : List (List ℕ)) (flows : Result (List FlowModule) BuildFault) (kept : List (Option Object)) (colours stack : ℕ) (parts : Parts) → BuildsBy flows kept colours stack (Ok parts) → AllByRecursion (λ m. IsGenuine m.1) (made_anew names parts.objects parts.fresh)
-parts_genuine names (Err fault) kept colours stack parts h = absurd (no_parts parts fault h)
-parts_genuine names (Ok flows) kept colours stack parts h = made_genuine parts.database names flows kept parts.objects parts.fresh h.0.objects
+pub parts_genuine : (names : List (List ℕ)) (flows : Result (List FlowModule) BuildFault) (kept : List (Option Object)) (opts : Opts) (parts : Parts) → BuildsBy flows kept opts (Ok parts) → AllByRecursion (λ m. IsGenuine m.1) (made_anew names parts.objects parts.fresh)
+parts_genuine names (Err fault) kept opts parts h = absurd (no_parts parts fault h)
+parts_genuine names (Ok flows) kept opts parts h = made_genuine parts.database names flows kept parts.objects parts.fresh h.0.objects
 
-good_told : (files : Files) (sources : List Source) (kept : List (Option Object)) (opts : Opts) (made : ProgramFiles) (p : Prepared) (count : ℕ) → BuildsFiles sources kept opts.colours opts.stack made → HoldBytes (map file_view made.fresh.files.items) → IsCompared files count made p → AllByRecursion IsOwnFile (changed_files p)
+good_told : (files : Files) (sources : List Source) (kept : List (Option Object)) (opts : Opts) (made : ProgramFiles) (p : Prepared) (count : ℕ) → BuildsFiles sources kept opts made → HoldBytes (map file_view made.fresh.files.items) → IsCompared files count made p → AllByRecursion IsOwnFile (changed_files p)
 good_told files sources kept opts made p count builds fits cmp =
     let anew = made_anew (map (λ s. s.0) sources) builds.0.objects builds.0.fresh in
-    let genuine : AllByRecursion (λ m. IsGenuine m.1) anew = parts_genuine (map (λ s. s.0) sources) (first_phases sources) kept opts.colours opts.stack builds.0 builds.1 in
+    let genuine : AllByRecursion (λ m. IsGenuine m.1) anew = parts_genuine (map (λ s. s.0) sources) (first_phases sources) kept opts builds.0 builds.1 in
     let own : AllByRecursion IsOwnFile (map file_view made.fresh.files.items) = files_good anew (map file_view made.fresh.files.items) genuine fits builds.2.objects in
     let db = one_if p.database_changed database_name p.database.items in
     let img = one_if p.image_changed image_name p.image.items in
     good_append (map file_view p.objects.items) (db ++ img) (subst (λ fs. AllByRecursion IsOwnFile (map file_view fs)) (sym cmp.objects) own)
     (good_append db img (alone_good p.database_changed database_name p.database.items (inr (inl refl)) no_database) (alone_good p.image_changed image_name p.image.items (inr (inr refl)) no_image))
 
-pub good_prepared : (opts : Opts) (first now : Option Told) (sources : List Source) (kept : Told → List (Option Object)) (made : ProgramFiles) (p : Prepared) (count : ℕ) → IfSome first (λ told. BuildsFiles sources (kept told) opts.colours opts.stack made) → HoldBytes (map file_view made.fresh.files.items)
+pub good_prepared : (opts : Opts) (first now : Option Told) (sources : List Source) (kept : Told → List (Option Object)) (made : ProgramFiles) (p : Prepared) (count : ℕ) → IfSome first (λ told. BuildsFiles sources (kept told) opts made) → HoldBytes (map file_view made.fresh.files.items)
     → Keeps first now → IfSome now (λ told. IsCompared told.files count made p) → IfSome first (λ told. AllByRecursion IsOwnFile (changed_files p))
 good_prepared opts None now sources kept made p count builds fits same cmp = tt
 good_prepared opts (Some told) now sources kept made p count builds fits same cmp =

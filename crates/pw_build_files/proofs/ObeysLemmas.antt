@@ -12,7 +12,7 @@ use Rattle.pw_build_files.specs.FromBuild.BuildFault.TheVariants as build
 use Rattle.pw_build_files.specs.FromBuild.Unbuilt.{Unbuilt}
 use Rattle.pw_build_files.specs.FromBuild.Stores.{store_fault}
 use Rattle.pw_build_files.specs.declared.report.Report.{Report}
-use Rattle.pw_build_files.specs.declared.report.Opts.{Opts}
+use Rattle.pw_build_opts.specs.declared.opts.Opts.{Opts}
 use Rattle.pw_build_files.specs.Building.{BuildOutcome, Outcome, puts_of}
 use Rattle.pw_build_files.specs.Genuine.{IsBuiltName, IsOwnFile}
 use Rattle.pw_build_files.specs.Outcomes.{AreBuilt, FaultFound, HoldsImage, ObeysBuild, IsOfStore, PutsSome, Reports, build_answer, fault_answer}
@@ -21,14 +21,14 @@ use Rattle.pw_store_kept.proofs.PutLemmas.{none_left}
 use Rattle.pw_db.specs.Limits.{colour_limit}
 
 abbrev pub OneBuild : Type 0
-OneBuild = (files : Files) (colours stack : ℕ) (a b : Result Outcome BuildFault) → colours ≤ colour_limit → BuildOutcome files colours stack a → BuildOutcome files colours stack b → a ≡ b
+OneBuild = (files : Files) (opts : Opts) (a b : Result Outcome BuildFault) → opts.colours ≤ colour_limit → BuildOutcome files opts a → BuildOutcome files opts b → a ≡ b
 
 -- ---- all was put
 
-obeys_all_told : OneBuild → (opts : Opts) → opts.colours ≤ colour_limit → (outcome : Outcome) (report : Report) (told : Told) (new : Option Told) → BuildOutcome told.files opts.colours opts.stack (Ok outcome) → Reports outcome report → new ≡ Some (after_puts told outcome.puts) → ObeysBuild opts (Ok report) told new
+obeys_all_told : OneBuild → (opts : Opts) → opts.colours ≤ colour_limit → (outcome : Outcome) (report : Report) (told : Told) (new : Option Told) → BuildOutcome told.files opts (Ok outcome) → Reports outcome report → new ≡ Some (after_puts told outcome.puts) → ObeysBuild opts (Ok report) told new
 obeys_all_told one opts few outcome report told new comes reports puts = record {
-  answers = λ c h. (outcome, one told.files opts.colours opts.stack c (Ok outcome) few h comes, reports);
-  puts = λ c h. puts ∙ ap (λ (x : Result Outcome BuildFault). Some (after_puts told (puts_of x))) (sym (one told.files opts.colours opts.stack c (Ok outcome) few h comes));
+  answers = λ c h. (outcome, one told.files opts c (Ok outcome) few h comes, reports);
+  puts = λ c h. puts ∙ ap (λ (x : Result Outcome BuildFault). Some (after_puts told (puts_of x))) (sym (one told.files opts c (Ok outcome) few h comes));
   found = (outcome, comes, reports);
 }
 
@@ -39,16 +39,16 @@ reported_image outcome (Err unbuilt) reports h = tt
 
 -- ---- the store failed or memory ran out while files were put
 
-stopped_told : OneBuild → (opts : Opts) → opts.colours ≤ colour_limit → (outcome : Outcome) (fault : BuildFault) (line : ℕ) (told : Told) (new : Option Told) → BuildOutcome told.files opts.colours opts.stack (Ok outcome) → IsOfStore fault → PutsFiles outcome.puts (fault_answer fault) told new →
+stopped_told : OneBuild → (opts : Opts) → opts.colours ≤ colour_limit → (outcome : Outcome) (fault : BuildFault) (line : ℕ) (told : Told) (new : Option Told) → BuildOutcome told.files opts (Ok outcome) → IsOfStore fault → PutsFiles outcome.puts (fault_answer fault) told new →
     ObeysBuild opts (Err (record { fault = fault; line = line })) told new
 stopped_told one opts few outcome build.StoreFault line told new comes of puts = record {
   answers = λ c h. tt;
-  puts = λ c h. subst (λ (x : Result Outcome BuildFault). PutPart told (puts_of x) new) (sym (one told.files opts.colours opts.stack c (Ok outcome) few h comes)) puts;
+  puts = λ c h. subst (λ (x : Result Outcome BuildFault). PutPart told (puts_of x) new) (sym (one told.files opts c (Ok outcome) few h comes)) puts;
   found = tt;
 }
 stopped_told one opts few outcome build.NoMemory line told new comes of puts = record {
   answers = λ c h. tt;
-  puts = λ c h. subst (λ (x : Result Outcome BuildFault). PutPrefix told (puts_of x) new) (sym (one told.files opts.colours opts.stack c (Ok outcome) few h comes)) puts;
+  puts = λ c h. subst (λ (x : Result Outcome BuildFault). PutPrefix told (puts_of x) new) (sym (one told.files opts c (Ok outcome) few h comes)) puts;
   found = tt;
 }
 stopped_told one opts few outcome (build.Refused name refusal) line told new comes of puts = absurd of
@@ -56,12 +56,12 @@ stopped_told one opts few outcome (build.LinkRefused fault) line told new comes 
 
 -- ---- whatever came of the puts
 
-by_result : OneBuild → (opts : Opts) → opts.colours ≤ colour_limit → (outcome : Outcome) (result : Result Report Unbuilt) (told : Told) (new : Option Told) → BuildOutcome told.files opts.colours opts.stack (Ok outcome) → IfOk result (λ report. Reports outcome report) → IfErr result (λ unbuilt. IsOfStore unbuilt.fault)
+by_result : OneBuild → (opts : Opts) → opts.colours ≤ colour_limit → (outcome : Outcome) (result : Result Report Unbuilt) (told : Told) (new : Option Told) → BuildOutcome told.files opts (Ok outcome) → IfOk result (λ report. Reports outcome report) → IfErr result (λ unbuilt. IsOfStore unbuilt.fault)
     → PutsFiles outcome.puts (build_answer result) told new → ObeysBuild opts result told new
 by_result one opts few outcome (Ok report) told new comes reports of puts = obeys_all_told one opts few outcome report told new comes reports puts
 by_result one opts few outcome (Err unbuilt) told new comes reports of puts = stopped_told one opts few outcome unbuilt.fault unbuilt.line told new comes of puts
 
-pub obeys_put : OneBuild → (opts : Opts) → opts.colours ≤ colour_limit → (outcome : Outcome) (result : Result Report Unbuilt) (first now new : Option Told) → IfSome first (λ told. BuildOutcome told.files opts.colours opts.stack (Ok outcome)) → Keeps first now → IfOk result (λ report. Reports outcome report)
+pub obeys_put : OneBuild → (opts : Opts) → opts.colours ≤ colour_limit → (outcome : Outcome) (result : Result Report Unbuilt) (first now new : Option Told) → IfSome first (λ told. BuildOutcome told.files opts (Ok outcome)) → Keeps first now → IfOk result (λ report. Reports outcome report)
     → IfErr result (λ unbuilt. IsOfStore unbuilt.fault) → IfSome now (λ told. PutsFiles outcome.puts (build_answer result) told new) → IfSome first (λ told. ObeysBuild opts result told new)
 obeys_put one opts few outcome result None now new comes same reports of puts = tt
 obeys_put one opts few outcome result (Some told) now new comes same reports of puts =
@@ -85,13 +85,13 @@ refused_told one opts few build.NoMemory line told new found e = record {
   found = tt;
 }
 refused_told one opts few (build.Refused name refusal) line told new found e = record {
-  answers = λ c h. one told.files opts.colours opts.stack c (Err (build.Refused name refusal)) few h found;
-  puts = λ c h. no_puts told (puts_of c) new (ap puts_of (one told.files opts.colours opts.stack c (Err (build.Refused name refusal)) few h found)) e;
+  answers = λ c h. one told.files opts c (Err (build.Refused name refusal)) few h found;
+  puts = λ c h. no_puts told (puts_of c) new (ap puts_of (one told.files opts c (Err (build.Refused name refusal)) few h found)) e;
   found = found;
 }
 refused_told one opts few (build.LinkRefused fault) line told new found e = record {
-  answers = λ c h. one told.files opts.colours opts.stack c (Err (build.LinkRefused fault)) few h found;
-  puts = λ c h. no_puts told (puts_of c) new (ap puts_of (one told.files opts.colours opts.stack c (Err (build.LinkRefused fault)) few h found)) e;
+  answers = λ c h. one told.files opts c (Err (build.LinkRefused fault)) few h found;
+  puts = λ c h. no_puts told (puts_of c) new (ap puts_of (one told.files opts c (Err (build.LinkRefused fault)) few h found)) e;
   found = found;
 }
 

@@ -16,10 +16,11 @@ use Rattle.pw_build_files.specs.FromBuild.Builds.{Builds}
 use Rattle.pw_store_kept.specs.Files.{AreObjectFiles, made_anew}
 use Rattle.pw_build_files.specs.Building.{BuildOutcome, IsOutcome, Outcome, if_changed, kept_objects}
 use Rattle.pw_db.specs.Limits.{colour_limit}
+use Rattle.pw_build_opts.specs.declared.opts.Opts.{Opts}
 
 -- the laws on which it stands
 pub record Laws : Type 0 where
-  pub build : (sources : List Source) (kept : List (Option Object)) (colours stack : ℕ) (a b : Result Parts BuildFault) → colours ≤ colour_limit → Builds sources kept colours stack a → Builds sources kept colours stack b → a ≡ b
+  pub build : (sources : List Source) (kept : List (Option Object)) (opts : Opts) (a b : Result Parts BuildFault) → opts.colours ≤ colour_limit → Builds sources kept opts a → Builds sources kept opts b → a ≡ b
   pub database : (bytes others : List ℕ) (fs : List (List ℕ × Directives)) → IsDatabaseFile bytes fs → IsDatabaseFile others fs → bytes ≡ others
   pub image : (bytes others : List ℕ) (c d : Contents Image) → IsImageFile bytes c → IsImageFile others d → c.value ≡ d.value → bytes ≡ others
   pub object : (bytes others : List ℕ) (o : Object) → IsObjectFile bytes o → IsObjectFile others o → bytes ≡ others
@@ -60,13 +61,13 @@ outcome_one laws files stack parts o p a b =
       puts = puts i;
     }
 
-pub one_build : Laws → (files : Files) (colours stack : ℕ) (a b : Result Outcome BuildFault) → colours ≤ colour_limit → BuildOutcome files colours stack a → BuildOutcome files colours stack b → a ≡ b
-one_build laws files colours stack (Ok o) (Ok p) few a b =
-    let same : b.0 ≡ a.0 = ok_one b.0 a.0 (laws.build (modules_of files) (kept_objects files) colours stack (Ok b.0) (Ok a.0) few b.1 a.1) in
-    ap Ok (outcome_one laws files stack a.0 o p a.2 (subst (λ (x : Parts). IsOutcome files stack x p) same b.2))
-one_build laws files colours stack (Ok o) (Err fault) few a b = absurd (no_fault a.0 fault (laws.build (modules_of files) (kept_objects files) colours stack (Ok a.0) (Err fault) few a.1 b))
-one_build laws files colours stack (Err fault) (Ok p) few a b = absurd (no_fault b.0 fault (laws.build (modules_of files) (kept_objects files) colours stack (Ok b.0) (Err fault) few b.1 a))
-one_build laws files colours stack (Err fault) (Err other) few a b = faults_one fault other (laws.build (modules_of files) (kept_objects files) colours stack (Err fault) (Err other) few a b)
+pub one_build : Laws → (files : Files) (opts : Opts) (a b : Result Outcome BuildFault) → opts.colours ≤ colour_limit → BuildOutcome files opts a → BuildOutcome files opts b → a ≡ b
+one_build laws files opts (Ok o) (Ok p) few a b =
+    let same : b.0 ≡ a.0 = ok_one b.0 a.0 (laws.build (modules_of files) (kept_objects files) opts (Ok b.0) (Ok a.0) few b.1 a.1) in
+    ap Ok (outcome_one laws files opts.stack a.0 o p a.2 (subst (λ (x : Parts). IsOutcome files opts.stack x p) same b.2))
+one_build laws files opts (Ok o) (Err fault) few a b = absurd (no_fault a.0 fault (laws.build (modules_of files) (kept_objects files) opts (Ok a.0) (Err fault) few a.1 b))
+one_build laws files opts (Err fault) (Ok p) few a b = absurd (no_fault b.0 fault (laws.build (modules_of files) (kept_objects files) opts (Ok b.0) (Err fault) few b.1 a))
+one_build laws files opts (Err fault) (Err other) few a b = faults_one fault other (laws.build (modules_of files) (kept_objects files) opts (Err fault) (Err other) few a b)
   where
     faults_one : (f g : BuildFault) → ◌≡◌ {A = Result Parts BuildFault} (Err f) (Err g) → ◌≡◌ {A = Result Outcome BuildFault} (Err f) (Err g)
     faults_one f g e = cc

@@ -33,6 +33,7 @@ use Rattle.pw_build.specs.Stores.{store_fault}
 use Rattle.pw_store_kept.specs.declared.files.ProgramFiles.{ProgramFiles}
 use Rattle.pw_store_kept.specs.Files.{AreObjectFiles, file_view, made_anew}
 use Rattle.pw_build_files.specs.Programs.{AreAsMany, BuildsFiles, CountsAtMost, FaultBuilds, HoldsImage}
+use Rattle.pw_build_opts.specs.declared.opts.Opts.{Opts}
 
 -- ---- the names of modules
 
@@ -92,8 +93,8 @@ objects_long db (f ∷ fs) kept (o ∷ os) [] h = absurd h
 objects_long db (f ∷ fs) kept (o ∷ os) (b ∷ bs) h = let l = objects_long db fs (kept_behind kept) os bs h.1 in (ap suc l.0, ap suc l.1)
 
 -- as many objects as modules, and as many marks
-pub as_many : (ms : List Module) (flows : List FlowModule) (kept : List (Option Object)) (colours stack : ℕ) (built : Built) → first_phases (map source ms) ≡ Ok flows → Completes flows kept colours stack (Ok (parts_of built)) → AreAsMany ms built
-as_many ms flows kept colours stack built phases h =
+pub as_many : (ms : List Module) (flows : List FlowModule) (kept : List (Option Object)) (opts : Opts) (built : Built) → first_phases (map source ms) ≡ Ok flows → Completes flows kept opts (Ok (parts_of built)) → AreAsMany ms built
+as_many ms flows kept opts built phases h =
     let l = objects_long built.database.functions flows kept built.objects.items built.fresh.items h.0.objects in
     let k : length flows ≡ length ms = flows_long (map source ms) flows (within_flows (limit_passed (map source ms)) (flows_of (map source ms)) flows phases) ∙ length-map ms source in
     record { objects = l.0 ∙ k; marks = l.1 ∙ k }
@@ -127,10 +128,10 @@ counted_names ms built names before now many e counted =
 
 -- ---- the files of a program
 
-made_files : (ms : List Module) (colours stack : ℕ) (kept : List (Option Object)) (built : Built) (made : ProgramFiles) → Builds (map source ms) kept colours stack (Ok (parts_of built)) → made.fresh.names.items ≡ map (λ m. m.0) (made_anew (map (λ m. m.name) ms) built.objects.items built.fresh.items)
+made_files : (ms : List Module) (opts : Opts) (kept : List (Option Object)) (built : Built) (made : ProgramFiles) → Builds (map source ms) kept opts (Ok (parts_of built)) → made.fresh.names.items ≡ map (λ m. m.0) (made_anew (map (λ m. m.name) ms) built.objects.items built.fresh.items)
     → AreObjectFiles (made_anew (map (λ m. m.name) ms) built.objects.items built.fresh.items) (map file_view made.fresh.files.items) → IsDatabaseFile made.database.items built.database.functions
-    → ((names : List (List ℕ)) × IsImageFile made.image.items (record { names = names; value = built.image })) → built.image ≡ linked built.objects.items stack → BuildsFiles (map source ms) kept colours stack made
-made_files ms colours stack kept built made builds names objects database image is_linked =
+    → ((names : List (List ℕ)) × IsImageFile made.image.items (record { names = names; value = built.image })) → built.image ≡ linked built.objects.items opts.stack → BuildsFiles (map source ms) kept opts made
+made_files ms opts kept built made builds names objects database image is_linked =
     let same : map (λ m. m.name) ms ≡ map (λ s. s.0) (map source ms) = sym (names_by ms) in
     let anew : List (List ℕ) → List (List ℕ × Object) = λ ns. made_anew ns built.objects.items built.fresh.items in (
       parts_of built,
@@ -144,12 +145,12 @@ made_files ms colours stack kept built made builds names objects database image 
       },
     )
 
-pub made_of_program : (ms : List Module) (colours stack : ℕ) (kept : Told → List (Option Object)) (first : Option Told) (built : Built) (made : ProgramFiles) → IfSome first (λ told. Builds (map source ms) (kept told) colours stack (Ok (parts_of built)))
+pub made_of_program : (ms : List Module) (opts : Opts) (kept : Told → List (Option Object)) (first : Option Told) (built : Built) (made : ProgramFiles) → IfSome first (λ told. Builds (map source ms) (kept told) opts (Ok (parts_of built)))
     → made.fresh.names.items ≡ map (λ m. m.0) (made_anew (map (λ m. m.name) ms) built.objects.items built.fresh.items)
     → AreObjectFiles (made_anew (map (λ m. m.name) ms) built.objects.items built.fresh.items) (map file_view made.fresh.files.items) → IsDatabaseFile made.database.items built.database.functions
-    → ((names : List (List ℕ)) × IsImageFile made.image.items (record { names = names; value = built.image })) → built.image ≡ linked built.objects.items stack → IfSome first (λ told. BuildsFiles (map source ms) (kept told) colours stack made)
-made_of_program ms colours stack kept None built made builds names objects database image is_linked = tt
-made_of_program ms colours stack kept (Some told) built made builds names objects database image is_linked = made_files ms colours stack (kept told) built made builds names objects database image is_linked
+    → ((names : List (List ℕ)) × IsImageFile made.image.items (record { names = names; value = built.image })) → built.image ≡ linked built.objects.items opts.stack → IfSome first (λ told. BuildsFiles (map source ms) (kept told) opts made)
+made_of_program ms opts kept None built made builds names objects database image is_linked = tt
+made_of_program ms opts kept (Some told) built made builds names objects database image is_linked = made_files ms opts (kept told) built made builds names objects database image is_linked
 
 pub holds_image : (bytes : List ℕ) (image : Image) → (names : List (List ℕ)) × IsImageFile bytes (record { names = names; value = image }) → HoldsImage bytes
 holds_image bytes image h = (record { names = h.0; value = image }, h.1)
@@ -164,40 +165,40 @@ pub stored : (error : StoreError) (fault : BuildFault) → fault ≡ store_fault
 stored store.Failed fault e = inl e
 stored store.NoMemory fault e = inr e
 
-pub builds_nothing : (sources : List Source) (kept : Told → List (Option Object)) (colours stack : ℕ) (first : Option Told) (fault : BuildFault) → (fault ≡ build.StoreFault) ⊎ (fault ≡ build.NoMemory) → IfSome first (λ told. FaultBuilds sources (kept told) colours stack fault)
-builds_nothing sources kept colours stack None fault h = tt
-builds_nothing sources kept colours stack (Some told) fault (inl e) = subst (λ (f : BuildFault). FaultBuilds sources (kept told) colours stack f) (sym e) tt
-builds_nothing sources kept colours stack (Some told) fault (inr e) = subst (λ (f : BuildFault). FaultBuilds sources (kept told) colours stack f) (sym e) tt
+pub builds_nothing : (sources : List Source) (kept : Told → List (Option Object)) (opts : Opts) (first : Option Told) (fault : BuildFault) → (fault ≡ build.StoreFault) ⊎ (fault ≡ build.NoMemory) → IfSome first (λ told. FaultBuilds sources (kept told) opts fault)
+builds_nothing sources kept opts None fault h = tt
+builds_nothing sources kept opts (Some told) fault (inl e) = subst (λ (f : BuildFault). FaultBuilds sources (kept told) opts f) (sym e) tt
+builds_nothing sources kept opts (Some told) fault (inr e) = subst (λ (f : BuildFault). FaultBuilds sources (kept told) opts f) (sym e) tt
 
 -- the first phases refuse
-phases_told : (sources : List Source) (kept : List (Option Object)) (colours stack : ℕ) (fault : BuildFault) → FaultsAs (first_phases sources) fault → FaultBuilds sources kept colours stack fault
-phases_told sources kept colours stack build.StoreFault h = tt
-phases_told sources kept colours stack build.NoMemory h = tt
-phases_told sources kept colours stack (build.Refused name refusal) h = subst (λ (r : Result (List FlowModule) BuildFault). BuildsBy r kept colours stack (Err (build.Refused name refusal))) (sym h) refl
-phases_told sources kept colours stack (build.LinkRefused fault) h = subst (λ (r : Result (List FlowModule) BuildFault). BuildsBy r kept colours stack (Err (build.LinkRefused fault))) (sym h) refl
+phases_told : (sources : List Source) (kept : List (Option Object)) (opts : Opts) (fault : BuildFault) → FaultsAs (first_phases sources) fault → FaultBuilds sources kept opts fault
+phases_told sources kept opts build.StoreFault h = tt
+phases_told sources kept opts build.NoMemory h = tt
+phases_told sources kept opts (build.Refused name refusal) h = subst (λ (r : Result (List FlowModule) BuildFault). BuildsBy r kept opts (Err (build.Refused name refusal))) (sym h) refl
+phases_told sources kept opts (build.LinkRefused fault) h = subst (λ (r : Result (List FlowModule) BuildFault). BuildsBy r kept opts (Err (build.LinkRefused fault))) (sym h) refl
 
-pub phases_refuse : (sources : List Source) (kept : Told → List (Option Object)) (colours stack : ℕ) (first : Option Told) (fault : BuildFault) → FaultsAs (first_phases sources) fault → IfSome first (λ told. FaultBuilds sources (kept told) colours stack fault)
-phases_refuse sources kept colours stack None fault h = tt
-phases_refuse sources kept colours stack (Some told) fault h = phases_told sources (kept told) colours stack fault h
+pub phases_refuse : (sources : List Source) (kept : Told → List (Option Object)) (opts : Opts) (first : Option Told) (fault : BuildFault) → FaultsAs (first_phases sources) fault → IfSome first (λ told. FaultBuilds sources (kept told) opts fault)
+phases_refuse sources kept opts None fault h = tt
+phases_refuse sources kept opts (Some told) fault h = phases_told sources (kept told) opts fault h
 
 -- flow graphs and kept objects come to an answer, so the modules do
 abbrev pub as_build : Result Parts LinkFault → Result Parts BuildFault
 as_build (Ok parts) = Ok parts
 as_build (Err fault) = Err (build.LinkRefused fault)
 
-completed : (sources : List Source) (flows : List FlowModule) (kept kept' : List (Option Object)) (colours stack : ℕ) (answer : Result Parts LinkFault) → first_phases sources ≡ Ok flows → kept ≡ kept' → Completes flows kept colours stack answer → Builds sources kept' colours stack (as_build answer)
-completed sources flows kept kept' colours stack answer phases same h =
-    subst (λ (r : Result (List FlowModule) BuildFault). BuildsBy r kept' colours stack (as_build answer)) (sym phases)
-    (by_answer answer (subst (λ (k : List (Option Object)). Completes flows k colours stack answer) same h))
+completed : (sources : List Source) (flows : List FlowModule) (kept kept' : List (Option Object)) (opts : Opts) (answer : Result Parts LinkFault) → first_phases sources ≡ Ok flows → kept ≡ kept' → Completes flows kept opts answer → Builds sources kept' opts (as_build answer)
+completed sources flows kept kept' opts answer phases same h =
+    subst (λ (r : Result (List FlowModule) BuildFault). BuildsBy r kept' opts (as_build answer)) (sym phases)
+    (by_answer answer (subst (λ (k : List (Option Object)). Completes flows k opts answer) same h))
   where
-    by_answer : (a : Result Parts LinkFault) → Completes flows kept' colours stack a → CompletesAs flows kept' colours stack (as_build a)
+    by_answer : (a : Result Parts LinkFault) → Completes flows kept' opts a → CompletesAs flows kept' opts (as_build a)
     by_answer (Ok parts) h = h
     by_answer (Err fault) h = h
 
-pub builds_completed : (sources : List Source) (flows : List FlowModule) (kept : List (Option Object)) (all : Told → List (Option Object)) (colours stack : ℕ) (answer : Result Parts LinkFault) (first : Option Told) → first_phases sources ≡ Ok flows → IfSome first (λ told. kept ≡ all told)
-    → Completes flows kept colours stack answer → IfSome first (λ told. Builds sources (all told) colours stack (as_build answer))
-builds_completed sources flows kept all colours stack answer None phases same h = tt
-builds_completed sources flows kept all colours stack answer (Some told) phases same h = completed sources flows kept (all told) colours stack answer phases same h
+pub builds_completed : (sources : List Source) (flows : List FlowModule) (kept : List (Option Object)) (all : Told → List (Option Object)) (opts : Opts) (answer : Result Parts LinkFault) (first : Option Told) → first_phases sources ≡ Ok flows → IfSome first (λ told. kept ≡ all told)
+    → Completes flows kept opts answer → IfSome first (λ told. Builds sources (all told) opts (as_build answer))
+builds_completed sources flows kept all opts answer None phases same h = tt
+builds_completed sources flows kept all opts answer (Some told) phases same h = completed sources flows kept (all told) opts answer phases same h
 
 -- ---- at most how many are counted
 

@@ -1,5 +1,6 @@
 -- What a build comes to over the files of a store: its report, and the files that it puts.
 use Rattle.std.specs.Prelude.{◌≡◌, ℕ, if◌then◌else◌, List, [], ◌∷◌, ◌++◌, length, map, Option, Result, Ok, Err}
+use Rattle.std.specs.FinMap as finite
 use Rattle.pw_io.specs.Files.{Files}
 use Rattle.pw_db.specs.Database.{IsDatabaseFile}
 use Rattle.pw_object.specs.declared.object.Object.{Object}
@@ -11,17 +12,18 @@ use Rattle.pw_top_answer.specs.Effects.{NamedFile}
 use Rattle.pw_build_objects.specs.Programs.{Parts}
 use Rattle.pw_build_files.specs.FromBuild.BuildFault.{BuildFault}
 use Rattle.pw_build_files.specs.FromBuild.Builds.{Builds}
-use Rattle.pw_store_kept.specs.Kept.{is_same, kept_bytes}
+use Rattle.pw_store_kept.specs.Kept.{is_same}
 pub use Rattle.pw_store_kept.specs.Kept.{counted, kept_object, object_in}
 use Rattle.pw_store_kept.specs.Files.{AreObjectFiles, HoldBytes, made_anew}
+use Rattle.pw_build_opts.specs.declared.opts.Opts.{Opts}
 
 -- the objects that are kept of all modules, in their order
 abbrev pub kept_objects : Files → List (Option Object)
 kept_objects files = map (kept_object files) (names_of_modules files)
 
--- a file is put only where its bytes differ from those that are kept
+-- a file is put only where its bytes differ from those that stand there
 abbrev pub if_changed : Files → List ℕ → List ℕ → List NamedFile
-if_changed files name bytes = if is_same (kept_bytes files name) bytes then [] else (name, bytes) ∷ []
+if_changed files name bytes = if is_same (finite.get files name) bytes then [] else (name, bytes) ∷ []
 
 -- ---- the build
 
@@ -34,7 +36,7 @@ pub record Outcome : Type 0 where
   pub puts : List NamedFile
 
 -- The objects that are made anew are put, then the database and the image, each of the two where its bytes differ from
--- those that are kept.
+-- those that stand there.
 pub record IsOutcome (files : Files) (stack : ℕ) (parts : Parts) (outcome : Outcome) : Type 0 where
   pub modules : outcome.modules ≡ length (names_of_modules files)
   pub rebuilt : outcome.rebuilt ≡ map (λ made. made.0) (made_anew (names_of_modules files) parts.objects parts.fresh)
@@ -49,9 +51,9 @@ pub record IsOutcome (files : Files) (stack : ℕ) (parts : Parts) (outcome : Ou
 
 -- A build over the files of a store, for so many registers and such a stack, comes to this: its modules and the objects
 -- that are kept of them come to parts of a program and these to the outcome; or to a fault, and nothing is put.
-abbrev pub BuildOutcome : Files → ℕ → ℕ → Result Outcome BuildFault → Type 0
-BuildOutcome files colours stack (Ok outcome) = (parts : Parts) × Builds (modules_of files) (kept_objects files) colours stack (Ok parts) × IsOutcome files stack parts outcome
-BuildOutcome files colours stack (Err fault) = Builds (modules_of files) (kept_objects files) colours stack (Err fault)
+abbrev pub BuildOutcome : Files → Opts → Result Outcome BuildFault → Type 0
+BuildOutcome files opts (Ok outcome) = (parts : Parts) × Builds (modules_of files) (kept_objects files) opts (Ok parts) × IsOutcome files opts.stack parts outcome
+BuildOutcome files opts (Err fault) = Builds (modules_of files) (kept_objects files) opts (Err fault)
 
 -- the files that are put
 abbrev pub puts_of : Result Outcome BuildFault → List NamedFile

@@ -14,6 +14,7 @@ use Rattle.pw_build_files.specs.Genuine.{IsBuiltName}
 use Rattle.pw_build_files.specs.Lines.{report_lines}
 use Rattle.pw_build_files.specs.Outcomes.{fault_answer}
 use Rattle.pw_commands.specs.Others.{IsSameBut}
+use Rattle.pw_build_opts.specs.declared.opts.Opts.{Opts}
 
 -- ---- what the command comes to
 
@@ -27,9 +28,9 @@ built_effect (Ok outcome) input = record { answer = Done; puts = outcome.puts; o
 built_effect (Err fault) input = answers_alone (fault_answer fault) input
 
 -- `build` over a store's files, for so many registers and such a stack
-abbrev pub BuildEffect : Files → ℕ → ℕ → List ℕ → Effect → Type 0
-BuildEffect files colours stack input effect =
-    (comes : Result Outcome BuildFault) × BuildOutcome files colours stack comes × (effect ≡ built_effect comes input)
+abbrev pub BuildEffect : Files → Opts → List ℕ → Effect → Type 0
+BuildEffect files opts input effect =
+    (comes : Result Outcome BuildFault) × BuildOutcome files opts comes × (effect ≡ built_effect comes input)
 
 -- the answers of the command, whose refusals are none for want of memory
 abbrev pub IsBuildAnswer : Answer → Type 0

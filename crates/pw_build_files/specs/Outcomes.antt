@@ -7,13 +7,14 @@ use Rattle.pw_value.specs.Limits.{stack_least, stack_limit}
 use Rattle.pw_top_answer.specs.declared.answer.Answer.{Answer}
 use Rattle.pw_top_answer.specs.declared.answer.Answer.TheVariants as answer
 use Rattle.pw_top_answer.specs.Effects.{NamedFile, PutPart, PutsFiles, after_puts}
+use Rattle.pw_top_answer.specs.Outcomes.{IsNoRefusal, RefusesAs}
 use Rattle.pw_store_modules.specs.Modules.{modules_of}
 use Rattle.pw_build_files.specs.FromBuild.BuildFault.{BuildFault}
 use Rattle.pw_build_files.specs.FromBuild.BuildFault.TheVariants as build
 use Rattle.pw_build_files.specs.FromBuild.Unbuilt.{Unbuilt}
 use Rattle.pw_build_files.specs.FromBuild.Phases.{IsLine, refused_line}
 use Rattle.pw_build_files.specs.declared.report.Report.{Report}
-use Rattle.pw_build_files.specs.declared.report.Opts.{Opts}
+use Rattle.pw_build_opts.specs.declared.opts.Opts.{Opts}
 use Rattle.pw_store_kept.specs.declared.prepared.Prepared.{Prepared}
 use Rattle.pw_store_kept.specs.Files.{changed_files}
 pub use Rattle.pw_build_files.specs.Programs.{CountsAtMost, AnswersFault, FaultCount, HoldsImage, IsNoWant, fault_answer}
@@ -44,24 +45,30 @@ abbrev pub AnswersBuild : Result Outcome BuildFault → Result Report Unbuilt �
 AnswersBuild comes (Ok report) = (outcome : Outcome) × (comes ≡ Ok outcome) × Reports outcome report
 AnswersBuild comes (Err unbuilt) = AnswersFault comes unbuilt.fault
 
+-- The refusal to which a build comes is a command's answer, before the input and the output are touched; want of memory and a
+-- fault of the store may come in its place. A build that comes to a program is not refused.
+abbrev pub AnswersOutcome : Result Outcome BuildFault → Answer → Type 0
+AnswersOutcome (Ok outcome) reply = IsNoRefusal reply
+AnswersOutcome (Err fault) reply = RefusesAs (fault_answer fault) reply
+
 -- the build comes to something with that answer, where it is no fault of the store and no want of memory
 abbrev pub FaultFound : Files → Opts → BuildFault → Type 0
 FaultFound files opts build.StoreFault = Unit {0}
 FaultFound files opts build.NoMemory = Unit {0}
-FaultFound files opts fault = BuildOutcome files opts.colours opts.stack (Err fault)
+FaultFound files opts fault = BuildOutcome files opts (Err fault)
 
 -- what is counted where this fault is answered
 abbrev pub CountsFound : Files → Opts → BuildFault → ℕ → ℕ → Type 0
 CountsFound files opts fault before now = IsCounted (modules_of files) (kept_objects files) opts.colours fault before now
 
 abbrev pub IsBuildFound : Files → Opts → Result Report Unbuilt → Type 0
-IsBuildFound files opts (Ok report) = (outcome : Outcome) × BuildOutcome files opts.colours opts.stack (Ok outcome) × Reports outcome report
+IsBuildFound files opts (Ok report) = (outcome : Outcome) × BuildOutcome files opts (Ok outcome) × Reports outcome report
 IsBuildFound files opts (Err unbuilt) = FaultFound files opts unbuilt.fault
 
 -- What a build comes to is what was answered and put; a fault of the store and want of memory may come in its place.
 pub record ObeysBuild (opts : Opts) (result : Result Report Unbuilt) (told : Told) (new : Option Told) : Type 0 where
-  pub answers : (comes : Result Outcome BuildFault) → BuildOutcome told.files opts.colours opts.stack comes → AnswersBuild comes result
-  pub puts : (comes : Result Outcome BuildFault) → BuildOutcome told.files opts.colours opts.stack comes → PutsFiles (puts_of comes) (build_answer result) told new
+  pub answers : (comes : Result Outcome BuildFault) → BuildOutcome told.files opts comes → AnswersBuild comes result
+  pub puts : (comes : Result Outcome BuildFault) → BuildOutcome told.files opts comes → PutsFiles (puts_of comes) (build_answer result) told new
   pub found : IsBuildFound told.files opts result
 
 -- the files have names of a build's

@@ -22,6 +22,7 @@ use Rattle.pw_build.specs.declared.fault.BuildFault.TheVariants as build
 use Rattle.pw_build.specs.declared.fault.Unbuilt.{Unbuilt}
 use Rattle.pw_store_kept.specs.declared.files.ProgramFiles.{ProgramFiles}
 use Rattle.pw_store_kept.specs.Files.{AreObjectFiles, file_view, made_anew}
+use Rattle.pw_build_opts.specs.declared.opts.Opts.{Opts}
 
 -- ---- faults
 
@@ -51,10 +52,10 @@ FaultCount before now (Ok value) = now ≡ before
 FaultCount before now (Err unbuilt) = StoreCount before now (fault_answer unbuilt.fault)
 
 -- a fault was answered in place of parts, to which these modules and these kept objects come
-abbrev pub FaultBuilds : List Source → List (Option Object) → ℕ → ℕ → BuildFault → Type 0
-FaultBuilds sources kept colours stack build.StoreFault = Unit {0}
-FaultBuilds sources kept colours stack build.NoMemory = Unit {0}
-FaultBuilds sources kept colours stack fault = Builds sources kept colours stack (Err fault)
+abbrev pub FaultBuilds : List Source → List (Option Object) → Opts → BuildFault → Type 0
+FaultBuilds sources kept opts build.StoreFault = Unit {0}
+FaultBuilds sources kept opts build.NoMemory = Unit {0}
+FaultBuilds sources kept opts fault = Builds sources kept opts (Err fault)
 
 -- ---- what is counted
 
@@ -91,6 +92,6 @@ pub record AreFilesOf (names : List (List ℕ)) (stack : ℕ) (parts : Parts) (m
   pub image : IsImageFile made.image.items (record { names = image_names; value = linked parts.objects stack })
 
 -- modules, and these kept objects of theirs, come to a program with these files
-abbrev pub BuildsFiles : List Source → List (Option Object) → ℕ → ℕ → ProgramFiles → Type 0
-BuildsFiles sources kept colours stack made =
-    (parts : Parts) × Builds sources kept colours stack (Ok parts) × AreFilesOf (map (λ s. s.0) sources) stack parts made
+abbrev pub BuildsFiles : List Source → List (Option Object) → Opts → ProgramFiles → Type 0
+BuildsFiles sources kept opts made =
+    (parts : Parts) × Builds sources kept opts (Ok parts) × AreFilesOf (map (λ s. s.0) sources) opts.stack parts made

@@ -12,9 +12,10 @@ ghost use Rattle.pw_build_files.specs.Outcomes.{AreOpts, CountsAtMost, CountsFou
 
 use crate::laws::a_store_has_one_build;
 use crate::prepared::prepare;
-use crate::report::{Opts, Report};
+use crate::report::Report;
 use pw_build::Unbuilt;
 use pw_build_objects::Steps;
+use pw_build_opts::Opts;
 use pw_io::Store;
 use pw_io::laws::other_files;
 use pw_store_kept::{Prepared, put_changed};

@@ -1,20 +1,23 @@
 //! The command `build`.
 
-ghost use Rattle.std.specs.Prelude.{◌≡◌, ◌<◌, ℕ, List, Option, IfErr, IfOk, IfSome};
+ghost use Rattle.std.specs.Prelude.{◌≡◌, ◌<◌, ℕ, List, Option, Result, IfErr, IfOk, IfSome};
 ghost use Rattle.pw_store_modules.specs.Modules.{modules_of};
 ghost use Rattle.pw_top_answer.specs.Effects.{Effect};
 ghost use Rattle.pw_top_answer.specs.Outcomes.{IsLineDue, IsPrintAnswer, LeavesStreams, OutputCount, PutsOut, StoreCount};
+ghost use Rattle.pw_build_files.specs.FromBuild.BuildFault.{BuildFault};
 ghost use Rattle.pw_build_files.specs.FromBuild.Phases.{refused_line};
+ghost use Rattle.pw_build_files.specs.Building.{BuildOutcome, Outcome};
 ghost use Rattle.pw_build_files.specs.Genuine.{KeepsGenuine};
 ghost use Rattle.pw_build_files.specs.Lines.{report_text};
-ghost use Rattle.pw_build_files.specs.Outcomes.{AreOpts, FaultCount, HoldsImage, IsLineOfBuild, IsNoWant, ObeysBuild, PutsSome, build_answer, fault_answer};
+ghost use Rattle.pw_build_files.specs.Outcomes.{AnswersOutcome, AreOpts, FaultCount, HoldsImage, IsLineOfBuild, IsNoWant, ObeysBuild, PutsSome, build_answer, fault_answer};
 ghost use Rattle.pw_commands.specs.Outcome.{Obeys};
 ghost use Rattle.pw_build_files.specs.Driving.{BuildEffect, IsBuildAnswer, KeepsUnput};
 
 use crate::building::build;
-use crate::report::{Opts, Report, report_lines};
+use crate::report::{Report, report_lines};
 use pw_build::{BuildFault, Unbuilt};
 use pw_build_objects::Steps;
+use pw_build_opts::Opts;
 use pw_io::laws::other_files;
 use pw_io::{Sink, Store};
 use pw_top_answer::{Answer, Reply, print};
@@ -99,8 +102,9 @@ pub fn build_modules<S: Store, O: Sink>(
     opts: &Opts,
 ) -> Reply
     requires { AreOpts opts.now }
-    ensures obeys { IfSome (S.told store.old) (λ told. (input : List ℕ) → Obeys (BuildEffect told.files opts.now.colours opts.now.stack input) result.answer told (S.told store.new)) }
-    ensures output { IfSome (S.told store.old) (λ told. (input : List ℕ) (effect : Effect) → BuildEffect told.files opts.now.colours opts.now.stack input effect → PutsOut effect.output result.answer (O.taken out.old) (O.taken out.new)) }
+    ensures obeys { IfSome (S.told store.old) (λ told. (input : List ℕ) → Obeys (BuildEffect told.files opts.now input) result.answer told (S.told store.new)) }
+    ensures output { IfSome (S.told store.old) (λ told. (input : List ℕ) (effect : Effect) → BuildEffect told.files opts.now input effect → PutsOut effect.output result.answer (O.taken out.old) (O.taken out.new)) }
+    ensures refusal { IfSome (S.told store.old) (λ told. (comes : Result Outcome BuildFault) → BuildOutcome told.files opts.now comes → AnswersOutcome comes result.answer) }
     ensures others { IfSome (S.told store.old) (λ told. KeepsUnput result.answer told (S.told store.new)) }
     ensures genuine { IfSome (S.told store.old) (λ told. KeepsGenuine told.files → IfSome (S.told store.new) (λ now. KeepsGenuine now.files)) }
     ensures line { IfSome (S.told store.old) (λ told. IsLineDue (refused_line (modules_of told.files)) result.answer result.line) }

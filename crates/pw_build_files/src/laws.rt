@@ -14,6 +14,7 @@ ghost use Rattle.pw_build_files.specs.Building.{BuildOutcome, Outcome, kept_obje
 ghost use Rattle.pw_build_files.specs.Full.{BuildsImage, image_of};
 ghost use Rattle.pw_build_files.specs.Genuine.{IsGenuineFile, KeepsGenuine};
 ghost use Rattle.pw_db.specs.Limits.{colour_limit};
+ghost use Rattle.pw_build_opts.specs.declared.opts.Opts.{Opts};
 
 use pw_build::laws as build_laws;
 use pw_build::laws::modules_have_one_build;
@@ -25,7 +26,7 @@ use pw_store_modules::modules_are_exact;
 
 /// The files of a store come to one build.
 pub fn a_store_has_one_build()
-    ensures { (files : Files) (colours stack : ℕ) (a b : Result Outcome BuildFault) → colours ≤ colour_limit → BuildOutcome files colours stack a → BuildOutcome files colours stack b → a ≡ b }
+    ensures { (files : Files) (opts : Opts) (a b : Result Outcome BuildFault) → opts.colours ≤ colour_limit → BuildOutcome files opts a → BuildOutcome files opts b → a ≡ b }
 {
     modules_have_one_build();
     databases_and_files_are_one_to_one();
@@ -35,7 +36,7 @@ pub fn a_store_has_one_build()
 
 /// Where the kept objects are genuine, a build over a store's files is the full build, but for which objects are made anew.
 pub fn genuine_objects_give_the_full_build()
-    ensures { (files : Files) (colours stack : ℕ) (a : Result Parts BuildFault) → KeepsGenuine files → Builds (modules_of files) (kept_objects files) colours stack a → Builds (modules_of files) [] colours stack (built_anew a) }
+    ensures { (files : Files) (opts : Opts) (a : Result Parts BuildFault) → KeepsGenuine files → Builds (modules_of files) (kept_objects files) opts a → Builds (modules_of files) [] opts (built_anew a) }
 {
     names();
     modules_are_exact();
@@ -44,7 +45,7 @@ pub fn genuine_objects_give_the_full_build()
 
 /// The full build of texts comes to the bytes of one image, or to one fault.
 pub fn texts_have_one_image()
-    ensures { (texts : Texts) (colours stack : ℕ) (a b : Result (List ℕ) BuildFault) → colours ≤ colour_limit → BuildsImage texts colours stack a → BuildsImage texts colours stack b → a ≡ b }
+    ensures { (texts : Texts) (opts : Opts) (a b : Result (List ℕ) BuildFault) → opts.colours ≤ colour_limit → BuildsImage texts opts a → BuildsImage texts opts b → a ≡ b }
 {
     modules_have_one_build();
     images_and_files_are_one_to_one();
@@ -53,14 +54,14 @@ pub fn texts_have_one_image()
 /// Where the kept objects are genuine, a build over a store's files comes to the image of the full build of their texts,
 /// byte for byte, or to its fault.
 pub fn genuine_objects_give_the_full_image()
-    ensures { (files : Files) (colours stack : ℕ) (comes : Result Outcome BuildFault) → KeepsGenuine files → BuildOutcome files colours stack comes → BuildsImage (module_map files) colours stack (image_of comes) }
+    ensures { (files : Files) (opts : Opts) (comes : Result Outcome BuildFault) → KeepsGenuine files → BuildOutcome files opts comes → BuildsImage (module_map files) opts (image_of comes) }
 {
     genuine_objects_give_the_full_build();
 }
 
 /// A build over a store whose kept objects are genuine leaves it so.
 pub fn builds_leave_genuine_objects()
-    ensures { (told : Told) (colours stack : ℕ) (outcome : Outcome) → KeepsGenuine told.files → BuildOutcome told.files colours stack (Ok outcome) → KeepsGenuine (after_puts told outcome.puts).files }
+    ensures { (told : Told) (opts : Opts) (outcome : Outcome) → KeepsGenuine told.files → BuildOutcome told.files opts (Ok outcome) → KeepsGenuine (after_puts told outcome.puts).files }
 {
     other_files();
 }

@@ -17,4 +17,4 @@ pub use laws::{
 };
 pub use program::{few_modules, program_of};
 pub use pw_build::{BuildFault, Unbuilt, laws as build_laws};
-pub use report::{Opts, Report, report_lines};
+pub use report::{Report, report_lines};

@@ -15,9 +15,9 @@ ghost use Rattle.pw_build_files.specs.Genuine.{IsOwnFile};
 ghost use Rattle.pw_build_files.specs.Outcomes.{AreOpts, CountsAtMost, CountsFound, FaultCount, FaultFound, HoldsImage, IsNoWant, outcome_of};
 
 use crate::program::{few_modules, program_of};
-use crate::report::Opts;
 use pw_build::Unbuilt;
 use pw_build_objects::Steps;
+use pw_build_opts::Opts;
 use pw_io::Store;
 use pw_store_kept::{Prepared, compared};
 use pw_store_modules::Module;
@@ -34,7 +34,7 @@ fn prepared_of<S: Store, L: Ledger>(
     steps: &mut Steps<L>,
 ) -> Result<Prepared, Unbuilt>
     requires { AreOpts opts.now }
-    ensures comes { IfSome (S.told store.old) (λ told. map source modules.now ≡ modules_of told.files → IfOk result (λ prepared. BuildOutcome told.files opts.now.colours opts.now.stack (Ok (outcome_of prepared)))) }
+    ensures comes { IfSome (S.told store.old) (λ told. map source modules.now ≡ modules_of told.files → IfOk result (λ prepared. BuildOutcome told.files opts.now (Ok (outcome_of prepared)))) }
     ensures own { IfSome (S.told store.old) (λ told. IfOk result (λ prepared. AllByRecursion IsOwnFile (changed_files prepared))) }
     ensures image { IfOk result (λ prepared. HoldsImage prepared.image.items) }
     ensures fault { IfSome (S.told store.old) (λ told. map source modules.now ≡ modules_of told.files → IfErr result (λ unbuilt. FaultFound told.files opts.now unbuilt.fault)) }
@@ -47,7 +47,7 @@ fn prepared_of<S: Store, L: Ledger>(
     ensures same { Keeps (S.told store.old) (S.told store.new) }
     ensures count { FaultCount (S.faults store.old) (S.faults store.new) result }
 {
-    match program_of(alloc, store, modules, opts.colours, opts.stack, steps) {
+    match program_of(alloc, store, modules, opts, steps) {
         Ok(files) => Ok(compared(alloc, store, modules.len() as u32, files)?),
         Err(unbuilt) => Err(unbuilt),
     }
@@ -61,7 +61,7 @@ pub fn prepare<S: Store, L: Ledger>(
     steps: &mut Steps<L>,
 ) -> Result<Prepared, Unbuilt>
     requires { AreOpts opts.now }
-    ensures comes { IfSome (S.told store.old) (λ told. IfOk result (λ prepared. BuildOutcome told.files opts.now.colours opts.now.stack (Ok (outcome_of prepared)))) }
+    ensures comes { IfSome (S.told store.old) (λ told. IfOk result (λ prepared. BuildOutcome told.files opts.now (Ok (outcome_of prepared)))) }
     ensures own { IfSome (S.told store.old) (λ told. IfOk result (λ prepared. AllByRecursion IsOwnFile (changed_files prepared))) }
     ensures image { IfOk result (λ prepared. HoldsImage prepared.image.items) }
     ensures fault { IfSome (S.told store.old) (λ told. IfErr result (λ unbuilt. FaultFound told.files opts.now unbuilt.fault)) }

@@ -21,6 +21,7 @@ ghost use Rattle.pw_db.specs.Limits.{colour_limit};
 
 use pw_build::{BuildFault, Unbuilt, first_phases, no_refusal_is_want_of_memory};
 use pw_build_objects::{Built, Steps, complete};
+use pw_build_opts::Opts;
 use pw_io::Store;
 use pw_store_kept::{ProgramFiles, files_of, read_kept};
 use pw_store_modules::{Module, module_files_of, read_sources};
@@ -57,22 +58,21 @@ fn built_of<S: Store, L: Ledger>(
     alloc: Global,
     store: &mut S,
     modules: &[Module],
-    colours: u8,
-    stack: u32,
+    opts: &Opts,
     steps: &mut Steps<L>,
 ) -> Result<Built, Unbuilt>
-    requires { colours ≤ colour_limit }
-    ensures built { IfSome (S.told store.old) (λ told. IfOk result (λ built. Builds (map source modules.now) (map (λ m. kept_object told.files m.name) modules.now) colours stack (Ok (parts_of built)))) }
-    ensures fault { IfSome (S.told store.old) (λ told. IfErr result (λ unbuilt. FaultBuilds (map source modules.now) (map (λ m. kept_object told.files m.name) modules.now) colours stack unbuilt.fault)) }
+    requires { opts.now.colours ≤ colour_limit }
+    ensures built { IfSome (S.told store.old) (λ told. IfOk result (λ built. Builds (map source modules.now) (map (λ m. kept_object told.files m.name) modules.now) opts.now (Ok (parts_of built)))) }
+    ensures fault { IfSome (S.told store.old) (λ told. IfErr result (λ unbuilt. FaultBuilds (map source modules.now) (map (λ m. kept_object told.files m.name) modules.now) opts.now unbuilt.fault)) }
     ensures line { IfErr result (λ unbuilt. IsLine (refused_line (map source modules.now)) unbuilt.fault unbuilt.line) }
     ensures few { OnOk result (length modules.now ≤ module_limit) }
     ensures many { IfOk result (λ built. AreAsMany modules.now built) }
-    ensures image { IfOk result (λ built. built.image ≡ linked built.objects.items stack) }
+    ensures image { IfOk result (λ built. built.image ≡ linked built.objects.items opts.now.stack) }
     ensures lawful_database { IfOk result (λ built. IsDatabase built.database.functions) }
     ensures lawful_objects { IfOk result (λ built. AllByRecursion IsObject built.objects.items) }
     ensures lawful_image { IfOk result (λ built. IsImage built.image) }
     ensures counted { IfOk result (λ built. steps.new ≡ steps.old + count_by (λ fresh. fresh) built.fresh.items) }
-    ensures counted_fault { IfSome (S.told store.old) (λ told. IfErr result (λ unbuilt. IsCounted (map source modules.now) (map (λ m. kept_object told.files m.name) modules.now) colours unbuilt.fault steps.old steps.new)) }
+    ensures counted_fault { IfSome (S.told store.old) (λ told. IfErr result (λ unbuilt. IsCounted (map source modules.now) (map (λ m. kept_object told.files m.name) modules.now) opts.now.colours unbuilt.fault steps.old steps.new)) }
     ensures bound { CountsAtMost (first_phases (map source modules.now)) steps.old steps.new }
     ensures proper { IfErr result (λ unbuilt. IsNoWant unbuilt.fault) }
     ensures same { Keeps (S.told store.old) (S.told store.new) }
@@ -81,7 +81,7 @@ fn built_of<S: Store, L: Ledger>(
     no_refusal_is_want_of_memory();
     let flows = first_phases(alloc, modules)?;
     let kept = read_kept(alloc, store, modules)?;
-    match complete(alloc, &flows, kept, colours, stack, steps) {
+    match complete(alloc, &flows, kept, opts, steps) {
         Ok(built) => Ok(built),
         Err(LinkFault::NoMemory) => Err(Unbuilt {
             fault: BuildFault::NoMemory,
@@ -100,26 +100,25 @@ pub fn program_of<S: Store, L: Ledger>(
     alloc: Global,
     store: &mut S,
     modules: &[Module],
-    colours: u8,
-    stack: u32,
+    opts: &Opts,
     steps: &mut Steps<L>,
 ) -> Result<ProgramFiles, Unbuilt>
-    requires { colours ≤ colour_limit }
-    ensures files { IfSome (S.told store.old) (λ told. IfOk result (λ files. BuildsFiles (map source modules.now) (map (λ m. kept_object told.files m.name) modules.now) colours stack files)) }
+    requires { opts.now.colours ≤ colour_limit }
+    ensures files { IfSome (S.told store.old) (λ told. IfOk result (λ files. BuildsFiles (map source modules.now) (map (λ m. kept_object told.files m.name) modules.now) opts.now files)) }
     ensures bytes { IfOk result (λ files. HoldBytes (map file_view files.fresh.files.items)) }
     ensures image { IfOk result (λ files. HoldsImage files.image.items) }
-    ensures fault { IfSome (S.told store.old) (λ told. IfErr result (λ unbuilt. FaultBuilds (map source modules.now) (map (λ m. kept_object told.files m.name) modules.now) colours stack unbuilt.fault)) }
+    ensures fault { IfSome (S.told store.old) (λ told. IfErr result (λ unbuilt. FaultBuilds (map source modules.now) (map (λ m. kept_object told.files m.name) modules.now) opts.now unbuilt.fault)) }
     ensures line { IfErr result (λ unbuilt. IsLine (refused_line (map source modules.now)) unbuilt.fault unbuilt.line) }
     ensures few { OnOk result (length modules.now ≤ module_limit) }
     ensures counted { IfOk result (λ files. steps.new ≡ steps.old + length files.fresh.names.items) }
-    ensures counted_fault { IfSome (S.told store.old) (λ told. IfErr result (λ unbuilt. IsCounted (map source modules.now) (map (λ m. kept_object told.files m.name) modules.now) colours unbuilt.fault steps.old steps.new)) }
+    ensures counted_fault { IfSome (S.told store.old) (λ told. IfErr result (λ unbuilt. IsCounted (map source modules.now) (map (λ m. kept_object told.files m.name) modules.now) opts.now.colours unbuilt.fault steps.old steps.new)) }
     ensures bound { CountsAtMost (first_phases (map source modules.now)) steps.old steps.new }
     ensures most { CountsUpTo module_limit steps.old steps.new }
     ensures proper { IfErr result (λ unbuilt. IsNoWant unbuilt.fault) }
     ensures same { Keeps (S.told store.old) (S.told store.new) }
     ensures count { FaultCount (S.faults store.old) (S.faults store.new) result }
 {
-    let built = built_of(alloc, store, modules, colours, stack, steps)?;
+    let built = built_of(alloc, store, modules, opts, steps)?;
     Ok(files_of(
         alloc,
         modules,

@@ -1,17 +1,10 @@
-//! What a build is told, and what it reports.
+//! What a build reports.
 
 ghost use Rattle.std.specs.Prelude.{◌≡◌, IfOk, string_bytes};
 ghost use Rattle.pw_build_files.specs.Lines.{lines_with, report_text};
 
 use pw_value::Name;
 use std::alloc::{AllocError, Global};
-
-/// How a program is built: how many registers webs may have, 0 to 8, and the bytes of the stack.
-#[derive(Clone, Copy)]
-pub struct Opts {
-    pub colours: u8,
-    pub stack: u32,
-}
 
 /// What a build reports: how many modules there are, the names of those whose objects were made anew, the bytes of the
 /// image, and their SHA-256 digest.

@@ -16,6 +16,7 @@ use Rattle.pw_object.specs.declared.object.Object.{Object}
 use Rattle.pw_phase_two.specs.Phases.{AreDirectivesOf, IsObjectOf, IsPayloadOf}
 use Rattle.pw_build_objects.specs.Programs.{AreObjectsFrom, AreParts, Completes, DirectivesList, IsObjectFrom, Parts, first_kept, kept_behind}
 use Rattle.pw_build_objects.specs.Kept.{IsGenuine, IsGenuineIfKept, all_fresh, anew}
+use Rattle.pw_build_opts.specs.declared.opts.Opts.{Opts}
 
 -- the laws on which it stands
 pub record Laws : Type 0 where
@@ -98,10 +99,10 @@ anew_objects laws db (f ∷ fs) kept (o ∷ os) (b ∷ bs) all h = (
 anew_parts : Laws → (flows : List FlowModule) (kept : List (Option Object)) (colours : ℕ) (parts : Parts) → AllByRecursion IsGenuineIfKept kept → AreParts flows kept colours parts → AreParts flows [] colours (all_fresh parts)
 anew_parts laws flows kept colours parts all h = record { lawful = h.lawful; database = h.database; objects = anew_objects laws parts.database flows kept parts.objects parts.fresh all h.objects }
 
-pub change_nothing : Laws → (flows : List FlowModule) (kept : List (Option Object)) (colours stack : ℕ) (a : Result Parts LinkFault) → AllByRecursion IsGenuineIfKept kept → Completes flows kept colours stack a → Completes flows [] colours stack (anew a)
-change_nothing laws flows kept colours stack (Ok parts) all h = (anew_parts laws flows kept colours parts all h.0, h.1)
-change_nothing laws flows kept colours stack (Err fault) all h =
-    ⊎_elim {C = Completes flows [] colours stack (Err fault)}
+pub change_nothing : Laws → (flows : List FlowModule) (kept : List (Option Object)) (opts : Opts) (a : Result Parts LinkFault) → AllByRecursion IsGenuineIfKept kept → Completes flows kept opts a → Completes flows [] opts (anew a)
+change_nothing laws flows kept opts (Ok parts) all h = (anew_parts laws flows kept opts.colours parts all h.0, h.1)
+change_nothing laws flows kept opts (Err fault) all h =
+    ⊎_elim {C = Completes flows [] opts (Err fault)}
     (λ l. inl l)
-    (λ r. inr (all_fresh r.0, anew_parts laws flows kept colours r.0 all r.1, r.2))
+    (λ r. inr (all_fresh r.0, anew_parts laws flows kept opts.colours r.0 all r.1, r.2))
     h

@@ -1,12 +1,14 @@
--- Whether an object was made of a flow graph under directives, by the bytes that stand in it.
-use Rattle.std.proofs.Common.{◌≡◌, ◌↔◌, ℕ, Bool, true, false, List, sym, ◌∙◌, subst}
-use Rattle.std.specs.Prelude.{IsTrue}
+-- Whether an object was made of a flow graph under directives, by the origin that stands in it.
+use Rattle.std.proofs.Common.{◌≡◌, ℕ, true, false, List, Option, Some, None, sym, ◌∙◌, subst, ap}
 use Rattle.pw_flow.specs.declared.flow.FlowModule.{FlowModule}
 use Rattle.pw_flowfile.specs.FlowFile.{IsFlowFile}
 use Rattle.pw_db.specs.Database.{IsPayload, IsStored}
 use Rattle.pw_object.specs.declared.object.Object.{Object}
-use Rattle.pw_phase_two.specs.Phases.{IsPayloadOf}
-use Rattle.pw_build_objects.specs.Programs.{DirectivesList, IsMadeOf}
+use Rattle.pw_phase_two.specs.declared.origin.Origin.{Origin}
+use Rattle.pw_phase_two.specs.Origins.{IsOriginOf}
+use Rattle.pw_phase_two.specs.Phases.{IsObjectOf, IsPayloadOf}
+use Rattle.pw_build_objects.specs.Choosing.{HasOrigin, IsKept}
+use Rattle.pw_build_objects.specs.Programs.{DirectivesList, IsMadeOf, IsObjectFrom, Stays}
 
 abbrev pub OneFile : Type 0
 OneFile = (bytes others : List ℕ) (m : FlowModule) → IsFlowFile bytes m → IsFlowFile others m → bytes ≡ others
@@ -14,19 +16,32 @@ OneFile = (bytes others : List ℕ) (m : FlowModule) → IsFlowFile bytes m → 
 abbrev pub OnePayload : Type 0
 OnePayload = (fs s t : DirectivesList) (bytes others : List ℕ) → IsStored fs s → IsStored fs t → IsPayload bytes s → IsPayload others t → bytes ≡ others
 
-no_true : false ≡ true → ⊥
-no_true e = cc
+-- an object in which the origin stands was made of that flow graph under those directives
+made_by : (flow : FlowModule) (ds : DirectivesList) (origin : Origin) (o : Object) → IsOriginOf flow ds origin → HasOrigin origin o → IsMadeOf flow ds o
+made_by flow ds origin o is h = record {
+  flow_file = subst (λ (x : List ℕ). IsFlowFile x flow) (sym h.0) is.flow_file;
+  payload = subst (λ (x : List ℕ). IsPayloadOf x ds) (sym h.1) is.payload;
+}
 
--- another flow file stands in it
-pub not_made : OneFile → (flow : FlowModule) (ds : DirectivesList) (old : Object) (file : List ℕ) (r : Bool) → IsFlowFile file flow → (IsTrue r ↔ (old.flow ≡ file)) → r ≡ false → IsTrue false ↔ IsMadeOf flow ds old
-not_made one flow ds old file r is same f = (
-  λ t. absurd (no_true t),
-  λ m. absurd (no_true (sym f ∙ same.1 (one old.flow file flow m.flow_file is))),
+-- and in each that was made of them it stands
+stands_in : OneFile → OnePayload → (flow : FlowModule) (ds : DirectivesList) (origin : Origin) (o : Object) → IsOriginOf flow ds origin → IsMadeOf flow ds o → HasOrigin origin o
+stands_in file payload flow ds origin o is m = (
+  file o.flow origin.flow.items flow m.flow_file is.flow_file,
+  payload ds m.payload.0 is.payload.0 o.directives origin.directives.items m.payload.1 is.payload.1 m.payload.2 is.payload.2,
 )
 
--- the same flow file stands in it
-pub made_by : OnePayload → (flow : FlowModule) (ds : DirectivesList) (old : Object) (file stored : List ℕ) (r b : Bool) → IsFlowFile file flow → IsPayloadOf stored ds → (IsTrue r ↔ (old.flow ≡ file)) → r ≡ true → (IsTrue b ↔ (old.directives ≡ stored)) → IsTrue b ↔ IsMadeOf flow ds old
-made_by one flow ds old file stored r b is of same t payload = (
-  λ h. record { flow_file = subst (λ (x : List ℕ). IsFlowFile x flow) (sym (same.0 t)) is; payload = subst (λ (x : List ℕ). IsPayloadOf x ds) (sym (payload.0 h)) of },
-  λ m. payload.1 (one ds m.payload.0 of.0 old.directives stored m.payload.1 of.1 m.payload.2 of.2),
-)
+some_is_none : (o : Object) → ◌≡◌ {A = Option Object} (Some o) None → ⊥
+some_is_none o e = cc
+
+-- what was kept stays
+pub kept_is : (flow : FlowModule) (ds : DirectivesList) (origin : Origin) (old : Option Object) (o : Object) → IsOriginOf flow ds origin → IsKept origin old (Some o) → IsObjectFrom flow ds old o false
+kept_is flow ds origin None o is h = absurd (some_is_none o h)
+kept_is flow ds origin (Some kept) o is h = (ap (λ (x : Object). Some x) (sym h.0), subst (IsMadeOf flow ds) (sym h.0) (made_by flow ds origin kept is h.1))
+
+no_stay : OneFile → OnePayload → (flow : FlowModule) (ds : DirectivesList) (origin : Origin) (old : Option Object) → IsOriginOf flow ds origin → IsKept origin old None → ¬ Stays flow ds old
+no_stay file payload flow ds origin None is h = λ s. s
+no_stay file payload flow ds origin (Some kept) is h = λ s. h (stands_in file payload flow ds origin kept is s)
+
+-- or it does not, and the object is a new one
+pub anew_is : OneFile → OnePayload → (flow : FlowModule) (ds : DirectivesList) (origin : Origin) (old : Option Object) (o : Object) → IsOriginOf flow ds origin → IsKept origin old None → IsObjectOf flow ds o → IsObjectFrom flow ds old o true
+anew_is file payload flow ds origin old o is h made = (no_stay file payload flow ds origin old is h, made)

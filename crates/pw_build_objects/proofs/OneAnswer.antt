@@ -18,6 +18,7 @@ use Rattle.pw_link.specs.Linking.{AreLinked, IsRefusal}
 use Rattle.pw_build_objects.specs.Programs.{AreObjectsFrom, AreParts, AreSummariesOf, BreakRule, Completes, DirectivesList, HasDatabase, IsModuleFrom, IsObjectFrom, Parts, Stays, first_kept, kept_behind}
 use Rattle.pw_build_objects.specs.Counting.{MakesAnew}
 use Rattle.pw_db.specs.Limits.{colour_limit}
+use Rattle.pw_build_opts.specs.declared.opts.Opts.{Opts}
 
 -- the laws on which it stands
 pub record Laws : Type 0 where
@@ -101,31 +102,31 @@ breaks_not laws fs colours d fault v a b =
     let same : b.summaries ≡ a.summaries = summaries_one laws fs b.summaries a.summaries v b.of_flows a.of_flows in
     laws.not_both (map interface_of a.summaries) fault a.linked (subst (λ (ss : List Summary). Refusal (map interface_of ss) fault) same b.refused)
 
-made_not_refused : Laws → (fs : List FlowModule) (kept : List (Option Object)) (colours stack : ℕ) (p : Parts) (fault : LinkFault) → colours ≤ colour_limit → Completes fs kept colours stack (Ok p) → Completes fs kept colours stack (Err fault) → ⊥
-made_not_refused laws fs kept colours stack p fault few a b =
+made_not_refused : Laws → (fs : List FlowModule) (kept : List (Option Object)) (opts : Opts) (p : Parts) (fault : LinkFault) → opts.colours ≤ colour_limit → Completes fs kept opts (Ok p) → Completes fs kept opts (Err fault) → ⊥
+made_not_refused laws fs kept opts p fault few a b =
     ⊎_elim {C = ⊥}
-    (λ l. breaks_not laws fs colours p.database fault a.0.lawful a.0.database l.1)
-    (λ r. laws.objects_not_both p.objects stack fault a.1 (subst (λ (x : Parts). IsRefusal x.objects stack fault) (parts_one laws fs kept colours r.0 p few r.1 a.0) r.2))
+    (λ l. breaks_not laws fs opts.colours p.database fault a.0.lawful a.0.database l.1)
+    (λ r. laws.objects_not_both p.objects opts.stack fault a.1 (subst (λ (x : Parts). IsRefusal x.objects opts.stack fault) (parts_one laws fs kept opts.colours r.0 p few r.1 a.0) r.2))
     b
 
-refusals_one : Laws → (fs : List FlowModule) (kept : List (Option Object)) (colours stack : ℕ) (fault other : LinkFault) → colours ≤ colour_limit → Completes fs kept colours stack (Err fault) → Completes fs kept colours stack (Err other) → fault ≡ other
-refusals_one laws fs kept colours stack fault other few a b =
+refusals_one : Laws → (fs : List FlowModule) (kept : List (Option Object)) (opts : Opts) (fault other : LinkFault) → opts.colours ≤ colour_limit → Completes fs kept opts (Err fault) → Completes fs kept opts (Err other) → fault ≡ other
+refusals_one laws fs kept opts fault other few a b =
     ⊎_elim {C = fault ≡ other}
     (λ l. ⊎_elim {C = fault ≡ other}
     (λ m. breaks_one laws fs fault other l.0 l.1 m.1)
-    (λ r. absurd (breaks_not laws fs colours r.0.database fault l.0 r.1.database l.1))
+    (λ r. absurd (breaks_not laws fs opts.colours r.0.database fault l.0 r.1.database l.1))
     b)
     (λ r. ⊎_elim {C = fault ≡ other}
-    (λ m. absurd (breaks_not laws fs colours r.0.database other m.0 r.1.database m.1))
-    (λ s. laws.objects_one_fault r.0.objects stack fault other r.2 (subst (λ (x : Parts). IsRefusal x.objects stack other) (parts_one laws fs kept colours s.0 r.0 few s.1 r.1) s.2))
+    (λ m. absurd (breaks_not laws fs opts.colours r.0.database other m.0 r.1.database m.1))
+    (λ s. laws.objects_one_fault r.0.objects opts.stack fault other r.2 (subst (λ (x : Parts). IsRefusal x.objects opts.stack other) (parts_one laws fs kept opts.colours s.0 r.0 few s.1 r.1) s.2))
     b)
     a
 
-pub one_answer : Laws → (fs : List FlowModule) (kept : List (Option Object)) (colours stack : ℕ) (a b : Result Parts LinkFault) → colours ≤ colour_limit → Completes fs kept colours stack a → Completes fs kept colours stack b → a ≡ b
-one_answer laws fs kept colours stack (Ok p) (Ok q) few a b = ap Ok (parts_one laws fs kept colours p q few a.0 b.0)
-one_answer laws fs kept colours stack (Ok p) (Err fault) few a b = absurd (made_not_refused laws fs kept colours stack p fault few a b)
-one_answer laws fs kept colours stack (Err fault) (Ok q) few a b = absurd (made_not_refused laws fs kept colours stack q fault few b a)
-one_answer laws fs kept colours stack (Err fault) (Err other) few a b = ap Err (refusals_one laws fs kept colours stack fault other few a b)
+pub one_answer : Laws → (fs : List FlowModule) (kept : List (Option Object)) (opts : Opts) (a b : Result Parts LinkFault) → opts.colours ≤ colour_limit → Completes fs kept opts a → Completes fs kept opts b → a ≡ b
+one_answer laws fs kept opts (Ok p) (Ok q) few a b = ap Ok (parts_one laws fs kept opts.colours p q few a.0 b.0)
+one_answer laws fs kept opts (Ok p) (Err fault) few a b = absurd (made_not_refused laws fs kept opts p fault few a b)
+one_answer laws fs kept opts (Err fault) (Ok q) few a b = absurd (made_not_refused laws fs kept opts q fault few b a)
+one_answer laws fs kept opts (Err fault) (Err other) few a b = ap Err (refusals_one laws fs kept opts fault other few a b)
 
 -- ---- how many objects are made anew
 

@@ -15,6 +15,7 @@ use Rattle.pw_db.specs.Database.{HasDirectives}
 use Rattle.pw_object.specs.declared.object.Object.{Object}
 use Rattle.pw_phase_two.specs.Phases.{AreDirectivesOf, IsObjectOf, IsPayloadOf}
 use Rattle.pw_link.specs.Linking.{AreLinked, IsRefusal}
+use Rattle.pw_build_opts.specs.declared.opts.Opts.{Opts}
 
 -- functions by name, each with its directives
 abbrev pub DirectivesList : Type 0
@@ -102,8 +103,8 @@ pub record AreParts (flows : List FlowModule) (kept : List (Option Object)) (col
 
 -- The one answer to flow graphs and kept objects, for so many registers and such a stack: the parts of a program that can
 -- be linked; or why there is none, by the modules' summaries or else by their objects.
-abbrev pub Completes : List FlowModule → List (Option Object) → ℕ → ℕ → Result Parts LinkFault → Type 0
-Completes flows kept colours stack (Ok parts) = AreParts flows kept colours parts × AreLinked parts.objects stack
-Completes flows kept colours stack (Err fault) =
+abbrev pub Completes : List FlowModule → List (Option Object) → Opts → Result Parts LinkFault → Type 0
+Completes flows kept opts (Ok parts) = AreParts flows kept opts.colours parts × AreLinked parts.objects opts.stack
+Completes flows kept opts (Err fault) =
     (AllByRecursion IsValid flows × BreakRule flows fault)
-    ⊎ ((parts : Parts) × AreParts flows kept colours parts × IsRefusal parts.objects stack fault)
+    ⊎ ((parts : Parts) × AreParts flows kept opts.colours parts × IsRefusal parts.objects opts.stack fault)

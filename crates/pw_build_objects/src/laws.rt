@@ -9,6 +9,7 @@ ghost use Rattle.pw_build_objects.specs.Programs.{Completes, Parts};
 ghost use Rattle.pw_build_objects.specs.Counting.{MakesAnew};
 ghost use Rattle.pw_build_objects.specs.Kept.{IsGenuineIfKept, anew};
 ghost use Rattle.pw_db.specs.Limits.{colour_limit};
+ghost use Rattle.pw_build_opts.specs.declared.opts.Opts.{Opts};
 
 use pw_colour::laws::{databases_are_lawful, databases_are_one};
 use pw_db::laws::{databases_and_payloads_are_one_to_one, directives_are_one};
@@ -20,7 +21,7 @@ use pw_summarise::laws::a_module_has_one_summary;
 
 /// Flow graphs and kept objects come to one answer, and so many objects of theirs are made anew.
 pub fn flow_graphs_have_one_answer()
-    ensures answer { (flows : List FlowModule) (kept : List (Option Object)) (colours stack : ℕ) (a b : Result Parts LinkFault) → colours ≤ colour_limit → Completes flows kept colours stack a → Completes flows kept colours stack b → a ≡ b }
+    ensures answer { (flows : List FlowModule) (kept : List (Option Object)) (opts : Opts) (a b : Result Parts LinkFault) → opts.colours ≤ colour_limit → Completes flows kept opts a → Completes flows kept opts b → a ≡ b }
     ensures count { (flows : List FlowModule) (kept : List (Option Object)) (colours made other : ℕ) → colours ≤ colour_limit → MakesAnew flows kept colours made → MakesAnew flows kept colours other → made ≡ other }
 {
     databases_are_lawful();
@@ -34,7 +35,7 @@ pub fn flow_graphs_have_one_answer()
 
 /// Kept objects that the second phase made change nothing but which objects are made anew.
 pub fn genuine_objects_change_nothing()
-    ensures { (flows : List FlowModule) (kept : List (Option Object)) (colours stack : ℕ) (a : Result Parts LinkFault) → AllByRecursion IsGenuineIfKept kept → Completes flows kept colours stack a → Completes flows [] colours stack (anew a) }
+    ensures { (flows : List FlowModule) (kept : List (Option Object)) (opts : Opts) (a : Result Parts LinkFault) → AllByRecursion IsGenuineIfKept kept → Completes flows kept opts a → Completes flows [] opts (anew a) }
 {
     databases_and_payloads_are_one_to_one();
     directives_are_one();

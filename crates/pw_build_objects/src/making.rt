@@ -15,6 +15,7 @@ ghost use Rattle.pw_db.specs.Limits.{colour_limit};
 use crate::analysing::database_of;
 use crate::objects::{Objects, all_objects};
 use crate::steps::Steps;
+use pw_build_opts::Opts;
 use pw_db::Database;
 use pw_flow::FlowModule;
 use pw_image::Image;
@@ -64,24 +65,23 @@ pub fn complete<L: Ledger>(
     alloc: Global,
     flows: &[FlowModule],
     kept: VecDeque<Option<Object>>,
-    colours: u8,
-    stack: u32,
+    opts: &Opts,
     steps: &mut Steps<L>,
 ) -> Result<Built, LinkFault>
     requires lawful { AllByRecursion IsValid flows.now }
     requires kept { AllByRecursion (λ old. IfSome old IsObject) kept.items }
-    requires few { colours ≤ colour_limit }
-    ensures built { IfOk result (λ built. Completes flows.now kept.items colours stack (Ok (parts_of built))) }
-    ensures refused { IfErr result (λ fault. (fault ≡ LinkFault.NoMemory) ⊎ Completes flows.now kept.items colours stack (Err fault)) }
-    ensures image { IfOk result (λ built. built.image ≡ linked built.objects.items stack) }
+    requires few { opts.now.colours ≤ colour_limit }
+    ensures built { IfOk result (λ built. Completes flows.now kept.items opts.now (Ok (parts_of built))) }
+    ensures refused { IfErr result (λ fault. (fault ≡ LinkFault.NoMemory) ⊎ Completes flows.now kept.items opts.now (Err fault)) }
+    ensures image { IfOk result (λ built. built.image ≡ linked built.objects.items opts.now.stack) }
     ensures lawful_database { IfOk result (λ built. IsDatabase built.database.functions) }
     ensures lawful_objects { IfOk result (λ built. AllByRecursion IsObject built.objects.items) }
     ensures lawful_image { IfOk result (λ built. IsImage built.image) }
     ensures counted { IfOk result (λ built. steps.new ≡ steps.old + count_by (λ fresh. fresh) built.fresh.items) }
-    ensures counted_fault { IfErr result (λ fault. (fault ≡ LinkFault.NoMemory) ⊎ CountsAnew flows.now kept.items colours steps.old steps.new) }
+    ensures counted_fault { IfErr result (λ fault. (fault ≡ LinkFault.NoMemory) ⊎ CountsAnew flows.now kept.items opts.now.colours steps.old steps.new) }
     ensures bound { CountsUpTo (length flows.now) steps.old steps.new }
 {
-    let database = database_of(alloc, flows, colours)?;
+    let database = database_of(alloc, flows, opts.colours)?;
     let made = all_objects(alloc, flows, kept, &database, steps)?;
-    linked(alloc, database, made, stack)
+    linked(alloc, database, made, opts.stack)
 }

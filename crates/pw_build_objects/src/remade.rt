@@ -3,19 +3,43 @@
 ghost use Rattle.std.specs.Prelude.{◌≡◌, ◌+◌, ◌↔◌, IfOk, IfSome, IsTrue, OnErr, OnOk, if◌then◌else◌};
 ghost use Rattle.pw_flow.specs.ValidFlow.{IsValid};
 ghost use Rattle.pw_object.specs.Object.{IsObject};
+ghost use Rattle.pw_phase_two.specs.Origins.{IsOriginOf};
 ghost use Rattle.pw_phase_two.specs.Phases.{AreDirectivesOf, IsObjectOf};
-ghost use Rattle.pw_build_objects.specs.Programs.{IsMadeOf, IsObjectFrom};
-ghost use Rattle.pw_build_objects.specs.Choosing.{IsTaken};
+ghost use Rattle.pw_build_objects.specs.Programs.{IsObjectFrom};
+ghost use Rattle.pw_build_objects.specs.Choosing.{HasOrigin, IsKept};
 
 use crate::steps::Steps;
+use pw_db::Directives;
 use pw_db::laws::one_list_is_stored;
-use pw_db::{Directives, payload};
 use pw_flow::FlowModule;
 use pw_flowfile::laws::flow_graphs_and_files_are_one_to_one;
 use pw_object::Object;
+use pw_phase_two::{Origin, object_of, origin_of};
 use pw_value::Name;
 use std::alloc::{AllocError, Global};
 use std::sync::ledger::Ledger;
+
+/// The object of a lawful module under the directives of its functions, with its origin; an object that is made counts as one
+/// step.
+fn made<L: Ledger>(
+    alloc: Global,
+    flow: &FlowModule,
+    directives: &[(Name, Directives)],
+    origin: Origin,
+    steps: &mut Steps<L>,
+) -> Result<Object, AllocError>
+    requires lawful { IsValid flow.now }
+    requires directives { AreDirectivesOf flow.now directives.now }
+    requires origin { IsOriginOf flow.now directives.now origin }
+    ensures object { IfOk result (λ o. IsObjectOf flow.now directives.now o) }
+    ensures lawful { IfOk result (λ o. IsObject o) }
+    ensures counted { OnOk result (steps.new ≡ steps.old + 1) }
+    ensures uncounted { OnErr result (steps.new ≡ steps.old) }
+{
+    let object = object_of(alloc, flow, directives, origin)?;
+    steps.step();
+    Ok(object)
+}
 
 /// The object of a lawful module under the directives of its functions; an object that is made counts as one step.
 pub fn phase_two<L: Ledger>(
@@ -31,9 +55,8 @@ pub fn phase_two<L: Ledger>(
     ensures counted { OnOk result (steps.new ≡ steps.old + 1) }
     ensures uncounted { OnErr result (steps.new ≡ steps.old) }
 {
-    let object = pw_phase_two::phase_two(alloc, flow, directives)?;
-    steps.step();
-    Ok(object)
+    let origin = origin_of(alloc, flow, directives)?;
+    made(alloc, flow, directives, origin, steps)
 }
 
 /// Whether bytes are the same.
@@ -43,45 +66,25 @@ fn are_same(one: &[u8], other: &[u8]) -> bool
     one == other
 }
 
-/// Whether an object was made of a flow graph under directives: whether their file and their payload stand in it.
-fn is_made_of(
-    alloc: Global,
-    flow: &FlowModule,
-    directives: &[(Name, Directives)],
-    old: &Object,
-) -> Result<bool, AllocError>
-    requires lawful { IsValid flow.now }
-    requires directives { AreDirectivesOf flow.now directives.now }
-    ensures { IfOk result (λ same. IsTrue same ↔ IsMadeOf flow.now directives.now old.now) }
+/// Whether an object was made of this: whether it stands in it.
+fn is_made_of(origin: &Origin, old: &Object) -> bool
+    ensures { IsTrue result ↔ HasOrigin origin.now old.now }
 {
-    flow_graphs_and_files_are_one_to_one();
-    one_list_is_stored();
-    let file = pw_flowfile::write(alloc, flow)?;
-    if !are_same(old.flow.as_slice(), &file) {
-        return Ok(false);
-    }
-    let stored = payload(alloc, directives)?;
-    Ok(are_same(old.directives.as_slice(), &stored))
+    are_same(old.flow.as_slice(), &origin.flow)
+        && are_same(old.directives.as_slice(), &origin.directives)
 }
 
-/// What was kept of a module, where it stays.
-fn taken(
-    alloc: Global,
-    flow: &FlowModule,
-    directives: &[(Name, Directives)],
-    old: Option<Object>,
-) -> Result<Option<Object>, AllocError>
-    requires lawful { IsValid flow.now }
-    requires directives { AreDirectivesOf flow.now directives.now }
-    ensures { IfOk result (λ kept. IsTaken flow.now directives.now old kept) }
+/// What was kept of a module, where it stays: where the module's origin stands in it.
+fn taken(origin: &Origin, old: Option<Object>) -> Option<Object>
+    ensures { IsKept origin.now old result }
 {
     let Some(object) = old else {
-        return Ok(None);
+        return None;
     };
-    if is_made_of(alloc, flow, directives, &object)? {
-        Ok(Some(object))
+    if is_made_of(origin, &object) {
+        Some(object)
     } else {
-        Ok(None)
+        None
     }
 }
 
@@ -92,7 +95,8 @@ pub struct Remade {
     pub fresh: bool,
 }
 
-/// The object of a module under directives: the one that was kept where it stays, else a new one.
+/// The object of a module under directives: the one that was kept where it stays, else a new one. The module's origin is
+/// made once, to be compared and to stand in the new object.
 pub fn object_from<L: Ledger>(
     alloc: Global,
     flow: &FlowModule,
@@ -108,13 +112,16 @@ pub fn object_from<L: Ledger>(
     ensures counted { IfOk result (λ made. steps.new ≡ steps.old + (if made.fresh then 1 else 0)) }
     ensures uncounted { OnErr result (steps.new ≡ steps.old) }
 {
-    match taken(alloc, flow, directives, old)? {
+    flow_graphs_and_files_are_one_to_one();
+    one_list_is_stored();
+    let origin = origin_of(alloc, flow, directives)?;
+    match taken(&origin, old) {
         Some(object) => Ok(Remade {
             object,
             fresh: false,
         }),
         None => Ok(Remade {
-            object: phase_two(alloc, flow, directives, steps)?,
+            object: made(alloc, flow, directives, origin, steps)?,
             fresh: true,
         }),
     }

@@ -116,7 +116,6 @@ of_feature F.OldStyle = all_of (Unsupported F.OldStyle) (on_feature F.OldStyle) 
 of_feature F.StructByValue = all_of (Unsupported F.StructByValue) (on_feature F.StructByValue) (refl, tt)
 of_feature F.PointerCast = all_of (Unsupported F.PointerCast) (on_feature F.PointerCast) (refl, tt)
 of_feature F.Directive = all_of (Unsupported F.Directive) [] tt
-of_feature F.NotYet = all_of (Unsupported F.NotYet) [] tt
 
 pub of_kind : (kind : CheckKind) → All (λ c. kind_of c ≡ kind) (constraints_of kind)
 of_kind UnknownName = all_of UnknownName on_names (refl, (refl, (refl, (refl, tt))))

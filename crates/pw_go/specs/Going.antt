@@ -10,11 +10,12 @@ use Rattle.pw_machine.specs.Start.{image_start}
 use Rattle.pw_top_answer.specs.declared.answer.Answer.{Answer}
 use Rattle.pw_top_answer.specs.declared.answer.Answer.TheVariants.{Done, Usage, Refused, LinkRefused, BadFile, BadScript}
 use Rattle.pw_top_answer.specs.Effects.{Effect, NamedFile, answers_alone}
-use Rattle.pw_top_answer.specs.Outcomes.{Answers, IsNoRefusal, LeavesInput, PutsOut, RefusesAs}
+use Rattle.pw_top_answer.specs.Outcomes.{Answers, LeavesInput, PutsOut}
 use Rattle.pw_commands.specs.MachineRun.{run_answer, run_output, run_rest, started}
 use Rattle.pw_build_files.specs.FromBuild.BuildFault.{BuildFault}
 use Rattle.pw_build_files.specs.Building.{BuildOutcome, Outcome}
 use Rattle.pw_build_files.specs.Outcomes.{fault_answer}
+use Rattle.pw_build_opts.specs.declared.opts.RunOpts.{RunOpts}
 
 -- the run of a program over an input, for at most so many instructions
 abbrev pub run_from : ℕ → List ℕ → Contents Image → Progress
@@ -29,16 +30,10 @@ abbrev pub GoOver : ℕ → List ℕ → Result Outcome BuildFault → Effect �
 GoOver budget input (Ok outcome) effect = (c : Contents Image) × IsImageFile outcome.image c × (effect ≡ ran_behind outcome.puts (run_from budget input c))
 GoOver budget input (Err fault) effect = effect ≡ answers_alone (fault_answer fault) input
 
--- `go` over a store's files and an input, for so many registers, such a stack and so many instructions at most
-abbrev pub GoEffect : Files → ℕ → ℕ → ℕ → List ℕ → Effect → Type 0
-GoEffect files colours stack budget input effect =
-    (comes : Result Outcome BuildFault) × BuildOutcome files colours stack comes × GoOver budget input comes effect
-
--- The refusal to which the build comes is the answer, before the input and the output are touched; want of memory and a fault of
--- the store may come in its place. A build that comes to a program is not refused.
-abbrev pub AnswersComes : Result Outcome BuildFault → Answer → Type 0
-AnswersComes (Ok outcome) answer = IsNoRefusal answer
-AnswersComes (Err fault) answer = RefusesAs (fault_answer fault) answer
+-- `go` over a store's files and an input
+abbrev pub GoEffect : Files → RunOpts → List ℕ → Effect → Type 0
+GoEffect files opts input effect =
+    (comes : Result Outcome BuildFault) × BuildOutcome files opts.build comes × GoOver opts.budget input comes effect
 
 -- the answers of the command, whose refusals are none for want of memory
 abbrev pub IsGoAnswer : Answer → Type 0

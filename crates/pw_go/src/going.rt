@@ -11,10 +11,11 @@ ghost use Rattle.pw_build_files.specs.FromBuild.Phases.{refused_line};
 ghost use Rattle.pw_build_files.specs.Building.{BuildOutcome, Outcome};
 ghost use Rattle.pw_build_files.specs.Driving.{KeepsUnput};
 ghost use Rattle.pw_build_files.specs.Genuine.{KeepsGenuine};
-ghost use Rattle.pw_build_files.specs.Outcomes.{AreOpts, HoldsImage};
-ghost use Rattle.pw_go.specs.Going.{AnswersComes, GoEffect, IsGoAnswer, RunsImage};
+ghost use Rattle.pw_build_files.specs.Outcomes.{AnswersOutcome, AreOpts, HoldsImage};
+ghost use Rattle.pw_go.specs.Going.{GoEffect, IsGoAnswer, RunsImage};
 
-use pw_build_files::{Opts, answer_of, build_uncounted};
+use pw_build_files::{answer_of, build_uncounted};
+use pw_build_opts::RunOpts;
 use pw_commands::run_machine;
 use pw_io::laws::other_files;
 use pw_io::{Sink, Source, Store};
@@ -45,7 +46,7 @@ fn run_built<I: Source, O: Sink>(
 }
 
 /// Builds the program of the modules of a store and puts what changed, as `build` does; then runs its image for at most
-/// `budget` instructions, reading from `input` and writing to `out`.
+/// so many instructions as the budget has, reading from `input` and writing to `out`.
 ///
 /// The answer is how the run stopped; `Refused` for the first module that is refused, with the line; `LinkRefused` where
 /// the modules are refused together. Where the build is refused nothing is put, read or put out. A fault of the input or
@@ -53,16 +54,15 @@ fn run_built<I: Source, O: Sink>(
 pub fn go<S: Store, I: Source, O: Sink>(
     alloc: Global,
     store: &mut S,
-    opts: &Opts,
-    budget: u64,
+    opts: &RunOpts,
     input: &mut I,
     out: &mut O,
 ) -> Reply
-    requires { AreOpts opts.now }
-    ensures obeys { IfSome (S.told store.old) (λ told. IfSome (I.rest input.old) (λ rest. Obeys (GoEffect told.files opts.now.colours opts.now.stack budget rest) result.answer told (S.told store.new))) }
-    ensures output { IfSome (S.told store.old) (λ told. IfSome (I.rest input.old) (λ rest. (effect : Effect) → GoEffect told.files opts.now.colours opts.now.stack budget rest effect → PutsOut effect.output result.answer (O.taken out.old) (O.taken out.new))) }
-    ensures rest { IfSome (S.told store.old) (λ told. IfSome (I.rest input.old) (λ rest. (effect : Effect) → GoEffect told.files opts.now.colours opts.now.stack budget rest effect → LeavesInput effect.rest rest result.answer (I.rest input.new))) }
-    ensures refusal { IfSome (S.told store.old) (λ told. (comes : Result Outcome BuildFault) → BuildOutcome told.files opts.now.colours opts.now.stack comes → AnswersComes comes result.answer) }
+    requires { AreOpts opts.now.build }
+    ensures obeys { IfSome (S.told store.old) (λ told. IfSome (I.rest input.old) (λ rest. Obeys (GoEffect told.files opts.now rest) result.answer told (S.told store.new))) }
+    ensures output { IfSome (S.told store.old) (λ told. IfSome (I.rest input.old) (λ rest. (effect : Effect) → GoEffect told.files opts.now rest effect → PutsOut effect.output result.answer (O.taken out.old) (O.taken out.new))) }
+    ensures rest { IfSome (S.told store.old) (λ told. IfSome (I.rest input.old) (λ rest. (effect : Effect) → GoEffect told.files opts.now rest effect → LeavesInput effect.rest rest result.answer (I.rest input.new))) }
+    ensures refusal { IfSome (S.told store.old) (λ told. (comes : Result Outcome BuildFault) → BuildOutcome told.files opts.now.build comes → AnswersOutcome comes result.answer) }
     ensures others { IfSome (S.told store.old) (λ told. KeepsUnput result.answer told (S.told store.new)) }
     ensures genuine { IfSome (S.told store.old) (λ told. KeepsGenuine told.files → IfSome (S.told store.new) (λ now. KeepsGenuine now.files)) }
     ensures line { IfSome (S.told store.old) (λ told. IsLineDue (refused_line (modules_of told.files)) result.answer result.line) }
@@ -73,9 +73,9 @@ pub fn go<S: Store, I: Source, O: Sink>(
     ensures streams { LeavesStreams result.answer (I.rest input.old) (I.rest input.new) (O.taken out.old) (O.taken out.new) }
 {
     other_files();
-    match build_uncounted(alloc, store, opts) {
+    match build_uncounted(alloc, store, &opts.build) {
         Ok(report) => Reply {
-            answer: run_built(alloc, &report.image, budget, input, out),
+            answer: run_built(alloc, &report.image, opts.budget, input, out),
             line: 1,
         },
         Err(unbuilt) => Reply {

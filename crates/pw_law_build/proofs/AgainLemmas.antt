@@ -8,7 +8,6 @@ use Rattle.std.proofs.lemmas.Map.Lookups.{exact_bytes}
 use Rattle.std.proofs.lemmas.Map.Views.{tells_apart}
 use Rattle.std.proofs.lemmas.Slice.Eq.{bytes_eq-Decides}
 use Rattle.pw_io.specs.Files.{Files, Told}
-use Rattle.pw_value.specs.Limits.{kept_limit}
 use Rattle.pw_flow.specs.declared.flow.FlowModule.{FlowModule}
 use Rattle.pw_object.specs.declared.object.Object.{Object}
 use Rattle.pw_store_modules.specs.FileNames.{database_name, image_name, object_name}
@@ -17,13 +16,14 @@ use Rattle.pw_top_answer.specs.Effects.{NamedFile, after_puts}
 use Rattle.pw_build_objects.specs.Programs.{AreObjectsFrom, AreParts, DirectivesList, IsMadeOf, IsObjectFrom, Parts, kept_behind}
 use Rattle.pw_build_files.specs.FromBuild.BuildFault.{BuildFault}
 use Rattle.pw_build_files.specs.FromBuild.Builds.{Builds, BuildsBy, first_phases}
-use Rattle.pw_store_kept.specs.Kept.{counted, is_same, kept_bytes, kept_object, object_in}
+use Rattle.pw_store_kept.specs.Kept.{counted, is_same, kept_object, object_in}
 use Rattle.pw_store_kept.specs.Files.{AreObjectFiles, made_anew}
 use Rattle.pw_build_files.specs.Building.{BuildOutcome, IsOutcome, Outcome, if_changed, kept_objects}
 use Rattle.pw_law_build.specs.Whole.{HoldsFile}
-use Rattle.pw_law_build.specs.Kept.{FitsKept, FitsWhole, KeepsFlows, KeepsObjects, unchanged}
+use Rattle.pw_law_build.specs.Kept.{FitObjects, KeepsFlows, KeepsObjects, unchanged}
 use Rattle.pw_law_build.proofs.WholeLemmas.{both_stand}
 use Rattle.pw_law_build.proofs.KeptLemmas.{Laws, completed, keeps_objects}
+use Rattle.pw_build_opts.specs.declared.opts.Opts.{Opts}
 
 -- ---- the objects stay
 
@@ -45,13 +45,13 @@ objects_stay db (f ∷ fs) kept (o ∷ os) (b ∷ bs) h = (
   objects_stay db fs (kept_behind kept) os bs h.1,
 )
 
-builds_on : (sources others : List Source) (kept : List (Option Object)) (colours stack : ℕ) (parts : Parts) → first_phases others ≡ first_phases sources → Builds sources kept colours stack (Ok parts) → Builds others (map (λ o. Some o) parts.objects) colours stack (Ok (stayed parts))
-builds_on sources others kept colours stack parts same h =
-    let c = completed (first_phases sources) kept colours stack parts h in
+builds_on : (sources others : List Source) (kept : List (Option Object)) (opts : Opts) (parts : Parts) → first_phases others ≡ first_phases sources → Builds sources kept opts (Ok parts) → Builds others (map (λ o. Some o) parts.objects) opts (Ok (stayed parts))
+builds_on sources others kept opts parts same h =
+    let c = completed (first_phases sources) kept opts parts h in
     let p = c.completes.0 in
-    let again : AreParts c.flows (map (λ o. Some o) parts.objects) colours (stayed parts) =
+    let again : AreParts c.flows (map (λ o. Some o) parts.objects) opts.colours (stayed parts) =
     record { lawful = p.lawful; database = p.database; objects = objects_stay parts.database c.flows kept parts.objects parts.fresh p.objects } in
-    subst (λ (r : Result (List FlowModule) BuildFault). BuildsBy r (map (λ o. Some o) parts.objects) colours stack (Ok (stayed parts))) (sym (same ∙ c.are)) (again, c.completes.1)
+    subst (λ (r : Result (List FlowModule) BuildFault). BuildsBy r (map (λ o. Some o) parts.objects) opts (Ok (stayed parts))) (sym (same ∙ c.are)) (again, c.completes.1)
 
 -- the same objects are kept under the names of modules
 kept_alike : (old new : Files) (names : List (List ℕ)) → ((name : List ℕ) → finite.get new (object_name name) ≡ finite.get old (object_name name)) → map (kept_object new) names ≡ map (kept_object old) names
@@ -67,30 +67,29 @@ made_none [] os = refl
 made_none (n ∷ ns) [] = refl
 made_none (n ∷ ns) (o ∷ os) = made_none ns os
 
-same_there : Laws → (files : Files) (name bytes : List ℕ) → FitsKept bytes → HoldsFile files name bytes → is_same (kept_bytes files name) bytes ≡ true
-same_there laws files name bytes fits stands =
-    ap (λ (k : Option (List ℕ)). is_same k bytes) (stands ∙ ap (λ (b : List ℕ). Some b) (laws.front kept_limit bytes fits)) ∙ (bytes_eq-Decides bytes bytes).1 refl
+same_there : (files : Files) (name bytes : List ℕ) → HoldsFile files name bytes → is_same (finite.get files name) bytes ≡ true
+same_there files name bytes stands = ap (λ (k : Option (List ℕ)). is_same k bytes) stands ∙ (bytes_eq-Decides bytes bytes).1 refl
 
-none_put : (files : Files) (name bytes : List ℕ) → is_same (kept_bytes files name) bytes ≡ true → if_changed files name bytes ≡ []
+none_put : (files : Files) (name bytes : List ℕ) → is_same (finite.get files name) bytes ≡ true → if_changed files name bytes ≡ []
 none_put files name bytes e = ap (λ (same : Bool). cond {A = List NamedFile} same [] ((name, bytes) ∷ [])) e
 
-pub edit_comes : Laws → (told : Told) (colours stack : ℕ) (parts : Parts) (outcome : Outcome) (files : Files) → Builds (modules_of told.files) (kept_objects told.files) colours stack (Ok parts) → IsOutcome told.files stack parts outcome → FitsWhole parts outcome
-    → KeepsFlows (after_puts told outcome.puts).files files → BuildOutcome files colours stack (Ok (unchanged outcome))
-edit_comes laws told colours stack parts outcome files builds o fits edit =
+pub edit_comes : Laws → (told : Told) (opts : Opts) (parts : Parts) (outcome : Outcome) (files : Files) → Builds (modules_of told.files) (kept_objects told.files) opts (Ok parts) → IsOutcome told.files opts.stack parts outcome → FitObjects parts.objects
+    → KeepsFlows (after_puts told outcome.puts).files files → BuildOutcome files opts (Ok (unchanged outcome))
+edit_comes laws told opts parts outcome files builds o fits edit =
     let left : Files = (after_puts told outcome.puts).files in
-    let keeps : KeepsObjects told.files left parts = keeps_objects laws told colours stack parts outcome builds o in
+    let keeps : KeepsObjects told.files left parts = keeps_objects laws told opts parts outcome builds o in
     let names : names_of_modules files ≡ names_of_modules told.files = edit.names ∙ ap (λ (ss : List Source). map (λ s. s.0) ss) keeps.modules in
     let phases : first_phases (modules_of files) ≡ first_phases (modules_of told.files) = edit.phases ∙ ap (λ (ss : List Source). first_phases ss) keeps.modules in
     let kept : kept_objects files ≡ map (λ x. Some x) parts.objects =
-    ap (λ (ns : List (List ℕ)). map (kept_object files) ns) edit.names ∙ kept_alike left files (names_of_modules left) (λ n. edit.built (object_name n) (inl (n, refl))) ∙ keeps.objects fits.objects in
-    let stands = both_stand laws.files told stack parts outcome o in
-    let db_stands : HoldsFile files database_name o.database = ap counted (edit.built database_name (inr (inl refl))) ∙ stands.0 in
-    let img_stands : HoldsFile files image_name outcome.image = ap counted (edit.built image_name (inr (inr refl))) ∙ stands.1 in
-    let db : if_changed files database_name o.database ≡ [] = none_put files database_name o.database (same_there laws files database_name o.database (fits.database o.database o.database_file) db_stands) in
-    let img : if_changed files image_name outcome.image ≡ [] = none_put files image_name outcome.image (same_there laws files image_name outcome.image fits.image img_stands) in (
+    ap (λ (ns : List (List ℕ)). map (kept_object files) ns) edit.names ∙ kept_alike left files (names_of_modules left) (λ n. edit.built (object_name n) (inl (n, refl))) ∙ keeps.objects fits in
+    let stands = both_stand laws.files told opts.stack parts outcome o in
+    let db_stands : HoldsFile files database_name o.database = edit.built database_name (inr (inl refl)) ∙ stands.0 in
+    let img_stands : HoldsFile files image_name outcome.image = edit.built image_name (inr (inr refl)) ∙ stands.1 in
+    let db : if_changed files database_name o.database ≡ [] = none_put files database_name o.database (same_there files database_name o.database db_stands) in
+    let img : if_changed files image_name outcome.image ≡ [] = none_put files image_name outcome.image (same_there files image_name outcome.image img_stands) in (
       stayed parts,
-      subst (λ (ks : List (Option Object)). Builds (modules_of files) ks colours stack (Ok (stayed parts))) (sym kept)
-          (builds_on (modules_of told.files) (modules_of files) (kept_objects told.files) colours stack parts phases builds),
+      subst (λ (ks : List (Option Object)). Builds (modules_of files) ks opts (Ok (stayed parts))) (sym kept)
+          (builds_on (modules_of told.files) (modules_of files) (kept_objects told.files) opts parts phases builds),
       record {
         modules = o.modules ∙ ap length (sym names);
         rebuilt = ap (λ (made : List (List ℕ × Object)). map (λ m. m.0) made) (sym (made_none (names_of_modules files) parts.objects));

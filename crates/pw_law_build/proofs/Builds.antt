@@ -20,6 +20,7 @@ use Rattle.pw_build_files.specs.FromBuild.BuildFault.TheVariants.{Refused, LinkR
 use Rattle.pw_build_files.specs.FromBuild.Builds.{limit_passed, before_others, flows_of, within, first_phases, CompletesAs, BuildsBy, Builds}
 use Rattle.pw_law_build.specs.Alike.{shown, DeclaresMain}
 use Rattle.pw_law_build.specs.Complete.{HasRoom, CanBeBuilt}
+use Rattle.pw_build_opts.specs.declared.opts.Opts.{Opts}
 
 -- ---- the flow graphs of a build declare their `main`
 
@@ -51,29 +52,29 @@ module _ (declares : (name text : List ℕ) (flow : FlowModule) → compiled nam
 
 module _ (not_both : (modules : List Interface) (fault : LinkFault) → Links modules → ¬ Refusal modules fault)
     (shown_alike : (flows : List FlowModule) (ss : List Summary) (fault : LinkFault) → AllByRecursion IsValid flows → AreSummariesOf flows ss → Refusal (map shown flows) fault ↔ AreRefused ss fault)
-    (room_alone : (flows : List FlowModule) (colours stack : ℕ) (parts : Parts) (fault : LinkFault) → AllByRecursion DeclaresMain flows → AreParts flows [] colours parts → IsRefusal parts.objects stack fault → size_fault parts.objects stack ≡ Some fault) where
-  refused_for_room : (flows : List FlowModule) (colours stack : ℕ) (fault : LinkFault) → AllByRecursion DeclaresMain flows → Links (map shown flows) → HasRoom flows colours stack → Completes flows [] colours stack (Err fault) → ⊥
-  refused_for_room flows colours stack fault declares together room (inl h) =
+    (room_alone : (flows : List FlowModule) (opts : Opts) (parts : Parts) (fault : LinkFault) → AllByRecursion DeclaresMain flows → AreParts flows [] opts.colours parts → IsRefusal parts.objects opts.stack fault → size_fault parts.objects opts.stack ≡ Some fault) where
+  refused_for_room : (flows : List FlowModule) (opts : Opts) (fault : LinkFault) → AllByRecursion DeclaresMain flows → Links (map shown flows) → HasRoom flows opts → Completes flows [] opts (Err fault) → ⊥
+  refused_for_room flows opts fault declares together room (inl h) =
       not_both (map shown flows) fault together ((shown_alike flows h.1.summaries fault h.0 h.1.of_flows).1 h.1.refused)
-  refused_for_room flows colours stack fault declares together room (inr h) =
-      let large = room_alone flows colours stack h.0 fault declares h.1 h.2 in
+  refused_for_room flows opts fault declares together room (inr h) =
+      let large = room_alone flows opts h.0 fault declares h.1 h.2 in
       let e : None ≡ Some fault = sym (room h.0 h.1) ∙ large in
       absurd cc
 
   -- ---- builds
 
   module _ (declares : (sources : List Source) (flows : List FlowModule) → first_phases sources ≡ Ok flows → AllByRecursion DeclaresMain flows)
-      (nothing_changed : (flows : List FlowModule) (kept : List (Option Object)) (colours stack : ℕ) (a : Result Parts LinkFault) → AllByRecursion IsGenuineIfKept kept → Completes flows kept colours stack a → Completes flows [] colours stack (anew a)) where
-    by_fault : (sources : List Source) (kept : List (Option Object)) (colours stack : ℕ) (fault : BuildFault) → (can : CanBeBuilt sources colours stack) → AllByRecursion IsGenuineIfKept kept
-        → CompletesAs can.accepted.flows kept colours stack (Err fault) → ⊥
-    by_fault sources kept colours stack (Refused name refusal) can genuine h = h
-    by_fault sources kept colours stack StoreFault can genuine h = h
-    by_fault sources kept colours stack NoMemory can genuine h = h
-    by_fault sources kept colours stack (LinkRefused fault) can genuine h =
+      (nothing_changed : (flows : List FlowModule) (kept : List (Option Object)) (opts : Opts) (a : Result Parts LinkFault) → AllByRecursion IsGenuineIfKept kept → Completes flows kept opts a → Completes flows [] opts (anew a)) where
+    by_fault : (sources : List Source) (kept : List (Option Object)) (opts : Opts) (fault : BuildFault) → (can : CanBeBuilt sources opts) → AllByRecursion IsGenuineIfKept kept
+        → CompletesAs can.accepted.flows kept opts (Err fault) → ⊥
+    by_fault sources kept opts (Refused name refusal) can genuine h = h
+    by_fault sources kept opts StoreFault can genuine h = h
+    by_fault sources kept opts NoMemory can genuine h = h
+    by_fault sources kept opts (LinkRefused fault) can genuine h =
         let a = can.accepted in
-        refused_for_room a.flows colours stack fault (declares sources a.flows a.one_by_one) a.together can.room
-        (nothing_changed a.flows kept colours stack (Err fault) genuine h)
+        refused_for_room a.flows opts fault (declares sources a.flows a.one_by_one) a.together can.room
+        (nothing_changed a.flows kept opts (Err fault) genuine h)
 
-    pub never_refused : (sources : List Source) (kept : List (Option Object)) (colours stack : ℕ) (fault : BuildFault) → CanBeBuilt sources colours stack → AllByRecursion IsGenuineIfKept kept → Builds sources kept colours stack (Err fault) → ⊥
-    never_refused sources kept colours stack fault can genuine h =
-        by_fault sources kept colours stack fault can genuine (subst (λ (phases : Result (List FlowModule) BuildFault). BuildsBy phases kept colours stack (Err fault)) can.accepted.one_by_one h)
+    pub never_refused : (sources : List Source) (kept : List (Option Object)) (opts : Opts) (fault : BuildFault) → CanBeBuilt sources opts → AllByRecursion IsGenuineIfKept kept → Builds sources kept opts (Err fault) → ⊥
+    never_refused sources kept opts fault can genuine h =
+        by_fault sources kept opts fault can genuine (subst (λ (phases : Result (List FlowModule) BuildFault). BuildsBy phases kept opts (Err fault)) can.accepted.one_by_one h)

@@ -34,6 +34,7 @@ use Rattle.pw_store_kept.specs.Files.{AreObjectFiles, made_anew}
 use Rattle.pw_build_files.specs.Building.{IsOutcome, Outcome, if_changed, kept_objects}
 use Rattle.pw_law_build.specs.Kept.{FitObjects, KeepsObjects}
 use Rattle.pw_law_build.proofs.WholeLemmas.{FileLaws, after_both, changed_apart, get_other, no_database, no_image, objects_apart}
+use Rattle.pw_build_opts.specs.declared.opts.Opts.{Opts}
 
 -- the laws on which it stands
 pub record Laws : Type 0 where
@@ -206,14 +207,14 @@ phases_long sources (Some fault) flows e = absurd (no_flows _ flows e)
 no_parts : (parts : Parts) (fault : BuildFault) → ◌≡◌ {A = Result Parts BuildFault} (Ok parts) (Err fault) → ⊥
 no_parts parts fault e = cc
 
-pub record Completed (phases : Result (List FlowModule) BuildFault) (kept : List (Option Object)) (colours stack : ℕ) (parts : Parts) : Type 0 where
+pub record Completed (phases : Result (List FlowModule) BuildFault) (kept : List (Option Object)) (opts : Opts) (parts : Parts) : Type 0 where
   pub flows : List FlowModule
   pub are : phases ≡ Ok flows
-  pub completes : Completes flows kept colours stack (Ok parts)
+  pub completes : Completes flows kept opts (Ok parts)
 
-pub completed : (phases : Result (List FlowModule) BuildFault) (kept : List (Option Object)) (colours stack : ℕ) (parts : Parts) → BuildsBy phases kept colours stack (Ok parts) → Completed phases kept colours stack parts
-completed (Err fault) kept colours stack parts h = absurd (no_parts parts fault h)
-completed (Ok flows) kept colours stack parts h = record { flows = flows; are = refl; completes = h }
+pub completed : (phases : Result (List FlowModule) BuildFault) (kept : List (Option Object)) (opts : Opts) (parts : Parts) → BuildsBy phases kept opts (Ok parts) → Completed phases kept opts parts
+completed (Err fault) kept opts parts h = absurd (no_parts parts fault h)
+completed (Ok flows) kept opts parts h = record { flows = flows; are = refl; completes = h }
 
 -- ---- the modules are as before
 
@@ -264,16 +265,16 @@ modules_same laws old new same =
 
 -- ---- both
 
-pub keeps_objects : Laws → (told : Told) (colours stack : ℕ) (parts : Parts) (outcome : Outcome) → Builds (modules_of told.files) (kept_objects told.files) colours stack (Ok parts) → IsOutcome told.files stack parts outcome → KeepsObjects told.files (after_puts told outcome.puts).files parts
-keeps_objects laws told colours stack parts outcome builds o =
+pub keeps_objects : Laws → (told : Told) (opts : Opts) (parts : Parts) (outcome : Outcome) → Builds (modules_of told.files) (kept_objects told.files) opts (Ok parts) → IsOutcome told.files opts.stack parts outcome → KeepsObjects told.files (after_puts told outcome.puts).files parts
+keeps_objects laws told opts parts outcome builds o =
     let new : Files = (after_puts told outcome.puts).files in
     let names : List (List ℕ) = names_of_modules told.files in
-    let c = completed (first_phases (modules_of told.files)) (kept_objects told.files) colours stack parts builds in
-    let modules : modules_of new ≡ modules_of told.files = modules_same laws told.files new (text_same laws.files told stack parts outcome o) in
+    let c = completed (first_phases (modules_of told.files)) (kept_objects told.files) opts parts builds in
+    let modules : modules_of new ≡ modules_of told.files = modules_same laws told.files new (text_same laws.files told opts.stack parts outcome o) in
     let long : length c.flows ≡ length names = phases_long (modules_of told.files) (limit_passed (modules_of told.files)) c.flows c.are ∙ sym (length-map (modules_of told.files) (λ s. s.0)) in
     let stand : Stand told.files new names parts.objects parts.fresh =
     stand_behind told.files (after_puts told o.objects).files new names parts.objects parts.fresh
-    (λ n. behind_objects laws.files told stack parts outcome o (object_name n) (no_database n) (no_image n))
+    (λ n. behind_objects laws.files told opts.stack parts outcome o (object_name n) (no_database n) (no_image n))
     (stand_put laws.files told names parts.objects parts.fresh o.objects (rising_apart names (laws.rising told.files)) o.object_files) in
     record {
       modules = modules;

@@ -23,14 +23,15 @@ use Rattle.pw_build_files.specs.Full.{BuildsImage, image_of}
 use Rattle.pw_build_files.specs.Genuine.{KeepsGenuine}
 use Rattle.pw_law_build.specs.Alike.{shown, DeclaresMain}
 use Rattle.pw_law_build.specs.Complete.{CanBeBuilt}
+use Rattle.pw_build_opts.specs.declared.opts.Opts.{Opts}
 
 -- the laws on which it stands
 pub record Laws : Type 0 where
   pub declares : (sources : List Source) (flows : List FlowModule) → first_phases sources ≡ Ok flows → AllByRecursion DeclaresMain flows
   pub linked : (flows : List FlowModule) (ss : List Summary) → AllByRecursion IsValid flows → AreSummariesOf flows ss → Links (map shown flows) ↔ AreLinked ss
   pub links : (flows : List FlowModule) (colours : ℕ) (parts : Parts) → AllByRecursion DeclaresMain flows → AreParts flows [] colours parts → Links (map interface parts.objects)
-  pub one : (flows : List FlowModule) (kept : List (Option Object)) (colours stack : ℕ) (a b : Result Parts LinkFault) → colours ≤ colour_limit → Completes flows kept colours stack a → Completes flows kept colours stack b → a ≡ b
-  pub nothing_changed : (flows : List FlowModule) (kept : List (Option Object)) (colours stack : ℕ) (a : Result Parts LinkFault) → AllByRecursion IsGenuineIfKept kept → Completes flows kept colours stack a → Completes flows [] colours stack (anew a)
+  pub one : (flows : List FlowModule) (kept : List (Option Object)) (opts : Opts) (a b : Result Parts LinkFault) → opts.colours ≤ colour_limit → Completes flows kept opts a → Completes flows kept opts b → a ≡ b
+  pub nothing_changed : (flows : List FlowModule) (kept : List (Option Object)) (opts : Opts) (a : Result Parts LinkFault) → AllByRecursion IsGenuineIfKept kept → Completes flows kept opts a → Completes flows [] opts (anew a)
 
 no_refusal : (parts : Parts) (fault : LinkFault) → ◌≡◌ {A = Result Parts LinkFault} (Ok parts) (Err fault) → ⊥
 no_refusal parts fault e = cc
@@ -42,39 +43,39 @@ no_parts parts fault e = cc
 
 module _ (laws : Laws) where
   -- Where flow graphs come to parts that are linked, there is room for all parts that they come to.
-  room_by : (flows : List FlowModule) (colours stack : ℕ) (parts other : Parts) → colours ≤ colour_limit → AllByRecursion DeclaresMain flows → Completes flows [] colours stack (Ok parts) → AreParts flows [] colours other
-      → (size : Option LinkFault) → size_fault other.objects stack ≡ size → size ≡ None
-  room_by flows colours stack parts other few declares done are None e = refl
-  room_by flows colours stack parts other few declares done are (Some fault) e =
-      let refusal : IsRefusal other.objects stack fault = too_large (laws.links flows colours other declares are) e in
-      absurd (no_refusal parts fault (laws.one flows [] colours stack (Ok parts) (Err fault) few done (inr (other, are, refusal))))
+  room_by : (flows : List FlowModule) (opts : Opts) (parts other : Parts) → opts.colours ≤ colour_limit → AllByRecursion DeclaresMain flows → Completes flows [] opts (Ok parts) → AreParts flows [] opts.colours other
+      → (size : Option LinkFault) → size_fault other.objects opts.stack ≡ size → size ≡ None
+  room_by flows opts parts other few declares done are None e = refl
+  room_by flows opts parts other few declares done are (Some fault) e =
+      let refusal : IsRefusal other.objects opts.stack fault = too_large (laws.links flows opts.colours other declares are) e in
+      absurd (no_refusal parts fault (laws.one flows [] opts (Ok parts) (Err fault) few done (inr (other, are, refusal))))
 
-  by_phases : (sources : List Source) (kept : List (Option Object)) (colours stack : ℕ) (parts : Parts) → colours ≤ colour_limit → AllByRecursion IsGenuineIfKept kept
-      → (phases : Result (List FlowModule) BuildFault) → first_phases sources ≡ phases → BuildsBy phases kept colours stack (Ok parts) → CanBeBuilt sources colours stack
-  by_phases sources kept colours stack parts few genuine (Err fault) is h = absurd (no_parts parts fault h)
-  by_phases sources kept colours stack parts few genuine (Ok flows) is h =
-      let done : Completes flows kept colours stack (Ok parts) = h in
+  by_phases : (sources : List Source) (kept : List (Option Object)) (opts : Opts) (parts : Parts) → opts.colours ≤ colour_limit → AllByRecursion IsGenuineIfKept kept
+      → (phases : Result (List FlowModule) BuildFault) → first_phases sources ≡ phases → BuildsBy phases kept opts (Ok parts) → CanBeBuilt sources opts
+  by_phases sources kept opts parts few genuine (Err fault) is h = absurd (no_parts parts fault h)
+  by_phases sources kept opts parts few genuine (Ok flows) is h =
+      let done : Completes flows kept opts (Ok parts) = h in
       let declares = laws.declares sources flows is in
       let db = done.0.database in
-      let full : Completes flows [] colours stack (Ok (all_fresh parts)) = laws.nothing_changed flows kept colours stack (Ok parts) genuine done in
+      let full : Completes flows [] opts (Ok (all_fresh parts)) = laws.nothing_changed flows kept opts (Ok parts) genuine done in
       record {
         accepted = record { flows = flows; one_by_one = is; together = (laws.linked flows db.summaries done.0.lawful db.of_flows).1 db.linked };
-        room = λ other are. room_by flows colours stack (all_fresh parts) other few declares full are (size_fault other.objects stack) refl;
+        room = λ other are. room_by flows opts (all_fresh parts) other few declares full are (size_fault other.objects opts.stack) refl;
       }
 
-  pub can_be_built : (sources : List Source) (kept : List (Option Object)) (colours stack : ℕ) (parts : Parts) → colours ≤ colour_limit → AllByRecursion IsGenuineIfKept kept → Builds sources kept colours stack (Ok parts) → CanBeBuilt sources colours stack
-  can_be_built sources kept colours stack parts few genuine h = by_phases sources kept colours stack parts few genuine (first_phases sources) refl h
+  pub can_be_built : (sources : List Source) (kept : List (Option Object)) (opts : Opts) (parts : Parts) → opts.colours ≤ colour_limit → AllByRecursion IsGenuineIfKept kept → Builds sources kept opts (Ok parts) → CanBeBuilt sources opts
+  can_be_built sources kept opts parts few genuine h = by_phases sources kept opts parts few genuine (first_phases sources) refl h
 
 -- ---- the files of a store
 
 no_answer : (fault : BuildFault) → IsOk {T = Outcome} {E = BuildFault} (Err fault) → ⊥
 no_answer fault e = cc
 
-pub exactly : ((files : Files) (colours stack : ℕ) (fault : BuildFault) → CanBeBuilt (modules_of files) colours stack → KeepsGenuine files → ¬ BuildOutcome files colours stack (Err fault))
-    → ((files : Files) (colours stack : ℕ) (comes : Result Outcome BuildFault) → KeepsGenuine files → BuildOutcome files colours stack comes → BuildsImage (module_map files) colours stack (image_of comes))
-    → ((sources : List Source) (kept : List (Option Object)) (colours stack : ℕ) (parts : Parts) → colours ≤ colour_limit → AllByRecursion IsGenuineIfKept kept → Builds sources kept colours stack (Ok parts) → CanBeBuilt sources colours stack)
-    → (files : Files) (colours stack : ℕ) (comes : Result Outcome BuildFault) → colours ≤ colour_limit → KeepsGenuine files → BuildOutcome files colours stack comes → IsOk comes ↔ CanBeBuilt (modules_of files) colours stack
-exactly never full can files colours stack (Ok outcome) few genuine comes =
-    let image : BuildsImage (module_map files) colours stack (Ok outcome.image) = full files colours stack (Ok outcome) genuine comes in
-    ((λ done. can (modules_of files) [] colours stack image.0 few tt image.1), (λ able. refl))
-exactly never full can files colours stack (Err fault) few genuine comes = ((λ done. absurd (no_answer fault done)), (λ able. absurd (never files colours stack fault able genuine comes)))
+pub exactly : ((files : Files) (opts : Opts) (fault : BuildFault) → CanBeBuilt (modules_of files) opts → KeepsGenuine files → ¬ BuildOutcome files opts (Err fault))
+    → ((files : Files) (opts : Opts) (comes : Result Outcome BuildFault) → KeepsGenuine files → BuildOutcome files opts comes → BuildsImage (module_map files) opts (image_of comes))
+    → ((sources : List Source) (kept : List (Option Object)) (opts : Opts) (parts : Parts) → opts.colours ≤ colour_limit → AllByRecursion IsGenuineIfKept kept → Builds sources kept opts (Ok parts) → CanBeBuilt sources opts)
+    → (files : Files) (opts : Opts) (comes : Result Outcome BuildFault) → opts.colours ≤ colour_limit → KeepsGenuine files → BuildOutcome files opts comes → IsOk comes ↔ CanBeBuilt (modules_of files) opts
+exactly never full can files opts (Ok outcome) few genuine comes =
+    let image : BuildsImage (module_map files) opts (Ok outcome.image) = full files opts (Ok outcome) genuine comes in
+    ((λ done. can (modules_of files) [] opts image.0 few tt image.1), (λ able. refl))
+exactly never full can files opts (Err fault) few genuine comes = ((λ done. absurd (no_answer fault done)), (λ able. absurd (never files opts fault able genuine comes)))

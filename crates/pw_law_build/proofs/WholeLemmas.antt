@@ -1,12 +1,11 @@
 -- What stands in a store's files after a build.
-use Rattle.std.proofs.Common.{◌≡◌, ◌≢◌, ℕ, zero, suc, ◌+◌, true, false, List, [], ◌∷◌, ◌++◌, codes, length, take, drop, Option, Some, None, Result, Ok, refl, sym, ap, ◌∙◌, subst, arith, length-append}
+use Rattle.std.proofs.Common.{◌≡◌, ◌≢◌, ℕ, ◌+◌, true, false, List, [], ◌∷◌, ◌++◌, codes, length, drop, Option, Some, None, Result, Ok, refl, sym, ap, ◌∙◌, subst, arith, length-append}
 use Rattle.std.specs.List.{AllByRecursion}
 use Rattle.std.specs.Prelude.{if◌then◌else◌}
 use Rattle.std.specs.FinMap as finite
 use Rattle.std.proofs.lemmas.List.{drop_at}
 use Rattle.std.proofs.lemmas.Slice.Eq.{bytes_eq-Decides}
-use Rattle.pw_io.specs.Files.{Files, Told, after_put, prefix_of}
-use Rattle.pw_value.specs.Limits.{kept_limit}
+use Rattle.pw_io.specs.Files.{Files, Told, after_put}
 use Rattle.pw_object.specs.declared.object.Object.{Object}
 use Rattle.pw_store_modules.specs.FileNames.{database_name, image_name, object_ending, object_name}
 use Rattle.pw_store_modules.specs.Modules.{module_map, modules_of}
@@ -16,11 +15,12 @@ use Rattle.pw_build_objects.specs.Kept.{all_fresh}
 use Rattle.pw_build_files.specs.FromBuild.BuildFault.{BuildFault}
 use Rattle.pw_build_files.specs.FromBuild.Builds.{Builds}
 use Rattle.pw_build_files.specs.FromBuild.Full.{built_anew}
-use Rattle.pw_store_kept.specs.Kept.{counted, is_same, kept_bytes}
+use Rattle.pw_store_kept.specs.Kept.{is_same}
 use Rattle.pw_store_kept.specs.Files.{AreObjectFiles}
 use Rattle.pw_build_files.specs.Building.{BuildOutcome, IsOutcome, Outcome, if_changed, kept_objects}
 use Rattle.pw_build_files.specs.Genuine.{KeepsGenuine}
 use Rattle.pw_law_build.specs.Whole.{HoldsBuild, HoldsFile, HoldsFullBuild, HoldsProgram}
+use Rattle.pw_build_opts.specs.declared.opts.Opts.{Opts}
 
 -- what is known of files under puts
 pub record FileLaws : Type 0 where
@@ -45,36 +45,26 @@ objects_apart (m ∷ ms) (f ∷ fs) name apart h = ((λ e. apart m.0 (sym (e ∙
 
 pub changed_apart : (old : Files) (name bytes other : List ℕ) → other ≢ name → AllByRecursion (λ (file : NamedFile). other ≢ file.0) (if_changed old name bytes)
 changed_apart old name bytes other apart =
-    elim (is_same (kept_bytes old name) bytes) as (λ b. AllByRecursion (λ (file : NamedFile). other ≢ file.0) (if b then [] else (name, bytes) ∷ [])) [
+    elim (is_same (finite.get old name) bytes) as (λ b. AllByRecursion (λ (file : NamedFile). other ≢ file.0) (if b then [] else (name, bytes) ∷ [])) [
       | true ↦ tt
       | false ↦ (apart, tt)
     ]
 
 -- ---- a file that is put where it differs
 
-take_twice : (n : ℕ) (bytes : List ℕ) → take n (take n bytes) ≡ take n bytes
-take_twice zero bytes = refl
-take_twice (suc n) [] = refl
-take_twice (suc n) (b ∷ bytes) = ap (λ (rest : List ℕ). b ∷ rest) (take_twice n bytes)
-
-front_twice : (n : ℕ) (bytes : List ℕ) → prefix_of n (prefix_of n bytes) ≡ prefix_of n bytes
-unfolding prefix_of
-front_twice n bytes = take_twice n bytes
-
 no_true : false ≡ true → ⊥
 no_true e = cc
 
-same_counts : (file : Option (List ℕ)) (bytes : List ℕ) → is_same (counted file) bytes ≡ true → counted file ≡ counted (Some bytes)
-same_counts None bytes e = absurd (no_true e)
-same_counts (Some kept) bytes e =
-    let same : prefix_of kept_limit kept ≡ bytes = (bytes_eq-Decides (prefix_of kept_limit kept) bytes).0 e in
-    ap (λ (b : List ℕ). Some b) (sym (front_twice kept_limit kept)) ∙ ap (λ (b : List ℕ). counted (Some b)) same
+-- the file that is the same has these bytes
+same_holds : (file : Option (List ℕ)) (bytes : List ℕ) → is_same file bytes ≡ true → file ≡ Some bytes
+same_holds None bytes e = absurd (no_true e)
+same_holds (Some kept) bytes e = ap (λ (b : List ℕ). Some b) ((bytes_eq-Decides kept bytes).0 e)
 
 changed_holds : FileLaws → (old : Files) (told : Told) (name bytes : List ℕ) → finite.get told.files name ≡ finite.get old name → HoldsFile (after_puts told (if_changed old name bytes)).files name bytes
 changed_holds laws old told name bytes e =
-    elim (is_same (kept_bytes old name) bytes) as (λ b. is_same (kept_bytes old name) bytes ≡ b → HoldsFile (after_puts told (if b then [] else (name, bytes) ∷ [])).files name bytes) [
-      | true ↦ λ t. ap counted e ∙ same_counts (finite.get old name) bytes t
-      | false ↦ λ t. ap counted (laws.inserted told.files name bytes)
+    elim (is_same (finite.get old name) bytes) as (λ b. is_same (finite.get old name) bytes ≡ b → HoldsFile (after_puts told (if b then [] else (name, bytes) ∷ [])).files name bytes) [
+      | true ↦ λ t. e ∙ same_holds (finite.get old name) bytes t
+      | false ↦ λ t. laws.inserted told.files name bytes
     ] refl
 
 -- ---- names
@@ -127,7 +117,7 @@ both_stand laws told stack parts outcome o =
     let db_third : finite.get third.files db ≡ finite.get second.files db =
     get_other laws second (if_changed told.files img outcome.image) db (changed_apart told.files img outcome.image db two_names) in
     subst (λ (t : Told). HoldsFile t.files db o.database × HoldsFile t.files img outcome.image) (sym all)
-    (ap counted db_third ∙ db_second, changed_holds laws told.files second img outcome.image (img_second ∙ img_first))
+    (db_third ∙ db_second, changed_holds laws told.files second img outcome.image (img_second ∙ img_first))
 
 holds_program : FileLaws → (told : Told) (stack : ℕ) (parts : Parts) (outcome : Outcome) → IsOutcome told.files stack parts outcome → HoldsProgram parts stack (after_puts told outcome.puts).files
 holds_program laws told stack parts outcome o =
@@ -152,13 +142,13 @@ all_anew parts stack files h = record {
 }
 
 pub holds_full_build : FileLaws
-    → ((files : Files) (colours stack : ℕ) (a : Result Parts BuildFault) → KeepsGenuine files → Builds (modules_of files) (kept_objects files) colours stack a → Builds (modules_of files) [] colours stack (built_anew a))
-    → (told : Told) (colours stack : ℕ) (outcome : Outcome) → KeepsGenuine told.files → BuildOutcome told.files colours stack (Ok outcome) → HoldsFullBuild (module_map told.files) colours stack (after_puts told outcome.puts).files
-holds_full_build laws full told colours stack outcome keeps comes = (
+    → ((files : Files) (opts : Opts) (a : Result Parts BuildFault) → KeepsGenuine files → Builds (modules_of files) (kept_objects files) opts a → Builds (modules_of files) [] opts (built_anew a))
+    → (told : Told) (opts : Opts) (outcome : Outcome) → KeepsGenuine told.files → BuildOutcome told.files opts (Ok outcome) → HoldsFullBuild (module_map told.files) opts (after_puts told outcome.puts).files
+holds_full_build laws full told opts outcome keeps comes = (
   all_fresh comes.0,
-  full told.files colours stack (Ok comes.0) keeps comes.1,
-  all_anew comes.0 stack (after_puts told outcome.puts).files (holds_program laws told stack comes.0 outcome comes.2),
+  full told.files opts (Ok comes.0) keeps comes.1,
+  all_anew comes.0 opts.stack (after_puts told outcome.puts).files (holds_program laws told opts.stack comes.0 outcome comes.2),
 )
 
-pub holds_build : FileLaws → (told : Told) (colours stack : ℕ) (outcome : Outcome) → BuildOutcome told.files colours stack (Ok outcome) → HoldsBuild told.files colours stack (after_puts told outcome.puts).files
-holds_build laws told colours stack outcome comes = (comes.0, comes.1, holds_program laws told stack comes.0 outcome comes.2)
+pub holds_build : FileLaws → (told : Told) (opts : Opts) (outcome : Outcome) → BuildOutcome told.files opts (Ok outcome) → HoldsBuild told.files opts (after_puts told outcome.puts).files
+holds_build laws told opts outcome comes = (comes.0, comes.1, holds_program laws told opts.stack comes.0 outcome comes.2)

@@ -1,6 +1,6 @@
 -- When a build is done: the modules are accepted one by one and together, text and memory are large enough, and what is kept
 -- of them is genuine.
-use Rattle.std.specs.Prelude.{◌≡◌, ℕ, List, [], map, None, Ok}
+use Rattle.std.specs.Prelude.{◌≡◌, List, [], map, None, Ok}
 use Rattle.pw_flow.specs.declared.flow.FlowModule.{FlowModule}
 use Rattle.pw_link_rules.specs.Linking.{Links}
 use Rattle.pw_link.specs.Linking.{size_fault}
@@ -8,6 +8,7 @@ use Rattle.pw_store_modules.specs.Modules.{Source}
 use Rattle.pw_build_objects.specs.Programs.{AreParts, Parts}
 use Rattle.pw_build_files.specs.FromBuild.Builds.{first_phases}
 use Rattle.pw_law_build.specs.Alike.{shown}
+use Rattle.pw_build_opts.specs.declared.opts.Opts.{Opts}
 
 -- The modules are not too many, their texts not too long, the first phase refuses none of them, and together they keep the
 -- rules of linking.
@@ -17,10 +18,10 @@ pub record AreAccepted (sources : List Source) : Type 0 where
   pub together : Links (map shown flows)
 
 -- Text and memory are large enough for what the modules are made into, for so many registers and such a stack.
-abbrev pub HasRoom : List FlowModule → ℕ → ℕ → Type 0
-HasRoom flows colours stack = (parts : Parts) → AreParts flows [] colours parts → size_fault parts.objects stack ≡ None
+abbrev pub HasRoom : List FlowModule → Opts → Type 0
+HasRoom flows opts = (parts : Parts) → AreParts flows [] opts.colours parts → size_fault parts.objects opts.stack ≡ None
 
 -- accepted modules that have room
-pub record CanBeBuilt (sources : List Source) (colours stack : ℕ) : Type 0 where
+pub record CanBeBuilt (sources : List Source) (opts : Opts) : Type 0 where
   pub accepted : AreAccepted sources
-  pub room : HasRoom accepted.flows colours stack
+  pub room : HasRoom accepted.flows opts

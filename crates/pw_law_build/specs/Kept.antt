@@ -4,7 +4,6 @@ use Rattle.std.specs.List.{AllByRecursion}
 use Rattle.std.specs.FinMap as finite
 use Rattle.pw_io.specs.Files.{Files}
 use Rattle.pw_value.specs.Limits.{kept_limit}
-use Rattle.pw_db.specs.Database.{IsDatabaseFile}
 use Rattle.pw_object.specs.declared.object.Object.{Object}
 use Rattle.pw_object.specs.Object.{IsObjectFile}
 use Rattle.pw_store_modules.specs.Modules.{modules_of, names_of_modules}
@@ -22,12 +21,6 @@ FitsKept bytes = length bytes ≤ kept_limit
 -- those of the files of these objects do
 abbrev pub FitObjects : List Object → Type 0
 FitObjects objects = AllByRecursion (λ object. (bytes : List ℕ) → IsObjectFile bytes object → FitsKept bytes) objects
-
--- those of the files of a whole program do
-pub record FitsWhole (parts : Parts) (outcome : Outcome) : Type 0 where
-  pub objects : FitObjects parts.objects
-  pub database : (bytes : List ℕ) → IsDatabaseFile bytes parts.database → FitsKept bytes
-  pub image : FitsKept outcome.image
 
 -- ---- what is left
 

@@ -13,6 +13,7 @@ ghost use Rattle.pw_graph.specs.Program.{AreLinked, AreRefused};
 ghost use Rattle.pw_link.specs.Linking.{IsRefusal, size_fault};
 ghost use Rattle.pw_build_objects.specs.Programs.{AreParts, AreSummariesOf, Parts};
 ghost use Rattle.pw_law_build.specs.Alike.{AreObjectsIn, DeclaresMain, shown};
+ghost use Rattle.pw_build_opts.specs.declared.opts.Opts.{Opts};
 
 use pw_link_rules::laws::modules_have_one_answer;
 
@@ -44,8 +45,8 @@ pub fn summaries_and_objects_are_refused_alike()
 pub fn objects_are_refused_for_room_alone()
     ensures links { (flows : List FlowModule) (colours : ℕ) (parts : Parts) →
         AllByRecursion DeclaresMain flows → AreParts flows [] colours parts → Links (map interface parts.objects) }
-    ensures room { (flows : List FlowModule) (colours stack : ℕ) (parts : Parts) (fault : LinkFault) →
-        AllByRecursion DeclaresMain flows → AreParts flows [] colours parts → IsRefusal parts.objects stack fault → size_fault parts.objects stack ≡ Some fault }
+    ensures room { (flows : List FlowModule) (opts : Opts) (parts : Parts) (fault : LinkFault) →
+        AllByRecursion DeclaresMain flows → AreParts flows [] opts.colours parts → IsRefusal parts.objects opts.stack fault → size_fault parts.objects opts.stack ≡ Some fault }
 {
     modules_have_one_answer();
 }

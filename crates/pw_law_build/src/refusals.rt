@@ -20,7 +20,7 @@ ghost use Rattle.pw_top_answer.specs.Outcomes.{InputCount, OutputCount, StoreCou
 ghost use Rattle.pw_build_files.specs.Building.{BuildOutcome, Outcome};
 ghost use Rattle.pw_build_files.specs.Genuine.{KeepsGenuine};
 ghost use Rattle.pw_build_files.specs.Outcomes.{FaultCount, ObeysBuild};
-ghost use Rattle.pw_build_files.specs.declared.report.Opts.{Opts};
+ghost use Rattle.pw_build_opts.specs.declared.opts.Opts.{Opts};
 ghost use Rattle.pw_build_files.specs.declared.report.Report.{Report};
 ghost use Rattle.pw_commands.specs.Outcome.{IsFound};
 ghost use Rattle.pw_build_files.specs.Driving.{BuildEffect};
@@ -49,8 +49,8 @@ pub fn first_phases_declare_main()
 /// Modules that are accepted one by one and together, and for which text and memory are large enough, are refused nothing
 /// where what is kept of them is genuine, or nothing is kept.
 pub fn accepted_modules_are_built()
-    ensures { (sources : List Source) (kept : List (Option Object)) (colours stack : ℕ) (fault : BuildFault) →
-        CanBeBuilt sources colours stack → AllByRecursion IsGenuineIfKept kept → ¬ Builds sources kept colours stack (Err fault) }
+    ensures { (sources : List Source) (kept : List (Option Object)) (opts : Opts) (fault : BuildFault) →
+        CanBeBuilt sources opts → AllByRecursion IsGenuineIfKept kept → ¬ Builds sources kept opts (Err fault) }
 {
     first_phases_declare_main();
     modules_have_one_answer();
@@ -61,8 +61,8 @@ pub fn accepted_modules_are_built()
 
 /// A build over a store is refused nothing where the store's modules can be built and its kept objects are genuine.
 pub fn a_store_that_can_be_built_is_built()
-    ensures { (files : Files) (colours stack : ℕ) (fault : BuildFault) →
-        CanBeBuilt (modules_of files) colours stack → KeepsGenuine files → ¬ BuildOutcome files colours stack (Err fault) }
+    ensures { (files : Files) (opts : Opts) (fault : BuildFault) →
+        CanBeBuilt (modules_of files) opts → KeepsGenuine files → ¬ BuildOutcome files opts (Err fault) }
 {
     genuine_objects_give_the_full_image();
     accepted_modules_are_built();
@@ -71,8 +71,8 @@ pub fn a_store_that_can_be_built_is_built()
 /// What is built can be built: a build over genuine objects, or where nothing is kept, is done only where the modules are
 /// accepted one by one and together, and have room.
 pub fn what_is_built_can_be_built()
-    ensures { (sources : List Source) (kept : List (Option Object)) (colours stack : ℕ) (parts : Parts) → colours ≤ colour_limit →
-        AllByRecursion IsGenuineIfKept kept → Builds sources kept colours stack (Ok parts) → CanBeBuilt sources colours stack }
+    ensures { (sources : List Source) (kept : List (Option Object)) (opts : Opts) (parts : Parts) → opts.colours ≤ colour_limit →
+        AllByRecursion IsGenuineIfKept kept → Builds sources kept opts (Ok parts) → CanBeBuilt sources opts }
 {
     first_phases_declare_main();
     flow_graphs_and_summaries_are_refused_alike();
@@ -84,8 +84,8 @@ pub fn what_is_built_can_be_built()
 /// A store whose kept objects are genuine is built exactly where its modules can be built: what a build over its files comes
 /// to is a program there, and a refusal where they cannot.
 pub fn a_store_is_built_exactly_where_it_can_be()
-    ensures { (files : Files) (colours stack : ℕ) (comes : Result Outcome BuildFault) → colours ≤ colour_limit →
-        KeepsGenuine files → BuildOutcome files colours stack comes → IsOk comes ↔ CanBeBuilt (modules_of files) colours stack }
+    ensures { (files : Files) (opts : Opts) (comes : Result Outcome BuildFault) → opts.colours ≤ colour_limit →
+        KeepsGenuine files → BuildOutcome files opts comes → IsOk comes ↔ CanBeBuilt (modules_of files) opts }
 {
     a_store_that_can_be_built_is_built();
     what_is_built_can_be_built();
@@ -96,7 +96,7 @@ pub fn a_store_is_built_exactly_where_it_can_be()
 /// its report; or memory ran out.
 pub fn builds_are_complete()
     ensures { (opts : Opts) (result : Result Report Unbuilt) (told : Told) (new : Option Told) (before now : ℕ) →
-        CanBeBuilt (modules_of told.files) opts.colours opts.stack → KeepsGenuine told.files →
+        CanBeBuilt (modules_of told.files) opts → KeepsGenuine told.files →
         ObeysBuild opts result told new → FaultCount before now result → ¬ Rose before now →
         IfErr result (λ unbuilt. unbuilt.fault ≡ build.NoMemory) }
 {
@@ -105,8 +105,8 @@ pub fn builds_are_complete()
 
 /// The same of the command `build`, whose answer is then that it is done, or that memory ran out.
 pub fn the_command_is_complete()
-    ensures { (files : Files) (colours stack : ℕ) (input : List ℕ) (reply : Answer) (store store' read read' written written' : ℕ) →
-        CanBeBuilt (modules_of files) colours stack → KeepsGenuine files → IsFound (BuildEffect files colours stack input) reply →
+    ensures { (files : Files) (opts : Opts) (input : List ℕ) (reply : Answer) (store store' read read' written written' : ℕ) →
+        CanBeBuilt (modules_of files) opts → KeepsGenuine files → IsFound (BuildEffect files opts input) reply →
         StoreCount store store' reply → InputCount read read' reply → OutputCount written written' reply →
         ¬ Rose store store' → ¬ Rose read read' → ¬ Rose written written' →
         (reply ≡ answer.Done) ⊎ (reply ≡ answer.NoMemory) }

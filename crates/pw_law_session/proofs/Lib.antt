@@ -2,3 +2,4 @@ pub mod NamingLemmas
 pub mod FullLemmas
 pub mod BenchLemmas
 pub mod WholeLemmas
+pub mod HistoryLemmas

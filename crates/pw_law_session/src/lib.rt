@@ -2,7 +2,9 @@
 #![tactic(auto)]
 
 mod builds;
+mod history;
 mod sessions;
 
 pub use builds::builds_are_full;
+pub use history::histories_build_in_full;
 pub use sessions::{bench_builds_in_full, sessions_build_in_full};

@@ -5,7 +5,7 @@ ghost use Rattle.pw_io.specs.Files.{Told};
 ghost use Rattle.pw_top_answer.specs.Effects.{Effect};
 ghost use Rattle.pw_session.specs.Bench.{BenchEffect};
 ghost use Rattle.pw_session.specs.FromBuildFiles.Genuine.{KeepsGenuine};
-ghost use Rattle.pw_session.specs.declared.opts.SessionOpts.{SessionOpts};
+ghost use Rattle.pw_build_opts.specs.declared.opts.RunOpts.{RunOpts};
 ghost use Rattle.pw_law_session.specs.Full.{BenchBuildsInFull, SessionBuildsInFull};
 
 use pw_io::laws::other_files;
@@ -16,9 +16,9 @@ use pw_session::{
 
 /// Where the kept objects are genuine before a session, each of its builds comes to the image of the full build of the
 /// texts as its lines left them, byte for byte, or to that build's fault; one that is done leaves the database and the image of
-/// that full build in their files, as far as kept files count, and genuine objects.
+/// that full build in their files, and genuine objects.
 pub fn sessions_build_in_full()
-    ensures { (opts : SessionOpts) (told : Told) (script : List ℕ) → KeepsGenuine told.files → SessionBuildsInFull opts told script }
+    ensures { (opts : RunOpts) (told : Told) (script : List ℕ) → KeepsGenuine told.files → SessionBuildsInFull opts told script }
 {
     a_build_leaves_the_whole_program();
     builds_leave_genuine_objects();
@@ -30,7 +30,7 @@ pub fn sessions_build_in_full()
 /// `bench` builds in full: nothing is kept of the texts that it makes, so its image is that of their full build, byte for
 /// byte, or its refusal that build's.
 pub fn bench_builds_in_full()
-    ensures { (number : ℕ) (opts : SessionOpts) (input : List ℕ) (effect : Effect) → BenchEffect number opts input effect → BenchBuildsInFull number opts input effect }
+    ensures { (number : ℕ) (opts : RunOpts) (input : List ℕ) (effect : Effect) → BenchEffect number opts input effect → BenchBuildsInFull number opts input effect }
 {
     genuine_objects_give_the_full_image();
     other_files();

@@ -13,6 +13,7 @@ use Rattle.pw_lower.specs.Modules.{lowered}
 use Rattle.pw_phase_one.specs.FirstPhase.{Phase, CompilesTo, Compiles, compiled}
 use Rattle.pw_object.specs.declared.object.Object.{Object}
 use Rattle.pw_store_modules.specs.Modules.{Source}
+use Rattle.pw_build_opts.specs.declared.opts.Opts.{Opts}
 use Rattle.pw_build_objects.specs.Programs.{Completes, Parts}
 use Rattle.pw_build.specs.Builds.{before_others, flows_of, within, limit_passed, BuildsBy, Builds}
 use Rattle.pw_build.specs.declared.fault.BuildFault.{BuildFault}
@@ -128,14 +129,14 @@ no_parts : (parts : Parts) (fault : BuildFault) → Ok parts ≡ Err fault → �
 no_parts parts fault e = cc
 
 -- a build that gives parts has the flow graphs of all modules
-pub flows_within : (o : Option LinkFault) (r : Result (List FlowModule) BuildFault) (kept : List (Option Object)) (colours stack : ℕ) (parts : Parts) →
-    BuildsBy (within o r) kept colours stack (Ok parts) → (flows : List FlowModule) × (r ≡ Ok flows) × Completes flows kept colours stack (Ok parts)
-flows_within (Some fault) r kept colours stack parts b = absurd (no_parts parts (LinkRefused fault) b)
-flows_within None (Err fault) kept colours stack parts b = absurd (no_parts parts fault b)
-flows_within None (Ok flows) kept colours stack parts b = (flows, refl, b)
+pub flows_within : (o : Option LinkFault) (r : Result (List FlowModule) BuildFault) (kept : List (Option Object)) (opts : Opts) (parts : Parts) →
+    BuildsBy (within o r) kept opts (Ok parts) → (flows : List FlowModule) × (r ≡ Ok flows) × Completes flows kept opts (Ok parts)
+flows_within (Some fault) r kept opts parts b = absurd (no_parts parts (LinkRefused fault) b)
+flows_within None (Err fault) kept opts parts b = absurd (no_parts parts fault b)
+flows_within None (Ok flows) kept opts parts b = (flows, refl, b)
 
-pub completes_with : (sources : List Source) (flows : List FlowModule) (colours stack : ℕ) (parts : Parts) → flows_of sources ≡ Ok flows →
-    Builds sources [] colours stack (Ok parts) → Completes flows [] colours stack (Ok parts)
-completes_with sources flows colours stack parts e b =
-    let p = flows_within (limit_passed sources) (flows_of sources) [] colours stack parts b in
-    subst (λ (fs : List FlowModule). Completes fs [] colours stack (Ok parts)) (same_ok (flows_of sources) p.0 flows (sym p.1) (sym e)) p.2
+pub completes_with : (sources : List Source) (flows : List FlowModule) (opts : Opts) (parts : Parts) → flows_of sources ≡ Ok flows →
+    Builds sources [] opts (Ok parts) → Completes flows [] opts (Ok parts)
+completes_with sources flows opts parts e b =
+    let p = flows_within (limit_passed sources) (flows_of sources) [] opts parts b in
+    subst (λ (fs : List FlowModule). Completes fs [] opts (Ok parts)) (same_ok (flows_of sources) p.0 flows (sym p.1) (sym e)) p.2

@@ -1,21 +1,20 @@
 // The machine as its callers see it.
 
-ghost use Rattle.std.specs.Prelude.{◌≡◌, ◌+◌, ◌%◌, ◌<◌, ◌≤◌, ◌≢◌, ◌⊎◌, ◌↔◌, [], length, IfOk, IfSome, IsNone, Ok};
-ghost use Rattle.pw_value.specs.Limits.{stack_least, stack_limit, text_start, word_limit, memory_size};
+ghost use Rattle.std.specs.Prelude.{◌≡◌, ◌+◌, ◌%◌, ◌<◌, ◌≢◌, ◌⊎◌, ◌↔◌, IfOk, IfSome, IsNone, Ok};
+ghost use Rattle.pw_value.specs.Limits.{memory_size};
 ghost use Rattle.pw_image.specs.declared.image.Image.{Image as AnyImage};
 ghost use Rattle.pw_image.specs.Image.{Contents, IsImageFile};
 ghost use Rattle.pw_image.specs.Reading.{image_file_at};
 ghost use Rattle.pw_image.specs.Loading.{GivesLoad, loaded_as};
 ghost use Rattle.pw_machine.specs.Core as core;
-ghost use Rattle.pw_machine.specs.Start.{start_core};
 ghost use Rattle.pw_machine.specs.Stops.{loaded, IsRun, IsBeforeBreak, StaysStopped, ReadCount, WriteCount, end_of};
 
 use crate::ends::Stop;
 use crate::processor::Processor;
 use crate::run;
 use pw_image::{Image, LoadError, read_image};
-use pw_io::{NoMemory, Sink, Source};
-use pw_value::limits::{MEMORY_SIZE, TEXT_START};
+use pw_io::{Sink, Source};
+use pw_value::limits::MEMORY_SIZE;
 use std::alloc::Global;
 use std::marker::Model;
 
@@ -62,23 +61,6 @@ impl Machine {
         )?;
         Ok(Machine {
             processor,
-            steps: 0,
-        })
-    }
-
-    /// The machine at the start of a program that is these words, entered at the first, and has no data.
-    /// No rule of the machine looks at the size of a stack, so `stack` is not used.
-    pub fn from_words(alloc: Global, words: &[u32], stack: u32) -> Result<Machine, NoMemory>
-        requires some_words { 0 < length words.now }
-        requires few_words { length words.now ≤ word_limit }
-        requires stack_from { stack_least ≤ stack }
-        requires stack_to { stack ≤ stack_limit }
-        ensures start { IfOk result (λ machine. machine.core ≡ start_core text_start words.now 0 []) }
-        ensures steps { IfOk result (λ machine. machine.steps ≡ 0) }
-    {
-        let _ = stack;
-        Ok(Machine {
-            processor: Processor::start(alloc, TEXT_START, words, 0, &[])?,
             steps: 0,
         })
     }

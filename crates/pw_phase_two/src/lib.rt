@@ -6,7 +6,9 @@ mod copying;
 mod directives;
 pub mod laws;
 mod numbers;
+mod origin;
 mod phases;
 
 pub use directives::directives_for;
-pub use phases::phase_two;
+pub use origin::{Origin, origin_of};
+pub use phases::{object_of, phase_two};

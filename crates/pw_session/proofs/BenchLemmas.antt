@@ -25,7 +25,7 @@ use Rattle.pw_build_files.specs.FromBuild.Phases.{IsLine, refused_line}
 use Rattle.pw_build_files.specs.declared.report.Report.{Report}
 use Rattle.pw_build_files.specs.Building.{Outcome}
 use Rattle.pw_build_files.specs.Outcomes.{AnswersFault, IsNoWant, ObeysBuild, Reports, fault_answer}
-use Rattle.pw_session.specs.declared.opts.SessionOpts.{SessionOpts}
+use Rattle.pw_build_opts.specs.declared.opts.RunOpts.{RunOpts}
 use Rattle.pw_session.specs.Builds.{BuildsTo}
 use Rattle.pw_session.specs.Bench.{BenchEffect, BenchOver, IsBenchAnswer, IsBenchFound, IsBenchLine, ObeysBench, ObeysReport, StopsWithoutInput, bench_files, bench_line, made_files, stop_of}
 use Rattle.pw_session.specs.Runs.{is_stop, runs_as}
@@ -74,7 +74,7 @@ bench_said number budget input report outcome answer taken taken' effect r run o
 effect_done : (number budget : ℕ) (input : List ℕ) (outcome : Outcome) (effect : Effect) → BenchOver number budget input (Ok outcome) effect → effect.answer ≡ Done
 effect_done number budget input outcome effect over = ap (λ (x : Effect). x.answer) over.2
 
-bench_found : (number : ℕ) (opts : SessionOpts) (input : List ℕ) (report : Report) (answer : Answer) (taken taken' : Option (List ℕ)) → (outcome : Outcome) × BuildsTo (bench_files number) opts.build (Ok outcome) × Reports outcome report
+bench_found : (number : ℕ) (opts : RunOpts) (input : List ℕ) (report : Report) (answer : Answer) (taken taken' : Option (List ℕ)) → (outcome : Outcome) × BuildsTo (bench_files number) opts.build (Ok outcome) × Reports outcome report
     → ObeysReport number report.image.items report.digest opts.budget answer taken taken' → answer ≢ NoMemory → (effect : Effect) × BenchEffect number opts input effect × (effect.answer ≡ Done)
 bench_found number opts input report answer taken taken' f run d =
     let c = (run.found d).0 in
@@ -82,7 +82,7 @@ bench_found number opts input report answer taken taken' f run d =
     let text = bench_line number f.0.image (sha256 f.0.image) (stop_of opts.budget c) in
     (prints text input, (Ok f.0, f.1, (text, (c, h, refl), refl)), refl)
 
-pub bench_built : (number : ℕ) (opts : SessionOpts) (input : List ℕ) (report : Report) (told : Told) (new : Option Told) (answer : Answer) (taken taken' : Option (List ℕ)) → told.files ≡ bench_files number → ObeysBuild opts.build (Ok report) told new
+pub bench_built : (number : ℕ) (opts : RunOpts) (input : List ℕ) (report : Report) (told : Told) (new : Option Told) (answer : Answer) (taken taken' : Option (List ℕ)) → told.files ≡ bench_files number → ObeysBuild opts.build (Ok report) told new
     → IsPrintAnswer answer → ObeysReport number report.image.items report.digest opts.budget answer taken taken' → ObeysBench (BenchEffect number opts input) answer taken taken'
 bench_built number opts input report told new answer taken taken' e obeys k run =
     let does = does_build opts.build (Ok report) told new obeys in
@@ -107,7 +107,7 @@ bench_none comes taken = record { answers = λ effect h. tt; output = λ effect 
 no_fault : Rose 0 0 → ⊥
 no_fault h = absurd (omega (arith, h))
 
-refused_obeys : (number : ℕ) (opts : SessionOpts) (input : List ℕ) (fault : BuildFault) (told : Told) (taken : Option (List ℕ)) → told.files ≡ bench_files number → ((comes : Result Outcome BuildFault) → BuildsTo told.files opts.build comes → AnswersFault comes fault)
+refused_obeys : (number : ℕ) (opts : RunOpts) (input : List ℕ) (fault : BuildFault) (told : Told) (taken : Option (List ℕ)) → told.files ≡ bench_files number → ((comes : Result Outcome BuildFault) → BuildsTo told.files opts.build comes → AnswersFault comes fault)
     → IsFaultFound told.files opts.build fault → StoreCount 0 0 (fault_answer fault) → ObeysBench (BenchEffect number opts input) (fault_answer fault) taken taken
 refused_obeys number opts input build.StoreFault told taken e each found count = absurd (no_fault count)
 refused_obeys number opts input build.NoMemory told taken e each found count = bench_none (BenchEffect number opts input) taken
@@ -128,7 +128,7 @@ refused_obeys number opts input (build.LinkRefused fault) told taken e each foun
     alone_linked : (effect : Effect) → BenchEffect number opts input effect → effect ≡ answers_alone (LinkRefused fault) input
     alone_linked effect h = subst (λ (r : Result Outcome BuildFault). BenchOver number opts.budget input r effect) (each h.0 (subst (λ (f : Files). BuildsTo f opts.build h.0) (sym e) h.1)) h.2
 
-pub bench_refused : (number : ℕ) (opts : SessionOpts) (input : List ℕ) (unbuilt : Unbuilt) (told : Told) (new : Option Told) (taken : Option (List ℕ)) → told.files ≡ bench_files number → ObeysBuild opts.build (Err unbuilt) told new → StoreCount 0 0 (fault_answer unbuilt.fault)
+pub bench_refused : (number : ℕ) (opts : RunOpts) (input : List ℕ) (unbuilt : Unbuilt) (told : Told) (new : Option Told) (taken : Option (List ℕ)) → told.files ≡ bench_files number → ObeysBuild opts.build (Err unbuilt) told new → StoreCount 0 0 (fault_answer unbuilt.fault)
     → ObeysBench (BenchEffect number opts input) (fault_answer unbuilt.fault) taken taken
 bench_refused number opts input unbuilt told new taken e obeys count =
     let does = does_build opts.build (Err unbuilt) told new obeys in

@@ -5,17 +5,17 @@ use Rattle.pw_top_answer.specs.Effects.{PutsFiles}
 use Rattle.pw_build_files.specs.FromBuild.BuildFault.{BuildFault}
 use Rattle.pw_build_files.specs.FromBuild.BuildFault.TheVariants as build
 use Rattle.pw_build_files.specs.FromBuild.Unbuilt.{Unbuilt}
-use Rattle.pw_build_files.specs.declared.report.Opts.{Opts}
+use Rattle.pw_build_opts.specs.declared.opts.Opts.{Opts}
 use Rattle.pw_build_files.specs.declared.report.Report.{Report}
 use Rattle.pw_build_files.specs.Building.{BuildOutcome, Outcome, puts_of}
 use Rattle.pw_build_files.specs.Outcomes.{AnswersBuild, FaultFound, IsBuildFound, ObeysBuild, Reports, build_answer}
 use Rattle.pw_session.specs.Builds.{BuildsTo}
 
-to_build : (files : Files) (opts : Opts) (comes : Result Outcome BuildFault) → BuildOutcome files opts.colours opts.stack comes → BuildsTo files opts comes
+to_build : (files : Files) (opts : Opts) (comes : Result Outcome BuildFault) → BuildOutcome files opts comes → BuildsTo files opts comes
 unfolding BuildsTo
 to_build files opts comes h = h
 
-of_build : (files : Files) (opts : Opts) (comes : Result Outcome BuildFault) → BuildsTo files opts comes → BuildOutcome files opts.colours opts.stack comes
+of_build : (files : Files) (opts : Opts) (comes : Result Outcome BuildFault) → BuildsTo files opts comes → BuildOutcome files opts comes
 unfolding BuildsTo
 of_build files opts comes h = h
 

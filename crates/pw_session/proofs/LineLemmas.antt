@@ -15,14 +15,14 @@ use Rattle.pw_build_files.specs.FromBuild.BuildFault.{BuildFault}
 use Rattle.pw_build_files.specs.FromBuild.BuildFault.TheVariants as build
 use Rattle.pw_build_files.specs.FromBuild.Unbuilt.{Unbuilt}
 use Rattle.pw_build_files.specs.FromBuild.Phases.{IsLine, refused_line}
-use Rattle.pw_build_files.specs.declared.report.Opts.{Opts}
+use Rattle.pw_build_opts.specs.declared.opts.Opts.{Opts}
 use Rattle.pw_build_files.specs.declared.report.Report.{Report}
 use Rattle.pw_build_files.specs.Building.{Outcome, puts_of}
 use Rattle.pw_build_files.specs.Lines.{report_lines, report_text}
 use Rattle.pw_build_files.specs.Outcomes.{AnswersBuild, AnswersFault, ObeysBuild, PutsSome, Reports, fault_answer}
 use Rattle.pw_build_files.specs.Driving.{outcome_lines}
 use Rattle.pw_session_script.specs.Script.{LineValue, PutText, RemoveText, BuildProgram, RunProgram}
-use Rattle.pw_session.specs.declared.opts.SessionOpts.{SessionOpts}
+use Rattle.pw_build_opts.specs.declared.opts.RunOpts.{RunOpts}
 use Rattle.pw_session.specs.Builds.{BuildsTo}
 use Rattle.pw_session.specs.Changes.{AreOwnChanges, Change, MakesChanges, MakesSome, Puts, Removes, after_changes}
 use Rattle.pw_session.specs.Session.{LineEffect, Acts, SessionState, builds_as, changes_as, puts_out}
@@ -78,7 +78,7 @@ report_said outcome report r =
     ∙ ap (λ (digest : List ℕ). report_lines (length outcome.rebuilt) outcome.modules (length outcome.image) digest) r.digest
 
 -- the effect of a program that was built
-built_act : (opts : SessionOpts) (s : SessionState) (report : Report) (comes : Result Outcome BuildFault) (new : Option Told) (answer : Answer) (taken taken' : Option (List ℕ)) → AnswersBuild comes (Ok report) → PutsFiles (puts_of comes) Done s.told new
+built_act : (opts : RunOpts) (s : SessionState) (report : Report) (comes : Result Outcome BuildFault) (new : Option Told) (answer : Answer) (taken taken' : Option (List ℕ)) → AnswersBuild comes (Ok report) → PutsFiles (puts_of comes) Done s.told new
     → PutsOut (report_text report) answer taken taken' → DoesEffect (builds_as s comes).output (builds_as s comes).changes answer s.told new taken taken'
 built_act opts s report comes new answer taken taken' h puts out =
     let same : comes ≡ Ok h.0 = h.1 in
@@ -90,7 +90,7 @@ built_act opts s report comes new answer taken taken' h puts out =
 built_image : (s : SessionState) (report : Report) (comes : Result Outcome BuildFault) → AnswersBuild comes (Ok report) → Some report.image.items ≡ (builds_as s comes).image
 built_image s report comes h = ap (λ (i : List ℕ). Some i) h.2.image ∙ ap (λ (c : Result Outcome BuildFault). (builds_as s c).image) (sym h.1)
 
-built_line : (opts : SessionOpts) (s : SessionState) (report : Report) (new : Option Told) (answer : Answer) (taken taken' image : Option (List ℕ)) → DoesBuild opts.build (Ok report) s.told new → PutsOut (report_text report) answer taken taken'
+built_line : (opts : RunOpts) (s : SessionState) (report : Report) (new : Option Told) (answer : Answer) (taken taken' image : Option (List ℕ)) → DoesBuild opts.build (Ok report) s.told new → PutsOut (report_text report) answer taken taken'
     → image ≡ Some report.image.items → ObeysLine opts s BuildProgram answer new taken taken' image
 built_line opts s report new answer taken taken' image obeys out e = record {
   does = λ effect h. subst (λ (a : LineEffect). DoesEffect a.output a.changes answer s.told new taken taken') (sym h.2) (built_act opts s report h.0 new answer taken taken' (obeys.answers h.0 h.1) (obeys.puts h.0 h.1) out);
@@ -98,7 +98,7 @@ built_line opts s report new answer taken taken' image obeys out e = record {
   found = λ d. (builds_as s (Ok obeys.found.0), (Ok obeys.found.0, obeys.found.1, refl), puts_make obeys.found.0.puts Done s.told new (obeys.puts (Ok obeys.found.0) obeys.found.1));
 }
 
-pub line_built : (opts : SessionOpts) (built : Option (List ℕ)) (report : Report) (first new : Option Told) (answer : Answer) (taken taken' image : Option (List ℕ)) → IfSome first (λ told. ObeysBuild opts.build (Ok report) told new) → PutsOut (report_text report) answer taken taken'
+pub line_built : (opts : RunOpts) (built : Option (List ℕ)) (report : Report) (first new : Option Told) (answer : Answer) (taken taken' image : Option (List ℕ)) → IfSome first (λ told. ObeysBuild opts.build (Ok report) told new) → PutsOut (report_text report) answer taken taken'
     → image ≡ Some report.image.items → IfSome first (λ told. ObeysLine opts (record { told = told; image = built }) BuildProgram answer new taken taken' image)
 line_built opts built report None new answer taken taken' image obeys out e = tt
 line_built opts built report (Some told) new answer taken taken' image obeys out e = built_line opts (record { told = told; image = built }) report new answer taken taken' image (does_build opts.build (Ok report) told new obeys) out e
@@ -158,7 +158,7 @@ fault_image s build.NoMemory line comes answer taken taken' c q d = absurd (memo
 fault_image s (build.Refused name refusal) line comes answer taken taken' c q d = ap (λ (r : Result Outcome BuildFault). (builds_as s r).image) (sym c)
 fault_image s (build.LinkRefused fault) line comes answer taken taken' c q d = ap (λ (r : Result Outcome BuildFault). (builds_as s r).image) (sym c)
 
-fault_said : (opts : SessionOpts) (s : SessionState) (unbuilt : Unbuilt) (new : Option Told) (answer : Answer) (taken taken' image : Option (List ℕ)) → DoesBuild opts.build (Err unbuilt) s.told new → IsLine (refused_line (modules_of s.told.files)) unbuilt.fault unbuilt.line
+fault_said : (opts : RunOpts) (s : SessionState) (unbuilt : Unbuilt) (new : Option Told) (answer : Answer) (taken taken' image : Option (List ℕ)) → DoesBuild opts.build (Err unbuilt) s.told new → IsLine (refused_line (modules_of s.told.files)) unbuilt.fault unbuilt.line
     → SaysFault unbuilt.fault unbuilt.line answer taken taken' → image ≡ s.image → ObeysLine opts s BuildProgram answer new taken taken' image
 fault_said opts s unbuilt new answer taken taken' image obeys line said e = record {
   does = λ effect h. subst (λ (a : LineEffect). DoesEffect a.output a.changes answer s.told new taken taken') (sym h.2) (fault_act s unbuilt h.0 new answer taken taken' (obeys.answers h.0 h.1) (obeys.puts h.0 h.1) line said);
@@ -168,7 +168,7 @@ fault_said opts s unbuilt new answer taken taken' image obeys line said e = reco
       (builds_as s (Err unbuilt.fault), (Err unbuilt.fault, is, refl), fault_made s.told unbuilt.fault unbuilt.line new answer taken taken' said d (obeys.puts (Err unbuilt.fault) is));
 }
 
-pub line_refused : (opts : SessionOpts) (built : Option (List ℕ)) (unbuilt : Unbuilt) (first new : Option Told) (answer : Answer) (taken taken' image : Option (List ℕ)) → IfSome first (λ told. ObeysBuild opts.build (Err unbuilt) told new)
+pub line_refused : (opts : RunOpts) (built : Option (List ℕ)) (unbuilt : Unbuilt) (first new : Option Told) (answer : Answer) (taken taken' image : Option (List ℕ)) → IfSome first (λ told. ObeysBuild opts.build (Err unbuilt) told new)
     → IfSome first (λ told. IsLine (refused_line (modules_of told.files)) unbuilt.fault unbuilt.line) → SaysFault unbuilt.fault unbuilt.line answer taken taken' → image ≡ built
     → IfSome first (λ told. ObeysLine opts (record { told = told; image = built }) BuildProgram answer new taken taken' image)
 line_refused opts built unbuilt None new answer taken taken' image obeys line said e = tt
@@ -188,7 +188,7 @@ made_refused may unbuilt (Some told) new answer taken taken' some said = some_re
 -- ---- the other lines
 
 -- a change of a file, as a line
-change_line : (opts : SessionOpts) (s : SessionState) (line : LineValue) (change : Change) (new : Option Told) (answer : Answer) (taken taken' image : Option (List ℕ)) → ((effect : LineEffect) → Acts opts s line effect → effect ≡ changes_as s change) → Acts opts s line (changes_as s change)
+change_line : (opts : RunOpts) (s : SessionState) (line : LineValue) (change : Change) (new : Option Told) (answer : Answer) (taken taken' image : Option (List ℕ)) → ((effect : LineEffect) → Acts opts s line effect → effect ≡ changes_as s change) → Acts opts s line (changes_as s change)
     → DoesEffect (codes "ok\n") (change ∷ []) answer s.told new taken taken' → (IsLineObeyed answer → new ≡ Some (after_changes s.told (change ∷ []))) → image ≡ s.image → ObeysLine opts s line answer new taken taken' image
 change_line opts s line change new answer taken taken' image one is does made e = record {
   does = λ effect h. subst (λ (a : LineEffect). DoesEffect a.output a.changes answer s.told new taken taken') (sym (one effect h)) does;
@@ -196,13 +196,13 @@ change_line opts s line change new answer taken taken' image one is does made e 
   found = λ d. (changes_as s change, is, made d);
 }
 
-pub line_put : (opts : SessionOpts) (built : Option (List ℕ)) (file text : List ℕ) (first new : Option Told) (answer : Answer) (taken taken' image : Option (List ℕ)) → IfSome first (λ told. DoesEffect (codes "ok\n") (Puts (file, text) ∷ []) answer told new taken taken')
+pub line_put : (opts : RunOpts) (built : Option (List ℕ)) (file text : List ℕ) (first new : Option Told) (answer : Answer) (taken taken' image : Option (List ℕ)) → IfSome first (λ told. DoesEffect (codes "ok\n") (Puts (file, text) ∷ []) answer told new taken taken')
     → IfSome first (λ told. IsLineObeyed answer → new ≡ Some (after_changes told (Puts (file, text) ∷ []))) → image ≡ built → IfSome first (λ told. ObeysLine opts (record { told = told; image = built }) (PutText file text) answer new taken taken' image)
 line_put opts built file text None new answer taken taken' image does made e = tt
 line_put opts built file text (Some told) new answer taken taken' image does made e =
     change_line opts (record { told = told; image = built }) (PutText file text) (Puts (file, text)) new answer taken taken' image (λ effect h. h) refl does made e
 
-pub line_removed : (opts : SessionOpts) (built : Option (List ℕ)) (file : List ℕ) (first new : Option Told) (answer : Answer) (taken taken' image : Option (List ℕ)) → IfSome first (λ told. DoesEffect (codes "ok\n") (Removes file ∷ []) answer told new taken taken')
+pub line_removed : (opts : RunOpts) (built : Option (List ℕ)) (file : List ℕ) (first new : Option Told) (answer : Answer) (taken taken' image : Option (List ℕ)) → IfSome first (λ told. DoesEffect (codes "ok\n") (Removes file ∷ []) answer told new taken taken')
     → IfSome first (λ told. IsLineObeyed answer → new ≡ Some (after_changes told (Removes file ∷ []))) → image ≡ built → IfSome first (λ told. ObeysLine opts (record { told = told; image = built }) (RemoveText file) answer new taken taken' image)
 line_removed opts built file None new answer taken taken' image does made e = tt
 line_removed opts built file (Some told) new answer taken taken' image does made e =
@@ -222,7 +222,7 @@ pub removed_some : (may : List ℕ → Type 0) (output file : List ℕ) (first n
     → IfSome first (λ told. MakesSome may answer told new)
 removed_some may output file first new answer taken taken' own does = does_some may output (Removes file ∷ []) first new answer taken taken' (own, tt) does
 
-run_does : (opts : SessionOpts) (s : SessionState) (input : List ℕ) (new : Option Told) (answer : Answer) (taken taken' image : Option (List ℕ)) → ObeysRun s.image opts.budget input answer taken taken' → new ≡ Some s.told → image ≡ s.image
+run_does : (opts : RunOpts) (s : SessionState) (input : List ℕ) (new : Option Told) (answer : Answer) (taken taken' image : Option (List ℕ)) → ObeysRun s.image opts.budget input answer taken taken' → new ≡ Some s.told → image ≡ s.image
     → ObeysLine opts s (RunProgram input) answer new taken taken' image
 run_does opts s input new answer taken taken' image run same e = record {
   does = λ effect h. subst (λ (a : LineEffect). DoesEffect a.output a.changes answer s.told new taken taken') (sym h.2) (record { said = run.output h.0 h.1; made = makes_all [] answer s.told new same });
@@ -230,7 +230,7 @@ run_does opts s input new answer taken taken' image run same e = record {
   found = λ d. (puts_out s (run.found d).0, ((run.found d).0, (run.found d).1, refl), same);
 }
 
-pub line_run : (opts : SessionOpts) (built : Option (List ℕ)) (input : List ℕ) (first : Option Told) (answer : Answer) (taken taken' image : Option (List ℕ)) → ObeysRun built opts.budget input answer taken taken' → image ≡ built
+pub line_run : (opts : RunOpts) (built : Option (List ℕ)) (input : List ℕ) (first : Option Told) (answer : Answer) (taken taken' image : Option (List ℕ)) → ObeysRun built opts.budget input answer taken taken' → image ≡ built
     → IfSome first (λ told. ObeysLine opts (record { told = told; image = built }) (RunProgram input) answer first taken taken' image)
 line_run opts built input None answer taken taken' image run e = tt
 line_run opts built input (Some told) answer taken taken' image run e = run_does opts (record { told = told; image = built }) input (Some told) answer taken taken' image run refl e
@@ -241,7 +241,7 @@ same_some may (Some told) answer = makes_some may [] answer told (Some told) tt 
 
 -- ---- over what the calls gave
 
-pub line_put_so : (opts : SessionOpts) (built : Option (List ℕ)) (file text f t : List ℕ) (first new : Option Told) (answer : Answer) (taken taken' image : Option (List ℕ)) → f ≡ file → t ≡ text → IfSome first (λ told. DoesEffect (codes "ok\n") (Puts (f, t) ∷ []) answer told new taken taken')
+pub line_put_so : (opts : RunOpts) (built : Option (List ℕ)) (file text f t : List ℕ) (first new : Option Told) (answer : Answer) (taken taken' image : Option (List ℕ)) → f ≡ file → t ≡ text → IfSome first (λ told. DoesEffect (codes "ok\n") (Puts (f, t) ∷ []) answer told new taken taken')
     → IfSome first (λ told. IsLineObeyed answer → new ≡ Some (after_changes told (Puts (f, t) ∷ []))) → image ≡ built
     → IfSome first (λ told. ObeysLine opts (record { told = told; image = built }) (PutText file text) answer new taken taken' image)
 line_put_so opts built file text f t first new answer taken taken' image e h does made same =
@@ -251,14 +251,14 @@ line_put_so opts built file text f t first new answer taken taken' image e h doe
     (subst (λ (x : List ℕ). IfSome first (λ told. IsLineObeyed answer → new ≡ Some (after_changes told (Puts (x, text) ∷ [])))) e
     (subst (λ (y : List ℕ). IfSome first (λ told. IsLineObeyed answer → new ≡ Some (after_changes told (Puts (f, y) ∷ [])))) h made)) same
 
-pub line_removed_so : (opts : SessionOpts) (built : Option (List ℕ)) (file f : List ℕ) (first new : Option Told) (answer : Answer) (taken taken' image : Option (List ℕ)) → f ≡ file → IfSome first (λ told. DoesEffect (codes "ok\n") (Removes f ∷ []) answer told new taken taken')
+pub line_removed_so : (opts : RunOpts) (built : Option (List ℕ)) (file f : List ℕ) (first new : Option Told) (answer : Answer) (taken taken' image : Option (List ℕ)) → f ≡ file → IfSome first (λ told. DoesEffect (codes "ok\n") (Removes f ∷ []) answer told new taken taken')
     → IfSome first (λ told. IsLineObeyed answer → new ≡ Some (after_changes told (Removes f ∷ []))) → image ≡ built
     → IfSome first (λ told. ObeysLine opts (record { told = told; image = built }) (RemoveText file) answer new taken taken' image)
 line_removed_so opts built file f first new answer taken taken' image e does made same =
     line_removed opts built file first new answer taken taken' image (subst (λ (x : List ℕ). IfSome first (λ told. DoesEffect (codes "ok\n") (Removes x ∷ []) answer told new taken taken')) e does)
     (subst (λ (x : List ℕ). IfSome first (λ told. IsLineObeyed answer → new ≡ Some (after_changes told (Removes x ∷ [])))) e made) same
 
-pub line_run_so : (opts : SessionOpts) (built given : Option (List ℕ)) (input i : List ℕ) (first : Option Told) (answer : Answer) (taken taken' image : Option (List ℕ)) → given ≡ built → i ≡ input → ObeysRun given opts.budget i answer taken taken' → image ≡ built
+pub line_run_so : (opts : RunOpts) (built given : Option (List ℕ)) (input i : List ℕ) (first : Option Told) (answer : Answer) (taken taken' image : Option (List ℕ)) → given ≡ built → i ≡ input → ObeysRun given opts.budget i answer taken taken' → image ≡ built
     → IfSome first (λ told. ObeysLine opts (record { told = told; image = built }) (RunProgram input) answer first taken taken' image)
 line_run_so opts built given input i first answer taken taken' image e h run same =
     line_run opts built input first answer taken taken' image

@@ -11,7 +11,7 @@ use Rattle.pw_session_script.specs.declared.line.ScriptFault.{ScriptFault}
 use Rattle.pw_session_script.specs.declared.line.ScriptFault.TheVariants as script
 use Rattle.pw_session_script.specs.Reading.{ReadsLine, line_view}
 use Rattle.pw_session_script.specs.Script.{LineValue, first_line}
-use Rattle.pw_session.specs.declared.opts.SessionOpts.{SessionOpts}
+use Rattle.pw_build_opts.specs.declared.opts.RunOpts.{RunOpts}
 use Rattle.pw_session.specs.declared.session.Turn.{Turn}
 use Rattle.pw_session.specs.declared.session.Turn.TheVariants.{Over, Obeyed}
 use Rattle.pw_session.specs.Changes.{Change, MakesChanges, after_changes}
@@ -53,7 +53,7 @@ nothing_does : (answer : Answer) (told : Told) (new : Option Told) (taken taken'
 nothing_does answer told new taken taken' e same = record { said = subst (λ (t : Option (List ℕ)). PutsOut [] answer taken t) (sym same) (puts_none answer taken); made = makes_all [] answer told new e }
 
 -- no line was obeyed
-none_acts : (opts : SessionOpts) (s : SessionState) (lines : List LineValue) (answer : Answer) (new : Option Told) (taken taken' : Option (List ℕ)) → new ≡ Some s.told → taken' ≡ taken → PrefixActs opts s lines answer new taken taken'
+none_acts : (opts : RunOpts) (s : SessionState) (lines : List LineValue) (answer : Answer) (new : Option Told) (taken taken' : Option (List ℕ)) → new ≡ Some s.told → taken' ≡ taken → PrefixActs opts s lines answer new taken taken'
 none_acts opts s lines answer new taken taken' e same = record {
   before = [];
   last = [];
@@ -70,7 +70,7 @@ none_acts opts s lines answer new taken taken' e same = record {
   made = e;
 }
 
-found_nothing : (opts : SessionOpts) (s : SessionState) (answer : Answer) (new : Option Told) (taken taken' : Option (List ℕ)) → new ≡ Some s.told → taken' ≡ taken → IsSessionFound opts s [] answer new taken taken'
+found_nothing : (opts : RunOpts) (s : SessionState) (answer : Answer) (new : Option Told) (taken taken' : Option (List ℕ)) → new ≡ Some s.told → taken' ≡ taken → IsSessionFound opts s [] answer new taken taken'
 found_nothing opts s ReadFault new taken taken' e same = none_acts opts s [] Done new taken taken' e same
 found_nothing opts s WriteFault new taken taken' e same = none_acts opts s [] WriteFault new taken taken' e same
 found_nothing opts s StoreFault new taken taken' e same = tt
@@ -78,7 +78,7 @@ found_nothing opts s NoMemory new taken taken' e same = tt
 found_nothing opts s _ new taken taken' e same = (nothing, refl)
 
 -- the script is over, or no lawful line stands there
-over_none : (opts : SessionOpts) (s : SessionState) (bad : Option ℕ) (answer : Answer) (new : Option Told) (taken taken' : Option (List ℕ)) → Answers (script_answer bad) answer → new ≡ Some s.told → taken' ≡ taken
+over_none : (opts : RunOpts) (s : SessionState) (bad : Option ℕ) (answer : Answer) (new : Option Told) (taken taken' : Option (List ℕ)) → Answers (script_answer bad) answer → new ≡ Some s.told → taken' ≡ taken
     → ObeysLines opts s (record { lines = []; bad = bad }) answer new taken taken'
 over_none opts s bad answer new taken taken' h e same = record {
   answers = h;
@@ -88,16 +88,16 @@ over_none opts s bad answer new taken taken' h e same = record {
 
 -- ---- a fault before a line
 
-fault_does : (opts : SessionOpts) (s : SessionState) (lines : ScriptLines) (new : Option Told) (taken taken' : Option (List ℕ)) → new ≡ Some s.told → taken' ≡ taken → ObeysLines opts s lines ReadFault new taken taken'
+fault_does : (opts : RunOpts) (s : SessionState) (lines : ScriptLines) (new : Option Told) (taken taken' : Option (List ℕ)) → new ≡ Some s.told → taken' ≡ taken → ObeysLines opts s lines ReadFault new taken taken'
 fault_does opts s lines new taken taken' e same = record { answers = tt; does = λ one d. record { said = puts_alone one.output ReadFault taken taken' (λ more. tt) same; made = front_none one.changes s.told new e }; found = none_acts opts s lines.lines Done new taken taken' e same }
 
-memory_does : (opts : SessionOpts) (s : SessionState) (lines : ScriptLines) (new : Option Told) (taken taken' : Option (List ℕ)) → new ≡ Some s.told → taken' ≡ taken → ObeysLines opts s lines NoMemory new taken taken'
+memory_does : (opts : RunOpts) (s : SessionState) (lines : ScriptLines) (new : Option Told) (taken taken' : Option (List ℕ)) → new ≡ Some s.told → taken' ≡ taken → ObeysLines opts s lines NoMemory new taken taken'
 memory_does opts s lines new taken taken' e same = record { answers = tt; does = λ one d. record { said = puts_alone one.output NoMemory taken taken' (λ more. tt) same; made = front_none one.changes s.told new e }; found = tt }
 
 -- ---- a line at which something failed
 
 -- the last line that was obeyed, of whose output the end is missing
-one_acts : (opts : SessionOpts) (s : SessionState) (line : LineValue) (more : List LineValue) (new : Option Told) (taken taken' image : Option (List ℕ)) → ObeysLine opts s line WriteFault new taken taken' image → PrefixActs opts s (line ∷ more) WriteFault new taken taken'
+one_acts : (opts : RunOpts) (s : SessionState) (line : LineValue) (more : List LineValue) (new : Option Told) (taken taken' image : Option (List ℕ)) → ObeysLine opts s line WriteFault new taken taken' image → PrefixActs opts s (line ∷ more) WriteFault new taken taken'
 one_acts opts s line more new taken taken' image h =
     let found = h.found tt in
     record {
@@ -116,7 +116,7 @@ one_acts opts s line more new taken taken' image h =
       made = found.2 ∙ ap (λ (changes : List Change). Some (after_changes s.told changes)) (sym (append-nil found.0.changes));
     }
 
-line_stops : (opts : SessionOpts) (s : SessionState) (line : LineValue) (more : ScriptLines) (answer : Answer) (new : Option Told) (taken taken' image : Option (List ℕ)) → IsLineAnswer answer → (answer ≡ Done → ⊥) → ObeysLine opts s line answer new taken taken' image
+line_stops : (opts : RunOpts) (s : SessionState) (line : LineValue) (more : ScriptLines) (answer : Answer) (new : Option Told) (taken taken' image : Option (List ℕ)) → IsLineAnswer answer → (answer ≡ Done → ⊥) → ObeysLine opts s line answer new taken taken' image
     → ObeysLines opts s (with_line line more) answer new taken taken'
 line_stops opts s line more Done new taken taken' image k ne h = absurd (ne refl)
 line_stops opts s line more WriteFault new taken taken' image k ne h = record {
@@ -141,10 +141,10 @@ line_stops opts s line more _ new taken taken' image k ne h = absurd k
 
 -- ---- a turn
 
-lines_are : (opts : SessionOpts) (s : SessionState) (lines same : ScriptLines) (answer : Answer) (new : Option Told) (taken taken' : Option (List ℕ)) → lines ≡ same → ObeysLines opts s same answer new taken taken' → ObeysLines opts s lines answer new taken taken'
+lines_are : (opts : RunOpts) (s : SessionState) (lines same : ScriptLines) (answer : Answer) (new : Option Told) (taken taken' : Option (List ℕ)) → lines ≡ same → ObeysLines opts s same answer new taken taken' → ObeysLines opts s lines answer new taken taken'
 lines_are opts s lines same answer new taken taken' e h = subst (λ (l : ScriptLines). ObeysLines opts s l answer new taken taken') (sym e) h
 
-end_turn : (opts : SessionOpts) (s : SessionState) (n offset : ℕ) (left : List ℕ) (new : Option Told) (taken taken' : Option (List ℕ)) → left ≡ [] → new ≡ Some s.told → taken' ≡ taken → ObeysLines opts s (script_lines_from (suc n) offset left) Done new taken taken'
+end_turn : (opts : RunOpts) (s : SessionState) (n offset : ℕ) (left : List ℕ) (new : Option Told) (taken taken' : Option (List ℕ)) → left ≡ [] → new ≡ Some s.told → taken' ≡ taken → ObeysLines opts s (script_lines_from (suc n) offset left) Done new taken taken'
 end_turn opts s n offset left new taken taken' e same quiet =
     subst (λ (l : List ℕ). ObeysLines opts s (script_lines_from (suc n) offset l) Done new taken taken') (sym e)
     (lines_are opts s (script_lines_from (suc n) offset []) (no_line offset []) Done new taken taken' (lines_stop n offset [] refl) (over_none opts s None Done new taken taken' refl same quiet))
@@ -153,13 +153,13 @@ pub bad_there : (offset : ℕ) (left : List ℕ) → left ≢ [] → bad_at offs
 bad_there offset [] h = absurd (h refl)
 bad_there offset (byte ∷ left) h = refl
 
-bad_turn : (opts : SessionOpts) (s : SessionState) (n offset : ℕ) (left : List ℕ) (new : Option Told) (taken taken' : Option (List ℕ)) → left ≢ [] → first_line left ≡ None → new ≡ Some s.told → taken' ≡ taken
+bad_turn : (opts : RunOpts) (s : SessionState) (n offset : ℕ) (left : List ℕ) (new : Option Told) (taken taken' : Option (List ℕ)) → left ≢ [] → first_line left ≡ None → new ≡ Some s.told → taken' ≡ taken
     → ObeysLines opts s (script_lines_from (suc n) offset left) (BadScript offset) new taken taken'
 bad_turn opts s n offset left new taken taken' some none same quiet =
     lines_are opts s (script_lines_from (suc n) offset left) (no_line offset left) (BadScript offset) new taken taken' (lines_stop n offset left none)
     (over_none opts s (bad_at offset left) (BadScript offset) new taken taken' (ap script_answer (bad_there offset left some)) same quiet)
 
-unread_turn : (opts : SessionOpts) (s : SessionState) (n offset : ℕ) (left : List ℕ) (rest : Option (List ℕ)) (fault : ScriptFault) (new : Option Told) (taken taken' : Option (List ℕ)) → ReadsLine left rest (Err fault) → new ≡ Some s.told → taken' ≡ taken
+unread_turn : (opts : RunOpts) (s : SessionState) (n offset : ℕ) (left : List ℕ) (rest : Option (List ℕ)) (fault : ScriptFault) (new : Option Told) (taken taken' : Option (List ℕ)) → ReadsLine left rest (Err fault) → new ≡ Some s.told → taken' ≡ taken
     → ObeysLines opts s (script_lines_from (suc n) offset left) (unread fault offset) new taken taken'
 unread_turn opts s n offset left rest script.BadLine new taken taken' h same quiet = bad_turn opts s n offset left new taken taken' h.0 h.1 same quiet
 unread_turn opts s n offset left rest script.ReadFault new taken taken' h same quiet = fault_does opts s (script_lines_from (suc n) offset left) new taken taken' same quiet
@@ -167,36 +167,36 @@ unread_turn opts s n offset left rest script.NoMemory new taken taken' h same qu
 
 -- over what the store and the input tell
 
-pub turn_unread : (opts : SessionOpts) (built : Option (List ℕ)) (offset : ℕ) (fault : ScriptFault) (store : Option Told) (first rest taken image : Option (List ℕ)) → IfSome first (λ left. ReadsLine left rest (Err fault))
+pub turn_unread : (opts : RunOpts) (built : Option (List ℕ)) (offset : ℕ) (fault : ScriptFault) (store : Option Told) (first rest taken image : Option (List ℕ)) → IfSome first (λ left. ReadsLine left rest (Err fault))
     → IfSome store (λ told. IfSome first (λ left. TakesTurn opts (record { told = told; image = built }) offset left (Over (unread fault offset)) store rest taken taken image))
 turn_unread opts built offset fault None first rest taken image h = tt
 turn_unread opts built offset fault (Some told) None rest taken image h = tt
 turn_unread opts built offset fault (Some told) (Some left) rest taken image h = λ n. unread_turn opts (record { told = told; image = built }) n offset left rest fault (Some told) taken taken h refl refl
 
-pub turn_ends : (opts : SessionOpts) (built : Option (List ℕ)) (offset : ℕ) (store : Option Told) (first rest taken image : Option (List ℕ)) → IfSome first (λ left. ReadsLine left rest (Ok None))
+pub turn_ends : (opts : RunOpts) (built : Option (List ℕ)) (offset : ℕ) (store : Option Told) (first rest taken image : Option (List ℕ)) → IfSome first (λ left. ReadsLine left rest (Ok None))
     → IfSome store (λ told. IfSome first (λ left. TakesTurn opts (record { told = told; image = built }) offset left (Over Done) store rest taken taken image))
 turn_ends opts built offset None first rest taken image h = tt
 turn_ends opts built offset (Some told) None rest taken image h = tt
 turn_ends opts built offset (Some told) (Some left) rest taken image h = λ n. end_turn opts (record { told = told; image = built }) n offset left (Some told) taken taken h.0 refl refl
 
 -- of what the calls gave
-pub turn_unread_so : (opts : SessionOpts) (built : Option (List ℕ)) (offset : ℕ) (fault : ScriptFault) (answer : Answer) (store : Option Told) (first rest taken image : Option (List ℕ)) → answer ≡ unread fault offset → IfSome first (λ left. ReadsLine left rest (Err fault))
+pub turn_unread_so : (opts : RunOpts) (built : Option (List ℕ)) (offset : ℕ) (fault : ScriptFault) (answer : Answer) (store : Option Told) (first rest taken image : Option (List ℕ)) → answer ≡ unread fault offset → IfSome first (λ left. ReadsLine left rest (Err fault))
     → IfSome store (λ told. IfSome first (λ left. TakesTurn opts (record { told = told; image = built }) offset left (Over answer) store rest taken taken image))
 turn_unread_so opts built offset fault answer store first rest taken image e h =
     subst (λ (a : Answer). IfSome store (λ told. IfSome first (λ left. TakesTurn opts (record { told = told; image = built }) offset left (Over a) store rest taken taken image))) (sym e) (turn_unread opts built offset fault store first rest taken image h)
 
-pub turn_ends_so : (opts : SessionOpts) (built : Option (List ℕ)) (offset : ℕ) (found : Option TakenLine) (store : Option Told) (first rest taken image : Option (List ℕ)) → found ≡ None → IfSome first (λ left. ReadsLine left rest (Ok found))
+pub turn_ends_so : (opts : RunOpts) (built : Option (List ℕ)) (offset : ℕ) (found : Option TakenLine) (store : Option Told) (first rest taken image : Option (List ℕ)) → found ≡ None → IfSome first (λ left. ReadsLine left rest (Ok found))
     → IfSome store (λ told. IfSome first (λ left. TakesTurn opts (record { told = told; image = built }) offset left (Over Done) store rest taken taken image))
 turn_ends_so opts built offset found store first rest taken image e h = turn_ends opts built offset store first rest taken image (subst (λ (o : Option TakenLine). IfSome first (λ left. ReadsLine left rest (Ok o))) e h)
 
-line_over : (opts : SessionOpts) (s : SessionState) (n offset : ℕ) (left : List ℕ) (rest : Option (List ℕ)) (line : TakenLine) (answer : Answer) (new : Option Told) (taken taken' image : Option (List ℕ)) → ReadsLine left rest (Ok (Some line)) → IsLineAnswer answer → (answer ≡ Done → ⊥)
+line_over : (opts : RunOpts) (s : SessionState) (n offset : ℕ) (left : List ℕ) (rest : Option (List ℕ)) (line : TakenLine) (answer : Answer) (new : Option Told) (taken taken' image : Option (List ℕ)) → ReadsLine left rest (Ok (Some line)) → IsLineAnswer answer → (answer ≡ Done → ⊥)
     → ObeysLine opts s (line_view line.line) answer new taken taken' image → ObeysLines opts s (script_lines_from (suc n) offset left) answer new taken taken'
 line_over opts s n offset left None line answer new taken taken' image h k ne obeys = absurd h.1
 line_over opts s n offset left (Some later) line answer new taken taken' image h k ne obeys =
     lines_are opts s (script_lines_from (suc n) offset left) (with_line (line_view line.line) (script_lines_from n (offset + line.length) later)) answer new taken taken' (lines_next n offset line.length left later (line_view line.line) h.1.0 h.1.1)
     (line_stops opts s (line_view line.line) (script_lines_from n (offset + line.length) later) answer new taken taken' image k ne obeys)
 
-pub turn_over : (opts : SessionOpts) (built : Option (List ℕ)) (offset : ℕ) (line : TakenLine) (answer : Answer) (store new : Option Told) (first rest taken taken' image : Option (List ℕ)) → IfSome first (λ left. ReadsLine left rest (Ok (Some line))) → IsLineAnswer answer → (answer ≡ Done → ⊥)
+pub turn_over : (opts : RunOpts) (built : Option (List ℕ)) (offset : ℕ) (line : TakenLine) (answer : Answer) (store new : Option Told) (first rest taken taken' image : Option (List ℕ)) → IfSome first (λ left. ReadsLine left rest (Ok (Some line))) → IsLineAnswer answer → (answer ≡ Done → ⊥)
     → IfSome store (λ told. ObeysLine opts (record { told = told; image = built }) (line_view line.line) answer new taken taken' image)
     → IfSome store (λ told. IfSome first (λ left. TakesTurn opts (record { told = told; image = built }) offset left (Over answer) new rest taken taken' image))
 turn_over opts built offset line answer None new first rest taken taken' image h k ne obeys = tt
@@ -204,12 +204,12 @@ turn_over opts built offset line answer (Some told) new None rest taken taken' i
 turn_over opts built offset line answer (Some told) new (Some left) rest taken taken' image h k ne obeys =
     λ n. line_over opts (record { told = told; image = built }) n offset left rest line answer new taken taken' image h k ne obeys
 
-obeyed_told : (opts : SessionOpts) (s : SessionState) (offset : ℕ) (left : List ℕ) (rest : Option (List ℕ)) (line : TakenLine) (new : Option Told) (taken taken' image : Option (List ℕ)) → ReadsLine left rest (Ok (Some line)) → ObeysLine opts s (line_view line.line) Done new taken taken' image
+obeyed_told : (opts : RunOpts) (s : SessionState) (offset : ℕ) (left : List ℕ) (rest : Option (List ℕ)) (line : TakenLine) (new : Option Told) (taken taken' image : Option (List ℕ)) → ReadsLine left rest (Ok (Some line)) → ObeysLine opts s (line_view line.line) Done new taken taken' image
     → TakesTurn opts s offset left (Obeyed line.length) new rest taken taken' image
 obeyed_told opts s offset left None line new taken taken' image h obeys = absurd h.1
 obeyed_told opts s offset left (Some later) line new taken taken' image h obeys = (line_view line.line, later, h.1.0, h.1.1, refl, obeys)
 
-pub turn_obeyed : (opts : SessionOpts) (built : Option (List ℕ)) (offset : ℕ) (line : TakenLine) (store new : Option Told) (first rest taken taken' image : Option (List ℕ)) → IfSome first (λ left. ReadsLine left rest (Ok (Some line)))
+pub turn_obeyed : (opts : RunOpts) (built : Option (List ℕ)) (offset : ℕ) (line : TakenLine) (store new : Option Told) (first rest taken taken' image : Option (List ℕ)) → IfSome first (λ left. ReadsLine left rest (Ok (Some line)))
     → IfSome store (λ told. ObeysLine opts (record { told = told; image = built }) (line_view line.line) Done new taken taken' image)
     → IfSome store (λ told. IfSome first (λ left. TakesTurn opts (record { told = told; image = built }) offset left (Obeyed line.length) new rest taken taken' image))
 turn_obeyed opts built offset line None new first rest taken taken' image h obeys = tt
@@ -217,7 +217,7 @@ turn_obeyed opts built offset line (Some told) new None rest taken taken' image 
 turn_obeyed opts built offset line (Some told) new (Some left) rest taken taken' image h obeys = obeyed_told opts (record { told = told; image = built }) offset left rest line new taken taken' image h obeys
 
 -- whatever came of a line that was read
-pub turn_taken : (opts : SessionOpts) (built : Option (List ℕ)) (offset : ℕ) (line : TakenLine) (turn : Turn) (store new : Option Told) (first rest taken taken' image : Option (List ℕ)) → IfSome first (λ left. ReadsLine left rest (Ok (Some line))) → IsLineTaken line turn
+pub turn_taken : (opts : RunOpts) (built : Option (List ℕ)) (offset : ℕ) (line : TakenLine) (turn : Turn) (store new : Option Told) (first rest taken taken' image : Option (List ℕ)) → IfSome first (λ left. ReadsLine left rest (Ok (Some line))) → IsLineTaken line turn
     → IfSome store (λ told. ObeysLine opts (record { told = told; image = built }) (line_view line.line) (turn_answer turn) new taken taken' image)
     → IfSome store (λ told. IfSome first (λ left. TakesTurn opts (record { told = told; image = built }) offset left turn new rest taken taken' image))
 turn_taken opts built offset line (Over answer) store new first rest taken taken' image h k obeys = turn_over opts built offset line answer store new first rest taken taken' image h k.0 k.1 obeys
@@ -226,7 +226,7 @@ turn_taken opts built offset line (Obeyed size) store new first rest taken taken
     (turn_obeyed opts built offset line store new first rest taken taken' image h obeys)
 
 -- of what the call gave
-pub turn_taken_so : (opts : SessionOpts) (built : Option (List ℕ)) (offset : ℕ) (found : Option TakenLine) (line : TakenLine) (turn : Turn) (store new : Option Told) (first rest taken taken' image : Option (List ℕ)) → found ≡ Some line → IfSome first (λ left. ReadsLine left rest (Ok found))
+pub turn_taken_so : (opts : RunOpts) (built : Option (List ℕ)) (offset : ℕ) (found : Option TakenLine) (line : TakenLine) (turn : Turn) (store new : Option Told) (first rest taken taken' image : Option (List ℕ)) → found ≡ Some line → IfSome first (λ left. ReadsLine left rest (Ok found))
     → IsLineTaken line turn → IfSome store (λ told. ObeysLine opts (record { told = told; image = built }) (line_view line.line) (turn_answer turn) new taken taken' image)
     → IfSome store (λ told. IfSome first (λ left. TakesTurn opts (record { told = told; image = built }) offset left turn new rest taken taken' image))
 turn_taken_so opts built offset found line turn store new first rest taken taken' image e h k obeys =
@@ -244,7 +244,7 @@ abbrev state_of : Told → Option (List ℕ) → SessionState
 state_of told image = record { told = told; image = image }
 
 -- what the session comes to is what was put out and changed so far, and what the lines that are left come to
-pub record Passed (opts : SessionOpts) (told at : Told) (lines : List LineValue) (taken taken' image : Option (List ℕ)) (e : Effects) : Type 0 where
+pub record Passed (opts : RunOpts) (told at : Told) (lines : List LineValue) (taken taken' image : Option (List ℕ)) (e : Effects) : Type 0 where
   pub output : List ℕ
   pub changes : List Change
   pub more : Effects
@@ -253,7 +253,7 @@ pub record Passed (opts : SessionOpts) (told at : Told) (lines : List LineValue)
   pub acts : LinesAct opts (record { told = at; image = image }) lines more
   pub is : e ≡ behind output changes more
 
-pub record SoFar (opts : SessionOpts) (told : Told) (script : List ℕ) (n offset : ℕ) (now : Option Told) (rest taken taken' image : Option (List ℕ)) : Type 0 where
+pub record SoFar (opts : RunOpts) (told : Told) (script : List ℕ) (n offset : ℕ) (now : Option Told) (rest taken taken' image : Option (List ℕ)) : Type 0 where
   pub at : Told
   pub left : List ℕ
   pub tells : now ≡ Some at
@@ -268,7 +268,7 @@ pub record SoFar (opts : SessionOpts) (told : Told) (script : List ℕ) (n offse
   pub on : (e : Effects) → SessionActs opts told script e → Passed opts told at (script_lines_from n offset left).lines taken taken' image e
   pub onto : (lines : List LineValue) (more : Effects) → LinesAct opts (record { told = at; image = image }) lines more → LinesAct opts (session_start told) (before ++ lines) (behind output changes more)
 
-so_far_start : (opts : SessionOpts) (told : Told) (script : List ℕ) (taken : Option (List ℕ)) → SoFar opts told script lines_limit 0 (Some told) (Some script) taken taken None
+so_far_start : (opts : RunOpts) (told : Told) (script : List ℕ) (taken : Option (List ℕ)) → SoFar opts told script lines_limit 0 (Some told) (Some script) taken taken None
 unfolding script_lines
 so_far_start opts told script taken = record {
   at = told;
@@ -287,10 +287,10 @@ so_far_start opts told script taken = record {
 }
 
 -- over what the store and the input told when the session began
-abbrev pub SessionAt : SessionOpts → ℕ → ℕ → Option Told → Option Told → (first rest taken taken' image : Option (List ℕ)) → Type 0
+abbrev pub SessionAt : RunOpts → ℕ → ℕ → Option Told → Option Told → (first rest taken taken' image : Option (List ℕ)) → Type 0
 SessionAt opts n offset store now first rest taken taken' image = IfSome store (λ told. IfSome first (λ script. SoFar opts told script n offset now rest taken taken' image))
 
-pub session_begins : (opts : SessionOpts) (n : ℕ) (store : Option Told) (first taken : Option (List ℕ)) → n ≡ lines_limit → SessionAt opts n 0 store store first first taken taken None
+pub session_begins : (opts : RunOpts) (n : ℕ) (store : Option Told) (first taken : Option (List ℕ)) → n ≡ lines_limit → SessionAt opts n 0 store store first first taken taken None
 session_begins opts n None first taken e = tt
 session_begins opts n (Some told) None taken e = tt
 session_begins opts n (Some told) (Some script) taken e = subst (λ (k : ℕ). SoFar opts told script k 0 (Some told) (Some script) taken taken None) (sym e) (so_far_start opts told script taken)
@@ -306,7 +306,7 @@ behind_both output changes effect more e rest h k =
     ∙ ap (λ (xs : List ℕ). made_of xs (changes ++ (effect.changes ++ more.changes))) (sym (append_assoc output effect.output more.output))
     ∙ ap (made_of ((output ++ effect.output) ++ more.output)) (sym (append_assoc changes effect.changes more.changes))
 
-passed_line : (opts : SessionOpts) (told at at' : Told) (line : LineValue) (lines : List LineValue) (new : Option Told) (t0 t1 t2 image image' : Option (List ℕ)) (e : Effects) → ObeysLine opts (record { told = at; image = image }) line Done new t1 t2 image' → new ≡ Some at'
+passed_line : (opts : RunOpts) (told at at' : Told) (line : LineValue) (lines : List LineValue) (new : Option Told) (t0 t1 t2 image image' : Option (List ℕ)) (e : Effects) → ObeysLine opts (record { told = at; image = image }) line Done new t1 t2 image' → new ≡ Some at'
     → Passed opts told at (line ∷ lines) t0 t1 image e → Passed opts told at' lines t0 t2 image' e
 passed_line opts told at at' line lines new t0 t1 t2 image image' e obeys tells p =
     let effect = p.acts.0 in
@@ -327,7 +327,7 @@ passed_line opts told at at' line lines new t0 t1 t2 image image' e obeys tells 
 behind_line : (output : List ℕ) (changes : List Change) (effect : LineEffect) (more : Effects) → behind output changes (behind_effect effect more) ≡ behind (output ++ effect.output) (changes ++ effect.changes) more
 behind_line output changes effect more = behind_both output changes effect more (behind output changes (behind_effect effect more)) (behind_effect effect more) refl refl
 
-onto_line : (opts : SessionOpts) (told at : Told) (image image' : Option (List ℕ)) (before : List LineValue) (output : List ℕ) (changes : List Change) (line : LineValue) (effect : LineEffect) → Acts opts (record { told = at; image = image }) line effect → image' ≡ effect.image
+onto_line : (opts : RunOpts) (told at : Told) (image image' : Option (List ℕ)) (before : List LineValue) (output : List ℕ) (changes : List Change) (line : LineValue) (effect : LineEffect) → Acts opts (record { told = at; image = image }) line effect → image' ≡ effect.image
     → ((lines : List LineValue) (more : Effects) → LinesAct opts (record { told = at; image = image }) lines more → LinesAct opts (session_start told) (before ++ lines) (behind output changes more))
     → (lines : List LineValue) (more : Effects) → LinesAct opts (record { told = after_changes at effect.changes; image = image' }) lines more → LinesAct opts (session_start told) ((before ++ line ∷ []) ++ lines) (behind (output ++ effect.output) (changes ++ effect.changes) more)
 onto_line opts told at image image' before output changes line effect is same onto lines more h =
@@ -336,7 +336,7 @@ onto_line opts told at image image' before output changes line effect is same on
     subst (λ (ls : List LineValue). LinesAct opts (session_start told) ls (behind (output ++ effect.output) (changes ++ effect.changes) more)) (sym (append_assoc before (line ∷ []) lines))
     (subst (λ (e : Effects). LinesAct opts (session_start told) (before ++ line ∷ lines) e) (behind_line output changes effect more) whole)
 
-line_further : (opts : SessionOpts) (told : Told) (script : List ℕ) (n offset size : ℕ) (now new : Option Told) (rest rest' t0 t1 t2 image image' : Option (List ℕ)) (so : SoFar opts told script (suc n) offset now rest t0 t1 image)
+line_further : (opts : RunOpts) (told : Told) (script : List ℕ) (n offset size : ℕ) (now new : Option Told) (rest rest' t0 t1 t2 image image' : Option (List ℕ)) (so : SoFar opts told script (suc n) offset now rest t0 t1 image)
     → TakesTurn opts (record { told = so.at; image = image }) offset so.left (Obeyed size) new rest' t1 t2 image' → SoFar opts told script n (offset + size) new rest' t0 t2 image'
 line_further opts told script n offset size now new rest rest' t0 t1 t2 image image' so turn =
     let line = turn.0 in
@@ -364,13 +364,13 @@ line_further opts told script n offset size now new rest rest' t0 t1 t2 image im
     }
 
 -- the turn that was taken, at what the store and the input told before it
-turn_at : (opts : SessionOpts) (at : Told) (left : List ℕ) (offset : ℕ) (turn : Turn) (now new : Option Told) (rest rest' t1 t2 image image' : Option (List ℕ)) → now ≡ Some at → rest ≡ Some left
+turn_at : (opts : RunOpts) (at : Told) (left : List ℕ) (offset : ℕ) (turn : Turn) (now new : Option Told) (rest rest' t1 t2 image image' : Option (List ℕ)) → now ≡ Some at → rest ≡ Some left
     → IfSome now (λ told. IfSome rest (λ script. TakesTurn opts (record { told = told; image = image }) offset script turn new rest' t1 t2 image')) → TakesTurn opts (record { told = at; image = image }) offset left turn new rest' t1 t2 image'
 turn_at opts at left offset turn now new rest rest' t1 t2 image image' e f h =
     subst (λ (r : Option (List ℕ)). IfSome r (λ script. TakesTurn opts (record { told = at; image = image }) offset script turn new rest' t1 t2 image')) f
     (subst (λ (o : Option Told). IfSome o (λ told. IfSome rest (λ script. TakesTurn opts (record { told = told; image = image }) offset script turn new rest' t1 t2 image'))) e h)
 
-pub session_further : (opts : SessionOpts) (n m offset size : ℕ) (store now new : Option Told) (first rest rest' t0 t1 t2 image image' : Option (List ℕ)) → n ≡ suc m → SessionAt opts n offset store now first rest t0 t1 image
+pub session_further : (opts : RunOpts) (n m offset size : ℕ) (store now new : Option Told) (first rest rest' t0 t1 t2 image image' : Option (List ℕ)) → n ≡ suc m → SessionAt opts n offset store now first rest t0 t1 image
     → IfSome now (λ told. IfSome rest (λ script. TakesTurn opts (record { told = told; image = image }) offset script (Obeyed size) new rest' t1 t2 image')) → SessionAt opts m (offset + size) store new first rest' t0 t2 image'
 session_further opts n m offset size None now new first rest rest' t0 t1 t2 image image' e so h = tt
 session_further opts n m offset size (Some told) now new None rest rest' t0 t1 t2 image image' e so h = tt
@@ -386,12 +386,12 @@ behind_first output changes first later =
     ap (λ (xs : List ℕ). made_of xs (changes ++ (first.changes ++ later.changes))) (sym (append_assoc output first.output later.output))
     ∙ ap (made_of ((output ++ first.output) ++ later.output)) (sym (append_assoc changes first.changes later.changes))
 
-lines_split : (opts : SessionOpts) (s : SessionState) (lines before last : List LineValue) (e same : Effects) → e ≡ same → LinesAct opts s (lines ++ (before ++ last)) e → LinesAct opts s ((lines ++ before) ++ last) same
+lines_split : (opts : RunOpts) (s : SessionState) (lines before last : List LineValue) (e same : Effects) → e ≡ same → LinesAct opts s (lines ++ (before ++ last)) e → LinesAct opts s ((lines ++ before) ++ last) same
 lines_split opts s lines before last e same h acts =
     subst (λ (ls : List LineValue). LinesAct opts s ls same) (sym (append_assoc lines before last)) (subst (λ (x : Effects). LinesAct opts s (lines ++ (before ++ last)) x) h acts)
 
 -- what a prefix of the lines that are left comes to, behind what the lines before came to
-front_behind : (opts : SessionOpts) (told : Told) (script : List ℕ) (n offset : ℕ) (now new : Option Told) (rest t0 t1 t2 image : Option (List ℕ)) (answer : Answer) (so : SoFar opts told script n offset now rest t0 t1 image)
+front_behind : (opts : RunOpts) (told : Told) (script : List ℕ) (n offset : ℕ) (now new : Option Told) (rest t0 t1 t2 image : Option (List ℕ)) (answer : Answer) (so : SoFar opts told script n offset now rest t0 t1 image)
     → PrefixActs opts (record { told = so.at; image = image }) (script_lines_from n offset so.left).lines answer new t1 t2 → PrefixActs opts (session_start told) (script_lines script).lines answer new t0 t2
 front_behind opts told script n offset now new rest t0 t1 t2 image answer so f = record {
   before = so.before ++ f.before;
@@ -411,12 +411,12 @@ front_behind opts told script n offset now new rest t0 t1 t2 image answer so f =
       ∙ ap (λ (changes : List Change). Some (after_changes told changes)) (sym (append_assoc so.changes f.first.changes f.later.changes));
 }
 
-all_behind : (opts : SessionOpts) (told : Told) (script : List ℕ) (n offset : ℕ) (now : Option Told) (rest t0 t1 image : Option (List ℕ)) (so : SoFar opts told script n offset now rest t0 t1 image)
+all_behind : (opts : RunOpts) (told : Told) (script : List ℕ) (n offset : ℕ) (now : Option Told) (rest t0 t1 image : Option (List ℕ)) (so : SoFar opts told script n offset now rest t0 t1 image)
     → (e : Effects) × LinesAct opts (record { told = so.at; image = image }) (script_lines_from n offset so.left).lines e → (e : Effects) × LinesAct opts (session_start told) (script_lines script).lines e
 all_behind opts told script n offset now rest t0 t1 image so h =
     (behind so.output so.changes h.0, subst (λ (lines : List LineValue). LinesAct opts (session_start told) lines (behind so.output so.changes h.0)) (sym so.lines) (so.onto (script_lines_from n offset so.left).lines h.0 h.1))
 
-found_behind : (opts : SessionOpts) (told : Told) (script : List ℕ) (n offset : ℕ) (now new : Option Told) (rest t0 t1 t2 image : Option (List ℕ)) (answer : Answer) (so : SoFar opts told script n offset now rest t0 t1 image)
+found_behind : (opts : RunOpts) (told : Told) (script : List ℕ) (n offset : ℕ) (now new : Option Told) (rest t0 t1 t2 image : Option (List ℕ)) (answer : Answer) (so : SoFar opts told script n offset now rest t0 t1 image)
     → IsSessionFound opts (record { told = so.at; image = image }) (script_lines_from n offset so.left).lines answer new t1 t2 → IsSessionFound opts (session_start told) (script_lines script).lines answer new t0 t2
 found_behind opts told script n offset now new rest t0 t1 t2 image ReadFault so h = front_behind opts told script n offset now new rest t0 t1 t2 image Done so h
 found_behind opts told script n offset now new rest t0 t1 t2 image WriteFault so h = front_behind opts told script n offset now new rest t0 t1 t2 image WriteFault so h
@@ -424,7 +424,7 @@ found_behind opts told script n offset now new rest t0 t1 t2 image StoreFault so
 found_behind opts told script n offset now new rest t0 t1 t2 image NoMemory so h = tt
 found_behind opts told script n offset now new rest t0 t1 t2 image _ so h = all_behind opts told script n offset now rest t0 t1 image so h
 
-lines_end : (opts : SessionOpts) (told : Told) (script : List ℕ) (n offset : ℕ) (now new : Option Told) (rest t0 t1 t2 image : Option (List ℕ)) (answer : Answer) (so : SoFar opts told script n offset now rest t0 t1 image)
+lines_end : (opts : RunOpts) (told : Told) (script : List ℕ) (n offset : ℕ) (now new : Option Told) (rest t0 t1 t2 image : Option (List ℕ)) (answer : Answer) (so : SoFar opts told script n offset now rest t0 t1 image)
     → ObeysLines opts (record { told = so.at; image = image }) (script_lines_from n offset so.left) answer new t1 t2 → ObeysSession opts told script answer new t0 t2
 lines_end opts told script n offset now new rest t0 t1 t2 image answer so h = record {
   answers = subst (λ (b : Option ℕ). Answers (script_answer b) answer) (sym so.bad) h.answers;
@@ -439,7 +439,7 @@ lines_end opts told script n offset now new rest t0 t1 t2 image answer so h = re
   found = found_behind opts told script n offset now new rest t0 t1 t2 image answer so h.found;
 }
 
-pub session_over : (opts : SessionOpts) (n m offset : ℕ) (answer : Answer) (store now new : Option Told) (first rest rest' t0 t1 t2 image image' : Option (List ℕ)) → n ≡ suc m → SessionAt opts n offset store now first rest t0 t1 image
+pub session_over : (opts : RunOpts) (n m offset : ℕ) (answer : Answer) (store now new : Option Told) (first rest rest' t0 t1 t2 image image' : Option (List ℕ)) → n ≡ suc m → SessionAt opts n offset store now first rest t0 t1 image
     → IfSome now (λ told. IfSome rest (λ script. TakesTurn opts (record { told = told; image = image }) offset script (Over answer) new rest' t1 t2 image'))
     → IfSome store (λ told. IfSome first (λ script. ObeysSession opts told script answer new t0 t2))
 session_over opts n m offset answer None now new first rest rest' t0 t1 t2 image image' e so h = tt
@@ -448,7 +448,7 @@ session_over opts n m offset answer (Some told) now new (Some script) rest rest'
     let here = subst (λ (k : ℕ). SoFar opts told script k offset now rest t0 t1 image) e so in
     lines_end opts told script (suc m) offset now new rest t0 t1 t2 image answer here (turn_at opts here.at here.left offset (Over answer) now new rest rest' t1 t2 image image' here.tells here.stands h m)
 
-last_end : (opts : SessionOpts) (told : Told) (script : List ℕ) (offset : ℕ) (answer : Answer) (now : Option Told) (rest t0 t1 image : Option (List ℕ)) (so : SoFar opts told script zero offset now rest t0 t1 image) → IsLastAnswer offset so.left answer → ObeysSession opts told script answer now t0 t1
+last_end : (opts : RunOpts) (told : Told) (script : List ℕ) (offset : ℕ) (answer : Answer) (now : Option Told) (rest t0 t1 image : Option (List ℕ)) (so : SoFar opts told script zero offset now rest t0 t1 image) → IsLastAnswer offset so.left answer → ObeysSession opts told script answer now t0 t1
 last_end opts told script offset answer now rest t0 t1 image so h =
     lines_end opts told script zero offset now now rest t0 t1 t1 image answer so
     (lines_are opts (record { told = so.at; image = image }) (script_lines_from zero offset so.left) (no_line offset so.left) answer now t1 t1 (lines_over offset so.left)
@@ -457,7 +457,7 @@ last_end opts told script offset answer now rest t0 t1 image so h =
 last_at : (offset : ℕ) (answer : Answer) (rest : Option (List ℕ)) (left : List ℕ) → rest ≡ Some left → IfSome rest (λ script. IsLastAnswer offset script answer) → IsLastAnswer offset left answer
 last_at offset answer rest left e h = subst (λ (r : Option (List ℕ)). IfSome r (λ script. IsLastAnswer offset script answer)) e h
 
-pub session_last : (opts : SessionOpts) (n offset : ℕ) (answer : Answer) (store now : Option Told) (first rest t0 t1 image : Option (List ℕ)) → n ≡ zero → SessionAt opts n offset store now first rest t0 t1 image → IfSome rest (λ script. IsLastAnswer offset script answer)
+pub session_last : (opts : RunOpts) (n offset : ℕ) (answer : Answer) (store now : Option Told) (first rest t0 t1 image : Option (List ℕ)) → n ≡ zero → SessionAt opts n offset store now first rest t0 t1 image → IfSome rest (λ script. IsLastAnswer offset script answer)
     → IfSome store (λ told. IfSome first (λ script. ObeysSession opts told script answer now t0 t1))
 session_last opts n offset answer None now first rest t0 t1 image e so h = tt
 session_last opts n offset answer (Some told) now None rest t0 t1 image e so h = tt

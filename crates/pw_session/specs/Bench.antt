@@ -22,7 +22,7 @@ use Rattle.pw_build_files.specs.FromBuild.Phases.{refused_line}
 use Rattle.pw_build_files.specs.Building.{Outcome}
 use Rattle.pw_build_files.specs.Outcomes.{fault_answer}
 use Rattle.pw_commands.specs.MachineRun.{run_answer}
-use Rattle.pw_session.specs.declared.opts.SessionOpts.{SessionOpts}
+use Rattle.pw_build_opts.specs.declared.opts.RunOpts.{RunOpts}
 use Rattle.pw_session.specs.Builds.{BuildsTo}
 use Rattle.pw_session.specs.Runs.{is_stop, runs_as, stop_text}
 
@@ -65,7 +65,7 @@ BenchOver number budget input (Ok outcome) effect = (text : List ℕ) × IsBench
 BenchOver number budget input (Err fault) effect = effect ≡ answers_alone (fault_answer fault) input
 
 -- what `bench` with a number comes to
-abbrev pub BenchEffect : ℕ → SessionOpts → List ℕ → Effect → Type 0
+abbrev pub BenchEffect : ℕ → RunOpts → List ℕ → Effect → Type 0
 BenchEffect number opts input effect =
     (comes : Result Outcome BuildFault) × BuildsTo (bench_files number) opts.build comes × BenchOver number opts.budget input comes effect
 

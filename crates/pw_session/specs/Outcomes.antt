@@ -15,7 +15,7 @@ use Rattle.pw_session_script.specs.declared.line.ScriptFault.TheVariants as scri
 use Rattle.pw_session_script.specs.declared.line.ScriptFault.TheVariants.{BadLine}
 use Rattle.pw_session_script.specs.Reading.{IsReadInPart}
 use Rattle.pw_session_script.specs.Script.{LineValue, first_line, taken_limit}
-use Rattle.pw_session.specs.declared.opts.SessionOpts.{SessionOpts}
+use Rattle.pw_build_opts.specs.declared.opts.RunOpts.{RunOpts}
 use Rattle.pw_session.specs.declared.session.Turn.{Turn}
 use Rattle.pw_session.specs.declared.session.Turn.TheVariants.{Over, Obeyed}
 use Rattle.pw_session.specs.Changes.{Change, MakesChanges, after_changes}
@@ -35,7 +35,7 @@ both_effects first later = record { output = first.output ++ later.output; chang
 
 -- A prefix of lines comes to what was put out and changed: to all the changes, and to the output. That of the lines before the
 -- last was put out whole, and behind it that of the last, of which after a fault of the output a prefix was put out.
-pub record PrefixActs (opts : SessionOpts) (s : SessionState) (lines : List LineValue) (answer : Answer) (new : Option Told) (taken taken' : Option (List ℕ)) : Type 0 where
+pub record PrefixActs (opts : RunOpts) (s : SessionState) (lines : List LineValue) (answer : Answer) (new : Option Told) (taken taken' : Option (List ℕ)) : Type 0 where
   pub before : List LineValue
   pub last : List LineValue
   pub more : List LineValue
@@ -53,7 +53,7 @@ pub record PrefixActs (opts : SessionOpts) (s : SessionState) (lines : List Line
 -- The lines come to something, where no fault and no want of memory was answered. Where the input had a fault, a prefix of
 -- them comes to exactly what was put out and changed; where the output had one, to what was changed, and to an output of
 -- which the end of the last line's is missing.
-abbrev pub IsSessionFound : SessionOpts → SessionState → List LineValue → Answer → Option Told → Option (List ℕ) → Option (List ℕ) → Type 0
+abbrev pub IsSessionFound : RunOpts → SessionState → List LineValue → Answer → Option Told → Option (List ℕ) → Option (List ℕ) → Type 0
 IsSessionFound opts s lines ReadFault new taken taken' = PrefixActs opts s lines Done new taken taken'
 IsSessionFound opts s lines WriteFault new taken taken' = PrefixActs opts s lines WriteFault new taken taken'
 IsSessionFound opts s lines StoreFault new taken taken' = Unit {0}
@@ -61,13 +61,13 @@ IsSessionFound opts s lines NoMemory new taken taken' = Unit {0}
 IsSessionFound opts s lines _ new taken taken' = (e : Effects) × LinesAct opts s lines e
 
 -- Lines of a script come to what was answered, put out and changed; a fault and want of memory may come in its place.
-pub record ObeysLines (opts : SessionOpts) (s : SessionState) (script : ScriptLines) (answer : Answer) (new : Option Told) (taken taken' : Option (List ℕ)) : Type 0 where
+pub record ObeysLines (opts : RunOpts) (s : SessionState) (script : ScriptLines) (answer : Answer) (new : Option Told) (taken taken' : Option (List ℕ)) : Type 0 where
   pub answers : Answers (script_answer script.bad) answer
   pub does : (e : Effects) → LinesAct opts s script.lines e → DoesEffect e.output e.changes answer s.told new taken taken'
   pub found : IsSessionFound opts s script.lines answer new taken taken'
 
 -- so does a session over its whole script
-abbrev pub ObeysSession : SessionOpts → Told → List ℕ → Answer → Option Told → Option (List ℕ) → Option (List ℕ) → Type 0
+abbrev pub ObeysSession : RunOpts → Told → List ℕ → Answer → Option Told → Option (List ℕ) → Option (List ℕ) → Type 0
 ObeysSession opts told script answer new taken taken' = ObeysLines opts (session_start told) (script_lines script) answer new taken taken'
 
 -- the answers of a session
@@ -114,7 +114,7 @@ IsLineObeyed WriteFault = Unit {0}
 IsLineObeyed _ = ⊥
 
 -- what a line does was put out and changed, and its image is kept
-pub record ObeysLine (opts : SessionOpts) (s : SessionState) (line : LineValue) (answer : Answer) (new : Option Told) (taken taken' : Option (List ℕ)) (image : Option (List ℕ)) : Type 0 where
+pub record ObeysLine (opts : RunOpts) (s : SessionState) (line : LineValue) (answer : Answer) (new : Option Told) (taken taken' : Option (List ℕ)) (image : Option (List ℕ)) : Type 0 where
   pub does : (effect : LineEffect) → Acts opts s line effect → DoesEffect effect.output effect.changes answer s.told new taken taken'
   pub keeps : (effect : LineEffect) → Acts opts s line effect → answer ≡ Done → image ≡ effect.image
   pub found : IsLineObeyed answer → (effect : LineEffect) × Acts opts s line effect × (new ≡ Some (after_changes s.told effect.changes))
@@ -125,7 +125,7 @@ pub record ObeysRun (built : Option (List ℕ)) (budget : ℕ) (input : List ℕ
   pub found : IsLineObeyed answer → (output : List ℕ) × RunPrints built budget input output
 
 -- The first line of what is left of a script was read and obeyed; or the session is over, as the lines that are left come to.
-abbrev pub TakesTurn : SessionOpts → SessionState → ℕ → List ℕ → Turn → Option Told → Option (List ℕ) → Option (List ℕ) → Option (List ℕ) → Option (List ℕ) → Type 0
+abbrev pub TakesTurn : RunOpts → SessionState → ℕ → List ℕ → Turn → Option Told → Option (List ℕ) → Option (List ℕ) → Option (List ℕ) → Option (List ℕ) → Type 0
 TakesTurn opts s offset script (Over answer) new rest taken taken' image =
     (n : ℕ) → ObeysLines opts s (script_lines_from (suc n) offset script) answer new taken taken'
 TakesTurn opts s offset script (Obeyed size) new rest taken taken' image =

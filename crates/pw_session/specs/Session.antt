@@ -12,7 +12,7 @@ use Rattle.pw_build_files.specs.Building.{Outcome}
 use Rattle.pw_build_files.specs.Outcomes.{fault_answer}
 use Rattle.pw_build_files.specs.Driving.{outcome_lines}
 use Rattle.pw_session_script.specs.Script.{LineValue, PutText, RemoveText, BuildProgram, RunProgram, first_line}
-use Rattle.pw_session.specs.declared.opts.SessionOpts.{SessionOpts}
+use Rattle.pw_build_opts.specs.declared.opts.RunOpts.{RunOpts}
 use Rattle.pw_session.specs.Builds.{BuildsTo}
 use Rattle.pw_session.specs.Changes.{Change, Puts, Removes, after_changes}
 use Rattle.pw_session.specs.Runs.{RunPrints}
@@ -83,7 +83,7 @@ abbrev pub puts_out : SessionState → List ℕ → LineEffect
 puts_out s output = record { output = output; changes = []; image = s.image }
 
 -- what a line does
-abbrev pub Acts : SessionOpts → SessionState → LineValue → LineEffect → Type 0
+abbrev pub Acts : RunOpts → SessionState → LineValue → LineEffect → Type 0
 Acts opts s (PutText file text) effect = effect ≡ changes_as s (Puts (file, text))
 Acts opts s (RemoveText file) effect = effect ≡ changes_as s (Removes file)
 Acts opts s BuildProgram effect = (comes : Result Outcome BuildFault) × BuildsTo s.told.files opts.build comes × (effect ≡ builds_as s comes)
@@ -103,7 +103,7 @@ abbrev pub behind_effect : LineEffect → Effects → Effects
 behind_effect effect more = record { output = effect.output ++ more.output; changes = effect.changes ++ more.changes }
 
 -- what lines do, one behind another
-abbrev pub LinesAct : SessionOpts → SessionState → List LineValue → Effects → Type 0
+abbrev pub LinesAct : RunOpts → SessionState → List LineValue → Effects → Type 0
 LinesAct opts s [] e = e ≡ record { output = []; changes = [] }
 LinesAct opts s (line ∷ lines) e = (effect : LineEffect) × (more : Effects) × Acts opts s line effect × LinesAct opts (next_state s effect) lines more × (e ≡ behind_effect effect more)
 
@@ -112,5 +112,5 @@ abbrev pub session_start : Told → SessionState
 session_start told = record { told = told; image = None }
 
 -- what the lines of a script do over a store that tells this
-abbrev pub SessionActs : SessionOpts → Told → List ℕ → Effects → Type 0
+abbrev pub SessionActs : RunOpts → Told → List ℕ → Effects → Type 0
 SessionActs opts told script e = LinesAct opts (session_start told) (script_lines script).lines e

@@ -7,9 +7,9 @@ ghost use Rattle.pw_build_files.specs.Outcomes.{AreOpts, HoldsImage};
 ghost use Rattle.pw_session.specs.Bench.{BenchEffect, IsBenchAnswer, IsBenchLine, ObeysBench, ObeysReport, StopsWithoutInput, bench_prefix, bench_functions, bench_line, bench_modules, made_files};
 ghost use Rattle.pw_session.specs.Runs.{runs_as};
 
-use crate::opts::SessionOpts;
 use crate::runs::{is_stop, stop_text};
 use pw_build_files::{Report, answer_of, build_uncounted};
+use pw_build_opts::RunOpts;
 use pw_commands::run_machine;
 use pw_gen::generate;
 use pw_io::{DropSink, Sink, SureSource, SureStore};
@@ -137,7 +137,7 @@ fn run_report<O: Sink>(
 /// number, how many modules and functions there are, the bytes of the image and their digest, and how the run stopped.
 ///
 /// The answer is `Done`; or the refusal of the build, with the line of a refused module.
-pub fn bench<O: Sink>(alloc: Global, number: u32, opts: &SessionOpts, out: &mut O) -> Reply
+pub fn bench<O: Sink>(alloc: Global, number: u32, opts: &RunOpts, out: &mut O) -> Reply
     requires { AreOpts opts.now.build }
     ensures obeys { (input : List ℕ) → ObeysBench (BenchEffect number opts.now input) result.answer (O.taken out.old) (O.taken out.new) }
     ensures line { IsBenchLine number result.answer result.line }

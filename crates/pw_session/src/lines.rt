@@ -12,11 +12,11 @@ ghost use Rattle.pw_session.specs.Changes.{MakesSome, Puts, Removes, after_chang
 ghost use Rattle.pw_session.specs.Removals.{IsRemovedBy};
 ghost use Rattle.pw_session.specs.Outcomes.{DoesEffect, IsLineAnswer, IsLineObeyed, KeepsImage, ObeysLine, SaysFault, image_view};
 
-use crate::opts::SessionOpts;
 use crate::runs::run_image;
 use pw_build_files::{
     BuildFault, Unbuilt, answer_of, build_uncounted, module_texts_are_no_objects, put_report,
 };
+use pw_build_opts::RunOpts;
 use pw_io::laws::other_files;
 use pw_io::{Sink, Store};
 use pw_session_script::Line;
@@ -95,7 +95,7 @@ fn build_program<S: Store, O: Sink>(
     alloc: Global,
     store: &mut S,
     out: &mut O,
-    opts: &SessionOpts,
+    opts: &RunOpts,
     image: &mut Option<Vec<u8>>,
 ) -> Answer
     requires opts { AreOpts opts.now.build }
@@ -123,7 +123,7 @@ pub fn obey_line<S: Store, O: Sink>(
     alloc: Global,
     store: &mut S,
     out: &mut O,
-    opts: &SessionOpts,
+    opts: &RunOpts,
     image: &mut Option<Vec<u8>>,
     line: &Line,
 ) -> Answer

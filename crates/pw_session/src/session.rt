@@ -12,7 +12,7 @@ ghost use Rattle.pw_session.specs.Removals.{IsRemovedBy, MayRemove, MayRemoveFir
 ghost use Rattle.pw_session.specs.Outcomes.{EndsAs, EndsTurn, IsLastAnswer, IsReadAnswer, IsSessionAnswer, IsLineTaken, IsSessionTurn, KeepsImage, LeavesScript, LeavesTurn, ObeysLine, ObeysSession, TakesTurn, image_view, last_answer, turn_answer, unread};
 
 use crate::lines::obey_line;
-use crate::opts::SessionOpts;
+use pw_build_opts::RunOpts;
 use pw_io::{Failed, Sink, Source, Store};
 use pw_session_script::{ScriptFault, TakenLine, next_line};
 use pw_top_answer::Answer;
@@ -50,7 +50,7 @@ fn obey_taken<S: Store, O: Sink>(
     alloc: Global,
     store: &mut S,
     out: &mut O,
-    opts: &SessionOpts,
+    opts: &RunOpts,
     image: &mut Option<Vec<u8>>,
     taken: &TakenLine,
 ) -> Turn
@@ -77,7 +77,7 @@ fn take_turn<S: Store, I: Source, O: Sink>(
     store: &mut S,
     input: &mut I,
     out: &mut O,
-    opts: &SessionOpts,
+    opts: &RunOpts,
     image: &mut Option<Vec<u8>>,
     offset: u64,
 ) -> Turn
@@ -137,7 +137,7 @@ pub fn run_session<S: Store, I: Source, O: Sink>(
     store: &mut S,
     input: &mut I,
     out: &mut O,
-    opts: &SessionOpts,
+    opts: &RunOpts,
 ) -> Answer
     requires { AreOpts opts.now.build }
     ensures obeys { IfSome (S.told store.old) (λ told. IfSome (I.rest input.old) (λ script. ObeysSession opts.now told script result (S.told store.new) (O.taken out.old) (O.taken out.new))) }

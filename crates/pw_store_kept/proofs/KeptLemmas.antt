@@ -1,8 +1,10 @@
 -- The loop over what is kept of the modules, at a store that tells the same in each turn.
-use Rattle.std.proofs.Common.{◌≡◌, ℕ, ◌+◌, ◌<◌, ◌≤◌, arith, List, [], ◌∷◌, ◌++◌, length, get_or, drop, map, Option, Some, None, Result, Ok, Err, refl, sym, ap, ◌∙◌, subst, append_assoc, append-nil}
-use Rattle.std.proofs.lemmas.List.{drop_all, length-map}
+use Rattle.std.proofs.Common.{◌≡◌, ℕ, ◌+◌, ◌<◌, ◌≤◌, Bool, true, false, arith, List, [], ◌∷◌, ◌++◌, length, get_or, drop, take, map, Option, Some, None, Result, Ok, Err, refl, sym, ap, ◌∙◌, subst, append_assoc, append-nil}
+use Rattle.std.proofs.lemmas.List.{drop_all, length-map, length-take, take_all}
+use Rattle.std.proofs.lemmas.Slice.Eq.{bytes_eq-Decides}
 use Rattle.std.specs.Prelude.{IfOk, IfSome, Vec}
 use Rattle.std.specs.Option.{option_map}
+use Rattle.std.specs.Str.{bytes_eq}
 use Rattle.std.specs.declared.alloc.Global.{Global}
 use Rattle.std.specs.FinMap as finite
 use Rattle.pw_io.specs.Files.{Told, Keeps, ReadsPrefix, prefix_of}
@@ -14,7 +16,7 @@ use Rattle.pw_store_modules.specs.FileNames.{object_name}
 use Rattle.pw_store_modules.specs.declared.modules.Module.{Module}
 use Rattle.pw_store_modules.proofs.ModuleLemmas.{mapped_rest}
 use Rattle.pw_value.specs.Limits.{kept_limit}
-use Rattle.pw_store_kept.specs.Kept.{counted, if_object, kept_bytes, kept_object, object_in}
+use Rattle.pw_store_kept.specs.Kept.{counted, if_object, is_same, kept_bytes, kept_object, object_in}
 
 pub keeps_on : (first now later : Option Told) → Keeps first now → Keeps now later → Keeps first later
 keeps_on None now later h k = tt
@@ -74,3 +76,34 @@ none_kept (Some told) name file h named = ap object_in h ∙ ap (λ (n : List �
 pub pushed_kept : (old : Option Told) (name : List ℕ) (found : Option Object) (kept kept' : List (Option Object)) → IfSome old (λ told. found ≡ kept_object told.files name) → kept' ≡ kept ++ found ∷ [] → IfSome old (λ told. kept' ≡ kept ++ kept_object told.files name ∷ [])
 pushed_kept None name found kept kept' h e = tt
 pushed_kept (Some told) name found kept kept' h e = e ∙ ap (λ (o : Option Object). kept ++ o ∷ []) h
+
+-- ---- a file beside bytes
+
+same_answer : (p q : Bool) → (p ≡ true → q ≡ true) → (q ≡ true → p ≡ true) → p ≡ q
+same_answer true q f g = sym (f refl)
+same_answer false true f g = g refl
+same_answer false false f g = refl
+
+-- the front of a list that has one element more than another is that other one only where the whole list is
+front_same : (old bytes : List ℕ) → bytes_eq (take (length bytes + 1) old) bytes ≡ true → bytes_eq old bytes ≡ true
+front_same old bytes e =
+    let is : take (length bytes + 1) old ≡ bytes = (bytes_eq-Decides (take (length bytes + 1) old) bytes).0 e in
+    let size : length old ≤ length bytes + 1 = omega (arith, length-take (length bytes + 1) old, ap length is) in
+    (bytes_eq-Decides old bytes).1 (sym (take_all (length bytes + 1) old size) ∙ is)
+
+whole_same : (old bytes : List ℕ) → bytes_eq old bytes ≡ true → bytes_eq (take (length bytes + 1) old) bytes ≡ true
+whole_same old bytes e =
+    let is : old ≡ bytes = (bytes_eq-Decides old bytes).0 e in
+    let size : length old ≤ length bytes + 1 = omega (arith, ap length is) in
+    (bytes_eq-Decides (take (length bytes + 1) old) bytes).1 (take_all (length bytes + 1) old size ∙ is)
+
+read_same : (file : Option (List ℕ)) (bytes : List ℕ) → is_same (option_map (prefix_of (length bytes + 1)) file) bytes ≡ is_same file bytes
+unfolding prefix_of
+read_same None bytes = refl
+read_same (Some old) bytes = same_answer (bytes_eq (take (length bytes + 1) old) bytes) (bytes_eq old bytes) (front_same old bytes) (whole_same old bytes)
+
+pub read_beside : (old : Option Told) (result : Result (Option (Vec ℕ Global)) StoreError) (name bytes : List ℕ) → IfOk result (λ file. ReadsPrefix old name (length bytes + 1) file)
+    → IfSome old (λ told. IfOk result (λ found. is_same (option_map (λ bytes. bytes.items) found) bytes ≡ is_same (finite.get told.files name) bytes))
+read_beside None result name bytes h = tt
+read_beside (Some told) (Ok file) name bytes h = ap (λ (found : Option (List ℕ)). is_same found bytes) h ∙ read_same (finite.get told.files name) bytes
+read_beside (Some told) (Err error) name bytes h = tt

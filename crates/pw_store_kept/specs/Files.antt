@@ -1,6 +1,7 @@
 -- The files of a program that was built, and which of them are put.
 use Rattle.std.specs.Prelude.{◌≡◌, ℕ, Bool, true, false, not, if◌then◌else◌, List, [], ◌∷◌, ◌++◌, map, Result, Ok, Err, String, Vec, string_bytes}
 use Rattle.std.specs.List.{AllByRecursion}
+use Rattle.std.specs.FinMap as finite
 use Rattle.std.specs.declared.alloc.Global.{Global}
 use Rattle.pw_io.specs.Files.{Files}
 use Rattle.pw_io.specs.declared.StoreError.{StoreError}
@@ -14,7 +15,7 @@ use Rattle.pw_top_answer.specs.Effects.{NamedFile}
 use Rattle.pw_top_answer.specs.Outcomes.{store_answer}
 use Rattle.pw_store_kept.specs.declared.files.ProgramFiles.{ProgramFiles}
 use Rattle.pw_store_kept.specs.declared.prepared.Prepared.{Prepared}
-use Rattle.pw_store_kept.specs.Kept.{is_same, kept_bytes}
+use Rattle.pw_store_kept.specs.Kept.{is_same}
 
 -- ---- the objects
 
@@ -47,9 +48,9 @@ pub record IsCompared (files : Files) (count : ℕ) (made : ProgramFiles) (p : P
   pub rebuilt : p.rebuilt.items ≡ made.fresh.names.items
   pub objects : p.objects.items ≡ made.fresh.files.items
   pub database : p.database.items ≡ made.database.items
-  pub database_changed : p.database_changed ≡ not (is_same (kept_bytes files database_name) made.database.items)
+  pub database_changed : p.database_changed ≡ not (is_same (finite.get files database_name) made.database.items)
   pub image : p.image.items ≡ made.image.items
-  pub image_changed : p.image_changed ≡ not (is_same (kept_bytes files image_name) made.image.items)
+  pub image_changed : p.image_changed ≡ not (is_same (finite.get files image_name) made.image.items)
 
 abbrev pub one_if : Bool → List ℕ → List ℕ → List NamedFile
 one_if true name bytes = (name, bytes) ∷ []

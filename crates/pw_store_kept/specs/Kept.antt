@@ -31,7 +31,7 @@ object_in (Some bytes) = if_object (value_of (object_file_at bytes))
 abbrev pub kept_object : Files → List ℕ → Option Object
 kept_object files name = object_in (kept_bytes files (object_name name))
 
--- the bytes are those that are kept
+-- the file is there, and has these bytes
 abbrev pub is_same : Option (List ℕ) → List ℕ → Bool
 is_same None bytes = false
 is_same (Some old) bytes = bytes_eq old bytes

@@ -3,6 +3,7 @@
 ghost use Rattle.std.specs.Prelude.{◌≡◌, ◌≢◌, ◌↔◌, ◌++◌, ◌∷◌, [], None, Some, Ok, Err, IfErr, IfOk, IfSome, IsErr, OnOk, map, not, string_bytes, true};
 ghost use Rattle.std.specs.Option.{option_map};
 ghost use Rattle.std.specs.List.{AllByRecursion};
+ghost use Rattle.std.specs.FinMap as finite;
 ghost use Rattle.pw_io.specs.Files.{Keeps};
 ghost use Rattle.pw_io.specs.Faults.{HasStoreCause};
 ghost use Rattle.pw_object.specs.Object.{IsObject};
@@ -127,18 +128,32 @@ pub fn read_kept<S: Store>(
     Ok(kept)
 }
 
-/// Whether bytes differ from those that are kept in a file.
+/// As much of a file as tells whether it is these bytes: one byte more than they are, so that a longer file is seen to be.
+fn beside<S: Store>(
+    alloc: Global,
+    store: &mut S,
+    name: &str,
+    bytes: &[u8],
+) -> Result<Option<Vec<u8>>, StoreError>
+    ensures tells { IfSome (S.told store.old) (λ told. IfOk result (λ found. is_same (option_map (λ bytes. bytes.items) found) bytes.now ≡ is_same (finite.get told.files name.now) bytes.now)) }
+    ensures same { Keeps (S.told store.old) (S.told store.new) }
+    ensures cause { HasStoreCause (S.faults store.old) (S.faults store.new) result }
+{
+    store.get(alloc, name, bytes.len() + 1)
+}
+
+/// Whether a file is absent, or has other bytes than these.
 pub fn is_changed<S: Store>(
     alloc: Global,
     store: &mut S,
     name: &str,
     bytes: &[u8],
 ) -> Result<bool, StoreError>
-    ensures changed { IfSome (S.told store.old) (λ told. IfOk result (λ changed. changed ≡ not (is_same (kept_bytes told.files name.now) bytes.now))) }
+    ensures changed { IfSome (S.told store.old) (λ told. IfOk result (λ changed. changed ≡ not (is_same (finite.get told.files name.now) bytes.now))) }
     ensures same { Keeps (S.told store.old) (S.told store.new) }
     ensures cause { HasStoreCause (S.faults store.old) (S.faults store.new) result }
 {
-    match kept_bytes(alloc, store, name)? {
+    match beside(alloc, store, name, bytes)? {
         Some(old) => Ok(old.as_slice() != bytes),
         None => Ok(true),
     }

@@ -84,9 +84,9 @@ fn texts_have_their_refusals(rt: HostRuntime) {
 
 /// Texts with refusals and the lines of these, which need not be the texts' own.
 static LINES: [(&[u8], Refusal, usize); 4] = [
-    (b"a\nb\nc\n", Refusal::Unsupported(3, Feature::NotYet), 3),
-    (b"\n@\n", Refusal::Unsupported(1, Feature::NotYet), 3),
-    (b"\nx\n@\n", Refusal::Unsupported(1, Feature::NotYet), 2),
+    (b"a\nb\nc\n", Refusal::Unsupported(3, Feature::Float), 3),
+    (b"\n@\n", Refusal::Unsupported(1, Feature::Float), 3),
+    (b"\nx\n@\n", Refusal::Unsupported(1, Feature::Float), 2),
     (b"\n\n", Refusal::Lex(LexFault::TooLong), 1),
 ];
 

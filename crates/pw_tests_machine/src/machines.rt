@@ -1,15 +1,42 @@
 // Machines that are made, run and told as texts.
 
+use pw_fields::frame::seal;
+use pw_image::KIND;
 use pw_io::{Sink, Source, SureSink, SureSource};
 use pw_machine::{Machine, Stop};
 use pw_rows::Text;
 use std::alloc::Global;
 use std::process::Abort;
 
+/// Appends numbers of four bytes each.
+fn push_numbers(rt: &impl Abort, out: &mut Vec<u8>, numbers: &[u32]) {
+    for number in numbers {
+        out.extend_from_slice(&number.to_be_bytes())
+            .expect(rt, "memory for a file");
+    }
+}
+
+/// The file of an image that has these words, entered at the first, and no data, functions and globals.
+fn image_of(rt: &impl Abort, alloc: Global, words: &[u32]) -> Vec<u8> {
+    assert!(rt; !words.is_empty() && words.len() <= 65_536);
+    let mut payload = Vec::new(alloc);
+    push_numbers(
+        rt,
+        &mut payload,
+        &[4096, 4096, 1_048_576, words.len() as u32],
+    );
+    push_numbers(rt, &mut payload, words);
+    push_numbers(rt, &mut payload, &[0, 0, 0, 0, 0]);
+    assert!(rt; payload.len() <= 300_000);
+    seal(alloc, KIND, 1, &payload).expect(rt, "a file")
+}
+
 /// A machine with these words at its start.
 pub(crate) fn machine(rt: &impl Abort, alloc: Global, words: &[u32]) -> Box<Machine> {
-    assert!(rt; !words.is_empty() && words.len() <= 65_536);
-    let machine = Machine::from_words(alloc, words, 4096).expect(rt, "memory for a machine");
+    let machine = Machine::load(alloc, &image_of(rt, alloc, words)).expect(
+        rt,
+        "memory for a machine",
+    );
     Box::new(alloc, machine).expect(rt, "memory for a machine")
 }
 

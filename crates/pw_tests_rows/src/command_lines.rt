@@ -1,15 +1,16 @@
 //! Command lines: the commands that they say.
 
 use crate::stores::words_of;
+use pw_build_opts::RunOpts;
 use pw_rows::Text;
 use pw_top_words::{Command, WordsFault, command};
 
 /// The word of a command.
 fn word_of(command: &Command) -> &'static str {
     match command {
-        Command::Go { .. } => "go",
-        Command::Build { .. } => "build",
-        Command::Session { .. } => "session",
+        Command::Go(_) => "go",
+        Command::Build(_) => "build",
+        Command::Session(_) => "session",
         Command::PhaseOne(_) => "phase1",
         Command::Analyse { .. } => "analyse",
         Command::PhaseTwo(_) => "phase2",
@@ -29,39 +30,25 @@ fn module_of(command: &Command) -> &[u8] {
     }
 }
 
+/// A number, and the colours, the stack and the steps of options.
+fn run_numbers(number: Option<u64>, opts: &RunOpts) -> [Option<u64>; 4] {
+    [
+        number,
+        Some(u64::from(opts.build.colours)),
+        Some(u64::from(opts.build.stack)),
+        Some(opts.budget),
+    ]
+}
+
 /// The number of a command, its colours, its stack and its steps, as far as it has them.
 fn numbers_of(command: &Command) -> [Option<u64>; 4] {
     match command {
-        Command::Go {
-            colours,
-            stack,
-            steps,
-        }
-        | Command::Session {
-            colours,
-            stack,
-            steps,
-        } => [
+        Command::Go(opts) | Command::Session(opts) => run_numbers(None, opts),
+        Command::Bench { number, opts } => run_numbers(Some(u64::from(*number)), opts),
+        Command::Build(opts) => [
             None,
-            Some(u64::from(*colours)),
-            Some(u64::from(*stack)),
-            Some(*steps),
-        ],
-        Command::Bench {
-            number,
-            colours,
-            stack,
-            steps,
-        } => [
-            Some(u64::from(*number)),
-            Some(u64::from(*colours)),
-            Some(u64::from(*stack)),
-            Some(*steps),
-        ],
-        Command::Build { colours, stack } => [
-            None,
-            Some(u64::from(*colours)),
-            Some(u64::from(*stack)),
+            Some(u64::from(opts.colours)),
+            Some(u64::from(opts.stack)),
             None,
         ],
         Command::Analyse { colours } => [None, Some(u64::from(*colours)), None, None],

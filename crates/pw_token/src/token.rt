@@ -87,6 +87,4 @@ pub enum Feature {
     StructByValue,
     /// A cast between a pointer and a whole number.
     PointerCast,
-    /// A text outside the form that is read so far.
-    NotYet,
 }

@@ -15,6 +15,8 @@ use Rattle.pw_top_answer.specs.declared.answer.Answer.TheVariants.{Usage, Refuse
 use Rattle.pw_top_answer.specs.Effects.{Effect, NamedFile, PutsFiles, answers_alone, prints}
 use Rattle.pw_top_answer.specs.Outcomes.{Answers, InputCount, IsLineDue, LeavesInput, LeavesStreams, OutputCount, PutsOut}
 use Rattle.pw_go.specs.Ends.{EndsIn}
+use Rattle.pw_build_opts.specs.declared.opts.Opts.{Opts}
+use Rattle.pw_build_opts.specs.declared.opts.RunOpts.{RunOpts}
 use Rattle.pw_session.specs.FromBuild.BuildFault.{BuildFault}
 use Rattle.pw_session.specs.FromBuildFiles.Building.{Outcome}
 use Rattle.pw_session.specs.FromBuildFiles.Driving.{BuildEffect, IsBuildAnswer, built_effect}
@@ -32,7 +34,6 @@ use Rattle.pw_commands_phases.specs.First.{EffectOfPhase, PhaseOneEffect, PhaseO
 use Rattle.pw_commands_phases.specs.Made.{IsPhaseAnswer}
 use Rattle.pw_commands_phases.specs.Second.{PhaseTwoEffect, PhaseTwoOver, database_at, flow_at}
 use Rattle.pw_top.specs.Answers.{IsNoUsage}
-use Rattle.pw_top.specs.Commands.{opts_of}
 use Rattle.pw_top.specs.Does.{Does}
 use Rattle.pw_top.proofs.SessionLemmas.{bench_prints}
 use Rattle.pw_top.proofs.DoesLemmas.{Prints, Quiet, left_so, nothing_put, one_does, prints_does, quiet_does}
@@ -40,10 +41,10 @@ use Rattle.pw_top.proofs.DoesLemmas.{Prints, Quiet, left_so, nothing_put, one_do
 -- what the words come to, but for a session
 abbrev pub Comes : Option Command → Files → List ℕ → (Effect → Type 0)
 Comes None files input = λ effect. effect ≡ answers_alone Usage input
-Comes (Some (Go colours stack steps)) files input = GoEffect files colours stack steps input
-Comes (Some (BuildAll colours stack)) files input = BuildEffect files colours stack input
-Comes (Some (Session colours stack steps)) files input = λ effect. ⊥
-Comes (Some (Bench number colours stack steps)) files input = BenchEffect number (opts_of colours stack steps) input
+Comes (Some (Go opts)) files input = GoEffect files opts input
+Comes (Some (BuildAll opts)) files input = BuildEffect files opts input
+Comes (Some (Session opts)) files input = λ effect. ⊥
+Comes (Some (Bench number opts)) files input = BenchEffect number opts input
 Comes (Some (PhaseOne name)) files input = PhaseOneEffect files name input
 Comes (Some (Analyse colours)) files input = AnalyseEffect files colours input
 Comes (Some (PhaseTwo name)) files input = PhaseTwoEffect files name input
@@ -165,8 +166,8 @@ built_rest : (comes : Result Outcome BuildFault) (input : List ℕ) → (built_e
 built_rest (Ok outcome) input = refl
 built_rest (Err fault) input = refl
 
-comes_rest : (files : Files) (colours stack : ℕ) (input : List ℕ) (e : Effect) → BuildEffect files colours stack input e → e.rest ≡ input
-comes_rest files colours stack input e d = ap (λ (x : Effect). x.rest) d.2 ∙ built_rest d.0 input
+comes_rest : (files : Files) (opts : Opts) (input : List ℕ) (e : Effect) → BuildEffect files opts input e → e.rest ≡ input
+comes_rest files opts input e d = ap (λ (x : Effect). x.rest) d.2 ∙ built_rest d.0 input
 
 built_does : (comes : Effect → Type 0) (answer : Answer) (told : Told) (new : Option Told) (input : List ℕ) (taken taken' : Option (List ℕ)) → ((e : Effect) → comes e → e.rest ≡ input) → Obeys comes answer told new
     → ((e : Effect) → comes e → PutsOut e.output answer taken taken') → Does comes answer told new input (Some input) taken taken'
@@ -178,14 +179,14 @@ built_does comes answer told new input taken taken' rest h out = record {
   found = h.found;
 }
 
-pub build_does : (told new : Option Told) (rest taken taken' : Option (List ℕ)) (colours stack : ℕ) (answer : Answer)
-    → IfSome told (λ t. (input : List ℕ) → Obeys (BuildEffect t.files colours stack input) answer t new)
-    → IfSome told (λ t. (input : List ℕ) (e : Effect) → BuildEffect t.files colours stack input e → PutsOut e.output answer taken taken')
-    → IfSome told (λ t. IfSome rest (λ input. Does (BuildEffect t.files colours stack input) answer t new input rest taken taken'))
-build_does None new rest taken taken' colours stack answer h out = tt
-build_does (Some t) new None taken taken' colours stack answer h out = tt
-build_does (Some t) new (Some input) taken taken' colours stack answer h out =
-    built_does (BuildEffect t.files colours stack input) answer t new input taken taken' (λ e d. comes_rest t.files colours stack input e d) (h input) (λ e d. out input e d)
+pub build_does : (told new : Option Told) (rest taken taken' : Option (List ℕ)) (opts : Opts) (answer : Answer)
+    → IfSome told (λ t. (input : List ℕ) → Obeys (BuildEffect t.files opts input) answer t new)
+    → IfSome told (λ t. (input : List ℕ) (e : Effect) → BuildEffect t.files opts input e → PutsOut e.output answer taken taken')
+    → IfSome told (λ t. IfSome rest (λ input. Does (BuildEffect t.files opts input) answer t new input rest taken taken'))
+build_does None new rest taken taken' opts answer h out = tt
+build_does (Some t) new None taken taken' opts answer h out = tt
+build_does (Some t) new (Some input) taken taken' opts answer h out =
+    built_does (BuildEffect t.files opts input) answer t new input taken taken' (λ e d. comes_rest t.files opts input e d) (h input) (λ e d. out input e d)
 
 pub build_no_usage : (answer : Answer) → IsBuildAnswer answer → IsNoUsage answer
 build_no_usage Usage h = h
@@ -195,14 +196,14 @@ pub build_reads : (count : ℕ) (answer : Answer) → IsBuildAnswer answer → I
 build_reads count ReadFault h = absurd h
 build_reads count _ h = refl
 
-pub go_does : (told new : Option Told) (old rest taken taken' : Option (List ℕ)) (colours stack budget : ℕ) (answer : Answer)
-    → IfSome told (λ t. IfSome old (λ input. Obeys (GoEffect t.files colours stack budget input) answer t new))
-    → IfSome told (λ t. IfSome old (λ input. (e : Effect) → GoEffect t.files colours stack budget input e → PutsOut e.output answer taken taken'))
-    → IfSome told (λ t. IfSome old (λ input. (e : Effect) → GoEffect t.files colours stack budget input e → LeavesInput e.rest input answer rest))
-    → IfSome told (λ t. IfSome old (λ input. Does (GoEffect t.files colours stack budget input) answer t new input rest taken taken'))
-go_does None new old rest taken taken' colours stack budget answer h out left = tt
-go_does (Some t) new None rest taken taken' colours stack budget answer h out left = tt
-go_does (Some t) new (Some input) rest taken taken' colours stack budget answer h out left = record { answers = λ e d. h.answers e d; puts = λ e d. h.puts e d; output = out; rest = left; found = h.found }
+pub go_does : (told new : Option Told) (old rest taken taken' : Option (List ℕ)) (opts : RunOpts) (answer : Answer)
+    → IfSome told (λ t. IfSome old (λ input. Obeys (GoEffect t.files opts input) answer t new))
+    → IfSome told (λ t. IfSome old (λ input. (e : Effect) → GoEffect t.files opts input e → PutsOut e.output answer taken taken'))
+    → IfSome told (λ t. IfSome old (λ input. (e : Effect) → GoEffect t.files opts input e → LeavesInput e.rest input answer rest))
+    → IfSome told (λ t. IfSome old (λ input. Does (GoEffect t.files opts input) answer t new input rest taken taken'))
+go_does None new old rest taken taken' opts answer h out left = tt
+go_does (Some t) new None rest taken taken' opts answer h out left = tt
+go_does (Some t) new (Some input) rest taken taken' opts answer h out left = record { answers = λ e d. h.answers e d; puts = λ e d. h.puts e d; output = out; rest = left; found = h.found }
 
 pub go_no_usage : (answer : Answer) → IsGoAnswer answer → IsNoUsage answer
 go_no_usage Usage h = h
@@ -214,7 +215,7 @@ abbrev pub RunsEnd : Type 0
 RunsEnd = (files : Files) (budget : ℕ) (input : List ℕ) → EndsIn input (run_effect files budget input).rest
 
 abbrev pub BuildsEnd : Type 0
-BuildsEnd = (files : Files) (colours stack budget : ℕ) (input : List ℕ) (e : Effect) → GoEffect files colours stack budget input e → EndsIn input e.rest
+BuildsEnd = (files : Files) (opts : RunOpts) (input : List ℕ) (e : Effect) → GoEffect files opts input e → EndsIn input e.rest
 
 ends_itself : (input : List ℕ) → EndsIn input input
 ends_itself input = ([], refl)
@@ -224,10 +225,10 @@ left_all input e h = subst (EndsIn input) (sym h) (ends_itself input)
 
 pub comes_ends : RunsEnd → BuildsEnd → (command : Option Command) (files : Files) (input : List ℕ) (e : Effect) → Comes command files input e → EndsIn input e.rest
 comes_ends runs builds None files input e h = left_all input e (ap (λ (x : Effect). x.rest) h)
-comes_ends runs builds (Some (Go colours stack steps)) files input e h = builds files colours stack steps input e h
-comes_ends runs builds (Some (BuildAll colours stack)) files input e h = left_all input e (comes_rest files colours stack input e h)
-comes_ends runs builds (Some (Session colours stack steps)) files input e h = absurd h
-comes_ends runs builds (Some (Bench number colours stack steps)) files input e h = left_all input e (bench_prints number (opts_of colours stack steps) input e h).rest
+comes_ends runs builds (Some (Go opts)) files input e h = builds files opts input e h
+comes_ends runs builds (Some (BuildAll opts)) files input e h = left_all input e (comes_rest files opts input e h)
+comes_ends runs builds (Some (Session opts)) files input e h = absurd h
+comes_ends runs builds (Some (Bench number opts)) files input e h = left_all input e (bench_prints number opts input e h).rest
 comes_ends runs builds (Some (PhaseOne name)) files input e h = left_all input e (phase_one_quiet name (needed_bytes files (text_name name)) input e h).rest
 comes_ends runs builds (Some (Analyse colours)) files input e h = left_all input e (analyse_quiet (summaries_of files) colours input e h).rest
 comes_ends runs builds (Some (PhaseTwo name)) files input e h = left_all input e (phase_two_quiet name (needed flow_at files (flow_name name)) (needed database_at files database_name) input e h).rest

@@ -69,9 +69,9 @@ stays_genuine names answer (Some t) (Some now) apart h =
 
 -- the command puts the files of its words alone, and none of them is an object's
 abbrev pub PutsNoObject : Option Command → Type 0
-PutsNoObject (Some (Go colours stack steps)) = ⊥
-PutsNoObject (Some (BuildAll colours stack)) = ⊥
-PutsNoObject (Some (Session colours stack steps)) = ⊥
+PutsNoObject (Some (Go opts)) = ⊥
+PutsNoObject (Some (BuildAll opts)) = ⊥
+PutsNoObject (Some (Session opts)) = ⊥
 PutsNoObject (Some (PhaseTwo name)) = ⊥
 PutsNoObject _ = Unit {0}
 
@@ -83,9 +83,9 @@ puts_apart (Some (Link stack)) h name = image_apart name
 puts_apart _ h name = tt
 
 others_of : (command : Option Command) (script : Option (List ℕ)) (answer : Answer) (told new : Option Told) → PutsNoObject command → KeepsTheRest command script answer told new → KeepsOthers (files_put command) answer told new
-others_of (Some (Go colours stack steps)) script answer told new p h = absurd p
-others_of (Some (BuildAll colours stack)) script answer told new p h = absurd p
-others_of (Some (Session colours stack steps)) script answer told new p h = absurd p
+others_of (Some (Go opts)) script answer told new p h = absurd p
+others_of (Some (BuildAll opts)) script answer told new p h = absurd p
+others_of (Some (Session opts)) script answer told new p h = absurd p
 others_of command script answer told new p h = h
 
 pub plain_genuine : (command : Option Command) (script : Option (List ℕ)) (answer : Answer) (told new : Option Told) → PutsNoObject command → KeepsTheRest command script answer told new
@@ -132,10 +132,10 @@ unput_alone : (answer : Answer) (told : Told) → KeepsUnput answer told (Some t
 unput_alone answer told = record { put = []; failed = []; own = tt; one = omega arith; none = λ h. refl; told_so = sym (append-nil told.puts); same = λ name n. refl }
 
 pub rest_alone : (command : Option Command) (script : Option (List ℕ)) (told : Option Told) → KeepsTheRest command script NoMemory told told
-rest_alone (Some (Go colours stack steps)) script None = tt
-rest_alone (Some (Go colours stack steps)) script (Some t) = unput_alone NoMemory t
-rest_alone (Some (BuildAll colours stack)) script None = tt
-rest_alone (Some (BuildAll colours stack)) script (Some t) = unput_alone NoMemory t
-rest_alone (Some (Session colours stack steps)) script None = tt
-rest_alone (Some (Session colours stack steps)) script (Some t) = (changes_none (MayRemove script) t, rest_none (MayRemove script) NoMemory t)
+rest_alone (Some (Go opts)) script None = tt
+rest_alone (Some (Go opts)) script (Some t) = unput_alone NoMemory t
+rest_alone (Some (BuildAll opts)) script None = tt
+rest_alone (Some (BuildAll opts)) script (Some t) = unput_alone NoMemory t
+rest_alone (Some (Session opts)) script None = tt
+rest_alone (Some (Session opts)) script (Some t) = (changes_none (MayRemove script) t, rest_none (MayRemove script) NoMemory t)
 rest_alone command script told = others_alone (files_put command) NoMemory told

@@ -12,7 +12,7 @@ use Rattle.pw_session.specs.FromBuild.Phases.{refused_line}
 use Rattle.pw_session.specs.FromBuild.BuildFault.{BuildFault}
 use Rattle.pw_session.specs.FromBuildFiles.Building.{Outcome}
 use Rattle.pw_commands.specs.Outcome.{IsFound}
-use Rattle.pw_session.specs.declared.opts.SessionOpts.{SessionOpts}
+use Rattle.pw_build_opts.specs.declared.opts.RunOpts.{RunOpts}
 use Rattle.pw_session.specs.Bench.{BenchEffect, BenchOver, IsBenchAnswer, IsBenchFound, IsBenchLine, ObeysBench, bench_files}
 use Rattle.pw_session.specs.Changes.{Change, ChangePrefix, MakesChanges, MakesSome}
 use Rattle.pw_top.specs.Answers.{IsNoUsage}
@@ -23,7 +23,7 @@ use Rattle.pw_top.proofs.DoesLemmas.{Prints, left_so, none_out_yet, nothing_put,
 
 -- ---- a session
 
-pub session_does : (told new : Option Told) (old rest taken taken' : Option (List ℕ)) (opts : SessionOpts) (answer : Answer)
+pub session_does : (told new : Option Told) (old rest taken taken' : Option (List ℕ)) (opts : RunOpts) (answer : Answer)
     → IfSome told (λ t. IfSome old (λ script. ObeysSession opts t script answer new taken taken')) → IfSome old (λ script. LeavesScript script answer rest)
     → IfSome told (λ t. IfSome old (λ script. DoesSession opts answer t new script rest taken taken'))
 session_does None new old rest taken taken' opts answer h left = tt
@@ -87,7 +87,7 @@ leaves_part : (script : List ℕ) (answer : Answer) (rest : Option (List ℕ)) �
 leaves_part script Done rest n h = absurd n
 leaves_part script _ rest n h = h
 
-pub session_no_memory : (opts : SessionOpts) (answer : Answer) (told : Told) (new : Option Told) (script : List ℕ) (rest taken taken' : Option (List ℕ)) → NeedsMemory answer → DoesSession opts answer told new script rest taken taken'
+pub session_no_memory : (opts : RunOpts) (answer : Answer) (told : Told) (new : Option Told) (script : List ℕ) (rest taken taken' : Option (List ℕ)) → NeedsMemory answer → DoesSession opts answer told new script rest taken taken'
     → DoesSession opts NoMemory told new script rest taken taken'
 session_no_memory opts answer told new script rest taken taken' n h = record {
   obeys = record {
@@ -99,7 +99,7 @@ session_no_memory opts answer told new script rest taken taken' n h = record {
 }
 
 -- before anything was done
-pub session_memory_here : (opts : SessionOpts) (told : Told) (script : List ℕ) (taken : Option (List ℕ)) → DoesSession opts NoMemory told (Some told) script (Some script) taken taken
+pub session_memory_here : (opts : RunOpts) (told : Told) (script : List ℕ) (taken : Option (List ℕ)) → DoesSession opts NoMemory told (Some told) script (Some script) taken taken
 session_memory_here opts told script taken = record {
   obeys = record {
     answers = tt;
@@ -115,7 +115,7 @@ bench_prints_over : (number budget : ℕ) (input : List ℕ) (comes : Result Out
 bench_prints_over number budget input (Ok outcome) e h = subst (Prints input) (sym h.2) (record { puts = refl; rest = refl })
 bench_prints_over number budget input (Err fault) e h = subst (Prints input) (sym h) (record { puts = refl; rest = refl })
 
-pub bench_prints : (number : ℕ) (opts : SessionOpts) (input : List ℕ) (e : Effect) → BenchEffect number opts input e → Prints input e
+pub bench_prints : (number : ℕ) (opts : RunOpts) (input : List ℕ) (e : Effect) → BenchEffect number opts input e → Prints input e
 bench_prints number opts input e h = bench_prints_over number opts.budget input h.0 e h.2
 
 bench_found : (comes : Effect → Type 0) (answer : Answer) → IsBenchFound comes answer → IsFound comes answer
@@ -125,7 +125,7 @@ bench_found comes StoreFault h = tt
 bench_found comes NoMemory h = tt
 bench_found comes _ h = h
 
-pub bench_does : (told : Option Told) (rest taken taken' : Option (List ℕ)) (number : ℕ) (opts : SessionOpts) (answer : Answer) → ((input : List ℕ) → ObeysBench (BenchEffect number opts input) answer taken taken')
+pub bench_does : (told : Option Told) (rest taken taken' : Option (List ℕ)) (number : ℕ) (opts : RunOpts) (answer : Answer) → ((input : List ℕ) → ObeysBench (BenchEffect number opts input) answer taken taken')
     → IfSome told (λ t. IfSome rest (λ input. Does (BenchEffect number opts input) answer t told input rest taken taken'))
 bench_does None rest taken taken' number opts answer h = tt
 bench_does (Some t) None taken taken' number opts answer h = tt

@@ -12,13 +12,13 @@ use Rattle.pw_go.specs.Ends.{EndsIn}
 use Rattle.pw_commands.specs.Others.{KeepsOthers}
 use Rattle.pw_session.specs.FromBuild.BuildFault.{BuildFault}
 use Rattle.pw_session.specs.FromBuildFiles.Building.{Outcome}
-use Rattle.pw_go.specs.Going.{AnswersComes}
+use Rattle.pw_session.specs.FromBuildFiles.Outcomes.{AnswersOutcome}
 use Rattle.pw_top_words.specs.declared.commands.Command.{Command}
 use Rattle.pw_top_words.specs.declared.commands.Command.TheVariants.{Go, Build as BuildAll, Session}
 use Rattle.pw_session.specs.FromBuildFiles.Driving.{KeepsUnput, Unput}
 use Rattle.pw_session.specs.Removals.{MayRemove}
 use Rattle.pw_top.specs.Answers.{HoldsNoWantOfMemory}
-use Rattle.pw_top.specs.Commands.{EndsScript, KeepsTheRest, RefusesAsBuilt, files_put, opts_of}
+use Rattle.pw_top.specs.Commands.{EndsScript, KeepsTheRest, RefusesAsBuilt, files_put}
 use Rattle.pw_top.specs.Does.{Does, DoesAs}
 use Rattle.pw_top.proofs.DoesLemmas.{memory_here, out_part}
 use Rattle.pw_top.proofs.SessionLemmas.{left_memory, session_memory_here, session_no_memory, some_memory}
@@ -81,12 +81,12 @@ does_no_memory comes answer told new input rest taken taken' ends n h = record {
 
 as_no_memory : RunsEnd → BuildsEnd → (command : Option Command) (answer : Answer) (told : Told) (new : Option Told) (input : List ℕ) (rest taken taken' : Option (List ℕ)) → NeedsMemory answer
     → DoesAs command answer told new input rest taken taken' → DoesAs command NoMemory told new input rest taken taken'
-as_no_memory runs builds (Some (Session colours stack steps)) answer told new input rest taken taken' n h = session_no_memory (opts_of colours stack steps) answer told new input rest taken taken' n h
+as_no_memory runs builds (Some (Session opts)) answer told new input rest taken taken' n h = session_no_memory opts answer told new input rest taken taken' n h
 as_no_memory runs builds command answer told new input rest taken taken' n h =
     does_no_memory (Comes command told.files input) answer told new input rest taken taken' (λ e c. comes_ends runs builds command told.files input e c) n h
 
 memory_as : RunsEnd → BuildsEnd → (command : Option Command) (told : Told) (input : List ℕ) (taken : Option (List ℕ)) → DoesAs command NoMemory told (Some told) input (Some input) taken taken
-memory_as runs builds (Some (Session colours stack steps)) told input taken = session_memory_here (opts_of colours stack steps) told input taken
+memory_as runs builds (Some (Session opts)) told input taken = session_memory_here opts told input taken
 memory_as runs builds command told input taken = memory_here (Comes command told.files input) told input taken (λ e c. comes_ends runs builds command told.files input e c)
 
 pub memory_does : RunsEnd → BuildsEnd → (command : Option Command) (told : Option Told) (rest taken : Option (List ℕ)) → IfSome told (λ t. IfSome rest (λ input. DoesAs command NoMemory t told input rest taken taken))
@@ -105,21 +105,22 @@ told_does runs builds command (Some now) new (Some input) rest taken taken' answ
 -- ---- the end of a session
 
 pub memory_ends : (command : Option Command) (script : Option (List ℕ)) → EndsScript command script NoMemory
-memory_ends (Some (Session colours stack steps)) None = tt
-memory_ends (Some (Session colours stack steps)) (Some bytes) = tt
+memory_ends (Some (Session opts)) None = tt
+memory_ends (Some (Session opts)) (Some bytes) = tt
 memory_ends command script = tt
 
 pub ends_told : (command : Option Command) (script : Option (List ℕ)) (answer last : Answer) → ToldAs answer last → EndsScript command script answer → EndsScript command script last
 ends_told command script answer last t h = told_by (EndsScript command script) answer last t h (λ n x. memory_ends command script)
 
--- ---- the refusals of `go`
+-- ---- the refusals of builds
 
-comes_no_memory : (comes : Result Outcome BuildFault) → AnswersComes comes NoMemory
+comes_no_memory : (comes : Result Outcome BuildFault) → AnswersOutcome comes NoMemory
 comes_no_memory (Ok outcome) = tt
 comes_no_memory (Err fault) = tt
 
 refuses_no_memory : (command : Option Command) (files : Files) → RefusesAsBuilt command files NoMemory
-refuses_no_memory (Some (Go colours stack steps)) files = λ comes h. comes_no_memory comes
+refuses_no_memory (Some (Go opts)) files = λ comes h. comes_no_memory comes
+refuses_no_memory (Some (BuildAll opts)) files = λ comes h. comes_no_memory comes
 refuses_no_memory command files = tt
 
 pub memory_refuses : (command : Option Command) (told : Option Told) → IfSome told (λ t. RefusesAsBuilt command t.files NoMemory)
@@ -190,12 +191,12 @@ puts_memory names answer (Some told) None n h = absurd h
 puts_memory names answer (Some told) (Some left) n h = record { put = h.put; failed = h.failed; own = h.own; one = h.one; none = λ e. h.none (needs_no_store answer n); told_so = h.told_so; same = h.same }
 
 rest_memory : (command : Option Command) (script : Option (List ℕ)) (answer : Answer) (old new : Option Told) → NeedsMemory answer → KeepsTheRest command script answer old new → KeepsTheRest command script NoMemory old new
-rest_memory (Some (Go colours stack steps)) script answer None new n h = tt
-rest_memory (Some (Go colours stack steps)) script answer (Some told) new n h = unput_memory answer told new n h
-rest_memory (Some (BuildAll colours stack)) script answer None new n h = tt
-rest_memory (Some (BuildAll colours stack)) script answer (Some told) new n h = unput_memory answer told new n h
-rest_memory (Some (Session colours stack steps)) script answer None new n h = tt
-rest_memory (Some (Session colours stack steps)) script answer (Some told) new n h = (some_memory (MayRemove script) answer told new n h.0, left_memory (MayRemove script) answer told new n h.1)
+rest_memory (Some (Go opts)) script answer None new n h = tt
+rest_memory (Some (Go opts)) script answer (Some told) new n h = unput_memory answer told new n h
+rest_memory (Some (BuildAll opts)) script answer None new n h = tt
+rest_memory (Some (BuildAll opts)) script answer (Some told) new n h = unput_memory answer told new n h
+rest_memory (Some (Session opts)) script answer None new n h = tt
+rest_memory (Some (Session opts)) script answer (Some told) new n h = (some_memory (MayRemove script) answer told new n h.0, left_memory (MayRemove script) answer told new n h.1)
 rest_memory command script answer old new n h = puts_memory (files_put command) answer old new n h
 
 pub rest_told : (command : Option Command) (script : Option (List ℕ)) (old new : Option Told) (answer last : Answer) → ToldAs answer last → KeepsTheRest command script answer old new → KeepsTheRest command script last old new

@@ -4,7 +4,7 @@ use Rattle.std.specs.Prelude.{IfSome}
 use Rattle.pw_io.specs.Files.{Told}
 use Rattle.pw_store_modules.specs.Modules.{module_map}
 use Rattle.pw_top_answer.specs.declared.answer.Answer.{Answer}
-use Rattle.pw_top_answer.specs.declared.answer.Answer.TheVariants.{ReadFault, WriteFault, StoreFault, NoMemory}
+use Rattle.pw_top_answer.specs.declared.answer.Answer.TheVariants.{StoreFault, NoMemory}
 use Rattle.pw_top_answer.specs.Effects.{Effect, after_puts}
 use Rattle.pw_top_answer.specs.Outcomes.{Answers, LeavesInput, PutsOut}
 use Rattle.pw_session.specs.FromBuild.BuildFault.{BuildFault}
@@ -13,48 +13,52 @@ use Rattle.pw_session.specs.FromBuildFiles.Genuine.{KeepsGenuine}
 use Rattle.pw_session.specs.FromBuildFiles.Outcomes.{AreOpts}
 use Rattle.pw_session.specs.FromBuildFiles.Driving.{BuildEffect, built_effect}
 use Rattle.pw_go.specs.Going.{GoEffect, GoOver}
-use Rattle.pw_session.specs.FromBuildFiles.Opts.{Opts}
+use Rattle.pw_session.specs.Bench.{BenchEffect}
+use Rattle.pw_build_opts.specs.declared.opts.Opts.{Opts}
 use Rattle.pw_law_session.specs.Whole.{IsBuiltInFull, LeavesFull}
-use Rattle.pw_law_session.specs.Full.{SessionBuildsInFull}
-use Rattle.pw_session.specs.declared.opts.SessionOpts.{SessionOpts}
+use Rattle.pw_law_session.specs.Full.{BenchBuildsInFull, SessionBuildsInFull}
+use Rattle.pw_build_opts.specs.declared.opts.RunOpts.{RunOpts}
 use Rattle.pw_top_words.specs.declared.commands.Command.{Command}
-use Rattle.pw_top_words.specs.declared.commands.Command.TheVariants.{Go, Build as BuildAll, Session}
+use Rattle.pw_top_words.specs.declared.commands.Command.TheVariants.{Go, Build as BuildAll, Session, Bench}
 use Rattle.pw_top_words.specs.Limits.{IsWithin}
-use Rattle.pw_top.specs.Commands.{BuildsWhole, opts_of}
+use Rattle.pw_top.specs.Commands.{BuildsWhole}
 use Rattle.pw_top.specs.Does.{Does, DoesAs}
-use Rattle.pw_top.specs.Whole.{ComesInFull, IfMade, ReportsFull, RunsFull}
+use Rattle.pw_top.specs.Whole.{BenchesFull, ComesInFull, IfMade, ReportsFull, RunsFull}
 
 -- ---- the laws
 
 abbrev pub BuildsAreFull : Type 0
-BuildsAreFull = (told : Told) (opts : Opts) (comes : Result Outcome BuildFault) → AreOpts opts → KeepsGenuine told.files → BuildOutcome told.files opts.colours opts.stack comes → IsBuiltInFull told opts.colours opts.stack comes
+BuildsAreFull = (told : Told) (opts : Opts) (comes : Result Outcome BuildFault) → AreOpts opts → KeepsGenuine told.files → BuildOutcome told.files opts comes → IsBuiltInFull told opts comes
 
 abbrev pub SessionsAreFull : Type 0
-SessionsAreFull = (opts : SessionOpts) (told : Told) (script : List ℕ) → KeepsGenuine told.files → SessionBuildsInFull opts told script
+SessionsAreFull = (opts : RunOpts) (told : Told) (script : List ℕ) → KeepsGenuine told.files → SessionBuildsInFull opts told script
 
--- those of builds, for so many registers and such a stack
-abbrev FullAt : ℕ → ℕ → Type 0
-FullAt colours stack = (told : Told) (comes : Result Outcome BuildFault) → KeepsGenuine told.files → BuildOutcome told.files colours stack comes → IsBuiltInFull told colours stack comes
+abbrev pub BenchesAreFull : Type 0
+BenchesAreFull = (number : ℕ) (opts : RunOpts) (input : List ℕ) (effect : Effect) → BenchEffect number opts input effect → BenchBuildsInFull number opts input effect
 
-full_at : BuildsAreFull → (opts : Opts) → AreOpts opts → FullAt opts.colours opts.stack
+-- those of builds, of some options
+abbrev FullAt : Opts → Type 0
+FullAt opts = (told : Told) (comes : Result Outcome BuildFault) → KeepsGenuine told.files → BuildOutcome told.files opts comes → IsBuiltInFull told opts comes
+
+full_at : BuildsAreFull → (opts : Opts) → AreOpts opts → FullAt opts
 full_at law opts are told comes keeps h = law told opts comes are keeps h
 
 -- ---- one effect
 
-left_full : (colours stack : ℕ) (told : Told) (new one : Option Told) (full : Result (List ℕ) BuildFault) → new ≡ one → LeavesFull (module_map told.files) colours stack full told one → LeavesFull (module_map told.files) colours stack full told new
-left_full colours stack told new one full e h = subst (λ (o : Option Told). LeavesFull (module_map told.files) colours stack full told o) (sym e) h
+left_full : (opts : Opts) (told : Told) (new one : Option Told) (full : Result (List ℕ) BuildFault) → new ≡ one → LeavesFull (module_map told.files) opts full told one → LeavesFull (module_map told.files) opts full told new
+left_full opts told new one full e h = subst (λ (o : Option Told). LeavesFull (module_map told.files) opts full told o) (sym e) h
 
 -- `build`
-built_full : (colours stack : ℕ) → FullAt colours stack → (comes : Result Outcome BuildFault) (told : Told) (new : Option Told) (input : List ℕ) (taken taken' : Option (List ℕ)) (answer : Answer) (e : Effect) → KeepsGenuine told.files → BuildOutcome told.files colours stack comes
-    → e ≡ built_effect comes input → Answers e.answer answer → new ≡ Some (after_puts told e.puts) → PutsOut e.output answer taken taken' → ComesInFull colours stack told new (λ full. ReportsFull full answer taken taken')
-built_full colours stack law (Ok outcome) told new input taken taken' answer e keeps h is a put out =
+built_full : (opts : Opts) → FullAt opts → (comes : Result Outcome BuildFault) (told : Told) (new : Option Told) (input : List ℕ) (taken taken' : Option (List ℕ)) (answer : Answer) (e : Effect) → KeepsGenuine told.files → BuildOutcome told.files opts comes
+    → e ≡ built_effect comes input → Answers e.answer answer → new ≡ Some (after_puts told e.puts) → PutsOut e.output answer taken taken' → ComesInFull opts told new (λ full. ReportsFull full answer taken taken')
+built_full opts law (Ok outcome) told new input taken taken' answer e keeps h is a put out =
     let full = law told (Ok outcome) keeps h in (
       Ok outcome.image,
       full.0,
       (outcome, refl, subst (λ (x : Effect). Answers x.answer answer) is a, subst (λ (x : Effect). PutsOut x.output answer taken taken') is out),
-      left_full colours stack told new (Some (after_puts told outcome.puts)) (Ok outcome.image) (put ∙ ap (λ (x : Effect). Some (after_puts told x.puts)) is) full.1,
+      left_full opts told new (Some (after_puts told outcome.puts)) (Ok outcome.image) (put ∙ ap (λ (x : Effect). Some (after_puts told x.puts)) is) full.1,
     )
-built_full colours stack law (Err fault) told new input taken taken' answer e keeps h is a put out =
+built_full opts law (Err fault) told new input taken taken' answer e keeps h is a put out =
     let full = law told (Err fault) keeps h in (
       Err fault,
       full.0,
@@ -63,10 +67,10 @@ built_full colours stack law (Err fault) told new input taken taken' answer e ke
     )
 
 -- `go`
-ran_full : (colours stack budget : ℕ) → FullAt colours stack → (comes : Result Outcome BuildFault) (told : Told) (new : Option Told) (input : List ℕ) (input' taken taken' : Option (List ℕ)) (answer : Answer) (e : Effect) → KeepsGenuine told.files → BuildOutcome told.files colours stack comes
+ran_full : (opts : Opts) (budget : ℕ) → FullAt opts → (comes : Result Outcome BuildFault) (told : Told) (new : Option Told) (input : List ℕ) (input' taken taken' : Option (List ℕ)) (answer : Answer) (e : Effect) → KeepsGenuine told.files → BuildOutcome told.files opts comes
     → GoOver budget input comes e → Answers e.answer answer → new ≡ Some (after_puts told e.puts) → PutsOut e.output answer taken taken' → LeavesInput e.rest input answer input'
-    → ComesInFull colours stack told new (λ full. RunsFull budget input full answer input' taken taken')
-ran_full colours stack budget law (Ok outcome) told new input input' taken taken' answer e keeps h over a put out left =
+    → ComesInFull opts told new (λ full. RunsFull budget input full answer input' taken taken')
+ran_full opts budget law (Ok outcome) told new input input' taken taken' answer e keeps h over a put out left =
     let full = law told (Ok outcome) keeps h in
     let is = over.2 in (
       Ok outcome.image,
@@ -78,9 +82,9 @@ ran_full colours stack budget law (Ok outcome) told new input input' taken taken
         subst (λ (x : Effect). PutsOut x.output answer taken taken') is out,
         subst (λ (x : Effect). LeavesInput x.rest input answer input') is left,
       ),
-      left_full colours stack told new (Some (after_puts told outcome.puts)) (Ok outcome.image) (put ∙ ap (λ (x : Effect). Some (after_puts told x.puts)) is) full.1,
+      left_full opts told new (Some (after_puts told outcome.puts)) (Ok outcome.image) (put ∙ ap (λ (x : Effect). Some (after_puts told x.puts)) is) full.1,
     )
-ran_full colours stack budget law (Err fault) told new input input' taken taken' answer e keeps h is a put out left =
+ran_full opts budget law (Err fault) told new input input' taken taken' answer e keeps h is a put out left =
     let full = law told (Err fault) keeps h in (
       Err fault,
       full.0,
@@ -90,40 +94,48 @@ ran_full colours stack budget law (Err fault) told new input input' taken taken'
 
 -- ---- the commands, by their answers
 
-build_whole : (colours stack : ℕ) → FullAt colours stack → (answer : Answer) (told : Told) (new : Option Told) (input : List ℕ) (rest taken taken' : Option (List ℕ)) → Does (BuildEffect told.files colours stack input) answer told new input rest taken taken' → KeepsGenuine told.files
-    → IfMade answer (ComesInFull colours stack told new (λ full. ReportsFull full answer taken taken'))
-build_whole colours stack law StoreFault told new input rest taken taken' d keeps = tt
-build_whole colours stack law NoMemory told new input rest taken taken' d keeps = tt
-build_whole colours stack law _ told new input rest taken taken' d keeps =
+build_whole : (opts : Opts) → FullAt opts → (answer : Answer) (told : Told) (new : Option Told) (input : List ℕ) (rest taken taken' : Option (List ℕ)) → Does (BuildEffect told.files opts input) answer told new input rest taken taken' → KeepsGenuine told.files
+    → IfMade answer (ComesInFull opts told new (λ full. ReportsFull full answer taken taken'))
+build_whole opts law StoreFault told new input rest taken taken' d keeps = tt
+build_whole opts law NoMemory told new input rest taken taken' d keeps = tt
+build_whole opts law _ told new input rest taken taken' d keeps =
     let c = d.found.1 in
-    built_full colours stack law c.0 told new input taken taken' _ d.found.0 keeps c.1 c.2 (d.answers d.found.0 c) (d.puts d.found.0 c) (d.output d.found.0 c)
+    built_full opts law c.0 told new input taken taken' _ d.found.0 keeps c.1 c.2 (d.answers d.found.0 c) (d.puts d.found.0 c) (d.output d.found.0 c)
 
-go_whole : (colours stack budget : ℕ) → FullAt colours stack → (answer : Answer) (told : Told) (new : Option Told) (input : List ℕ) (rest taken taken' : Option (List ℕ)) → Does (GoEffect told.files colours stack budget input) answer told new input rest taken taken' → KeepsGenuine told.files
-    → IfMade answer (ComesInFull colours stack told new (λ full. RunsFull budget input full answer rest taken taken'))
-go_whole colours stack budget law StoreFault told new input rest taken taken' d keeps = tt
-go_whole colours stack budget law NoMemory told new input rest taken taken' d keeps = tt
-go_whole colours stack budget law _ told new input rest taken taken' d keeps =
+go_whole : (opts : RunOpts) → FullAt opts.build → (answer : Answer) (told : Told) (new : Option Told) (input : List ℕ) (rest taken taken' : Option (List ℕ)) → Does (GoEffect told.files opts input) answer told new input rest taken taken' → KeepsGenuine told.files
+    → IfMade answer (ComesInFull opts.build told new (λ full. RunsFull opts.budget input full answer rest taken taken'))
+go_whole opts law StoreFault told new input rest taken taken' d keeps = tt
+go_whole opts law NoMemory told new input rest taken taken' d keeps = tt
+go_whole opts law _ told new input rest taken taken' d keeps =
     let c = d.found.1 in
-    ran_full colours stack budget law c.0 told new input rest taken taken' _ d.found.0 keeps c.1 c.2 (d.answers d.found.0 c) (d.puts d.found.0 c) (d.output d.found.0 c) (d.rest d.found.0 c)
+    ran_full opts.build opts.budget law c.0 told new input rest taken taken' _ d.found.0 keeps c.1 c.2 (d.answers d.found.0 c) (d.puts d.found.0 c) (d.output d.found.0 c) (d.rest d.found.0 c)
+
+bench_whole : BenchesAreFull → (number : ℕ) (opts : RunOpts) (answer : Answer) (told : Told) (new : Option Told) (input : List ℕ) (rest taken taken' : Option (List ℕ)) → Does (BenchEffect number opts input) answer told new input rest taken taken'
+    → IfMade answer (BenchesFull number opts input answer taken taken')
+bench_whole law number opts StoreFault told new input rest taken taken' d = tt
+bench_whole law number opts NoMemory told new input rest taken taken' d = tt
+bench_whole law number opts _ told new input rest taken taken' d =
+    let c = d.found.1 in (d.found.0, law number opts input d.found.0 c, d.answers d.found.0 c, d.output d.found.0 c)
 
 -- the numbers of the command lie within their limits
 abbrev pub AreWithin : Option Command → Type 0
 AreWithin None = Unit {0}
 AreWithin (Some command) = IsWithin command
 
-whole_of : BuildsAreFull → SessionsAreFull → (command : Option Command) (answer : Answer) (told : Told) (new : Option Told) (input : List ℕ) (rest taken taken' : Option (List ℕ)) → AreWithin command → DoesAs command answer told new input rest taken taken' → BuildsWhole command answer told new input rest taken taken'
-whole_of law sessions (Some (BuildAll colours stack)) answer told new input rest taken taken' w d =
-    λ keeps. build_whole colours stack (full_at law (opts_of colours stack 0).build (record { colours = w.0; least = w.1.0; most = w.1.1 })) answer told new input rest taken taken' d keeps
-whole_of law sessions (Some (Go colours stack steps)) answer told new input rest taken taken' w d =
-    λ keeps. go_whole colours stack steps (full_at law (opts_of colours stack steps).build (record { colours = w.0; least = w.1.0; most = w.1.1 })) answer told new input rest taken taken' d keeps
-whole_of law sessions (Some (Session colours stack steps)) answer told new input rest taken taken' w d = λ keeps. sessions (opts_of colours stack steps) told input keeps
-whole_of law sessions command answer told new input rest taken taken' w d = tt
+whole_of : BuildsAreFull → SessionsAreFull → BenchesAreFull → (command : Option Command) (answer : Answer) (told : Told) (new : Option Told) (input : List ℕ) (rest taken taken' : Option (List ℕ)) → AreWithin command → DoesAs command answer told new input rest taken taken' → BuildsWhole command answer told new input rest taken taken'
+whole_of law sessions benches (Some (BuildAll opts)) answer told new input rest taken taken' w d =
+    λ keeps. build_whole opts (full_at law opts (record { colours = w.0; least = w.1.0; most = w.1.1 })) answer told new input rest taken taken' d keeps
+whole_of law sessions benches (Some (Go opts)) answer told new input rest taken taken' w d =
+    λ keeps. go_whole opts (full_at law opts.build (record { colours = w.0; least = w.1.0; most = w.1.1 })) answer told new input rest taken taken' d keeps
+whole_of law sessions benches (Some (Session opts)) answer told new input rest taken taken' w d = λ keeps. sessions opts told input keeps
+whole_of law sessions benches (Some (Bench number opts)) answer told new input rest taken taken' w d = bench_whole benches number opts answer told new input rest taken taken' d
+whole_of law sessions benches command answer told new input rest taken taken' w d = tt
 
-pub builds_whole : BuildsAreFull → SessionsAreFull → (command : Option Command) (first new : Option Told) (old rest taken taken' : Option (List ℕ)) (answer : Answer) → AreWithin command
+pub builds_whole : BuildsAreFull → SessionsAreFull → BenchesAreFull → (command : Option Command) (first new : Option Told) (old rest taken taken' : Option (List ℕ)) (answer : Answer) → AreWithin command
     → IfSome first (λ t. IfSome old (λ input. DoesAs command answer t new input rest taken taken')) → IfSome first (λ t. IfSome old (λ input. BuildsWhole command answer t new input rest taken taken'))
-builds_whole law sessions command None new old rest taken taken' answer w d = tt
-builds_whole law sessions command (Some t) new None rest taken taken' answer w d = tt
-builds_whole law sessions command (Some t) new (Some input) rest taken taken' answer w d = whole_of law sessions command answer t new input rest taken taken' w d
+builds_whole law sessions benches command None new old rest taken taken' answer w d = tt
+builds_whole law sessions benches command (Some t) new None rest taken taken' answer w d = tt
+builds_whole law sessions benches command (Some t) new (Some input) rest taken taken' answer w d = whole_of law sessions benches command answer t new input rest taken taken' w d
 
 -- a command that the words say lies within its limits
 pub are_within : (command : Option Command) → ((one : Command) → command ≡ Some one → IsWithin one) → AreWithin command

@@ -7,10 +7,9 @@ use Rattle.pw_store_modules.specs.Modules.{modules_of}
 use Rattle.pw_session.specs.FromBuild.Phases as phases
 use Rattle.pw_session.specs.FromBuild.BuildFault.{BuildFault}
 use Rattle.pw_session.specs.FromBuildFiles.Building.{BuildOutcome, Outcome}
-use Rattle.pw_go.specs.Going.{AnswersComes}
+use Rattle.pw_session.specs.FromBuildFiles.Outcomes.{AnswersOutcome}
 use Rattle.pw_commands.specs.Others.{KeepsOthers}
 use Rattle.pw_session.specs.FromBuildFiles.Genuine.{KeepsGenuine}
-use Rattle.pw_session.specs.declared.opts.SessionOpts.{SessionOpts}
 use Rattle.pw_session.specs.Bench.{bench_files}
 use Rattle.pw_session.specs.Changes.{MakesSome}
 use Rattle.pw_session.specs.Outcomes.{EndsAs}
@@ -18,15 +17,11 @@ use Rattle.pw_session.specs.Removals.{MayRemove}
 use Rattle.pw_session.specs.FromBuildFiles.Driving.{KeepsUnput}
 use Rattle.pw_law_session.specs.Full.{SessionBuildsInFull}
 use Rattle.pw_top.specs.Rest.{LeavesRest}
-use Rattle.pw_top.specs.Whole.{ComesInFull, IfMade, ReportsFull, RunsFull}
+use Rattle.pw_top.specs.Whole.{BenchesFull, ComesInFull, IfMade, ReportsFull, RunsFull}
 use Rattle.pw_commands_phases.specs.First.{phase_line, phase_one_puts}
 use Rattle.pw_commands_phases.specs.Second.{phase_two_puts}
 use Rattle.pw_top_words.specs.declared.commands.Command.{Command}
 use Rattle.pw_top_words.specs.declared.commands.Command.TheVariants.{Go, Build, Session, PhaseOne, Analyse, PhaseTwo, Link, Run, List as ListImage, Db, Bench}
-
--- how a session and `bench` build, and for how many instructions they run a program at most
-abbrev pub opts_of : ℕ → ℕ → ℕ → SessionOpts
-opts_of colours stack steps = record { build = record { colours = colours; stack = stack }; budget = steps }
 
 -- the command is a phase of separate compiling, the analysis or the link
 abbrev pub is_phase : Command → Bool
@@ -45,17 +40,17 @@ is_reader _ = false
 
 -- the command builds whole programs
 abbrev pub is_builder : Command → Bool
-is_builder (Go colours stack steps) = true
-is_builder (Build colours stack) = true
-is_builder (Session colours stack steps) = true
-is_builder (Bench number colours stack steps) = true
+is_builder (Go opts) = true
+is_builder (Build opts) = true
+is_builder (Session opts) = true
+is_builder (Bench number opts) = true
 is_builder _ = false
 
 -- the command puts no file
 abbrev pub OnlyReads : Option Command → Type 0
-OnlyReads (Some (Go colours stack steps)) = ⊥
-OnlyReads (Some (Build colours stack)) = ⊥
-OnlyReads (Some (Session colours stack steps)) = ⊥
+OnlyReads (Some (Go opts)) = ⊥
+OnlyReads (Some (Build opts)) = ⊥
+OnlyReads (Some (Session opts)) = ⊥
 OnlyReads (Some (PhaseOne name)) = ⊥
 OnlyReads (Some (Analyse colours)) = ⊥
 OnlyReads (Some (PhaseTwo name)) = ⊥
@@ -72,45 +67,47 @@ files_put _ = []
 
 -- the command is not `session`
 abbrev pub IsNoSession : Option Command → Type 0
-IsNoSession (Some (Session colours stack steps)) = ⊥
+IsNoSession (Some (Session opts)) = ⊥
 IsNoSession _ = Unit {0}
 
 -- A store that told its files goes on telling them, and each file but those that the command puts is as it was; of `go`, of a
 -- build and of a session the store tells which were put, and a session put files of modules and of builds, and removed files
 -- of modules, each by a line of its script, in order. Where the store failed, perhaps one file more was put in part.
 abbrev pub KeepsTheRest : Option Command → Option (List ℕ) → Answer → Option Told → Option Told → Type 0
-KeepsTheRest (Some (Go colours stack steps)) script answer old new = IfSome old (λ told. KeepsUnput answer told new)
-KeepsTheRest (Some (Build colours stack)) script answer old new = IfSome old (λ told. KeepsUnput answer told new)
-KeepsTheRest (Some (Session colours stack steps)) script answer old new =
+KeepsTheRest (Some (Go opts)) script answer old new = IfSome old (λ told. KeepsUnput answer told new)
+KeepsTheRest (Some (Build opts)) script answer old new = IfSome old (λ told. KeepsUnput answer told new)
+KeepsTheRest (Some (Session opts)) script answer old new =
     IfSome old (λ told. MakesSome (MayRemove script) answer told new × IsSomeAnd new (LeavesRest (MayRemove script) answer told))
 KeepsTheRest command script answer old new = KeepsOthers (files_put command) answer old new
 
--- The refusal to which the build of `go` comes is its answer, whatever the input tells; only want of memory and a fault of the
--- store may come in its place.
+-- The refusal to which the build of `build` and of `go` comes is their answer, whatever the input tells; only want of memory and
+-- a fault of the store may come in its place.
 abbrev pub RefusesAsBuilt : Option Command → Files → Answer → Type 0
-RefusesAsBuilt (Some (Go colours stack steps)) files answer = (comes : Result Outcome BuildFault) → BuildOutcome files colours stack comes → AnswersComes comes answer
+RefusesAsBuilt (Some (Go opts)) files answer = (comes : Result Outcome BuildFault) → BuildOutcome files opts.build comes → AnswersOutcome comes answer
+RefusesAsBuilt (Some (Build opts)) files answer = (comes : Result Outcome BuildFault) → BuildOutcome files opts comes → AnswersOutcome comes answer
 RefusesAsBuilt _ files answer = Unit {0}
 
 -- Where the kept objects were genuine, `build` and `go` come to the report and to the run of the full build's image, or to its
 -- refusal, and leave its database and its image; and each build of a session, whatever ended it, is the full build of the
--- modules as they were then.
+-- modules as they were then. `bench` builds in full whatever the store keeps.
 abbrev pub BuildsWhole : Option Command → Answer → Told → Option Told → (input : List ℕ) → (input' taken taken' : Option (List ℕ)) → Type 0
-BuildsWhole (Some (Build colours stack)) answer told new input input' taken taken' =
-    KeepsGenuine told.files → IfMade answer (ComesInFull colours stack told new (λ full. ReportsFull full answer taken taken'))
-BuildsWhole (Some (Go colours stack steps)) answer told new input input' taken taken' =
-    KeepsGenuine told.files → IfMade answer (ComesInFull colours stack told new (λ full. RunsFull steps input full answer input' taken taken'))
-BuildsWhole (Some (Session colours stack steps)) answer told new input input' taken taken' = KeepsGenuine told.files → SessionBuildsInFull (opts_of colours stack steps) told input
+BuildsWhole (Some (Build opts)) answer told new input input' taken taken' =
+    KeepsGenuine told.files → IfMade answer (ComesInFull opts told new (λ full. ReportsFull full answer taken taken'))
+BuildsWhole (Some (Go opts)) answer told new input input' taken taken' =
+    KeepsGenuine told.files → IfMade answer (ComesInFull opts.build told new (λ full. RunsFull opts.budget input full answer input' taken taken'))
+BuildsWhole (Some (Session opts)) answer told new input input' taken taken' = KeepsGenuine told.files → SessionBuildsInFull opts told input
+BuildsWhole (Some (Bench number opts)) answer told new input input' taken taken' = IfMade answer (BenchesFull number opts input answer taken taken')
 BuildsWhole _ answer told new input input' taken taken' = Unit {0}
 
 -- How a session ends is a function of its script, whatever the store tells.
 abbrev pub EndsScript : Option Command → Option (List ℕ) → Answer → Type 0
-EndsScript (Some (Session colours stack steps)) script answer = IfSome script (λ bytes. EndsAs bytes answer)
+EndsScript (Some (Session opts)) script answer = IfSome script (λ bytes. EndsAs bytes answer)
 EndsScript _ script answer = Unit {0}
 
 -- the line on which a module is refused
 abbrev pub line_of : Option Command → Files → ℕ
-line_of (Some (Go colours stack steps)) files = phases.refused_line (modules_of files)
-line_of (Some (Build colours stack)) files = phases.refused_line (modules_of files)
-line_of (Some (Bench number colours stack steps)) files = phases.refused_line (modules_of (bench_files number))
+line_of (Some (Go opts)) files = phases.refused_line (modules_of files)
+line_of (Some (Build opts)) files = phases.refused_line (modules_of files)
+line_of (Some (Bench number opts)) files = phases.refused_line (modules_of (bench_files number))
 line_of (Some (PhaseOne name)) files = phase_line files name
 line_of _ files = 1

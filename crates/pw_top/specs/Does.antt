@@ -15,12 +15,11 @@ use Rattle.pw_commands.specs.Showing.{DatabaseEffect, ListEffect}
 use Rattle.pw_commands_phases.specs.First.{PhaseOneEffect}
 use Rattle.pw_commands_phases.specs.Second.{PhaseTwoEffect}
 use Rattle.pw_session.specs.FromBuildFiles.Driving.{BuildEffect}
-use Rattle.pw_session.specs.declared.opts.SessionOpts.{SessionOpts}
+use Rattle.pw_build_opts.specs.declared.opts.RunOpts.{RunOpts}
 use Rattle.pw_session.specs.Bench.{BenchEffect}
 use Rattle.pw_session.specs.Outcomes.{LeavesScript, ObeysSession}
 use Rattle.pw_top_words.specs.declared.commands.Command.{Command}
 use Rattle.pw_top_words.specs.declared.commands.Command.TheVariants.{Go, Build, Session, PhaseOne, Analyse, PhaseTwo, Link, Run, List as ListImage, Db, Bench}
-use Rattle.pw_top.specs.Commands.{opts_of}
 
 -- The answer, the files that were put, what was put out and what is left of the input are those to which the command
 -- comes; a fault or want of memory may come in its place, and then a prefix of the files was put, a prefix of the output
@@ -33,17 +32,17 @@ pub record Does (comes : Effect → Type 0) (answer : Answer) (told : Told) (tol
   pub found : IsFound comes answer
 
 -- What a session answered, put out, changed and left of its script is that to which the script's lines come.
-pub record DoesSession (opts : SessionOpts) (answer : Answer) (told : Told) (told' : Option Told) (input : List ℕ) (input' taken taken' : Option (List ℕ)) : Type 0 where
+pub record DoesSession (opts : RunOpts) (answer : Answer) (told : Told) (told' : Option Told) (input : List ℕ) (input' taken taken' : Option (List ℕ)) : Type 0 where
   pub obeys : ObeysSession opts told input answer told' taken taken'
   pub rest : LeavesScript input answer input'
 
 -- What a command, or words that say none, did.
 abbrev pub DoesAs : Option Command → Answer → Told → Option Told → List ℕ → Option (List ℕ) → Option (List ℕ) → Option (List ℕ) → Type 0
 DoesAs None answer told told' input input' taken taken' = Does (λ effect. effect ≡ answers_alone Usage input) answer told told' input input' taken taken'
-DoesAs (Some (Go colours stack steps)) answer told told' input input' taken taken' = Does (GoEffect told.files colours stack steps input) answer told told' input input' taken taken'
-DoesAs (Some (Build colours stack)) answer told told' input input' taken taken' = Does (BuildEffect told.files colours stack input) answer told told' input input' taken taken'
-DoesAs (Some (Session colours stack steps)) answer told told' input input' taken taken' = DoesSession (opts_of colours stack steps) answer told told' input input' taken taken'
-DoesAs (Some (Bench number colours stack steps)) answer told told' input input' taken taken' = Does (BenchEffect number (opts_of colours stack steps) input) answer told told' input input' taken taken'
+DoesAs (Some (Go opts)) answer told told' input input' taken taken' = Does (GoEffect told.files opts input) answer told told' input input' taken taken'
+DoesAs (Some (Build opts)) answer told told' input input' taken taken' = Does (BuildEffect told.files opts input) answer told told' input input' taken taken'
+DoesAs (Some (Session opts)) answer told told' input input' taken taken' = DoesSession opts answer told told' input input' taken taken'
+DoesAs (Some (Bench number opts)) answer told told' input input' taken taken' = Does (BenchEffect number opts input) answer told told' input input' taken taken'
 DoesAs (Some (PhaseOne name)) answer told told' input input' taken taken' = Does (PhaseOneEffect told.files name input) answer told told' input input' taken taken'
 DoesAs (Some (Analyse colours)) answer told told' input input' taken taken' = Does (AnalyseEffect told.files colours input) answer told told' input input' taken taken'
 DoesAs (Some (PhaseTwo name)) answer told told' input input' taken taken' = Does (PhaseTwoEffect told.files name input) answer told told' input input' taken taken'

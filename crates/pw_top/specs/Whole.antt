@@ -7,7 +7,10 @@ use Rattle.pw_image.specs.Image.{Contents, IsImageFile}
 use Rattle.pw_store_modules.specs.Modules.{module_map}
 use Rattle.pw_top_answer.specs.declared.answer.Answer.{Answer}
 use Rattle.pw_top_answer.specs.declared.answer.Answer.TheVariants.{Done, StoreFault, NoMemory}
+use Rattle.pw_top_answer.specs.Effects.{Effect}
 use Rattle.pw_top_answer.specs.Outcomes.{Answers, LeavesInput, PutsOut}
+use Rattle.pw_build_opts.specs.declared.opts.Opts.{Opts}
+use Rattle.pw_build_opts.specs.declared.opts.RunOpts.{RunOpts}
 use Rattle.pw_session.specs.FromBuild.BuildFault.{BuildFault}
 use Rattle.pw_session.specs.FromBuildFiles.Building.{Outcome}
 use Rattle.pw_session.specs.FromBuildFiles.Full.{BuildsImage}
@@ -15,6 +18,7 @@ use Rattle.pw_session.specs.FromBuildFiles.Outcomes.{fault_answer}
 use Rattle.pw_commands.specs.MachineRun.{run_answer, run_output, run_rest}
 use Rattle.pw_session.specs.FromBuildFiles.Driving.{outcome_lines}
 use Rattle.pw_go.specs.Going.{run_from}
+use Rattle.pw_law_session.specs.Full.{BenchBuildsInFull}
 use Rattle.pw_law_session.specs.Whole.{LeavesFull}
 
 -- what holds of each answer but a fault of the store and want of memory
@@ -38,7 +42,12 @@ RunsFull budget input (Ok image) answer input' taken taken' =
     (c : Contents Image) × IsImageFile image c × Answers (run_answer (run_from budget input c)) answer × PutsOut (run_output (run_from budget input c)) answer taken taken' × LeavesInput (run_rest (run_from budget input c)) input answer input'
 RunsFull budget input (Err fault) answer input' taken taken' = TellsRefusal fault answer taken taken'
 
+-- The line, or the refusal, of `bench` is of the full build of the texts that are made from the number.
+abbrev pub BenchesFull : ℕ → RunOpts → List ℕ → Answer → (taken taken' : Option (List ℕ)) → Type 0
+BenchesFull number opts input answer taken taken' =
+    (effect : Effect) × BenchBuildsInFull number opts input effect × Answers effect.answer answer × PutsOut effect.output answer taken taken'
+
 -- The full build of the modules comes to an image, or to a fault, of which this holds, and the files are left so.
-abbrev pub ComesInFull : ℕ → ℕ → Told → Option Told → (Result (List ℕ) BuildFault → Type 0) → Type 0
-ComesInFull colours stack told new P =
-    (full : Result (List ℕ) BuildFault) × BuildsImage (module_map told.files) colours stack full × P full × LeavesFull (module_map told.files) colours stack full told new
+abbrev pub ComesInFull : Opts → Told → Option Told → (Result (List ℕ) BuildFault → Type 0) → Type 0
+ComesInFull opts told new P =
+    (full : Result (List ℕ) BuildFault) × BuildsImage (module_map told.files) opts full × P full × LeavesFull (module_map told.files) opts full told new

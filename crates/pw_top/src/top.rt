@@ -6,7 +6,7 @@ ghost use Rattle.pw_top_answer.specs.Answers.{line_text};
 ghost use Rattle.pw_top_answer.specs.Outcomes.{InputCount, LeavesStreams, OutputCount, StoreCount, Tells, TellsSome};
 ghost use Rattle.pw_session.specs.FromBuildFiles.Genuine.{KeepsGenuine};
 ghost use Rattle.pw_top.specs.Answers.{HoldsNoWantOfMemory, IsNoUsage};
-ghost use Rattle.pw_top.specs.Commands.{BuildsWhole, EndsScript, IsNoSession, KeepsTheRest, OnlyReads, RefusesAsBuilt, is_builder, is_phase, is_reader, line_of, opts_of};
+ghost use Rattle.pw_top.specs.Commands.{BuildsWhole, EndsScript, IsNoSession, KeepsTheRest, OnlyReads, RefusesAsBuilt, is_builder, is_phase, is_reader, line_of};
 ghost use Rattle.pw_top.specs.Does.{DoesAs};
 ghost use Rattle.pw_top.specs.Obeying.{CarriesOut, outside_of};
 ghost use Rattle.pw_top_words.specs.CommandLine.{command_of};
@@ -18,24 +18,12 @@ use pw_go::go;
 use pw_go::laws::runs_leave_an_end;
 use pw_io::laws::other_files;
 use pw_io::{Sink, Source, Store};
-use pw_law_session::{builds_are_full, sessions_build_in_full};
-use pw_session::{
-    Opts, SessionOpts, bench, build_modules, genuine_files_keep_genuine, run_session,
-};
+use pw_law_session::{bench_builds_in_full, builds_are_full, sessions_build_in_full};
+use pw_session::{bench, build_modules, genuine_files_keep_genuine, run_session};
 use pw_top_answer::{Answer, Reply, tell};
 use pw_top_words::laws::commands_are_within;
 use pw_top_words::{Command, WordsFault, command};
 use std::alloc::Global;
-
-/// How a session and `bench` build, and for how many instructions they run a program at most.
-fn opts_of(colours: u8, stack: u32, steps: u64) -> SessionOpts
-    ensures { result ≡ opts_of colours stack steps }
-{
-    SessionOpts {
-        build: Opts { colours, stack },
-        budget: steps,
-    }
-}
 
 /// Obeys a command that is one phase of separate compiling, the analysis or the link: it touches the store alone.
 fn obey_phase<S: Store>(alloc: Global, command: &Command, store: &mut S) -> Reply
@@ -107,44 +95,13 @@ fn obey_builder<S: Store, I: Source, O: Sink>(
 {
     other_files();
     match command {
-        Command::Go {
-            colours,
-            stack,
-            steps,
-        } => go(
-            alloc,
-            store,
-            &Opts {
-                colours: *colours,
-                stack: *stack,
-            },
-            *steps,
-            input,
-            out,
-        ),
-        Command::Build { colours, stack } => build_modules(
-            alloc,
-            store,
-            out,
-            &Opts {
-                colours: *colours,
-                stack: *stack,
-            },
-        ),
-        Command::Session {
-            colours,
-            stack,
-            steps,
-        } => Reply {
-            answer: run_session(alloc, store, input, out, &opts_of(*colours, *stack, *steps)),
+        Command::Go(opts) => go(alloc, store, opts, input, out),
+        Command::Build(opts) => build_modules(alloc, store, out, opts),
+        Command::Session(opts) => Reply {
+            answer: run_session(alloc, store, input, out, opts),
             line: 1,
         },
-        Command::Bench {
-            number,
-            colours,
-            stack,
-            steps,
-        } => bench(alloc, *number, &opts_of(*colours, *stack, *steps), out),
+        Command::Bench { number, opts } => bench(alloc, *number, opts, out),
         _ => unreachable!(),
     }
 }
@@ -169,10 +126,8 @@ fn obey<S: Store, I: Source, O: Sink>(
         Command::Run { .. } | Command::List | Command::Db => {
             obey_reader(alloc, command, store, input, out)
         }
-        Command::Go { .. }
-        | Command::Build { .. }
-        | Command::Session { .. }
-        | Command::Bench { .. } => obey_builder(alloc, command, store, input, out),
+        Command::Go(_) | Command::Build(_) | Command::Session(_) | Command::Bench { .. } =>
+            obey_builder(alloc, command, store, input, out),
     }
 }
 
@@ -231,7 +186,7 @@ pub fn pawc_top<S: Store, I: Source, O: Sink, E: Sink>(
     // no refusal is one for want of memory
     ensures no_want_refused { HoldsNoWantOfMemory result }
 
-    // the refusals of `go`, whatever the input tells
+    // the refusals of `build` and `go`, whatever the input tells
     ensures refuses { IfSome (S.told store.old) (λ told. RefusesAsBuilt (command_of (map string_bytes words.now)) told.files result) }
 
     // what stays
@@ -249,6 +204,7 @@ pub fn pawc_top<S: Store, I: Source, O: Sink, E: Sink>(
     ensures line { IfSome (S.told store.old) (λ told. Tells (line_text (line_of (command_of (map string_bytes words.now)) told.files) result) (E.taken err.old) (E.taken err.new) (E.faults err.old) (E.faults err.new)) }
     ensures some_line { TellsSome result (E.taken err.old) (E.taken err.new) (E.faults err.old) (E.faults err.new) }
 {
+    bench_builds_in_full();
     builds_are_full();
     commands_are_within();
     runs_leave_an_end();

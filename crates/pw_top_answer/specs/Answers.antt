@@ -55,7 +55,6 @@ feature_name feature.BitField = codes "BitField"
 feature_name feature.OldStyle = codes "OldStyle"
 feature_name feature.StructByValue = codes "StructByValue"
 feature_name feature.PointerCast = codes "PointerCast"
-feature_name feature.NotYet = codes "NotYet"
 
 -- why a text has no tokens, and at which byte, counted from 0; want of memory refuses no text
 abbrev pub lex_text : LexFault → List ℕ

@@ -26,7 +26,6 @@ fn feature_name(feature: Feature) -> &'static [u8]
         Feature::OldStyle => b"OldStyle",
         Feature::StructByValue => b"StructByValue",
         Feature::PointerCast => b"PointerCast",
-        Feature::NotYet => b"NotYet",
     }
 }
 

@@ -5,9 +5,10 @@ use Rattle.std.specs.Str.Parse.{digits_value}
 use Rattle.std.proofs.lemmas.Bool.Decides.{nat_tests}
 use Rattle.pw_value.specs.Limits.{stack_least, stack_limit}
 use Rattle.pw_store_modules.specs.Modules.{is_module_name}
+use Rattle.pw_build_opts.specs.declared.opts.RunOpts.{RunOpts}
 use Rattle.pw_top_words.specs.declared.commands.Command.{Command}
 use Rattle.pw_top_words.specs.declared.commands.Command.TheVariants.{Go, Build, Session, PhaseOne, Analyse, PhaseTwo, Link, Run, List as ListImage, Db, Bench}
-use Rattle.pw_top_words.specs.CommandLine.{Text, Part, is_numeral, number_in, number_or, value_of, colours, stack, steps, colours_in, stack_in, steps_in, module_named, module_in, plain_word, parts_of, seed_in, with_build, with_run, go_of, build_of, session_of, analyse_of, link_of, run_of, bench_of, command_by_name, command_of, usual_stack}
+use Rattle.pw_top_words.specs.CommandLine.{Text, Part, is_numeral, number_in, number_or, value_of, colours, stack, steps, colours_in, stack_in, steps_in, module_named, module_in, plain_word, parts_of, seed_in, built_with, run_with, with_build, with_run, go_of, build_of, session_of, analyse_of, link_of, run_of, bench_of, command_by_name, command_of, usual_stack}
 use Rattle.pw_top_words.specs.Limits.{IsStack, IsWithin}
 use Rattle.pw_db.specs.Limits.{colour_limit}
 
@@ -91,18 +92,18 @@ any_within make None k = none_within
 any_within make (Some n) k = some_within (make n) (k n)
 
 -- the numbers of a build and a run, for each command that has them
-abbrev Runs : (ℕ → ℕ → ℕ → Command) → Type 0
-Runs say = (c s n : ℕ) → c ≤ colour_limit → IsStack s → IsWithin (say c s n)
+abbrev Runs : (RunOpts → Command) → Type 0
+Runs say = (c s n : ℕ) → c ≤ colour_limit → IsStack s → IsWithin (say (run_with c s n))
 
-stacked : (say : ℕ → ℕ → ℕ → Command) (c : ℕ) (given : Option ℕ) (parts : List Part) → Runs say → c ≤ colour_limit → IsIn stack_least stack_limit given → Within (option_and_then (λ s. option_map (λ n. say c s n) (steps_in parts)) given)
+stacked : (say : RunOpts → Command) (c : ℕ) (given : Option ℕ) (parts : List Part) → Runs say → c ≤ colour_limit → IsIn stack_least stack_limit given → Within (option_and_then (λ s. option_map (λ n. say (run_with c s n)) (steps_in parts)) given)
 stacked say c None parts all h k = none_within
-stacked say c (Some s) parts all h k = any_within (λ n. say c s n) (steps_in parts) (λ n. all c s n h k)
+stacked say c (Some s) parts all h k = any_within (λ n. say (run_with c s n)) (steps_in parts) (λ n. all c s n h k)
 
-coloured : (say : ℕ → ℕ → ℕ → Command) (given : Option ℕ) (parts : List Part) → Runs say → IsIn 0 colour_limit given → Within (option_and_then (λ c. option_and_then (λ s. option_map (λ n. say c s n) (steps_in parts)) (stack_in parts)) given)
+coloured : (say : RunOpts → Command) (given : Option ℕ) (parts : List Part) → Runs say → IsIn 0 colour_limit given → Within (option_and_then (λ c. option_and_then (λ s. option_map (λ n. say (run_with c s n)) (steps_in parts)) (stack_in parts)) given)
 coloured say None parts all h = none_within
 coloured say (Some c) parts all h = stacked say c (stack_in parts) parts all h.1 (stack_is_in parts)
 
-run_options_within : (say : ℕ → ℕ → ℕ → Command) (parts : List Part) → Runs say → Within (with_run say parts)
+run_options_within : (say : RunOpts → Command) (parts : List Part) → Runs say → Within (with_run say parts)
 run_options_within say parts all = coloured say (colours_in parts) parts all (colours_are_in parts)
 
 go_within : (words : List Text) → Within (go_of words)
@@ -119,11 +120,11 @@ bench_within : (words : List Text) → Within (bench_of words)
 bench_within words = parts_within (parts_of (colours ∷ stack ∷ steps ∷ []) 1 words) (λ parts. option_and_then (λ x. with_run (Bench x) parts) (seed_in parts)) (λ parts. seeded (seed_in parts) parts)
 
 -- the numbers of a build
-built : (c : ℕ) (given : Option ℕ) → c ≤ colour_limit → IsIn stack_least stack_limit given → Within (option_map (λ s. Build c s) given)
+built : (c : ℕ) (given : Option ℕ) → c ≤ colour_limit → IsIn stack_least stack_limit given → Within (option_map (λ s. Build (built_with c s)) given)
 built c None h k = none_within
-built c (Some s) h k = some_within (Build c s) (h, k)
+built c (Some s) h k = some_within (Build (built_with c s)) (h, k)
 
-build_options_within : (given : Option ℕ) (parts : List Part) → IsIn 0 colour_limit given → Within (option_and_then (λ c. option_map (λ s. Build c s) (stack_in parts)) given)
+build_options_within : (given : Option ℕ) (parts : List Part) → IsIn 0 colour_limit given → Within (option_and_then (λ c. option_map (λ s. Build (built_with c s)) (stack_in parts)) given)
 build_options_within None parts h = none_within
 build_options_within (Some c) parts h = built c (stack_in parts) h.1 (stack_is_in parts)
 

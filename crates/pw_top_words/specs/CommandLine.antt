@@ -6,6 +6,8 @@ use Rattle.std.specs.Str.{bytes_eq}
 use Rattle.std.specs.Str.Parse.{digits_value}
 use Rattle.pw_value.specs.Limits.{stack_least, stack_limit}
 use Rattle.pw_store_modules.specs.Modules.{is_module_name}
+use Rattle.pw_build_opts.specs.declared.opts.Opts.{Opts}
+use Rattle.pw_build_opts.specs.declared.opts.RunOpts.{RunOpts}
 use Rattle.pw_top_words.specs.declared.fault.WordsFault.{WordsFault}
 use Rattle.pw_top_words.specs.declared.fault.WordsFault.TheVariants.{Usage, NoMemory}
 use Rattle.pw_top_words.specs.declared.commands.Command.{Command}
@@ -174,12 +176,18 @@ seed_in parts = option_and_then (number_in 0 seed_limit) (plain_word parts)
 -- ---- commands
 
 -- what is said by the options of a build, and by those of a build and a run
-abbrev pub with_build : (ℕ → ℕ → Command) → List Part → Option Command
-with_build say parts = option_and_then (λ c. option_map (λ s. say c s) (stack_in parts)) (colours_in parts)
+abbrev pub built_with : ℕ → ℕ → Opts
+built_with c s = record { colours = c; stack = s }
 
-abbrev pub with_run : (ℕ → ℕ → ℕ → Command) → List Part → Option Command
+abbrev pub with_build : (Opts → Command) → List Part → Option Command
+with_build say parts = option_and_then (λ c. option_map (λ s. say (built_with c s)) (stack_in parts)) (colours_in parts)
+
+abbrev pub run_with : ℕ → ℕ → ℕ → RunOpts
+run_with c s n = record { build = built_with c s; budget = n }
+
+abbrev pub with_run : (RunOpts → Command) → List Part → Option Command
 with_run say parts =
-    option_and_then (λ c. option_and_then (λ s. option_map (λ n. say c s n) (steps_in parts)) (stack_in parts)) (colours_in parts)
+    option_and_then (λ c. option_and_then (λ s. option_map (λ n. say (run_with c s n)) (steps_in parts)) (stack_in parts)) (colours_in parts)
 
 -- what the words behind a command's name say
 abbrev pub go_of : List Text → Option Command

@@ -1,55 +1,35 @@
 //! Commands.
 
+use pw_build_opts::{Opts, RunOpts};
 use pw_value::Name;
 
 /// What a command line asks for.
 ///
 /// `colours` is how many registers webs may have, at most [`pw_db::COLOUR_LIMIT`]; `stack` is the bytes of the stack, and `steps` how many
-/// instructions a run may take. A module's name is one that `pw_store_modules::is_module_name` takes.
+/// instructions a run may take; so are those of the options. A module's name is one that
+/// `pw_store_modules::is_module_name` takes.
 #[derive(Drop)]
 pub enum Command {
     /// Build, then run.
-    Go {
-        colours: u8,
-        stack: u32,
-        steps: u64,
-    },
+    Go(RunOpts),
     /// Build.
-    Build {
-        colours: u8,
-        stack: u32,
-    },
+    Build(Opts),
     /// A script of edits, builds and runs.
-    Session {
-        colours: u8,
-        stack: u32,
-        steps: u64,
-    },
+    Session(RunOpts),
     /// The first phase of a module.
     PhaseOne(Name),
     /// The analysis of all modules.
-    Analyse {
-        colours: u8,
-    },
+    Analyse { colours: u8 },
     /// The second phase of a module.
     PhaseTwo(Name),
     /// The link of all modules.
-    Link {
-        stack: u32,
-    },
+    Link { stack: u32 },
     /// A run of the linked program.
-    Run {
-        steps: u64,
-    },
+    Run { steps: u64 },
     /// The linked program as text.
     List,
     /// The database as text.
     Db,
     /// A build and a run of modules that are made from a number.
-    Bench {
-        number: u32,
-        colours: u8,
-        stack: u32,
-        steps: u64,
-    },
+    Bench { number: u32, opts: RunOpts },
 }

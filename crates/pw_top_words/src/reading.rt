@@ -10,6 +10,7 @@ use crate::fault::WordsFault;
 use crate::numbers::{DIGITS_LIMIT, number_in};
 use crate::reader::{OPERAND, read_parts};
 use clap::ArgMatches;
+use pw_build_opts::{Opts, RunOpts};
 use pw_db::COLOUR_LIMIT;
 use pw_store_modules::is_module_name;
 use pw_value::limits::{STACK_LEAST, STACK_LIMIT};
@@ -146,32 +147,36 @@ fn go(alloc: Global, words: &[String]) -> Result<Command, WordsFault>
     ensures { Reads (go_of (drop 1 (map string_bytes words.now))) result }
 {
     let matches = read_parts(alloc, words, &BUILD_AND_RUN, false)?;
-    Ok(Command::Go {
-        colours: colours(&matches)?,
-        stack: stack(&matches)?,
-        steps: steps(&matches)?,
-    })
+    Ok(Command::Go(RunOpts {
+        build: Opts {
+            colours: colours(&matches)?,
+            stack: stack(&matches)?,
+        },
+        budget: steps(&matches)?,
+    }))
 }
 
 fn build(alloc: Global, words: &[String]) -> Result<Command, WordsFault>
     ensures { Reads (build_of (drop 1 (map string_bytes words.now))) result }
 {
     let matches = read_parts(alloc, words, &BUILD, false)?;
-    Ok(Command::Build {
+    Ok(Command::Build(Opts {
         colours: colours(&matches)?,
         stack: stack(&matches)?,
-    })
+    }))
 }
 
 fn session(alloc: Global, words: &[String]) -> Result<Command, WordsFault>
     ensures { Reads (session_of (drop 1 (map string_bytes words.now))) result }
 {
     let matches = read_parts(alloc, words, &BUILD_AND_RUN, false)?;
-    Ok(Command::Session {
-        colours: colours(&matches)?,
-        stack: stack(&matches)?,
-        steps: steps(&matches)?,
-    })
+    Ok(Command::Session(RunOpts {
+        build: Opts {
+            colours: colours(&matches)?,
+            stack: stack(&matches)?,
+        },
+        budget: steps(&matches)?,
+    }))
 }
 
 fn phase_one(alloc: Global, words: &[String]) -> Result<Command, WordsFault>
@@ -235,9 +240,13 @@ fn bench(alloc: Global, words: &[String]) -> Result<Command, WordsFault>
     let matches = read_parts(alloc, words, &BUILD_AND_RUN, true)?;
     Ok(Command::Bench {
         number: seed(&matches)?,
-        colours: colours(&matches)?,
-        stack: stack(&matches)?,
-        steps: steps(&matches)?,
+        opts: RunOpts {
+            build: Opts {
+                colours: colours(&matches)?,
+                stack: stack(&matches)?,
+            },
+            budget: steps(&matches)?,
+        },
     })
 }
 

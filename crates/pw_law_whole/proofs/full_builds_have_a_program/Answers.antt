@@ -6,8 +6,8 @@ use Rattle.pw_law_whole.proofs.full_builds_have_a_program.Goals as goal
 
 pub returns : goal.returns
 returns c = record {
-  program = λ texts colours stack parts built.
-      let p = flows_within (limit_passed (finite.entries texts)) (flows_of (finite.entries texts)) [] colours stack parts built in
+  program = λ texts opts parts built.
+      let p = flows_within (limit_passed (finite.entries texts)) (flows_of (finite.entries texts)) [] opts parts built in
       let q = modules_from c.phase_one_is_exact.ensures (finite.entries texts) p.0 p.1 in
       (record { modules = q.0 }, q.1);
   one = λ texts p q. one_program c.front_is_exact.ensures.exact c.checks_is_exact.ensures (finite.entries texts) p q;

@@ -1,7 +1,7 @@
 use Rattle.std.proofs.Common.{refl}
 use Rattle.pw_store_modules.specs.Modules.{modules_of}
 use Rattle.pw_build_files.specs.FromBuild.Phases.{refused_line}
-use Rattle.pw_build_files.proofs.DrivingLemmas.{fault_is_answer, fault_line, fault_obeys, fault_output, fault_streams, fault_writes, report_answer, report_count, report_line, report_obeys, report_output, report_streams}
+use Rattle.pw_build_files.proofs.DrivingLemmas.{fault_is_answer, fault_line, fault_obeys, fault_output, fault_refusal, fault_streams, fault_writes, report_answer, report_count, report_line, report_obeys, report_output, report_refusal, report_streams}
 use Rattle.pw_build_files.proofs.OthersLemmas.{built_unput, unbuilt_unput}
 use Rattle.pw_build_files.proofs.driving.build_modules.Goals as goal
 
@@ -11,6 +11,9 @@ returns-in-Ok-clause-obeys g c = report_obeys (g.S.Store.told c.args.store.now) 
 pub returns-in-Ok-clause-output : goal.returns-in-Ok-clause-output
 returns-in-Ok-clause-output g c =
     report_output (g.S.Store.told c.args.store.now) _ c.args.opts.now c.in-Ok.report _ (g.O.Sink.taken c.args.out.now) _ c.in-Ok.ensures.obeys c.put_report.ensures.output
+
+pub returns-in-Ok-clause-refusal : goal.returns-in-Ok-clause-refusal
+returns-in-Ok-clause-refusal g c = report_refusal (g.S.Store.told c.args.store.now) _ c.args.opts.now c.in-Ok.report _ c.put_report.ensures.answer c.in-Ok.ensures.obeys
 
 pub returns-in-Ok-clause-others : goal.returns-in-Ok-clause-others
 returns-in-Ok-clause-others g c = built_unput c.other_files.ensures.insertion _ (g.S.Store.told c.args.store.now) _ c.in-Ok.ensures.others
@@ -32,6 +35,9 @@ returns-in-Err-clause-obeys g c = fault_obeys (g.S.Store.told c.args.store.now) 
 
 pub returns-in-Err-clause-output : goal.returns-in-Err-clause-output
 returns-in-Err-clause-output g c = fault_output (g.S.Store.told c.args.store.now) _ c.args.opts.now c.in-Err.unbuilt _ (g.O.Sink.taken c.args.out.now) c.answer_of.ensures c.in-Err.ensures.obeys
+
+pub returns-in-Err-clause-refusal : goal.returns-in-Err-clause-refusal
+returns-in-Err-clause-refusal g c = fault_refusal (g.S.Store.told c.args.store.now) _ c.args.opts.now c.in-Err.unbuilt _ c.answer_of.ensures c.in-Err.ensures.obeys
 
 pub returns-in-Err-clause-others : goal.returns-in-Err-clause-others
 returns-in-Err-clause-others g c = unbuilt_unput c.other_files.ensures.insertion c.other_files.ensures.failure c.in-Err.unbuilt.fault _ (g.S.Store.told c.args.store.now) _ c.answer_of.ensures c.in-Err.ensures.others

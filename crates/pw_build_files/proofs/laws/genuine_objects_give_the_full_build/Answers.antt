@@ -5,5 +5,5 @@ use Rattle.pw_build_files.proofs.NameLemmas.{names_are}
 use Rattle.pw_build_files.proofs.laws.genuine_objects_give_the_full_build.Goals as goal
 
 pub returns : goal.returns
-returns c = λ files colours stack a keeps builds.
-    c.genuine_objects_give_the_full_build.ensures (modules_of files) (kept_objects files) colours stack a (kept_genuine files (names_of_modules files) (names_are (record { keys = c.names.ensures.exact; modules = c.modules_are_exact.ensures.exact }) files) keeps) builds
+returns c = λ files opts a keeps builds.
+    c.genuine_objects_give_the_full_build.ensures (modules_of files) (kept_objects files) opts a (kept_genuine files (names_of_modules files) (names_are (record { keys = c.names.ensures.exact; modules = c.modules_are_exact.ensures.exact }) files) keeps) builds

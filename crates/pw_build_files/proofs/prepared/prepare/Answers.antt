@@ -14,7 +14,7 @@ use Rattle.pw_build_files.proofs.prepared.prepare.Goals as goal
 
 pub returns-in-Ok-clause-comes : goal.returns-in-Ok-clause-comes
 returns-in-Ok-clause-comes g c =
-    on_modules (λ told. map source c.in-Ok.modules.items ≡ modules_of told.files) (λ told. IfOk c.prepared_of.result (λ p. BuildOutcome told.files c.args.opts.now.colours c.args.opts.now.stack (Ok (outcome_of p))))
+    on_modules (λ told. map source c.in-Ok.modules.items ≡ modules_of told.files) (λ told. IfOk c.prepared_of.result (λ p. BuildOutcome told.files c.args.opts.now (Ok (outcome_of p))))
     (g.S.Store.told c.args.store.now) _ c.in-Ok.ensures.modules c.few_modules.ensures.same (rw c.deref.ensures.value at c.prepared_of.ensures.comes)
 
 pub returns-in-Ok-clause-own : goal.returns-in-Ok-clause-own

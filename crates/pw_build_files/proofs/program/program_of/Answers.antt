@@ -6,7 +6,7 @@ use Rattle.pw_build_files.proofs.program.program_of.Goals as goal
 
 pub returns-clause-files : goal.returns-clause-files
 returns-clause-files g c =
-    made_of_program c.args.modules.now c.args.colours c.args.stack (λ told. map (λ m. kept_object told.files m.name) c.args.modules.now) (g.S.Store.told c.args.store.now) c.in_ok-built.built c.in_ok-files_of.field-0 c.in_ok-built.ensures.built
+    made_of_program c.args.modules.now c.args.opts.now (λ told. map (λ m. kept_object told.files m.name) c.args.modules.now) (g.S.Store.told c.args.store.now) c.in_ok-built.built c.in_ok-files_of.field-0 c.in_ok-built.ensures.built
     (rw c.deref-2.ensures.value at rw c.deref.ensures.value at c.in_ok-files_of.ensures.names) (rw c.deref-2.ensures.value at rw c.deref.ensures.value at c.in_ok-files_of.ensures.objects)
     c.in_ok-files_of.ensures.database c.in_ok-files_of.ensures.image c.in_ok-built.ensures.image
 

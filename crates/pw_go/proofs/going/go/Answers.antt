@@ -1,23 +1,23 @@
 use Rattle.std.proofs.Common.{refl}
 use Rattle.pw_store_modules.specs.Modules.{modules_of}
 use Rattle.pw_build_files.specs.FromBuild.Phases.{refused_line}
-use Rattle.pw_build_files.proofs.DrivingLemmas.{fault_line, fault_streams, fault_writes}
+use Rattle.pw_build_files.proofs.DrivingLemmas.{fault_line, fault_refusal, fault_streams, fault_writes}
 use Rattle.pw_build_files.proofs.OthersLemmas.{built_unput, unbuilt_unput}
-use Rattle.pw_go.proofs.GoLemmas.{fault_comes, fault_is, fault_obeys, fault_output, fault_reads, fault_rest, run_comes, run_is, run_line, run_obeys, run_output_is, run_rest_is, run_stores, run_streams}
+use Rattle.pw_go.proofs.GoLemmas.{fault_is, fault_obeys, fault_output, fault_reads, fault_rest, run_comes, run_is, run_line, run_obeys, run_output_is, run_rest_is, run_stores, run_streams}
 use Rattle.pw_go.proofs.going.go.Goals as goal
 
 pub returns-in-Ok-clause-obeys : goal.returns-in-Ok-clause-obeys
 returns-in-Ok-clause-obeys g c =
-    run_obeys (g.S.Store.told c.args.store.now) _ (g.I.Source.rest c.args.input.now) _ _ _ c.args.opts.now c.in-Ok.report c.run_built.result c.args.budget c.run_built.ensures.answer c.in-Ok.ensures.image c.in-Ok.ensures.obeys
+    run_obeys (g.S.Store.told c.args.store.now) _ (g.I.Source.rest c.args.input.now) _ _ _ c.args.opts.now c.in-Ok.report c.run_built.result c.run_built.ensures.answer c.in-Ok.ensures.image c.in-Ok.ensures.obeys
     (rw c.deref.ensures.value at c.run_built.ensures.run)
 
 pub returns-in-Ok-clause-output : goal.returns-in-Ok-clause-output
 returns-in-Ok-clause-output g c =
-    run_output_is (g.S.Store.told c.args.store.now) _ (g.I.Source.rest c.args.input.now) _ _ _ c.args.opts.now c.in-Ok.report c.run_built.result c.args.budget c.in-Ok.ensures.obeys (rw c.deref.ensures.value at c.run_built.ensures.run)
+    run_output_is (g.S.Store.told c.args.store.now) _ (g.I.Source.rest c.args.input.now) _ _ _ c.args.opts.now c.in-Ok.report c.run_built.result c.in-Ok.ensures.obeys (rw c.deref.ensures.value at c.run_built.ensures.run)
 
 pub returns-in-Ok-clause-rest : goal.returns-in-Ok-clause-rest
 returns-in-Ok-clause-rest g c =
-    run_rest_is (g.S.Store.told c.args.store.now) _ (g.I.Source.rest c.args.input.now) _ _ _ c.args.opts.now c.in-Ok.report c.run_built.result c.args.budget c.in-Ok.ensures.obeys (rw c.deref.ensures.value at c.run_built.ensures.run)
+    run_rest_is (g.S.Store.told c.args.store.now) _ (g.I.Source.rest c.args.input.now) _ _ _ c.args.opts.now c.in-Ok.report c.run_built.result c.in-Ok.ensures.obeys (rw c.deref.ensures.value at c.run_built.ensures.run)
 
 pub returns-in-Ok-clause-refusal : goal.returns-in-Ok-clause-refusal
 returns-in-Ok-clause-refusal g c = run_comes (g.S.Store.told c.args.store.now) _ c.args.opts.now c.in-Ok.report c.run_built.result c.run_built.ensures.answer c.in-Ok.ensures.obeys
@@ -38,17 +38,17 @@ pub returns-in-Ok-clause-streams : goal.returns-in-Ok-clause-streams
 returns-in-Ok-clause-streams g c = run_streams c.run_built.result _ _ _ _ c.run_built.ensures.answer
 
 pub returns-in-Err-clause-obeys : goal.returns-in-Err-clause-obeys
-returns-in-Err-clause-obeys g c = fault_obeys (g.S.Store.told c.args.store.now) _ (g.I.Source.rest c.args.input.now) c.args.opts.now c.in-Err.unbuilt c.answer_of.result c.args.budget c.answer_of.ensures c.in-Err.ensures.obeys
+returns-in-Err-clause-obeys g c = fault_obeys (g.S.Store.told c.args.store.now) _ (g.I.Source.rest c.args.input.now) c.args.opts.now c.in-Err.unbuilt c.answer_of.result c.answer_of.ensures c.in-Err.ensures.obeys
 
 pub returns-in-Err-clause-output : goal.returns-in-Err-clause-output
 returns-in-Err-clause-output g c =
-    fault_output (g.S.Store.told c.args.store.now) _ (g.I.Source.rest c.args.input.now) (g.O.Sink.taken c.args.out.now) c.args.opts.now c.in-Err.unbuilt c.answer_of.result c.args.budget c.answer_of.ensures c.in-Err.ensures.obeys
+    fault_output (g.S.Store.told c.args.store.now) _ (g.I.Source.rest c.args.input.now) (g.O.Sink.taken c.args.out.now) c.args.opts.now c.in-Err.unbuilt c.answer_of.result c.answer_of.ensures c.in-Err.ensures.obeys
 
 pub returns-in-Err-clause-rest : goal.returns-in-Err-clause-rest
-returns-in-Err-clause-rest g c = fault_rest (g.S.Store.told c.args.store.now) _ (g.I.Source.rest c.args.input.now) c.args.opts.now c.in-Err.unbuilt c.answer_of.result c.args.budget c.answer_of.ensures c.in-Err.ensures.obeys
+returns-in-Err-clause-rest g c = fault_rest (g.S.Store.told c.args.store.now) _ (g.I.Source.rest c.args.input.now) c.args.opts.now c.in-Err.unbuilt c.answer_of.result c.answer_of.ensures c.in-Err.ensures.obeys
 
 pub returns-in-Err-clause-refusal : goal.returns-in-Err-clause-refusal
-returns-in-Err-clause-refusal g c = fault_comes (g.S.Store.told c.args.store.now) _ c.args.opts.now c.in-Err.unbuilt c.answer_of.result c.answer_of.ensures c.in-Err.ensures.obeys
+returns-in-Err-clause-refusal g c = fault_refusal (g.S.Store.told c.args.store.now) _ c.args.opts.now.build c.in-Err.unbuilt c.answer_of.result c.answer_of.ensures c.in-Err.ensures.obeys
 
 pub returns-in-Err-clause-others : goal.returns-in-Err-clause-others
 returns-in-Err-clause-others g c =

@@ -7,4 +7,4 @@ pub returns-clause-run : goal.returns-clause-run
 returns-clause-run c = λ files budget input. runs_end (core_in files) budget input
 
 pub returns-clause-go : goal.returns-clause-go
-returns-clause-go c = λ files colours stack budget input effect d. go_ends files colours stack budget input effect d
+returns-clause-go c = λ files opts input effect d. go_ends files opts input effect d

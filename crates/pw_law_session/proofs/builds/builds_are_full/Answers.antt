@@ -3,10 +3,10 @@ use Rattle.pw_law_session.proofs.builds.builds_are_full.Goals as goal
 
 pub returns : goal.returns
 returns c = λ told opts comes are keeps h.
-    in_full opts.colours opts.stack
+    in_full opts
     (record {
-      whole = λ t stack outcome k b. c.a_build_leaves_the_whole_program.ensures t opts.colours stack outcome k b;
-      full = λ files stack r k b. c.genuine_objects_give_the_full_image.ensures files opts.colours stack r k b;
-      one = λ texts stack a b x y. c.texts_have_one_image.ensures texts opts.colours stack a b are.colours x y;
+      whole = λ t outcome k b. c.a_build_leaves_the_whole_program.ensures t opts outcome k b;
+      full = λ files r k b. c.genuine_objects_give_the_full_image.ensures files opts r k b;
+      one = λ texts a b x y. c.texts_have_one_image.ensures texts opts a b are.colours x y;
     })
     told comes keeps h

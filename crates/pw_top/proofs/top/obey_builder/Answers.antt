@@ -15,7 +15,7 @@ returns-in-Go-clause-obeys g c =
     let rest = g.I.Source.rest c.args.input.now in
     let taken = g.O.Sink.taken c.args.out.now in
     rw c.in-Go.is (record {
-      does = go_does told _ rest _ taken _ _ _ _ _ c.go.ensures.obeys c.go.ensures.output c.go.ensures.rest;
+      does = go_does told _ rest _ taken _ _ _ c.go.ensures.obeys c.go.ensures.output c.go.ensures.rest;
       ends = tt;
       refusal = c.go.ensures.refusal;
       proper = go_proper _ c.go.ensures.answer;
@@ -38,9 +38,9 @@ returns-in-Build-clause-obeys g c =
     let rest = g.I.Source.rest c.args.input.now in
     let taken = g.O.Sink.taken c.args.out.now in
     rw c.in-Build.is (record {
-      does = build_does told _ rest taken _ _ _ _ c.build_modules.ensures.obeys c.build_modules.ensures.output;
+      does = build_does told _ rest taken _ _ _ c.build_modules.ensures.obeys c.build_modules.ensures.output;
       ends = tt;
-      refusal = none_due told;
+      refusal = c.build_modules.ensures.refusal;
       proper = build_proper _ c.build_modules.ensures.answer;
       others = c.build_modules.ensures.others;
       genuine = c.build_modules.ensures.genuine;
@@ -61,7 +61,7 @@ returns-in-Session-clause-obeys g c =
     let rest = g.I.Source.rest c.args.input.now in
     let taken = g.O.Sink.taken c.args.out.now in
     rw c.in-Session.is (record {
-      does = rw c.opts_of.ensures at (session_does told _ rest _ taken _ _ _ c.run_session.ensures.obeys c.run_session.ensures.rest);
+      does = session_does told _ rest _ taken _ _ _ c.run_session.ensures.obeys c.run_session.ensures.rest;
       ends = c.run_session.ensures.ends;
       refusal = none_due told;
       proper = session_proper _ c.run_session.ensures.answer;
@@ -84,7 +84,7 @@ returns-in-Bench-clause-obeys g c =
     let rest = g.I.Source.rest c.args.input.now in
     let taken = g.O.Sink.taken c.args.out.now in
     rw c.in-Bench.is (record {
-      does = rw c.opts_of-in-Bench.ensures at (bench_does told rest taken _ _ _ _ c.bench.ensures.obeys);
+      does = bench_does told rest taken _ _ _ _ c.bench.ensures.obeys;
       ends = tt;
       refusal = none_due told;
       proper = bench_proper _ c.bench.ensures.answer;

@@ -1,5 +1,5 @@
 use Rattle.pw_phase_two.proofs.ObjectLaws.{object_lawful}
-use Rattle.pw_phase_two.proofs.phases.phase_two.Goals as goal
+use Rattle.pw_phase_two.proofs.phases.object_of.Goals as goal
 
 pub returns-clause-lawful : goal.returns-clause-lawful
 returns-clause-lawful c =
