@@ -21,9 +21,9 @@ use Rattle.pw_build_objects.specs.Programs.{DirectivesList, AreSummariesOf, Comp
 use Rattle.pw_law_direction.specs.Laws.{FirstPlacesServe}
 use Rattle.pw_run_languages.specs.LinkingLaws.{frame_in}
 use Rattle.pw_cmean.specs.Worlds.{Program, ProgramModule}
-use Rattle.pw_law_layers.specs.Lowering.{flow_program, AreChecked, LoweringKeepsRuns}
+use Rattle.pw_law_layers.specs.Lowering.{flow_program, AreChecked}
 use Rattle.pw_law_layers.specs.Accepting.{HasNoColon, AreNamedPlainly, IsWhole}
-use Rattle.pw_law_layers.specs.Whole.{image_of, FramesFit, AllFramesFit, LoweredImplements}
+use Rattle.pw_law_layers.specs.Whole.{image_of, IsLaidOut, LoweredHaveRooms, LoweredImplements}
 use Rattle.pw_law_analysis.specs.SummaryGraphs.{AllSummarise}
 use Rattle.pw_token.specs.declared.token.Token.{Token}
 use Rattle.pw_token.specs.Tokenization.{IsLexed}
@@ -35,7 +35,6 @@ use Rattle.pw_law_checked.specs.Names.{HasShortStrings}
 use Rattle.pw_law_checked.specs.Words.{AreWordsInModule}
 use Rattle.pw_law_accept.specs.Linked.{AreLinked, AreOfWords}
 use Rattle.pw_law_analysis.specs.SummaryLaws.{SummariesSayTheSame}
-use Rattle.pw_law_analysis.specs.AnalyserLaws.{DatabasesServe}
 use Rattle.pw_law_whole.specs.Programs.{IsProgramOf, HavePlainNames, IsWholeWith, flows_in, functions_under}
 use Rattle.pw_law_whole.proofs.Texts.{flow_of, names_same, all_checked}
 use Rattle.pw_law_whole.proofs.Objects.{all_show, modules_named, same_globals, code_of_all}
@@ -77,14 +76,14 @@ of_words strings numbers p checked m there =
 
 -- ---- together
 
-pub whole_with : LoweredImplements → SummariesSayTheSame → FirstPlacesServe →
+pub whole_with : LoweredHaveRooms → LoweredImplements → SummariesSayTheSame → FirstPlacesServe →
     ((ss : List Summary) (colours : ℕ) (d : DirectivesList) → colours ≤ register_count → IsDatabaseOf ss colours d → IsDatabase d) →
     ((db : DirectivesList) → IsDatabase db → (gs hs : DirectivesList) → All (HasDirectives db) gs → All (HasDirectives db) hs → map (λ f. f.0) gs ≡ map (λ f. f.0) hs → gs ≡ hs) →
     ((p : Program) (frame_of : List ℕ → ℕ) (stack : ℕ) → AreChecked p → AreNamedPlainly p → IsRising (map (λ m. m.name) p.modules) → stack ≤ stack_limit →
     AreLinked (map flow_of p.modules) → AreOfWords p → IsWhole p frame_of stack) → ((p : Program) → AreChecked p → AreOfWords p) →
     (texts : Texts) (colours stack : ℕ) (parts : Parts) (p : Program) → Completes (map flow_of p.modules) [] colours stack (Ok parts) → IsProgramOf texts p →
     HavePlainNames texts → colours ≤ colour_limit → stack_least ≤ stack → stack ≤ stack_limit → IsWholeWith p parts colours stack
-whole_with implements same serve databases one accepted words texts colours stack parts p (are, linked) of_texts plain few enough room =
+whole_with rooms implements same serve databases one accepted words texts colours stack parts p (are, linked) of_texts plain few enough room =
     let flows = map flow_of p.modules in
     let db = parts.database in
     let has = are.database in
@@ -95,44 +94,34 @@ whole_with implements same serve databases one accepted words texts colours stac
     let whole : IsWhole p (frame_in (image_of parts.objects stack)) stack =
     accepted p (frame_in (image_of parts.objects stack)) stack checked (plain_names texts p plain of_texts) (rise texts p of_texts) room objects (words p checked) in
     let summarised : AllSummarise flows has.summaries = all_summarise flows has.summaries has.of_flows in
+    let laid : IsLaidOut p (flows_in p parts stack) db (functions_under p parts stack) parts.objects = record {
+      program = whole.accepted.program;
+      rooms = rooms p (frame_in (image_of parts.objects stack)) stack whole.parts whole.accepted;
+      frames = refl;
+      database = lawful_db;
+      serve = serve (flow_program p (frame_in (image_of parts.objects stack)) stack) db whole.accepted.program lawful_db;
+      made = record {
+        modules = modules_named db single flows parts.objects parts.fresh are.objects;
+        globals = same_globals db single flows parts.objects parts.fresh are.objects;
+        code = code_of_all db single flows parts.objects parts.fresh are.objects;
+      };
+    } in
     record {
       checked = checked;
       whole = whole;
+      laid_out = laid;
       summaries = has.summaries;
       analysed = λ low. record {
         implements = implements low p (frame_in (image_of parts.objects stack)) stack checked whole.parts whole.accepted;
-        frames = refl;
+        frames = laid.frames;
         names = whole.names;
         enough = enough;
         linked = record { each = all_lawful flows has.summaries are.lawful has.of_flows; linked = has.linked };
         few = omega (arith, few);
         database = has.database;
         alike = same p (frame_in (image_of parts.objects stack)) stack has.summaries has.database.graph whole.accepted summarised has.database.graph_of;
-        serve = serve (flow_program p (frame_in (image_of parts.objects stack)) stack) db whole.accepted.program lawful_db;
-        made = record {
-          modules = modules_named db single flows parts.objects parts.fresh are.objects;
-          globals = same_globals db single flows parts.objects parts.fresh are.objects;
-          code = code_of_all db single flows parts.objects parts.fresh are.objects;
-        };
+        serve = laid.serve;
+        made = laid.made;
         fits = linked.fits;
       };
     }
-
--- ---- frames
-
-pub frames_fit : DatabasesServe → AllFramesFit → LoweringKeepsRuns → (p : Program) (parts : Parts) (colours stack : ℕ) → IsWholeWith p parts colours stack → FramesFit p (image_of parts.objects stack)
-frames_fit serves fit low p parts colours stack whole =
-    let built = whole.analysed low in
-    let q = flows_in p parts stack in
-    let s = serves q whole.summaries colours parts.database built.linked built.few built.database built.alike in
-    fit p q parts.database (functions_under p parts stack) parts.objects (record {
-      implements = built.implements;
-      frames = built.frames;
-      names = built.names;
-      enough = built.enough;
-      database = s.database;
-      sound = s.sound;
-      serve = built.serve;
-      made = built.made;
-      fits = built.fits;
-    })

@@ -9,7 +9,6 @@ ghost use Rattle.pw_store_modules.specs.Modules.{Texts, module_map};
 ghost use Rattle.pw_build_objects.specs.Programs.{Parts};
 ghost use Rattle.pw_build.specs.Builds.{FullBuild};
 ghost use Rattle.pw_cmean.specs.Worlds.{Program};
-ghost use Rattle.pw_law_layers.specs.Lowering.{LoweringKeepsRuns};
 ghost use Rattle.pw_law_layers.specs.Whole.{FramesFit, image_of};
 ghost use Rattle.pw_law_whole.specs.Programs.{HavePlainNames, IsProgramOf, IsWholeWith};
 
@@ -18,10 +17,10 @@ use pw_colour::laws::databases_are_lawful;
 use pw_db::laws::directives_are_one;
 use pw_front_end::front_is_exact;
 use pw_law_accept::checked_is_accepted_but_for_numbers;
-use pw_law_analysis::{databases_serve, summaries_say_the_same};
+use pw_law_analysis::summaries_say_the_same;
 use pw_law_checked::strings_of_texts;
 use pw_law_direction::first_places_serve;
-use pw_law_layers::{frames_are_within_rooms, lowering_implements};
+use pw_law_layers::{frames_are_within_rooms, lowered_have_rooms, lowering_implements};
 use pw_law_words::accepted_numbers_are_words;
 use pw_phase_one::laws::phase_one_is_exact;
 use pw_store_modules::modules_are_exact;
@@ -54,6 +53,7 @@ pub fn full_builds_are_whole()
     databases_are_lawful();
     directives_are_one();
     first_places_serve();
+    lowered_have_rooms();
     lowering_implements();
     summaries_say_the_same();
     strings_of_texts();
@@ -61,12 +61,11 @@ pub fn full_builds_are_whole()
     checked_is_accepted_but_for_numbers();
 }
 
-/// So, by the law of lowering, each frame of the map of its image is at most the room of its function.
+/// So each frame of the map of its image is at most the room of its function.
 pub fn frames_of_full_builds_fit()
-    ensures { LoweringKeepsRuns → (texts : Texts) (colours stack : ℕ) (parts : Parts) (p : Program) → FullBuild texts colours stack (Ok parts) → IsProgramOf texts p →
+    ensures { (texts : Texts) (colours stack : ℕ) (parts : Parts) (p : Program) → FullBuild texts colours stack (Ok parts) → IsProgramOf texts p →
         HavePlainNames texts → colours ≤ colour_limit → stack_least ≤ stack → stack ≤ stack_limit → FramesFit p (image_of parts.objects stack) }
 {
     full_builds_are_whole();
-    databases_serve();
     frames_are_within_rooms();
 }

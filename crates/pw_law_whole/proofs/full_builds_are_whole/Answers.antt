@@ -6,7 +6,7 @@ use Rattle.pw_law_whole.proofs.full_builds_are_whole.Goals as goal
 
 pub returns : goal.returns
 returns c = λ texts colours stack parts p built of_texts.
-    whole_with c.lowering_implements.ensures c.summaries_say_the_same.ensures c.first_places_serve.ensures c.databases_are_lawful.ensures c.directives_are_one.ensures c.checked_is_accepted_but_for_numbers.ensures
+    whole_with c.lowered_have_rooms.ensures c.lowering_implements.ensures c.summaries_say_the_same.ensures c.first_places_serve.ensures c.databases_are_lawful.ensures c.directives_are_one.ensures c.checked_is_accepted_but_for_numbers.ensures
     (of_words c.strings_of_texts.ensures c.accepted_numbers_are_words.ensures)
     texts colours stack parts p
     (completes_with (finite.entries texts) (map flow_of p.modules) colours stack parts
