@@ -124,8 +124,8 @@ pub composes : MapHasFrames → PlacementKeepsRuns → SoundDirectivesGuard → 
 composes map placement guard hold selection link p q d functions objects input built bytes direction places =
     let v = image_of objects q.stack in
     let program = built.implements.program in
-    let frames = frames_are map p q d functions objects built in
-    let first : q.frame_of start_name ≤ start_room = frame_of_room places_fit q d functions frames built.serve program built.database start_name start_room built.implements.start in
+    let frames = frames_are map q d functions objects built.frames program built.serve built.made in
+    let first : q.frame_of start_name ≤ start_room = frame_of_room places_fit q d functions frames built.serve program built.database start_name start_room built.implements.rooms.start in
     let enough : stack_least ≤ q.stack = built.enough in
     let start : q.frame_of start_name ≤ q.stack = omega (arith, first, enough) in
     let l = link q d functions objects input program built.names built.database built.sound built.serve frames start built.made built.fits bytes in

@@ -17,15 +17,16 @@ use Rattle.pw_webflow.specs.Direction.{directed}
 use Rattle.pw_flow.specs.FrameRooms.{flow_room}
 use Rattle.pw_alloc.specs.declared.located.Located.{Located}
 use Rattle.pw_object.specs.declared.object.Object.{Object}
-use Rattle.pw_cmean.specs.Worlds.{Program, full_name}
+use Rattle.pw_cmean.specs.Worlds.{full_name}
 use Rattle.pw_run_languages.specs.Programs as flows
 use Rattle.pw_run_languages.specs.Programs.{functions_of, NoneForLibrary}
 use Rattle.pw_run_languages.specs.LawfulPrograms.{IsProgram}
-use Rattle.pw_run_languages.specs.Direction.{directives_of, directed_by}
+use Rattle.pw_run_languages.specs.Direction.{directives_of, directed_by, directed_functions}
 use Rattle.pw_run_languages.specs.Serving.{Serves, AllServe}
 use Rattle.pw_run_languages.specs.SelectionLaws.{FramesAre}
+use Rattle.pw_run_languages.specs.LinkingLaws.{AreObjectsOf, frame_in}
 use Rattle.pw_law_layers.specs.Rooms.{MapHasFrames, PlacesFit}
-use Rattle.pw_law_layers.specs.Whole.{HasRoom, IsBuilt, AllFramesFit}
+use Rattle.pw_law_layers.specs.Whole.{HasRoom, AllFramesFit, image_of}
 
 -- ---- elements
 
@@ -97,16 +98,17 @@ frame_fits fit q d functions frames serve valid lawful f c =
     subst (λ n. n ≤ flow_room f) (sym framed)
     (fit f (directives_of d f.name) s.located (is_function q.modules valid f c) (are_directives d lawful f.name) s.serves)
 
--- ---- built programs
+-- ---- what was laid out
 
--- their frames are those that allocation made
-pub frames_are : MapHasFrames → (p : Program) (q : flows.Program) (d : List (List ℕ × Directives)) (functions : List Located) (objects : List Object)
-    → IsBuilt p q d functions objects → FramesAre q functions
-frames_are map p q d functions objects built =
-    let mapped = map q d functions objects built.implements.program built.serve built.made in
+-- the frames are those that allocation made
+pub frames_are : MapHasFrames → (q : flows.Program) (d : List (List ℕ × Directives)) (functions : List Located) (objects : List Object)
+    → q.frame_of ≡ frame_in (image_of objects q.stack) → IsProgram q → AllServe (directed_functions q d) functions → AreObjectsOf q functions objects
+    → FramesAre q functions
+frames_are map q d functions objects frames program serve made =
+    let mapped = map q d functions objects program serve made in
     record {
-      defined = λ f c. ap (λ (F : List ℕ → ℕ). F f.body.name) built.frames ∙ mapped.defined f c;
-      library = subst NoneForLibrary (sym built.frames) mapped.library;
+      defined = λ f c. ap (λ (F : List ℕ → ℕ). F f.body.name) frames ∙ mapped.defined f c;
+      library = subst NoneForLibrary (sym frames) mapped.library;
     }
 
 -- the frame of a function that has at most so much room
@@ -121,12 +123,12 @@ frame_of_room fit q d functions frames serve program database name room has =
 
 -- by the laws on places and on the map
 pub all_fit : PlacesFit → MapHasFrames → AllFramesFit
-all_fit fit map p q d functions objects built =
-    let frames = frames_are map p q d functions objects built in
+all_fit fit map p q d functions objects laid =
+    let frames = frames_are map q d functions objects laid.frames laid.program laid.serve laid.made in
     let within = λ (name : List ℕ) (room : ℕ) (has : HasRoom q name room).
-    let a = frame_of_room fit q d functions frames built.serve built.implements.program built.database name room has in
-    subst (λ (F : List ℕ → ℕ). F name ≤ room) built.frames a in
+    let a = frame_of_room fit q d functions frames laid.serve laid.program laid.database name room has in
+    subst (λ (F : List ℕ → ℕ). F name ≤ room) laid.frames a in
     record {
-      functions = λ m f c h. within (full_name m.name f.name) (room_of m.tree.records f) (built.implements.functions m f c h);
-      start = λ m c h. within start_name start_room built.implements.start;
+      functions = λ m f c h. within (full_name m.name f.name) (room_of m.tree.records f) (laid.rooms.functions m f c h);
+      start = λ m c h. within start_name start_room laid.rooms.start;
     }

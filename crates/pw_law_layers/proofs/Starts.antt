@@ -17,7 +17,7 @@ use Rattle.pw_flow.specs.FrameRooms.{flow_room}
 use Rattle.pw_lower.specs.Modules.{lowered, lowered_function, start_of, start_function, is_main}
 use Rattle.pw_cmean.specs.Worlds.{ProgramModule, full_name}
 use Rattle.pw_law_lower.specs.Parts.{partless}
-use Rattle.pw_law_layers.specs.Whole.{LoweredImplements}
+use Rattle.pw_law_layers.specs.Whole.{LoweredHaveRooms, LoweredImplements}
 use Rattle.pw_law_layers.proofs.Frames.{nowhere, first_there, map_there}
 
 -- ---- elements
@@ -142,7 +142,7 @@ starts ms valid c =
     in_all flows (lowered m.from.name m.from.tree) start_function
     (map_there (λ (m : ProgramModule). lowered m.name m.tree) ms m.from m.there) (starts_in m.from lawful named)
 
--- ---- the lowered graphs implement the program
+-- ---- the lowered graphs have rooms, and implement the program
 
 in_module : (name : List ℕ) (m : ModuleValue) (f : FunctionValue) → Contains m.functions f
     → Contains (lowered name m).functions (lowered_function name m.records f)
@@ -152,14 +152,12 @@ in_module name m f c =
     (map_there (lowered_function name m.records) m.functions f c)
 
 -- by the laws on the rooms of flow graphs
-pub lowered_implements : ((home : List ℕ) (m : ModuleValue) (f : FunctionValue) → IsSourceFunction m f → partless f.body ≡ 0
+pub lowered_rooms : ((home : List ℕ) (m : ModuleValue) (f : FunctionValue) → IsSourceFunction m f → partless f.body ≡ 0
     → flow_room (lowered_function home m.records f) ≤ room_of m.records f)
-    → flow_room start_function ≤ start_room → LoweredImplements
-lowered_implements rooms least low p frame_of stack checked parts accepted =
+    → flow_room start_function ≤ start_room → LoweredHaveRooms
+lowered_rooms rooms least p frame_of stack parts accepted =
     let program = accepted.program in
     record {
-      program = program;
-      runs = λ input none bytes. low p frame_of stack input checked accepted none bytes;
       functions = λ m f c h.
           let g = lowered_function m.name m.tree.records f in
           let flows = map (λ m. lowered m.name m.tree) p.modules in
@@ -177,3 +175,10 @@ lowered_implements rooms least low p frame_of stack checked parts accepted =
         fits = least;
       };
     }
+
+pub lowered_implements : LoweredHaveRooms → LoweredImplements
+lowered_implements rooms low p frame_of stack checked parts accepted = record {
+  program = accepted.program;
+  runs = λ input none bytes. low p frame_of stack input checked accepted none bytes;
+  rooms = rooms p frame_of stack parts accepted;
+}

@@ -107,15 +107,19 @@ pub record HasRoom (q : flows.Program) (name : List ℕ) (room : ℕ) : Type 0 w
   pub named : function.name ≡ name
   pub fits : flow_room function ≤ room
 
+-- no function of the program takes more room in the flow graphs than in its source
+pub record HaveRooms (p : Program) (q : flows.Program) : Type 0 where
+  pub functions : (m : ProgramModule) (f : FunctionValue) → Contains p.modules m → Contains m.tree.functions f →
+      HasRoom q (full_name m.name f.name) (room_of m.tree.records f)
+  pub start : HasRoom q start_name start_room
+
 -- Flow graphs do what the program means, with their frames and their stack, and none takes more room than its source:
 -- those that lowering gives, or what later passes make of them.
 pub record Implements (p : Program) (q : flows.Program) : Type 0 where
   pub program : IsProgram q
   pub runs : (input : List ℕ) → NoneForLibrary q.frame_of → AreBytes input →
       Refines (MomentKept q) (source_stages p q.frame_of q.stack input) (flow.flow_run q input)
-  pub functions : (m : ProgramModule) (f : FunctionValue) → Contains p.modules m → Contains m.tree.functions f →
-      HasRoom q (full_name m.name f.name) (room_of m.tree.records f)
-  pub start : HasRoom q start_name start_room
+  pub rooms : HaveRooms p q
 
 abbrev pub image_of : List Object → ℕ → Image
 image_of objects stack = linked objects stack
@@ -158,6 +162,16 @@ pub record LayersKeep (p : Program) (q : flows.Program) (d : List (List ℕ × D
   pub selection : SelectionKeeps q d functions linking.addresses linking.scratch input
   pub placement : PlacementKeeps q functions linking.addresses linking.scratch input
 
+-- What was linked of flow graphs that have rooms, with the frames of the image's map, lawful directives and places that serve:
+-- whatever the flow graphs do.
+pub record IsLaidOut (p : Program) (q : flows.Program) (d : List (List ℕ × Directives)) (functions : List Located) (objects : List Object) : Type 0 where
+  pub program : IsProgram q
+  pub rooms : HaveRooms p q
+  pub frames : q.frame_of ≡ frame_in (image_of objects q.stack)
+  pub database : IsDatabase d
+  pub serve : AllServe (directed_functions q d) functions
+  pub made : AreObjectsOf q functions objects
+
 -- each frame is at most its function's room
 pub record FramesFit (p : Program) (v : Image) : Type 0 where
   pub functions : (m : ProgramModule) (f : FunctionValue) → Contains p.modules m → Contains m.tree.functions f →
@@ -176,7 +190,12 @@ RefinementGoesThrough =
     Refines (EventAlike Same Same) webs places → Refines (EventInWords p named) places lines → RefinesLately Same lines machine →
     Refines (InMachine p named) meaning (calls_of machine)
 
--- by the law of lowering, the lowered flow graphs of an accepted program implement it
+-- the lowered flow graphs of an accepted program take no more room than their source
+abbrev pub LoweredHaveRooms : Type 0
+LoweredHaveRooms =
+    (p : Program) (frame_of : List ℕ → ℕ) (stack : ℕ) → HaveParts p → IsAccepted p frame_of stack → HaveRooms p (flow_program p frame_of stack)
+
+-- by the law of lowering, they implement it
 abbrev pub LoweredImplements : Type 0
 LoweredImplements =
     LoweringKeepsRuns →
@@ -198,8 +217,8 @@ LayersCompose =
     IsBuilt p q d functions objects → AreBytes input → DirectionKeeps q d input → PlacesKeep q d functions input →
     Holds p q d functions objects input
 
--- of each built program, each frame is at most its function's room
+-- of what was laid out so, each frame is at most its function's room
 abbrev pub AllFramesFit : Type 0
 AllFramesFit =
     (p : Program) (q : flows.Program) (d : List (List ℕ × Directives)) (functions : List Located) (objects : List Object) →
-    IsBuilt p q d functions objects → FramesFit p (image_of objects q.stack)
+    IsLaidOut p q d functions objects → FramesFit p (image_of objects q.stack)

@@ -3,7 +3,7 @@
 
 ghost use Rattle.pw_law_layers.specs.Guarding.{SoundDirectivesGuard};
 ghost use Rattle.pw_law_layers.specs.Rooms.{PlacesFit, MapHasFrames};
-ghost use Rattle.pw_law_layers.specs.Whole.{AllFramesFit, LayersCompose, LayersHold, LoweredImplements, RefinementGoesThrough};
+ghost use Rattle.pw_law_layers.specs.Whole.{AllFramesFit, LayersCompose, LayersHold, LoweredHaveRooms, LoweredImplements, RefinementGoesThrough};
 
 use pw_db_sound::callers_leave_free_registers_alone;
 use pw_law_code::code::placement_keeps_runs;
@@ -28,12 +28,19 @@ pub fn maps_have_frames()
     modules_stand_in_order();
 }
 
+/// No function of an accepted program takes more room in the lowered flow graphs than in its source.
+pub fn lowered_have_rooms()
+    ensures { LoweredHaveRooms }
+{
+    frames_fit();
+}
+
 /// From the law of lowering follows: the lowered flow graphs of an accepted program of checked texts implement it: they do
 /// what it means, and no function takes more room than its source.
 pub fn lowering_implements()
     ensures { LoweredImplements }
 {
-    frames_fit();
+    lowered_have_rooms();
 }
 
 /// Under sound directives a register that a function may leave with something else in it, each of its callers may leave so
@@ -62,7 +69,8 @@ pub fn layers_compose()
     layers_hold();
 }
 
-/// Of each built program the frame of each function in the image's map is at most the function's room.
+/// Of flow graphs that have rooms, laid out with places that serve, the frame of each function in the image's map is at most the
+/// function's room.
 pub fn frames_are_within_rooms()
     ensures { AllFramesFit }
 {

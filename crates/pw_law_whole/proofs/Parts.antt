@@ -17,16 +17,16 @@ use Rattle.pw_summary.specs.Summary.{IsSummary}
 use Rattle.pw_summarise.proofs.LawfulLaws.{lawful}
 use Rattle.pw_colour.specs.Colours.{IsDatabaseOf}
 use Rattle.pw_store_modules.specs.Modules.{Texts}
+use Rattle.pw_build_opts.specs.declared.opts.Opts.{Opts}
 use Rattle.pw_build_objects.specs.Programs.{DirectivesList, AreSummariesOf, Completes, Parts}
 use Rattle.pw_law_direction.specs.Laws.{FirstPlacesServe}
 use Rattle.pw_run_languages.specs.LinkingLaws.{frame_in}
 use Rattle.pw_cmean.specs.Worlds.{Program, ProgramModule}
-use Rattle.pw_law_layers.specs.Lowering.{flow_program, AreChecked, LoweringKeepsRuns}
+use Rattle.pw_law_layers.specs.Lowering.{flow_program, AreChecked}
 use Rattle.pw_law_layers.specs.Accepting.{HasNoColon, AreNamedPlainly, CheckedIsAccepted, IsWhole}
-use Rattle.pw_law_layers.specs.Whole.{image_of, FramesFit, AllFramesFit, LoweredImplements}
+use Rattle.pw_law_layers.specs.Whole.{image_of, IsLaidOut, LoweredHaveRooms, LoweredImplements}
 use Rattle.pw_law_analysis.specs.SummaryGraphs.{AllSummarise}
 use Rattle.pw_law_analysis.specs.SummaryLaws.{SummariesSayTheSame}
-use Rattle.pw_law_analysis.specs.AnalyserLaws.{DatabasesServe}
 use Rattle.pw_law_whole.specs.Programs.{IsProgramOf, HavePlainNames, IsWholeWith, flows_in, functions_under}
 use Rattle.pw_law_whole.proofs.Texts.{flow_of, names_same, all_checked}
 use Rattle.pw_law_whole.proofs.Objects.{all_show, modules_named, same_globals, code_of_all}
@@ -59,60 +59,50 @@ plain_names texts p plain are m there =
 
 -- ---- together
 
-pub whole_with : LoweredImplements → SummariesSayTheSame → FirstPlacesServe →
+pub whole_with : LoweredHaveRooms → LoweredImplements → SummariesSayTheSame → FirstPlacesServe →
     ((ss : List Summary) (colours : ℕ) (d : DirectivesList) → colours ≤ register_count → IsDatabaseOf ss colours d → IsDatabase d) →
     ((db : DirectivesList) → IsDatabase db → (gs hs : DirectivesList) → All (HasDirectives db) gs → All (HasDirectives db) hs → map (λ f. f.0) gs ≡ map (λ f. f.0) hs → gs ≡ hs) →
     CheckedIsAccepted →
-    (texts : Texts) (colours stack : ℕ) (parts : Parts) (p : Program) → Completes (map flow_of p.modules) [] colours stack (Ok parts) → IsProgramOf texts p →
-    HavePlainNames texts → colours ≤ colour_limit → stack_least ≤ stack → stack ≤ stack_limit → IsWholeWith p parts colours stack
-whole_with implements same serve databases one accepted texts colours stack parts p (are, linked) of_texts plain few enough room =
+    (texts : Texts) (opts : Opts) (parts : Parts) (p : Program) → Completes (map flow_of p.modules) [] opts (Ok parts) → IsProgramOf texts p →
+    HavePlainNames texts → opts.colours ≤ colour_limit → stack_least ≤ opts.stack → opts.stack ≤ stack_limit → IsWholeWith p parts opts.colours opts.stack
+whole_with rooms implements same serve databases one accepted texts opts parts p (are, linked) of_texts plain few enough room =
     let flows = map flow_of p.modules in
     let db = parts.database in
     let has = are.database in
-    let lawful_db : IsDatabase db = databases has.summaries colours db (omega (arith, few)) has.database in
+    let lawful_db : IsDatabase db = databases has.summaries opts.colours db (omega (arith, few)) has.database in
     let single = one db lawful_db in
     let checked : AreChecked p = λ m there. all_checked (finite.entries texts) p.modules of_texts m (has_by m p.modules there) in
-    let whole : IsWhole p (frame_in (image_of parts.objects stack)) stack =
-    accepted p (frame_in (image_of parts.objects stack)) stack parts.objects checked (plain_names texts p plain of_texts) (rise texts p of_texts) room (all_show db single flows parts.objects parts.fresh are.objects) linked.program in
+    let whole : IsWhole p (frame_in (image_of parts.objects opts.stack)) opts.stack =
+    accepted p (frame_in (image_of parts.objects opts.stack)) opts.stack parts.objects checked (plain_names texts p plain of_texts) (rise texts p of_texts) room (all_show db single flows parts.objects parts.fresh are.objects) linked.program in
     let summarised : AllSummarise flows has.summaries = all_summarise flows has.summaries has.of_flows in
+    let laid : IsLaidOut p (flows_in p parts opts.stack) db (functions_under p parts opts.stack) parts.objects = record {
+      program = whole.accepted.program;
+      rooms = rooms p (frame_in (image_of parts.objects opts.stack)) opts.stack whole.parts whole.accepted;
+      frames = refl;
+      database = lawful_db;
+      serve = serve (flow_program p (frame_in (image_of parts.objects opts.stack)) opts.stack) db whole.accepted.program lawful_db;
+      made = record {
+        modules = modules_named db single flows parts.objects parts.fresh are.objects;
+        globals = same_globals db single flows parts.objects parts.fresh are.objects;
+        code = code_of_all db single flows parts.objects parts.fresh are.objects;
+      };
+    } in
     record {
       checked = checked;
       whole = whole;
+      laid_out = laid;
       summaries = has.summaries;
       analysed = λ low. record {
-        implements = implements low p (frame_in (image_of parts.objects stack)) stack checked whole.parts whole.accepted;
-        frames = refl;
+        implements = implements low p (frame_in (image_of parts.objects opts.stack)) opts.stack checked whole.parts whole.accepted;
+        frames = laid.frames;
         names = whole.names;
         enough = enough;
         linked = record { each = all_lawful flows has.summaries are.lawful has.of_flows; linked = has.linked };
         few = omega (arith, few);
         database = has.database;
-        alike = same p (frame_in (image_of parts.objects stack)) stack has.summaries has.database.graph whole.accepted summarised has.database.graph_of;
-        serve = serve (flow_program p (frame_in (image_of parts.objects stack)) stack) db whole.accepted.program lawful_db;
-        made = record {
-          modules = modules_named db single flows parts.objects parts.fresh are.objects;
-          globals = same_globals db single flows parts.objects parts.fresh are.objects;
-          code = code_of_all db single flows parts.objects parts.fresh are.objects;
-        };
+        alike = same p (frame_in (image_of parts.objects opts.stack)) opts.stack has.summaries has.database.graph whole.accepted summarised has.database.graph_of;
+        serve = laid.serve;
+        made = laid.made;
         fits = linked.fits;
       };
     }
-
--- ---- frames
-
-pub frames_fit : DatabasesServe → AllFramesFit → LoweringKeepsRuns → (p : Program) (parts : Parts) (colours stack : ℕ) → IsWholeWith p parts colours stack → FramesFit p (image_of parts.objects stack)
-frames_fit serves fit low p parts colours stack whole =
-    let built = whole.analysed low in
-    let q = flows_in p parts stack in
-    let s = serves q whole.summaries colours parts.database built.linked built.few built.database built.alike in
-    fit p q parts.database (functions_under p parts stack) parts.objects (record {
-      implements = built.implements;
-      frames = built.frames;
-      names = built.names;
-      enough = built.enough;
-      database = s.database;
-      sound = s.sound;
-      serve = built.serve;
-      made = built.made;
-      fits = built.fits;
-    })

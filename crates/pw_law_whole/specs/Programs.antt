@@ -15,7 +15,7 @@ use Rattle.pw_cmean.specs.Worlds.{Program, ProgramModule}
 use Rattle.pw_law_direction.specs.Laws.{first_places}
 use Rattle.pw_law_layers.specs.Accepting.{HasNoColon, IsWhole}
 use Rattle.pw_law_layers.specs.Lowering.{flow_program, AreChecked, LoweringKeepsRuns}
-use Rattle.pw_law_layers.specs.Whole.{image_of}
+use Rattle.pw_law_layers.specs.Whole.{image_of, IsLaidOut}
 use Rattle.pw_law_analysis.specs.OwedLaws.{IsAnalysed}
 
 -- ---- the program of texts
@@ -50,10 +50,11 @@ flows_in p parts stack = flow_program p (frame_in (image_of parts.objects stack)
 abbrev pub functions_under : Program → Parts → ℕ → List Located
 functions_under p parts stack = first_places (flows_in p parts stack) parts.database
 
--- The program is checked, and accepted in the words of C's meaning; and by the law of lowering its flow graphs implement it, and
--- the parts are what the analyser, allocation and selection make of them.
+-- The program is checked, and accepted in the words of C's meaning; its flow graphs are laid out with the places that allocation
+-- gives; and by the law of lowering they implement it, and the parts are what the analyser, allocation and selection make of them.
 pub record IsWholeWith (p : Program) (parts : Parts) (colours stack : ℕ) : Type 0 where
   pub checked : AreChecked p
   pub whole : IsWhole p (frame_in (image_of parts.objects stack)) stack
+  pub laid_out : IsLaidOut p (flows_in p parts stack) parts.database (functions_under p parts stack) parts.objects
   pub summaries : List Summary
   pub analysed : LoweringKeepsRuns → IsAnalysed p (flows_in p parts stack) summaries colours parts.database (functions_under p parts stack) parts.objects

@@ -6,10 +6,10 @@ ghost use Rattle.pw_value.specs.Limits.{stack_least, stack_limit};
 ghost use Rattle.pw_db.specs.Limits.{colour_limit};
 ghost use Rattle.pw_io.specs.Files.{Files};
 ghost use Rattle.pw_store_modules.specs.Modules.{Texts, module_map};
+ghost use Rattle.pw_build_opts.specs.declared.opts.Opts.{Opts};
 ghost use Rattle.pw_build_objects.specs.Programs.{Parts};
 ghost use Rattle.pw_build.specs.Builds.{FullBuild};
 ghost use Rattle.pw_cmean.specs.Worlds.{Program};
-ghost use Rattle.pw_law_layers.specs.Lowering.{LoweringKeepsRuns};
 ghost use Rattle.pw_law_layers.specs.Whole.{FramesFit, image_of};
 ghost use Rattle.pw_law_whole.specs.Programs.{HavePlainNames, IsProgramOf, IsWholeWith};
 
@@ -18,15 +18,15 @@ use pw_colour::laws::databases_are_lawful;
 use pw_db::laws::directives_are_one;
 use pw_front_end::front_is_exact;
 use pw_law_accept::checked_is_accepted;
-use pw_law_analysis::{databases_serve, summaries_say_the_same};
+use pw_law_analysis::summaries_say_the_same;
 use pw_law_direction::first_places_serve;
-use pw_law_layers::{frames_are_within_rooms, lowering_implements};
+use pw_law_layers::{frames_are_within_rooms, lowered_have_rooms, lowering_implements};
 use pw_phase_one::laws::phase_one_is_exact;
 use pw_store_modules::modules_are_exact;
 
 /// The texts of a full build that gives parts have a program, and texts have at most one.
 pub fn full_builds_have_a_program()
-    ensures program { (texts : Texts) (colours stack : ℕ) (parts : Parts) → FullBuild texts colours stack (Ok parts) → (p : Program) × IsProgramOf texts p }
+    ensures program { (texts : Texts) (opts : Opts) (parts : Parts) → FullBuild texts opts (Ok parts) → (p : Program) × IsProgramOf texts p }
     ensures one { (texts : Texts) (p q : Program) → IsProgramOf texts p → IsProgramOf texts q → p ≡ q }
 {
     phase_one_is_exact();
@@ -45,24 +45,24 @@ pub fn modules_of_files_have_plain_names()
 /// its flow graphs do what it means; the database is the one that the analyser makes of their summaries; the places that allocation
 /// gives serve their functions; and the objects are made of these, and fit into the memory.
 pub fn full_builds_are_whole()
-    ensures { (texts : Texts) (colours stack : ℕ) (parts : Parts) (p : Program) → FullBuild texts colours stack (Ok parts) → IsProgramOf texts p →
-        HavePlainNames texts → colours ≤ colour_limit → stack_least ≤ stack → stack ≤ stack_limit → IsWholeWith p parts colours stack }
+    ensures { (texts : Texts) (opts : Opts) (parts : Parts) (p : Program) → FullBuild texts opts (Ok parts) → IsProgramOf texts p →
+        HavePlainNames texts → opts.colours ≤ colour_limit → stack_least ≤ opts.stack → opts.stack ≤ stack_limit → IsWholeWith p parts opts.colours opts.stack }
 {
     phase_one_is_exact();
     databases_are_lawful();
     directives_are_one();
     first_places_serve();
+    lowered_have_rooms();
     lowering_implements();
     summaries_say_the_same();
     checked_is_accepted();
 }
 
-/// So, by the law of lowering, each frame of the map of its image is at most the room of its function.
+/// So each frame of the map of its image is at most the room of its function.
 pub fn frames_of_full_builds_fit()
-    ensures { LoweringKeepsRuns → (texts : Texts) (colours stack : ℕ) (parts : Parts) (p : Program) → FullBuild texts colours stack (Ok parts) → IsProgramOf texts p →
-        HavePlainNames texts → colours ≤ colour_limit → stack_least ≤ stack → stack ≤ stack_limit → FramesFit p (image_of parts.objects stack) }
+    ensures { (texts : Texts) (opts : Opts) (parts : Parts) (p : Program) → FullBuild texts opts (Ok parts) → IsProgramOf texts p →
+        HavePlainNames texts → opts.colours ≤ colour_limit → stack_least ≤ opts.stack → opts.stack ≤ stack_limit → FramesFit p (image_of parts.objects opts.stack) }
 {
     full_builds_are_whole();
-    databases_serve();
     frames_are_within_rooms();
 }

@@ -1,7 +1,7 @@
-use Rattle.pw_law_whole.proofs.Parts.{frames_fit}
+use Rattle.pw_law_whole.specs.Programs.{flows_in, functions_under}
 use Rattle.pw_law_whole.proofs.frames_of_full_builds_fit.Goals as goal
 
 pub returns : goal.returns
-returns c = λ low texts colours stack parts p built of_texts plain few enough room.
-    frames_fit c.databases_serve.ensures c.frames_are_within_rooms.ensures low p parts colours stack
-    (c.full_builds_are_whole.ensures texts colours stack parts p built of_texts plain few enough room)
+returns c = λ texts opts parts p built of_texts plain few enough room.
+    let whole = c.full_builds_are_whole.ensures texts opts parts p built of_texts plain few enough room in
+    c.frames_are_within_rooms.ensures p (flows_in p parts opts.stack) parts.database (functions_under p parts opts.stack) parts.objects whole.laid_out
