@@ -131,7 +131,7 @@ fn read_values<S: Store, K: Kept + Drop>(
 
 /// The names of the modules, of which there are not too many.
 #[tactic(auto, using(crate::proofs::StopLemmas::many_stop))]
-fn few_modules<S: Store>(alloc: Global, store: &mut S) -> Result<Vec<String>, Answer>
+fn few_names<S: Store>(alloc: Global, store: &mut S) -> Result<Vec<String>, Answer>
     ensures names { IfSome (S.told store.old) (λ told. Needs (λ names. map string_bytes names.items) result (few_names told.files)) }
     ensures named { IfOk result (λ names. All (λ stem. is_module_name (string_bytes stem) ≡ true) names.items) }
     ensures same { Keeps (S.told store.old) (S.told store.new) }
@@ -160,6 +160,6 @@ pub fn kept_of_modules<S: Store, K: Kept + Drop>(
     ensures count { StopCount (S.faults store.old) (S.faults store.new) result }
     ensures stop { IfErr result IsStop }
 {
-    let modules = few_modules(alloc, store)?;
+    let modules = few_names(alloc, store)?;
     read_values(alloc, store, &modules, ending)
 }
