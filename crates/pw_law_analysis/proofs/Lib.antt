@@ -11,6 +11,8 @@ mod Eligible
 mod Movable
 mod Same
 mod Composition
+mod Symbols
+mod ImageTraffic
 mod Joined
 mod Naming
 mod Covering

@@ -37,7 +37,7 @@ pub fn coloured_globals_are_covered()
     named_graphs_say_the_same();
 }
 
-/// The database of the summaries of an accepted program is lawful, and sound for the program's flow graphs; what obeys
+/// The database of summaries is lawful, and sound for flow graphs of which they say what these say themselves; what obeys
 /// the law of traffic over the flow graphs obeys it over the summaries; and of a global all of whose webs have a register,
 /// that law speaks.
 pub fn databases_serve()
@@ -49,9 +49,9 @@ pub fn databases_serve()
     coloured_globals_are_covered();
 }
 
-/// From the laws of lowering, selection and linking follows of each program that was built with the database that the analyser
-/// makes of it, and with places that serve: what holds of built programs; and where the source is defined, the law of traffic
-/// holds over the summaries, which speaks of each global all of whose webs have a register.
+/// From the laws of selection and linking follows of each program that was built with the database that the analyser makes of
+/// it, and with places that serve: what holds of built programs; and where the source is defined, the law of traffic of the
+/// image, which speaks of each eligible global all of whose webs have a register.
 pub fn layers_give_all()
     ensures { LayersGiveAll }
 {
