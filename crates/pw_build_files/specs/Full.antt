@@ -1,20 +1,15 @@
 -- The full build of texts, as the bytes of its image.
 use Rattle.std.specs.Prelude.{ℕ, List, Result, Ok, Err}
-use Rattle.pw_image.specs.Image.{IsImageFile}
-use Rattle.pw_link.specs.Linking.{linked}
 use Rattle.pw_build_objects.specs.Programs.{Parts}
 use Rattle.pw_store_modules.specs.Modules.{Texts}
+use Rattle.pw_commands.specs.Linking.{IsImageOf}
 use Rattle.pw_build_files.specs.FromBuild.BuildFault.{BuildFault}
 use Rattle.pw_build_files.specs.FromBuild.Builds.{FullBuild}
 use Rattle.pw_build_files.specs.Building.{Outcome}
 
--- the bytes are the file of the image of a program of these parts
-abbrev pub IsImageOf : Parts → ℕ → List ℕ → Type 0
-IsImageOf parts stack bytes = (names : List (List ℕ)) × IsImageFile bytes (record { names = names; value = linked parts.objects stack })
-
 -- The full build of texts, where nothing was kept, comes to an image of these bytes, or to this fault.
 abbrev pub BuildsImage : Texts → ℕ → ℕ → Result (List ℕ) BuildFault → Type 0
-BuildsImage texts colours stack (Ok image) = (parts : Parts) × FullBuild texts colours stack (Ok parts) × IsImageOf parts stack image
+BuildsImage texts colours stack (Ok image) = (parts : Parts) × FullBuild texts colours stack (Ok parts) × IsImageOf parts.objects stack image
 BuildsImage texts colours stack (Err fault) = FullBuild texts colours stack (Err fault)
 
 -- the image that a build comes to, or its fault

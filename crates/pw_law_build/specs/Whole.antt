@@ -8,7 +8,7 @@ use Rattle.pw_store_modules.specs.Modules.{Texts, modules_of}
 use Rattle.pw_build_files.specs.FromBuild.Builds.{Builds, FullBuild}
 use Rattle.pw_store_kept.specs.Kept.{counted, kept_bytes}
 use Rattle.pw_build_files.specs.Building.{kept_objects}
-use Rattle.pw_build_files.specs.Full.{IsImageOf}
+use Rattle.pw_commands.specs.Linking.{IsImageOf}
 
 -- these bytes stand under the name, as far as a kept file counts
 abbrev pub HoldsFile : Files → List ℕ → List ℕ → Type 0
@@ -20,7 +20,7 @@ pub record HoldsProgram (parts : Parts) (stack : ℕ) (files : Files) : Type 0 w
   pub database_file : IsDatabaseFile database parts.database
   pub database_stands : HoldsFile files database_name database
   pub image : List ℕ
-  pub image_file : IsImageOf parts stack image
+  pub image_file : IsImageOf parts.objects stack image
   pub image_stands : HoldsFile files image_name image
 
 -- those to which the modules and the kept objects of a store's files come stand there
