@@ -1,5 +1,6 @@
 -- The fault where the modules of a store are not told: there are too many, or the store had one.
-use Rattle.std.proofs.Common.{◌≡◌, ◌∙◌, ℕ, ◌<◌, ◌≤◌, Bool, true, cond, List, length, map, Option, Some, None, Err, Result, refl, sym, ap, subst}
+use Rattle.std.proofs.Common.{◌≡◌, ◌∙◌, ℕ, ◌<◌, ◌≤◌, Bool, true, cond, List, length, map, Option, Some, None, Err, Result, refl, sym, ap, subst, arith}
+use Rattle.std.proofs.lemmas.Bool.Decides.{nat_tests}
 use Rattle.std.proofs.lemmas.List.{length-map}
 use Rattle.std.specs.Prelude.{IfSome, nat_lt}
 use Rattle.pw_io.specs.Files.{Told}
