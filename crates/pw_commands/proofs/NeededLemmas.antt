@@ -125,7 +125,7 @@ pub names_told : (first : Option Told) (names : List (List ℕ)) → IfSome firs
 names_told None names e few = tt
 names_told (Some told) names e few = few_when told.files true (within_limit _ few) ∙ ap Ok (sym e)
 
-stops_by : (files : Files) (fault : ModulesFault) → AnswersFew {T = Unit {0}} (length (names_of_modules files)) (Err fault) → StopsAs (modules_answer fault) (few_names files)
+stops_by : {T : Type 0} (files : Files) (fault : ModulesFault) → AnswersFew {T = T} (length (names_of_modules files)) (Err fault) → StopsAs (modules_answer fault) (few_names files)
 stops_by files (modules.TooMany count) h = few_when files false (beyond_limit _ h.1) ∙ ap (λ (n : ℕ). Err (LinkRefused (TooMany Modules n))) (sym h.0)
 stops_by files (modules.Store store.Failed) h = tt
 stops_by files (modules.Store store.NoMemory) h = tt
@@ -133,4 +133,4 @@ stops_by files (modules.Store store.NoMemory) h = tt
 -- the answer where they are not told
 pub names_stop : {T : Type 0} (first : Option Told) (fault : ModulesFault) (answer : Answer) → IfSome first (λ t. AnswersFew {T = T} (length (names_of_modules t.files)) (Err fault)) → answer ≡ modules_answer fault → IfSome first (λ t. StopsAs answer (few_names t.files))
 names_stop None fault answer few e = tt
-names_stop (Some told) fault answer few e = subst (λ (a : Answer). StopsAs a (few_names told.files)) (sym e) (stops_by told.files fault few)
+names_stop {T = T} (Some told) fault answer few e = subst (λ (a : Answer). StopsAs a (few_names told.files)) (sym e) (stops_by {T = T} told.files fault few)

@@ -31,10 +31,10 @@ modules_by (modules.Store store.NoMemory) = tt
 pub modules_stop : (fault : ModulesFault) (answer : Answer) → answer ≡ modules_answer fault → IsStop answer
 modules_stop fault answer e = subst IsStop (sym e) (modules_by fault)
 
-count_by : (before now : ℕ) (fault : ModulesFault) → HasModulesCause {T = Unit {0}} before now (Err fault) → StoreCount before now (modules_answer fault)
+count_by : {T : Type 0} (before now : ℕ) (fault : ModulesFault) → HasModulesCause {T = T} before now (Err fault) → StoreCount before now (modules_answer fault)
 count_by before now (modules.TooMany count) h = h
 count_by before now (modules.Store store.Failed) h = h
 count_by before now (modules.Store store.NoMemory) h = h
 
 pub modules_count : {T : Type 0} (before now : ℕ) (fault : ModulesFault) (answer : Answer) → HasModulesCause {T = T} before now (Err fault) → answer ≡ modules_answer fault → StoreCount before now answer
-modules_count before now fault answer h e = subst (λ (a : Answer). StoreCount before now a) (sym e) (count_by before now fault h)
+modules_count {T = T} before now fault answer h e = subst (λ (a : Answer). StoreCount before now a) (sym e) (count_by {T = T} before now fault h)
