@@ -9,7 +9,7 @@ use Rattle.pw_value.specs.Limits.{module_limit}
 use Rattle.pw_value.specs.declared.fault.LinkFault.{LinkFault}
 use Rattle.pw_value.specs.declared.fault.LinkFault.TheVariants as link
 use Rattle.pw_value.specs.declared.fault.What.TheVariants.{Modules}
-use Rattle.pw_store_modules.specs.Few.{AnswersFew, HasModulesCause}
+use Rattle.pw_store_modules.specs.Few.{HasFaultCause, IsFewFault}
 use Rattle.pw_store_modules.specs.Modules.{Source, modules_of, names_of_modules}
 use Rattle.pw_store_modules.specs.declared.few.ModulesFault.{ModulesFault}
 use Rattle.pw_store_modules.specs.declared.few.ModulesFault.TheVariants as modules
@@ -38,13 +38,13 @@ line_by due (modules.Store store.NoMemory) line = tt
 pub modules_line : (due : ℕ) (fault : ModulesFault) (other : BuildFault) (line : ℕ) → other ≡ modules_fault fault → IsLine due other line
 modules_line due fault other line e = subst (λ (f : BuildFault). IsLine due f line) (sym e) (line_by due fault line)
 
-count_by : {T : Type 0} (before now : ℕ) (fault : ModulesFault) → HasModulesCause {T = T} before now (Err fault) → StoreCount before now (fault_answer (modules_fault fault))
+count_by : (before now : ℕ) (fault : ModulesFault) → HasFaultCause before now fault → StoreCount before now (fault_answer (modules_fault fault))
 count_by before now (modules.TooMany count) h = h
 count_by before now (modules.Store store.Failed) h = h
 count_by before now (modules.Store store.NoMemory) h = h
 
-pub modules_count : {T : Type 0} (before now : ℕ) (fault : ModulesFault) (other : BuildFault) → HasModulesCause {T = T} before now (Err fault) → other ≡ modules_fault fault → StoreCount before now (fault_answer other)
-modules_count {T = T} before now fault other h e = subst (λ (f : BuildFault). StoreCount before now (fault_answer f)) (sym e) (count_by {T = T} before now fault h)
+pub modules_count : (before now : ℕ) (fault : ModulesFault) (other : BuildFault) → HasFaultCause before now fault → other ≡ modules_fault fault → StoreCount before now (fault_answer other)
+modules_count before now fault other h e = subst (λ (f : BuildFault). StoreCount before now (fault_answer f)) (sym e) (count_by before now fault h)
 
 -- ---- too many
 
@@ -54,17 +54,17 @@ passed n h = grind (arith, nat_tests, h)
 passed_by : (sources : List Source) (b : Bool) (other : Option LinkFault) → b ≡ true → within (cond b (Some (link.TooMany Modules (length sources))) other) (flows_of sources) ≡ Err (build.LinkRefused (link.TooMany Modules (length sources)))
 passed_by sources b other e = ap (λ (c : Bool). within (cond c (Some (link.TooMany Modules (length sources))) other) (flows_of sources)) e
 
-fault_by : {T : Type 0} (sources : List Source) (count : ℕ) (fault : ModulesFault) → count ≡ length sources → AnswersFew {T = T} count (Err fault) → AnswersFault (first_phases sources) (modules_fault fault)
+fault_by : (sources : List Source) (count : ℕ) (fault : ModulesFault) → count ≡ length sources → IsFewFault count fault → AnswersFault (first_phases sources) (modules_fault fault)
 fault_by sources count (modules.TooMany many) same h =
     passed_by sources (nat_lt module_limit (length sources)) _ (passed (length sources) (subst (λ (n : ℕ). module_limit < n) same h.1)) ∙ ap (λ (n : ℕ). Err (build.LinkRefused (link.TooMany Modules n))) (sym (h.0 ∙ same))
 fault_by sources count (modules.Store store.Failed) same h = tt
 fault_by sources count (modules.Store store.NoMemory) same h = tt
 
 -- it is what the first phases of the modules come to
-pub modules_faults : {T : Type 0} (first : Option Told) (fault : ModulesFault) (other : BuildFault) → IfSome first (λ t. AnswersFew {T = T} (length (names_of_modules t.files)) (Err fault)) → other ≡ modules_fault fault → IfSome first (λ t. AnswersFault (first_phases (modules_of t.files)) other)
+pub modules_faults : (first : Option Told) (fault : ModulesFault) (other : BuildFault) → IfSome first (λ t. IsFewFault (length (names_of_modules t.files)) fault) → other ≡ modules_fault fault → IfSome first (λ t. AnswersFault (first_phases (modules_of t.files)) other)
 modules_faults None fault other few e = tt
-modules_faults {T = T} (Some told) fault other few e =
-    subst (λ (f : BuildFault). AnswersFault (first_phases (modules_of told.files)) f) (sym e) (fault_by {T = T} (modules_of told.files) (length (names_of_modules told.files)) fault (length-map (modules_of told.files) (λ source. source.0)) few)
+modules_faults (Some told) fault other few e =
+    subst (λ (f : BuildFault). AnswersFault (first_phases (modules_of told.files)) f) (sym e) (fault_by (modules_of told.files) (length (names_of_modules told.files)) fault (length-map (modules_of told.files) (λ source. source.0)) few)
 
 -- those that are told are not too many
 pub modules_few : (first : Option Told) → IfSome first (λ t. length (names_of_modules t.files) ≤ module_limit) → IfSome first (λ t. length (modules_of t.files) ≤ module_limit)

@@ -10,7 +10,7 @@ use Rattle.pw_io.specs.declared.StoreError.TheVariants as store
 use Rattle.pw_value.specs.Limits.{module_limit}
 use Rattle.pw_value.specs.declared.fault.LinkFault.TheVariants.{TooMany}
 use Rattle.pw_value.specs.declared.fault.What.TheVariants.{Modules}
-use Rattle.pw_store_modules.specs.Few.{AnswersFew}
+use Rattle.pw_store_modules.specs.Few.{IsFewFault}
 use Rattle.pw_store_modules.specs.Modules.{names_of_modules}
 use Rattle.pw_store_modules.specs.declared.few.ModulesFault.{ModulesFault}
 use Rattle.pw_store_modules.specs.declared.few.ModulesFault.TheVariants as modules
@@ -125,12 +125,12 @@ pub names_told : (first : Option Told) (names : List (List ℕ)) → IfSome firs
 names_told None names e few = tt
 names_told (Some told) names e few = few_when told.files true (within_limit _ few) ∙ ap Ok (sym e)
 
-stops_by : {T : Type 0} (files : Files) (fault : ModulesFault) → AnswersFew {T = T} (length (names_of_modules files)) (Err fault) → StopsAs (modules_answer fault) (few_names files)
+stops_by : (files : Files) (fault : ModulesFault) → IsFewFault (length (names_of_modules files)) fault → StopsAs (modules_answer fault) (few_names files)
 stops_by files (modules.TooMany count) h = few_when files false (beyond_limit _ h.1) ∙ ap (λ (n : ℕ). Err (LinkRefused (TooMany Modules n))) (sym h.0)
 stops_by files (modules.Store store.Failed) h = tt
 stops_by files (modules.Store store.NoMemory) h = tt
 
 -- the answer where they are not told
-pub names_stop : {T : Type 0} (first : Option Told) (fault : ModulesFault) (answer : Answer) → IfSome first (λ t. AnswersFew {T = T} (length (names_of_modules t.files)) (Err fault)) → answer ≡ modules_answer fault → IfSome first (λ t. StopsAs answer (few_names t.files))
+pub names_stop : (first : Option Told) (fault : ModulesFault) (answer : Answer) → IfSome first (λ t. IsFewFault (length (names_of_modules t.files)) fault) → answer ≡ modules_answer fault → IfSome first (λ t. StopsAs answer (few_names t.files))
 names_stop None fault answer few e = tt
-names_stop {T = T} (Some told) fault answer few e = subst (λ (a : Answer). StopsAs a (few_names told.files)) (sym e) (stops_by {T = T} told.files fault few)
+names_stop (Some told) fault answer few e = subst (λ (a : Answer). StopsAs a (few_names told.files)) (sym e) (stops_by told.files fault few)

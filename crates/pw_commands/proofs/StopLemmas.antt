@@ -4,7 +4,7 @@ use Rattle.pw_io.specs.declared.StoreError.TheVariants as store
 use Rattle.pw_value.specs.declared.fault.LinkFault.TheVariants as link
 use Rattle.pw_value.specs.declared.fault.What.{What}
 use Rattle.pw_value.specs.declared.fault.What.TheVariants.{Modules}
-use Rattle.pw_store_modules.specs.Few.{HasModulesCause}
+use Rattle.pw_store_modules.specs.Few.{HasFaultCause}
 use Rattle.pw_store_modules.specs.declared.few.ModulesFault.{ModulesFault}
 use Rattle.pw_store_modules.specs.declared.few.ModulesFault.TheVariants as modules
 use Rattle.pw_top_answer.specs.declared.answer.Answer.{Answer}
@@ -31,10 +31,10 @@ modules_by (modules.Store store.NoMemory) = tt
 pub modules_stop : (fault : ModulesFault) (answer : Answer) → answer ≡ modules_answer fault → IsStop answer
 modules_stop fault answer e = subst IsStop (sym e) (modules_by fault)
 
-count_by : {T : Type 0} (before now : ℕ) (fault : ModulesFault) → HasModulesCause {T = T} before now (Err fault) → StoreCount before now (modules_answer fault)
+count_by : (before now : ℕ) (fault : ModulesFault) → HasFaultCause before now fault → StoreCount before now (modules_answer fault)
 count_by before now (modules.TooMany count) h = h
 count_by before now (modules.Store store.Failed) h = h
 count_by before now (modules.Store store.NoMemory) h = h
 
-pub modules_count : {T : Type 0} (before now : ℕ) (fault : ModulesFault) (answer : Answer) → HasModulesCause {T = T} before now (Err fault) → answer ≡ modules_answer fault → StoreCount before now answer
-modules_count {T = T} before now fault answer h e = subst (λ (a : Answer). StoreCount before now a) (sym e) (count_by {T = T} before now fault h)
+pub modules_count : (before now : ℕ) (fault : ModulesFault) (answer : Answer) → HasFaultCause before now fault → answer ≡ modules_answer fault → StoreCount before now answer
+modules_count before now fault answer h e = subst (λ (a : Answer). StoreCount before now a) (sym e) (count_by before now fault h)

@@ -6,15 +6,23 @@ use Rattle.pw_value.specs.Limits.{module_limit}
 use Rattle.pw_store_modules.specs.declared.few.ModulesFault.{ModulesFault}
 use Rattle.pw_store_modules.specs.declared.few.ModulesFault.TheVariants as modules
 
--- of so many modules something was answered only where they are within the limit, and their count only where they are not
+-- of so many modules their count was told, where it is above the limit; or the store's own answer
+abbrev pub IsFewFault : ℕ → ModulesFault → Type 0
+IsFewFault count (modules.TooMany many) = (many ≡ count) × (module_limit < count)
+IsFewFault count (modules.Store error) = Unit {0}
+
+-- of so many modules something was answered only where they are within the limit, or such a fault
 abbrev pub AnswersFew : {T : Type 0} → ℕ → Result T ModulesFault → Type 0
 AnswersFew count (Ok value) = count ≤ module_limit
-AnswersFew count (Err (modules.TooMany many)) = (many ≡ count) × (module_limit < count)
-AnswersFew count (Err (modules.Store error)) = Unit {0}
+AnswersFew count (Err fault) = IsFewFault count fault
 
--- the store failed only where its count of faults rose; any other answer leaves it as it was
+-- the store failed only where its count of faults rose; any other fault leaves it as it was
+abbrev pub HasFaultCause : ℕ → ℕ → ModulesFault → Type 0
+HasFaultCause before now (modules.TooMany many) = now ≡ before
+HasFaultCause before now (modules.Store store.Failed) = Rose before now
+HasFaultCause before now (modules.Store store.NoMemory) = now ≡ before
+
+-- the same of an answer
 abbrev pub HasModulesCause : {T : Type 0} → ℕ → ℕ → Result T ModulesFault → Type 0
 HasModulesCause before now (Ok value) = now ≡ before
-HasModulesCause before now (Err (modules.TooMany many)) = now ≡ before
-HasModulesCause before now (Err (modules.Store store.Failed)) = Rose before now
-HasModulesCause before now (Err (modules.Store store.NoMemory)) = now ≡ before
+HasModulesCause before now (Err fault) = HasFaultCause before now fault
