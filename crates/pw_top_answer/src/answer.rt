@@ -85,7 +85,10 @@ impl From<ModulesFault> for Answer {
 
     fn from(fault: ModulesFault) -> Answer {
         match fault {
-            ModulesFault::TooMany(count) => Answer::LinkRefused(LinkFault::TooMany(What::Modules, count)),
+            ModulesFault::TooMany(count) => Answer::LinkRefused(LinkFault::TooMany(
+                What::Modules,
+                count,
+            )),
             ModulesFault::Store(error) => Answer::from(error),
         }
     }
