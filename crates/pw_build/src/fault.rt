@@ -2,7 +2,8 @@
 
 use pw_front_end::Refusal;
 use pw_io::StoreError;
-use pw_value::{LinkFault, Name};
+use pw_store_modules::ModulesFault;
+use pw_value::{LinkFault, Name, What};
 use std::alloc::AllocError;
 use thiserror::Error;
 
@@ -56,5 +57,22 @@ impl From<StoreError> for Unbuilt {
             StoreError::NoMemory => BuildFault::NoMemory,
         };
         Unbuilt { fault, line: 1 }
+    }
+}
+
+impl From<ModulesFault> for Unbuilt {
+    ghost use Rattle.std.specs.Prelude.{◌≡◌};
+    ghost use Rattle.pw_build.specs.Stores.{modules_fault};
+
+    ghost from_gives = { λ fault unbuilt. unbuilt.fault ≡ modules_fault fault };
+
+    fn from(fault: ModulesFault) -> Unbuilt {
+        match fault {
+            ModulesFault::TooMany(count) => Unbuilt {
+                fault: BuildFault::LinkRefused(LinkFault::TooMany(What::Modules, count)),
+                line: 1,
+            },
+            ModulesFault::Store(error) => Unbuilt::from(error),
+        }
     }
 }

@@ -1,4 +1,5 @@
 pub mod ProgramLemmas
+pub mod ModulesLemmas
 pub mod WantLemmas
 pub mod FaultCounts
 pub mod OutcomeLaws

@@ -15,6 +15,6 @@ pub use laws::{
     genuine_objects_give_the_full_build, genuine_objects_give_the_full_image,
     module_texts_are_no_objects, texts_have_one_image,
 };
-pub use program::{few_modules, program_of};
+pub use program::{modules_to_build, program_of};
 pub use pw_build::{BuildFault, Unbuilt, laws as build_laws};
 pub use report::{Report, report_lines};

@@ -14,7 +14,7 @@ ghost use Rattle.pw_build_files.specs.Building.{BuildOutcome};
 ghost use Rattle.pw_build_files.specs.Genuine.{IsOwnFile};
 ghost use Rattle.pw_build_files.specs.Outcomes.{AreOpts, CountsAtMost, CountsFound, FaultCount, FaultFound, HoldsImage, IsNoWant, outcome_of};
 
-use crate::program::{few_modules, program_of};
+use crate::program::{modules_to_build, program_of};
 use pw_build::Unbuilt;
 use pw_build_objects::Steps;
 use pw_build_opts::Opts;
@@ -74,7 +74,7 @@ pub fn prepare<S: Store, L: Ledger>(
     ensures same { Keeps (S.told store.old) (S.told store.new) }
     ensures count { FaultCount (S.faults store.old) (S.faults store.new) result }
 {
-    match few_modules(alloc, store) {
+    match modules_to_build(alloc, store) {
         Ok(modules) => prepared_of(alloc, store, &modules, opts, steps),
         Err(unbuilt) => Err(unbuilt),
     }

@@ -24,15 +24,14 @@ use pw_build_objects::{Built, Steps, complete};
 use pw_build_opts::Opts;
 use pw_io::Store;
 use pw_store_kept::{ProgramFiles, files_of, read_kept};
-use pw_store_modules::{Module, module_files_of, read_sources};
-use pw_value::limits::MODULE_LIMIT;
-use pw_value::{LinkFault, What};
+use pw_store_modules::{Module, read_modules};
+use pw_value::LinkFault;
 use std::alloc::Global;
 use std::sync::ledger::Ledger;
 
 /// The modules of a store, of which there are not too many.
-#[tactic(auto, using(crate::proofs::WantLemmas::many_no_want, crate::proofs::WantLemmas::stored_no_want))]
-pub fn few_modules<S: Store>(alloc: Global, store: &mut S) -> Result<Vec<Module>, Unbuilt>
+#[tactic(auto, using(crate::proofs::ModulesLemmas::modules_no_want, crate::proofs::ModulesLemmas::modules_line, crate::proofs::ModulesLemmas::modules_count, crate::proofs::ModulesLemmas::modules_faults, crate::proofs::ModulesLemmas::modules_few))]
+pub fn modules_to_build<S: Store>(alloc: Global, store: &mut S) -> Result<Vec<Module>, Unbuilt>
     ensures modules { IfSome (S.told store.old) (λ told. IfOk result (λ modules. map source modules.items ≡ modules_of told.files)) }
     ensures fault { IfSome (S.told store.old) (λ told. IfErr result (λ unbuilt. AnswersFault (first_phases (modules_of told.files)) unbuilt.fault)) }
     ensures few { IfSome (S.told store.old) (λ told. OnOk result (length (modules_of told.files) ≤ module_limit)) }
@@ -41,15 +40,7 @@ pub fn few_modules<S: Store>(alloc: Global, store: &mut S) -> Result<Vec<Module>
     ensures same { Keeps (S.told store.old) (S.told store.new) }
     ensures count { FaultCount (S.faults store.old) (S.faults store.new) result }
 {
-    let files = module_files_of(alloc, store)?;
-    let count = files.len() as u64;
-    if count > MODULE_LIMIT {
-        return Err(Unbuilt {
-            fault: BuildFault::LinkRefused(LinkFault::TooMany(What::Modules, count)),
-            line: 1,
-        });
-    }
-    Ok(read_sources(alloc, store, &files)?)
+    Ok(read_modules(alloc, store)?)
 }
 
 /// The program of modules, and of what the store keeps of them.

@@ -1,6 +1,6 @@
 -- From the flow graphs of modules to their program. What was kept of a module stands at its place in a list, which may
 -- end early: a kept object stays where it was made of the same flow graph under the same directives.
-use Rattle.std.specs.Prelude.{◌≡◌, ℕ, ◌⊎◌, Bool, true, false, List, [], ◌∷◌, All, Option, Some, None, Result, Ok, Err}
+use Rattle.std.specs.Prelude.{◌≡◌, ℕ, ◌⊎◌, Bool, true, false, List, [], ◌∷◌, Option, Some, None, Result, Ok, Err}
 use Rattle.std.specs.List.{AllByRecursion}
 use Rattle.pw_value.specs.declared.fault.LinkFault.{LinkFault}
 use Rattle.pw_flow.specs.declared.flow.FlowModule.{FlowModule}
@@ -11,9 +11,8 @@ use Rattle.pw_summarise.specs.Summarises.{Summarises}
 use Rattle.pw_graph.specs.Program as graph
 use Rattle.pw_colour.specs.Colours.{IsDatabaseOf}
 use Rattle.pw_db.specs.declared.database.Directives.{Directives}
-use Rattle.pw_db.specs.Database.{HasDirectives}
 use Rattle.pw_object.specs.declared.object.Object.{Object}
-use Rattle.pw_phase_two.specs.Phases.{AreDirectivesOf, IsObjectOf, IsPayloadOf}
+use Rattle.pw_phase_two.specs.Phases.{AreDirectivesIn, IsObjectOf, IsPayloadOf}
 use Rattle.pw_link.specs.Linking.{AreLinked, IsRefusal}
 use Rattle.pw_build_opts.specs.declared.opts.Opts.{Opts}
 
@@ -58,11 +57,6 @@ Stays flow directives (Some o) = IsMadeOf flow directives o
 abbrev pub IsObjectFrom : FlowModule → DirectivesList → Option Object → Object → Bool → Type 0
 IsObjectFrom flow directives old o true = (¬ Stays flow directives old) × IsObjectOf flow directives o
 IsObjectFrom flow directives old o false = (old ≡ Some o) × IsMadeOf flow directives o
-
--- the functions of a module in its order, each with its directives in a database, which are empty where it lacks the function
-pub record AreDirectivesIn (db : DirectivesList) (flow : FlowModule) (directives : DirectivesList) : Type 0 where
-  pub of_module : AreDirectivesOf flow directives
-  pub each : All (HasDirectives db) directives
 
 -- the object of a module under its directives in a database, and whether it is made anew
 pub record IsModuleFrom (db : DirectivesList) (flow : FlowModule) (old : Option Object) (o : Object) (fresh : Bool) : Type 0 where

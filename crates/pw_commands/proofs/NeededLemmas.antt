@@ -1,12 +1,22 @@
 -- Reading needed files, one after another.
-use Rattle.std.proofs.Common.{◌≡◌, ℕ, suc, ◌+◌, ◌<◌, List, [], ◌∷◌, ◌++◌, length, get_or, drop, map, codes, Option, Some, None, Result, Ok, Err, refl, sym, ap, ◌∙◌, subst, append_assoc, append-nil, arith}
-use Rattle.std.specs.Prelude.{IfSome}
+use Rattle.std.proofs.Common.{◌≡◌, ℕ, suc, ◌+◌, ◌<◌, ◌≤◌, Bool, true, false, cond, List, [], ◌∷◌, ◌++◌, length, get_or, drop, map, codes, Option, Some, None, Result, Ok, Err, refl, sym, ap, ◌∙◌, subst, append_assoc, append-nil, arith}
+use Rattle.std.specs.Prelude.{IfSome, nat_le}
+use Rattle.std.proofs.lemmas.Bool.Decides.{nat_tests}
 use Rattle.std.proofs.lemmas.List.{drop-map}
 use Rattle.std.proofs.Math.Seq.{drop-cons}
 use Rattle.pw_commands.specs.Linking.{few_names, of_names}
 use Rattle.pw_io.specs.Files.{Files, Told, Keeps}
+use Rattle.pw_io.specs.declared.StoreError.TheVariants as store
+use Rattle.pw_value.specs.Limits.{module_limit}
+use Rattle.pw_value.specs.declared.fault.LinkFault.TheVariants.{TooMany}
+use Rattle.pw_value.specs.declared.fault.What.TheVariants.{Modules}
+use Rattle.pw_store_modules.specs.Few.{IsFewFault}
+use Rattle.pw_store_modules.specs.Modules.{names_of_modules}
+use Rattle.pw_store_modules.specs.declared.few.ModulesFault.{ModulesFault}
+use Rattle.pw_store_modules.specs.declared.few.ModulesFault.TheVariants as modules
+use Rattle.pw_top_answer.specs.Outcomes.{modules_answer}
 use Rattle.pw_top_answer.specs.declared.answer.Answer.{Answer}
-use Rattle.pw_top_answer.specs.declared.answer.Answer.TheVariants.{StoreFault, NoMemory}
+use Rattle.pw_top_answer.specs.declared.answer.Answer.TheVariants.{LinkRefused, StoreFault, NoMemory}
 use Rattle.pw_commands.specs.Needed.{Adds, StopsAs, Needs, all_needed, before_others, needed}
 
 -- what was read, before what the files that are left hold
@@ -97,3 +107,30 @@ needed_of_names {V = V} view reader ending (Some told) now names files result fe
     let P : Option Told → Type 0 = λ o. IfSome o (λ t. Needs view result (all_needed reader t.files files)) in
     let Q : Result (List V) Answer → Type 0 = λ w. Needs view result w in
     subst Q (ap (all_needed reader told.files) e ∙ sym (ap (of_names reader ending told.files) few)) (subst P same h)
+
+-- ---- the modules' names
+
+within_limit : (n : ℕ) → n ≤ module_limit → nat_le n module_limit ≡ true
+within_limit n h = grind (arith, nat_tests, h)
+
+beyond_limit : (n : ℕ) → module_limit < n → nat_le n module_limit ≡ false
+beyond_limit n h = grind (arith, nat_tests, h)
+
+few_when : (files : Files) (b : Bool) → nat_le (length (names_of_modules files)) module_limit ≡ b
+    → few_names files ≡ cond b (Ok (names_of_modules files)) (Err (LinkRefused (TooMany Modules (length (names_of_modules files)))))
+few_when files b e = ap (λ (c : Bool). cond c (Ok (names_of_modules files)) (Err (LinkRefused (TooMany Modules (length (names_of_modules files)))))) e
+
+-- the names that are told are all, and not too many
+pub names_told : (first : Option Told) (names : List (List ℕ)) → IfSome first (λ t. names ≡ names_of_modules t.files) → IfSome first (λ t. length (names_of_modules t.files) ≤ module_limit) → IfSome first (λ t. few_names t.files ≡ Ok names)
+names_told None names e few = tt
+names_told (Some told) names e few = few_when told.files true (within_limit _ few) ∙ ap Ok (sym e)
+
+stops_by : (files : Files) (fault : ModulesFault) → IsFewFault (length (names_of_modules files)) fault → StopsAs (modules_answer fault) (few_names files)
+stops_by files (modules.TooMany count) h = few_when files false (beyond_limit _ h.1) ∙ ap (λ (n : ℕ). Err (LinkRefused (TooMany Modules n))) (sym h.0)
+stops_by files (modules.Store store.Failed) h = tt
+stops_by files (modules.Store store.NoMemory) h = tt
+
+-- the answer where they are not told
+pub names_stop : (first : Option Told) (fault : ModulesFault) (answer : Answer) → IfSome first (λ t. IsFewFault (length (names_of_modules t.files)) fault) → answer ≡ modules_answer fault → IfSome first (λ t. StopsAs answer (few_names t.files))
+names_stop None fault answer few e = tt
+names_stop (Some told) fault answer few e = subst (λ (a : Answer). StopsAs a (few_names told.files)) (sym e) (stops_by told.files fault few)

@@ -11,7 +11,7 @@ use Rattle.pw_machine.specs.Run.{State, Progress, Running, Stopped, taken, reads
 use Rattle.pw_machine.specs.Stops.{IsRunFrom}
 use Rattle.pw_io.specs.Streams.{Appends}
 use Rattle.pw_top_answer.specs.Outcomes.{IsWhole, PutsOut, LeavesInput, WasReadInPart}
-use Rattle.pw_commands.specs.MachineRun.{run_output, run_rest, started, stop_answer}
+use Rattle.pw_commands.specs.MachineRun.{run_output, run_rest, start_state, stop_answer}
 
 -- one list begins with another
 abbrev Begins : List ℕ → List ℕ → Type 0
@@ -58,13 +58,13 @@ part_out n budget start last answer old new t h e w =
     record { output = last.output; more = more.0; taken = t; front = more.1 ∙ ap (λ xs. xs ++ more.0) e; whole = w more.0 }
 
 -- what a run put out, by how it stopped
-pub run_puts : (core : Core) (input : List ℕ) (budget : ℕ) (stop : Stop) (n : ℕ) (new : Core) (rest taken taken' : Option (List ℕ)) → IsRunFrom core input taken budget stop n new rest taken' → PutsOut (run_output (run_of budget (started core input))) (stop_answer stop) taken taken'
-run_puts core input budget (stop.Ended status) n new rest taken taken' r = all_out budget (started core input) (record { core = new; rest = r.left; output = r.output }) _ taken taken' r.taken_is (ap run_output r.comes.1) refl
-run_puts core input budget stop.StackStop n new rest taken taken' r = all_out budget (started core input) (record { core = new; rest = r.left; output = r.output }) _ taken taken' r.taken_is (ap run_output r.comes.1) refl
-run_puts core input budget stop.Spent n new rest taken taken' r = all_out budget (started core input) (record { core = new; rest = r.left; output = r.output }) _ taken taken' r.taken_is (ap run_output r.comes.1) refl
-run_puts core input budget (stop.Halted halt at) n new rest taken taken' r = all_out budget (started core input) (record { core = new; rest = r.left; output = r.output }) _ taken taken' r.taken_is (ap run_output r.comes.1) refl
-run_puts core input budget stop.ReadFault n new rest taken taken' r = part_out n budget (started core input) (record { core = new; rest = r.left; output = r.output }) _ taken taken' r.taken_is (omega (arith, r.comes.0)) (ap run_output r.comes.1) (λ more. tt)
-run_puts core input budget stop.WriteFault n new rest taken taken' r = part_out n budget (started core input) (record { core = new; rest = r.left; output = r.output }) _ taken taken' r.taken_is (omega (arith, r.comes.0)) (ap run_output r.comes.1) (λ more. tt)
+pub run_puts : (core : Core) (input : List ℕ) (budget : ℕ) (stop : Stop) (n : ℕ) (new : Core) (rest taken taken' : Option (List ℕ)) → IsRunFrom core input taken budget stop n new rest taken' → PutsOut (run_output (run_of budget (start_state core input))) (stop_answer stop) taken taken'
+run_puts core input budget (stop.Ended status) n new rest taken taken' r = all_out budget (start_state core input) (record { core = new; rest = r.left; output = r.output }) _ taken taken' r.taken_is (ap run_output r.comes.1) refl
+run_puts core input budget stop.StackStop n new rest taken taken' r = all_out budget (start_state core input) (record { core = new; rest = r.left; output = r.output }) _ taken taken' r.taken_is (ap run_output r.comes.1) refl
+run_puts core input budget stop.Spent n new rest taken taken' r = all_out budget (start_state core input) (record { core = new; rest = r.left; output = r.output }) _ taken taken' r.taken_is (ap run_output r.comes.1) refl
+run_puts core input budget (stop.Halted halt at) n new rest taken taken' r = all_out budget (start_state core input) (record { core = new; rest = r.left; output = r.output }) _ taken taken' r.taken_is (ap run_output r.comes.1) refl
+run_puts core input budget stop.ReadFault n new rest taken taken' r = part_out n budget (start_state core input) (record { core = new; rest = r.left; output = r.output }) _ taken taken' r.taken_is (omega (arith, r.comes.0)) (ap run_output r.comes.1) (λ more. tt)
+run_puts core input budget stop.WriteFault n new rest taken taken' r = part_out n budget (start_state core input) (record { core = new; rest = r.left; output = r.output }) _ taken taken' r.taken_is (omega (arith, r.comes.0)) (ap run_output r.comes.1) (λ more. tt)
 
 -- what was read of one list, where another is what is left
 abbrev pub Ends : List ℕ → List ℕ → Type 0
@@ -123,13 +123,13 @@ part_left n budget start last rest h r e =
     subst P (sym r) (ends.0, further.0, (ends.1 ∙ ap (λ xs. ends.0 ++ xs) e, sym e ∙ further.1))
 
 -- what a run left of its input, by how it stopped
-pub run_leaves : (core : Core) (input : List ℕ) (budget : ℕ) (stop : Stop) (n : ℕ) (new : Core) (rest taken taken' : Option (List ℕ)) → IsRunFrom core input taken budget stop n new rest taken' → LeavesInput (run_rest (run_of budget (started core input))) input (stop_answer stop) rest
-run_leaves core input budget (stop.Ended status) n new rest taken taken' r = all_left budget (started core input) (record { core = new; rest = r.left; output = r.output }) rest r.rest_is (ap run_rest r.comes.1)
-run_leaves core input budget stop.StackStop n new rest taken taken' r = all_left budget (started core input) (record { core = new; rest = r.left; output = r.output }) rest r.rest_is (ap run_rest r.comes.1)
-run_leaves core input budget stop.Spent n new rest taken taken' r = all_left budget (started core input) (record { core = new; rest = r.left; output = r.output }) rest r.rest_is (ap run_rest r.comes.1)
-run_leaves core input budget (stop.Halted halt at) n new rest taken taken' r = all_left budget (started core input) (record { core = new; rest = r.left; output = r.output }) rest r.rest_is (ap run_rest r.comes.1)
-run_leaves core input budget stop.ReadFault n new rest taken taken' r = part_left n budget (started core input) (record { core = new; rest = r.left; output = r.output }) rest (omega (arith, r.comes.0)) r.rest_is (ap run_rest r.comes.1)
-run_leaves core input budget stop.WriteFault n new rest taken taken' r = part_left n budget (started core input) (record { core = new; rest = r.left; output = r.output }) rest (omega (arith, r.comes.0)) r.rest_is (ap run_rest r.comes.1)
+pub run_leaves : (core : Core) (input : List ℕ) (budget : ℕ) (stop : Stop) (n : ℕ) (new : Core) (rest taken taken' : Option (List ℕ)) → IsRunFrom core input taken budget stop n new rest taken' → LeavesInput (run_rest (run_of budget (start_state core input))) input (stop_answer stop) rest
+run_leaves core input budget (stop.Ended status) n new rest taken taken' r = all_left budget (start_state core input) (record { core = new; rest = r.left; output = r.output }) rest r.rest_is (ap run_rest r.comes.1)
+run_leaves core input budget stop.StackStop n new rest taken taken' r = all_left budget (start_state core input) (record { core = new; rest = r.left; output = r.output }) rest r.rest_is (ap run_rest r.comes.1)
+run_leaves core input budget stop.Spent n new rest taken taken' r = all_left budget (start_state core input) (record { core = new; rest = r.left; output = r.output }) rest r.rest_is (ap run_rest r.comes.1)
+run_leaves core input budget (stop.Halted halt at) n new rest taken taken' r = all_left budget (start_state core input) (record { core = new; rest = r.left; output = r.output }) rest r.rest_is (ap run_rest r.comes.1)
+run_leaves core input budget stop.ReadFault n new rest taken taken' r = part_left n budget (start_state core input) (record { core = new; rest = r.left; output = r.output }) rest (omega (arith, r.comes.0)) r.rest_is (ap run_rest r.comes.1)
+run_leaves core input budget stop.WriteFault n new rest taken taken' r = part_left n budget (start_state core input) (record { core = new; rest = r.left; output = r.output }) rest (omega (arith, r.comes.0)) r.rest_is (ap run_rest r.comes.1)
 
 -- a source that was left alone
 pub untouched : (rest : Option (List ℕ)) (wanted : List ℕ → List ℕ) → ((input : List ℕ) → Ends input (wanted input)) → IfSome rest (λ input. WasReadInPart (wanted input) input rest)

@@ -13,7 +13,7 @@ use Rattle.pw_store_modules.specs.FileNames.{image_name}
 use Rattle.pw_top_answer.specs.declared.answer.Answer.{Answer}
 use Rattle.pw_top_answer.specs.declared.answer.Answer.TheVariants.{StoreFault, NoMemory, BadFile}
 use Rattle.pw_top_answer.specs.Outcomes.{LeavesInput, WasReadInPart}
-use Rattle.pw_commands.specs.MachineRun.{started}
+use Rattle.pw_commands.specs.MachineRun.{start_state}
 use Rattle.pw_commands.proofs.RunLemmas.{Ends, ends_itself, run_ends}
 use Rattle.pw_commands.specs.Needed.{IsBadFile, StopsAs, found_in, needed_bytes, read_by}
 use Rattle.pw_commands.specs.Outcome.{IsFileStop}
@@ -49,7 +49,7 @@ core_of_fault bytes at e = fault_core (image_file_at bytes) at e
 -- what is left of the input is a rest of it
 pub runs_end : (found : Result Core Answer) (budget : ℕ) (input : List ℕ) → Ends input (runs found budget input).rest
 runs_end (Err answer) budget input = ends_itself input
-runs_end (Ok core) budget input = run_ends (started core input) budget
+runs_end (Ok core) budget input = run_ends (start_state core input) budget
 
 untouched_part : (wanted input : List ℕ) → Ends input wanted → WasReadInPart wanted input (Some input)
 untouched_part wanted input e = ([], e.0, (refl, e.1))

@@ -4,15 +4,11 @@ use Rattle.pw_machine.specs.declared.ends.End.{End}
 use Rattle.pw_machine.specs.declared.ends.End.TheVariants as end
 use Rattle.pw_machine.specs.declared.ends.Stop.{Stop}
 use Rattle.pw_machine.specs.declared.ends.Stop.TheVariants as stop
-use Rattle.pw_machine.specs.Core.{Core}
-use Rattle.pw_machine.specs.Run.{State, Progress, Running, Stopped, run_of}
+use Rattle.pw_machine.specs.Run.{Progress, Running, Stopped}
+pub use Rattle.pw_machine.specs.Run.{start_state}
 use Rattle.pw_top_answer.specs.Effects.{Effect}
 use Rattle.pw_top_answer.specs.declared.answer.Answer.{Answer}
 use Rattle.pw_top_answer.specs.declared.answer.Answer.TheVariants.{Done, Ended, Usage, Refused, LinkRefused, StackStop, Spent, Halted, ReadFault, WriteFault, StoreFault, NoMemory, BadFile, BadScript}
-
--- the state in which a run over an input starts
-abbrev pub started : Core → List ℕ → State
-started core input = record { core = core; rest = input; output = [] }
 
 -- how a run ended, as an answer; one that goes on has spent its budget
 abbrev pub end_answer : End → Answer

@@ -10,7 +10,7 @@ use Rattle.pw_store_modules.specs.FileNames.{image_name}
 use Rattle.pw_top_answer.specs.declared.answer.Answer.{Answer}
 use Rattle.pw_top_answer.specs.declared.answer.Answer.TheVariants.{Done, Usage, Refused, LinkRefused}
 use Rattle.pw_top_answer.specs.Effects.{Effect, answers_alone}
-use Rattle.pw_commands.specs.MachineRun.{ran, started}
+use Rattle.pw_commands.specs.MachineRun.{ran, start_state}
 use Rattle.pw_commands.specs.Needed.{needed}
 
 -- the machine at the start of the image that stands in a file
@@ -23,7 +23,7 @@ core_in files = needed core_at files image_name
 
 abbrev pub runs : Result Core Answer → ℕ → List ℕ → Effect
 runs (Err answer) budget input = answers_alone answer input
-runs (Ok core) budget input = ran (run_of budget (started core input))
+runs (Ok core) budget input = ran (run_of budget (start_state core input))
 
 -- `run` over a store's files, for at most so many instructions
 abbrev pub run_effect : Files → ℕ → List ℕ → Effect

@@ -16,8 +16,7 @@ use pw_object::Object;
 use pw_store_modules::{file_of, module_names};
 use pw_summary::Summary;
 use pw_top_answer::Answer;
-use pw_value::limits::MODULE_LIMIT;
-use pw_value::{FileError, LinkFault, Name, What};
+use pw_value::{FileError, Name};
 use std::alloc::Global;
 
 /// What stands in a kept file of its own kind.
@@ -130,20 +129,15 @@ fn read_values<S: Store, K: Kept + Drop>(
 }
 
 /// The names of the modules, of which there are not too many.
-#[tactic(auto, using(crate::proofs::StopLemmas::many_stop))]
-fn few_modules<S: Store>(alloc: Global, store: &mut S) -> Result<Vec<String>, Answer>
+#[tactic(auto, using(crate::proofs::StopLemmas::modules_stop, crate::proofs::StopLemmas::modules_count, crate::proofs::NeededLemmas::names_told, crate::proofs::NeededLemmas::names_stop))]
+fn few_names<S: Store>(alloc: Global, store: &mut S) -> Result<Vec<String>, Answer>
     ensures names { IfSome (S.told store.old) (λ told. Needs (λ names. map string_bytes names.items) result (few_names told.files)) }
     ensures named { IfOk result (λ names. All (λ stem. is_module_name (string_bytes stem) ≡ true) names.items) }
     ensures same { Keeps (S.told store.old) (S.told store.new) }
     ensures count { StopCount (S.faults store.old) (S.faults store.new) result }
     ensures stop { IfErr result IsStop }
 {
-    let names = module_names(alloc, store)?;
-    let count = names.len() as u64;
-    if count > MODULE_LIMIT {
-        return Err(Answer::LinkRefused(LinkFault::TooMany(What::Modules, count)));
-    }
-    Ok(names)
+    Ok(module_names(alloc, store)?)
 }
 
 /// What stands in the files of one kind of all modules, in the order of their names.
@@ -160,6 +154,6 @@ pub fn kept_of_modules<S: Store, K: Kept + Drop>(
     ensures count { StopCount (S.faults store.old) (S.faults store.new) result }
     ensures stop { IfErr result IsStop }
 {
-    let modules = few_modules(alloc, store)?;
+    let modules = few_names(alloc, store)?;
     read_values(alloc, store, &modules, ending)
 }

@@ -3,7 +3,7 @@
 ghost use Rattle.std.specs.Prelude.{◌≡◌, IfSome};
 ghost use Rattle.pw_machine.specs.Run.{run_of};
 ghost use Rattle.pw_top_answer.specs.Outcomes.{Answers, InputCount, LeavesInput, OutputCount, PutsOut};
-ghost use Rattle.pw_commands.specs.MachineRun.{IsRunAnswer, run_answer, run_output, run_rest, started, stop_answer};
+ghost use Rattle.pw_commands.specs.MachineRun.{IsRunAnswer, run_answer, run_output, run_rest, start_state, stop_answer};
 
 use pw_io::{Sink, Source};
 use pw_machine::{Machine, Stop};
@@ -32,9 +32,9 @@ pub fn run_machine<I: Source, O: Sink>(
     out: &mut O,
     budget: u64,
 ) -> Answer
-    ensures answer { IfSome (I.rest input.old) (λ rest. Answers (run_answer (run_of budget (started machine.old.core rest))) result) }
-    ensures output { IfSome (I.rest input.old) (λ rest. PutsOut (run_output (run_of budget (started machine.old.core rest))) result (O.taken out.old) (O.taken out.new)) }
-    ensures rest { IfSome (I.rest input.old) (λ rest. LeavesInput (run_rest (run_of budget (started machine.old.core rest))) rest result (I.rest input.new)) }
+    ensures answer { IfSome (I.rest input.old) (λ rest. Answers (run_answer (run_of budget (start_state machine.old.core rest))) result) }
+    ensures output { IfSome (I.rest input.old) (λ rest. PutsOut (run_output (run_of budget (start_state machine.old.core rest))) result (O.taken out.old) (O.taken out.new)) }
+    ensures rest { IfSome (I.rest input.old) (λ rest. LeavesInput (run_rest (run_of budget (start_state machine.old.core rest))) rest result (I.rest input.new)) }
     ensures read { InputCount (I.faults input.old) (I.faults input.new) result }
     ensures write { OutputCount (O.faults out.old) (O.faults out.new) result }
     ensures run { IsRunAnswer result }

@@ -32,7 +32,7 @@ pub record Laws : Type 0 where
 
 one_object : Laws → (flow : FlowModule) (db : Db) (o p : Object) → IsDatabase db → IsObjectUnder flow db o → IsObjectUnder flow db p → p ≡ o
 one_object laws flow db o p lawful a b =
-    let directives : b.directives ≡ a.directives = laws.directives db lawful b.directives a.directives b.of_database.each a.of_database.each (b.of_database.functions ∙ sym a.of_database.functions) in
+    let directives : b.directives ≡ a.directives = laws.directives db lawful b.directives a.directives b.of_database.each a.of_database.each (b.of_database.of_module.functions ∙ sym a.of_database.of_module.functions) in
     laws.object flow a.directives p o (subst (λ (ds : Db). IsObjectOf flow ds p) directives b.of_flow) a.of_flow
 
 one_file : Laws → (flow : FlowModule) (db : Db) (bytes others : List ℕ) → IsFileOfFlow flow db bytes → IsFileOfFlow flow db others → others ≡ bytes

@@ -1,16 +1,15 @@
 -- What `phase2` comes to: the object of a module under the directives that the database has for it.
-use Rattle.std.specs.Prelude.{◌≡◌, ℕ, ◌⊎◌, List, [], ◌∷◌, All, map, Option, Some, Result, Ok, Err}
+use Rattle.std.specs.Prelude.{◌≡◌, ℕ, ◌⊎◌, List, [], ◌∷◌, Option, Some, Result, Ok, Err}
 use Rattle.pw_io.specs.Files.{Files, Told}
 use Rattle.pw_fields.specs.FieldLaws.{AreBytes}
 use Rattle.pw_files.specs.Contents.{value_of}
-use Rattle.pw_flow.specs.FlowGraph.{function_names}
 use Rattle.pw_flow.specs.declared.flow.FlowModule.{FlowModule}
 use Rattle.pw_flowfile.specs.Reading.{flow_file_at}
 use Rattle.pw_db.specs.declared.database.Directives.{Directives}
-use Rattle.pw_db.specs.Database.{HasDirectives, IsDatabase}
+use Rattle.pw_db.specs.Database.{IsDatabase}
 use Rattle.pw_object.specs.declared.object.Object.{Object}
 use Rattle.pw_object.specs.Object.{IsObjectFile}
-use Rattle.pw_phase_two.specs.Phases.{AreDirectivesOf, IsObjectOf}
+use Rattle.pw_phase_two.specs.Phases.{AreDirectivesIn, AreDirectivesOf, IsObjectOf}
 use Rattle.pw_store_modules.specs.FileNames.{database_name, flow_name, object_name}
 use Rattle.pw_top_answer.specs.declared.answer.Answer.{Answer}
 use Rattle.pw_top_answer.specs.Effects.{Effect, PutPart, answers_alone, puts_files}
@@ -19,11 +18,6 @@ pub use Rattle.pw_commands.specs.Showing.{database_at}
 
 abbrev pub flow_at : List ℕ → Result FlowModule ℕ
 flow_at bytes = value_of (flow_file_at bytes)
-
--- the functions of a module in its order, each with its directives in a database; they are empty where it lacks the function
-pub record AreDirectivesIn (db : List (List ℕ × Directives)) (flow : FlowModule) (directives : List (List ℕ × Directives)) : Type 0 where
-  pub functions : map (λ f. f.0) directives ≡ function_names flow
-  pub each : All (HasDirectives db) directives
 
 -- the object of a flow graph under a database's directives
 pub record IsObjectUnder (flow : FlowModule) (db : List (List ℕ × Directives)) (object : Object) : Type 0 where

@@ -1,7 +1,7 @@
 -- Programs made from a number: modules whose functions count in the globals of one another.
 use Rattle.std.specs.Prelude.{ℕ, zero, suc, ◌+◌, ◌*◌, ◌/◌, ◌%◌, ◌^◌, ◌==◌, nat_lt, if◌then◌else◌, List, [], ◌∷◌, ◌++◌, codes, flat_map, map}
 use Rattle.std.specs.Fmt.{decimal}
-use Rattle.std.specs.List.{range_with_len}
+use Rattle.std.specs.List.{concat, range_with_len}
 
 -- ---- draws
 
@@ -19,35 +19,29 @@ drawn number bound = number / 65536 % bound
 abbrev pub functions_of_a_module : ℕ
 functions_of_a_module = 8
 
--- the texts, one behind another
-abbrev pub parts : List (List ℕ) → List ℕ
-parts [] = []
-parts (x ∷ []) = x
-parts (x ∷ y ∷ xs) = x ++ parts (y ∷ xs)
-
 -- the line that declares function J of module K
 abbrev pub declaration : ℕ → ℕ → List ℕ
-declaration k j = parts (codes "unsigned f" ∷ decimal k ∷ codes "_" ∷ decimal j ∷ codes "(unsigned x);\n" ∷ [])
+declaration k j = concat (codes "unsigned f" ∷ decimal k ∷ codes "_" ∷ decimal j ∷ codes "(unsigned x);\n" ∷ [])
 
 -- what function J of module K of `count` gives back: what the next of its module gives, else the next module's first, of its
 -- parameter and its module's global; in the end its parameter
 abbrev pub answer : ℕ → ℕ → ℕ → List ℕ
 answer count k j =
     if nat_lt (j + 1) functions_of_a_module
-    then parts (codes "f" ∷ decimal k ∷ codes "_" ∷ decimal (j + 1) ∷ codes "(x+g" ∷ decimal k ∷ codes ")" ∷ [])
+    then concat (codes "f" ∷ decimal k ∷ codes "_" ∷ decimal (j + 1) ∷ codes "(x+g" ∷ decimal k ∷ codes ")" ∷ [])
     else if nat_lt (k + 1) count
-    then parts (codes "f" ∷ decimal (k + 1) ∷ codes "_0(x+g" ∷ decimal k ∷ codes ")" ∷ [])
+    then concat (codes "f" ∷ decimal (k + 1) ∷ codes "_0(x+g" ∷ decimal k ∷ codes ")" ∷ [])
     else codes "x"
 
 -- the front of function J of module K: its module's global times a factor, with the parameter added
 abbrev pub factor_part : ℕ → ℕ → ℕ → List ℕ
-factor_part k j factor = parts
+factor_part k j factor = concat
     (codes "unsigned f" ∷ decimal k ∷ codes "_" ∷ decimal j ∷ codes "(unsigned x){g" ∷ decimal k ∷ codes "=g" ∷ decimal k ∷ codes "*"
     ∷ decimal factor ∷ codes "u+x; " ∷ [])
 
 -- its rest: the global of another module under a mask, and what is given back
 abbrev pub mask_part : ℕ → ℕ → List ℕ → List ℕ
-mask_part other mask given = parts
+mask_part other mask given = concat
     (codes "g" ∷ decimal other ∷ codes "=g" ∷ decimal other ∷ codes "^" ∷ decimal mask ∷ codes "u; return " ∷ given ∷ codes ";}\n" ∷ [])
 
 -- function J of module K with the factor, the mask and the other module that were drawn for it
@@ -73,12 +67,12 @@ abbrev pub draws_before : ℕ → ℕ
 draws_before k = 3 * (functions_of_a_module * k)
 
 abbrev pub foreign_global : ℕ → ℕ → List ℕ
-foreign_global k other = if other == k then [] else parts (codes "extern unsigned g" ∷ decimal other ∷ codes ";\n" ∷ [])
+foreign_global k other = if other == k then [] else concat (codes "extern unsigned g" ∷ decimal other ∷ codes ";\n" ∷ [])
 
 -- module K of `count`, made from a number
 unfoldable pub module_text : ℕ → ℕ → ℕ → List ℕ
 module_text number count k =
-    parts (codes "unsigned g" ∷ decimal k ∷ codes ";\n" ∷ [])
+    concat (codes "unsigned g" ∷ decimal k ∷ codes ";\n" ∷ [])
     ++ flat_map (foreign_global k) (range_with_len 0 count)
     ++ (if nat_lt (k + 1) count then declaration (k + 1) 0 else [])
     ++ members count k functions_of_a_module (after (draws_before k) number)
@@ -86,7 +80,7 @@ module_text number count k =
 -- ---- the program
 
 unfoldable pub module_file : ℕ → List ℕ
-module_file k = parts (codes "m" ∷ decimal k ∷ codes ".i" ∷ [])
+module_file k = concat (codes "m" ∷ decimal k ∷ codes ".i" ∷ [])
 
 unfoldable pub main_text : List ℕ
 main_text = codes "unsigned f0_0(unsigned x); int main(void){unsigned t; unsigned i; t=0u; for(i=0u;i<100u;i++)t=t+f0_0(i); return t&255u;}\n"

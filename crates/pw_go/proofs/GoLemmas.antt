@@ -9,7 +9,7 @@ use Rattle.pw_top_answer.specs.declared.answer.Answer.{Answer}
 use Rattle.pw_top_answer.specs.declared.answer.Answer.TheVariants as answer
 use Rattle.pw_top_answer.specs.Effects.{Effect, PutsFiles, NamedFile, after_puts, answers_alone}
 use Rattle.pw_top_answer.specs.Outcomes.{Answers, InputCount, IsLineDue, IsNoRefusal, LeavesInput, LeavesStreams, PutsOut, StoreCount, WasReadInPart}
-use Rattle.pw_commands.specs.MachineRun.{IsRunAnswer, started}
+use Rattle.pw_commands.specs.MachineRun.{IsRunAnswer, start_state}
 use Rattle.pw_commands.specs.Outcome.{IsFound, Obeys}
 use Rattle.pw_commands.proofs.RunLemmas.{Ends, ends_itself, run_ends}
 use Rattle.pw_build_files.specs.FromBuild.BuildFault.{BuildFault}
@@ -26,7 +26,7 @@ use Rattle.pw_go.proofs.RunLemmas.{appends_none, none_out}
 
 -- what it leaves of the input is a rest of it
 over_ends : (budget : ℕ) (input : List ℕ) (comes : Result Outcome BuildFault) (e : Effect) → GoOver budget input comes e → Ends input e.rest
-over_ends budget input (Ok outcome) e h = subst (λ (x : Effect). Ends input x.rest) (sym h.2) (run_ends (started (image_start h.0.value.memory) input) budget)
+over_ends budget input (Ok outcome) e h = subst (λ (x : Effect). Ends input x.rest) (sym h.2) (run_ends (start_state (image_start h.0.value.memory) input) budget)
 over_ends budget input (Err fault) e h = subst (λ (x : Effect). Ends input x.rest) (sym h) (ends_itself input)
 
 pub go_ends : (files : Files) (opts : RunOpts) (input : List ℕ) (e : Effect) → GoEffect files opts input e → Ends input e.rest

@@ -14,7 +14,7 @@ use Rattle.pw_machine.specs.Stops.{Snapshot, loaded}
 use Rattle.pw_top_answer.specs.declared.answer.Answer.{Answer}
 use Rattle.pw_top_answer.specs.declared.answer.Answer.TheVariants.{NoMemory}
 use Rattle.pw_top_answer.specs.Outcomes.{Answers, LeavesInput, PutsOut}
-use Rattle.pw_commands.specs.MachineRun.{run_answer, run_output, run_rest, started}
+use Rattle.pw_commands.specs.MachineRun.{run_answer, run_output, run_rest, start_state}
 use Rattle.pw_commands.proofs.RunLemmas.{run_ends}
 use Rattle.pw_build_files.specs.Outcomes.{HoldsImage}
 use Rattle.pw_go.specs.Going.{RunsImage, run_from}
@@ -33,7 +33,7 @@ no_load_fault bytes error at e h only =
 -- ---- its run
 
 abbrev run_over : ℕ → List ℕ → Core → Progress
-run_over budget input core = run_of budget (started core input)
+run_over budget input core = run_of budget (start_state core input)
 
 -- a machine that stands at the start of the image in a file runs it
 pub runs_image : (image : List ℕ) (budget : ℕ) (core : Core) (old new taken taken' : Option (List ℕ)) (answer : Answer) → ((c : Contents Image) → IsImageFile image c → core ≡ image_start c.value.memory)
@@ -59,5 +59,5 @@ run_memory image budget None taken = tt
 run_memory image budget (Some input) taken = record {
   answers = λ c h. tt;
   output = λ c h. none_out (run_output (run_from budget input c)) taken;
-  rest = λ c h. let e = run_ends (started (image_start c.value.memory) input) budget in ([], e.0, (refl, e.1));
+  rest = λ c h. let e = run_ends (start_state (image_start c.value.memory) input) budget in ([], e.0, (refl, e.1));
 }

@@ -11,7 +11,7 @@ use Rattle.pw_top_answer.specs.declared.answer.Answer.{Answer}
 use Rattle.pw_top_answer.specs.declared.answer.Answer.TheVariants.{Done, Usage, Refused, LinkRefused, BadFile, BadScript}
 use Rattle.pw_top_answer.specs.Effects.{Effect, NamedFile, answers_alone}
 use Rattle.pw_top_answer.specs.Outcomes.{Answers, LeavesInput, PutsOut}
-use Rattle.pw_commands.specs.MachineRun.{run_answer, run_output, run_rest, started}
+use Rattle.pw_commands.specs.MachineRun.{run_answer, run_output, run_rest, start_state}
 use Rattle.pw_build_files.specs.FromBuild.BuildFault.{BuildFault}
 use Rattle.pw_build_files.specs.Building.{BuildOutcome, Outcome}
 use Rattle.pw_build_files.specs.Outcomes.{fault_answer}
@@ -19,7 +19,7 @@ use Rattle.pw_build_opts.specs.declared.opts.RunOpts.{RunOpts}
 
 -- the run of a program over an input, for at most so many instructions
 abbrev pub run_from : ℕ → List ℕ → Contents Image → Progress
-run_from budget input c = run_of budget (started (image_start c.value.memory) input)
+run_from budget input c = run_of budget (start_state (image_start c.value.memory) input)
 
 -- a run as far as it went, behind the puts of these files
 abbrev pub ran_behind : List NamedFile → Progress → Effect

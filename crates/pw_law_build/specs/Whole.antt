@@ -8,7 +8,7 @@ use Rattle.pw_build_objects.specs.Programs.{Parts}
 use Rattle.pw_store_modules.specs.Modules.{Texts, modules_of}
 use Rattle.pw_build_files.specs.FromBuild.Builds.{Builds, FullBuild}
 use Rattle.pw_build_files.specs.Building.{kept_objects}
-use Rattle.pw_build_files.specs.Full.{IsImageOf}
+use Rattle.pw_commands.specs.Linking.{IsImageOf}
 use Rattle.pw_build_opts.specs.declared.opts.Opts.{Opts}
 
 -- exactly these bytes stand under the name
@@ -21,7 +21,7 @@ pub record HoldsProgram (parts : Parts) (stack : ℕ) (files : Files) : Type 0 w
   pub database_file : IsDatabaseFile database parts.database
   pub database_stands : HoldsFile files database_name database
   pub image : List ℕ
-  pub image_file : IsImageOf parts stack image
+  pub image_file : IsImageOf parts.objects stack image
   pub image_stands : HoldsFile files image_name image
 
 -- those to which the modules and the kept objects of a store's files come stand there

@@ -3,12 +3,12 @@ use Rattle.std.proofs.Common.{ℕ, ◌≡◌, ◌+◌, ◌-◌, ◌<◌, ◌≤�
 use Rattle.pw_machine.specs.declared.ends.End.{End}
 use Rattle.pw_machine.specs.declared.ends.End.TheVariants as machine
 use Rattle.pw_machine.specs.Core.{Core}
-use Rattle.pw_machine.specs.Run.{State, Progress, Running, Stopped, run_of}
+use Rattle.pw_machine.specs.Run.{State, Progress, Running, Stopped, run_of, start_state}
 use Rattle.pw_run.specs.Runs.{View, Stage, Going, Over, Wrong, GoesOn, EndsSo, Met, Whatever}
 use Rattle.pw_run.specs.Runs as run
 use Rattle.pw_run_agreement.specs.MachineStages.{Nothing, shown, staged, machine_run}
 use Rattle.pw_run_agreement.specs.Agreement.{SourceEnd, SourceRun, Ends, Stack, Bound, Undefined, stage_by, Agree, IsMeaningful}
-use Rattle.pw_law_stops.specs.Stops.{started, Tells}
+use Rattle.pw_law_stops.specs.Stops.{Tells}
 use Rattle.pw_law_stops.proofs.Growing.{BeginsWith, written, run_writes}
 
 -- ---- a stage of the machine, read back
@@ -84,28 +84,28 @@ module _ (stays : (m n : ℕ) (start last : State) (end : End) → run_of m star
   -- ---- by the source's end
 
   by_end : (core : Core) (input : List ℕ) (budget bound : ℕ) (r : SourceRun) (end : SourceEnd) → r.end ≡ end → budget < bound → IsMeaningful end →
-      Met Whatever (stage_by bound r end) (machine_run core input) → Tells input (run_of budget (started core input)) r
+      Met Whatever (stage_by bound r end) (machine_run core input) → Tells input (run_of budget (start_state core input)) r
   unfolding machine_run
   by_end core input budget bound r (Ends status) e lt meaningful met =
-      let there = ended_is input met.at (run_of met.at (started core input)) status met.view met.is in
+      let there = ended_is input met.at (run_of met.at (start_state core input)) status met.view met.is in
       let out : r.output ≡ there.last.output = met.same.output ∙ ap (λ (v : View Nothing). v.output) there.view_is in
       let read : r.read ≡ _ = met.same.read ∙ ap (λ (v : View Nothing). v.read) there.view_is in
-      stops_so input (started core input) there.last budget met.at (run_of budget (started core input)) (machine.Ended status) r refl there.is out
+      stops_so input (start_state core input) there.last budget met.at (run_of budget (start_state core input)) (machine.Ended status) r refl there.is out
       (record { end = e; output = out; read = read })
   by_end core input budget bound r Stack e lt meaningful met =
-      let there = stack_is input met.at (run_of met.at (started core input)) met.view met.is in
+      let there = stack_is input met.at (run_of met.at (start_state core input)) met.view met.is in
       let out : r.output ≡ there.last.output = met.same.output ∙ ap (λ (v : View Nothing). v.output) there.view_is in
       let read : r.read ≡ _ = met.same.read ∙ ap (λ (v : View Nothing). v.read) there.view_is in
-      stops_so input (started core input) there.last budget met.at (run_of budget (started core input)) machine.StackStop r refl there.is out
+      stops_so input (start_state core input) there.last budget met.at (run_of budget (start_state core input)) machine.StackStop r refl there.is out
       (record { end = e; output = out; read = read })
   by_end core input budget bound r Bound e lt meaningful met =
-      let there = going_is input met.at (run_of met.at (started core input)) met.view met.is in
+      let there = going_is input met.at (run_of met.at (start_state core input)) met.view met.is in
       let out : r.output ≡ there.last.output = met.same.output ∙ ap (λ (v : View Nothing). v.output) there.view_is in
       let counted : bound ≤ met.at = subst (λ (n : ℕ). bound ≤ n) (ap (λ (v : View Nothing). v.events) there.view_is) met.counted in
-      goes_beyond input (started core input) there.last budget met.at (run_of budget (started core input)) r refl there.is (omega (arith, lt, counted)) out
+      goes_beyond input (start_state core input) there.last budget met.at (run_of budget (start_state core input)) r refl there.is (omega (arith, lt, counted)) out
   by_end core input budget bound r Undefined e lt meaningful met = absurd meaningful
 
   pub stops_told : (run : ℕ → SourceRun) (core : Core) (input : List ℕ) → Agree run core input →
-      (budget bound : ℕ) → budget < bound → IsMeaningful (run bound).end → Tells input (run_of budget (started core input)) (run bound)
+      (budget bound : ℕ) → budget < bound → IsMeaningful (run bound).end → Tells input (run_of budget (start_state core input)) (run bound)
   stops_told run core input agree budget bound lt meaningful =
       by_end core input budget bound (run bound) (run bound).end refl lt meaningful (agree bound)

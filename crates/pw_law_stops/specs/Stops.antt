@@ -1,13 +1,8 @@
 -- What the machine's run within a budget tells of a run of the source that meets no undefined operation.
 use Rattle.std.specs.Prelude.{◌≡◌, ℕ, ◌-◌, List, [], ◌++◌, length}
 use Rattle.pw_machine.specs.declared.ends.End.TheVariants.{Ended, StackStop, Halted}
-use Rattle.pw_machine.specs.Core.{Core}
 use Rattle.pw_machine.specs.Run.{State, Progress, Running, Stopped}
 use Rattle.pw_run_agreement.specs.Agreement.{SourceEnd, SourceRun, Ends, Stack}
-
--- the machine before its first step, over an input
-abbrev pub started : Core → List ℕ → State
-started core input = record { core = core; rest = input; output = [] }
 
 -- the source's run ended so, with the machine's output, and read as many bytes of the input
 pub record IsThatOf (r : SourceRun) (how : SourceEnd) (input : List ℕ) (last : State) : Type 0 where

@@ -3,9 +3,9 @@
 
 ghost use Rattle.std.specs.Prelude.{ℕ, ◌<◌, List};
 ghost use Rattle.pw_machine.specs.Core.{Core};
-ghost use Rattle.pw_machine.specs.Run.{run_of};
+ghost use Rattle.pw_machine.specs.Run.{run_of, start_state};
 ghost use Rattle.pw_run_agreement.specs.Agreement.{SourceRun, Agree, IsMeaningful};
-ghost use Rattle.pw_law_stops.specs.Stops.{started, Tells};
+ghost use Rattle.pw_law_stops.specs.Stops.{Tells};
 
 use pw_machine::runs_add_up;
 
@@ -15,7 +15,7 @@ use pw_machine::runs_add_up;
 /// source's.
 pub fn stops_are_those_of_the_source()
     ensures { (run : ℕ → SourceRun) (core : Core) (input : List ℕ) → Agree run core input →
-        (budget bound : ℕ) → budget < bound → IsMeaningful (run bound).end → Tells input (run_of budget (started core input)) (run bound) }
+        (budget bound : ℕ) → budget < bound → IsMeaningful (run bound).end → Tells input (run_of budget (start_state core input)) (run bound) }
 {
     runs_add_up();
 }

@@ -12,6 +12,10 @@ pub record State : Type 0 where
   pub rest : List ℕ
   pub output : List ℕ
 
+-- the state in which a run over an input starts
+abbrev pub start_state : Core → List ℕ → State
+start_state core input = record { core = core; rest = input; output = [] }
+
 -- A run goes on, or has stopped.
 pub data Progress : Type 0 where
   Running : State → Progress

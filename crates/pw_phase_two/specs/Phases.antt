@@ -1,12 +1,12 @@
 -- The second phase: from a flow graph and its directives to an object.
-use Rattle.std.specs.Prelude.{ℕ, ◌≡◌, List, [], ◌∷◌, map}
+use Rattle.std.specs.Prelude.{ℕ, ◌≡◌, List, [], ◌∷◌, All, map}
 use Rattle.pw_flow.specs.FlowGraph.{function_names, named_in}
 use Rattle.pw_flow.specs.declared.flow.FlowFn.{FlowFn}
 use Rattle.pw_flow.specs.declared.flow.FlowModule.{FlowModule}
 use Rattle.pw_flowfile.specs.FlowFile.{IsFlowFile}
 use Rattle.pw_summarise.specs.Summarises.{IsOrdered}
 use Rattle.pw_db.specs.declared.database.Directives.{Directives}
-use Rattle.pw_db.specs.Database.{CanBeStored, IsStored, IsPayload}
+use Rattle.pw_db.specs.Database.{CanBeStored, HasDirectives, IsStored, IsPayload}
 use Rattle.pw_object.specs.Object.{object_version}
 use Rattle.pw_object.specs.declared.object.Object.{Object}
 use Rattle.pw_object.specs.declared.functions.ObjectFn.{ObjectFn}
@@ -39,6 +39,11 @@ all_compiled (f ∷ fs) (d ∷ ds) = compiled f d.1 ∷ all_compiled fs ds
 pub record AreDirectivesOf (flow : FlowModule) (directives : List (List ℕ × Directives)) : Type 0 where
   pub functions : map (λ d. d.0) directives ≡ function_names flow
   pub storable : CanBeStored directives
+
+-- the functions of a module in its order, each with its directives in a database, which are empty where it lacks the function
+pub record AreDirectivesIn (db : List (List ℕ × Directives)) (flow : FlowModule) (directives : List (List ℕ × Directives)) : Type 0 where
+  pub of_module : AreDirectivesOf flow directives
+  pub each : All (HasDirectives db) directives
 
 -- The bytes are those of the payload of the directives that hold a web.
 abbrev pub IsPayloadOf : List ℕ → List (List ℕ × Directives) → Type 0

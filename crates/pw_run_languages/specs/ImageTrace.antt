@@ -18,6 +18,7 @@ use Rattle.pw_link.specs.Layout.{address_in}
 use Rattle.pw_machine.specs.Core.{Core, register, word_at}
 use Rattle.pw_machine.specs.Start.{image_start}
 use Rattle.pw_machine.specs.Run.{State, Progress, Running, Stopped, run_of}
+pub use Rattle.pw_machine.specs.Run.{start_state}
 use Rattle.pw_run_languages.specs.Traces.{Event, Called, Returned, Loaded, Stored, touches, load_of, store_of}
 
 -- what a trace tells: an event, without where global objects stand and what registers hold
@@ -126,9 +127,6 @@ symbols_of v scalars = record {
 }
 
 -- ---- its trace
-
-abbrev pub start_state : Core → List ℕ → State
-start_state c input = record { core = c; rest = input; output = [] }
 
 -- what an image tells of its functions and of these scalars within so many steps on an input, the latest first
 abbrev pub trace_of : Image → List (List ℕ × Kind) → List ℕ → ℕ → List Told

@@ -14,7 +14,7 @@ use Rattle.pw_machine.specs.Stops.{Snapshot, loaded}
 use Rattle.pw_top_answer.specs.declared.answer.Answer.{Answer}
 use Rattle.pw_top_answer.specs.declared.answer.Answer.TheVariants.{Ended, StackStop, Spent, Halted, ReadFault, WriteFault, NoMemory}
 use Rattle.pw_top_answer.specs.Outcomes.{Answers, InputCount, IsPrintAnswer, OutputCount, PutsOut}
-use Rattle.pw_commands.specs.MachineRun.{IsRunAnswer, run_answer, run_output, started}
+use Rattle.pw_commands.specs.MachineRun.{IsRunAnswer, run_answer, run_output, start_state}
 use Rattle.pw_build_files.specs.Outcomes.{HoldsImage}
 use Rattle.pw_session.specs.Outcomes.{ObeysRun}
 use Rattle.pw_session.specs.Runs.{RunPrints, is_stop, ran_text, runs_as, stop_line}
@@ -48,7 +48,7 @@ fault_may_stop (Halted halt at) e k = absurd cc
 fault_may_stop _ e k = absurd k
 
 abbrev run_over : ℕ → List ℕ → Core → Progress
-run_over budget source core = run_of budget (started core source)
+run_over budget source core = run_of budget (start_state core source)
 
 same_run : (budget : ℕ) (core : Core) (source input : List ℕ) → source ≡ input → run_over budget source core ≡ runs_as budget input core
 same_run budget core source input e = ap (λ (s : List ℕ). run_over budget s core) e

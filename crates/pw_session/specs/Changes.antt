@@ -5,7 +5,7 @@ use Rattle.pw_io.specs.Files.{Told, after_put, after_remove, LeavesFile}
 use Rattle.pw_store_modules.specs.Modules.{IsModuleFile}
 use Rattle.pw_top_answer.specs.declared.answer.Answer.{Answer}
 use Rattle.pw_top_answer.specs.declared.answer.Answer.TheVariants.{ReadFault, WriteFault, StoreFault, NoMemory}
-use Rattle.pw_top_answer.specs.Effects.{NamedFile}
+use Rattle.pw_top_answer.specs.Effects.{DonePart, DonePrefix, NamedFile, after_all}
 use Rattle.pw_build_files.specs.Genuine.{IsBuiltName}
 
 -- a file is put, or the one of a name is removed
@@ -19,8 +19,7 @@ after_change told (Removes name) = after_remove told name
 
 -- a store after these changes, in order
 abbrev pub after_changes : Told → List Change → Told
-after_changes told [] = told
-after_changes told (change ∷ changes) = after_changes (after_change told change) changes
+after_changes = after_all after_change
 
 -- ---- what stands in the store after an answer
 
@@ -30,18 +29,12 @@ IsChanged told (Puts file ∷ changes) new = (new ≡ Some told) ⊎ IsSomeAnd n
 IsChanged told changes new = new ≡ Some told
 
 -- a prefix of the changes was made, whole
-pub record ChangePrefix (told : Told) (changes : List Change) (new : Option Told) : Type 0 where
-  pub done : List Change
-  pub more : List Change
-  pub split : changes ≡ done ++ more
-  pub left : new ≡ Some (after_changes told done)
+abbrev pub ChangePrefix : Told → List Change → Option Told → Type 0
+ChangePrefix = DonePrefix after_change
 
 -- a prefix of the changes was made, and of a put that follows perhaps a part
-pub record ChangePart (told : Told) (changes : List Change) (new : Option Told) : Type 0 where
-  pub done : List Change
-  pub more : List Change
-  pub split : changes ≡ done ++ more
-  pub left : IsChanged (after_changes told done) more new
+abbrev pub ChangePart : Told → List Change → Option Told → Type 0
+ChangePart = DonePart after_change IsChanged
 
 -- The changes were made, in order, and no others; where something failed or memory ran out, a prefix of them.
 abbrev pub MakesChanges : List Change → Answer → Told → Option Told → Type 0

@@ -9,7 +9,7 @@ use Rattle.pw_machine.specs.Start.{image_start}
 use Rattle.pw_top_answer.specs.declared.answer.Answer.{Answer}
 use Rattle.pw_top_answer.specs.declared.answer.Answer.TheVariants.{Ended, StackStop, Spent, Halted}
 use Rattle.pw_top_answer.specs.Answers.{halt_name}
-use Rattle.pw_commands.specs.MachineRun.{run_answer, run_output, started}
+use Rattle.pw_commands.specs.MachineRun.{run_answer, run_output, start_state}
 
 -- how a run stopped, by its answer
 abbrev pub stop_text : Answer → List ℕ
@@ -29,7 +29,7 @@ ran_text progress = run_output progress ++ stop_line (run_answer progress)
 
 -- the run of a program for at most so many instructions over an input
 abbrev pub runs_as : ℕ → List ℕ → Core → Progress
-runs_as budget input core = run_of budget (started core input)
+runs_as budget input core = run_of budget (start_state core input)
 
 -- what comes of the run of the image that was built last: its output and how it stopped; where there is none, a line of that
 abbrev pub RunPrints : Option (List ℕ) → ℕ → List ℕ → List ℕ → Type 0

@@ -9,7 +9,7 @@ use Rattle.pw_session_script.specs.declared.line.Line.{Line}
 use Rattle.pw_session_script.specs.declared.line.TakenLine.{TakenLine}
 use Rattle.pw_session_script.specs.declared.line.ScriptFault.{ScriptFault}
 use Rattle.pw_session_script.specs.declared.line.ScriptFault.TheVariants.{BadLine, ReadFault, NoMemory}
-use Rattle.pw_session_script.specs.Script.{Command, PutFile, RemoveFile, BuildAll, RunWith, LineValue, PutText, RunProgram, before_rest, by_line, content_length, content_of, line_limit, line_within, newline, with_content}
+use Rattle.pw_session_script.specs.Script.{Command, PutFile, RemoveFile, BuildAll, RunWith, LineValue, PutText, RunProgram, before_rest, by_line, content_length, content_of, line_limit, line_within, newline_byte, with_content}
 use Rattle.pw_session_script.specs.Reading.{EndsHead, IsReadInPart, ReadsBehind, ReadsCommand, ReadsContent, ReadsHead, ReadsLine, ReadsTaken, ScriptCount, line_view}
 
 -- bytes that were read, before a cut of what is left
@@ -39,27 +39,27 @@ pub head_start : (first : Option (List ℕ)) (head : List ℕ) → head ≡ [] �
 head_start None head e = tt
 head_start (Some rest) head e = subst (λ (h : List ℕ). HeadSoFar rest rest h 0) (sym e) (record { read = refl; cut = behind_nothing (line_within line_limit rest); count = refl })
 
-is_newline : (byte : ℕ) → (byte == newline) ≡ true → byte ≡ newline
+is_newline : (byte : ℕ) → (byte == newline_byte) ≡ true → byte ≡ newline_byte
 is_newline byte e = grind (arith, nat_tests, e)
 
-not_newline : (byte : ℕ) (xs : Option (List ℕ × List ℕ)) (left : List ℕ) → byte ≢ newline → cond (byte == newline) (Some ([], left)) (before_rest byte xs) ≡ before_rest byte xs
-not_newline byte xs left h = by_test (byte == newline) refl
+not_newline : (byte : ℕ) (xs : Option (List ℕ × List ℕ)) (left : List ℕ) → byte ≢ newline_byte → cond (byte == newline_byte) (Some ([], left)) (before_rest byte xs) ≡ before_rest byte xs
+not_newline byte xs left h = by_test (byte == newline_byte) refl
   where
-    by_test : (r : Bool) → (byte == newline) ≡ r → cond r (Some ([], left)) (before_rest byte xs) ≡ before_rest byte xs
+    by_test : (r : Bool) → (byte == newline_byte) ≡ r → cond r (Some ([], left)) (before_rest byte xs) ≡ before_rest byte xs
     by_test true e = absurd (h (is_newline byte e))
     by_test false e = refl
 
-within_next : (n m byte : ℕ) (later : List ℕ) → n ≡ suc m → byte ≢ newline → line_within n (byte ∷ later) ≡ before_rest byte (line_within m later)
+within_next : (n m byte : ℕ) (later : List ℕ) → n ≡ suc m → byte ≢ newline_byte → line_within n (byte ∷ later) ≡ before_rest byte (line_within m later)
 within_next n m byte later e h = ap (λ (k : ℕ). line_within k (byte ∷ later)) e ∙ not_newline byte (line_within m later) later h
 
-within_end : (n m : ℕ) (later : List ℕ) → n ≡ suc m → line_within n (newline ∷ later) ≡ Some ([], later)
-within_end n m later e = ap (λ (k : ℕ). line_within k (newline ∷ later)) e
+within_end : (n m : ℕ) (later : List ℕ) → n ≡ suc m → line_within n (newline_byte ∷ later) ≡ Some ([], later)
+within_end n m later e = ap (λ (k : ℕ). line_within k (newline_byte ∷ later)) e
 
 within_none : (n : ℕ) → line_within n [] ≡ None
 within_none zero = refl
 within_none (suc n) = refl
 
-turn_told : (rest left later head head' : List ℕ) (place byte : ℕ) → HeadSoFar rest left head place → left ≡ byte ∷ later → byte ≢ newline → place < line_limit → head' ≡ head ++ byte ∷ [] → HeadSoFar rest later head' (place + 1)
+turn_told : (rest left later head head' : List ℕ) (place byte : ℕ) → HeadSoFar rest left head place → left ≡ byte ∷ later → byte ≢ newline_byte → place < line_limit → head' ≡ head ++ byte ∷ [] → HeadSoFar rest later head' (place + 1)
 turn_told rest left later head head' place byte inv e h few e' =
     let n : line_limit - place ≡ suc (line_limit - (place + 1)) = omega (arith, few) in
     record {
@@ -70,13 +70,13 @@ turn_told rest left later head head' place byte inv e h few e' =
       count = let l = ap length e' ∙ length-append head (byte ∷ []) in omega (arith, l, inv.count);
     }
 
-next_told : (rest head head' : List ℕ) (place byte : ℕ) (now new : Option (List ℕ)) → IsSomeAnd now (λ left. HeadSoFar rest left head place) → TakesNext now new (Ok (Some byte)) → byte ≢ newline → place < line_limit → head' ≡ head ++ byte ∷ []
+next_told : (rest head head' : List ℕ) (place byte : ℕ) (now new : Option (List ℕ)) → IsSomeAnd now (λ left. HeadSoFar rest left head place) → TakesNext now new (Ok (Some byte)) → byte ≢ newline_byte → place < line_limit → head' ≡ head ++ byte ∷ []
     → IsSomeAnd new (λ left. HeadSoFar rest left head' (place + 1))
 next_told rest head head' place byte None new inv takes h few e = absurd inv
 next_told rest head head' place byte (Some left) None inv takes h few e = absurd takes
 next_told rest head head' place byte (Some left) (Some later) inv takes h few e = turn_told rest left later head head' place byte inv takes h few e
 
-pub head_turn : (first now new : Option (List ℕ)) (head head' : List ℕ) (place byte : ℕ) → HeadAt first now head place → TakesNext now new (Ok (Some byte)) → byte ≢ newline → place < line_limit → head' ≡ head ++ byte ∷ [] → HeadAt first new head' (place + 1)
+pub head_turn : (first now new : Option (List ℕ)) (head head' : List ℕ) (place byte : ℕ) → HeadAt first now head place → TakesNext now new (Ok (Some byte)) → byte ≢ newline_byte → place < line_limit → head' ≡ head ++ byte ∷ [] → HeadAt first new head' (place + 1)
 head_turn None now new head head' place byte inv takes h few e = tt
 head_turn (Some rest) now new head head' place byte inv takes h few e = next_told rest head head' place byte now new inv takes h few e
 
@@ -86,7 +86,7 @@ empty_cons byte xs e = cc
 not_empty : (rest head left : List ℕ) → rest ≡ head ++ left → 0 < length (head ++ left) → rest ≢ []
 not_empty rest head left e h f = let z : length (head ++ left) ≡ 0 = ap length (sym e ∙ f) in absurd (omega (arith, z, h))
 
-end_told : (rest left later head : List ℕ) (place : ℕ) (vec : Vec ℕ Global) → HeadSoFar rest left head place → left ≡ newline ∷ later → place < line_limit → vec.items ≡ head → (rest ≢ []) × (line_within line_limit rest ≡ Some (vec.items, later))
+end_told : (rest left later head : List ℕ) (place : ℕ) (vec : Vec ℕ Global) → HeadSoFar rest left head place → left ≡ newline_byte ∷ later → place < line_limit → vec.items ≡ head → (rest ≢ []) × (line_within line_limit rest ≡ Some (vec.items, later))
 end_told rest left later head place vec inv e few same =
     let n : line_limit - place ≡ suc (line_limit - (place + 1)) = omega (arith, few) in (
       not_empty rest head left inv.read (let l = length-append head left in let k = ap length e in omega (arith, l, k)),
@@ -94,12 +94,12 @@ end_told rest left later head place vec inv e few same =
           ∙ ap (λ (xs : List ℕ). Some (xs, later)) (append-nil head ∙ sym same),
     )
 
-ends_told : (rest head : List ℕ) (place : ℕ) (vec : Vec ℕ Global) (now new : Option (List ℕ)) → IsSomeAnd now (λ left. HeadSoFar rest left head place) → TakesNext now new (Ok (Some newline)) → place < line_limit → vec.items ≡ head → ReadsHead rest new (Ok (Some vec))
+ends_told : (rest head : List ℕ) (place : ℕ) (vec : Vec ℕ Global) (now new : Option (List ℕ)) → IsSomeAnd now (λ left. HeadSoFar rest left head place) → TakesNext now new (Ok (Some newline_byte)) → place < line_limit → vec.items ≡ head → ReadsHead rest new (Ok (Some vec))
 ends_told rest head place vec None new inv takes few same = absurd inv
 ends_told rest head place vec (Some left) None inv takes few same = absurd takes
 ends_told rest head place vec (Some left) (Some later) inv takes few same = end_told rest left later head place vec inv takes few same
 
-pub head_ends : (first now new : Option (List ℕ)) (head : List ℕ) (place : ℕ) (vec : Vec ℕ Global) → HeadAt first now head place → TakesNext now new (Ok (Some newline)) → place < line_limit → vec.items ≡ head → IfSome first (λ rest. ReadsHead rest new (Ok (Some vec)))
+pub head_ends : (first now new : Option (List ℕ)) (head : List ℕ) (place : ℕ) (vec : Vec ℕ Global) → HeadAt first now head place → TakesNext now new (Ok (Some newline_byte)) → place < line_limit → vec.items ≡ head → IfSome first (λ rest. ReadsHead rest new (Ok (Some vec)))
 head_ends None now new head place vec inv takes few same = tt
 head_ends (Some rest) now new head place vec inv takes few same = ends_told rest head place vec now new inv takes few same
 
@@ -229,26 +229,26 @@ content_short count (Some rest) None new read place inv takes = absurd inv
 content_short count (Some rest) (Some left) new read place inv takes =
     sym inv ∙ ap (λ (xs : List ℕ). behind_read read (content_of (count - place) xs)) takes.0 ∙ ap (behind_read read) (content_none (count - place))
 
-last_byte : (n byte : ℕ) (later : List ℕ) → n ≡ zero → content_of n (byte ∷ later) ≡ cond {A = Option (List ℕ × List ℕ)} (byte == newline) (Some ([], later)) None
+last_byte : (n byte : ℕ) (later : List ℕ) → n ≡ zero → content_of n (byte ∷ later) ≡ cond {A = Option (List ℕ × List ℕ)} (byte == newline_byte) (Some ([], later)) None
 last_byte n byte later e = ap (λ (k : ℕ). content_of k (byte ∷ later)) e
 
-pub content_ends : (count : ℕ) (first now new : Option (List ℕ)) (read : List ℕ) (place : ℕ) (vec : Vec ℕ Global) → ContentAt count first now read place → TakesNext now new (Ok (Some newline)) → place ≡ count → vec.items ≡ read → IfSome first (λ rest. ReadsContent count rest new (Ok vec))
+pub content_ends : (count : ℕ) (first now new : Option (List ℕ)) (read : List ℕ) (place : ℕ) (vec : Vec ℕ Global) → ContentAt count first now read place → TakesNext now new (Ok (Some newline_byte)) → place ≡ count → vec.items ≡ read → IfSome first (λ rest. ReadsContent count rest new (Ok vec))
 content_ends count None now new read place vec inv takes e same = tt
 content_ends count (Some rest) None new read place vec inv takes e same = absurd inv
 content_ends count (Some rest) (Some left) None read place vec inv takes e same = absurd takes
 content_ends count (Some rest) (Some left) (Some later) read place vec inv takes e same =
     let z : count - place ≡ zero = omega (arith, e) in
-    sym inv ∙ ap (λ (xs : List ℕ). behind_read read (content_of (count - place) xs)) takes ∙ ap (behind_read read) (last_byte (count - place) newline later z)
+    sym inv ∙ ap (λ (xs : List ℕ). behind_read read (content_of (count - place) xs)) takes ∙ ap (behind_read read) (last_byte (count - place) newline_byte later z)
     ∙ ap (λ (xs : List ℕ). Some (xs, later)) (append-nil read ∙ sym same)
 
-no_newline : (byte : ℕ) (later : List ℕ) → byte ≢ newline → cond {A = Option (List ℕ × List ℕ)} (byte == newline) (Some ([], later)) None ≡ None
-no_newline byte later h = by_test (byte == newline) refl
+no_newline : (byte : ℕ) (later : List ℕ) → byte ≢ newline_byte → cond {A = Option (List ℕ × List ℕ)} (byte == newline_byte) (Some ([], later)) None ≡ None
+no_newline byte later h = by_test (byte == newline_byte) refl
   where
-    by_test : (r : Bool) → (byte == newline) ≡ r → cond {A = Option (List ℕ × List ℕ)} r (Some ([], later)) None ≡ None
+    by_test : (r : Bool) → (byte == newline_byte) ≡ r → cond {A = Option (List ℕ × List ℕ)} r (Some ([], later)) None ≡ None
     by_test true e = absurd (h (is_newline byte e))
     by_test false e = refl
 
-pub content_wrong : (count : ℕ) (first now new : Option (List ℕ)) (read : List ℕ) (place byte : ℕ) → ContentAt count first now read place → TakesNext now new (Ok (Some byte)) → byte ≢ newline → place ≡ count → IfSome first (λ rest. ReadsContent count rest new (Err BadLine))
+pub content_wrong : (count : ℕ) (first now new : Option (List ℕ)) (read : List ℕ) (place byte : ℕ) → ContentAt count first now read place → TakesNext now new (Ok (Some byte)) → byte ≢ newline_byte → place ≡ count → IfSome first (λ rest. ReadsContent count rest new (Err BadLine))
 content_wrong count None now new read place byte inv takes h e = tt
 content_wrong count (Some rest) None new read place byte inv takes h e = absurd inv
 content_wrong count (Some rest) (Some left) None read place byte inv takes h e = absurd takes
@@ -287,7 +287,7 @@ more_count byte n bytes first later (Some cut) h e =
 content_count : (count : ℕ) (rest text later : List ℕ) → content_of count rest ≡ Some (text, later) → length rest ≡ length text + 1 + length later
 content_count zero [] text later e = absurd cc
 content_count (suc n) [] text later e = absurd cc
-content_count zero (byte ∷ bytes) text later e = ends_count byte bytes text later (byte == newline) e
+content_count zero (byte ∷ bytes) text later e = ends_count byte bytes text later (byte == newline_byte) e
 content_count (suc n) (byte ∷ bytes) text later e = more_count byte n bytes text later (content_of n bytes) (λ t l h. content_count n bytes t l h) e
 
 -- so many bytes are cut off
@@ -307,7 +307,7 @@ more_size byte n text later (Some cut) h e =
 content_size : (count : ℕ) (rest text later : List ℕ) → content_of count rest ≡ Some (text, later) → length text ≡ count
 content_size zero [] text later e = absurd cc
 content_size (suc n) [] text later e = absurd cc
-content_size zero (byte ∷ bytes) text later e = ends_size bytes text later (byte == newline) e
+content_size zero (byte ∷ bytes) text later e = ends_size bytes text later (byte == newline_byte) e
 content_size (suc n) (byte ∷ bytes) text later e = more_size byte n text later (content_of n bytes) (λ t l h. content_size n bytes t l h) e
 
 line_step : (byte n : ℕ) (bytes head later : List ℕ) (r : Option (List ℕ × List ℕ)) (b : Bool) → ((t l : List ℕ) → r ≡ Some (t, l) → length bytes ≡ length t + 1 + length l) → cond {A = Option (List ℕ × List ℕ)} b (Some ([], bytes)) (before_rest byte r) ≡ Some (head, later)
@@ -318,7 +318,7 @@ line_step byte n bytes head later r false h e = more_count byte n bytes head lat
 line_count : (n : ℕ) (rest head later : List ℕ) → line_within n rest ≡ Some (head, later) → length rest ≡ length head + 1 + length later
 line_count zero rest head later e = absurd cc
 line_count (suc n) [] head later e = absurd cc
-line_count (suc n) (byte ∷ bytes) head later e = line_step byte n bytes head later (line_within n bytes) (byte == newline) (λ t l k. line_count n bytes t l k) e
+line_count (suc n) (byte ∷ bytes) head later e = line_step byte n bytes head later (line_within n bytes) (byte == newline_byte) (λ t l k. line_count n bytes t l k) e
 
 with_count : (count : ℕ) (rest later : List ℕ) (value : LineValue) (f : List ℕ → LineValue) (r : Option (List ℕ × List ℕ)) → ((t l : List ℕ) → r ≡ Some (t, l) → length rest ≡ count + 1 + length l)
     → option_map {U = LineValue × List ℕ} (λ cut. (f cut.0, cut.1)) r ≡ Some (value, later) → length rest ≡ count + 1 + length later

@@ -7,8 +7,8 @@ use Rattle.pw_top_words.specs.CommandLine.{number_in}
 
 -- ---- the bytes of a line
 
-abbrev pub newline : ℕ
-newline = 10
+abbrev pub newline_byte : ℕ
+newline_byte = 10
 
 -- a byte before others
 abbrev pub before_rest : ℕ → Option (List ℕ × List ℕ) → Option (List ℕ × List ℕ)
@@ -18,7 +18,7 @@ before_rest byte = option_map (λ cut. (byte ∷ cut.0, cut.1))
 abbrev pub line_within : ℕ → List ℕ → Option (List ℕ × List ℕ)
 line_within zero script = None
 line_within (suc n) [] = None
-line_within (suc n) (byte ∷ bytes) = if byte == newline then Some ([], bytes) else before_rest byte (line_within n bytes)
+line_within (suc n) (byte ∷ bytes) = if byte == newline_byte then Some ([], bytes) else before_rest byte (line_within n bytes)
 
 -- a line of a command has at most so many bytes, with its newline
 abbrev pub line_limit : ℕ
@@ -27,7 +27,7 @@ line_limit = 512
 -- so many bytes, which a newline ends, and those behind it
 abbrev pub content_of : ℕ → List ℕ → Option (List ℕ × List ℕ)
 content_of count [] = None
-content_of zero (byte ∷ bytes) = if byte == newline then Some ([], bytes) else None
+content_of zero (byte ∷ bytes) = if byte == newline_byte then Some ([], bytes) else None
 content_of (suc n) (byte ∷ bytes) = before_rest byte (content_of n bytes)
 
 -- ---- commands

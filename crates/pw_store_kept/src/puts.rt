@@ -1,6 +1,6 @@
 //! Putting files.
 
-ghost use Rattle.std.specs.Prelude.{◌≡◌, ◌∷◌, [], IfSome, map};
+ghost use Rattle.std.specs.Prelude.{IfSome, map};
 ghost use Rattle.pw_top_answer.specs.Effects.{PutsFiles};
 ghost use Rattle.pw_io.specs.Faults.{HasStoreCause};
 ghost use Rattle.pw_store_kept.specs.Files.{changed_files, file_view, one_if, program_files, put_answer};
@@ -9,19 +9,6 @@ use crate::prepared::Prepared;
 use pw_io::{Store, StoreError};
 use pw_store_modules::{DATABASE_NAME, IMAGE_NAME};
 use std::alloc::Global;
-
-/// Puts one file.
-fn put_file<S: Store>(
-    alloc: Global,
-    store: &mut S,
-    name: &str,
-    bytes: &[u8],
-) -> Result<(), StoreError>
-    ensures put { IfSome (S.told store.old) (λ told. PutsFiles ((name.now, bytes.now) ∷ []) (put_answer result) told (S.told store.new)) }
-    ensures cause { HasStoreCause (S.faults store.old) (S.faults store.new) result }
-{
-    store.put(alloc, name, bytes)
-}
 
 /// Puts files in order.
 fn put_files<S: Store>(
@@ -33,7 +20,7 @@ fn put_files<S: Store>(
     ensures cause { HasStoreCause (S.faults store.old) (S.faults store.new) result }
 {
     for file in files {
-        match put_file(alloc, store, file.0.as_str(), &file.1) {
+        match store.put(alloc, file.0.as_str(), &file.1) {
             Ok(()) => {}
             Err(error) => return Err(error),
         }
@@ -53,7 +40,7 @@ fn put_if<S: Store>(
     ensures cause { HasStoreCause (S.faults store.old) (S.faults store.new) result }
 {
     if changed {
-        put_file(alloc, store, name, bytes)
+        store.put(alloc, name, bytes)
     } else {
         Ok(())
     }

@@ -1,3 +1,4 @@
+pub mod Few
 pub mod FileNames
 pub mod Limits
 pub mod Modules

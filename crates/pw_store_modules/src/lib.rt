@@ -1,12 +1,14 @@
 //! The store's modules: which files they are, their order, and their texts.
 #![tactic(auto)]
 
+mod few;
 mod file_names;
 mod laws;
 mod limits;
 mod modules;
 mod sources;
 
+pub use few::{ModulesFault, few_modules, module_names, read_modules};
 pub use file_names::{
     DATABASE_NAME, FLOW_ENDING, IMAGE_NAME, OBJECT_ENDING, SUMMARY_ENDING, TEXT_ENDING, file_of,
     module_file, names_of_files,
@@ -14,4 +16,4 @@ pub use file_names::{
 pub use laws::modules_are_exact;
 pub use limits::{MODULE_NAME_LIMIT, limit_of_module_names};
 pub use modules::{Module, is_module_file, is_module_name};
-pub use sources::{module_files_of, module_names, read_modules, read_sources};
+pub use sources::{module_files_of, read_sources};

@@ -1,10 +1,10 @@
 //! The texts of a store's modules, in the order of their names.
 
-ghost use Rattle.std.specs.Prelude.{◌≡◌, ◌≤◌, IfOk, OnOk, IfSome, All, map, ◌++◌, true, option_to_list, length, string_bytes};
+ghost use Rattle.std.specs.Prelude.{◌≡◌, ◌≤◌, IfOk, OnOk, IfSome, All, map, ◌++◌, option_to_list, length, string_bytes};
 ghost use Rattle.std.specs.Option.{option_map};
 ghost use Rattle.pw_io.specs.Files.{Keeps};
 ghost use Rattle.pw_io.specs.Faults.{HasStoreCause};
-ghost use Rattle.pw_store_modules.specs.Modules.{IsModuleFile, is_module_name, modules_of, names_of_modules, stem};
+ghost use Rattle.pw_store_modules.specs.Modules.{IsModuleFile, modules_of, names_of_modules, stem};
 ghost use Rattle.pw_store_modules.specs.Reading.{source_of, sources_of};
 ghost use Rattle.pw_store_modules.specs.Views.{source};
 
@@ -91,17 +91,6 @@ pub fn module_files_of<S: Store>(alloc: Global, store: &mut S) -> Result<Vec<Str
     Ok(module_files(alloc, &names)?)
 }
 
-/// The modules of a store: each file `NAME.i` whose name a module may have, in the byte order of the names, with its text
-/// up to one byte more than a text may have. The store stays as it is.
-pub fn read_modules<S: Store>(alloc: Global, store: &mut S) -> Result<Vec<Module>, StoreError>
-    ensures read { IfSome (S.told store.old) (λ told. IfOk result (λ modules. map source modules.items ≡ modules_of told.files)) }
-    ensures same { Keeps (S.told store.old) (S.told store.new) }
-    ensures cause { HasStoreCause (S.faults store.old) (S.faults store.new) result }
-{
-    let files = module_files_of(alloc, store)?;
-    read_sources(alloc, store, &files)
-}
-
 /// A module's name, from its file's.
 fn name_of(file: &String) -> Result<String, AllocError>
     requires { IsModuleFile (string_bytes file.now) }
@@ -113,7 +102,7 @@ fn name_of(file: &String) -> Result<String, AllocError>
 }
 
 /// The names of modules, from their files' names.
-fn names_of(alloc: Global, files: &[String]) -> Result<Vec<String>, AllocError>
+pub(crate) fn names_of(alloc: Global, files: &[String]) -> Result<Vec<String>, AllocError>
     requires { All (λ file. IsModuleFile (string_bytes file)) files.now }
     ensures { IfOk result (λ names. map string_bytes names.items ≡ map stem (map string_bytes files.now)) }
 {
@@ -122,15 +111,4 @@ fn names_of(alloc: Global, files: &[String]) -> Result<Vec<String>, AllocError>
         names.push(name_of(file)?)?;
     }
     Ok(names)
-}
-
-/// The names of the modules of a store, in byte order. The store stays as it is.
-pub fn module_names<S: Store>(alloc: Global, store: &mut S) -> Result<Vec<String>, StoreError>
-    ensures names { IfSome (S.told store.old) (λ told. IfOk result (λ names. map string_bytes names.items ≡ names_of_modules told.files)) }
-    ensures named { IfOk result (λ names. All (λ name. is_module_name (string_bytes name) ≡ true) names.items) }
-    ensures same { Keeps (S.told store.old) (S.told store.new) }
-    ensures cause { HasStoreCause (S.faults store.old) (S.faults store.new) result }
-{
-    let files = module_files_of(alloc, store)?;
-    Ok(names_of(alloc, &files)?)
 }

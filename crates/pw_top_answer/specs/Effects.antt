@@ -30,10 +30,33 @@ prints bytes input = record { answer = Done; puts = []; output = bytes; rest = i
 
 -- ---- the store after it
 
+-- a store after steps of one kind, in order
+abbrev pub after_all : {A : Type 0} → (Told → A → Told) → Told → List A → Told
+after_all after told [] = told
+after_all after told (step ∷ steps) = after_all after (after told step) steps
+
+-- a prefix of the steps was done, whole
+pub record DonePrefix {A : Type 0} (after : Told → A → Told) (told : Told) (steps : List A) (new : Option Told) : Type 0 where
+  pub done : List A
+  pub more : List A
+  pub split : steps ≡ done ++ more
+  pub left : new ≡ Some (after_all after told done)
+
+-- a prefix of the steps was done, and of the next perhaps a part
+pub record DonePart {A : Type 0} (after : Told → A → Told) (IsPart : Told → List A → Option Told → Type 0) (told : Told) (steps : List A) (new : Option Told) : Type 0 where
+  pub done : List A
+  pub more : List A
+  pub split : steps ≡ done ++ more
+  pub left : IsPart (after_all after told done) more new
+
+-- ---- files that are put
+
+abbrev pub after_file : Told → NamedFile → Told
+after_file told file = after_put told file.0 file.1
+
 -- a store after these puts
 abbrev pub after_puts : Told → List NamedFile → Told
-after_puts told [] = told
-after_puts told (file ∷ files) = after_puts (after_put told file.0 file.1) files
+after_puts = after_all after_file
 
 -- The store tells this, or the next of the files that were left to put was put in part.
 abbrev pub IsLeft : Told → List NamedFile → Option Told → Type 0
@@ -42,18 +65,12 @@ IsLeft told (file ∷ files) new =
     (new ≡ Some told) ⊎ IsSomeAnd new (λ left. (left.puts ≡ told.puts) × LeavesFile told.files left.files file.0 file.1)
 
 -- a prefix of the files was put, whole
-pub record PutPrefix (told : Told) (files : List NamedFile) (new : Option Told) : Type 0 where
-  pub done : List NamedFile
-  pub more : List NamedFile
-  pub split : files ≡ done ++ more
-  pub left : new ≡ Some (after_puts told done)
+abbrev pub PutPrefix : Told → List NamedFile → Option Told → Type 0
+PutPrefix = DonePrefix after_file
 
 -- a prefix of the files was put, and of the next perhaps a part
-pub record PutPart (told : Told) (files : List NamedFile) (new : Option Told) : Type 0 where
-  pub done : List NamedFile
-  pub more : List NamedFile
-  pub split : files ≡ done ++ more
-  pub left : IsLeft (after_puts told done) more new
+abbrev pub PutPart : Told → List NamedFile → Option Told → Type 0
+PutPart = DonePart after_file IsLeft
 
 -- The files were put, in order, and no others; where the store failed or memory ran out, a prefix of them.
 abbrev pub PutsFiles : List NamedFile → Answer → Told → Option Told → Type 0

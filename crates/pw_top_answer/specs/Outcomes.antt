@@ -4,6 +4,10 @@ use Rattle.pw_io.specs.Faults.{Rose}
 use Rattle.pw_io.specs.declared.StoreError.{StoreError}
 use Rattle.pw_io.specs.declared.StoreError.TheVariants as store
 use Rattle.pw_io.specs.Streams.{Appends}
+use Rattle.pw_value.specs.declared.fault.LinkFault.TheVariants.{TooMany}
+use Rattle.pw_value.specs.declared.fault.What.TheVariants.{Modules}
+use Rattle.pw_store_modules.specs.declared.few.ModulesFault.{ModulesFault}
+use Rattle.pw_store_modules.specs.declared.few.ModulesFault.TheVariants as modules
 use Rattle.pw_top_answer.specs.declared.answer.Answer.{Answer}
 use Rattle.pw_top_answer.specs.declared.answer.Answer.TheVariants.{Done, Ended, Usage, Refused, LinkRefused, StackStop, Spent, Halted, ReadFault, WriteFault, StoreFault, NoMemory, BadFile, BadScript}
 use Rattle.pw_top_answer.specs.Answers.{line_text, NeedsMemory}
@@ -96,6 +100,11 @@ OutputCount before now _ = now ≡ before
 abbrev pub store_answer : StoreError → Answer
 store_answer store.Failed = StoreFault
 store_answer store.NoMemory = NoMemory
+
+-- what a call that did not tell the modules of a store is answered
+abbrev pub modules_answer : ModulesFault → Answer
+modules_answer (modules.TooMany count) = LinkRefused (TooMany Modules count)
+modules_answer (modules.Store error) = store_answer error
 
 -- ---- what only puts out
 

@@ -7,7 +7,8 @@ ghost use Rattle.pw_top_answer.specs.Answers.{is_untold, status_of};
 use pw_front_end::Refusal;
 use pw_io::StoreError;
 use pw_machine::Halt;
-use pw_value::{LinkFault, Name, Word};
+use pw_store_modules::ModulesFault;
+use pw_value::{LinkFault, Name, What, Word};
 use std::alloc::AllocError;
 use std::process::ExitCode;
 
@@ -72,6 +73,23 @@ impl From<StoreError> for Answer {
         match error {
             StoreError::Failed => Answer::StoreFault,
             StoreError::NoMemory => Answer::NoMemory,
+        }
+    }
+}
+
+impl From<ModulesFault> for Answer {
+    ghost use Rattle.std.specs.Prelude.{◌≡◌};
+    ghost use Rattle.pw_top_answer.specs.Outcomes.{modules_answer};
+
+    ghost from_gives = { λ fault answer. answer ≡ modules_answer fault };
+
+    fn from(fault: ModulesFault) -> Answer {
+        match fault {
+            ModulesFault::TooMany(count) => Answer::LinkRefused(LinkFault::TooMany(
+                What::Modules,
+                count,
+            )),
+            ModulesFault::Store(error) => Answer::from(error),
         }
     }
 }

@@ -15,26 +15,26 @@ use Rattle.pw_build_files.proofs.prepared.prepare.Goals as goal
 pub returns-in-Ok-clause-comes : goal.returns-in-Ok-clause-comes
 returns-in-Ok-clause-comes g c =
     on_modules (λ told. map source c.in-Ok.modules.items ≡ modules_of told.files) (λ told. IfOk c.prepared_of.result (λ p. BuildOutcome told.files c.args.opts.now (Ok (outcome_of p))))
-    (g.S.Store.told c.args.store.now) _ c.in-Ok.ensures.modules c.few_modules.ensures.same (rw c.deref.ensures.value at c.prepared_of.ensures.comes)
+    (g.S.Store.told c.args.store.now) _ c.in-Ok.ensures.modules c.modules_to_build.ensures.same (rw c.deref.ensures.value at c.prepared_of.ensures.comes)
 
 pub returns-in-Ok-clause-own : goal.returns-in-Ok-clause-own
 returns-in-Ok-clause-own g c =
-    at_first (λ told. IfOk c.prepared_of.result (λ p. AllByRecursion IsOwnFile (changed_files p))) (g.S.Store.told c.args.store.now) _ c.few_modules.ensures.same c.prepared_of.ensures.own
+    at_first (λ told. IfOk c.prepared_of.result (λ p. AllByRecursion IsOwnFile (changed_files p))) (g.S.Store.told c.args.store.now) _ c.modules_to_build.ensures.same c.prepared_of.ensures.own
 
 pub returns-in-Ok-clause-fault : goal.returns-in-Ok-clause-fault
 returns-in-Ok-clause-fault g c =
     on_modules (λ told. map source c.in-Ok.modules.items ≡ modules_of told.files) (λ told. IfErr c.prepared_of.result (λ unbuilt. FaultFound told.files c.args.opts.now unbuilt.fault))
-    (g.S.Store.told c.args.store.now) _ c.in-Ok.ensures.modules c.few_modules.ensures.same (rw c.deref.ensures.value at c.prepared_of.ensures.fault)
+    (g.S.Store.told c.args.store.now) _ c.in-Ok.ensures.modules c.modules_to_build.ensures.same (rw c.deref.ensures.value at c.prepared_of.ensures.fault)
 
 pub returns-in-Ok-clause-line : goal.returns-in-Ok-clause-line
 returns-in-Ok-clause-line g c =
     on_modules (λ told. map source c.in-Ok.modules.items ≡ modules_of told.files) (λ told. IfErr c.prepared_of.result (λ unbuilt. IsLine (refused_line (modules_of told.files)) unbuilt.fault unbuilt.line))
-    (g.S.Store.told c.args.store.now) _ c.in-Ok.ensures.modules c.few_modules.ensures.same (rw c.deref.ensures.value at c.prepared_of.ensures.line)
+    (g.S.Store.told c.args.store.now) _ c.in-Ok.ensures.modules c.modules_to_build.ensures.same (rw c.deref.ensures.value at c.prepared_of.ensures.line)
 
 pub returns-in-Ok-clause-counted_fault : goal.returns-in-Ok-clause-counted_fault
 returns-in-Ok-clause-counted_fault g c =
     on_modules (λ told. map source c.in-Ok.modules.items ≡ modules_of told.files) (λ told. IfErr c.prepared_of.result (λ unbuilt. CountsFound told.files c.args.opts.now unbuilt.fault c.args.steps.now c.prepared_of.new.steps))
-    (g.S.Store.told c.args.store.now) _ c.in-Ok.ensures.modules c.few_modules.ensures.same (rw c.deref.ensures.value at c.prepared_of.ensures.counted_fault)
+    (g.S.Store.told c.args.store.now) _ c.in-Ok.ensures.modules c.modules_to_build.ensures.same (rw c.deref.ensures.value at c.prepared_of.ensures.counted_fault)
 
 pub returns-in-Ok-clause-bound : goal.returns-in-Ok-clause-bound
 returns-in-Ok-clause-bound g c =
