@@ -121,14 +121,14 @@ unfolding word_of
 jump_fits link small = branch_fits (pos 0) link false small
 
 turn_fits : (long : Bool) (begins : ℕ → ℕ) (at : ℕ) (turn : Turn) (slot : Option Word) → IsReadyTurn turn → IsReadySlot slot → AllByRecursion HasFittingWord (turn_words long begins at turn slot)
-turn_fits long begins at (Back branch) slot ready filled = (word_fits branch ready, slot_fits slot filled, tt)
-turn_fits long begins at (Goto b) slot ready filled = (jump_fits 0 (omega arith), slot_fits slot filled, tt)
-turn_fits false begins at (If r b) slot ready filled = (test_fits r (displacement at (begins b)) ready, slot_fits slot filled, tt)
-turn_fits true begins at (If r b) slot ready filled = (long_test_fits r ready, slot_fits slot filled, jump_fits 0 (omega arith), nop_fits, tt)
-turn_fits long begins at (CallTo s link) slot ready filled = (jump_fits link ready.0, slot_fits slot filled, tt)
-turn_fits long begins at CallReg slot ready filled = (ble_fits 22 false (omega arith), slot_fits slot filled, tt)
+turn_fits long begins at (Back branch) slot ready filled = (word_fits branch ready, (slot_fits slot filled, tt))
+turn_fits long begins at (Goto b) slot ready filled = (jump_fits 0 (omega arith), (slot_fits slot filled, tt))
+turn_fits false begins at (If r b) slot ready filled = (test_fits r (displacement at (begins b)) ready, (slot_fits slot filled, tt))
+turn_fits true begins at (If r b) slot ready filled = (long_test_fits r ready, (slot_fits slot filled, (jump_fits 0 (omega arith), (nop_fits, tt))))
+turn_fits long begins at (CallTo s link) slot ready filled = (jump_fits link ready.0, (slot_fits slot filled, tt))
+turn_fits long begins at CallReg slot ready filled = (ble_fits 22 false (omega arith), (slot_fits slot filled, tt))
 turn_fits long begins at Leave None ready filled = (bv_fits 2 true (omega arith), tt)
-turn_fits long begins at Leave (Some w) ready filled = (bv_fits 2 false (omega arith), slot_fits (Some w) filled, tt)
+turn_fits long begins at Leave (Some w) ready filled = (bv_fits 2 false (omega arith), (slot_fits (Some w) filled, tt))
 
 item_fits : (long : Bool) (begins : ℕ → ℕ) (at : ℕ) (item : Item) → IsReadyItem item → AllByRecursion HasFittingWord (item_words long begins at item)
 item_fits long begins at (Plain w) ready = (word_fits w.inst ready.range, tt)
