@@ -26,7 +26,7 @@ use Rattle.pw_run_languages.specs.ImageTrace as image
 use Rattle.pw_run_languages.specs.ImageTrace.{Symbols, functions_in, address_of, symbols_of}
 use Rattle.pw_run_languages.specs.MachineRun.{Map, is_eligible, sized, symbols_in}
 use Rattle.pw_run_languages.specs.LinkingLaws.{map_of}
-use Rattle.pw_law_analysis.proofs.Lists.{one_named, count_has, has_count}
+use Rattle.pw_law_analysis.proofs.Lists.{clash, one_named, count_has, has_count}
 use Rattle.pw_law_analysis.proofs.Eligible.{eligible_where}
 
 -- ---- functions
@@ -69,14 +69,11 @@ look (g ∷ rest) name = by (bytes_eq g.0 name) refl (look rest name)
     by false e (inl found) = inl (record { kind = found.kind; there = inr found.there; is = found.is })
     by false e (inr none) = inr (
       (λ k h. elim h [
-        | inl here ↦ clash (sym e ∙ (bytes_eq-Decides g.0 name).1 (ap (λ (x : List ℕ × Kind). x.0) here))
+        | inl here ↦ clash (bytes_eq g.0 name) ((bytes_eq-Decides g.0 name).1 (ap (λ (x : List ℕ × Kind). x.0) here)) e
         | inr later ↦ none.0 k later
       ]),
       none.1,
     )
-
-    clash : false ≡ true → ⊥
-    clash e = cc
 
 module _ (p : Program) (is : IsProgram p) (m : Map) (eligible : m.eligible ≡ eligible_names p) where
   distinct : AreDistinct (map (λ (g : FlowGlobal). g.name) (globals_of p))

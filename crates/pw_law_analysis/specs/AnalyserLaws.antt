@@ -12,11 +12,9 @@ use Rattle.pw_db_sound.specs.CallGraphs.{SayTheSame}
 use Rattle.pw_run_languages.specs.Programs as flows
 use Rattle.pw_run_languages.specs.Programs.{AreBytes}
 use Rattle.pw_run_languages.specs.LawfulPrograms.{graph_of}
-use Rattle.pw_run_languages.specs.PlacementLaws.{PlacesKeep}
 use Rattle.pw_run_languages.specs.SelectionLaws.{SelectionKeepsRuns}
 use Rattle.pw_run_languages.specs.LinkingLaws.{LinkKeepsRuns}
 use Rattle.pw_cmean.specs.Worlds.{Program}
-use Rattle.pw_law_direction.specs.Laws.{first_places}
 use Rattle.pw_law_analysis.specs.SummaryGraphs.{named_graph}
 use Rattle.pw_law_analysis.specs.OwedLaws.{AreSummaries, Serves, IsAnalysed, HoldsOver}
 
@@ -31,19 +29,11 @@ DatabasesServe =
     AreSummaries ss → colours ≤ 16 → (i : IsDatabaseOf ss colours db) → SayTheSame (named_graph ss i.graph) (graph_of q) →
     Serves q ss colours db i
 
--- what holds of a program that was built with this database, from the laws of selection and linking, and from that of
--- places for the program's places
+-- what holds of a program that was built with this database and with places that serve, from the laws of selection and
+-- linking
 abbrev pub LayersGiveAll : Type 0
 LayersGiveAll =
     SelectionKeepsRuns → LinkKeepsRuns →
     (p : Program) (q : flows.Program) (ss : List Summary) (colours : ℕ) (db : List (List ℕ × Directives)) (functions : List Located) (objects : List Object) (input : List ℕ) →
-    IsAnalysed p q ss colours db functions objects → AreBytes input → PlacesKeep q db functions input →
+    IsAnalysed p q ss colours db functions objects → AreBytes input →
     HoldsOver p q ss colours db functions objects input
-
--- with the places of allocation's first form the law of places is no premise
-abbrev pub FirstPlacesGiveAll : Type 0
-FirstPlacesGiveAll =
-    SelectionKeepsRuns → LinkKeepsRuns →
-    (p : Program) (q : flows.Program) (ss : List Summary) (colours : ℕ) (db : List (List ℕ × Directives)) (objects : List Object) (input : List ℕ) →
-    IsAnalysed p q ss colours db (first_places q db) objects → AreBytes input →
-    HoldsOver p q ss colours db (first_places q db) objects input

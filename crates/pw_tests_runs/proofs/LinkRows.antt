@@ -64,7 +64,7 @@ bumped = line_program bumping (map allocated (directed_functions bumping bump_di
 
 -- `$start`, main, bump and bump begin; main goes on behind bump, bump and putchar, and `$start` behind main
 bump_links : links_of bumped ≡ true ∷ true ∷ true ∷ true ∷ true ∷ true ∷ true ∷ true ∷ []
-unfolding step directed allocated entered_from selected entered_lines
+unfolding step directed allocated entered_from selected entered_lines links
 bump_links = refl
 
 abbrev is_link_store : Inst → Bool
@@ -80,5 +80,5 @@ unlinked f = record f { items = filter (λ item. not (stores_link item)) f.items
 
 -- where bump begins, main's is missing
 no_links : links_of (record bumped { functions = map unlinked bumped.functions }) ≡ true ∷ true ∷ false ∷ []
-unfolding step directed allocated entered_from selected entered_lines
+unfolding step directed allocated entered_from selected entered_lines links
 no_links = refl
