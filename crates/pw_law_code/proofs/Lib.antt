@@ -7,6 +7,7 @@ pub mod SelectedLines
 pub mod ServedLines
 pub mod NamedAddresses
 pub mod Addresses
+pub mod CompiledWords
 pub mod StoreLaws
 pub mod StepLaws
 pub mod RunLaws

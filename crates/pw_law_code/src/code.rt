@@ -2,9 +2,11 @@
 
 ghost use Rattle.std.specs.Prelude.{ℕ, ◌≡◌, ◌<◌, ◌^◌, None, List, ◌++◌, map};
 ghost use Rattle.pw_db.specs.declared.database.Directives.{Directives};
+ghost use Rattle.pw_db.specs.Database.{IsDatabase};
 ghost use Rattle.pw_object.specs.declared.object.Object.{Object};
 ghost use Rattle.pw_link.specs.Linking.{linked, size_fault};
 ghost use Rattle.pw_milli.specs.Library.{routines};
+ghost use Rattle.pw_law_link.specs.Parts.{AreLawfulParts};
 ghost use Rattle.pw_run_languages.specs.Programs.{Program, functions_of, globals_of};
 ghost use Rattle.pw_run_languages.specs.LawfulPrograms.{IsProgram};
 ghost use Rattle.pw_run_languages.specs.Direction.{directed_functions};
@@ -58,6 +60,15 @@ pub fn linked_addresses_are_lawful()
     ensures { (p : Program) (d : List (List ℕ × Directives)) (functions : List Located) (objects : List Object) (behind : List ℕ → ℕ → ℕ) →
         IsProgram p → AreNamesApart p → AllServe (directed_functions p d) functions → AreObjectsOf p functions objects →
         size_fault objects p.stack ≡ None → ((f : List ℕ) (n : ℕ) → behind f n < 2 ^ 32) → AreLawful p (linked_addresses objects p.stack behind) }
+{}
+
+/// The objects of a program that was made with a lawful database and places that serve have lawful parts, where they fit
+/// into the memory: their words have 32 bits, the global objects are lawful, and `$start` is one of the functions. So
+/// the memory is lawful in which a machine begins the program, and it holds the program's words and items.
+pub fn programs_have_lawful_parts()
+    ensures { (p : Program) (d : List (List ℕ × Directives)) (functions : List Located) (objects : List Object) →
+        IsProgram p → IsDatabase d → AllServe (directed_functions p d) functions → AreObjectsOf p functions objects →
+        size_fault objects p.stack ≡ None → AreLawfulParts objects p.stack }
 {}
 
 /// The map of an image has the functions of the program's modules, in their order, and behind them the library's and the

@@ -17,7 +17,8 @@ use Rattle.pw_value.specs.Names.{is_before}
 use Rattle.pw_link.specs.Layout.{Piece, piece_of, routine_piece, routine_pieces, function_pieces, in_order, pieces_of, placed_from, Sites}
 use Rattle.pw_link.specs.Linking.{settled, with_fix, with_fixes, piece_words, linked_words}
 use Rattle.std.specs.List.{position_or_len}
-use Rattle.pw_law_link.proofs.Kept.{all_placed, all_append, all_map, all_flat, all_by}
+use Rattle.pw_law_link.specs.Parts.{HasWordsOf32Bits}
+use Rattle.pw_law_link.proofs.Kept.{all_placed, all_append, all_map, all_flat, all_by, each_flat}
 
 -- ---- words with relocations
 
@@ -49,6 +50,9 @@ fixes_fit sites at [] words all = all
 fixes_fit sites at (f ∷ fixes) words all = fixes_fit sites at fixes (with_fix sites at f words) (set_fits words f.word _ all (settled_fits f.kind _ _ _))
 
 -- ---- pieces
+
+abbrev pub HasWords : Piece → Type 0
+HasWords p = AllByRecursion FitsU32 p.words
 
 -- the frame and the words of a piece
 pub record IsPiece (p : Piece) : Type 0 where
@@ -91,25 +95,35 @@ object_fits o is = all_map IsPiece piece_of o.functions (all_by IsFunction (λ f
 abbrev pub place_of : Object → List Object → ℕ
 place_of o order = position_or_len (λ p. is_before o.module p.module) order
 
-pub ordered : (objects : List Object) → AllByRecursion IsObject objects → AllByRecursion IsObject (in_order objects)
-ordered objects all = all_placed IsObject place_of objects [] tt all
+pub ordered : (P : Object → Type 0) (objects : List Object) → AllByRecursion P objects → AllByRecursion P (in_order objects)
+ordered P objects all = all_placed P place_of objects [] tt all
 
 pub pieces_fit : (objects : List Object) → AllByRecursion IsObject objects → AllByRecursion IsPiece (pieces_of objects)
 pieces_fit objects all =
-    let each = all_by IsObject (λ o. AllByRecursion IsPiece (map piece_of o.functions)) (in_order objects) object_fits (ordered objects all) in
+    let each = all_by IsObject (λ o. AllByRecursion IsPiece (map piece_of o.functions)) (in_order objects) object_fits (ordered IsObject objects all) in
     all_append IsPiece (function_pieces (in_order objects)) routine_pieces (all_flat IsPiece (λ o. map piece_of o.functions) (in_order objects) each) routines_fit
+
+-- the words of functions, put behind one another, are those of the pieces
+pub pieces_have_words : (objects : List Object) → AllByRecursion HasWordsOf32Bits (flat_map (λ o. o.functions) objects) → AllByRecursion HasWords (pieces_of objects)
+pieces_have_words objects all =
+    let Has = λ (o : Object). AllByRecursion HasWordsOf32Bits o.functions in
+    let each = all_by Has (λ o. AllByRecursion HasWords (map piece_of o.functions)) (in_order objects)
+    (λ o own. all_map HasWords piece_of o.functions own) (ordered Has objects (each_flat HasWordsOf32Bits (λ o. o.functions) objects all)) in
+    all_append HasWords (function_pieces (in_order objects)) routine_pieces
+    (all_flat HasWords (λ o. map piece_of o.functions) (in_order objects) each)
+    (all_by IsPiece HasWords routine_pieces (λ p is. is.words) routines_fit)
 
 -- ---- the text
 
-texts_fit : (sites : Sites) (at : ℕ) (ps : List Piece) → AllByRecursion IsPiece ps → AllByRecursion FitsU32 (flat_map (piece_words sites) (placed_from at ps))
+texts_fit : (sites : Sites) (at : ℕ) (ps : List Piece) → AllByRecursion HasWords ps → AllByRecursion FitsU32 (flat_map (piece_words sites) (placed_from at ps))
 texts_fit sites at [] all = tt
 texts_fit sites at (p ∷ ps) all =
     all_append FitsU32 (with_fixes sites at p.fixes p.words) (flat_map (piece_words sites) (placed_from (at + 4 * length p.words) ps))
-    (fixes_fit sites at p.fixes p.words all.0.words) (texts_fit sites (at + 4 * length p.words) ps all.1)
+    (fixes_fit sites at p.fixes p.words all.0) (texts_fit sites (at + 4 * length p.words) ps all.1)
 
 nop_fits : FitsU32 (word_of nop)
 unfolding word_of
 nop_fits = omega arith
 
-pub words_fit : (sites : Sites) (at : ℕ) (ps : List Piece) → AllByRecursion IsPiece ps → AllByRecursion FitsU32 (linked_words sites (placed_from at ps))
+pub words_fit : (sites : Sites) (at : ℕ) (ps : List Piece) → AllByRecursion HasWords ps → AllByRecursion FitsU32 (linked_words sites (placed_from at ps))
 words_fit sites at ps all = all_append FitsU32 (flat_map (piece_words sites) (placed_from at ps)) (word_of nop ∷ []) (texts_fit sites at ps all) (nop_fits, tt)

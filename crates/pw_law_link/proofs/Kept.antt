@@ -1,5 +1,5 @@
 -- What holds of each item, or of some item, of lists that are put together.
-use Rattle.std.proofs.Common.{◌≡◌, ◌⊎◌, inl, inr, ℕ, zero, suc, Bool, true, false, ◌||◌, List, [], ◌∷◌, ◌++◌, map, insert, refl, ◌∙◌}
+use Rattle.std.proofs.Common.{◌≡◌, ◌⊎◌, inl, inr, ℕ, zero, suc, Bool, true, false, ◌||◌, List, [], ◌∷◌, ◌++◌, map, insert, refl, ap, ◌∙◌}
 use Rattle.std.specs.Prelude.{fold}
 use Rattle.std.specs.List.{AllByRecursion, list_any, flat_map}
 use Rattle.std.proofs.lemmas.List.Folds.{list_any-append}
@@ -67,9 +67,19 @@ any_placed q place (x ∷ xs) order some = any_placed q place xs (insert order (
 pub any_append : {X : Type 0} (q : X → Bool) (xs ys : List X) → (list_any q xs ≡ true) ⊎ (list_any q ys ≡ true) → list_any q (xs ++ ys) ≡ true
 any_append q xs ys some = list_any-append q xs ys ∙ or_true (list_any q xs) (list_any q ys) some
 
-pub any_flat : {X Y : Type 0} (q : Y → Bool) (f : X → List Y) (xs : List X) → list_any (λ x. list_any q (f x)) xs ≡ true → list_any q (flat_map f xs) ≡ true
-any_flat q f [] e = absurd cc
-any_flat q f (x ∷ xs) e = any_append q (f x) (flat_map f xs) (elim (true_or (list_any q (f x)) (list_any (λ y. list_any q (f y)) xs) e) [
-  | inl here ↦ inl here
-  | inr later ↦ inr (any_flat q f xs later)
-])
+pub any_flat : {X Y : Type 0} (q : Y → Bool) (f : X → List Y) (xs : List X) → list_any q (flat_map f xs) ≡ list_any (λ x. list_any q (f x)) xs
+any_flat q f [] = refl
+any_flat q f (x ∷ xs) = list_any-append q (f x) (flat_map f xs) ∙ ap (λ (b : Bool). list_any q (f x) || b) (any_flat q f xs)
+
+all_left : {X : Type 0} (P : X → Type 0) (xs ys : List X) → AllByRecursion P (xs ++ ys) → AllByRecursion P xs
+all_left P [] ys all = tt
+all_left P (x ∷ xs) ys all = (all.0, all_left P xs ys all.1)
+
+all_right : {X : Type 0} (P : X → Type 0) (xs ys : List X) → AllByRecursion P (xs ++ ys) → AllByRecursion P ys
+all_right P [] ys all = all
+all_right P (x ∷ xs) ys all = all_right P xs ys all.1
+
+-- what holds of each item of lists behind one another holds of each item of each
+pub each_flat : {X Y : Type 0} (P : Y → Type 0) (f : X → List Y) (xs : List X) → AllByRecursion P (flat_map f xs) → AllByRecursion (λ x. AllByRecursion P (f x)) xs
+each_flat P f [] all = tt
+each_flat P f (x ∷ xs) all = (all_left P (f x) (flat_map f xs) all, each_flat P f xs (all_right P (f x) (flat_map f xs) all))

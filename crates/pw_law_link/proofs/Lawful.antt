@@ -1,4 +1,4 @@
--- The image of lawful objects is lawful.
+-- The memory and the image of lawful objects are lawful.
 use Rattle.std.proofs.Common.{◌≡◌, ℕ, ◌+◌, ◌*◌, ◌%◌, ◌^◌, ◌<◌, ◌≤◌, Bool, true, false, Option, None, Some, List, [], ◌∷◌, ◌++◌, map, length, max, refl, sym, ap, subst, ◌∙◌, arith, add_assoc, add-zero, nat_lt, if◌then◌else◌}
 use Rattle.std.specs.Prelude.{unwrap_or}
 use Rattle.std.specs.List.{AllByRecursion, sum_by, flat_map}
@@ -18,17 +18,19 @@ use Rattle.pw_flow.specs.ValidFlow.{IsGlobal, item_size}
 use Rattle.pw_flow.specs.ValidFlow.{AreItems as FlowItems}
 use Rattle.pw_inst.specs.InstructionTable.{word_of, nop}
 use Rattle.pw_object.specs.declared.object.Object.{Object}
+use Rattle.pw_object.specs.Functions.{IsFunction}
 use Rattle.pw_object.specs.Object.{IsObject}
 use Rattle.pw_image.specs.declared.image.DataItem.{DataItem}
-use Rattle.pw_image.specs.Image.{IsInText, IsImage, AreItems}
+use Rattle.pw_image.specs.Image.{IsInText, IsMemory, IsImage, AreItems}
 use Rattle.pw_link_rules.specs.Linking.{has_main}
 use Rattle.pw_link.specs.Layout.{Piece, placed_from, in_order, pieces_of, word_count, globals_of, Standing, standing_from, data_of, data_size, data_begin, stack_end, global_site, Sites}
 use Rattle.pw_flow.specs.ValidFlow.{global_room}
 use Rattle.pw_link.specs.Linking.{with_fix, with_fixes, piece_words, linked_words, item_bytes, item_at, items_of, function_of, global_of, fault_by, linked, AreLinked}
 use Rattle.pw_law_link.specs.Standing.{sites}
-use Rattle.pw_law_link.proofs.Kept.{all_flat, all_by}
-use Rattle.pw_law_link.proofs.Fitting.{IsPiece, pieces_fit, words_fit, ordered}
-use Rattle.pw_law_link.proofs.Starting.{is_start_there, IsFound, found}
+use Rattle.pw_law_link.specs.Parts.{HasWordsOf32Bits, AreLawfulParts}
+use Rattle.pw_law_link.proofs.Kept.{all_flat, all_by, each_flat}
+use Rattle.pw_law_link.proofs.Fitting.{IsPiece, pieces_fit, pieces_have_words, words_fit, ordered}
+use Rattle.pw_law_link.proofs.Starting.{start_is_defined, is_start_there, IsFound, found}
 
 abbrev size_of : List Piece → ℕ
 size_of ps = sum_by (λ p. length p.words) ps
@@ -103,8 +105,10 @@ all_items named size at (g ∷ gs) all within small_size =
     subst (λ free. AreItems size free (map (item_at named at) g.items ++ flat_map (items_of named) (standing_from (at + global_room g) gs))) (add-zero at)
     (object_items named size g.size at (at + global_room g) 0 g.items (flat_map (items_of named) (standing_from (at + global_room g) gs)) all.0.items (omega arith) (omega arith) (omega (arith, within, e)) small_size rest)
 
-globals_lawful : (objects : List Object) → AllByRecursion IsObject objects → AllByRecursion IsGlobal (globals_of objects)
-globals_lawful objects all = all_flat IsGlobal (λ o. o.globals) (in_order objects) (all_by IsObject (λ o. AllByRecursion IsGlobal o.globals) (in_order objects) (λ o is. is.globals) (ordered objects all))
+globals_lawful : (objects : List Object) → AllByRecursion IsGlobal (flat_map (λ o. o.globals) objects) → AllByRecursion IsGlobal (globals_of objects)
+globals_lawful objects all =
+    all_flat IsGlobal (λ o. o.globals) (in_order objects)
+    (ordered (λ o. AllByRecursion IsGlobal o.globals) objects (each_flat IsGlobal (λ o. o.globals) objects all))
 
 -- ---- sizes
 
@@ -127,26 +131,45 @@ entry_in count size address o e f more =
     let is : address ≡ f.address = e ∙ ap (λ (x : Option ℕ). unwrap_or x 0) f.is in
     subst (IsInText count) (sym is) (record { aligned = f.aligned; start = f.start; within = omega (arith, f.within, more) })
 
-pub linked_is_lawful : (objects : List Object) (stack : ℕ) → AllByRecursion IsObject objects → AreLinked objects stack → stack < 2 ^ 32 → IsImage (linked objects stack)
+pub memory_is_lawful : (objects : List Object) (stack : ℕ) → AreLawfulParts objects stack → IsMemory (linked objects stack).memory
 unfolding linked
-linked_is_lawful objects stack all linked stack_fits =
+memory_is_lawful objects stack parts =
     let s = sites objects stack in
     let ps = pieces_of objects in
-    let fits = pieces_fit objects all in
-    let size = sized (word_count objects) (stack_end objects stack) linked.fits in
+    let size = sized (word_count objects) (stack_end objects stack) parts.fits in
     let count : length (linked_words s (placed_from text_start ps)) ≡ word_count objects = words_length s text_start ps in
-    let start = found start_name (map (global_site (data_begin objects)) (data_of objects)) text_start ps refl (is_start_there objects all (linked.program has_main)) in
+    let start = found start_name (map (global_site (data_begin objects)) (data_of objects)) text_start ps refl (is_start_there objects parts.start) in
     let begin : data_begin objects + data_size objects ≤ stack_end objects stack = omega arith in
     record {
-      memory = record {
-        entry = entry_in _ (sum_by (λ p. length p.words) ps) _ _ refl start count;
-        stack = stack_fits;
-        stack_end = size.memory;
-        count = rw count size.text;
-        words = words_fit s text_start ps fits;
-        data_fits = rw count begin;
-        items = all_items s.named (data_size objects) 0 (globals_of objects) (globals_lawful objects all) (omega arith) (omega (arith, begin, size.memory));
-      };
-      functions = rw count (functions_fit (word_count objects) text_start ps refl (omega arith) (omega arith) fits);
+      entry = entry_in _ (sum_by (λ p. length p.words) ps) _ _ refl start count;
+      stack = parts.small;
+      stack_end = size.memory;
+      count = rw count size.text;
+      words = words_fit s text_start ps (pieces_have_words objects parts.words);
+      data_fits = rw count begin;
+      items = all_items s.named (data_size objects) 0 (globals_of objects) (globals_lawful objects parts.globals) (omega arith) (omega (arith, begin, size.memory));
+    }
+
+-- objects that are lawful for their files have lawful parts, where they are linked
+pub parts_are_lawful : (objects : List Object) (stack : ℕ) → AllByRecursion IsObject objects → AreLinked objects stack → stack < 2 ^ 32 → AreLawfulParts objects stack
+parts_are_lawful objects stack all linked small = record {
+  words = all_flat HasWordsOf32Bits (λ o. o.functions) objects
+      (all_by IsObject (λ o. AllByRecursion HasWordsOf32Bits o.functions) objects
+      (λ o is. all_by IsFunction HasWordsOf32Bits o.functions (λ f own. own.words) is.functions) all);
+  globals = all_flat IsGlobal (λ o. o.globals) objects (all_by IsObject (λ o. AllByRecursion IsGlobal o.globals) objects (λ o is. is.globals) all);
+  start = start_is_defined objects all (linked.program has_main);
+  fits = linked.fits;
+  small = small;
+}
+
+pub linked_is_lawful : (objects : List Object) (stack : ℕ) → AllByRecursion IsObject objects → AreLinked objects stack → stack < 2 ^ 32 → IsImage (linked objects stack)
+unfolding linked
+linked_is_lawful objects stack all linked small =
+    let s = sites objects stack in
+    let ps = pieces_of objects in
+    let count : length (linked_words s (placed_from text_start ps)) ≡ word_count objects = words_length s text_start ps in
+    record {
+      memory = memory_is_lawful objects stack (parts_are_lawful objects stack all linked small);
+      functions = rw count (functions_fit (word_count objects) text_start ps refl (omega arith) (omega arith) (pieces_fit objects all));
       globals = globals_fit (data_begin objects) (data_of objects);
     }

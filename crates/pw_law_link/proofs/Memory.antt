@@ -7,17 +7,17 @@ use Rattle.pw_value.specs.Limits.{text_start, word_limit, memory_size}
 use Rattle.pw_fields.specs.Fields.{FitsU32}
 use Rattle.pw_flow.specs.declared.flow.Item.{Item}
 use Rattle.pw_object.specs.declared.object.Object.{Object}
-use Rattle.pw_object.specs.Object.{IsObject}
 use Rattle.pw_image.specs.declared.image.DataItem.{DataItem}
 use Rattle.pw_image.specs.declared.image.Memory.{Memory}
 use Rattle.pw_image.specs.Image.{IsMemory, data_start}
 use Rattle.pw_machine.specs.Core.{byte_at, word_at}
 use Rattle.pw_machine.specs.Start.{data_start_of, start_memory, start_core, image_start, IsOutside}
 use Rattle.pw_link.specs.Layout.{text_of, data_of, data_begin, pieces_of}
-use Rattle.pw_link.specs.Linking.{piece_words, item_at, item_bytes, linked, AreLinked}
+use Rattle.pw_link.specs.Linking.{piece_words, item_at, item_bytes, linked}
+use Rattle.pw_law_link.specs.Parts.{AreLawfulParts}
 use Rattle.pw_law_link.specs.Standing.{sites, StandsInText, StandsInData, ItemsStand, HasWords, HasBytes, HasItems}
 use Rattle.pw_law_link.proofs.Kept.{all_by}
-use Rattle.pw_law_link.proofs.Lawful.{words_length, linked_is_lawful}
+use Rattle.pw_law_link.proofs.Lawful.{words_length, memory_is_lawful}
 use Rattle.pw_law_link.proofs.Places.{words_stand, items_stand}
 
 -- ---- text
@@ -52,11 +52,11 @@ own_words law m address own is stands = λ i lt.
     ∙ law m.words m.items (length before + i) is.count inside (fits_at m.words (length before + i) is.words inside)
     ∙ read
 
-pub words_held : Words → (objects : List Object) (stack : ℕ) → AllByRecursion IsObject objects → AreLinked objects stack → stack < 2 ^ 32
+pub words_held : Words → (objects : List Object) (stack : ℕ) → AreLawfulParts objects stack
     → AllByRecursion (λ p. HasWords (image_start (linked objects stack).memory).memory p.address (piece_words (sites objects stack) p)) (text_of objects)
-words_held law objects stack all links small =
+words_held law objects stack parts =
     let m = (linked objects stack).memory in
-    let is = (linked_is_lawful objects stack all links small).memory in
+    let is = memory_is_lawful objects stack parts in
     all_by (λ p. StandsInText m.words p.address (piece_words (sites objects stack) p)) (λ p. HasWords (image_start m).memory p.address (piece_words (sites objects stack) p)) (text_of objects)
     (λ p stands. own_words law m p.address (piece_words (sites objects stack) p) is stands)
     (words_stand objects stack)
@@ -67,11 +67,11 @@ begin_is : (objects : List Object) (stack : ℕ) → data_start_of (linked objec
 unfolding linked
 begin_is objects stack = ap data_start (words_length (sites objects stack) text_start (pieces_of objects))
 
-pub items_held : Data → (objects : List Object) (stack : ℕ) → AllByRecursion IsObject objects → AreLinked objects stack → stack < 2 ^ 32
+pub items_held : Data → (objects : List Object) (stack : ℕ) → AreLawfulParts objects stack
     → AllByRecursion (HasItems objects stack (image_start (linked objects stack).memory).memory) (data_of objects)
-items_held law objects stack all links small =
+items_held law objects stack parts =
     let m = (linked objects stack).memory in
-    let is = (linked_is_lawful objects stack all links small).memory in
+    let is = memory_is_lawful objects stack parts in
     let begin = begin_is objects stack in
     all_by (ItemsStand objects stack m.items) (HasItems objects stack (image_start m).memory) (data_of objects)
     (λ s stands. all_by
@@ -88,11 +88,11 @@ abbrev pub Rest : Type 0
 Rest = (m : Memory) (place : ℕ) → IsMemory m → data_start_of m.words ≤ place → place < memory_size
     → AllByRecursion (IsOutside (data_start_of m.words) place) m.items → byte_at (image_start m).memory place ≡ 0
 
-pub rest_is_zero : Rest → (objects : List Object) (stack place : ℕ) → AllByRecursion IsObject objects → AreLinked objects stack → stack < 2 ^ 32
+pub rest_is_zero : Rest → (objects : List Object) (stack place : ℕ) → AreLawfulParts objects stack
     → data_begin objects ≤ place → place < memory_size → AllByRecursion (IsOutside (data_begin objects) place) (linked objects stack).memory.items
     → byte_at (image_start (linked objects stack).memory).memory place ≡ 0
-rest_is_zero law objects stack place all links small low high outside =
+rest_is_zero law objects stack place parts low high outside =
     let m = (linked objects stack).memory in
-    let is = (linked_is_lawful objects stack all links small).memory in
+    let is = memory_is_lawful objects stack parts in
     let begin = begin_is objects stack in
     law m place is (omega (arith, begin, low)) high (subst (λ (n : ℕ). AllByRecursion (IsOutside n place) m.items) (sym begin) outside)

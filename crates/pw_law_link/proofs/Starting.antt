@@ -1,7 +1,7 @@
 -- Where a linked program starts: `main` stands in it, and $start beside it.
 use Rattle.std.proofs.Common.{◌≡◌, ◌⊎◌, inl, inr, ℕ, zero, suc, ◌+◌, ◌*◌, ◌%◌, ◌<◌, ◌≤◌, Bool, true, false, ◌||◌, Option, None, Some, List, [], ◌∷◌, ◌++◌, map, length, get_or, refl, sym, ap, ◌∙◌, arith, cond, if◌then◌else◌}
 use Rattle.std.specs.Prelude.{Contains}
-use Rattle.std.specs.List.{AllByRecursion, list_any, sum_by}
+use Rattle.std.specs.List.{AllByRecursion, list_any, sum_by, flat_map}
 use Rattle.std.specs.Map.{lookup}
 use Rattle.std.specs.Str.{bytes_eq}
 use Rattle.std.proofs.lemmas.List.Folds.{list_any_at}
@@ -49,28 +49,47 @@ if_some : (b : Bool) (o : Option (List ℕ)) (s : List ℕ) → (if b then o els
 if_some true o s e = refl
 if_some false o s e = absurd cc
 
-abbrev pub starts : Object → Bool
-starts o = list_any (λ p. bytes_eq start_name p.name) (map piece_of o.functions)
+abbrev is_start : ObjectFn → Bool
+is_start f = bytes_eq start_name f.name
+
+abbrev starts : Object → Bool
+starts o = list_any is_start o.functions
 
 module_starts : (o : Object) → IsObject o → main_of o ≡ Some main_shape → starts o ≡ true
 module_starts o is main =
     let there = contained main_name (function_names o) (if_some (defines_main o) (lookup (bytes_eq main_name) o.declared) main_shape main) in
     let start = among start_name (function_names o) (is.start.beside.1 there) in
-    any_map (λ p. bytes_eq start_name p.name) piece_of o.functions
-    ∙ sym (any_map (bytes_eq start_name) (λ (f : ObjectFn). f.name) o.functions)
-    ∙ start
+    sym (any_map (bytes_eq start_name) (λ (f : ObjectFn). f.name) o.functions) ∙ start
 
 some_starts : (objects : List Object) (k : ℕ) (i : Interface) → AllByRecursion IsObject objects → k < length (map interface objects) → get_or (map interface objects) k i ≡ i → i.main ≡ Some main_shape → list_any starts objects ≡ true
 some_starts [] k i all lt at main = absurd (omega (arith, lt))
 some_starts (o ∷ objects) zero i all lt at main = or_true (starts o) (list_any starts objects) (inl (module_starts o all.0 (ap (λ (x : Interface). x.main) at ∙ main)))
 some_starts (o ∷ objects) (suc k) i all lt at main = or_true (starts o) (list_any starts objects) (inr (some_starts objects k i all.1 (omega (arith, lt)) at main))
 
-pub is_start_there : (objects : List Object) → AllByRecursion IsObject objects → HasMain (map interface objects) → list_any (λ p. bytes_eq start_name p.name) (pieces_of objects) ≡ true
-is_start_there objects all has =
+-- objects that link have it
+pub start_is_defined : (objects : List Object) → AllByRecursion IsObject objects → HasMain (map interface objects) → Contains (map (λ f. f.name) (flat_map (λ o. o.functions) objects)) start_name
+start_is_defined objects all has =
     let some = some_starts objects has.stands.0 has.where_it_is all has.stands.1 has.stands.2 has.shape in
+    let functions = flat_map (λ (o : Object). o.functions) objects in
+    contained start_name (map (λ (f : ObjectFn). f.name) functions)
+    (any_map (bytes_eq start_name) (λ (f : ObjectFn). f.name) functions ∙ any_flat is_start (λ (o : Object). o.functions) objects ∙ some)
+
+-- where it is defined, it is one of the pieces
+pub is_start_there : (objects : List Object) → Contains (map (λ f. f.name) (flat_map (λ o. o.functions) objects)) start_name → list_any (λ p. bytes_eq start_name p.name) (pieces_of objects) ≡ true
+is_start_there objects there =
+    let is_own = λ (p : Piece). bytes_eq start_name p.name in
+    let functions = flat_map (λ (o : Object). o.functions) objects in
+    let some : list_any starts objects ≡ true =
+    sym (any_flat is_start (λ (o : Object). o.functions) objects)
+    ∙ sym (any_map (bytes_eq start_name) (λ (f : ObjectFn). f.name) functions)
+    ∙ among start_name (map (λ (f : ObjectFn). f.name) functions) there in
     let order = any_placed starts place_of objects [] (inr some) in
-    any_append (λ p. bytes_eq start_name p.name) (function_pieces (in_order objects)) routine_pieces
-    (inl (any_flat (λ p. bytes_eq start_name p.name) (λ o. map piece_of o.functions) (in_order objects) order))
+    any_append is_own (function_pieces (in_order objects)) routine_pieces
+    (inl (any_flat is_own (λ (o : Object). map piece_of o.functions) (in_order objects) ∙ each_map (in_order objects) ∙ order))
+  where
+    each_map : (os : List Object) → list_any (λ o. list_any (λ p. bytes_eq start_name p.name) (map piece_of o.functions)) os ≡ list_any starts os
+    each_map [] = refl
+    each_map (o ∷ os) = λ i. any_map (λ p. bytes_eq start_name p.name) piece_of o.functions i || each_map os i
 
 -- ---- the address of a name among pieces
 

@@ -8,11 +8,12 @@ ghost use Rattle.pw_value.specs.Limits.{text_start, memory_size};
 ghost use Rattle.pw_files.specs.Rising.{IsRising};
 ghost use Rattle.pw_object.specs.declared.object.Object.{Object};
 ghost use Rattle.pw_object.specs.Object.{IsObject};
-ghost use Rattle.pw_image.specs.Image.{IsImage};
+ghost use Rattle.pw_image.specs.Image.{IsImage, IsMemory};
 ghost use Rattle.pw_machine.specs.Core.{byte_at};
 ghost use Rattle.pw_machine.specs.Start.{image_start, IsOutside};
 ghost use Rattle.pw_link.specs.Layout.{in_order, pieces_of, globals_of, text_of, data_of, data_begin, data_size, stack_end};
 ghost use Rattle.pw_link.specs.Linking.{linked, piece_words, function_of, global_of, AreLinked, IsRefusal};
+ghost use Rattle.pw_law_link.specs.Parts.{AreLawfulParts};
 ghost use Rattle.pw_law_link.specs.Standing.{AreInOrder, sites, StandsInText, ItemsStand, AreApart, OwnTheirBytes, HasWords, HasItems};
 
 use pw_link_rules::laws::modules_have_one_answer;
@@ -59,15 +60,23 @@ pub fn data_stand_at_their_addresses()
     ensures below { (objects : List Object) (stack : ℕ) → data_begin objects + data_size objects + 64 + stack ≤ stack_end objects stack }
 {}
 
-/// In the memory in which a machine begins the program of lawful objects, the words of each function and routine,
+/// The memory of linked objects is lawful where their parts are: where the words of functions have 32 bits, the global
+/// objects are lawful, `$start` is one of the functions, and text and memory are large enough. So it is of objects that
+/// are lawful for their files and make a program.
+pub fn linked_memories_are_lawful()
+    ensures memory { (objects : List Object) (stack : ℕ) → AreLawfulParts objects stack → IsMemory (linked objects stack).memory }
+    ensures parts { (objects : List Object) (stack : ℕ) → AllByRecursion IsObject objects → AreLinked objects stack → stack < 2 ^ 32 → AreLawfulParts objects stack }
+{}
+
+/// In the memory in which a machine begins the program of lawful parts, the words of each function and routine,
 /// its relocations done, stand at its address, the items of each global object at theirs, and every other byte
 /// from the beginning of the data on is 0.
 pub fn the_memory_holds_the_program()
-    ensures words { (objects : List Object) (stack : ℕ) → AllByRecursion IsObject objects → AreLinked objects stack → stack < 2 ^ 32 →
+    ensures words { (objects : List Object) (stack : ℕ) → AreLawfulParts objects stack →
         AllByRecursion (λ p. HasWords (image_start (linked objects stack).memory).memory p.address (piece_words (sites objects stack) p)) (text_of objects) }
-    ensures items { (objects : List Object) (stack : ℕ) → AllByRecursion IsObject objects → AreLinked objects stack → stack < 2 ^ 32 →
+    ensures items { (objects : List Object) (stack : ℕ) → AreLawfulParts objects stack →
         AllByRecursion (HasItems objects stack (image_start (linked objects stack).memory).memory) (data_of objects) }
-    ensures zero { (objects : List Object) (stack place : ℕ) → AllByRecursion IsObject objects → AreLinked objects stack → stack < 2 ^ 32 →
+    ensures zero { (objects : List Object) (stack place : ℕ) → AreLawfulParts objects stack →
         data_begin objects ≤ place → place < memory_size →
         AllByRecursion (IsOutside (data_begin objects) place) (linked objects stack).memory.items →
         byte_at (image_start (linked objects stack).memory).memory place ≡ 0 }
