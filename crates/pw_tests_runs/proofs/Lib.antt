@@ -13,4 +13,3 @@ mod RegisterRows
 mod WordRows
 mod SourceRows
 mod AcceptedRows
-mod BuiltRows
