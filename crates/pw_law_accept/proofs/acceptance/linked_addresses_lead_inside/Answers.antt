@@ -1,13 +1,16 @@
-use Rattle.pw_files.proofs.Standing.{contains_by}
+use Rattle.pw_files.proofs.Standing.{Has, contains_by}
+use Rattle.pw_cmean.specs.Worlds.{ProgramModule}
 use Rattle.pw_law_accept.proofs.Checked.{known_module}
 use Rattle.pw_law_accept.proofs.Inside.{all_inside}
+use Rattle.pw_law_accept.proofs.Programs.{names_distinct}
 use Rattle.pw_law_accept.proofs.acceptance.linked_addresses_lead_inside.Goals as goal
 
 pub returns : goal.returns
-returns g = λ p frame_of stack checked linked words. all_inside p frame_of stack
-    (λ m h. known_module g.words_spell_what_they_are.ensures g.accepted_names_are_identifiers.ensures.declared g.accepted_names_are_identifiers.ensures.functions
-    g.accepted_functions_are_typed.ensures.typed g.accepted_names_are_declared.ensures.functions g.accepted_names_are_declared.ensures.objects m (checked m (contains_by m p.modules h)))
-    linked
+returns g = λ p frame_of stack checked linked words.
+    let known = λ (m : ProgramModule) (h : Has m p.modules).
+    known_module g.words_spell_what_they_are.ensures g.accepted_names_are_identifiers.ensures.declared g.accepted_names_are_identifiers.ensures.functions
+    g.accepted_functions_are_typed.ensures.typed g.accepted_names_are_declared.ensures.functions g.accepted_names_are_declared.ensures.objects m (checked m (contains_by m p.modules h)) in
+    all_inside p frame_of stack known (names_distinct p frame_of stack known linked) (g.linked_modules_declare_alike.ensures p frame_of stack checked linked)
     (λ m h.
     let there = contains_by m p.modules h in
     let is = checked m there in
