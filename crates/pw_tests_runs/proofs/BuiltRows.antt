@@ -46,9 +46,10 @@ nothing_lawful = record { each = tt; numbers = tt; globals = tt; registers = tt;
 all_serve : AllServe (directed_functions bumping bump_directives) places
 all_serve = (
   allocation_serves bump (only_of Member) _ lawful_bump (lawful_only Member) refl,
-  allocation_serves bump_main (only_of Entry) _ lawful_main (lawful_only Entry) refl,
-  allocation_serves start empty _ lawful_start nothing_lawful refl,
-  tt,
+  (
+    allocation_serves bump_main (only_of Entry) _ lawful_main (lawful_only Entry) refl,
+    (allocation_serves start empty _ lawful_start nothing_lawful refl, tt),
+  ),
 )
   where
     only_of : Role → Directives
