@@ -1,5 +1,5 @@
--- Addresses in the first bytes of objects of modules that checking accepts lead inside, where no name is defined twice and
--- the declarations of a name agree.
+-- Addresses in the first bytes of objects of modules that checking accepts lead inside, where no object has the name of another
+-- one and the declarations of a name agree.
 use Rattle.std.proofs.Common.{◌≡◌, ◌≢◌, ◌⊎◌, ◌≤◌, ℕ, zero, suc, Bool, true, false, Option, List, [], ◌∷◌, ◌++◌, map, refl, sym, ap, subst, ◌∙◌, arith, inl, inr}
 use Rattle.std.specs.Prelude.{Some, None, IsSomeAnd, All, slice_get, option_map, unwrap_or, Contains}
 use Rattle.std.specs.List.{AllByRecursion, flat_map}
@@ -24,7 +24,7 @@ use Rattle.pw_law_checked.specs.Leading.{LeadsIntoOwn, LeadsIntoShared, Leads, I
 use Rattle.pw_law_checked.proofs.Lists.{some_same, never_some}
 use Rattle.pw_files.proofs.Standing.{Has, has_by, contains_by, has_each, has_map, has_map_back, has_flat, has_flat_back}
 use Rattle.pw_cmean.specs.Worlds.{Program, ProgramModule}
-use Rattle.pw_run_languages.specs.Programs.{globals_of, names_of}
+use Rattle.pw_run_languages.specs.Programs.{globals_of}
 use Rattle.pw_law_layers.specs.Accepting.{LeadInside}
 use Rattle.pw_law_layers.specs.Lowering.{DeclareAlike, flow_program}
 use Rattle.pw_law_accept.proofs.Names.{named_external}
@@ -39,7 +39,7 @@ index_of x [] h = absurd h
 index_of x (y ∷ xs) (inl e) = (zero, ap Some e)
 index_of x (y ∷ xs) (inr h) = let r = index_of x xs h in (suc r.0, r.1)
 
-distinct_right : (xs ys : List (List ℕ)) → AreDistinct (xs ++ ys) → AreDistinct ys
+pub distinct_right : (xs ys : List (List ℕ)) → AreDistinct (xs ++ ys) → AreDistinct ys
 distinct_right [] ys d = d
 distinct_right (x ∷ xs) ys d = distinct_right xs ys d.1
 
@@ -89,7 +89,7 @@ unfolding lowered
 global_on home m v h = has_map (lowered_global home m.records) v m.globals h
 
 module _ (p : Program) (frame_of : List ℕ → ℕ) (stack : ℕ) (known : (m : ProgramModule) → Has m p.modules → Known m.tree)
-    (apart : AreDistinct (names_of (flow_program p frame_of stack) ++ map (λ g. g.name) (globals_of (flow_program p frame_of stack)))) (alike : DeclareAlike (flow_program p frame_of stack))
+    (apart : AreDistinct (map (λ (g : FlowGlobal). g.name) (globals_of (flow_program p frame_of stack)))) (alike : DeclareAlike (flow_program p frame_of stack))
     (typed : (m : ProgramModule) → Has m p.modules → WellTyped m.tree) (leads : (m : ProgramModule) → Has m p.modules → All (ItemsLead m.tree) m.tree.globals)
     (whole : (m : ProgramModule) → Has m p.modules → All (IsDeclaredWhole m.tree) m.tree.globals) where
   abbrev flow_of : ProgramModule → FlowModule
@@ -104,14 +104,11 @@ module _ (p : Program) (frame_of : List ℕ → ℕ) (stack : ℕ) (known : (m :
   there_in : (m : ProgramModule) → Has m p.modules → Has (flow_of m) ms
   there_in m h = has_map flow_of m p.modules h
 
-  distinct : AreDistinct (map name_of all)
-  distinct = distinct_right (names_of (flow_program p frame_of stack)) (map name_of all) apart
-
   own_inside : (m : ProgramModule) (s : Symbol) (offset : ℕ) (g : FlowGlobal) → Has m p.modules → LeadsIntoOwn m.tree s offset → Has g all → full_name m.name s ≡ g.name → offset ≤ g.size
   own_inside m s offset g h own k e =
       let mine = lowered_global m.name m.tree.records own.object in
       let there : Has mine all = has_flat (λ (n : FlowModule). n.globals) (flow_of m) mine ms (there_in m h) (global_on m.name m.tree own.object (has_by own.object m.tree.globals own.there)) in
-      let same : mine ≡ g = one_global all distinct mine g there k (ap (λ (s : Symbol). full_name m.name s) own.name_is ∙ e) in
+      let same : mine ≡ g = one_global all apart mine g there k (ap (λ (s : Symbol). full_name m.name s) own.name_is ∙ e) in
       subst (λ (x : FlowGlobal). offset ≤ x.size) same (within_size offset (size_of m.tree.records (type_of own.object.ty)) own.inside)
 
   -- the declaration of an entry, as the flow graph has it

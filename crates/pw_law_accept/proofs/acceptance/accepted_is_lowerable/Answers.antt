@@ -1,8 +1,12 @@
+use Rattle.std.proofs.Common.{map}
 use Rattle.std.proofs.lemmas.List.Elements.{All-contains}
 use Rattle.pw_files.proofs.Standing.{contains_by}
 use Rattle.pw_types.specs.TypedModules.{WellTyped}
+use Rattle.pw_flow.specs.declared.flow.FlowGlobal.{FlowGlobal}
+use Rattle.pw_run_languages.specs.Programs.{globals_of, names_of}
+use Rattle.pw_law_layers.specs.Lowering.{flow_program}
 use Rattle.pw_law_accept.proofs.Checked.{known_module}
-use Rattle.pw_law_accept.proofs.Inside.{all_inside}
+use Rattle.pw_law_accept.proofs.Inside.{all_inside, distinct_right}
 use Rattle.pw_law_accept.proofs.acceptance.accepted_is_lowerable.Goals as goal
 
 pub returns : goal.returns
@@ -13,7 +17,8 @@ returns g = λ p frame_of stack checked accepted. record {
       (λ m h.
       known_module g.words_spell_what_they_are.ensures g.accepted_names_are_identifiers.ensures.declared g.accepted_names_are_identifiers.ensures.functions
       g.accepted_functions_are_typed.ensures.typed g.accepted_names_are_declared.ensures.functions g.accepted_names_are_declared.ensures.objects m (checked m (contains_by m p.modules h)))
-      accepted.program.names accepted.alike
+      (distinct_right (names_of (flow_program p frame_of stack)) (map (λ (g : FlowGlobal). g.name) (globals_of (flow_program p frame_of stack))) accepted.program.names)
+      accepted.alike
       (λ m h. All-contains (λ m. WellTyped m.tree) p.modules m accepted.typed.modules (contains_by m p.modules h))
       (λ m h. let is = checked m (contains_by m p.modules h) in g.accepted_addresses_lead_inside.ensures.lead is.syntax m.tree is.is)
       (λ m h. let is = checked m (contains_by m p.modules h) in g.accepted_addresses_lead_inside.ensures.whole is.syntax m.tree is.is);
