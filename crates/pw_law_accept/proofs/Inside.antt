@@ -1,4 +1,5 @@
--- Addresses in the first bytes of objects of modules that checking accepts and whose objects link lead inside.
+-- Addresses in the first bytes of objects of modules that checking accepts lead inside, where no object has the name of another
+-- one and the declarations of a name agree.
 use Rattle.std.proofs.Common.{◌≡◌, ◌≢◌, ◌≤◌, ℕ, zero, suc, Bool, true, false, Option, List, [], ◌∷◌, ◌++◌, map, refl, sym, ap, subst, ◌∙◌, arith, inl, inr}
 use Rattle.std.specs.Prelude.{Some, None, IsSomeAnd, All, slice_get, option_map, unwrap_or, Contains}
 use Rattle.std.proofs.lemmas.Bool.{leb-true, eqb-true}
@@ -20,15 +21,13 @@ use Rattle.pw_lower.specs.Modules.{item_of, lowered_item, lowered_global, lowere
 use Rattle.pw_check_rules.specs.Constants.{is_within}
 use Rattle.pw_law_checked.specs.Leading.{LeadsIntoOwn, LeadsIntoShared, Leads, ItemLeads, ItemsLead, HasDeclaredSize, IsDeclaredWhole}
 use Rattle.pw_law_checked.proofs.Lists.{some_same, never_some}
-use Rattle.pw_files.proofs.Standing.{Has, has_by, has_each, has_map, has_map_back, has_flat, has_flat_back}
+use Rattle.pw_files.proofs.Standing.{Has, has_by, contains_by, has_each, has_map, has_map_back, has_flat, has_flat_back}
 use Rattle.pw_cmean.specs.Worlds.{Program, ProgramModule}
-use Rattle.pw_run_languages.specs.Programs.{globals_of, names_of}
+use Rattle.pw_run_languages.specs.Programs.{globals_of}
 use Rattle.pw_law_layers.specs.Accepting.{LeadInside}
-use Rattle.pw_law_layers.specs.Lowering.{flow_program}
-use Rattle.pw_law_accept.specs.Linked.{AreLinked}
+use Rattle.pw_law_layers.specs.Lowering.{DeclareAlike, flow_program}
 use Rattle.pw_law_accept.proofs.Names.{named_external}
 use Rattle.pw_law_accept.proofs.Modules.{all_has, Known, declared_has, declared_letters}
-use Rattle.pw_law_accept.proofs.Programs.{all_agree, names_distinct}
 use Rattle.pw_law_accept.proofs.References.{global_of}
 use Rattle.pw_law_accept.proofs.ShapeSizes.{one_size, length_wanted}
 
@@ -39,7 +38,7 @@ index_of x [] h = absurd h
 index_of x (y ∷ xs) (inl e) = (zero, ap Some e)
 index_of x (y ∷ xs) (inr h) = let r = index_of x xs h in (suc r.0, r.1)
 
-distinct_right : (xs ys : List (List ℕ)) → AreDistinct (xs ++ ys) → AreDistinct ys
+pub distinct_right : (xs ys : List (List ℕ)) → AreDistinct (xs ++ ys) → AreDistinct ys
 distinct_right [] ys d = d
 distinct_right (x ∷ xs) ys d = distinct_right xs ys d.1
 
@@ -88,7 +87,8 @@ global_on : (home : List ℕ) (m : ModuleValue) (v : GlobalValue) → Has v m.gl
 unfolding lowered
 global_on home m v h = has_map (lowered_global home m.records) v m.globals h
 
-module _ (p : Program) (frame_of : List ℕ → ℕ) (stack : ℕ) (known : (m : ProgramModule) → Has m p.modules → Known m.tree) (linked : AreLinked (flow_program p frame_of stack).modules)
+module _ (p : Program) (frame_of : List ℕ → ℕ) (stack : ℕ) (known : (m : ProgramModule) → Has m p.modules → Known m.tree)
+    (apart : AreDistinct (map (λ (g : FlowGlobal). g.name) (globals_of (flow_program p frame_of stack)))) (alike : DeclareAlike (flow_program p frame_of stack))
     (typed : (m : ProgramModule) → Has m p.modules → WellTyped m.tree) (leads : (m : ProgramModule) → Has m p.modules → All (ItemsLead m.tree) m.tree.globals)
     (whole : (m : ProgramModule) → Has m p.modules → All (IsDeclaredWhole m.tree) m.tree.globals) where
   abbrev flow_of : ProgramModule → FlowModule
@@ -103,19 +103,21 @@ module _ (p : Program) (frame_of : List ℕ → ℕ) (stack : ℕ) (known : (m :
   there_in : (m : ProgramModule) → Has m p.modules → Has (flow_of m) ms
   there_in m h = has_map flow_of m p.modules h
 
-  distinct : AreDistinct (map name_of all)
-  distinct = distinct_right (names_of (flow_program p frame_of stack)) (map name_of all) (names_distinct p frame_of stack known linked)
-
   own_inside : (m : ProgramModule) (s : Symbol) (offset : ℕ) (g : FlowGlobal) → Has m p.modules → LeadsIntoOwn m.tree s offset → Has g all → full_name m.name s ≡ g.name → offset ≤ g.size
   own_inside m s offset g h own k e =
       let mine = lowered_global m.name m.tree.records own.object in
       let there : Has mine all = has_flat (λ (n : FlowModule). n.globals) (flow_of m) mine ms (there_in m h) (global_on m.name m.tree own.object (has_by own.object m.tree.globals own.there)) in
-      let same : mine ≡ g = one_global all distinct mine g there k (ap (λ (s : Symbol). full_name m.name s) own.name_is ∙ e) in
+      let same : mine ≡ g = one_global all apart mine g there k (ap (λ (s : Symbol). full_name m.name s) own.name_is ∙ e) in
       subst (λ (x : FlowGlobal). offset ≤ x.size) same (within_size offset (size_of m.tree.records (type_of own.object.ty)) own.inside)
 
   -- the declaration of an entry, as the flow graph has it
   declares : (m : ProgramModule) (d : DeclaredValue) (x : List ℕ) → Contains m.tree.declared d → d.name ≡ x → Has (x, shape_of m.tree.records (type_of d.ty) (is_volatile d.ty)) (flow_of m).declared
   declares m d x there is = subst (λ (n : List ℕ). Has (n, shape_of m.tree.records (type_of d.ty) (is_volatile d.ty)) (flow_of m).declared) is (declared_has m.name m.tree d (has_by d m.tree.declared there))
+
+  agrees : (m n : ProgramModule) (x s t : List ℕ) → Has m p.modules → Has n p.modules → Has (x, s) (flow_of m).declared → Has (x, t) (flow_of n).declared → Agree s t
+  agrees m n x s t h i own other =
+      alike.declared (flow_of m) (flow_of n) x s t (contains_by (flow_of m) ms (there_in m h)) (contains_by (flow_of n) ms (there_in n i))
+      (contains_by (x, s) (flow_of m).declared own) (contains_by (x, t) (flow_of n).declared other)
 
   sizes_agree : (m n : ProgramModule) (d e : DeclaredValue) (l k : Layout) → Has m p.modules → Has n p.modules → layout_of m.tree.records (type_of d.ty) ≡ Some l → layout_of n.tree.records (type_of e.ty) ≡ Some k
       → l.size ≤ size_limit → k.size ≤ size_limit → Agree (shape_of m.tree.records (type_of d.ty) (is_volatile d.ty)) (shape_of n.tree.records (type_of e.ty) (is_volatile e.ty)) → l.size ≡ k.size
@@ -134,7 +136,8 @@ module _ (p : Program) (frame_of : List ℕ → ℕ) (stack : ℕ) (known : (m :
           let object = object_layout (layout_of n.tree.records (type_of v.ty)) (all_has (IsGlobal n.tree) n.tree.globals v (typed n i).globals there).object in
           let size : size_of n.tree.records (type_of v.ty) ≡ Some object.0.size = ap (option_map (λ (l : Layout). l.size)) object.1 in
           let k = layout_by (layout_of n.tree.records (type_of w.entry.ty)) object.0.size (w.size ∙ size) in
-          let agree = all_agree p frame_of stack known linked (flow_of m) (flow_of n) x _ _ (there_in m h) (there_in n i) (declares m d.entry x d.there d.name_is) (declares n w.entry x w.there w.name_is) in
+          let agree = agrees m n x (shape_of m.tree.records (type_of d.entry.ty) (is_volatile d.entry.ty)) (shape_of n.tree.records (type_of w.entry.ty) (is_volatile w.entry.ty)) h i
+          (declares m d.entry x d.there d.name_is) (declares n w.entry x w.there w.name_is) in
           let small : k.0.size ≤ size_limit = subst (λ y. y ≤ size_limit) (sym k.2) object.2 in
           let same : l.size ≡ k.0.size = sizes_agree m n d.entry w.entry l k.0 h i e k.1 (d.within l e) small agree in
           subst (λ o. offset ≤ unwrap_or o 0) (sym size) (subst (λ y. offset ≤ y) (same ∙ k.2) (leb-true offset l.size inside))

@@ -1,4 +1,4 @@
--- Modules whose objects link, and what is left to be shown of checked modules that link.
+-- Modules whose objects link.
 use Rattle.std.specs.Prelude.{List, map, Contains}
 use Rattle.std.specs.List.{AllByRecursion}
 use Rattle.pw_object.specs.declared.object.Object.{Object}
@@ -6,7 +6,6 @@ use Rattle.pw_link_interface.specs.Interface.{interface}
 use Rattle.pw_link_rules.specs.Linking.{Links}
 use Rattle.pw_flow.specs.declared.flow.FlowGlobal.{FlowGlobal}
 use Rattle.pw_flow.specs.declared.flow.FlowModule.{FlowModule}
-use Rattle.pw_law_checked.specs.Names.{AreNumbered}
 use Rattle.pw_cmean.specs.Worlds.{Program, ProgramModule}
 use Rattle.pw_run_languages.specs.Programs as flows
 use Rattle.pw_run_languages.specs.Programs.{globals_of}
@@ -19,10 +18,6 @@ pub record AreLinked (modules : List FlowModule) : Type 0 where
   pub objects : List Object
   pub show : AllShow modules objects
   pub links : Links (map interface objects)
-
--- the numbers of objects without a name are of 32 bits
-abbrev pub AreAllNumbered : Program → Type 0
-AreAllNumbered p = (m : ProgramModule) → Contains p.modules m → AreNumbered m.tree
 
 -- the bytes of items are bytes, and nothing is added to the address of a function
 abbrev pub HaveRightItems : flows.Program → Type 0

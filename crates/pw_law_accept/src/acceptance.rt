@@ -18,19 +18,21 @@ ghost use Rattle.pw_law_lower.specs.Within.{IsWithin};
 ghost use Rattle.pw_run_languages.specs.LawfulPrograms.{IsProgram, NamesRightly, ops_of};
 ghost use Rattle.pw_run_languages.specs.LinkingLaws.{AreNamesApart};
 ghost use Rattle.pw_law_layers.specs.Accepting.{AreFormed, CheckedIsAccepted, LeadInside};
-ghost use Rattle.pw_law_layers.specs.Lowering.{AreChecked, DeclareAlike, HaveParts, IsAccepted, flow_program};
-ghost use Rattle.pw_law_refine.specs.Lowerable.{IsLowerable};
-ghost use Rattle.pw_law_accept.specs.Linked.{AreAllNumbered, AreLinked, AreNamedPlainly, HaveRightItems};
+ghost use Rattle.pw_law_layers.specs.Lowering.{AreChecked, DeclareAlike, HaveParts, LoweringKeepsRuns, flow_program};
+ghost use Rattle.pw_law_refine.specs.Whole.{CheckedIsLowerable, ProgramsKeepRuns};
+ghost use Rattle.pw_law_accept.specs.Linked.{AreLinked, AreNamedPlainly, HaveRightItems};
 
 use crate::formed::accepted_functions_are_formed;
 use crate::operations::lowered_functions_refer_rightly;
 use pw_law_checked::{
-    accepted_addresses_lead_inside, accepted_bodies_have_words, accepted_functions_are_no_objects,
-    accepted_functions_are_typed, accepted_initialisers_have_parts, accepted_is_within,
-    accepted_names_are_declared, accepted_names_are_identifiers,
-    accepted_names_of_objects_are_no_functions, strings_of_texts,
+    accepted_addresses_lead_inside, accepted_bodies_have_words, accepted_bodies_keep_limits,
+    accepted_functions_are_no_objects, accepted_functions_are_typed,
+    accepted_functions_keep_limits, accepted_initialisers_have_parts, accepted_is_within,
+    accepted_locals_are_copied, accepted_names_are_declared, accepted_names_are_identifiers,
+    accepted_names_of_objects_are_no_functions, accepted_records_are_within, strings_of_texts,
 };
 use pw_law_lower::modules_are_lawful;
+use pw_law_refine::layers_rest_on_programs;
 use pw_law_words::accepted_texts_are_well_typed;
 use pw_tree::words_spell_what_they_are;
 
@@ -166,6 +168,7 @@ pub fn linked_addresses_lead_inside()
     accepted_names_are_declared();
     accepted_texts_are_well_typed();
     accepted_addresses_lead_inside();
+    linked_modules_declare_alike();
 }
 
 /// What checking and linking accept is accepted in the words of C's meaning, with all that built programs want of it: checked modules
@@ -182,13 +185,29 @@ pub fn checked_is_accepted()
     linked_addresses_lead_inside();
 }
 
-/// Accepted programs of checked texts are lowerable, but for what is a premise here: that objects without a name have numbers of 32
-/// bits, as they have where their objects link, and that addresses in initialisers lead inside.
-pub fn accepted_is_lowerable_but_for_addresses()
-    ensures { (p : Program) (frame_of : List ℕ → ℕ) (stack : ℕ) → AreChecked p → IsAccepted p frame_of stack → AreAllNumbered p → LeadInside (flow_program p frame_of stack) → IsLowerable p frame_of stack }
+/// Accepted programs of checked texts are lowerable: their functions are formed, addresses in initialisers lead inside, and records
+/// and functions keep their limits. Nothing is asked of linking, nor of the numbers of trees.
+pub fn accepted_is_lowerable()
+    ensures { CheckedIsLowerable }
 {
     strings_of_texts();
     words_spell_what_they_are();
-    accepted_is_within();
+    accepted_names_are_identifiers();
+    accepted_functions_are_typed();
+    accepted_names_are_declared();
+    accepted_addresses_lead_inside();
+    accepted_records_are_within();
+    accepted_locals_are_copied();
+    accepted_functions_keep_limits();
+    accepted_bodies_keep_limits();
+    accepted_initialisers_have_parts();
     checked_functions_are_formed();
+}
+
+/// So the law of lowering rests on that of programs alone.
+pub fn lowering_rests_on_programs()
+    ensures { ProgramsKeepRuns → LoweringKeepsRuns }
+{
+    accepted_is_lowerable();
+    layers_rest_on_programs();
 }

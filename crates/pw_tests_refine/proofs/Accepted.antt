@@ -32,7 +32,7 @@ use Rattle.pw_run_languages.specs.LawfulPrograms.{IsProgram, IsItem, NamesRightl
 use Rattle.pw_law_lower.specs.Within.{IsLetter, AreLetters, IsSmall, IsObjectWithin, IsFunctionWithin, IsWithin}
 use Rattle.pw_law_layers.specs.Lowering.{DeclareAlike}
 use Rattle.pw_law_layers.specs.Accepting.{IsFormed, AreFormed, LeadInside}
-use Rattle.pw_law_refine.specs.Lowerable.{IsLowerable, IsLowerableWorld}
+use Rattle.pw_law_refine.specs.Lowerable.{IsLimited, IsLowerable, IsLowerableWorld}
 use Rattle.pw_law_refine.specs.Activations.{IsActivation}
 use Rattle.pw_tests_refine.proofs.Examples.{int_type, void_type, takes_nothing, n_read, one_more, bump, main, n, tree, program, frames, graphs}
 use Rattle.pw_tests_refine.proofs.ExampleStates.{world, x}
@@ -414,7 +414,7 @@ lowerable = record {
   accepted = record { typed = typed; program = lawful; alike = alike };
   formed = formed;
   inside = inside;
-  within = λ m there. each (λ (m : ProgramModule). IsWithin m.tree) program.modules (within, tt) m there;
+  within = λ m there. each (λ (m : ProgramModule). IsLimited m.tree) program.modules (record { records = within.records; declared = within.declared; functions = within.functions }, tt) m there;
 }
 
 pub active : IsActivation x

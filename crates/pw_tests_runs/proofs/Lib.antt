@@ -13,3 +13,4 @@ mod RegisterRows
 mod WordRows
 mod SourceRows
 mod AcceptedRows
+mod BuiltRows

@@ -69,7 +69,7 @@ lawful_bump = record {
   );
 }
 
-lawful_main : IsFunction bump_main
+pub lawful_main : IsFunction bump_main
 lawful_main = record {
   few = record { few_params = omega arith; params = omega arith; room = omega arith; start = omega arith };
   blocks = (
@@ -209,6 +209,6 @@ lawful_program = record {
   stack = omega arith;
 }
 
-apart : AreNamesApart bumping
+pub apart : AreNamesApart bumping
 unfolding are_distinct
 apart = distinct (map (λ r. r.0) routines ++ (map (λ f. f.name) (functions_of bumping) ++ map (λ g. g.name) (globals_of bumping))) refl

@@ -29,7 +29,7 @@ bump_name = codes "bump"
 abbrev main_name : List ℕ
 main_name = codes "main"
 
-abbrev n_web : Web
+abbrev pub n_web : Web
 n_web = web 0 (codes "n") 3
 
 abbrev graph : Graph
@@ -37,10 +37,10 @@ graph = graph_of bumping
 
 -- ---- lawful
 
-lawful_only : (role : Role) → IsDirectives (only n_web role)
+pub lawful_only : (role : Role) → IsDirectives (only n_web role)
 lawful_only role = record { each = (record { low = omega arith; high = omega arith }, tt); numbers = (tt, tt); globals = (tt, tt); registers = (tt, tt); free = refl }
 
-lawful_database : IsDatabase bump_directives
+pub lawful_database : IsDatabase bump_directives
 lawful_database = record { functions = (tt, (refl, tt)); directives = (lawful_only Member, (lawful_only Entry, tt)); agree = ((λ e. refl, tt), (tt, tt)) }
 
 -- ---- who is in the web
@@ -205,7 +205,7 @@ none_free f r i =
     let none = has_each (λ (x : List ℕ × Directives). x.1.free ≡ []) bump_directives own (refl, (refl, tt)) (has_by own bump_directives i.there) in
     has_by r [] (subst (λ (rs : List ℕ). Contains rs r) none i.register)
 
-sound_database : Sound graph bump_directives
+pub sound_database : Sound graph bump_directives
 sound_database = record {
   member_callers = λ w f a has c. member_called w f a (seat w f Member has) c;
   entry_callers = λ w f a has c. entry_called w f a (seat w f Entry has) c;
