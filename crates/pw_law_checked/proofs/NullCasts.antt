@@ -1,7 +1,7 @@
 -- Where a number is converted to a pointer, it is a null pointer constant (ISO C90 6.2.2.3): by assignments, comparisons and `?:`.
-use Rattle.std.specs.Prelude.{◌≡◌, ◌⊎◌, Bool, true, false, not, ◌&&◌, ◌||◌, List, ◌∷◌, refl}
-use Rattle.std.proofs.Common.{sym, subst, ◌∙◌, inl, inr}
-use Rattle.pw_types.specs.TypeTrees.{CType, Void, Int, Pointer, Array, Function, Record, QType, Qualified, type_of}
+use Rattle.std.specs.Prelude.{◌≡◌, Bool, true, false, not, ◌&&◌, ◌||◌, refl}
+use Rattle.std.proofs.Common.{sym, ◌∙◌}
+use Rattle.pw_types.specs.TypeTrees.{CType, Void, Int, Pointer, Array, Function, Record, Qualified, type_of}
 use Rattle.pw_types.specs.TypedTrees.{Expression, Node}
 use Rattle.pw_check_rules.specs.Compatible.{compatible_types, qualified_within}
 use Rattle.pw_check_rules.specs.Constants.{is_null_constant, is_zero_constant}

@@ -21,7 +21,7 @@ use Rattle.pw_law_lower.specs.Within.{IsSized, count_of}
 use Rattle.pw_law_checked.specs.Bounded.{IsNullTo, IsNullCast, IsBounded, HasBounded, AreBounded}
 use Rattle.pw_check_rules.specs.Compatible.{compatible_types, composite_type}
 use Rattle.pw_check_rules.specs.Constants.{is_null_constant}
-use Rattle.pw_check_rules.specs.Kinds.{plain, unqualified, int_type, is_pointer, is_void, pointee, same_type, is_integral, is_function, points_to_void, points_to_function, parameters_of, result_of, count_of_types}
+use Rattle.pw_check_rules.specs.Kinds.{plain, unqualified, int_type, is_pointer, is_void, pointee, same_type, is_function, points_to_void, points_to_function, parameters_of, result_of, count_of_types}
 use Rattle.pw_check_rules.specs.Operands.{Operand, cast_to, promote, promoted_type, common_type, value_of, value_by}
 use Rattle.pw_check_rules.specs.Operators.{typed_unary, unary_node, deref, both_integral, pointers_agree, pointer_and_void, pointer_and_null, pointers_meet, fits_order, fits_binary, typed_binary, in_common, arithmetic_node, shift_node, pointer_with_both, chosen_pointer, comparison_node, sum_node, difference_node, binary_node, same_record, fits_choice, choice_type, compound_node, is_assignable, arguments_fit, arguments_cast, callee_type, call_node}
 use Rattle.pw_law_checked.proofs.NullCasts.{assigned_null, left_null, right_null, promoted_null, to_number}
