@@ -16,7 +16,7 @@ use Rattle.pw_law_checked.proofs.Linked.{at_all}
 
 mutual
   pub bounded_words : (r : List RecordValue) (e : Expression) → IsBounded r e → AreWords e
-  bounded_words r (Node t y form) h = form_words r form h.1
+  bounded_words r (Node t y form) h = form_words r form h.2
 
   form_words : (r : List RecordValue) (form : Form) → HasBounded r form → AreWordsIn form
   form_words r (T.Number n) h = h
@@ -46,7 +46,7 @@ mutual
 
 mutual
   pub bounded_small : (r : List RecordValue) (e : Expression) → IsBounded r e → IsSmall r e
-  bounded_small r (Node t y form) h = (h.0, form_small r form h.1)
+  bounded_small r (Node t y form) h = (h.0, form_small r form h.2)
 
   form_small : (r : List RecordValue) (form : Form) → HasBounded r form → HasSmall r form
   form_small r (T.Number n) h = tt

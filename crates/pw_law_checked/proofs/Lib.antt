@@ -64,6 +64,7 @@ pub mod Spelled
 pub mod Literals
 pub mod Sizes
 pub mod Constants
+pub mod NullCasts
 pub mod Small
 pub mod SmallLeaves
 pub mod SmallPhrases

@@ -18,47 +18,62 @@ use Rattle.pw_types.specs.TypedTrees.{Expression, Expressions, Node, Form, token
 use Rattle.pw_types.specs.TypedTrees as T
 use Rattle.pw_types.specs.WellTyped.{type_in}
 use Rattle.pw_law_lower.specs.Within.{IsSized, count_of}
-use Rattle.pw_law_checked.specs.Bounded.{IsBounded, HasBounded, AreBounded}
+use Rattle.pw_law_checked.specs.Bounded.{IsNullTo, IsNullCast, IsBounded, HasBounded, AreBounded}
 use Rattle.pw_check_rules.specs.Compatible.{compatible_types, composite_type}
 use Rattle.pw_check_rules.specs.Constants.{is_null_constant}
-use Rattle.pw_check_rules.specs.Kinds.{plain, unqualified, int_type, is_pointer, is_void, pointee, same_type, points_to_void, points_to_function, parameters_of, result_of, count_of_types}
+use Rattle.pw_check_rules.specs.Kinds.{plain, unqualified, int_type, is_pointer, is_void, pointee, same_type, is_function, points_to_void, points_to_function, parameters_of, result_of, count_of_types}
 use Rattle.pw_check_rules.specs.Operands.{Operand, cast_to, promote, promoted_type, common_type, value_of, value_by}
-use Rattle.pw_check_rules.specs.Operators.{typed_unary, unary_node, deref, both_integral, pointers_agree, pointer_and_void, pointer_and_null, pointers_meet, fits_order, fits_binary, typed_binary, in_common, arithmetic_node, shift_node, pointer_with_both, chosen_pointer, comparison_node, sum_node, difference_node, binary_node, same_record, fits_choice, choice_type, compound_node, arguments_cast, callee_type, call_node}
+use Rattle.pw_check_rules.specs.Operators.{typed_unary, unary_node, deref, both_integral, pointers_agree, pointer_and_void, pointer_and_null, pointers_meet, fits_order, fits_binary, typed_binary, in_common, arithmetic_node, shift_node, pointer_with_both, chosen_pointer, comparison_node, sum_node, difference_node, binary_node, same_record, fits_choice, choice_type, compound_node, is_assignable, arguments_fit, arguments_cast, callee_type, call_node}
+use Rattle.pw_law_checked.proofs.NullCasts.{assigned_null, left_null, right_null, promoted_null, to_number}
 use Rattle.pw_law_checked.proofs.Types.{no, left, right, one_of}
 use Rattle.pw_law_checked.proofs.Sizes.{IsKept, kept_pointer, kept_element, kept_int, kept_void, kept_pointee, kept_callee, kept_composite}
 
 -- ---- expressions
 
--- what a pointer to a function is made of
-abbrev pub HasInner : List RecordValue → Form → Type 0
-HasInner r (T.Decay e) = IsKept r (type_in e)
-HasInner r _ = Unit {0}
+abbrev pub names_function : Form → Bool
+names_function (T.Function s) = true
+names_function _ = false
+
+-- what a pointer to a function is made of, with its type, and what a cast converts
+abbrev pub HasInner : List RecordValue → QType → Form → Type 0
+HasInner r q (T.Function s) = is_function (type_of q) ≡ true
+HasInner r q (T.Decay e) = IsKept r (type_in e) × (names_function (form_of e) ≡ true → type_of q ≡ Pointer (type_at e))
+HasInner r q (T.Cast e) = IsNullTo (type_of q) e
+HasInner r q _ = Unit {0}
+
+inner_null : (r : List RecordValue) (q : QType) (form : Form) → HasInner r q form → IsNullCast form (type_of q)
+inner_null r q (T.Cast e) h = h
+inner_null r q _ h = tt
+
+inner_named : (r : List RecordValue) (q : QType) (form : Form) → HasInner r q form → names_function form ≡ true → is_function (type_of q) ≡ true
+inner_named r q (T.Function s) h e = h
+inner_named r q _ h e = no e
 
 -- its types, and those that it is made of, keep the limits
 pub record Keeps (r : List RecordValue) (e : Expression) : Type 0 where
   pub small : IsBounded r e
   pub kept : IsKept r (type_in e)
-  pub inner : HasInner r (form_of e)
+  pub inner : HasInner r (type_at e) (form_of e)
 
-pub node_keeps : (r : List RecordValue) (t : ℕ) (q : QType) (form : Form) → IsKept r (type_of q) → HasBounded r form → HasInner r form → Keeps r (Node t q form)
-node_keeps r t q form k h i = record { small = (k.sized, h); kept = k; inner = i }
+pub node_keeps : (r : List RecordValue) (t : ℕ) (q : QType) (form : Form) → IsKept r (type_of q) → HasBounded r form → HasInner r q form → Keeps r (Node t q form)
+node_keeps r t q form k h i = record { small = (k.sized, inner_null r q form i, h); kept = k; inner = i }
 
-pub int_keeps : (r : List RecordValue) (t : ℕ) (form : Form) → HasBounded r form → HasInner r form → Keeps r (Node t int_type form)
+pub int_keeps : (r : List RecordValue) (t : ℕ) (form : Form) → HasBounded r form → HasInner r int_type form → Keeps r (Node t int_type form)
 int_keeps r t form h i = node_keeps r t int_type form (kept_int r K.Int) h i
 
-pub cast_keeps : (r : List RecordValue) (ty : CType) (e : Expression) → IsKept r ty → Keeps r e → Keeps r (cast_to ty e)
-cast_keeps r ty e k h = by (same_type ty (type_in e))
+pub cast_keeps : (r : List RecordValue) (ty : CType) (e : Expression) → IsKept r ty → IsNullTo ty e → Keeps r e → Keeps r (cast_to ty e)
+cast_keeps r ty e k z h = by (same_type ty (type_in e))
   where
     by : (b : Bool) → Keeps r (if b then e else Node (token_of e) (plain ty) (T.Cast e))
     by true = h
-    by false = node_keeps r (token_of e) (plain ty) (T.Cast e) k h.small tt
+    by false = node_keeps r (token_of e) (plain ty) (T.Cast e) k h.small z
 
-cast_small : (r : List RecordValue) (ty : CType) (e : Expression) → IsSized r ty → IsBounded r e → IsBounded r (cast_to ty e)
-cast_small r ty e k h = by (same_type ty (type_in e))
+cast_small : (r : List RecordValue) (ty : CType) (e : Expression) → IsSized r ty → IsNullTo ty e → IsBounded r e → IsBounded r (cast_to ty e)
+cast_small r ty e k z h = by (same_type ty (type_in e))
   where
     by : (b : Bool) → IsBounded r (if b then e else Node (token_of e) (plain ty) (T.Cast e))
     by true = h
-    by false = (k, h)
+    by false = (k, z, h)
 
 promoted_kept : (r : List RecordValue) (ty : CType) → IsKept r ty → IsKept r (promoted_type ty)
 promoted_kept r (Int k) h = kept_int r (promoted k)
@@ -69,18 +84,22 @@ promoted_kept r (Function q ps) h = h
 promoted_kept r (Record n) h = h
 
 pub promote_keeps : (r : List RecordValue) (e : Expression) → Keeps r e → Keeps r (promote e)
-promote_keeps r e h = cast_keeps r (promoted_type (type_in e)) e (promoted_kept r (type_in e) h.kept) h
+promote_keeps r e h = cast_keeps r (promoted_type (type_in e)) e (promoted_kept r (type_in e) h.kept) (promoted_null e) h
 
 common_kept : (r : List RecordValue) (a b : Expression) → IsKept r (common_type a b)
 common_kept r a b = kept_int r _
+
+common_keeps : (r : List RecordValue) (a b e : Expression) → Keeps r e → Keeps r (cast_to (common_type a b) e)
+common_keeps r a b e h = cast_keeps r (common_type a b) e (common_kept r a b) (to_number (common_type a b) e refl) h
 
 pub value_keeps : (r : List RecordValue) (a : Operand) → Keeps r a.node → Keeps r (value_of a)
 value_keeps r a h = by (type_in a.node) a.lvalue refl
   where
     by : (ty : CType) (b : Bool) → type_in a.node ≡ ty → Keeps r (value_by ty b a.node)
-    by (Array q n) true e = node_keeps r (token_of a.node) (plain (Pointer q)) (T.Decay a.node) (kept_pointer r q (kept_element r q n (subst (IsKept r) e h.kept))) h.small h.kept
+    by (Array q n) true e = node_keeps r (token_of a.node) (plain (Pointer q)) (T.Decay a.node) (kept_pointer r q (kept_element r q n (subst (IsKept r) e h.kept))) h.small
+        (h.kept, λ named. no (subst (λ x. is_function x ≡ true) e (inner_named r (type_at a.node) (form_of a.node) h.inner named)))
     by (Array q n) false e = h
-    by (Function q ps) b e = node_keeps r (token_of a.node) (plain (Pointer (type_at a.node))) (T.Decay a.node) (kept_pointer r (type_at a.node) h.kept) h.small h.kept
+    by (Function q ps) b e = node_keeps r (token_of a.node) (plain (Pointer (type_at a.node))) (T.Decay a.node) (kept_pointer r (type_at a.node) h.kept) h.small (h.kept, λ named. refl)
     by Void b e = h
     by (Int k) b e = h
     by (Pointer q) b e = h
@@ -113,13 +132,13 @@ address_keeps r t e h = node_keeps r t (plain (Pointer (type_at e))) (T.Address 
 
 -- ---- binary operators
 
-common_keeps : (r : List RecordValue) (t : ℕ) (ty : CType) (op : TypedOperator) (a b : Expression) → IsKept r ty → Keeps r a → Keeps r b → Keeps r (in_common t ty op a b)
-common_keeps r t ty op a b k h i =
+operands_keep : (r : List RecordValue) (t : ℕ) (ty : CType) (op : TypedOperator) (a b : Expression) → IsKept r ty → Keeps r a → Keeps r b → Keeps r (in_common t ty op a b)
+operands_keep r t ty op a b k h i =
     node_keeps r t (plain ty) (T.Binary op (cast_to (common_type a b) a) (cast_to (common_type a b) b)) k
-    ((cast_keeps r (common_type a b) a (common_kept r a b) h).small, (cast_keeps r (common_type a b) b (common_kept r a b) i).small) tt
+    ((common_keeps r a b a h).small, (common_keeps r a b b i).small) tt
 
 arithmetic_keeps : (r : List RecordValue) (t : ℕ) (op : TypedOperator) (a b : Expression) → Keeps r a → Keeps r b → Keeps r (arithmetic_node t op a b)
-arithmetic_keeps r t op a b h i = common_keeps r t (common_type a b) op a b (common_kept r a b) h i
+arithmetic_keeps r t op a b h i = operands_keep r t (common_type a b) op a b (common_kept r a b) h i
 
 shift_keeps : (r : List RecordValue) (t : ℕ) (op : TypedOperator) (a b : Expression) → Keeps r a → Keeps r b → Keeps r (shift_node t op a b)
 shift_keeps r t op a b h i =
@@ -171,11 +190,11 @@ comparison_keeps r t op a b m h i = by (both_integral a b) refl m
   where
     by : (x : Bool) → both_integral a b ≡ x → (both_integral a b ≡ true) ⊎ (pointers_meet a b ≡ true)
         → Keeps r (if x then in_common t (Int K.Int) op a b else Node t int_type (T.Binary op (cast_to (chosen_pointer a b) a) (cast_to (chosen_pointer a b) b)))
-    by true e m = common_keeps r t (Int K.Int) op a b (kept_int r K.Int) h i
+    by true e m = operands_keep r t (Int K.Int) op a b (kept_int r K.Int) h i
     by false e (inl f) = no (sym e ∙ f)
     by false e (inr f) =
         let k = chosen_kept r a b f h.kept i.kept in
-        int_keeps r t (T.Binary op (cast_to (chosen_pointer a b) a) (cast_to (chosen_pointer a b) b)) ((cast_keeps r (chosen_pointer a b) a k h).small, (cast_keeps r (chosen_pointer a b) b k i).small) tt
+        int_keeps r t (T.Binary op (cast_to (chosen_pointer a b) a) (cast_to (chosen_pointer a b) b)) ((cast_keeps r (chosen_pointer a b) a k (left_null (chosen_pointer a b) a b f) h).small, (cast_keeps r (chosen_pointer a b) b k (right_null (chosen_pointer a b) a b f) i).small) tt
 
 first_of_five : (a b c d e : Bool) → a ≡ true → (a || b || c || d || e) ≡ true
 first_of_five true b c d e h = refl
@@ -239,17 +258,37 @@ choice_kept r a b fits h k = by (both_integral a b) refl (is_pointer (type_in a)
         (last_of_four (both_integral a b) (same_record (type_in a) (type_in b)) (is_void (type_in a) && is_void (type_in b)) (pointers_meet a b) fits e (no_record (type_in a) (type_in b) f) (no_void (type_in a) (type_in b) f)) h k
     by false e false f = h
 
+chosen_meets : (a b : Expression) → fits_choice a b ≡ true → both_integral a b ≡ false → (is_pointer (type_in a) || is_pointer (type_in b)) ≡ true → pointers_meet a b ≡ true
+chosen_meets a b fits e f =
+    last_of_four (both_integral a b) (same_record (type_in a) (type_in b)) (is_void (type_in a) && is_void (type_in b)) (pointers_meet a b) fits e (no_record (type_in a) (type_in b) f) (no_void (type_in a) (type_in b) f)
+
+neither : (x y : Bool) → (x || y) ≡ false → x ≡ false
+neither false y e = refl
+neither true y e = e
+
+choice_null : (a b : Expression) → fits_choice a b ≡ true → IsNullTo (choice_type a b) a × IsNullTo (choice_type a b) b
+choice_null a b fits = by (both_integral a b) refl (is_pointer (type_in a) || is_pointer (type_in b)) refl
+  where
+    chosen : Bool → Bool → CType
+    chosen x y = if x then common_type a b else if y then chosen_pointer a b else type_in a
+
+    by : (x : Bool) → both_integral a b ≡ x → (y : Bool) → (is_pointer (type_in a) || is_pointer (type_in b)) ≡ y → IsNullTo (chosen x y) a × IsNullTo (chosen x y) b
+    by true e y f = (to_number (common_type a b) a refl, to_number (common_type a b) b refl)
+    by false e true f = let m = chosen_meets a b fits e f in (left_null (chosen_pointer a b) a b m, right_null (chosen_pointer a b) a b m)
+    by false e false f = let p = neither (is_pointer (type_in a)) (is_pointer (type_in b)) f in (to_number (type_in a) a p, to_number (type_in a) b p)
+
 pub choice_keeps : (r : List RecordValue) (t : ℕ) (c a b : Expression) → fits_choice a b ≡ true → Keeps r c → Keeps r a → Keeps r b
     → Keeps r (Node t (plain (choice_type a b)) (T.Cond c (cast_to (choice_type a b) a) (cast_to (choice_type a b) b)))
 choice_keeps r t c a b fits g h i =
     let k = choice_kept r a b fits h.kept i.kept in
+    let z = choice_null a b fits in
     node_keeps r t (plain (choice_type a b)) (T.Cond c (cast_to (choice_type a b) a) (cast_to (choice_type a b) b)) k
-    (g.small, (cast_keeps r (choice_type a b) a k h).small, (cast_keeps r (choice_type a b) b k i).small) tt
+    (g.small, (cast_keeps r (choice_type a b) a k z.0 h).small, (cast_keeps r (choice_type a b) b k z.1 i).small) tt
 
 -- ---- assignments
 
-pub assign_keeps : (r : List RecordValue) (t : ℕ) (a b : Expression) → Keeps r a → Keeps r b → Keeps r (Node t (unqualified (type_at a)) (T.Assign a (cast_to (type_in a) b)))
-assign_keeps r t a b h i = node_keeps r t (unqualified (type_at a)) (T.Assign a (cast_to (type_in a) b)) h.kept (h.small, (cast_keeps r (type_in a) b h.kept i).small) tt
+pub assign_keeps : (r : List RecordValue) (t : ℕ) (a b : Expression) → is_assignable (type_in a) b ≡ true → Keeps r a → Keeps r b → Keeps r (Node t (unqualified (type_at a)) (T.Assign a (cast_to (type_in a) b)))
+assign_keeps r t a b fits h i = node_keeps r t (unqualified (type_at a)) (T.Assign a (cast_to (type_in a) b)) h.kept (h.small, (cast_keeps r (type_in a) b h.kept (assigned_null (type_in a) b fits) i).small) tt
 
 pub compound_keeps : (r : List RecordValue) (t : ℕ) (op : BinaryOperator) (a b : Expression) → Keeps r a → Keeps r b → Keeps r (compound_node t op a b)
 compound_keeps r t op a b h i = by op
@@ -261,7 +300,7 @@ compound_keeps r t op a b h i = by op
     tested op true = node_keeps r t (unqualified (type_at a)) (T.Compound op (type_in a) a b) h.kept (h.small, i.small, h.kept.sized) tt
     tested op false =
         node_keeps r t (unqualified (type_at a)) (T.Compound op (common_type a b) a (cast_to (common_type a b) b)) h.kept
-        (h.small, (cast_keeps r (common_type a b) b (common_kept r a b) i).small, (common_kept r a b).sized) tt
+        (h.small, (common_keeps r a b b i).small, (common_kept r a b).sized) tt
 
     by : (op : BinaryOperator) → Keeps r (compound_node t op a b)
     by O.LeftShift = shifted B.ShiftLeft
@@ -294,13 +333,13 @@ none_first : (a b : Option ℕ) → Rattle.std.specs.Option.option_or a b ≡ No
 none_first None b e = (refl, e)
 none_first (Some n) b e = Rattle.pw_law_checked.proofs.Lists.never_some (sym e)
 
-arguments_small : (r : List RecordValue) (ps : QTypes) (es : List Expression) → first_oversize r ps ≡ None → AllKeep r es → AreBounded r (arguments_cast ps es)
-arguments_small r NoType [] h all = tt
-arguments_small r NoType (e ∷ es) h all = (all.0.small, arguments_small r NoType es h all.1)
-arguments_small r (OneType q ps) [] h all = tt
-arguments_small r (OneType (Qualified ty c v) ps) (e ∷ es) h all =
+arguments_small : (r : List RecordValue) (ps : QTypes) (es : List Expression) → first_oversize r ps ≡ None → arguments_fit ps es ≡ true → AllKeep r es → AreBounded r (arguments_cast ps es)
+arguments_small r NoType [] h fits all = tt
+arguments_small r NoType (e ∷ es) h fits all = (all.0.small, arguments_small r NoType es h refl all.1)
+arguments_small r (OneType q ps) [] h fits all = tt
+arguments_small r (OneType (Qualified ty c v) ps) (e ∷ es) h fits all =
     let x = none_first (oversize_of r ty) (first_oversize r ps) h in
-    (cast_small r ty e x.0 all.0.small, arguments_small r ps es x.1 all.1)
+    (cast_small r ty e x.0 (assigned_null ty e (left (is_assignable ty e) (arguments_fit ps es) fits)) all.0.small, arguments_small r ps es x.1 (right (is_assignable ty e) (arguments_fit ps es) fits) all.1)
 
 count_arguments : (ps : QTypes) (es : List Expression) → count_of (arguments_cast ps es) ≡ length es
 count_arguments NoType [] = refl
@@ -314,16 +353,18 @@ few_arguments r e ps es k same =
     let few : count_of_types (parameters_of (callee_type e)) ≤ parameter_limit = (kept_callee r (callee_type e) (kept_pointee r (type_in e) k)).few in
     subst (λ n. n ≤ parameter_limit) (eqb-true (count_of_types (parameters_of (callee_type e))) (length es) same ∙ sym (count_arguments ps es)) few
 
-value_call : (r : List RecordValue) (t : ℕ) (e : Expression) (es : List Expression) → (count_of_types (parameters_of (callee_type e)) == length es) ≡ true → Keeps r e → AllKeep r es
+value_call : (r : List RecordValue) (t : ℕ) (e : Expression) (es : List Expression) → (count_of_types (parameters_of (callee_type e)) == length es) ≡ true → arguments_fit (parameters_of (callee_type e)) es ≡ true → Keeps r e → AllKeep r es
     → Keeps r (Node t (unqualified (result_of (callee_type e))) (T.CallValue e (arguments_cast (parameters_of (callee_type e)) es)))
-value_call r t e es same h all =
+value_call r t e es same fits h all =
     let c = kept_callee r (callee_type e) (kept_pointee r (type_in e) h.kept) in
     node_keeps r t (unqualified (result_of (callee_type e))) (T.CallValue e (arguments_cast (parameters_of (callee_type e)) es)) c.result
-    (few_arguments r e (parameters_of (callee_type e)) es h.kept same, h.small, arguments_small r (parameters_of (callee_type e)) es c.params all) tt
+    (few_arguments r e (parameters_of (callee_type e)) es h.kept same, h.small, arguments_small r (parameters_of (callee_type e)) es c.params fits all) tt
 
-pub call_keeps : (r : List RecordValue) (t : ℕ) (e : Expression) (es : List Expression) → (count_of_types (parameters_of (callee_type e)) == length es) ≡ true → Keeps r e → AllKeep r es → Keeps r (call_node t e es)
-call_keeps r t (Node u q (T.Decay (Node w p (T.Function symbol)))) es same h all =
-    let c = kept_callee r (type_of p) h.inner in
+pub call_keeps : (r : List RecordValue) (t : ℕ) (e : Expression) (es : List Expression) → (count_of_types (parameters_of (callee_type e)) == length es) ≡ true
+    → arguments_fit (parameters_of (callee_type e)) es ≡ true → Keeps r e → AllKeep r es → Keeps r (call_node t e es)
+call_keeps r t (Node u q (T.Decay (Node w p (T.Function symbol)))) es same fits h all =
+    let c = kept_callee r (type_of p) h.inner.0 in
+    let of_name : arguments_fit (parameters_of (type_of p)) es ≡ true = subst (λ ty. arguments_fit (parameters_of (type_of (pointee ty))) es ≡ true) (h.inner.1 refl) fits in
     node_keeps r t (unqualified (result_of (type_of p))) (T.Call symbol (arguments_cast (parameters_of (type_of p)) es)) c.result
-    (few_arguments r (Node u q (T.Decay (Node w p (T.Function symbol)))) (parameters_of (type_of p)) es h.kept same, arguments_small r (parameters_of (type_of p)) es c.params all) tt
-call_keeps r t e es same h all = value_call r t e es same h all
+    (few_arguments r (Node u q (T.Decay (Node w p (T.Function symbol)))) (parameters_of (type_of p)) es h.kept same, arguments_small r (parameters_of (type_of p)) es c.params of_name all) tt
+call_keeps r t e es same fits h all = value_call r t e es same fits h all

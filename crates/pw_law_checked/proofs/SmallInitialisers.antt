@@ -20,6 +20,7 @@ use Rattle.pw_law_checked.proofs.Lists.{some_same, never_some}
 use Rattle.pw_law_checked.proofs.Types.{no}
 use Rattle.pw_law_checked.proofs.States.{Grows}
 use Rattle.pw_law_checked.proofs.Sizes.{IsKeptFrom, kept_from}
+use Rattle.pw_law_checked.proofs.NullCasts.{assigned_null}
 use Rattle.pw_law_checked.proofs.Small.{Keeps, AllKeep, cast_keeps}
 use Rattle.pw_law_checked.proofs.SmallLeaves.{IsReady, KeptValue, AreKeptValues}
 use Rattle.pw_law_checked.proofs.Spelled.{AreShort, separated_rest, expr_rest, init_rest}
@@ -152,7 +153,7 @@ all_more r (y ∷ xs) x h k = (h.0, all_more r xs x h.1 k)
 value_parts : (cx : Context) (first : ℕ) (t : Target) (e : Expression) (filled : Filled) (s : State) → IsKeptFrom s.types.records (type_of t.ty) → KeptValue s e → AreKeptValues s filled.parts
     → Post (value_filled cx first t e filled s) (λ r. (r.1 ≡ s) × AreKeptValues s r.0.parts)
 unfolding value_filled bind
-value_parts cx first t e filled s k v h = λ met. (refl, λ r c. all_more r filled.parts (cast_to (type_of t.ty) e) (h r c) (cast_keeps r (type_of t.ty) e (k r c.0 c.1) (v r c)))
+value_parts cx first t e filled s k v h = λ met. (refl, λ r c. all_more r filled.parts (cast_to (type_of t.ty) e) (h r c) (cast_keeps r (type_of t.ty) e (k r c.0 c.1) (assigned_null (type_of t.ty) e (truth _ met.1.0)) (v r c)))
 
 abbrev ScalarRead : (Cursor × Filled) × State → Type 0
 ScalarRead r = IsReady r.1 × (AtScalar r.1.types.records r.0.0 × AreKeptValues r.1 r.0.1.parts)

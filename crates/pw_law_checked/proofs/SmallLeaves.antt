@@ -36,6 +36,7 @@ use Rattle.pw_law_checked.proofs.Lists.{some_same, never_some, and_then_some, ge
 use Rattle.pw_law_checked.proofs.Types.{no, right, extends_trans, extends_same}
 use Rattle.pw_law_checked.proofs.States.{Grows}
 use Rattle.pw_law_checked.proofs.Sizes.{IsKept, IsKeptFrom, kept_int, kept_qualify, kept_string, sized_word}
+use Rattle.pw_law_checked.proofs.NullCasts.{cast_null}
 use Rattle.pw_law_checked.proofs.Small.{Keeps, AllKeep, node_keeps, int_keeps, value_keeps, unary_keeps, deref_keeps, address_keeps, sum_keeps, binary_keeps, choice_keeps, assign_keeps, compound_keeps, call_keeps}
 
 -- ---- states
@@ -131,12 +132,12 @@ from_value s a next P h k = λ met. k (value_of a) (λ r c. value_keeps r a (h r
 -- ---- primary expressions
 
 linked_kept : (s : State) (t place : ℕ) (q : QType) → IsKeptFrom s.types.records (type_of q) → KeptOperand s (linked_operand s t place q)
-linked_kept s t place q h = λ r c. by r (h r c.0 c.1) (is_function (type_of q))
+linked_kept s t place q h = λ r c. by r (h r c.0 c.1) (is_function (type_of q)) refl
   where
-    by : (r : List RecordValue) → IsKept r (type_of q) → (b : Bool) → Keeps r (if b then Rattle.pw_check_rules.specs.Operands.value_operand (Node t q (T.Function (Rattle.pw_check_rules.specs.Linkage.symbol_at s place)))
+    by : (r : List RecordValue) → IsKept r (type_of q) → (b : Bool) → is_function (type_of q) ≡ b → Keeps r (if b then Rattle.pw_check_rules.specs.Operands.value_operand (Node t q (T.Function (Rattle.pw_check_rules.specs.Linkage.symbol_at s place)))
         else Rattle.pw_check_rules.specs.Leaves.lvalue_operand false (Node t q (T.Global (Rattle.pw_check_rules.specs.Linkage.symbol_at s place)))).node
-    by r k true = node_keeps r t q (T.Function (Rattle.pw_check_rules.specs.Linkage.symbol_at s place)) k tt tt
-    by r k false = node_keeps r t q (T.Global (Rattle.pw_check_rules.specs.Linkage.symbol_at s place)) k tt tt
+    by r k true e = node_keeps r t q (T.Function (Rattle.pw_check_rules.specs.Linkage.symbol_at s place)) k tt e
+    by r k false e = node_keeps r t q (T.Global (Rattle.pw_check_rules.specs.Linkage.symbol_at s place)) k tt tt
 
 entity_kept : (s : State) (t : ℕ) (x : Entity) (a : Operand) → IsKeptEntity s.types.records x → entity_operand s t x ≡ Some a → KeptOperand s a
 entity_kept s t (TypeName q) a h e = never_some e
@@ -246,7 +247,7 @@ size_leaf t a s laid h = λ met.
 
 pub cast_leaf : (t : ℕ) (q : QType) (e : Expression) (s : State) → IsKeptFrom s.types.records (type_of q) → KeptValue s e → Post (cast_rule t q e s) (Leaf s)
 unfolding cast_rule bind
-cast_leaf t q e s k h = λ met. (refl, λ r c. node_keeps r t (unqualified q) (T.Cast e) (k r c.0 c.1) (h r c).small tt)
+cast_leaf t q e s k h = λ met. (refl, λ r c. node_keeps r t (unqualified q) (T.Cast e) (k r c.0 c.1) (h r c).small (cast_null (type_of q) e (truth _ met.1.0)))
 
 binary_leaf : (t : ℕ) (op : BinaryOperator) (a b : Expression) (s : State) → KeptValue s a → KeptValue s b → Post (binary_rule t op a b s) (Leaf s)
 unfolding binary_rule bind
@@ -284,7 +285,7 @@ conditional_leaf t x a b s g h k = λ met. (refl, λ r c. choice_keeps r t x a b
 
 assign_leaf : (t : ℕ) (a : Operand) (b : Expression) (s : State) → KeptOperand s a → KeptValue s b → Post (assign_rule t a b s) (Leaf s)
 unfolding assign_rule bind
-assign_leaf t a b s h k = λ met. (refl, λ r c. assign_keeps r t a.node b (h r c) (k r c))
+assign_leaf t a b s h k = λ met. (refl, λ r c. assign_keeps r t a.node b (truth _ met.1.0) (h r c) (k r c))
 
 compound_leaf : (t : ℕ) (op : BinaryOperator) (a : Operand) (b : Expression) (s : State) → KeptOperand s a → KeptValue s b → Post (compound_rule t op a b s) (Leaf s)
 unfolding compound_rule bind
@@ -310,7 +311,7 @@ index_leaf t a b s h k = λ met. (refl, λ r c. deref_keeps r t (sum_node t _ a 
 
 pub call_leaf : (t : ℕ) (e : Expression) (es : List Expression) (s : State) → KeptValue s e → AreKeptValues s es → Post (call_rule t e es s) (Leaf s)
 unfolding call_rule bind
-call_leaf t e es s h k = λ met. (refl, λ r c. call_keeps r t e es (truth _ met.1.0) (h r c) (k r c))
+call_leaf t e es s h k = λ met. (refl, λ r c. call_keeps r t e es (truth _ met.1.0) (truth _ met.1.1.0) (h r c) (k r c))
 
 find_zip : (p : MemberValue × ℕ → Bool) (ms : List MemberValue) (os : List ℕ) (x : MemberValue × ℕ) → find p (zip ms os) ≡ Some x → (i : ℕ) × (slice_get ms i ≡ Some x.0)
 find_zip p [] os x e = never_some e

@@ -291,11 +291,14 @@ kept_module tree m short h = post_end (checking tree) m IsKeptModule h (checking
 of_bodies : (P Q : Statement → Type 0) (fs : List FunctionValue) → ((s : Statement) → P s → Q s) → All (λ f. P f.body) fs → All (λ f. Q f.body) fs
 of_bodies P Q fs step h = λ k d below. step _ (h k d below)
 
+pub module_bounded : (tree : Module) (m : ModuleValue) → HasShortStrings tree → Checks tree (Ok m) → All (λ f. IsBoundedStatement m.records f.body) m.functions
+module_bounded tree m short h = (kept_module tree m short h).bodies
+
 pub module_small : (tree : Module) (m : ModuleValue) → HasShortStrings tree → Checks tree (Ok m) → All (λ f. KeepsLimits m.records f.body) m.functions
-module_small tree m short h = of_bodies (IsBoundedStatement m.records) (KeepsLimits m.records) m.functions (statement_limits m.records) (kept_module tree m short h).bodies
+module_small tree m short h = of_bodies (IsBoundedStatement m.records) (KeepsLimits m.records) m.functions (statement_limits m.records) (module_bounded tree m short h)
 
 pub module_words : (tree : Module) (m : ModuleValue) → HasShortStrings tree → Checks tree (Ok m) → All (λ f. WordsInStatement f.body) m.functions
-module_words tree m short h = of_bodies (IsBoundedStatement m.records) WordsInStatement m.functions (statement_words m.records) (kept_module tree m short h).bodies
+module_words tree m short h = of_bodies (IsBoundedStatement m.records) WordsInStatement m.functions (statement_words m.records) (module_bounded tree m short h)
 
 pub module_strings : (tree : Module) (m : ModuleValue) → HasShortStrings tree → Checks tree (Ok m) → AreShortStrings m
 module_strings tree m short h = (kept_module tree m short h).strings

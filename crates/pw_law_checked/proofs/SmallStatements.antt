@@ -13,7 +13,7 @@ use Rattle.pw_check_rules.specs.Declarations.{decls_rule}
 use Rattle.pw_check_rules.specs.Operators.{value_rule}
 use Rattle.pw_check_rules.specs.States.{State, Rule, BodyState, SwitchState, scoped, one_deeper, leave_scope}
 use Rattle.pw_check_rules.specs.Statements.{Behind, new_label, case_rule, inside_switch, default_rule, name_label_rule, label_rule, labels_rule, whole_rule, optional_rule, condition_rule, optional_condition, switch_rule, in_switch, in_loop, goto_rule, continue_rule, break_rule, return_rule, stmt_rule, alternative_rule, block_rule, stmts_rule}
-use Rattle.pw_law_checked.proofs.Walking.{Post, post_bind, post_weaken, post_both}
+use Rattle.pw_law_checked.proofs.Walking.{Post, post_bind, post_weaken, post_both, truth}
 use Rattle.pw_law_checked.proofs.Lists.{get_filter}
 use Rattle.pw_law_checked.proofs.Types.{extends_same}
 use Rattle.pw_law_checked.proofs.States.{Grows}
@@ -21,6 +21,7 @@ use Rattle.pw_law_checked.proofs.Changes.{deeper_lawful, left_lawful_alone, left
 use Rattle.pw_law_checked.proofs.Adding.{Declaring, decls_declare}
 use Rattle.pw_law_checked.proofs.LabelLaws.{asked_post}
 use Rattle.pw_law_checked.proofs.Sizes.{IsKeptFrom, kept_from}
+use Rattle.pw_law_checked.proofs.NullCasts.{assigned_null}
 use Rattle.pw_law_checked.proofs.Small.{cast_keeps, value_keeps, promote_keeps}
 use Rattle.pw_check_rules.specs.declared.names.Entry.{Entry}
 use Rattle.pw_law_checked.proofs.Sound.{Sound}
@@ -153,7 +154,7 @@ unfolding return_rule bind
 return_goes t None z sh s h = ((h, onward_same s), λ r c. tt)
 return_goes t (Some e) z sh s h =
     then_goes s (whole_rule e s) _ KeptValue SmallStatement (whole_goes e z sh s h) (λ r k o v met.
-    ((k, onward_same r.1), λ x c. (cast_keeps x (type_of r.1.body.result) r.0 (k.1.0 x c.0 c.1) (v x c)).small))
+    ((k, onward_same r.1), λ x c. (cast_keeps x (type_of r.1.body.result) r.0 (k.1.0 x c.0 c.1) (assigned_null (type_of r.1.body.result) r.0 (truth _ met.1.0)) (v x c)).small))
 
 scoped_goes : (inside : Rule Statement) (s : State) → IsSet s → ((t : State) → IsSet t → Post (inside t) (Goes t SmallStatement)) → Post (scoped inside s) (Goes s SmallStatement)
 unfolding scoped bind

@@ -1,8 +1,11 @@
 -- What each expression that the rules make keeps, besides being well typed: its types keep the limit on sizes, its calls that on
--- arguments, and its numbers are words of 32 bits.
-use Rattle.std.specs.Prelude.{◌<◌, ◌≤◌, ◌^◌, Option, List}
+-- arguments, its numbers are words of 32 bits, and a number that it converts to a pointer is the constant 0.
+use Rattle.std.specs.Prelude.{◌≡◌, ◌<◌, ◌≤◌, ◌^◌, true, Option, List}
 use Rattle.pw_value.specs.Limits.{parameter_limit}
-use Rattle.pw_types.specs.TypeTrees.{type_of, RecordValue}
+use Rattle.pw_types.specs.TypeTrees.{CType, type_of, RecordValue}
+use Rattle.pw_types.specs.Kinds.{is_integral, is_pointer}
+use Rattle.pw_types.specs.WellTyped.{type_in}
+use Rattle.pw_check_rules.specs.Constants.{is_zero_constant}
 use Rattle.pw_types.specs.TypedTrees.{Expression, Node, Form, Expressions, NoExpression, OneExpression, Initialiser, Statement, Statements, Arms, Otherwise}
 use Rattle.pw_types.specs.TypedTrees as T
 use Rattle.pw_law_lower.specs.Within.{IsSized, count_of}
@@ -11,9 +14,17 @@ use Rattle.pw_law_lower_walk.specs.Folds.{InStatement, InStatements, InArms, InO
 
 -- ---- expressions
 
+-- of the numbers only the constant 0 becomes a pointer (6.3.4)
+abbrev pub IsNullTo : CType → Expression → Type 0
+IsNullTo to e = is_pointer to ≡ true → is_integral (type_in e) ≡ true → is_zero_constant e ≡ true
+
+abbrev pub IsNullCast : Form → CType → Type 0
+IsNullCast (T.Cast e) to = IsNullTo to e
+IsNullCast _ to = Unit {0}
+
 abbrev mutual
   pub IsBounded : List RecordValue → Expression → Type 0
-  IsBounded records (Node t y form) = IsSized records (type_of y) × HasBounded records form
+  IsBounded records (Node t y form) = IsSized records (type_of y) × IsNullCast form (type_of y) × HasBounded records form
 
   pub HasBounded : List RecordValue → Form → Type 0
   HasBounded records (T.Number n) = n < 2 ^ 32

@@ -11,7 +11,8 @@ pub use designators::{
     accepted_functions_are_no_objects, accepted_names_of_objects_are_no_functions,
 };
 pub use limits::{
-    accepted_bodies_keep_limits, accepted_functions_keep_limits, accepted_initialisers_have_parts,
+    accepted_bodies_are_bounded, accepted_bodies_keep_limits, accepted_functions_keep_limits,
+    accepted_initialisers_have_parts,
     accepted_is_within, accepted_items_are_not_empty, accepted_locals_are_copied,
     accepted_names_are_identifiers, accepted_records_are_within, accepted_strings_are_short,
     strings_of_texts,

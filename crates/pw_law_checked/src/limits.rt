@@ -16,6 +16,7 @@ ghost use Rattle.pw_types.specs.TypeTrees.{type_of};
 ghost use Rattle.pw_types.specs.TypedModules.{item_size};
 ghost use Rattle.pw_types.specs.TypedTrees.{ModuleValue};
 ghost use Rattle.pw_value.specs.Limits.{parameter_limit, room_limit};
+ghost use Rattle.pw_law_checked.specs.Bounded.{IsBoundedStatement};
 ghost use Rattle.pw_law_checked.specs.Words.{AreShortStrings};
 ghost use Rattle.pw_law_checked.specs.Names.{AreNumbered, HasShortStrings};
 
@@ -81,6 +82,13 @@ pub fn accepted_strings_are_short()
 /// (ISO C90 5.2.4.1), if no string literal is longer than an object can be.
 pub fn accepted_bodies_keep_limits()
     ensures { (tree : Module) (m : ModuleValue) → HasShortStrings tree → Checks tree (Ok m) → All (λ f. KeepsLimits m.records f.body) m.functions }
+{}
+
+/// Each function of a module that checking accepts keeps all that `IsBoundedStatement` says of a body, with the same premise: the limits
+/// on sizes and arguments, numbers of 32 bits, and that a number which is converted to a pointer, by a cast or without one, is the
+/// constant 0 (`IsNullTo`; ISO C90 6.2.2.3, 6.3.4).
+pub fn accepted_bodies_are_bounded()
+    ensures { (tree : Module) (m : ModuleValue) → HasShortStrings tree → Checks tree (Ok m) → All (λ f. IsBoundedStatement m.records f.body) m.functions }
 {}
 
 /// A module that checking accepts is within the limits for which its flow graph is lawful (`IsWithin`). Four premises: the syntax
