@@ -2,6 +2,8 @@
 use Rattle.std.specs.Prelude.{ℕ, ◌≡◌, ◌<◌, None, List}
 use Rattle.std.specs.List.{AllByRecursion}
 use Rattle.pw_flow.specs.FlowGraph.{op_names}
+use Rattle.pw_flow.specs.declared.flow.Op.{Op}
+use Rattle.pw_flow.specs.declared.flow.Op.TheVariants.{Call}
 use Rattle.pw_db.specs.declared.database.Web.{Web}
 use Rattle.pw_db.specs.declared.database.Role.{Role}
 use Rattle.pw_inst.specs.Limits.{routine_count}
@@ -40,35 +42,40 @@ IsAddressed Known (symbol.Named name) = Known name
 IsAddressed Known symbol.StackLimit = Unit {0}
 IsAddressed Known s = ⊥
 
--- A line between two labels. A word by itself is no branch to a function, a word with a relocation takes the address; a
--- function with a known name is called by register 2, a routine that there is by register 31.
-abbrev pub IsRow : (List ℕ → Type 0) → Line → Type 0
-IsRow Known (line.Plain x) = IsSent x None
-IsRow Known (line.Fixed x k s n) = TakesAddress k x × IsAddressed Known s
-IsRow Known (line.CallTo (symbol.Named f) r) = (r ≡ return_address) × Known f
-IsRow Known (line.CallTo (symbol.Routine k) r) = (r ≡ routine_link) × (k < routine_count)
-IsRow Known (line.CallTo s r) = ⊥
-IsRow Known (line.Label b) = ⊥
-IsRow Known l = Unit {0}
+-- A line between two labels. A word by itself is no branch to a function, a word with a relocation takes the address of a
+-- known name; a function whose name is one to call is called by register 2, a routine that there is by register 31.
+abbrev pub IsRow : (List ℕ → Type 0) → (List ℕ → Type 0) → Line → Type 0
+IsRow Known Called (line.Plain x) = IsSent x None
+IsRow Known Called (line.Fixed x k s n) = TakesAddress k x × IsAddressed Known s
+IsRow Known Called (line.CallTo (symbol.Named f) r) = (r ≡ return_address) × Called f
+IsRow Known Called (line.CallTo (symbol.Routine k) r) = (r ≡ routine_link) × (k < routine_count)
+IsRow Known Called (line.CallTo s r) = ⊥
+IsRow Known Called (line.Label b) = ⊥
+IsRow Known Called l = Unit {0}
 
 -- a line of a function's code
-abbrev pub IsSelected : (List ℕ → Type 0) → Line → Type 0
-IsSelected Known (line.Label b) = Unit {0}
-IsSelected Known l = IsRow Known l
+abbrev pub IsSelected : (List ℕ → Type 0) → (List ℕ → Type 0) → Line → Type 0
+IsSelected Known Called (line.Label b) = Unit {0}
+IsSelected Known Called l = IsRow Known Called l
 
 -- ---- names in a function
 
-abbrev pub KnowsOp : (List ℕ → Type 0) → WebOp → Type 0
-KnowsOp Known (Flow o) = AllByRecursion Known (op_names o)
-KnowsOp Known o = Unit {0}
+-- a call names what is called; the other operations name what has an address
+abbrev pub KnowsFlow : (List ℕ → Type 0) → (List ℕ → Type 0) → Op → Type 0
+KnowsFlow Known Called (Call t f args) = Called f
+KnowsFlow Known Called o = AllByRecursion Known (op_names o)
 
-abbrev pub KnowsBlock : (List ℕ → Type 0) → WebBlock → Type 0
-KnowsBlock Known b = AllByRecursion (KnowsOp Known) b.ops
+abbrev pub KnowsOp : (List ℕ → Type 0) → (List ℕ → Type 0) → WebOp → Type 0
+KnowsOp Known Called (Flow o) = KnowsFlow Known Called o
+KnowsOp Known Called o = Unit {0}
+
+abbrev pub KnowsBlock : (List ℕ → Type 0) → (List ℕ → Type 0) → WebBlock → Type 0
+KnowsBlock Known Called b = AllByRecursion (KnowsOp Known Called) b.ops
 
 abbrev pub KnowsWeb : (List ℕ → Type 0) → Web × Role → Type 0
 KnowsWeb Known w = Known w.0.global
 
 -- the names in operations, and those of the globals whose webs the function's directives name
-pub record Knows (Known : List ℕ → Type 0) (f : Located) : Type 0 where
-  pub blocks : AllByRecursion (KnowsBlock Known) f.body.blocks
+pub record Knows (Known Called : List ℕ → Type 0) (f : Located) : Type 0 where
+  pub blocks : AllByRecursion (KnowsBlock Known Called) f.body.blocks
   pub webs : AllByRecursion (KnowsWeb Known) f.body.directives.webs

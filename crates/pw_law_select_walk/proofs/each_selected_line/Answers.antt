@@ -3,4 +3,4 @@ use Rattle.pw_law_select_walk.proofs.EachLine.{selected_lines}
 use Rattle.pw_law_select_walk.proofs.each_selected_line.Goals as goal
 
 pub returns : goal.returns
-returns c = λ names. selected_lines (Contains names)
+returns c = λ names callees. selected_lines (Contains names) (Contains callees)
