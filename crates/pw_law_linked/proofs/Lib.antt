@@ -17,3 +17,6 @@ pub mod Words
 pub mod Spans
 pub mod Ready
 pub mod InPlace
+pub mod Fixes
+pub mod Callees
+pub mod KnownFixes
