@@ -1,7 +1,7 @@
 -- The words with which a selected function begins: the end of the frame in register 1, the check, the store of the return
 -- address, which bounds the stack, and then the stack pointer.
-use Rattle.std.specs.Prelude.{ℕ, ℤ, pos, neg_ℤ, nat_lt, nat_le, ◌≡◌, ◌+◌, ◌-◌, ◌*◌, ◌/◌, ◌%◌, ◌<◌, ◌≤◌, ◌^◌, ◌==◌, ◌&&◌, bit_or, Bool, true, false, if◌then◌else◌, Option, Some, None, List, [], ◌∷◌, ◌++◌}
-use Rattle.std.specs.Int.{w32, cast_signed, cast_unsigned}
+use Rattle.std.specs.Prelude.{ℕ, pos, neg_ℤ, nat_lt, nat_le, ◌≡◌, ◌+◌, ◌-◌, ◌*◌, ◌/◌, ◌%◌, ◌<◌, ◌≤◌, ◌^◌, ◌==◌, ◌&&◌, bit_or, Bool, true, false, if◌then◌else◌, Option, Some, None, List, [], ◌∷◌, ◌++◌}
+use Rattle.std.specs.Int.{w32, cast_signed}
 use Rattle.std.specs.Int.Bits.{or_zero_r}
 use Rattle.std.proofs.Common.{arith, subst, sym, ap, refl, ◌∙◌}
 use Rattle.std.proofs.lemmas.Int.{ints, of_z-to_z}
@@ -12,7 +12,7 @@ use Rattle.pw_inst.specs.declared.Inst.TheVariants as i
 use Rattle.pw_inst.specs.Limits.{near_limit}
 use Rattle.pw_inst.specs.Computing.{condition, offset_by}
 use Rattle.pw_inst.specs.declared.line.Line.{Line}
-use Rattle.pw_inst.specs.declared.line.Line.TheVariants.{Plain, Fixed}
+use Rattle.pw_inst.specs.declared.line.Line.TheVariants.{Plain}
 use Rattle.pw_inst.specs.declared.relocation.FixKind.TheVariants as kind
 use Rattle.pw_inst.specs.declared.relocation.Symbol.TheVariants.{StackLimit}
 use Rattle.pw_select_lines.specs.Registers.{word, is_near, long_constant}
@@ -20,7 +20,7 @@ use Rattle.pw_select.specs.Selection.{entry_lines}
 use Rattle.pw_delay.specs.declared.items.Word.{Word}
 use Rattle.pw_delay.specs.Items.{bare, slotted}
 use Rattle.pw_run_languages.specs.Acts as lines
-use Rattle.pw_run_languages.specs.Acts.{Acts, Full, Fails, acts, act_of, action_of, is_open, with_number, with_register, settled}
+use Rattle.pw_run_languages.specs.Acts.{Acts, acts, act_of, action_of, is_open, with_number, with_register, settled}
 use Rattle.pw_run_languages.specs.LineRun.{LineFn}
 use Rattle.pw_law_link_run.specs.Steps.{Setting}
 use Rattle.pw_law_link_run.specs.Leveled.{IsStack, IsRaised, Level, HelpIs, HoldsAt}

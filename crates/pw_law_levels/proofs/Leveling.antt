@@ -1,5 +1,5 @@
 -- A function whose items keep the stack pointer is leveled.
-use Rattle.std.specs.Prelude.{ℕ, zero, suc, ◌≡◌, ◌≢◌, ◌+◌, ◌-◌, ◌*◌, ◌<◌, ◌≤◌, ◌⊎◌, ◌^◌, nat_le, Bool, true, false, if◌then◌else◌, Option, Some, None, List, [], ◌∷◌, ◌++◌, length, take}
+use Rattle.std.specs.Prelude.{ℕ, zero, suc, ◌≡◌, ◌≢◌, ◌+◌, ◌-◌, ◌<◌, ◌≤◌, ◌⊎◌, ◌^◌, nat_le, Bool, true, false, if◌then◌else◌, Option, Some, None, List, [], ◌∷◌, ◌++◌, length, take}
 use Rattle.std.specs.List.{list_all}
 use Rattle.std.proofs.Common.{arith, subst, sym, ap, refl, ◌∙◌, inl, inr, length-append}
 use Rattle.std.proofs.lemmas.Bool.{le-leb, lt-leb, cases_lt}
@@ -12,13 +12,13 @@ use Rattle.pw_delay.specs.declared.items.Item.TheVariants.{Plain, Turns, Mark}
 use Rattle.pw_delay.specs.Placement.{size}
 use Rattle.pw_run_languages.specs.Acts as lines
 use Rattle.pw_run_languages.specs.Acts.{Acts, acts, settled}
-use Rattle.pw_run_languages.specs.LineRun.{LineFn, is_plain, back_over, IsCalling}
+use Rattle.pw_run_languages.specs.LineRun.{LineFn, is_plain, back_over}
 use Rattle.pw_law_link_run.specs.Steps.{Setting}
 use Rattle.pw_law_link_run.specs.Placing.{name_in, words_of, Parts}
 use Rattle.pw_law_link_run.specs.Meeting.{IsTurning}
 use Rattle.pw_law_link_run.specs.Leveled.{IsRaised, Level, HoldsAt, IsCold, IsApart, IsLeveled}
 use Rattle.pw_law_levels.specs.Bodies.{Leads, Raises, first_level, LeavesPointer, StartsLeave, Keeps, BlockFirst, IsPointed}
-use Rattle.pw_law_levels.proofs.Splits.{Behind, behind, Within, within, LoopsOver, loops_over}
+use Rattle.pw_law_levels.proofs.Splits.{Behind, behind, Within, within, loops_over}
 use Rattle.pw_law_levels.proofs.Cold.{more, joined, cold_behind, AreWords, cold_first}
 
 -- ---- levels

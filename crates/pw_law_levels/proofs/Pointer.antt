@@ -1,5 +1,5 @@
 -- Words that put nothing into register 30 leave it.
-use Rattle.std.specs.Prelude.{ℕ, pos, ◌≡◌, ◌≢◌, ◌+◌, ◌%◌, ◌^◌, ◌==◌, ◌&&◌, Bool, true, false, if◌then◌else◌, Option, Some, None, List, [], ◌∷◌}
+use Rattle.std.specs.Prelude.{ℕ, pos, ◌≡◌, ◌+◌, ◌%◌, ◌^◌, ◌==◌, ◌&&◌, Bool, true, false, if◌then◌else◌, Option, Some, None}
 use Rattle.std.specs.List.{AllByRecursion}
 use Rattle.std.proofs.Common.{subst, sym, ap, refl, ◌∙◌}
 use Rattle.std.proofs.lemmas.Bool.{eqb-false, ne_eqb}
@@ -10,10 +10,9 @@ use Rattle.pw_inst.specs.Setting.{left_part, right_part}
 use Rattle.pw_inst.specs.declared.relocation.FixKind.{FixKind}
 use Rattle.pw_inst.specs.declared.relocation.FixKind.TheVariants as kind
 use Rattle.pw_delay.specs.declared.items.Relocation.{Relocation}
-use Rattle.pw_delay.specs.declared.items.Word.{Word}
 use Rattle.pw_run_languages.specs.Addresses.{Addresses}
 use Rattle.pw_run_languages.specs.Acts as lines
-use Rattle.pw_run_languages.specs.Acts.{Act, Acts, Full, Fails, acts, act_of, action_of, is_open, number_at, with_number, put, with_register, with_address, settled, symbol_address}
+use Rattle.pw_run_languages.specs.Acts.{Acts, Full, Fails, acts, act_of, action_of, is_open, number_at, with_number, put, with_register, with_address, settled, symbol_address}
 use Rattle.pw_law_link_run.specs.Steps.{Setting}
 use Rattle.pw_law_levels.specs.Sparing.{IsOther}
 use Rattle.pw_law_levels.specs.Bodies.{LeavesPointer}

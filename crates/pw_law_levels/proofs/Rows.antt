@@ -1,9 +1,9 @@
 -- The rows of selection put nothing into the stack pointer, but where a function is entered and left.
-use Rattle.std.proofs.Common.{◌≡◌, ℕ, zero, suc, ◌+◌, ◌-◌, ◌*◌, ◌<◌, ◌≤◌, ℤ, Bool, true, false, if◌then◌else◌, Option, None, Some, List, [], ◌∷◌, ◌++◌, map, refl, arith, subst, sym}
+use Rattle.std.proofs.Common.{ℕ, zero, suc, ◌+◌, ◌-◌, ◌*◌, ◌<◌, ℤ, Bool, true, false, if◌then◌else◌, Option, None, Some, List, [], ◌∷◌, ◌++◌, map, refl, arith}
 use Rattle.std.specs.Prelude.{pos, neg_ℤ, nat_lt, take, drop, unwrap_or, slice_get, ◌-ℤ◌, ◌==◌, ◌&&◌}
 use Rattle.std.specs.Int.{w32, cast_signed}
 use Rattle.std.specs.List.{AllByRecursion, flat_map}
-use Rattle.std.proofs.lemmas.Bool.{eqb-true, ne_eqb}
+use Rattle.std.proofs.lemmas.Bool.{ne_eqb}
 use Rattle.pw_value.specs.declared.value.Kind.{Kind}
 use Rattle.pw_value.specs.declared.value.Kind.TheVariants as scalar
 use Rattle.pw_flow.specs.declared.flow.UnKind.{UnKind}
@@ -14,8 +14,6 @@ use Rattle.pw_flow.specs.declared.flow.ExtKind.{ExtKind}
 use Rattle.pw_flow.specs.declared.flow.ExtKind.TheVariants as ext
 use Rattle.pw_flow.specs.declared.flow.Op.{Op}
 use Rattle.pw_flow.specs.declared.flow.Op.TheVariants as op
-use Rattle.pw_flow.specs.declared.flow.End.{End}
-use Rattle.pw_flow.specs.declared.flow.End.TheVariants as end
 use Rattle.pw_db.specs.Limits.{first_register, register_count}
 use Rattle.pw_db.specs.declared.database.Web.{Web}
 use Rattle.pw_db.specs.declared.database.Role.{Role}
@@ -23,20 +21,18 @@ use Rattle.pw_inst.specs.declared.Inst.{Inst}
 use Rattle.pw_inst.specs.declared.Inst.TheVariants as i
 use Rattle.pw_inst.specs.Computing.{target_registers}
 use Rattle.pw_inst.specs.declared.line.Line.{Line}
-use Rattle.pw_inst.specs.declared.line.Line.TheVariants.{Plain, Fixed, Jump, BranchNonZero, Label, CallTo, CallReg, Leave}
+use Rattle.pw_inst.specs.declared.line.Line.TheVariants.{Plain, CallTo, CallReg}
 use Rattle.pw_inst.specs.declared.relocation.Symbol.{Symbol}
 use Rattle.pw_inst.specs.declared.relocation.Symbol.TheVariants.{Named, Routine}
 use Rattle.pw_webflow.specs.declared.web.WebOp.{WebOp}
 use Rattle.pw_webflow.specs.declared.web.WebOp.TheVariants.{Flow, Read, Write}
-use Rattle.pw_webflow.specs.declared.web.WebBlock.{WebBlock}
 use Rattle.pw_alloc.specs.declared.located.Place.{Place}
 use Rattle.pw_alloc.specs.declared.located.Place.TheVariants.{Slot, Reg}
-use Rattle.pw_alloc.specs.declared.located.Located.{Located}
-use Rattle.pw_alloc.specs.Frames.{head_size, saved_offset, below}
+use Rattle.pw_alloc.specs.Frames.{saved_offset, below}
 use Rattle.pw_alloc.specs.Allocation.{is_entry}
 use Rattle.pw_select_lines.specs.Registers.{word, Reach, reach, is_near, as_word, constant, long_constant, address_of, load_from, store_to, frame_address, place_of, operand_register, operand_lines, loaded, result_register, result_lines, load_scalar, store_scalar, sign_spread, read_global, write_global, copied}
 use Rattle.pw_select_lines.specs.Arithmetic.{unary_word, routine_of, binary_lines, extension_word, with_one, with_two, with_none, moved_unless_there, routine_result, by_routine, binary_by}
-use Rattle.pw_select_lines.specs.Operations.{Layout, layout, unit_loop, moved, stacked_arguments, register_arguments, called, called_by_value, call_result, op_lines, web_op_lines}
+use Rattle.pw_select_lines.specs.Operations.{Layout, unit_loop, moved, stacked_arguments, register_arguments, called, called_by_value, call_result, op_lines, web_op_lines}
 use Rattle.pw_select.specs.Selection.{saved_lines, entered_web, lines_of_web, entered_lines, stored_back, loaded_web, webs_loaded, webs_stored, incoming, parameter_in, parameters_in}
 use Rattle.pw_law_levels.specs.Sparing.{IsOther, Spares, SparesPlace, SparesOp, SparesWeb}
 

@@ -1,6 +1,5 @@
 -- The items of a selected function keep the stack pointer.
-use Rattle.std.specs.Prelude.{ℕ, ℤ, ◌≡◌, ◌+◌, ◌≤◌, ◌<◌, ◌^◌, nat_lt, Bool, true, false, if◌then◌else◌, Option, Some, None, List, [], ◌∷◌, ◌++◌, length}
-use Rattle.std.specs.Int.{w32, cast_signed}
+use Rattle.std.specs.Prelude.{ℕ, ℤ, ◌≡◌, ◌+◌, ◌≤◌, nat_lt, Bool, true, false, if◌then◌else◌, Some, None, List, [], ◌∷◌, ◌++◌, length}
 use Rattle.std.specs.List.{AllByRecursion, flat_map}
 use Rattle.std.proofs.Common.{arith, subst, sym, ap, refl, ◌∙◌, inl, inr}
 use Rattle.std.proofs.lemmas.List.{append_assoc}
@@ -9,31 +8,25 @@ use Rattle.pw_flow.specs.declared.flow.End.TheVariants as end
 use Rattle.pw_inst.specs.declared.Inst.{Inst}
 use Rattle.pw_inst.specs.declared.Inst.TheVariants as i
 use Rattle.pw_inst.specs.Limits.{near_least}
-use Rattle.pw_inst.specs.Computing.{target_registers}
 use Rattle.pw_inst.specs.declared.line.Line.{Line}
 use Rattle.pw_inst.specs.declared.line.Line.TheVariants as line
-use Rattle.pw_inst.specs.declared.relocation.FixKind.{FixKind}
-use Rattle.pw_inst.specs.declared.relocation.Symbol.{Symbol}
-use Rattle.pw_webflow.specs.declared.web.WebOp.{WebOp}
 use Rattle.pw_webflow.specs.declared.web.WebBlock.{WebBlock}
-use Rattle.pw_alloc.specs.declared.located.Place.{Place}
 use Rattle.pw_alloc.specs.declared.located.Located.{Located}
 use Rattle.pw_alloc.specs.Frames.{head_size, below, link_place}
 use Rattle.pw_select_lines.specs.Registers.{word, constant, load_from, store_to, place_of, operand_register, operand_lines, loaded}
 use Rattle.pw_select_lines.specs.Operations.{layout, web_op_lines}
-use Rattle.pw_select.specs.Selection.{slot_offsets, saved_lines, webs_loaded, webs_stored, parameters_in, entry_lines, prologue, frame_left, epilogue, end_lines, block_lines, blocks_lines, selected}
-use Rattle.pw_delay.specs.declared.items.Word.{Word}
-use Rattle.pw_delay.specs.declared.items.Turn.TheVariants.{Back, Goto, If, CallTo, CallReg, Leave}
+use Rattle.pw_select.specs.Selection.{slot_offsets, saved_lines, webs_loaded, webs_stored, parameters_in, entry_lines, prologue, frame_left, epilogue, end_lines, blocks_lines, selected}
+use Rattle.pw_delay.specs.declared.items.Turn.TheVariants.{Goto, CallTo, CallReg, Leave}
 use Rattle.pw_delay.specs.declared.items.Item.{Item}
-use Rattle.pw_delay.specs.declared.items.Item.TheVariants.{Plain, Turns, Mark}
-use Rattle.pw_delay.specs.Items.{bare, link_moved, begins_next, plain_item, item_of, before, slotted}
+use Rattle.pw_delay.specs.declared.items.Item.TheVariants.{Plain, Turns}
+use Rattle.pw_delay.specs.Items.{bare, link_moved, begins_next, plain_item, before, slotted}
 use Rattle.pw_run_languages.specs.LineRun.{LineFn}
 use Rattle.pw_law_link_run.specs.Steps.{Setting}
 use Rattle.pw_law_levels.specs.Bodies.{LeavesPointer, Keeps, BlockFirst, IsPointed}
-use Rattle.pw_law_levels.specs.Sparing.{IsOther, Spares, SparesOp, IsSparing}
+use Rattle.pw_law_levels.specs.Sparing.{SparesOp, IsSparing}
 use Rattle.pw_law_levels.proofs.Pointer.{TargetsAre, word_leaves}
 use Rattle.pw_law_levels.proofs.Rows.{AreSparing, joined, constant_in, load_in, operand_in, loaded_in, ops_in, webs_loaded_in, webs_stored_in, saved_stored_in, saved_loaded_in, parameters_are_in}
-use Rattle.pw_law_levels.proofs.Words.{IsStill, IsWordLine, AreWordLines}
+use Rattle.pw_law_levels.proofs.Words.{IsStill, AreWordLines}
 use Rattle.pw_law_levels.proofs.Words as words
 use Rattle.pw_law_levels.proofs.Entry.{entry_raises}
 

@@ -1,10 +1,9 @@
 -- Parts of lists.
 use Rattle.std.specs.Prelude.{ℕ, zero, suc, ◌≡◌, ◌+◌, ◌-◌, ◌<◌, ◌≤◌, nat_le, ◌&&◌, Bool, true, false, if◌then◌else◌, Some, None, List, [], ◌∷◌, ◌++◌, length, drop, take}
 use Rattle.std.specs.List.{list_all}
-use Rattle.std.proofs.Common.{arith, subst, sym, ap, refl, ◌∙◌, length-append}
+use Rattle.std.proofs.Common.{arith, sym, ap, refl, ◌∙◌, length-append}
 use Rattle.std.proofs.lemmas.Bool.{and_parts, leb-true}
 use Rattle.pw_delay.specs.declared.items.Item.{Item}
-use Rattle.pw_delay.specs.declared.items.Item.TheVariants.{Plain, Turns, Mark}
 use Rattle.pw_run_languages.specs.LineRun.{is_plain, back_over}
 
 -- what is left is part of the second list

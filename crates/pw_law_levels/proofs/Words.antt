@@ -1,5 +1,5 @@
 -- Before the first block a function has words alone.
-use Rattle.std.proofs.Common.{◌≡◌, ℕ, zero, suc, ◌+◌, ◌-◌, ◌*◌, ◌<◌, ℤ, Bool, true, false, if◌then◌else◌, Option, None, Some, List, [], ◌∷◌, ◌++◌, refl}
+use Rattle.std.proofs.Common.{ℕ, zero, suc, ◌+◌, ◌-◌, ◌*◌, ℤ, Bool, true, false, if◌then◌else◌, Some, List, [], ◌∷◌, ◌++◌}
 use Rattle.std.specs.Prelude.{pos, neg_ℤ, nat_lt, ◌==◌, ◌&&◌}
 use Rattle.std.specs.Int.{w32, cast_signed}
 use Rattle.std.specs.List.{AllByRecursion}
@@ -17,7 +17,7 @@ use Rattle.pw_alloc.specs.declared.located.Place.{Place}
 use Rattle.pw_alloc.specs.declared.located.Place.TheVariants.{Slot, Reg}
 use Rattle.pw_alloc.specs.Frames.{saved_offset, below}
 use Rattle.pw_alloc.specs.Allocation.{is_entry}
-use Rattle.pw_select_lines.specs.Registers.{word, Reach, reach, is_near, as_word, constant, long_constant, load_from, store_to, place_of, load_scalar, sign_spread, read_global, copied}
+use Rattle.pw_select_lines.specs.Registers.{word, Reach, reach, is_near, as_word, constant, long_constant, load_from, store_to, place_of, sign_spread, read_global, copied}
 use Rattle.pw_select.specs.Selection.{saved_lines, entered_web, lines_of_web, entered_lines, loaded_web, webs_loaded, incoming, parameter_in, parameters_in, frame_end, entry_lines}
 
 -- no branch

@@ -1,5 +1,5 @@
 -- Functions whose registers are not the stack pointer.
-use Rattle.std.specs.Prelude.{ℕ, ◌≡◌, ◌≤◌, ◌<◌, ◌^◌, ◌==◌, false, List, length}
+use Rattle.std.specs.Prelude.{ℕ, ◌≡◌, ◌≤◌, ◌<◌, ◌^◌, ◌==◌, false, length}
 use Rattle.std.specs.List.{AllByRecursion}
 use Rattle.pw_inst.specs.Registers.{stack_pointer}
 use Rattle.pw_inst.specs.declared.line.Line.{Line}

@@ -318,8 +318,8 @@ named_meets x l lib k m f slot rest h run inside saved high calm =
     let fit = (left_fit x l fn h.there (Turns (CallTo (symbol.Named f) 2) slot ∷ rest) h.address h.left).0.1 in
     slot_goes x slot (after_call x m rest) (calls x.program x.addresses to f) (λ s. ((t : Machine) → s ≡ On t → library_at f ≢ None → IsCalm x t) → Meets x s) fit run (λ calm. tt)
     (λ d es does calm.
-        calls_meet x l lib (suc (suc k)) to (behind_slot d es (after_call x m rest)) f
-        (λ link. call_turn x l k m f slot rest d es h run inside saved does (high to d es does) link) calm) calm
+    calls_meet x l lib (suc (suc k)) to (behind_slot d es (after_call x m rest)) f
+    (λ link. call_turn x l k m f slot rest d es h run inside saved does (high to d es does) link) calm) calm
 
 -- what is called by what stands at the address in register 22
 value_by : (x : Setting) → IsLinked x → HasLibrary x → (k : ℕ) (m : Machine) (slot : Option Word) (rest : List Item) (o : Option (List ℕ)) (d : lines.Core) (es : List (Event ℕ ℕ))

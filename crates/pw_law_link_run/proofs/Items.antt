@@ -368,13 +368,13 @@ if_simulates x l k r b slot m t rest h run high e inside calm = by (lines.regist
     by true is e =
         slot_by x slot (left_behind rest m) (λ s. On s) (λ s. s ≡ On t → (j : ℕ) × Simulates x t j) (λ word w full e. absurd cc) (λ e. absurd cc)
         (λ d es does e.
-            if_acted x l k r b slot m t rest d es h run does (high 0 d es does)
-            (ap (λ (z : Bool). if z then On (passed_behind d es m rest) else to_block b (counted_behind d es m item rest)) is ∙ e) inside calm) e
+        if_acted x l k r b slot m t rest d es h run does (high 0 d es does)
+        (ap (λ (z : Bool). if z then On (passed_behind d es m rest) else to_block b (counted_behind d es m item rest)) is ∙ e) inside calm) e
     by false is e =
         slot_by x slot (counted (left_behind (item ∷ rest) m)) (to_block b) (λ s. s ≡ On t → (j : ℕ) × Simulates x t j) (λ word w full e. absurd cc) (λ e. absurd cc)
         (λ d es does e.
-            if_acted x l k r b slot m t rest d es h run does (high 0 d es does)
-            (ap (λ (z : Bool). if z then On (passed_behind d es m rest) else to_block b (counted_behind d es m item rest)) is ∙ e) inside calm) e
+        if_acted x l k r b slot m t rest d es h run does (high 0 d es does)
+        (ap (λ (z : Bool). if z then On (passed_behind d es m rest) else to_block b (counted_behind d es m item rest)) is ∙ e) inside calm) e
 
 -- ---- loops
 

@@ -119,8 +119,8 @@ goto_meets x l scratch b slot k m rest h run steady =
     let u = counted (left_behind (Turns (Goto b) slot ∷ rest) m) in
     slot_goes x slot u (to_block b) (λ s. CalmMeets x s) (fit_here x l k m (Turns (Goto b) slot) rest h) run (λ calm. tt)
     (λ d es does calm.
-        on_meets x (to_block b (behind_slot d es u)) (λ t end e. goes_on_alone (from_mark b m.frame.function.items) (behind_slot d es u) t end e)
-        (λ t e. record { steps = suc (suc k); simulates = goto_acted x l k b slot m t rest d es h run does e (steady.inside (tt, run)) (calm t e) })) steady.next
+    on_meets x (to_block b (behind_slot d es u)) (λ t end e. goes_on_alone (from_mark b m.frame.function.items) (behind_slot d es u) t end e)
+    (λ t e. record { steps = suc (suc k); simulates = goto_acted x l k b slot m t rest d es h run does e (steady.inside (tt, run)) (calm t e) })) steady.next
 
 if_alone : (b : Bool) (n : ℕ) (m u t : Machine) (end : End) → (if b then On m else to_block n u) ≡ Stopped end t → ⊥
 if_alone true n m u t end e = cc
@@ -141,9 +141,9 @@ if_meets x l scratch r b slot k m rest h run steady = by (lines.register m.core 
         let s = if null then On (passed_behind d es m rest) else to_block b (counted_behind d es m item rest) in
         on_meets x s (λ t end e. if_alone null b (passed_behind d es m rest) (counted_behind d es m item rest) t end e)
         (λ t e.
-            let c = if_acted x l k r b slot m t rest d es h run does (steady.high (tt, run) 0 d es does)
-            (ap (λ (z : Bool). if z then On (passed_behind d es m rest) else to_block b (counted_behind d es m item rest)) is ∙ e) (steady.inside (tt, run)) (calm t e) in
-            record { steps = c.0; simulates = c.1 })
+        let c = if_acted x l k r b slot m t rest d es h run does (steady.high (tt, run) 0 d es does)
+        (ap (λ (z : Bool). if z then On (passed_behind d es m rest) else to_block b (counted_behind d es m item rest)) is ∙ e) (steady.inside (tt, run)) (calm t e) in
+        record { steps = c.0; simulates = c.1 })
 
     by : (null : Bool) → (lines.register m.core r == 0) ≡ null
         → CalmMeets x (if null then through_slot x.program x.addresses slot On (left_behind rest m) else through_slot x.program x.addresses slot (to_block b) (counted (left_behind (item ∷ rest) m)))

@@ -389,5 +389,5 @@ routine_meets x l has scratch so k j m slot rest below h run inside high calm =
     let fit = (left_fit x l m.frame.function h.there (Turns (CallTo (symbol.Routine j) 31) slot ∷ rest) h.address h.left).0 in
     slot_goes x slot (to_routine x m rest) (routine scratch j) (λ s. ((t : Machine) → s ≡ On t → IsCalm x t) → Meets x s) fit.1 run (λ calm. tt)
     (λ d es does calm.
-        routine_acted x l has scratch so k j m slot rest d es below h run inside does (high (return_address x.addresses m.frame rest) d es does)
-        (calm (after_routine (behind_slot d es (to_routine x m rest)) j (scratch j d.registers)) refl)) calm
+    routine_acted x l has scratch so k j m slot rest d es below h run inside does (high (return_address x.addresses m.frame rest) d es does)
+    (calm (after_routine (behind_slot d es (to_routine x m rest)) j (scratch j d.registers)) refl)) calm

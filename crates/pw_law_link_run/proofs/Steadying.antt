@@ -249,8 +249,8 @@ routine_steady x l fr scratch j slot m rest h run =
     let u = to_routine x m rest in
     let s = through_slot x.program x.addresses slot (routine scratch j) u in
     let k : StepKeeps x fr s = slot_keeps x fr slot u (routine scratch j) (λ d es does.
-        behind_call x fr m (Turns turn slot) rest tt tt h d (raised_behind x fr m turn slot rest u.core d es tt h run refl does) (after_routine (behind_slot d es u) j (scratch j d.registers))
-        (result_stays (result_of j (lines.register d 26) (lines.register d 25)) (with_scratch (scratch j d.registers) scratch_registers d.registers))) in
+    behind_call x fr m (Turns turn slot) rest tt tt h d (raised_behind x fr m turn slot rest u.core d es tt h run refl does) (after_routine (behind_slot d es u) j (scratch j d.registers))
+    (result_stays (result_of j (lines.register d 26) (lines.register d 25)) (with_scratch (scratch j d.registers) scratch_registers d.registers))) in
     turning_steady x l fr m turn slot rest tt (λ e. e) h run (λ to. run) (λ to. refl) s (level_of x fr s k) (calm_of x l fr s k)
 
 abbrev ValueKeeps : (x : Setting) → AreFramed x → Option (List ℕ) → Step → Type 0
