@@ -11,7 +11,6 @@ use Rattle.pw_machine.specs.Run.{State, Progress, Running, Stopped, taken, reads
 use Rattle.pw_machine.specs.Stops.{IsRunFrom}
 use Rattle.pw_io.specs.Streams.{Appends}
 use Rattle.pw_top_answer.specs.Outcomes.{IsWhole, PutsOut, LeavesInput, WasReadInPart}
-use Rattle.pw_commands.specs.Ends.{Ends}
 use Rattle.pw_commands.specs.MachineRun.{run_output, run_rest, started, stop_answer}
 
 -- one list begins with another
@@ -66,6 +65,10 @@ run_puts core input budget stop.Spent n new rest taken taken' r = all_out budget
 run_puts core input budget (stop.Halted halt at) n new rest taken taken' r = all_out budget (started core input) (record { core = new; rest = r.left; output = r.output }) _ taken taken' r.taken_is (ap run_output r.comes.1) refl
 run_puts core input budget stop.ReadFault n new rest taken taken' r = part_out n budget (started core input) (record { core = new; rest = r.left; output = r.output }) _ taken taken' r.taken_is (omega (arith, r.comes.0)) (ap run_output r.comes.1) (λ more. tt)
 run_puts core input budget stop.WriteFault n new rest taken taken' r = part_out n budget (started core input) (record { core = new; rest = r.left; output = r.output }) _ taken taken' r.taken_is (omega (arith, r.comes.0)) (ap run_output r.comes.1) (λ more. tt)
+
+-- what was read of one list, where another is what is left
+abbrev pub Ends : List ℕ → List ℕ → Type 0
+Ends whole left = (front : List ℕ) × (whole ≡ front ++ left)
 
 pub ends_itself : (xs : List ℕ) → Ends xs xs
 ends_itself xs = ([], refl)

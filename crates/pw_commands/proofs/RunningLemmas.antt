@@ -14,8 +14,7 @@ use Rattle.pw_top_answer.specs.declared.answer.Answer.{Answer}
 use Rattle.pw_top_answer.specs.declared.answer.Answer.TheVariants.{StoreFault, NoMemory, BadFile}
 use Rattle.pw_top_answer.specs.Outcomes.{LeavesInput, WasReadInPart}
 use Rattle.pw_commands.specs.MachineRun.{started}
-use Rattle.pw_commands.specs.Ends.{Ends}
-use Rattle.pw_commands.proofs.RunLemmas.{ends_itself, run_ends}
+use Rattle.pw_commands.proofs.RunLemmas.{Ends, ends_itself, run_ends}
 use Rattle.pw_commands.specs.Needed.{IsBadFile, StopsAs, found_in, needed_bytes, read_by}
 use Rattle.pw_commands.specs.Outcome.{IsFileStop}
 use Rattle.pw_commands.specs.Running.{IsRunOrStop, core_at, core_in, run_effect, runs}

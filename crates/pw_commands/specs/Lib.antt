@@ -1,4 +1,3 @@
-pub mod Ends
 pub mod MachineRun
 pub mod Needed
 pub mod Linking

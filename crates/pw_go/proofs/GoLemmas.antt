@@ -7,8 +7,7 @@ use Rattle.pw_top_answer.specs.declared.answer.Answer.TheVariants.{Usage, Refuse
 use Rattle.pw_top_answer.specs.Outcomes.{WasReadInPart, LeavesStreams}
 use Rattle.pw_go_sum.specs.Code.{words_of}
 use Rattle.pw_go_sum.specs.Built.{start_of}
-use Rattle.pw_commands.specs.Ends.{Ends}
-use Rattle.pw_commands.proofs.RunLemmas.{ends_itself, run_ends, untouched}
+use Rattle.pw_commands.proofs.RunLemmas.{Ends, ends_itself, run_ends, untouched}
 use Rattle.pw_commands.specs.MachineRun.{IsRunAnswer}
 use Rattle.pw_go.specs.FullBuild as build
 use Rattle.pw_go.specs.FullBuild.{Build, full_build}

@@ -5,8 +5,8 @@ ghost use Rattle.pw_io.specs.Files.{Files};
 ghost use Rattle.pw_store_modules.specs.Modules.{modules_of};
 ghost use Rattle.pw_top_answer.specs.Outcomes.{Answers};
 ghost use Rattle.pw_top_answer.specs.declared.answer.Answer.{Answer};
-ghost use Rattle.pw_commands.specs.Ends.{Ends};
 ghost use Rattle.pw_commands.specs.Running.{run_effect};
+ghost use Rattle.pw_go.specs.Ends.{EndsIn};
 ghost use Rattle.pw_go.specs.FullBuild.{Build, full_build};
 ghost use Rattle.pw_go.specs.Going.{AnswersBuild, BuiltAgrees, ReturnsSum, build_effect};
 ghost use Rattle.pw_go.specs.Refusals.{AnswersNoMain, NoMainIs, AnswersRefusal, RefusalIs};
@@ -37,6 +37,6 @@ pub fn builds_agree()
 
 /// What `run` and `go` leave of their input is what stands behind the prefix that they read.
 pub fn runs_leave_an_end()
-    ensures run { (files : Files) (budget : ℕ) (input : List ℕ) → Ends input (run_effect files budget input).rest }
-    ensures go { (built : Build) (budget : ℕ) (input : List ℕ) → Ends input (build_effect built budget input).rest }
+    ensures run { (files : Files) (budget : ℕ) (input : List ℕ) → EndsIn input (run_effect files budget input).rest }
+    ensures go { (built : Build) (budget : ℕ) (input : List ℕ) → EndsIn input (build_effect built budget input).rest }
 {}

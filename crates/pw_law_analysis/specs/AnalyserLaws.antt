@@ -9,13 +9,10 @@ use Rattle.pw_colour.specs.Naming.{IsNamed}
 use Rattle.pw_alloc.specs.declared.located.Located.{Located}
 use Rattle.pw_object.specs.declared.object.Object.{Object}
 use Rattle.pw_run_languages.specs.Programs.{AreBytes}
-use Rattle.pw_run_languages.specs.PlacementLaws.{PlacesKeep}
 use Rattle.pw_run_languages.specs.SelectionLaws.{SelectionKeepsRuns}
 use Rattle.pw_run_languages.specs.LinkingLaws.{LinkKeepsRuns}
 use Rattle.pw_cmean.specs.Worlds.{Program}
 use Rattle.pw_law_layers.specs.Lowering.{flow_program, IsAccepted, LoweringKeepsRuns}
-use Rattle.pw_law_layers.specs.Whole.{program_of}
-use Rattle.pw_law_direction.specs.Laws.{first_places}
 use Rattle.pw_law_analysis.specs.SummaryGraphs.{named_graph, AllSummarise}
 use Rattle.pw_law_analysis.specs.OwedLaws.{AreSummaries, Serves, IsAnalysed, HoldsOver}
 
@@ -30,20 +27,11 @@ DatabasesServe =
     IsAccepted p frame_of stack → AllSummarise (flow_program p frame_of stack).modules ss → AreSummaries ss → colours ≤ 16 →
     (i : IsDatabaseOf ss colours db) → Serves p frame_of stack ss colours db i
 
--- what holds of a program that was built with this database, from the laws of lowering, selection and linking, and from
--- that of places for the program's places
+-- what holds of a program that was built with this database and with places that serve, from the laws of lowering, selection
+-- and linking
 abbrev pub LayersGiveAll : Type 0
 LayersGiveAll =
     LoweringKeepsRuns → SelectionKeepsRuns → LinkKeepsRuns →
     (p : Program) (ss : List Summary) (colours : ℕ) (db : List (List ℕ × Directives)) (functions : List Located) (objects : List Object) (stack : ℕ) (input : List ℕ) →
     (built : IsAnalysed p ss colours db functions objects stack) → AreBytes input →
-    PlacesKeep (program_of p objects stack) db functions input →
     HoldsOver p ss colours db functions objects stack input built.database
-
--- with the places of allocation's first form the law of places is no premise
-abbrev pub FirstPlacesGiveAll : Type 0
-FirstPlacesGiveAll =
-    LoweringKeepsRuns → SelectionKeepsRuns → LinkKeepsRuns →
-    (p : Program) (ss : List Summary) (colours : ℕ) (db : List (List ℕ × Directives)) (objects : List Object) (stack : ℕ) (input : List ℕ) →
-    (built : IsAnalysed p ss colours db (first_places (program_of p objects stack) db) objects stack) → AreBytes input →
-    HoldsOver p ss colours db (first_places (program_of p objects stack) db) objects stack input built.database

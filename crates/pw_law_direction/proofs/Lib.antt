@@ -32,6 +32,7 @@ mod Saving
 mod Callees
 mod Standing
 mod Edges
+mod Operations
 mod Slots
 mod Entering
 mod Calling

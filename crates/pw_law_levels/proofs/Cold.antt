@@ -34,28 +34,28 @@ ends_some long before item some = omega (arith, joined long before (item ∷ [])
 -- Two places in one list: behind an item that is no call, and behind a call.
 ends_apart : (long : Bool) (before left other rest : List Item) (last item : Item) → before ++ last ∷ left ≡ other ++ item ∷ rest → (IsCalling last → ⊥) → IsCalling item
     → 1 ≤ size long last → sizes long (before ++ last ∷ []) ≢ sizes long (other ++ item ∷ [])
-ends_apart long [] left [] rest last item e no call some =
+ends_apart long [] left [] rest last item e differs call some =
     let same : last ≡ item = cc in
-    absurd (no (subst (λ i. IsCalling i) (sym same) call))
-ends_apart long [] left (o ∷ other) rest last item e no call some =
+    absurd (differs (subst (λ i. IsCalling i) (sym same) call))
+ends_apart long [] left (o ∷ other) rest last item e differs call some =
     let same : last ≡ o = cc in
     let size_is : size long last ≡ size long o = ap (size long) same in
     λ eq. omega (arith, eq, size_is, more long last [], more long o (other ++ item ∷ []), ends_some long other item (calling_size long item call))
-ends_apart long (b ∷ before) left [] rest last item e no call some =
+ends_apart long (b ∷ before) left [] rest last item e differs call some =
     let same : b ≡ item = cc in
     let size_is : size long b ≡ size long item = ap (size long) same in
     λ eq. omega (arith, eq, size_is, more long item [], more long b (before ++ last ∷ []), ends_some long before last some)
-ends_apart long (b ∷ before) left (o ∷ other) rest last item e no call some =
+ends_apart long (b ∷ before) left (o ∷ other) rest last item e differs call some =
     let same : b ≡ o = cc in
     let tail : before ++ last ∷ left ≡ other ++ item ∷ rest = cc in
     let size_is : size long b ≡ size long o = ap (size long) same in
-    let later = ends_apart long before left other rest last item tail no call some in
+    let later = ends_apart long before left other rest last item tail differs call some in
     λ eq. later (omega (arith, eq, size_is, more long b (before ++ last ∷ []), more long o (other ++ item ∷ [])))
 
 pub cold_behind : (x : Setting) (f : LineFn) (before left : List Item) (last : Item) (n : ℕ) → f.items ≡ before ++ last ∷ left → (IsCalling last → ⊥)
     → 1 ≤ size (x.long (name_in f)) last → n ≡ words_of x f (before ++ last ∷ []) → IsCold x f n
-cold_behind x f before left last n parts no some is = λ other rest item e call eq.
-    ends_apart (x.long (name_in f)) before left other rest last item (sym parts ∙ e) no call some (sym is ∙ eq)
+cold_behind x f before left last n parts differs some is = λ other rest item e call eq.
+    ends_apart (x.long (name_in f)) before left other rest last item (sym parts ∙ e) differs call some (sym is ∙ eq)
 
 -- nor to a place before which words alone stand
 abbrev pub AreWords : List Item → Type 0

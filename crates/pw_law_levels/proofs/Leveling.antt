@@ -278,24 +278,24 @@ word_goes : (x : Setting) (f : LineFn) (p : IsPointed x f) (before rest : List I
 word_goes x f p before rest w stack c d parts holds act =
     elim (cases_lt (length p.body) (length (Plain w ∷ rest))) [
       | inl lt ↦ entry_goes x f p before rest w stack c d parts lt holds act
-      | inr no ↦
-          let le : InBody x f p (Plain w ∷ rest) = omega (arith, no) in
+      | inr inside ↦
+          let le : InBody x f p (Plain w ∷ rest) = omega (arith, inside) in
           let raised = up_raised x f stack c (subst (λ l. HoldsAt x f l stack c) (at_body x f p (Plain w ∷ rest) le) holds) in
           let k = kept x f p before (Plain w ∷ rest) parts le in
-          subst (λ l. HoldsAt x f l stack d) (sym (at_body x f p rest (omega (arith, no)))) (behind_word x f w rest stack c d k.keeps.0 raised act)
+          subst (λ l. HoldsAt x f l stack d) (sym (at_body x f p rest (omega (arith, inside)))) (behind_word x f w rest stack c d k.keeps.0 raised act)
     ]
 
 -- ---- blocks and turns: they stand in the body
 
 not_word : (x : Setting) (f : LineFn) (p : IsPointed x f) (before rest : List Item) (item : Item) → Parts f before (item ∷ rest) → ((w : Word) → item ≢ Plain w) → InBody x f p (item ∷ rest)
-not_word x f p before rest item parts no =
+not_word x f p before rest item parts differs =
     elim (cases_lt (length p.body) (length (item ∷ rest))) [
       | inl lt ↦
           let here = entry_place x f p before (item ∷ rest) parts lt in
           let step = entry_word x f first_level p.entry before here.rest here.item here.entry_is p.raises in
           let left_is : item ∷ rest ≡ here.item ∷ (here.rest ++ p.body) = here.left_is in
           let first : item ≡ here.item = cc in
-          absurd (no step.word (first ∙ step.is))
+          absurd (differs step.word (first ∙ step.is))
       | inr le ↦ omega (arith, le)
     ]
 
@@ -408,8 +408,8 @@ quiet_at x f p before left stack c parts holds =
           let here = entry_place x f p before left parts lt in
           let words = entry_words x f first_level before (here.item ∷ here.rest) (subst (λ entry. Raises x f first_level entry) here.entry_is p.raises) in
           inr (cold_first x f before left words parts)
-      | inr no ↦
-          let le : InBody x f p left = omega (arith, no) in
+      | inr inside ↦
+          let le : InBody x f p left = omega (arith, inside) in
           quiet_body x f p before left stack c parts le (subst (λ l. HoldsAt x f l stack c) (at_body x f p left le) holds)
     ]
 
@@ -421,10 +421,10 @@ enters x f p stack c small pointer run =
     let first : HoldsAt x f first_level stack c = record { small = small; pointer = pointer; bounds = λ e. absurd cc; clear = λ e. run; help = tt } in
     elim (cases_lt (length p.body) (length f.items)) [
       | inl lt ↦ subst (λ l. HoldsAt x f l stack c) (sym (at_entry x f p f.items 0 lt (omega arith))) first
-      | inr no ↦
-          let none : 0 ≡ length p.entry = omega (arith, size, no) in
+      | inr inside ↦
+          let none : 0 ≡ length p.entry = omega (arith, size, inside) in
           let raised = entry_last x f first_level p.entry p.raises stack c (subst (λ k. HoldsAt x f (entry_level x f k first_level p.entry p.raises) stack c) none first) in
-          behind_in x f p f.items stack c (omega (arith, no)) raised
+          behind_in x f p f.items stack c (omega (arith, inside)) raised
     ]
 
 mark_no_word : (b : ℕ) (w : Word) → Mark b ≢ Plain w

@@ -6,3 +6,4 @@ pub mod Entry
 pub mod Rows
 pub mod Words
 pub mod Selected
+pub mod Framed

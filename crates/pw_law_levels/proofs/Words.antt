@@ -103,6 +103,11 @@ frame_end_by frame true = joined (constant frame 1) (word (i.Addl 30 1 1)) (cons
 frame_end_by frame false = (tt, tt)
 
 pub entry_in : (frame : ℕ) → AreWordLines (entry_lines frame)
-entry_in frame =
-    (tt, (tt, joined (frame_end frame) (Plain (i.Comclr 5 false 1 21 0) ∷ Plain (i.Break 0 4) ∷ Plain (i.Stw 2 (neg_ℤ (pos 20)) 30) ∷ copied 1 30)
-    (frame_end_by frame (nat_lt near_limit frame)) (tt, (tt, (tt, (tt, tt))))))
+entry_in frame = (
+  tt,
+  (
+    tt,
+    joined (frame_end frame) (Plain (i.Comclr 5 false 1 21 0) ∷ Plain (i.Break 0 4) ∷ Plain (i.Stw 2 (neg_ℤ (pos 20)) 30) ∷ copied 1 30)
+        (frame_end_by frame (nat_lt near_limit frame)) (tt, (tt, (tt, (tt, tt)))),
+  ),
+)

@@ -2,5 +2,5 @@
 use Rattle.std.specs.Prelude.{◌≡◌, ℕ, List, ◌++◌}
 
 -- the second list is what is left of the first behind some prefix
-abbrev pub Ends : List ℕ → List ℕ → Type 0
-Ends whole left = (prefix : List ℕ) × (whole ≡ prefix ++ left)
+abbrev pub EndsIn : List ℕ → List ℕ → Type 0
+EndsIn whole left = (prefix : List ℕ) × (whole ≡ prefix ++ left)
