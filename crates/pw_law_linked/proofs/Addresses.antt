@@ -8,7 +8,7 @@ use Rattle.pw_value.specs.Limits.{text_start}
 use Rattle.pw_flow.specs.ValidFlow.{AreDistinct}
 use Rattle.pw_object.specs.declared.object.Object.{Object}
 use Rattle.pw_alloc.specs.declared.located.Located.{Located}
-use Rattle.pw_link.specs.Layout.{Piece, piece_of, Placed, placed_from, text_of, data_of, data_begin, Standing, pieces_of, routine_pieces, function_site, global_site}
+use Rattle.pw_link.specs.Layout.{Piece, piece_of, Placed, placed_from, text_of, data_of, data_begin, Standing, routine_pieces, function_site, global_site}
 use Rattle.pw_link.specs.Linking.{function_of, global_of, linked}
 use Rattle.pw_run_languages.specs.Programs.{Program}
 use Rattle.pw_run_languages.specs.LawfulPrograms.{IsProgram}

@@ -1,5 +1,5 @@
 -- Return addresses of the calls in a function's items.
-use Rattle.std.specs.Prelude.{ℕ, ◌≡◌, ◌+◌, ◌*◌, ◌<◌, ◌==◌, Bool, true, false, if◌then◌else◌, List, [], ◌∷◌, ◌++◌}
+use Rattle.std.specs.Prelude.{ℕ, suc, ◌≡◌, ◌+◌, ◌*◌, ◌<◌, ◌==◌, Bool, true, false, if◌then◌else◌, List, [], ◌∷◌, ◌++◌}
 use Rattle.std.proofs.Common.{arith, ap, refl, ◌∙◌}
 use Rattle.std.proofs.lemmas.Bool.{eq-eqb, ne_eqb}
 use Rattle.std.proofs.lemmas.List.Sums.{sum_by-cons}
@@ -11,12 +11,14 @@ use Rattle.pw_law_linked.specs.Settings.{behind_in}
 
 -- more turns are left before a turn than behind it
 turns_left : (before rest : List Item) (item : Item) → IsCalling item → turns rest < turns (before ++ item ∷ rest)
-turns_left [] rest (Turns turn slot) calling = omega arith
+turns_left [] rest (Turns turn slot) calling = let here : turns (Turns turn slot ∷ rest) ≡ suc (turns rest) = refl in omega (arith, here)
 turns_left [] rest (Plain w) calling = absurd calling
 turns_left [] rest (Mark b) calling = absurd calling
 turns_left (Plain w ∷ before) rest item calling = turns_left before rest item calling
 turns_left (Mark b ∷ before) rest item calling = turns_left before rest item calling
-turns_left (Turns turn slot ∷ before) rest item calling = omega (arith, turns_left before rest item calling)
+turns_left (Turns turn slot ∷ before) rest item calling =
+    let here : turns (Turns turn slot ∷ (before ++ item ∷ rest)) ≡ suc (turns (before ++ item ∷ rest)) = refl in
+    omega (arith, here, turns_left before rest item calling)
 
 here_by : (at later : ℕ) (b : Bool) → b ≡ true → (if b then at else later) ≡ at
 here_by at later b is = ap (λ (b : Bool). if b then at else later) is

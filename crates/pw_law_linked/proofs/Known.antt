@@ -1,7 +1,6 @@
 -- What the setting of a linked program says of a function that is found by its name.
-use Rattle.std.specs.Prelude.{ℕ, ◌≡◌, ◌+◌, ◌*◌, Bool, Option, Some, None, List, ◌∷◌, ◌++◌, find}
-use Rattle.std.specs.Str.{bytes_eq}
-use Rattle.std.proofs.Common.{sym, ap, refl, ◌∙◌}
+use Rattle.std.specs.Prelude.{ℕ, ◌≡◌, ◌+◌, ◌*◌, List, ◌∷◌, ◌++◌}
+use Rattle.std.proofs.Common.{ap, refl, ◌∙◌}
 use Rattle.pw_object.specs.declared.object.Object.{Object}
 use Rattle.pw_alloc.specs.declared.located.Located.{Located}
 use Rattle.pw_link.specs.Linking.{linked}

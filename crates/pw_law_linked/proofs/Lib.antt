@@ -4,3 +4,7 @@ pub mod Names
 pub mod Text
 pub mod Addresses
 pub mod Known
+pub mod Sizes
+pub mod Stands
+pub mod Linked
+pub mod Framed

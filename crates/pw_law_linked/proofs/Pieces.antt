@@ -5,9 +5,7 @@ use Rattle.std.specs.Map.{lookup}
 use Rattle.std.specs.Str.{bytes_eq}
 use Rattle.std.proofs.Common.{ap, refl, ◌∙◌}
 use Rattle.pw_flow.specs.ValidFlow.{AreDistinct}
-use Rattle.pw_alloc.specs.declared.located.Located.{Located}
-use Rattle.pw_link.specs.Layout.{Piece, piece_of, Placed, placed_from, function_site}
-use Rattle.pw_run_languages.specs.LinkingLaws.{compiled}
+use Rattle.pw_link.specs.Layout.{Piece, placed_from, function_site}
 use Rattle.pw_law_linked.specs.Standing.{IsFoundIn}
 use Rattle.pw_law_linked.proofs.Names.{same_name, other_name}
 

@@ -1,7 +1,7 @@
 //! Laws of linked programs that run, without code: the setting of a linked program, and what holds in it.
 #![tactic(auto)]
 
-ghost use Rattle.std.specs.Prelude.{ℕ, ◌≡◌, ◌+◌, ◌*◌, Bool, List, ◌∷◌, ◌++◌, map};
+ghost use Rattle.std.specs.Prelude.{ℕ, ◌≡◌, ◌+◌, ◌*◌, ◌≤◌, Bool, List, ◌∷◌, ◌++◌, map};
 ghost use Rattle.std.specs.List.{AllByRecursion};
 ghost use Rattle.pw_flow.specs.ValidFlow.{AreDistinct};
 ghost use Rattle.pw_object.specs.declared.object.Object.{Object};
@@ -9,18 +9,26 @@ ghost use Rattle.pw_alloc.specs.declared.located.Located.{Located};
 ghost use Rattle.pw_select.specs.Selection.{selected};
 ghost use Rattle.pw_delay.specs.declared.items.Item.{Item};
 ghost use Rattle.pw_delay.specs.Placement.{sizes, mark_at};
-ghost use Rattle.pw_link.specs.Layout.{Placed, text_of};
+ghost use Rattle.pw_link.specs.Layout.{Sites, text_of, data_begin};
 ghost use Rattle.pw_link.specs.Linking.{linked};
-ghost use Rattle.pw_run_languages.specs.Programs.{Program};
+ghost use Rattle.pw_run_languages.specs.Programs.{Program, globals_of};
 ghost use Rattle.pw_run_languages.specs.LawfulPrograms.{IsProgram};
 ghost use Rattle.pw_run_languages.specs.LineRun.{turns, IsCalling};
-ghost use Rattle.pw_run_languages.specs.CodeStands.{is_long};
-ghost use Rattle.pw_run_languages.specs.SelectionLaws.{arranged};
+ghost use Rattle.pw_run_languages.specs.CodeStands.{is_long, AreReady};
+ghost use Rattle.pw_run_languages.specs.SelectionLaws.{arranged, with_items};
 ghost use Rattle.pw_run_languages.specs.LinkingLaws.{AreObjectsOf, address_of};
-ghost use Rattle.pw_law_linked.specs.Settings.{behind_in, behind_of, mark_of, long_of};
-ghost use Rattle.pw_law_linked.specs.Standing.{AtItsAddress, IsFoundAmong};
+ghost use Rattle.pw_law_code.specs.Lawful.{IsLawful};
+ghost use Rattle.pw_law_link_run.specs.Placing.{Stands};
+ghost use Rattle.pw_law_link_run.specs.Simulating.{IsLinked};
+ghost use Rattle.pw_law_link_run.specs.Leveled.{AreFramed};
+ghost use Rattle.pw_law_levels.specs.Sparing.{IsSparing};
+ghost use Rattle.pw_law_linked.specs.Settings.{behind_in, behind_of, mark_of, long_of, linked_setting};
+ghost use Rattle.pw_law_linked.specs.Standing.{HasItsWords, AtItsAddress, IsFoundAmong, CodeAt, ItsAddressIsItsOwn, HasFrame};
 
+use pw_law_code::code::placed_code_stands;
+use pw_law_levels::selected_functions_are_framed;
 use pw_law_link::laws::modules_stand_in_order;
+use pw_law_link_run::laws::{lawful_starts_are_settings, ready_lines_fit, selected_calls_are_conventional};
 
 /// The return address of a call, told by how many turns are left behind it, is that of the word behind its slot.
 pub fn calls_return_behind_their_slots()
@@ -39,10 +47,45 @@ pub fn settings_know_their_functions()
         behind_of functions objects stack l.body.name (turns rest) ≡ address_of (linked objects stack) l.body.name + 4 * sizes (is_long (selected l)) before + 8 }
 {}
 
-/// What holds of each piece of a linked text at its place holds of each function of the program at its address in the map.
+/// Where the words of each piece of a linked text stand at its place, those of each function of the program stand at its
+/// address in the map.
 pub fn functions_stand_at_their_addresses()
-    ensures { (Q : Placed → Type 0) (p : Program) (functions : List Located) (objects : List Object) → IsProgram p → AreObjectsOf p functions objects →
-        AreDistinct (map (λ l. l.body.name) functions) → AllByRecursion Q (text_of objects) → AllByRecursion (AtItsAddress Q objects p.stack) functions }
+    ensures { (memory : List ℕ) (p : Program) (functions : List Located) (objects : List Object) → IsProgram p → AreObjectsOf p functions objects →
+        AreDistinct (map (λ l. l.body.name) functions) → AllByRecursion (HasItsWords memory objects p.stack) (text_of objects) →
+        AllByRecursion (AtItsAddress (HasItsWords memory objects p.stack) objects p.stack) functions }
 {
     modules_stand_in_order();
+}
+
+/// A function whose words stand at its address in the machine's memory, their relocations done, stands there as items.
+pub fn functions_stand_as_items()
+    ensures { (p : Program) (functions : List Located) (objects : List Object) (input : List ℕ) (sites : Sites) (l : Located) → IsFoundAmong functions l → AreReady (selected l) →
+        CodeAt p functions objects input sites l → Stands (linked_setting p functions objects input) (with_items l) }
+{
+    placed_code_stands();
+}
+
+/// A program is linked as the machine's run wants it, where the machine starts lawfully with the data where the lines have
+/// them, each function's code stands at its address, and no other function of the program has that address.
+pub fn linked_programs_are_linked()
+    ensures { (p : Program) (functions : List Located) (objects : List Object) (input : List ℕ) (sites : Sites) → IsLawful (linked_setting p functions objects input).start →
+        (linked_setting p functions objects input).start.core.data_start ≡ data_begin objects → AreDistinct (map (λ l. l.body.name) functions) →
+        AllByRecursion (λ l. AreReady (selected l)) functions → AllByRecursion (CodeAt p functions objects input sites) functions →
+        AllByRecursion (ItsAddressIsItsOwn p objects) functions → IsLinked (linked_setting p functions objects input) }
+{
+    lawful_starts_are_settings();
+    ready_lines_fit();
+    selected_calls_are_conventional();
+    settings_know_their_functions();
+    functions_stand_as_items();
+}
+
+/// Its functions are framed, where their registers and frames are such, and the data begin before every global object.
+pub fn linked_programs_are_framed()
+    ensures { (p : Program) (functions : List Located) (objects : List Object) (input : List ℕ) → AreDistinct (map (λ l. l.body.name) functions) →
+        AllByRecursion IsSparing functions → AllByRecursion HasFrame functions → AllByRecursion (ItsAddressIsItsOwn p objects) functions →
+        AllByRecursion (λ v. data_begin objects ≤ address_of (linked objects p.stack) v.name) (globals_of p) → AreFramed (linked_setting p functions objects input) }
+{
+    settings_know_their_functions();
+    selected_functions_are_framed();
 }
