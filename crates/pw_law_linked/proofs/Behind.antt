@@ -1,24 +1,27 @@
 -- Return addresses of the calls in a function's items.
-use Rattle.std.specs.Prelude.{ℕ, suc, ◌≡◌, ◌+◌, ◌*◌, ◌<◌, ◌==◌, Bool, true, false, if◌then◌else◌, List, [], ◌∷◌, ◌++◌}
+use Rattle.std.specs.Prelude.{ℕ, ◌≡◌, ◌+◌, ◌*◌, ◌<◌, ◌==◌, Bool, true, false, if◌then◌else◌, cond, Option, List, [], ◌∷◌, ◌++◌}
 use Rattle.std.proofs.Common.{arith, ap, refl, ◌∙◌}
 use Rattle.std.proofs.lemmas.Bool.{eq-eqb, ne_eqb}
 use Rattle.std.proofs.lemmas.List.Sums.{sum_by-cons}
+use Rattle.pw_delay.specs.declared.items.Word.{Word}
+use Rattle.pw_delay.specs.declared.items.Turn.{Turn}
 use Rattle.pw_delay.specs.declared.items.Item.{Item}
 use Rattle.pw_delay.specs.declared.items.Item.TheVariants.{Plain, Turns, Mark}
 use Rattle.pw_delay.specs.Placement.{size, sizes}
-use Rattle.pw_run_languages.specs.LineRun.{turns, IsCalling}
+use Rattle.pw_run_languages.specs.LineRun.{is_turn, turns, IsCalling}
 use Rattle.pw_law_linked.specs.Settings.{behind_in}
+
+one_more : (turn : Turn) (slot : Option Word) (rest : List Item) → turns (Turns turn slot ∷ rest) ≡ 1 + turns rest
+one_more turn slot rest = sum_by-cons (λ (item : Item). cond (is_turn item) 1 0) (Turns turn slot) rest
 
 -- more turns are left before a turn than behind it
 turns_left : (before rest : List Item) (item : Item) → IsCalling item → turns rest < turns (before ++ item ∷ rest)
-turns_left [] rest (Turns turn slot) calling = let here : turns (Turns turn slot ∷ rest) ≡ suc (turns rest) = refl in omega (arith, here)
+turns_left [] rest (Turns turn slot) calling = omega (arith, one_more turn slot rest)
 turns_left [] rest (Plain w) calling = absurd calling
 turns_left [] rest (Mark b) calling = absurd calling
 turns_left (Plain w ∷ before) rest item calling = turns_left before rest item calling
 turns_left (Mark b ∷ before) rest item calling = turns_left before rest item calling
-turns_left (Turns turn slot ∷ before) rest item calling =
-    let here : turns (Turns turn slot ∷ (before ++ item ∷ rest)) ≡ suc (turns (before ++ item ∷ rest)) = refl in
-    omega (arith, here, turns_left before rest item calling)
+turns_left (Turns turn slot ∷ before) rest item calling = omega (arith, one_more turn slot (before ++ item ∷ rest), turns_left before rest item calling)
 
 here_by : (at later : ℕ) (b : Bool) → b ≡ true → (if b then at else later) ≡ at
 here_by at later b is = ap (λ (b : Bool). if b then at else later) is

@@ -8,3 +8,4 @@ pub mod Sizes
 pub mod Stands
 pub mod Linked
 pub mod Framed
+pub mod Whole

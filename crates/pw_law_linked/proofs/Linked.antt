@@ -27,15 +27,15 @@ rest_of named n names name (suc k) lt e is = (k, omega (arith, lt), e)
 find_own : (named : List ℕ → ℕ) (names : List (List ℕ)) (name : List ℕ) → Contains names name → ((f : List ℕ) → Contains names f → named f ≡ named name → f ≡ name)
     → find (λ f. named f == named name) names ≡ Some name
 find_own named [] name c own = absurd (omega (arith, c.1))
-find_own named (n ∷ names) name c own = by (named n == named name) refl
+find_own named (n ∷ names) name c own = by (named n == named name) refl (λ there. find_own named names name there (λ f h. own f (suc h.0, omega (arith, h.1), h.2)))
   where
-    by : (b : Bool) → (named n == named name) ≡ b → find (λ f. named f == named name) (n ∷ names) ≡ Some name
-    by true is =
+    by : (b : Bool) → (named n == named name) ≡ b → (Contains names name → find (λ f. named f == named name) names ≡ Some name) → find (λ f. named f == named name) (n ∷ names) ≡ Some name
+    by true is later =
         ap (λ (b : Bool). if b then Some n else find (λ f. named f == named name) names) is
         ∙ ap Some (own n (0, omega arith, refl) (eqb-true (named n) (named name) is))
-    by false is =
+    by false is later =
         ap (λ (b : Bool). if b then Some n else find (λ f. named f == named name) names) is
-        ∙ find_own named names name (rest_of named n names name c.0 c.1 c.2 is) (λ f h. own f (suc h.0, omega (arith, h.1), h.2))
+        ∙ later (rest_of named n names name c.0 c.1 c.2 is)
 
 -- ---- the functions of the program's lines
 
@@ -60,7 +60,7 @@ pub all_of : (P : LineFn → Type 0) (functions : List Located) → AllByRecursi
 all_of P functions all f c = let one = one_of functions f c in subst P one.is (at (λ l. P (with_items l)) functions one.located all one.there)
 
 -- the places of the functions with places are these
-located_is : (functions : List Located) → map (λ (f : LineFn). f.located) (map with_items functions) ≡ functions
+pub located_is : (functions : List Located) → map (λ (f : LineFn). f.located) (map with_items functions) ≡ functions
 located_is [] = refl
 located_is (l ∷ ls) = ap (λ (rest : List Located). l ∷ rest) (located_is ls)
 

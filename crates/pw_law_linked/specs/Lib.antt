@@ -1,2 +1,3 @@
 pub mod Settings
 pub mod Standing
+pub mod Whole

@@ -16,7 +16,7 @@ ghost use Rattle.pw_run_languages.specs.LawfulPrograms.{IsProgram};
 ghost use Rattle.pw_run_languages.specs.LineRun.{turns, IsCalling};
 ghost use Rattle.pw_run_languages.specs.CodeStands.{is_long, AreReady};
 ghost use Rattle.pw_run_languages.specs.SelectionLaws.{arranged, with_items};
-ghost use Rattle.pw_run_languages.specs.LinkingLaws.{AreObjectsOf, address_of};
+ghost use Rattle.pw_run_languages.specs.LinkingLaws.{AreObjectsOf, LinkKeeps, address_of};
 ghost use Rattle.pw_law_code.specs.Lawful.{IsLawful};
 ghost use Rattle.pw_law_link_run.specs.Placing.{Stands};
 ghost use Rattle.pw_law_link_run.specs.Simulating.{IsLinked};
@@ -24,11 +24,15 @@ ghost use Rattle.pw_law_link_run.specs.Leveled.{AreFramed};
 ghost use Rattle.pw_law_levels.specs.Sparing.{IsSparing};
 ghost use Rattle.pw_law_linked.specs.Settings.{behind_in, behind_of, mark_of, long_of, linked_setting};
 ghost use Rattle.pw_law_linked.specs.Standing.{HasItsWords, AtItsAddress, IsFoundAmong, CodeAt, ItsAddressIsItsOwn, HasFrame};
+ghost use Rattle.pw_law_linked.specs.Whole.{IsInPlace};
 
 use pw_law_code::code::placed_code_stands;
 use pw_law_levels::selected_functions_are_framed;
 use pw_law_link::laws::modules_stand_in_order;
-use pw_law_link_run::laws::{lawful_starts_are_settings, ready_lines_fit, selected_calls_are_conventional};
+use pw_law_link_run::laws::{
+    framed_runs_are_met, images_start_as_lines, lawful_starts_are_settings, library_is_there,
+    ready_lines_fit, selected_calls_are_conventional,
+};
 
 /// The return address of a call, told by how many turns are left behind it, is that of the word behind its slot.
 pub fn calls_return_behind_their_slots()
@@ -88,4 +92,15 @@ pub fn linked_programs_are_framed()
 {
     settings_know_their_functions();
     selected_functions_are_framed();
+}
+
+/// Where all is in its place, the image runs as the lines do, at the addresses of its map, and notes the same.
+pub fn linked_programs_run()
+    ensures { (p : Program) (functions : List Located) (objects : List Object) (input : List ℕ) → IsInPlace p functions objects input → LinkKeeps p functions (linked objects p.stack) input }
+{
+    linked_programs_are_linked();
+    linked_programs_are_framed();
+    library_is_there();
+    images_start_as_lines();
+    framed_runs_are_met();
 }
