@@ -30,7 +30,7 @@ map_globals begin (s ∷ stood) = ap (λ (rest : List (List ℕ × ℕ)). (s.glo
 abbrev pub sites_of : List Object → List (List ℕ × ℕ)
 sites_of objects = map function_site (text_of objects) ++ map (global_site (data_begin objects)) (data_of objects)
 
-address_is : (objects : List Object) (stack : ℕ) (name : List ℕ) → address_of (linked objects stack) name ≡ unwrap_or (lookup (bytes_eq name) (sites_of objects)) 0
+pub address_is : (objects : List Object) (stack : ℕ) (name : List ℕ) → address_of (linked objects stack) name ≡ unwrap_or (lookup (bytes_eq name) (sites_of objects)) 0
 unfolding linked
 address_is objects stack name =
     ap (λ (functions : List (List ℕ × ℕ)). unwrap_or (lookup (bytes_eq name) (functions ++ map (λ g. (g.name, g.address)) (map (global_of (data_begin objects)) (data_of objects)))) 0) (map_functions (text_of objects))

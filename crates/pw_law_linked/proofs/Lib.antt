@@ -9,3 +9,6 @@ pub mod Stands
 pub mod Linked
 pub mod Framed
 pub mod Whole
+pub mod Apart
+pub mod Served
+pub mod Code

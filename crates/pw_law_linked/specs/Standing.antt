@@ -28,6 +28,10 @@ IsFoundIn table q = lookup (bytes_eq q.piece.name) table ≡ Some q.address
 abbrev pub pieces : List Located → List Piece
 pieces ls = map piece_of (map compiled ls)
 
+-- one piece does not begin inside another
+abbrev pub BeginsOutside : Placed → Placed → Type 0
+BeginsOutside q r = (r.address ≤ q.address) ⊎ (q.address + 4 * length q.piece.words ≤ r.address)
+
 -- the words of a piece, their relocations done, stand at its place
 abbrev pub HasItsWords : List ℕ → List Object → ℕ → Placed → Type 0
 HasItsWords memory objects stack q = HasWords memory q.address (piece_words (sites objects stack) q)

@@ -1,18 +1,26 @@
 //! Laws of linked programs that run, without code: the setting of a linked program, and what holds in it.
 #![tactic(auto)]
 
-ghost use Rattle.std.specs.Prelude.{ℕ, ◌≡◌, ◌+◌, ◌*◌, ◌≤◌, Bool, List, ◌∷◌, ◌++◌, map};
+ghost use Rattle.std.specs.Prelude.{ℕ, ◌≡◌, ◌+◌, ◌*◌, ◌<◌, ◌≤◌, ◌^◌, Bool, Some, List, ◌∷◌, ◌++◌, map, length, slice_index_or};
 ghost use Rattle.std.specs.List.{AllByRecursion};
 ghost use Rattle.pw_flow.specs.ValidFlow.{AreDistinct};
 ghost use Rattle.pw_object.specs.declared.object.Object.{Object};
 ghost use Rattle.pw_alloc.specs.declared.located.Located.{Located};
+ghost use Rattle.pw_webflow.specs.declared.web.WebFn.{WebFn};
+ghost use Rattle.pw_webflow.specs.ValidWebs.{IsWebFn};
 ghost use Rattle.pw_select.specs.Selection.{selected};
 ghost use Rattle.pw_delay.specs.declared.items.Item.{Item};
-ghost use Rattle.pw_delay.specs.Placement.{sizes, mark_at};
-ghost use Rattle.pw_link.specs.Layout.{Sites, text_of, data_begin};
-ghost use Rattle.pw_link.specs.Linking.{linked};
+ghost use Rattle.pw_delay.specs.Placement.{sizes, mark_at, placed};
+ghost use Rattle.pw_link.specs.Layout.{Piece, placed_from, Sites, text_of, data_begin};
+ghost use Rattle.pw_link.specs.Linking.{linked, symbol_address, with_fixes};
+ghost use Rattle.pw_inst.specs.declared.relocation.Symbol.TheVariants.{Named, StackLimit, Routine};
+ghost use Rattle.pw_machine.specs.Core.{word_at};
+ghost use Rattle.pw_law_link.specs.Standing.{sites};
+ghost use Rattle.pw_law_code.specs.LinkedAddresses.{linked_addresses};
+ghost use Rattle.pw_run_languages.specs.Acts as lines;
 ghost use Rattle.pw_run_languages.specs.Programs.{Program, globals_of};
 ghost use Rattle.pw_run_languages.specs.LawfulPrograms.{IsProgram};
+ghost use Rattle.pw_run_languages.specs.Serving.{Serves};
 ghost use Rattle.pw_run_languages.specs.LineRun.{turns, IsCalling};
 ghost use Rattle.pw_run_languages.specs.CodeStands.{is_long, AreReady};
 ghost use Rattle.pw_run_languages.specs.SelectionLaws.{arranged, with_items};
@@ -23,7 +31,7 @@ ghost use Rattle.pw_law_link_run.specs.Simulating.{IsLinked};
 ghost use Rattle.pw_law_link_run.specs.Leveled.{AreFramed};
 ghost use Rattle.pw_law_levels.specs.Sparing.{IsSparing};
 ghost use Rattle.pw_law_linked.specs.Settings.{behind_in, behind_of, mark_of, long_of, linked_setting};
-ghost use Rattle.pw_law_linked.specs.Standing.{HasItsWords, AtItsAddress, IsFoundAmong, CodeAt, ItsAddressIsItsOwn, HasFrame};
+ghost use Rattle.pw_law_linked.specs.Standing.{BeginsOutside, HasItsWords, AtItsAddress, IsFoundAmong, CodeAt, ItsAddressIsItsOwn, HasFrame};
 ghost use Rattle.pw_law_linked.specs.Whole.{IsInPlace};
 
 use pw_law_code::code::placed_code_stands;
@@ -51,6 +59,11 @@ pub fn settings_know_their_functions()
         behind_of functions objects stack l.body.name (turns rest) ≡ address_of (linked objects stack) l.body.name + 4 * sizes (is_long (selected l)) before + 8 }
 {}
 
+/// Of pieces that stand one behind the other none begins inside another.
+pub fn pieces_stand_apart()
+    ensures { (at : ℕ) (ps : List Piece) → AllByRecursion (λ q. AllByRecursion (BeginsOutside q) (placed_from at ps)) (placed_from at ps) }
+{}
+
 /// Where the words of each piece of a linked text stand at its place, those of each function of the program stand at its
 /// address in the map.
 pub fn functions_stand_at_their_addresses()
@@ -60,6 +73,20 @@ pub fn functions_stand_at_their_addresses()
 {
     modules_stand_in_order();
 }
+
+/// There they are the words of its placed lines, their relocations done; and a name, the end of the stack and a routine have
+/// the linker's addresses in the run of lines.
+pub fn code_has_its_addresses()
+    ensures words { (memory : List ℕ) (objects : List Object) (stack : ℕ) (l : Located) → AtItsAddress (HasItsWords memory objects stack) objects stack l →
+        (i : ℕ) → i < length (placed (selected l)).words → word_at memory (address_of (linked objects stack) l.body.name + 4 * i) ≡
+        slice_index_or (with_fixes (sites objects stack) (address_of (linked objects stack) l.body.name) (placed (selected l)).fixes (placed (selected l)).words) i 0 }
+    ensures names { (objects : List Object) (stack own : ℕ) (behind : List ℕ → ℕ → ℕ) (name : List ℕ) →
+        lines.symbol_address (linked_addresses objects stack behind) (Named name) ≡ Some (symbol_address (sites objects stack) own (Named name)) }
+    ensures limit { (objects : List Object) (stack own : ℕ) (behind : List ℕ → ℕ → ℕ) →
+        lines.symbol_address (linked_addresses objects stack behind) StackLimit ≡ Some (symbol_address (sites objects stack) own StackLimit) }
+    ensures routines { (objects : List Object) (stack own : ℕ) (behind : List ℕ → ℕ → ℕ) (k : ℕ) →
+        lines.symbol_address (linked_addresses objects stack behind) (Routine k) ≡ Some (symbol_address (sites objects stack) own (Routine k)) }
+{}
 
 /// A function whose words stand at its address in the machine's memory, their relocations done, stands there as items.
 pub fn functions_stand_as_items()
@@ -83,6 +110,12 @@ pub fn linked_programs_are_linked()
     settings_know_their_functions();
     functions_stand_as_items();
 }
+
+/// Functions whose places serve them have such frames and registers.
+pub fn served_functions_are_sparing()
+    ensures frame { (f : WebFn) (l : Located) → Serves f l → HasFrame l }
+    ensures sparing { (f : WebFn) (l : Located) → IsWebFn f → Serves f l → 1 ≤ l.frame → l.frame < 2 ^ 31 → IsSparing l }
+{}
 
 /// Its functions are framed, where their registers and frames are such, and the data begin before every global object.
 pub fn linked_programs_are_framed()
