@@ -38,10 +38,10 @@ address_is objects stack name =
 
 -- ---- the functions
 
-abbrev HasAddress : List Object → ℕ → Placed → Type 0
+abbrev pub HasAddress : List Object → ℕ → Placed → Type 0
 HasAddress objects stack q = address_of (linked objects stack) q.piece.name ≡ q.address
 
-addressed : (objects : List Object) (stack : ℕ) (qs : List Placed) → AllByRecursion (IsFoundIn (sites_of objects)) qs → AllByRecursion (HasAddress objects stack) qs
+pub addressed : (objects : List Object) (stack : ℕ) (qs : List Placed) → AllByRecursion (IsFoundIn (sites_of objects)) qs → AllByRecursion (HasAddress objects stack) qs
 addressed objects stack [] h = tt
 addressed objects stack (q ∷ qs) h = (address_is objects stack q.piece.name ∙ ap (λ (o : Option ℕ). unwrap_or o 0) h.0, addressed objects stack qs h.1)
 
@@ -52,7 +52,7 @@ each_at Q objects stack at (l ∷ ls) rest found h =
     let p = piece_of (compiled l) in
     (subst (λ (a : ℕ). Q (record { address = a; piece = p })) (sym found.0) h.0, each_at Q objects stack (at + 4 * length p.words) ls rest found.1 h.1)
 
-compiled_names : (ls : List Located) → map (λ p. p.name) (pieces ls) ≡ map (λ l. l.body.name) ls
+pub compiled_names : (ls : List Located) → map (λ p. p.name) (pieces ls) ≡ map (λ l. l.body.name) ls
 compiled_names [] = refl
 compiled_names (l ∷ ls) = ap (λ (names : List (List ℕ)). l.body.name ∷ names) (compiled_names ls)
 

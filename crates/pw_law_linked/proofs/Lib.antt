@@ -12,3 +12,4 @@ pub mod Whole
 pub mod Apart
 pub mod Served
 pub mod Code
+pub mod Own

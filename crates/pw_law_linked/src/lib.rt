@@ -18,13 +18,14 @@ ghost use Rattle.pw_machine.specs.Core.{word_at};
 ghost use Rattle.pw_law_link.specs.Standing.{sites};
 ghost use Rattle.pw_law_code.specs.LinkedAddresses.{linked_addresses};
 ghost use Rattle.pw_run_languages.specs.Acts as lines;
-ghost use Rattle.pw_run_languages.specs.Programs.{Program, globals_of};
+ghost use Rattle.pw_run_languages.specs.Programs.{Program, functions_of, globals_of};
+ghost use Rattle.pw_run_languages.specs.Addresses.{AreLawful};
 ghost use Rattle.pw_run_languages.specs.LawfulPrograms.{IsProgram};
 ghost use Rattle.pw_run_languages.specs.Serving.{Serves};
 ghost use Rattle.pw_run_languages.specs.LineRun.{turns, IsCalling};
 ghost use Rattle.pw_run_languages.specs.CodeStands.{is_long, AreReady};
 ghost use Rattle.pw_run_languages.specs.SelectionLaws.{arranged, with_items};
-ghost use Rattle.pw_run_languages.specs.LinkingLaws.{AreObjectsOf, LinkKeeps, address_of};
+ghost use Rattle.pw_run_languages.specs.LinkingLaws.{AreObjectsOf, AreNamesApart, LinkKeeps, address_of};
 ghost use Rattle.pw_law_code.specs.Lawful.{IsLawful};
 ghost use Rattle.pw_law_link_run.specs.Placing.{Stands};
 ghost use Rattle.pw_law_link_run.specs.Simulating.{IsLinked};
@@ -94,6 +95,14 @@ pub fn functions_stand_as_items()
         CodeAt p functions objects input sites l → Stands (linked_setting p functions objects input) (with_items l) }
 {
     placed_code_stands();
+}
+
+/// Each function of a linked program has an address of its own, and none begins inside another.
+pub fn addresses_are_their_own()
+    ensures { (p : Program) (functions : List Located) (objects : List Object) (behind : List ℕ → ℕ → ℕ) → IsProgram p → AreObjectsOf p functions objects → AreNamesApart p →
+        map (λ l. l.body.name) functions ≡ map (λ f. f.name) (functions_of p) → AreLawful p (linked_addresses objects p.stack behind) → AllByRecursion (ItsAddressIsItsOwn p objects) functions }
+{
+    modules_stand_in_order();
 }
 
 /// A program is linked as the machine's run wants it, where the machine starts lawfully with the data where the lines have
