@@ -11,5 +11,6 @@ pub mod Framed
 pub mod Whole
 pub mod Apart
 pub mod Served
-pub mod Code
+pub mod Relocated
 pub mod Own
+pub mod Words

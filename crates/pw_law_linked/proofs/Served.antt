@@ -16,7 +16,7 @@ use Rattle.pw_alloc.specs.declared.located.Place.{Place}
 use Rattle.pw_alloc.specs.declared.located.Place.TheVariants.{Slot, Reg}
 use Rattle.pw_alloc.specs.declared.located.Located.{Located}
 use Rattle.pw_alloc.specs.Frames.{head_size, slots_begin, last_reach}
-use Rattle.pw_run_languages.specs.Serving.{slots_alone, Changes, places, enters, Serves}
+use Rattle.pw_run_languages.specs.Serving.{slots_alone, Changes, places, enters, saves, Serves}
 use Rattle.pw_law_levels.specs.Sparing.{IsOther, SparesPlace, SparesOp, SparesWeb, IsSparing}
 use Rattle.pw_law_linked.specs.Standing.{HasFrame}
 
@@ -69,6 +69,7 @@ all_blocks f webs (b ∷ rest) h = (all_ops f webs b.ops h.0.ops, all_blocks f w
 
 changed_low : (f : WebFn) (l : Located) → IsWebFn f → Serves f l → (r : ℕ) → Changes f l r → r ≤ 20
 changed_low f l is serves r (places c small free) = omega (arith, small)
+changed_low f l is serves r (saves c) = absurd (let none : c.0 < 0 = c.1 in omega (arith, none))
 changed_low f l is serves r (enters w) =
     let web = web_low f.directives.webs w.there.0 (w.web, Entry) is.directives.each w.there.1 w.there.2 in
     let high = web.high in

@@ -1,5 +1,5 @@
 -- What stands where in a linked program, and what is found by its name.
-use Rattle.std.specs.Prelude.{ℕ, ◌≡◌, ◌+◌, ◌*◌, ◌%◌, ◌<◌, ◌≤◌, ◌⊎◌, Some, List, find, map, length, slice_index_or, Contains}
+use Rattle.std.specs.Prelude.{ℕ, ◌≡◌, ◌+◌, ◌*◌, ◌%◌, ◌^◌, ◌<◌, ◌≤◌, ◌⊎◌, Some, List, find, map, length, slice_index_or, Contains}
 use Rattle.std.specs.Map.{lookup}
 use Rattle.std.specs.Str.{bytes_eq}
 use Rattle.pw_value.specs.Limits.{text_start, word_limit}
@@ -67,3 +67,7 @@ pub record ItsAddressIsItsOwn (p : Program) (objects : List Object) (l : Located
 -- its frame is that of its head, its saved registers, so many temporaries, and its slots
 abbrev pub HasFrame : Located → Type 0
 HasFrame l = (n : ℕ) × (l.frame ≡ last_reach (slots_begin (head_size l.body) (length l.saved) n) l.body.slots)
+
+-- a function's words end so far below the greatest address that an instruction fits behind them
+abbrev pub EndsBelow : List Object → ℕ → Located → Type 0
+EndsBelow objects stack l = address_of (linked objects stack) l.body.name + 4 * length (placed (selected l)).words + 8 < 2 ^ 32

@@ -42,4 +42,4 @@ pub record IsInPlace (p : Program) (functions : List Located) (objects : List Ob
   pub entry : (linked objects p.stack).memory.entry ≡ own_address (linked_setting p functions objects input) first
   pub base : (linked_setting p functions objects input).addresses.base ≡ stack_start_of (linked objects p.stack).memory.words (linked objects p.stack).memory.data_size
   pub small : (linked_setting p functions objects input).addresses.base < 2 ^ 32
-  pub data : HasData (linked_setting p functions objects input) (linked objects p.stack).memory
+  pub memory : HasData (linked_setting p functions objects input) (linked objects p.stack).memory

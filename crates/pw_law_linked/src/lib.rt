@@ -32,7 +32,7 @@ ghost use Rattle.pw_law_link_run.specs.Simulating.{IsLinked};
 ghost use Rattle.pw_law_link_run.specs.Leveled.{AreFramed};
 ghost use Rattle.pw_law_levels.specs.Sparing.{IsSparing};
 ghost use Rattle.pw_law_linked.specs.Settings.{behind_in, behind_of, mark_of, long_of, linked_setting};
-ghost use Rattle.pw_law_linked.specs.Standing.{BeginsOutside, HasItsWords, AtItsAddress, IsFoundAmong, CodeAt, ItsAddressIsItsOwn, HasFrame};
+ghost use Rattle.pw_law_linked.specs.Standing.{BeginsOutside, HasItsWords, AtItsAddress, IsFoundAmong, CodeAt, ItsAddressIsItsOwn, HasFrame, EndsBelow};
 ghost use Rattle.pw_law_linked.specs.Whole.{IsInPlace};
 
 use pw_law_code::code::placed_code_stands;
@@ -96,6 +96,11 @@ pub fn functions_stand_as_items()
 {
     placed_code_stands();
 }
+
+/// The return addresses of a setting are words, where each function ends below the greatest address.
+pub fn return_addresses_are_words()
+    ensures { (functions : List Located) (objects : List Object) (stack : ℕ) → AllByRecursion (EndsBelow objects stack) functions → (name : List ℕ) (n : ℕ) → behind_of functions objects stack name n < 2 ^ 32 }
+{}
 
 /// Each function of a linked program has an address of its own, and none begins inside another.
 pub fn addresses_are_their_own()

@@ -1,4 +1,4 @@
-use Rattle.pw_law_linked.proofs.Code.{words_there, named_there, limit_there, routine_there}
+use Rattle.pw_law_linked.proofs.Relocated.{words_there, named_there, limit_there, routine_there}
 use Rattle.pw_law_linked.proofs.code_has_its_addresses.Goals as goal
 
 pub returns-clause-words : goal.returns-clause-words
