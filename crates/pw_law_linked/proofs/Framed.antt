@@ -43,10 +43,10 @@ none_inside p functions objects input l found own m some lt =
     let named = address_of (linked objects p.stack) in
     let count = words_are p functions objects input l found in
     none_at named (names_of p) (named l.body.name + 4 * m) (λ f there e.
-        elim (own.inside f there) [
-          | inl below ↦ omega (arith, below, e, some)
-          | inr above ↦ omega (arith, above, e, lt, count)
-        ])
+    elim (own.inside f there) [
+      | inl below ↦ omega (arith, below, e, some)
+      | inr above ↦ omega (arith, above, e, lt, count)
+    ])
 
 some_same : (a b : Located) → Some a ≡ Some b → a ≡ b
 some_same a b e = cc
