@@ -1,7 +1,6 @@
 -- Addresses in the first bytes of objects of modules that checking accepts and whose objects link lead inside.
-use Rattle.std.proofs.Common.{◌≡◌, ◌≢◌, ◌⊎◌, ◌≤◌, ℕ, zero, suc, Bool, true, false, Option, List, [], ◌∷◌, ◌++◌, map, refl, sym, ap, subst, ◌∙◌, arith, inl, inr}
+use Rattle.std.proofs.Common.{◌≡◌, ◌≢◌, ◌≤◌, ℕ, zero, suc, Bool, true, false, Option, List, [], ◌∷◌, ◌++◌, map, refl, sym, ap, subst, ◌∙◌, arith, inl, inr}
 use Rattle.std.specs.Prelude.{Some, None, IsSomeAnd, All, slice_get, option_map, unwrap_or, Contains}
-use Rattle.std.specs.List.{AllByRecursion, flat_map}
 use Rattle.std.proofs.lemmas.Bool.{leb-true, eqb-true}
 use Rattle.pw_value.specs.Limits.{size_limit}
 use Rattle.pw_value.specs.Shapes.{Agree}
@@ -9,8 +8,8 @@ use Rattle.pw_types.specs.declared.record.Layout.{Layout}
 use Rattle.pw_types.specs.FullNames.{full_name}
 use Rattle.pw_types.specs.Layouts.{layout_of, size_of}
 use Rattle.pw_types.specs.Shapes.{shape_of}
-use Rattle.pw_types.specs.TypeTrees.{QType, type_of, is_volatile}
-use Rattle.pw_types.specs.TypedTrees.{Symbol, External, Internal, Hidden, GlobalValue, DeclaredValue, ItemValue, ItemBytes, ItemAddress, PlacedItem, ModuleValue}
+use Rattle.pw_types.specs.TypeTrees.{type_of, is_volatile}
+use Rattle.pw_types.specs.TypedTrees.{Symbol, External, Internal, Hidden, GlobalValue, DeclaredValue, ItemValue, ItemBytes, ItemAddress, ModuleValue}
 use Rattle.pw_types.specs.TypedModules.{IsGlobal, WellTyped}
 use Rattle.pw_flow.specs.declared.flow.FlowGlobal.{FlowGlobal}
 use Rattle.pw_flow.specs.declared.flow.FlowModule.{FlowModule}

@@ -1,5 +1,5 @@
 -- Shapes tell sizes: types of one shape, both of known size, have one.
-use Rattle.std.proofs.Common.{◌≡◌, ◌≤◌, ◌<◌, ◌+◌, ◌*◌, ◌^◌, ℕ, zero, suc, Bool, true, false, Option, Some, None, List, [], ◌∷◌, ◌++◌, refl, sym, ap, subst, ◌∙◌, arith, IsTrue}
+use Rattle.std.proofs.Common.{◌≡◌, ◌≤◌, ◌*◌, ℕ, zero, suc, Bool, true, false, Option, Some, None, List, [], ◌∷◌, ◌++◌, refl, sym, ap, subst, ◌∙◌, arith, IsTrue}
 use Rattle.std.specs.Prelude.{decimal, option_map, option_and_then, slice_get, unwrap_or, ◌==◌, ◌||◌, if◌then◌else◌}
 use Rattle.std.specs.Char.{is_ascii_digit}
 use Rattle.std.specs.List.{list_all}
@@ -15,8 +15,8 @@ use Rattle.pw_types.specs.declared.record.RecordKind.{RecordKind}
 use Rattle.pw_types.specs.declared.record.RecordKind.TheVariants.{Structure, Union}
 use Rattle.pw_types.specs.Layouts.{array_layout, content_at, layout_of}
 use Rattle.pw_types.specs.Records.{IsLaid, kind_at}
-use Rattle.pw_types.specs.Shapes.{shape_of, shape_of_record, unknown_shape, record_shape, member_shapes, letter_of_kind, marked, length_text, opening, closing}
-use Rattle.pw_types.specs.TypeTrees.{CType, Void, Int, Pointer, Array, Function, Record, Qualified, QType, ContentValue, RecordValue}
+use Rattle.pw_types.specs.Shapes.{shape_of, shape_of_record, unknown_shape, record_shape, member_shapes, letter_of_kind, marked, length_text, closing}
+use Rattle.pw_types.specs.TypeTrees.{CType, Void, Int, Pointer, Array, Function, Record, Qualified, ContentValue, RecordValue}
 use Rattle.pw_law_checked.proofs.Lists.{some_same, never_some}
 use Rattle.pw_law_checked.proofs.Composite.{decimal_is}
 use Rattle.pw_law_accept.proofs.Agreeing.{digit_first, digit_rest}

@@ -6,7 +6,6 @@ use Rattle.pw_link_interface.specs.Interface.{interface}
 use Rattle.pw_link_rules.specs.Linking.{Links}
 use Rattle.pw_flow.specs.declared.flow.FlowGlobal.{FlowGlobal}
 use Rattle.pw_flow.specs.declared.flow.FlowModule.{FlowModule}
-use Rattle.pw_law_checked.specs.Words.{AreWordsInModule}
 use Rattle.pw_law_checked.specs.Names.{AreNumbered}
 use Rattle.pw_cmean.specs.Worlds.{Program, ProgramModule}
 use Rattle.pw_run_languages.specs.Programs as flows
@@ -21,11 +20,7 @@ pub record AreLinked (modules : List FlowModule) : Type 0 where
   pub show : AllShow modules objects
   pub links : Links (map interface objects)
 
--- the numbers of the typed trees are of 32 bits, as in those that the code makes
-abbrev pub AreOfWords : Program → Type 0
-AreOfWords p = (m : ProgramModule) → Contains p.modules m → AreWordsInModule m.tree
-
--- the numbers of objects without a name are of 32 bits, too
+-- the numbers of objects without a name are of 32 bits
 abbrev pub AreAllNumbered : Program → Type 0
 AreAllNumbered p = (m : ProgramModule) → Contains p.modules m → AreNumbered m.tree
 

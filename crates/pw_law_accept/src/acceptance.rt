@@ -17,20 +17,21 @@ ghost use Rattle.pw_cmean.specs.Typed.{IsWellTyped};
 ghost use Rattle.pw_law_lower.specs.Within.{IsWithin};
 ghost use Rattle.pw_run_languages.specs.LawfulPrograms.{IsProgram, NamesRightly, ops_of};
 ghost use Rattle.pw_run_languages.specs.LinkingLaws.{AreNamesApart};
-ghost use Rattle.pw_law_layers.specs.Accepting.{AreFormed, IsWhole, LeadInside};
+ghost use Rattle.pw_law_layers.specs.Accepting.{AreFormed, CheckedIsAccepted, LeadInside};
 ghost use Rattle.pw_law_layers.specs.Lowering.{AreChecked, DeclareAlike, HaveParts, IsAccepted, flow_program};
 ghost use Rattle.pw_law_refine.specs.Lowerable.{IsLowerable};
-ghost use Rattle.pw_law_accept.specs.Linked.{AreAllNumbered, AreLinked, AreNamedPlainly, AreOfWords, HaveRightItems};
+ghost use Rattle.pw_law_accept.specs.Linked.{AreAllNumbered, AreLinked, AreNamedPlainly, HaveRightItems};
 
 use crate::formed::accepted_functions_are_formed;
 use crate::operations::lowered_functions_refer_rightly;
 use pw_law_checked::{
-    accepted_addresses_lead_inside, accepted_functions_are_no_objects,
-    accepted_functions_are_typed, accepted_initialisers_have_parts, accepted_is_well_typed,
-    accepted_is_within, accepted_names_are_declared, accepted_names_are_identifiers,
-    accepted_names_of_objects_are_no_functions, accepted_strings_are_short, strings_of_texts,
+    accepted_addresses_lead_inside, accepted_bodies_have_words, accepted_functions_are_no_objects,
+    accepted_functions_are_typed, accepted_initialisers_have_parts, accepted_is_within,
+    accepted_names_are_declared, accepted_names_are_identifiers,
+    accepted_names_of_objects_are_no_functions, strings_of_texts,
 };
 use pw_law_lower::modules_are_lawful;
+use pw_law_words::accepted_texts_are_well_typed;
 use pw_tree::words_spell_what_they_are;
 
 /// Where the objects of checked modules link, all declarations of a name agree, the library's among them, and `main` takes nothing
@@ -92,21 +93,19 @@ pub fn linked_modules_are_within()
     accepted_is_within();
 }
 
-/// They are well typed and agree on functions, if no module has a colon in its name, the names rise, and each number of the typed
-/// trees is one of 32 bits, as in each that the code makes.
+/// They are well typed and agree on functions, if no module has a colon in its name and the names rise.
 pub fn linked_modules_are_well_typed()
-    ensures { (p : Program) (frame_of : List ℕ → ℕ) (stack : ℕ) → AreChecked p → AreNamedPlainly p → IsRising (map (λ m. m.name) p.modules) → AreLinked (flow_program p frame_of stack).modules → AreOfWords p → IsWellTyped p }
+    ensures { (p : Program) (frame_of : List ℕ → ℕ) (stack : ℕ) → AreChecked p → AreNamedPlainly p → IsRising (map (λ m. m.name) p.modules) → AreLinked (flow_program p frame_of stack).modules → IsWellTyped p }
 {
     strings_of_texts();
-    accepted_strings_are_short();
-    accepted_is_well_typed();
+    accepted_texts_are_well_typed();
     linked_functions_agree();
 }
 
 /// And their operations name functions and globals as they want one: what one module takes for a function or an object, the program
 /// has as such.
 pub fn linked_operations_refer_rightly()
-    ensures { (p : Program) (frame_of : List ℕ → ℕ) (stack : ℕ) → AreChecked p → AreNamedPlainly p → IsRising (map (λ m. m.name) p.modules) → AreLinked (flow_program p frame_of stack).modules → AreOfWords p
+    ensures { (p : Program) (frame_of : List ℕ → ℕ) (stack : ℕ) → AreChecked p → AreNamedPlainly p → IsRising (map (λ m. m.name) p.modules) → AreLinked (flow_program p frame_of stack).modules
         → (f : FlowFn) (o : Op) → Contains (functions_of (flow_program p frame_of stack)) f → Contains (ops_of f) o → NamesRightly (flow_program p frame_of stack) o }
 {
     strings_of_texts();
@@ -114,8 +113,8 @@ pub fn linked_operations_refer_rightly()
     accepted_names_are_identifiers();
     accepted_functions_are_typed();
     accepted_names_are_declared();
-    accepted_strings_are_short();
-    accepted_is_well_typed();
+    accepted_texts_are_well_typed();
+    accepted_bodies_have_words();
     linked_modules_are_within();
     modules_are_lawful();
     accepted_names_of_objects_are_no_functions();
@@ -125,7 +124,7 @@ pub fn linked_operations_refer_rightly()
 
 /// And the first bytes of their objects are right: bytes, and addresses, to which nothing is added where they are those of functions.
 pub fn linked_items_are_right()
-    ensures { (p : Program) (frame_of : List ℕ → ℕ) (stack : ℕ) → AreChecked p → AreNamedPlainly p → IsRising (map (λ m. m.name) p.modules) → AreLinked (flow_program p frame_of stack).modules → AreOfWords p
+    ensures { (p : Program) (frame_of : List ℕ → ℕ) (stack : ℕ) → AreChecked p → AreNamedPlainly p → IsRising (map (λ m. m.name) p.modules) → AreLinked (flow_program p frame_of stack).modules
         → HaveRightItems (flow_program p frame_of stack) }
 {
     strings_of_texts();
@@ -133,8 +132,7 @@ pub fn linked_items_are_right()
     accepted_names_are_identifiers();
     accepted_functions_are_typed();
     accepted_names_are_declared();
-    accepted_strings_are_short();
-    accepted_is_well_typed();
+    accepted_texts_are_well_typed();
     accepted_addresses_lead_inside();
     linked_modules_are_within();
     modules_are_lawful();
@@ -142,7 +140,7 @@ pub fn linked_items_are_right()
 
 /// And their flow graphs make a program: each name that they use is defined, as what it is used for, and none twice, the modules are lawful and stand in the order of their names, and there is a `$start`.
 pub fn linked_modules_make_a_program()
-    ensures { (p : Program) (frame_of : List ℕ → ℕ) (stack : ℕ) → AreChecked p → AreNamedPlainly p → IsRising (map (λ m. m.name) p.modules) → stack ≤ stack_limit → AreLinked (flow_program p frame_of stack).modules → AreOfWords p
+    ensures { (p : Program) (frame_of : List ℕ → ℕ) (stack : ℕ) → AreChecked p → AreNamedPlainly p → IsRising (map (λ m. m.name) p.modules) → stack ≤ stack_limit → AreLinked (flow_program p frame_of stack).modules
         → IsProgram (flow_program p frame_of stack) }
 {
     strings_of_texts();
@@ -150,8 +148,7 @@ pub fn linked_modules_make_a_program()
     accepted_names_are_identifiers();
     accepted_functions_are_typed();
     accepted_names_are_declared();
-    accepted_strings_are_short();
-    accepted_is_well_typed();
+    accepted_texts_are_well_typed();
     linked_modules_are_within();
     modules_are_lawful();
     linked_operations_refer_rightly();
@@ -160,23 +157,21 @@ pub fn linked_modules_make_a_program()
 
 /// And each address in the first bytes of an object leads into the object that it names, or directly behind it.
 pub fn linked_addresses_lead_inside()
-    ensures { (p : Program) (frame_of : List ℕ → ℕ) (stack : ℕ) → AreChecked p → AreLinked (flow_program p frame_of stack).modules → AreOfWords p → LeadInside (flow_program p frame_of stack) }
+    ensures { (p : Program) (frame_of : List ℕ → ℕ) (stack : ℕ) → AreChecked p → AreLinked (flow_program p frame_of stack).modules → LeadInside (flow_program p frame_of stack) }
 {
     strings_of_texts();
     words_spell_what_they_are();
     accepted_names_are_identifiers();
     accepted_functions_are_typed();
     accepted_names_are_declared();
-    accepted_strings_are_short();
-    accepted_is_well_typed();
+    accepted_texts_are_well_typed();
     accepted_addresses_lead_inside();
 }
 
-/// So checked modules whose objects link are accepted, with all that built programs want of it, but for what is a premise here: that
-/// no module has a colon in its name, and that numbers are of 32 bits.
-pub fn checked_is_accepted_but_for_numbers()
-    ensures { (p : Program) (frame_of : List ℕ → ℕ) (stack : ℕ) → AreChecked p → AreNamedPlainly p → IsRising (map (λ m. m.name) p.modules) → stack ≤ stack_limit → AreLinked (flow_program p frame_of stack).modules
-        → AreOfWords p → IsWhole p frame_of stack }
+/// What checking and linking accept is accepted in the words of C's meaning, with all that built programs want of it: checked modules
+/// in the order of their names, of which none has a colon, whose objects link, with a stack that may be asked for.
+pub fn checked_is_accepted()
+    ensures { CheckedIsAccepted }
 {
     linked_modules_are_well_typed();
     linked_modules_make_a_program();

@@ -29,14 +29,12 @@ use Rattle.pw_law_linked.specs.Whole.{IsInPlace}
 use Rattle.pw_law_linked.proofs.Text.{OrderStays}
 use Rattle.pw_law_linked.proofs.Addresses.{address_is, each_function}
 use Rattle.pw_law_linked.proofs.Relocated.{words_there}
-use Rattle.pw_law_linked.proofs.Spans.{few_words, names_served, names_distinct, EndsBy, functions_within, words_count, GivesLawfulAddresses, addresses_lawful, globals_given, own_given}
+use Rattle.pw_law_linked.proofs.Spans.{few_words, names_served, names_distinct, EndsBy, functions_within, words_count, text_count, GivesLawfulAddresses, addresses_lawful, globals_given, own_given}
+use Rattle.pw_law_linked.proofs.LibraryBehind.{all_stand}
+use Rattle.pw_law_linked.proofs.Held.{Words, StandInText, words_held, StartsLawfully, start_lawful}
 use Rattle.pw_law_linked.proofs.Ready.{ready_given, frames_given, sparing_given}
 
 -- ---- the machine at its start
-
-text_count : (p : Program) (functions : List Located) (objects : List Object) (input : List ℕ) → (linked_setting p functions objects input).start.core.text ≡ word_count objects
-unfolding start_core
-text_count p functions objects input = words_count objects p.stack
 
 data_starts : (p : Program) (functions : List Located) (objects : List Object) (input : List ℕ) → (linked_setting p functions objects input).start.core.data_start ≡ data_begin objects
 unfolding start_core
@@ -107,9 +105,10 @@ each_code p functions objects input top (l ∷ ls) lawful end few own ends words
 
 -- ---- all of it
 
-pub in_place : OrderStays → GivesLawfulAddresses → SelectionIsReady → (p : Program) (d : List (List ℕ × Directives)) (functions : List Located) (objects : List Object) (input : List ℕ)
+pub in_place : OrderStays → GivesLawfulAddresses → SelectionIsReady → Words → StandInText → StartsLawfully → (p : Program) (d : List (List ℕ × Directives)) (functions : List Located) (objects : List Object) (input : List ℕ)
     → IsGiven p d functions objects → IsInMemory p functions objects input → IsInPlace p functions objects input
-in_place stays addresses ready p d functions objects input given h =
+in_place stays addresses ready law stand starts p d functions objects input given h =
+    let words = words_held law stand p functions objects input h.image in
     let lawful = addresses_lawful stays addresses p d functions objects input given in
     let distinct = names_distinct p d functions objects given in
     let own = own_given stays addresses p d functions objects given in
@@ -127,12 +126,12 @@ in_place stays addresses ready p d functions objects input given h =
       frames = frames_given p d functions objects given;
       sites = sites objects p.stack;
       code = each_code p functions objects input top functions lawful (omega arith) few own ends
-          (each_function stays (HasItsWords x.start.core.memory objects p.stack) p functions objects given.program given.made distinct h.words) h.fixes;
+          (each_function stays (HasItsWords x.start.core.memory objects p.stack) p functions objects given.program given.made distinct words) h.fixes;
       own = own;
-      behind = h.behind;
+      behind = all_stand stays addresses p d functions objects input given words;
       addresses = lawful;
       globals = globals_given stays addresses p d functions objects given;
-      lawful = h.lawful;
+      lawful = start_lawful starts p functions objects input h.image h.bytes h.read;
       starts = data_starts p functions objects input;
       first = start.first;
       named = start.named;

@@ -16,6 +16,8 @@ pub mod Own
 pub mod Words
 pub mod Spans
 pub mod Ready
+pub mod LibraryBehind
+pub mod Held
 pub mod InPlace
 pub mod Fixes
 pub mod Callees

@@ -24,7 +24,7 @@ rest_of : (named : List ℕ → ℕ) (n : List ℕ) (names : List (List ℕ)) (n
 rest_of named n names name zero lt e is = absurd (let same : (named n == named name) ≡ true = eq-eqb (named n) (named name) (ap named e) in let both : true ≡ false = sym same ∙ is in cc)
 rest_of named n names name (suc k) lt e is = (k, omega (arith, lt), e)
 
-find_own : (named : List ℕ → ℕ) (names : List (List ℕ)) (name : List ℕ) → Contains names name → ((f : List ℕ) → Contains names f → named f ≡ named name → f ≡ name)
+pub find_own : (named : List ℕ → ℕ) (names : List (List ℕ)) (name : List ℕ) → Contains names name → ((f : List ℕ) → Contains names f → named f ≡ named name → f ≡ name)
     → find (λ f. named f == named name) names ≡ Some name
 find_own named [] name c own = absurd (omega (arith, c.1))
 find_own named (n ∷ names) name c own = by (named n == named name) refl (λ there. find_own named names name there (λ f h. own f (suc h.0, omega (arith, h.1), h.2)))

@@ -1,5 +1,5 @@
 -- No function of a linked program begins inside another, and none has another's address.
-use Rattle.std.specs.Prelude.{ℕ, zero, suc, ◌≡◌, ◌≢◌, ◌+◌, ◌*◌, ◌<◌, List, [], ◌∷◌, ◌++◌, map, length, Contains}
+use Rattle.std.specs.Prelude.{ℕ, zero, suc, ◌≡◌, ◌≢◌, ◌+◌, ◌*◌, ◌<◌, ◌≤◌, ◌⊎◌, List, [], ◌∷◌, ◌++◌, map, length, Contains}
 use Rattle.std.specs.List.{AllByRecursion}
 use Rattle.std.proofs.Common.{arith, subst, sym, ap, refl, ◌∙◌, get_or, inl, inr}
 use Rattle.std.proofs.lemmas.List.{map-append}
@@ -143,20 +143,25 @@ in_program names (l ∷ ls) h = (Contains-append_right library_functions names l
 abbrev pub StandsAlone : List Object → Placed → Type 0
 StandsAlone objects s = AllByRecursion (BeginsOutside s) (text_of objects)
 
+-- so no function of the program begins inside
+pub outside : (p : Program) (objects : List Object) (s : Placed) → AllByRecursion (HasAddress objects p.stack) (text_of objects)
+    → ((f : List ℕ) → Contains (names_of p) f → Contains (map (λ q. q.name) (pieces_of objects)) f) → StandsAlone objects s → (f : List ℕ) → Contains (names_of p) f
+    → (address_of (linked objects p.stack) f ≤ s.address) ⊎ (s.address + 4 * length s.piece.words ≤ address_of (linked objects p.stack) f)
+outside p objects s addresses names alone f c =
+    let q = found_at (λ q. HasAddress objects p.stack q × BeginsOutside s q) f text_start (pieces_of objects) (names f c) (zipped (HasAddress objects p.stack) (BeginsOutside s) (text_of objects) addresses alone) in
+    let at : address_of (linked objects p.stack) f ≡ q.placed.address = ap (address_of (linked objects p.stack)) (sym q.is) ∙ q.holds.0 in
+    elim q.holds.1 [
+      | inl below ↦ inl (omega (arith, at, below))
+      | inr above ↦ inr (omega (arith, at, above))
+    ]
+
 own_by : (p : Program) (objects : List Object) (behind : List ℕ → ℕ → ℕ) (l : Located) → AreLawful p (linked_addresses objects p.stack behind)
     → AllByRecursion (HasAddress objects p.stack) (text_of objects) → ((f : List ℕ) → Contains (names_of p) f → Contains (map (λ q. q.name) (pieces_of objects)) f)
     → Contains (names_of p) l.body.name → AtItsAddress (StandsAlone objects) objects p.stack l → ItsAddressIsItsOwn p objects l
 own_by p objects behind l lawful addresses names there alone = record {
   there = there;
   own = λ f c e. lawful.function_own f l.body.name c there e;
-  inside = λ f c.
-      let s : Placed = record { address = address_of (linked objects p.stack) l.body.name; piece = piece_of (compiled l) } in
-      let q = found_at (λ q. HasAddress objects p.stack q × BeginsOutside s q) f text_start (pieces_of objects) (names f c) (zipped (HasAddress objects p.stack) (BeginsOutside s) (text_of objects) addresses alone) in
-      let at : address_of (linked objects p.stack) f ≡ q.placed.address = ap (address_of (linked objects p.stack)) (sym q.is) ∙ q.holds.0 in
-      elim q.holds.1 [
-        | inl below ↦ inl (omega (arith, at, below))
-        | inr above ↦ inr (omega (arith, at, above))
-      ];
+  inside = outside p objects (record { address = address_of (linked objects p.stack) l.body.name; piece = piece_of (compiled l) }) addresses names alone;
 }
 
 all_own : (p : Program) (objects : List Object) (behind : List ℕ → ℕ → ℕ) (ls : List Located) → AreLawful p (linked_addresses objects p.stack behind)
@@ -166,17 +171,25 @@ all_own p objects behind [] lawful addresses names there alone = tt
 all_own p objects behind (l ∷ ls) lawful addresses names there alone =
     (own_by p objects behind l lawful addresses names there.0 alone.0, all_own p objects behind ls lawful addresses names there.1 alone.1)
 
+-- each piece has its address in the map, and each function of the program is one of them
+pub text_addresses : OrderStays → (p : Program) (functions : List Located) (objects : List Object) → IsProgram p → AreObjectsOf p functions objects → AreNamesApart p
+    → map (λ l. l.body.name) functions ≡ map (λ f. f.name) (functions_of p) → AllByRecursion (HasAddress objects p.stack) (text_of objects)
+text_addresses stays p functions objects is of apart named =
+    let text = text_is stays p functions objects is of in
+    let globals = map (global_site (data_begin objects)) (data_of objects) in
+    let distinct : AreDistinct (map (λ q. q.name) (pieces_of objects)) = subst (λ (ps : List Piece). AreDistinct (map (λ q. q.name) ps)) (sym text) (text_distinct p functions apart named) in
+    addressed objects p.stack (text_of objects) (all_found globals text_start (pieces_of objects) distinct)
+
+pub text_names : OrderStays → (p : Program) (functions : List Located) (objects : List Object) → IsProgram p → AreObjectsOf p functions objects
+    → map (λ l. l.body.name) functions ≡ map (λ f. f.name) (functions_of p) → (f : List ℕ) → Contains (names_of p) f → Contains (map (λ q. q.name) (pieces_of objects)) f
+text_names stays p functions objects is of named f c =
+    subst (λ (names : List (List ℕ)). Contains names f) (sym (ap (λ (ps : List Piece). map (λ q. q.name) ps) (text_is stays p functions objects is of) ∙ names_are p functions named)) (name_there p f c)
+
 pub addresses_own : OrderStays → (p : Program) (functions : List Located) (objects : List Object) (behind : List ℕ → ℕ → ℕ) → IsProgram p → AreObjectsOf p functions objects → AreNamesApart p
     → map (λ l. l.body.name) functions ≡ map (λ f. f.name) (functions_of p) → AreLawful p (linked_addresses objects p.stack behind) → AllByRecursion (ItsAddressIsItsOwn p objects) functions
 addresses_own stays p functions objects behind is of apart named lawful =
-    let text = text_is stays p functions objects is of in
     let own = map (λ f. f.name) (functions_of p) in
-    let globals = map (global_site (data_begin objects)) (data_of objects) in
-    let distinct : AreDistinct (map (λ q. q.name) (pieces_of objects)) = subst (λ (ps : List Piece). AreDistinct (map (λ q. q.name) ps)) (sym text) (text_distinct p functions apart named) in
     let first = left_distinct own (map (λ r. r.0) routines) (subst AreDistinct (names_are p functions named) (text_distinct p functions apart named)) in
-    let addresses = addressed objects p.stack (text_of objects) (all_found globals text_start (pieces_of objects) distinct) in
-    let names : (f : List ℕ) → Contains (names_of p) f → Contains (map (λ q. q.name) (pieces_of objects)) f =
-    λ f c. subst (λ (names : List (List ℕ)). Contains names f) (sym (ap (λ (ps : List Piece). map (λ q. q.name) ps) text ∙ names_are p functions named)) (name_there p f c) in
     let there = in_program own functions (subst (λ (names : List (List ℕ)). AllByRecursion (λ l. Contains names l.body.name) functions) named (own_names functions)) in
-    all_own p objects behind functions lawful addresses names there
+    all_own p objects behind functions lawful (text_addresses stays p functions objects is of apart named) (text_names stays p functions objects is of named) there
     (each_function stays (StandsAlone objects) p functions objects is of (subst AreDistinct (sym named) first) (all_apart text_start (pieces_of objects)))

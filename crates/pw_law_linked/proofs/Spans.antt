@@ -16,6 +16,7 @@ use Rattle.pw_alloc.specs.declared.located.Located.{Located}
 use Rattle.pw_milli.specs.Library.{routines}
 use Rattle.pw_link.specs.Layout.{Piece, Placed, placed_from, pieces_of, text_of, word_count, data_begin, stack_end, Sites}
 use Rattle.pw_link.specs.Linking.{linked, piece_words, size_fault}
+use Rattle.pw_machine.specs.Start.{start_core}
 use Rattle.pw_law_link.specs.Standing.{sites}
 use Rattle.pw_run_languages.specs.Programs.{Program, functions_of, globals_of}
 use Rattle.pw_run_languages.specs.Addresses.{AreLawful}
@@ -59,7 +60,7 @@ names_distinct p d functions objects given =
 abbrev pub EndsBy : ℕ → Placed → Type 0
 EndsBy top q = q.address + 4 * length q.piece.words ≤ top
 
-within : (top at : ℕ) (ps : List Piece) → at + 4 * sum_by (λ p. length p.words) ps ≤ top → AllByRecursion (EndsBy top) (placed_from at ps)
+pub within : (top at : ℕ) (ps : List Piece) → at + 4 * sum_by (λ p. length p.words) ps ≤ top → AllByRecursion (EndsBy top) (placed_from at ps)
 within top at [] h = tt
 within top at (p ∷ ps) h =
     let count = sum_by-cons (λ (p : Piece). length p.words) p ps in
@@ -124,3 +125,8 @@ words_count objects stack =
     let s = sites objects stack in
     let both = length-append (flat_map (piece_words s) (text_of objects)) (word_of nop ∷ []) in
     omega (arith, both, flat_length s text_start (pieces_of objects))
+
+-- so many has the machine
+pub text_count : (p : Program) (functions : List Located) (objects : List Object) (input : List ℕ) → (linked_setting p functions objects input).start.core.text ≡ word_count objects
+unfolding start_core
+text_count p functions objects input = words_count objects p.stack

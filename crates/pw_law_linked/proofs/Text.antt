@@ -32,7 +32,7 @@ text_is stays p functions objects is of =
     ∙ ap (λ (ps : List Piece). ps ++ routine_pieces) (flat_map_map objects ∙ ap (map piece_of) of.code)
 
 -- pieces behind others begin where these end
-placed_joined : (at : ℕ) (xs ys : List Piece) → placed_from at (xs ++ ys) ≡ placed_from at xs ++ placed_from (at + 4 * sum_by (λ p. length p.words) xs) ys
+pub placed_joined : (at : ℕ) (xs ys : List Piece) → placed_from at (xs ++ ys) ≡ placed_from at xs ++ placed_from (at + 4 * sum_by (λ p. length p.words) xs) ys
 placed_joined at [] ys = let none : at ≡ at + 4 * sum_by (λ (p : Piece). length p.words) [] = omega arith in ap (λ (n : ℕ). placed_from n ys) none
 placed_joined at (x ∷ xs) ys =
     let next = at + 4 * length x.words in

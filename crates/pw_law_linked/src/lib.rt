@@ -42,12 +42,14 @@ ghost use Rattle.pw_law_linked.specs.Whole.{IsInPlace};
 use pw_law_code::code::{
     linked_addresses_are_lawful, placed_code_stands, selected_lines_are_ready,
 };
+use pw_law_code::machine::runs_keep_lawful_states;
 use pw_law_levels::selected_functions_are_framed;
-use pw_law_link::laws::modules_stand_in_order;
+use pw_law_link::laws::{modules_stand_in_order, words_stand_at_their_addresses};
 use pw_law_link_run::laws::{
     framed_runs_are_met, images_start_as_lines, lawful_starts_are_settings, library_is_there,
     ready_lines_fit, selected_calls_are_conventional,
 };
+use pw_machine::text_words;
 
 /// The return address of a call, told by how many turns are left behind it, is that of the word behind its slot.
 pub fn calls_return_behind_their_slots()
@@ -175,14 +177,18 @@ pub fn linked_programs_are_framed()
     selected_functions_are_framed();
 }
 
-/// So what the law of linking is given is in its place, once it is in memory: the words of its pieces with relocations that are
-/// known, the library and the routines behind the functions, and the data.
+/// So what the law of linking is given is in its place, where the image is lawful, what its relocations are of is known, and its
+/// data are those of the lines. For its words stand in memory at their addresses, and the library and the routines are the last
+/// pieces, and stand behind all functions.
 pub fn given_programs_are_in_place()
     ensures { (p : Program) (d : List (List ℕ × Directives)) (functions : List Located) (objects : List Object) (input : List ℕ) → IsGiven p d functions objects → IsInMemory p functions objects input → IsInPlace p functions objects input }
 {
     modules_stand_in_order();
     linked_addresses_are_lawful();
     selected_lines_are_ready();
+    text_words();
+    words_stand_at_their_addresses();
+    runs_keep_lawful_states();
 }
 
 /// Where all is in its place, the image runs as the lines do, at the addresses of its map, and notes the same.

@@ -1,14 +1,13 @@
 -- Locals whose address is taken in a well-typed statement are locals of its function.
-use Rattle.std.proofs.Common.{◌≡◌, ℕ, ◌+◌, ◌<◌, Bool, true, Option, Some, None, List, [], ◌∷◌, ◌++◌, length, slice_get}
-use Rattle.std.specs.Prelude.{All}
+use Rattle.std.proofs.Common.{ℕ, ◌+◌, ◌<◌, Bool, true, Option, Some, None, List, [], ◌∷◌, ◌++◌, length}
 use Rattle.std.specs.List.{AllByRecursion, flat_map}
 use Rattle.std.proofs.lemmas.Option.{slice_get_within}
 use Rattle.std.proofs.lemmas.List.Elements.{recursion_from_All}
-use Rattle.pw_types.specs.TypeTrees.{QType, QTypes, NoType, OneType}
-use Rattle.pw_types.specs.TypedTrees.{Expression, Node, Form, Number, Str, Local, Global, Function, Unary, Binary, Logic, Cond, Comma, Assign, Compound, Step, Cast, Decay, Member, Deref, Address, Call, CallValue, Expressions, NoExpression, OneExpression, Initialiser, Value, Bytes, Statement, Empty, Evaluate, Block, If, While, Do, For, Switch, Label, Goto, Break, Continue, Return, Arms, NoArm, Arm, Otherwise, NoElse, Else, Statements, NoStatement, OneStatement, LocalValue, FunctionValue, ModuleValue}
+use Rattle.pw_types.specs.TypeTrees.{QTypes, NoType, OneType}
+use Rattle.pw_types.specs.TypedTrees.{Expression, Node, Number, Str, Local, Global, Function, Unary, Binary, Logic, Cond, Comma, Assign, Compound, Step, Cast, Decay, Member, Deref, Address, Call, CallValue, Expressions, NoExpression, OneExpression, Initialiser, Value, Bytes, Statement, Empty, Evaluate, Block, If, While, Do, For, Switch, Label, Goto, Break, Continue, Return, Arms, NoArm, Arm, Otherwise, NoElse, Else, Statements, NoStatement, OneStatement, LocalValue, FunctionValue, ModuleValue}
 use Rattle.pw_types.specs.TypedModules.{Initialises, IsStatement, AreStatements, AreArms, IsElse}
 use Rattle.pw_types.specs.WellTyped.{IsTyped, IsTypedOrAbsent, IsConditionOrAbsent, AreArguments}
-use Rattle.pw_lower.specs.Places.{addressed_in, addressed_by, addressed_in_all, addressed_in_option, addressed_in_initialiser, addressed_in_statement, addressed_in_arms, addressed_in_otherwise, addressed_in_statements}
+use Rattle.pw_lower.specs.Places.{addressed_in, addressed_in_all, addressed_in_option, addressed_in_initialiser, addressed_in_statement, addressed_in_arms, addressed_in_otherwise, addressed_in_statements}
 
 module _ (m : ModuleValue) (locals : List LocalValue) where
   abbrev Locals : List ℕ → Type 0

@@ -1,31 +1,30 @@
 -- The arms of an `if` are set where all of them are.
-use Rattle.std.proofs.Common.{◌≡◌, ◌≢◌, ℕ, ◌+◌, ◌≤◌, Bool, Contains, ◌⊎◌, inl, inr, Option, Some, None, List, [], ◌∷◌, ◌++◌, length, refl, ap, sym, subst, ◌∙◌, arith, append_assoc}
+use Rattle.std.proofs.Common.{◌≡◌, ℕ, ◌+◌, ◌≤◌, Bool, inl, inr, List, [], ◌++◌, length, refl, ap, sym, subst, ◌∙◌, arith, append_assoc}
 use Rattle.std.specs.Prelude.{All}
 use Rattle.std.proofs.lemmas.List.{append-nil}
 use Rattle.std.proofs.lemmas.List.Elements.{Contains-append_cases}
 use Rattle.pw_types.specs.Labels.{labels_in, labels_of_arms, labels_behind, cases_in, cases_of_arms, cases_behind}
-use Rattle.pw_types.specs.TypedModules.{IsStatement, AreArms, IsElse}
+use Rattle.pw_types.specs.TypedModules.{IsStatement}
 use Rattle.pw_types.specs.TypedTrees.{Expression, Initialiser, Statement, Arms, NoArm, Arm, Otherwise, NoElse, Else}
 use Rattle.pw_flow.specs.declared.flow.FlowFn.{FlowFn}
 use Rattle.pw_flow.specs.declared.flow.End.TheVariants.{Jump, Branch}
 use Rattle.pw_lower.specs.declared.code.Code.{Code}
 use Rattle.pw_lower.specs.declared.place.Ways.{Ways}
-use Rattle.pw_lower.specs.Codes.{temp_of, reserve, cut_here}
+use Rattle.pw_lower.specs.Codes.{temp_of, reserve}
 use Rattle.pw_lower.specs.Places.{addressed_in, addressed_in_statement, addressed_in_arms, addressed_in_otherwise}
-use Rattle.pw_lower.specs.Expressions.{Home, lower}
-use Rattle.pw_lower.specs.Statements.{Frame, lower_statement, lower_arms, lower_otherwise}
+use Rattle.pw_lower.specs.Expressions.{lower}
+use Rattle.pw_lower.specs.Statements.{lower_statement, lower_arms, lower_otherwise}
 use Rattle.pw_law_layers.specs.Accepting.{SuitsLocal, initialisers_in, initialisers_of_arms, initialisers_behind}
 use Rattle.pw_law_refine.specs.Activations.{Activation, Numbers, graph_of, home_of, lowering_of, HaveSlots}
 use Rattle.pw_law_refine.specs.Containing.{ContainsCode}
-use Rattle.pw_law_refine.specs.Statements.{AreLabelled, LieBehind, IsPlaced, IsSet, code_behind}
+use Rattle.pw_law_refine.specs.Statements.{AreLabelled, LieBehind, IsSet, code_behind}
 use Rattle.pw_law_refine.specs.StatementParts.{AreArmsSet}
 use Rattle.pw_law_refine_code.specs.Ending.{KeepLabels}
 use Rattle.pw_law_refine_code.specs.Behind.{named_blocks}
 use Rattle.pw_law_refine_code.specs.Setting.{code_of_arm, code_between, HasMore}
 use Rattle.pw_law_refine_code.proofs.Spreads.{OfExpressions, lower-spreads}
 use Rattle.pw_law_refine_code.proofs.Totals.{look}
-use Rattle.pw_law_refine_code.proofs.Opening.{Opens}
-use Rattle.pw_law_refine_code.proofs.StatementsSpread.{FitsIn, fits-front, fits-back, LastOpens, statement-opens, otherwise-opens, arms-open}
+use Rattle.pw_law_refine_code.proofs.StatementsSpread.{FitsIn, fits-front, fits-back, statement-opens, otherwise-opens, arms-open}
 use Rattle.pw_law_refine_code.proofs.Ending.{keep-labels}
 use Rattle.pw_law_refine_code.proofs.Labelling.{labelled-first, labelled-second, labelled-same, behind-first, behind-second, behind-same}
 use Rattle.pw_law_refine_code.proofs.Setting.{Contain, contains-cut, fits, slots-first, slots-second, suits-first, suits-second}

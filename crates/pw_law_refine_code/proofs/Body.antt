@@ -1,6 +1,6 @@
 -- The body of an active function is set, behind the code at the function's beginning.
-use Rattle.std.proofs.Common.{◌≡◌, ◌≢◌, ℕ, zero, suc, ◌+◌, ◌<◌, ◌≤◌, ◌==◌, ◌||◌, not, cond, Bool, true, false, true≢false, nat_eq, Contains, Option, Some, None, List, [], ◌∷◌, ◌++◌, length, slice_get, refl, ap, sym, subst, ◌∙◌, arith}
-use Rattle.std.specs.Prelude.{All, filter, replicate, slice_set}
+use Rattle.std.proofs.Common.{◌≡◌, ℕ, zero, suc, ◌+◌, ◌<◌, ◌==◌, ◌||◌, not, cond, Bool, true, false, true≢false, nat_eq, Contains, Some, List, [], ◌∷◌, ◌++◌, length, slice_get, refl, ap, sym, subst, ◌∙◌, arith}
+use Rattle.std.specs.Prelude.{filter, replicate, slice_set}
 use Rattle.std.specs.List.{AllByRecursion, IsDistinct}
 use Rattle.std.proofs.lemmas.Option.{slice_get_read, same_Some}
 use Rattle.std.proofs.lemmas.List.{append-nil, length-replicate}
@@ -8,8 +8,7 @@ use Rattle.std.proofs.lemmas.List.Elements.{recursion_from_All, All-from_recursi
 use Rattle.std.proofs.lemmas.Map.Keys.{IsDistinct-head, IsDistinct-tail}
 use Rattle.pw_types.specs.Labels.{labels_in, cases_in}
 use Rattle.pw_types.specs.TypedModules.{IsFunction}
-use Rattle.pw_types.specs.TypedTrees.{FunctionValue, ModuleValue}
-use Rattle.pw_lower.specs.declared.code.Code.{Code}
+use Rattle.pw_types.specs.TypedTrees.{ModuleValue}
 use Rattle.pw_lower.specs.Codes.{block_of_label, numbered}
 use Rattle.pw_lower.specs.Modules.{entered, blocks_at_start}
 use Rattle.pw_cmean.specs.Execution.{holds}

@@ -1,15 +1,15 @@
 -- Where the code of a statement ends: in the block in which it began, in one whose number was given out since, or in that of
 -- its last label.
-use Rattle.std.proofs.Common.{◌≡◌, ℕ, ◌+◌, ◌<◌, ◌≤◌, ◌==◌, Bool, true, false, true≢false, ◌||◌, if◌then◌else◌, nat_eq, Option, Some, None, Contains, ◌⊎◌, inl, inr, List, [], ◌∷◌, ◌++◌, length, refl, ap, sym, subst, ◌∙◌, arith, append_assoc, eqb-true, length-append}
+use Rattle.std.proofs.Common.{◌≡◌, ℕ, ◌+◌, ◌<◌, ◌≤◌, ◌==◌, Bool, true, false, true≢false, ◌||◌, nat_eq, Option, Some, None, Contains, ◌⊎◌, inl, inr, List, [], ◌∷◌, ◌++◌, length, refl, ap, sym, subst, ◌∙◌, arith, append_assoc, eqb-true, length-append}
 use Rattle.std.specs.List.{AllByRecursion, IsDistinct}
 use Rattle.std.proofs.lemmas.Bool.{cases_lt}
 use Rattle.std.proofs.lemmas.List.{append-nil}
 use Rattle.pw_value.specs.declared.value.Kind.{Kind}
-use Rattle.pw_types.specs.Labels.{labels_in, labels_among, labels_of_arms, labels_behind, cases_in, cases_among, cases_of_arms, cases_behind}
+use Rattle.pw_types.specs.Labels.{labels_in, labels_among, cases_in, cases_among}
 use Rattle.pw_types.specs.TypeTrees.{CType}
 use Rattle.pw_types.specs.TypedModules.{IsStatement, AreStatements}
-use Rattle.pw_types.specs.TypedTrees.{Expression, Initialiser, Value, Bytes, LocalValue, Statement, Empty, Evaluate, Block, If, While, Do, For, Switch, Label, Goto, Break, Continue, Return, Arms, NoArm, Arm, Otherwise, NoElse, Else, Statements, NoStatement, OneStatement, FunctionValue, ModuleValue}
-use Rattle.pw_flow.specs.declared.flow.End.TheVariants.{Jump, Branch}
+use Rattle.pw_types.specs.TypedTrees.{Expression, Initialiser, Value, Bytes, LocalValue, Statement, Empty, Evaluate, Block, If, While, Do, For, Switch, Label, Goto, Break, Continue, Return, NoArm, Arm, NoElse, Else, Statements, NoStatement, OneStatement, FunctionValue, ModuleValue}
+use Rattle.pw_flow.specs.declared.flow.End.TheVariants.{Jump}
 use Rattle.pw_lower.specs.declared.code.Code.{Code}
 use Rattle.pw_lower.specs.declared.code.Numbered.{Numbered}
 use Rattle.pw_lower.specs.declared.place.Ways.{Ways}
@@ -19,12 +19,12 @@ use Rattle.pw_lower.specs.declared.place.Target.{Target}
 use Rattle.pw_lower.specs.declared.place.Target.TheVariants.{Kept, Named, Led}
 use Rattle.pw_lower.specs.Places.{place_at}
 use Rattle.pw_lower.specs.Operators.{kind_of}
-use Rattle.pw_lower.specs.Codes.{Lowered, temp_of, cut_here, block_of_label}
+use Rattle.pw_lower.specs.Codes.{temp_of, cut_here, block_of_label}
 use Rattle.pw_lower.specs.Expressions.{Home, write, address_of_local, target_of_local, lower}
-use Rattle.pw_lower.specs.Statements.{begun as begun_labels, Frame, local_type, initialised_by, initialised, initialised_all, lower_statement, lower_arms, lower_otherwise, lower_statements}
+use Rattle.pw_lower.specs.Statements.{begun as begun_labels, Frame, local_type, initialised_by, initialised, initialised_all, lower_statement, lower_statements}
 use Rattle.pw_cmean.specs.Execution.{holds}
 use Rattle.pw_law_lower.specs.Kept.{IsStillFilled, IsClosedNext, Keeps}
-use Rattle.pw_law_refine.specs.Containing.{same, given, times_closed, begun}
+use Rattle.pw_law_refine.specs.Containing.{same, given, times_closed}
 use Rattle.pw_law_refine_code.specs.Ending.{StaysThere, IsAtLastLabel, Ends, KeepLabels}
 use Rattle.pw_law_refine_code.proofs.Spreads.{Spread, OfExpressions, one_if, none, times_closed-append, lower-spreads}
 use Rattle.pw_law_refine_code.proofs.Totals.{look, holds-append, holds-contained, contained-held}

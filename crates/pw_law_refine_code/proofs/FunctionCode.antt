@@ -1,12 +1,12 @@
 -- The graph of a function contains the function's code: no block is begun twice, so each that is closed stands in its place.
-use Rattle.std.proofs.Common.{◌≡◌, ◌⊎◌, ℕ, zero, suc, ◌+◌, ◌<◌, ◌≤◌, ◌==◌, Bool, true, false, true≢false, ◌||◌, if◌then◌else◌, nat_eq, Option, Some, None, Contains, inl, inr, List, [], ◌∷◌, ◌++◌, length, slice_get, refl, ap, sym, subst, ◌∙◌, arith, eqb-true, eq-eqb, length-append}
+use Rattle.std.proofs.Common.{◌≡◌, ◌⊎◌, ℕ, zero, suc, ◌+◌, ◌<◌, ◌≤◌, ◌==◌, Bool, true, false, true≢false, ◌||◌, if◌then◌else◌, nat_eq, Option, Some, None, Contains, inl, inr, List, [], ◌∷◌, ◌++◌, length, slice_get, refl, ap, sym, subst, ◌∙◌, arith, eq-eqb, length-append}
 use Rattle.std.specs.Prelude.{unwrap_or, replicate, All}
 use Rattle.std.specs.List.{AllByRecursion, IsDistinct}
 use Rattle.std.proofs.lemmas.Bool.{cases_lt}
 use Rattle.std.proofs.lemmas.List.{append-nil, length-replicate}
 use Rattle.std.proofs.lemmas.List.Elements.{recursion_from_All, All-nil, All-cons, All-contains, Contains-append_left, Contains-append_right, Contains-append_cases}
 use Rattle.pw_types.specs.Labels.{labels_in, cases_in}
-use Rattle.pw_types.specs.TypeTrees.{type_of, RecordValue}
+use Rattle.pw_types.specs.TypeTrees.{type_of}
 use Rattle.pw_types.specs.TypedModules.{IsFunction}
 use Rattle.pw_types.specs.TypedTrees.{LocalValue, FunctionValue, ModuleValue}
 use Rattle.pw_flow.specs.declared.flow.Op.TheVariants as op
@@ -20,7 +20,6 @@ use Rattle.pw_lower.specs.Codes.{emit, fresh, temp_of, cut_here, bare, block_of,
 use Rattle.pw_lower.specs.Places.{places_of, temps_from}
 use Rattle.pw_lower.specs.Expressions.{scalar_kind}
 use Rattle.pw_lower.specs.Modules.{parameters_stored, closed_at_start, blocks_at_start, start_code, entered, frame_of, lowered_function}
-use Rattle.pw_lower.specs.Statements.{lower_statement}
 use Rattle.pw_cmean.specs.Execution.{holds}
 use Rattle.pw_law_refine.specs.Containing.{same, given, times_closed, begun, ContainsCode}
 use Rattle.pw_law_refine_code.specs.Functions.{code_of_body}

@@ -1,9 +1,8 @@
 -- The labels of the parts of a part, and the blocks that lie behind them.
-use Rattle.std.proofs.Common.{◌≡◌, ◌≢◌, ℕ, zero, suc, ◌+◌, ◌<◌, ◌≤◌, ◌==◌, ◌||◌, Bool, true, false, true≢false, nat_eq, Contains, ◌⊎◌, inl, inr, Option, Some, None, List, [], ◌∷◌, ◌++◌, map, length, slice_get, refl, ap, sym, subst, ◌∙◌, arith, append_assoc, length-append}
+use Rattle.std.proofs.Common.{◌≡◌, ◌≢◌, ℕ, zero, suc, ◌+◌, ◌<◌, ◌≤◌, ◌==◌, Bool, true, false, true≢false, nat_eq, Contains, ◌⊎◌, inl, inr, Some, List, [], ◌∷◌, ◌++◌, map, length, slice_get, refl, ap, sym, subst, ◌∙◌, arith, append_assoc, length-append}
 use Rattle.std.specs.Prelude.{All, filter, cond, slice_index_or}
 use Rattle.std.specs.List.{AllByRecursion, IsDistinct}
 use Rattle.std.proofs.lemmas.Option.{slice_get_read, slice_get_within, get_or_from_slice_get}
-use Rattle.std.proofs.lemmas.List.{append-nil}
 use Rattle.std.proofs.lemmas.List.Elements.{recursion_from_All, All-from_recursion, All-contains, Contains-append_left, Contains-append_right, Contains-append_cases, filter-append}
 use Rattle.std.proofs.lemmas.Map.Keys.{IsDistinct-head, IsDistinct-tail, IsDistinct-cons}
 use Rattle.pw_lower.specs.declared.code.Code.{Code}
@@ -11,7 +10,7 @@ use Rattle.pw_lower.specs.Codes.{block_of_label}
 use Rattle.pw_cmean.specs.Execution.{holds}
 use Rattle.pw_law_refine.specs.Activations.{Activation}
 use Rattle.pw_law_refine.specs.Statements.{IsOpen, AreLabelled, LieBehind}
-use Rattle.pw_law_refine_code.specs.Ending.{StaysThere, IsAtLastLabel, Ends, KeepLabels}
+use Rattle.pw_law_refine_code.specs.Ending.{IsAtLastLabel, Ends, KeepLabels}
 use Rattle.pw_law_refine_code.specs.Behind.{named_blocks}
 use Rattle.pw_law_refine_code.proofs.Totals.{look, holds-append, holds-contained, contained-held}
 use Rattle.pw_law_refine_code.proofs.Opening.{Apart, split, neither}

@@ -1,14 +1,12 @@
 -- What blocks the code of a statement begins: those whose numbers were given out since, each once, and those of its labels
 -- that are open.
-use Rattle.std.proofs.Common.{◌≡◌, ℕ, ◌+◌, ◌<◌, ◌≤◌, ◌==◌, Bool, true, false, ◌||◌, nat_eq, true≢false, if◌then◌else◌, List, [], ◌∷◌, ◌++◌, length, refl, ap, sym, ◌∙◌, arith, eqb-true}
+use Rattle.std.proofs.Common.{◌≡◌, ℕ, ◌+◌, ◌≤◌, ◌==◌, Bool, true, false, ◌||◌, nat_eq, true≢false, if◌then◌else◌, List, [], ◌∷◌, ◌++◌, length, refl, ap, sym, ◌∙◌, arith, eqb-true}
 use Rattle.std.specs.List.{AllByRecursion, IsDistinct}
-use Rattle.pw_flow.specs.declared.flow.End.{End}
 use Rattle.pw_lower.specs.declared.code.Code.{Code}
-use Rattle.pw_lower.specs.Codes.{reserve, cut, cut_here, leave, block_of_label}
 use Rattle.pw_cmean.specs.Execution.{holds}
 use Rattle.pw_law_refine.specs.Containing.{same, given, begun}
 use Rattle.pw_law_refine_code.proofs.Spreads.{Spread, none}
-use Rattle.pw_law_refine_code.proofs.Totals.{total, total-append, total-within, look, holds-append}
+use Rattle.pw_law_refine_code.proofs.Totals.{total, total-append, look, holds-append}
 
 -- a number where a test fails
 abbrev pub unless : Bool → ℕ → ℕ

@@ -1,11 +1,11 @@
 -- Parts are set where the part is that they stand in.
-use Rattle.std.proofs.Common.{◌≡◌, ◌≢◌, ℕ, zero, suc, ◌+◌, ◌<◌, ◌≤◌, ◌==◌, ◌||◌, Bool, true, false, true≢false, nat_eq, Contains, ◌⊎◌, inl, inr, Option, Some, None, List, [], ◌∷◌, ◌++◌, map, length, slice_get, refl, ap, sym, subst, ◌∙◌, arith, append_assoc, eqb-true}
-use Rattle.std.specs.Prelude.{All, slice_set, option_to_list}
-use Rattle.std.specs.List.{AllByRecursion, IsDistinct, flat_map}
+use Rattle.std.proofs.Common.{◌≡◌, ℕ, ◌+◌, ◌<◌, ◌≤◌, Bool, true, false, Option, Some, None, List, [], ◌∷◌, ◌++◌, length, refl, sym, subst, ◌∙◌, arith}
+use Rattle.std.specs.Prelude.{All, option_to_list}
+use Rattle.std.specs.List.{AllByRecursion, flat_map}
 use Rattle.std.proofs.lemmas.List.{append-nil}
-use Rattle.std.proofs.lemmas.List.Elements.{recursion_from_All, All-from_recursion, Contains-append_left, Contains-append_right, Contains-append_cases, All-contains}
+use Rattle.std.proofs.lemmas.List.Elements.{recursion_from_All, All-from_recursion, Contains-append_left, Contains-append_right, All-contains}
 use Rattle.pw_types.specs.Labels.{labels_in, labels_among, cases_in, cases_among}
-use Rattle.pw_types.specs.TypedModules.{IsStatement, AreStatements, IsFunction, WellTyped}
+use Rattle.pw_types.specs.TypedModules.{IsStatement, IsFunction, WellTyped}
 use Rattle.pw_types.specs.WellTyped.{type_in}
 use Rattle.pw_types.specs.TypedTrees.{Expression, Initialiser, CaseValue, Statement, Block, If, While, Do, For, Switch, Label, Arms, Otherwise, Statements, NoStatement, OneStatement}
 use Rattle.pw_flow.specs.declared.flow.FlowFn.{FlowFn}
@@ -14,28 +14,25 @@ use Rattle.pw_flow.specs.declared.flow.End.TheVariants.{Jump, Branch}
 use Rattle.pw_lower.specs.declared.code.Code.{Code}
 use Rattle.pw_lower.specs.declared.code.Numbered.{Numbered}
 use Rattle.pw_lower.specs.declared.place.Ways.{Ways}
-use Rattle.pw_lower.specs.Codes.{temp_of, reserve, cut, cut_here, block_of_label, named_from, numbered}
+use Rattle.pw_lower.specs.Codes.{temp_of, reserve, cut, named_from}
 use Rattle.pw_lower.specs.Places.{addressed_in, addressed_in_option, addressed_in_initialiser, addressed_in_statement, addressed_in_statements}
 use Rattle.pw_lower.specs.Expressions.{Home, lower}
 use Rattle.pw_lower.specs.Modules.{entered}
 use Rattle.pw_cmean.specs.Worlds.{ProgramModule}
-use Rattle.pw_lower.specs.Statements.{begun, effects, test, test_or_go, initialised_all, labels_of, choose, chosen, default_or, Frame, lower_statement, lower_statements}
-use Rattle.pw_cmean.specs.Execution.{holds}
+use Rattle.pw_lower.specs.Statements.{begun, effects, test_or_go, initialised_all, labels_of, choose, default_or, Frame, lower_statement, lower_statements}
 use Rattle.pw_law_lower.specs.Kept.{Keeps}
 use Rattle.pw_law_layers.specs.Accepting.{SuitsLocal, initialisers_in, initialisers_among}
-use Rattle.pw_law_refine.specs.Activations.{Activation, IsActivation, Numbers, graph_of, home_of, lowering_of, local_temps, HaveSlots, number_of}
+use Rattle.pw_law_refine.specs.Activations.{Activation, IsActivation, Numbers, graph_of, home_of, lowering_of, HaveSlots, number_of}
 use Rattle.pw_law_refine.specs.Containing.{ContainsCode}
-use Rattle.pw_law_refine.specs.Statements.{IsOpen, AreLabelled, LieBehind, IsPlaced, IsSet, code_behind}
+use Rattle.pw_law_refine.specs.Statements.{AreLabelled, IsSet, code_behind}
 use Rattle.pw_law_refine.specs.StatementParts.{AreSet, AreArmsSet, HaveBegun}
-use Rattle.pw_law_refine_code.specs.Ending.{Ends, KeepLabels}
 use Rattle.pw_law_refine_code.specs.Behind.{named_blocks}
 use Rattle.pw_law_refine_code.specs.Setting.{code_of_while, code_of_do, code_of_for, code_of_switch}
 use Rattle.pw_law_refine_code.proofs.Spreads.{OfExpressions, leaves, lower-spreads}
-use Rattle.pw_law_refine_code.proofs.Totals.{look}
-use Rattle.pw_law_refine_code.proofs.Opening.{Opens, split}
+use Rattle.pw_law_refine_code.proofs.Opening.{split}
 use Rattle.pw_law_refine_code.proofs.StatementsSpread.{FitsIn, fits-front, fits-back, case_labels, all-named, all-held, named-held, initialised_all-spreads, effects-spread, test_or_go-spreads, choose-spreads, begun-opens, statement-opens, statements-open}
-use Rattle.pw_law_refine_code.proofs.Ending.{statement-ends, begun-ends, initialised_all-goes, keep-labels, Goes}
-use Rattle.pw_law_refine_code.proofs.Labelling.{Among, labelled-first, labelled-second, labelled-same, behind-first, behind-second, behind-same, behind-top}
+use Rattle.pw_law_refine_code.proofs.Ending.{statement-ends, begun-ends, initialised_all-goes, keep-labels}
+use Rattle.pw_law_refine_code.proofs.Labelling.{labelled-first, labelled-second, labelled-same, behind-first, behind-second, behind-same, behind-top}
 use Rattle.pw_law_refine_code.proofs.Addressed.{in-statement}
 use Rattle.pw_law_refine_code.proofs.Slots.{addressed-have-slots}
 use Rattle.pw_law_refine_code.proofs.FunctionCode.{function-contains, entered-temps}

@@ -1,9 +1,9 @@
 -- What blocks the code of a statement begins.
 use Rattle.std.proofs.Common.{◌≡◌, ℕ, ◌+◌, ◌<◌, ◌≤◌, ◌==◌, Bool, true, false, true≢false, ◌||◌, if◌then◌else◌, nat_eq, Option, Some, None, List, [], ◌∷◌, ◌++◌, map, length, refl, ap, sym, subst, ◌∙◌, arith, eqb-true, append_assoc}
-use Rattle.std.specs.Prelude.{not, cond, nat_lt, option_to_list, Contains, All}
+use Rattle.std.specs.Prelude.{not, cond, nat_lt, option_to_list, Contains}
 use Rattle.std.specs.List.{AllByRecursion, IsDistinct}
 use Rattle.std.proofs.lemmas.List.{append-nil}
-use Rattle.std.proofs.lemmas.List.Elements.{recursion_from_All, All-from_recursion}
+use Rattle.std.proofs.lemmas.List.Elements.{recursion_from_All}
 use Rattle.pw_value.specs.declared.value.Kind.{Kind}
 use Rattle.pw_types.specs.Labels.{labels_in, labels_among, labels_of_arms, labels_behind, cases_in, cases_among, cases_of_arms, cases_behind}
 use Rattle.pw_types.specs.TypedModules.{IsSwitch, IsStatement, AreStatements, AreArms, IsElse}
@@ -13,7 +13,6 @@ use Rattle.pw_types.specs.TypedTrees.{Expression, Initialiser, Value, Bytes, Hid
 use Rattle.pw_flow.specs.declared.flow.Op.TheVariants as op
 use Rattle.pw_flow.specs.declared.flow.BinKind.{BinKind}
 use Rattle.pw_flow.specs.declared.flow.BinKind.TheVariants.{Eq}
-use Rattle.pw_flow.specs.declared.flow.End.{End}
 use Rattle.pw_flow.specs.declared.flow.End.TheVariants.{Jump, Branch, Return as Returns}
 use Rattle.pw_lower.specs.declared.code.Code.{Code}
 use Rattle.pw_lower.specs.declared.place.Ways.{Ways}
@@ -21,13 +20,13 @@ use Rattle.pw_lower.specs.declared.place.LocalPlace.{LocalPlace}
 use Rattle.pw_lower.specs.declared.place.LocalPlace.TheVariants.{Temp, Slot}
 use Rattle.pw_lower.specs.declared.place.Target.{Target}
 use Rattle.pw_lower.specs.declared.place.Target.TheVariants.{Kept, Named, Led}
-use Rattle.pw_lower.specs.Codes.{Lowered, temp_of, constant, reserve, cut, cut_here, leave, block_of_label, named_from, numbered}
+use Rattle.pw_lower.specs.Codes.{Lowered, temp_of, constant, reserve, cut, cut_here, leave, block_of_label, named_from}
 use Rattle.pw_lower.specs.Places.{place_at}
 use Rattle.pw_lower.specs.Operators.{with, kind_of, bytes_of, unit_of}
 use Rattle.pw_lower.specs.Expressions.{Home, full_name, address_of_global, address_of_local, target_of_local, write, stored, copied, lower}
 use Rattle.pw_lower.specs.Statements.{inserted, labels_of, local_type, initialised_by, copied_from, initialised, initialised_all, effects, test, test_or_go, choose, default_or, chosen, begun as begun_labels, looping, repeating, counting, switching, returning, Frame, lower_statement, lower_arms, lower_otherwise, lower_statements}
 use Rattle.pw_cmean.specs.Execution.{holds}
-use Rattle.pw_law_refine.specs.Containing.{same, given, begun, times, Spreads}
+use Rattle.pw_law_refine.specs.Containing.{same, given, times, Spreads}
 use Rattle.pw_law_refine_code.specs.Opening.{open_labels, Fits}
 use Rattle.pw_law_refine_code.proofs.Spreads.{Spread, OfExpressions, none, joins, within, same_code, and, emits, adds, reserves, cuts, turns, leaves, given-more, given-two, given-three, given-four, lower-spreads as spreads_by}
 use Rattle.pw_law_refine_code.proofs.Totals.{total, look, of_list, holds-append, total-among, numbered-length, numbered-other, numbered-total, holds-contained}

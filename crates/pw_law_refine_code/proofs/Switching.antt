@@ -1,5 +1,5 @@
 -- The labels of the body of a `switch`: those of its cases have blocks that it gave out.
-use Rattle.std.proofs.Common.{◌≡◌, ℕ, ◌+◌, ◌<◌, ◌≤◌, ◌||◌, Bool, true, false, true≢false, Contains, ◌⊎◌, inl, inr, Option, Some, None, List, [], ◌∷◌, ◌++◌, length, slice_get, refl, ap, sym, ◌∙◌, arith}
+use Rattle.std.proofs.Common.{◌≡◌, ℕ, ◌+◌, ◌<◌, ◌≤◌, ◌||◌, Bool, true, false, Contains, ◌⊎◌, inl, inr, Option, Some, List, ◌++◌, length, slice_get, refl, ap, sym, ◌∙◌, arith}
 use Rattle.std.specs.Prelude.{option_to_list}
 use Rattle.std.specs.List.{AllByRecursion}
 use Rattle.std.proofs.lemmas.Option.{slice_get_within, get_or_from_slice_get}
@@ -11,7 +11,7 @@ use Rattle.pw_cmean.specs.Execution.{holds}
 use Rattle.pw_law_refine.specs.Activations.{Activation}
 use Rattle.pw_law_refine.specs.Statements.{IsOpen, AreLabelled, LieBehind}
 use Rattle.pw_law_refine_code.proofs.Totals.{look, holds-contained, contained-held, numbered-length, numbered-other, numbered-among}
-use Rattle.pw_law_refine_code.proofs.Opening.{split, neither}
+use Rattle.pw_law_refine_code.proofs.Opening.{split}
 use Rattle.pw_law_refine_code.proofs.StatementsSpread.{case_labels, holds-cases}
 use Rattle.pw_law_refine_code.proofs.Labelling.{apart-contains, distinct-ends}
 

@@ -91,20 +91,20 @@ to_module : (home : List ℕ) (m : ModuleValue) (g : FunctionValue) → Has g m.
 unfolding lowered
 to_module home m g h = has_left (lowered_function home m.records g) (map (lowered_function home m.records) m.functions) (start_of m.functions) (has_map (lowered_function home m.records) g m.functions h)
 
-full : (home : List ℕ) (records : List RecordValue) (g : FunctionValue) → (lowered_function home records g).name ≡ full_name home g.name
+pub full : (home : List ℕ) (records : List RecordValue) (g : FunctionValue) → (lowered_function home records g).name ≡ full_name home g.name
 unfolding lowered_function
 full home records g = refl
 
-shape : (home : List ℕ) (records : List RecordValue) (g : FunctionValue) → (lowered_function home records g).shape ≡ shape_of records (type_of g.ty) (is_volatile g.ty)
+pub shape : (home : List ℕ) (records : List RecordValue) (g : FunctionValue) → (lowered_function home records g).shape ≡ shape_of records (type_of g.ty) (is_volatile g.ty)
 unfolding lowered_function
 shape home records g = refl
 
 -- ---- counts of names, module by module
 
-abbrev name_in : FlowFn → List ℕ
+abbrev pub name_in : FlowFn → List ℕ
 name_in f = f.name
 
-abbrev called : Callable → List ℕ
+abbrev pub called : Callable → List ℕ
 called c = c.name
 
 abbrev low : ProgramModule → FlowModule
@@ -113,7 +113,7 @@ low m = lowered m.name m.tree
 abbrev graphs_in : List ProgramModule → List FlowFn
 graphs_in ms = flat_map (λ (m : FlowModule). m.functions) (map low ms)
 
-abbrev calls_in : List ProgramModule → List Callable
+abbrev pub calls_in : List ProgramModule → List Callable
 calls_in ms = flat_map (λ (m : ProgramModule). map (callable m) m.tree.functions) ms
 
 abbrev starts_in : List ProgramModule → List FlowFn
@@ -233,7 +233,7 @@ module _ (p : Program) (frame_of : List ℕ → ℕ) (stack : ℕ) where
         let g = has_map_back (callable m.0) c.0 m.0.tree.functions m.2 in
         λ e. symbol_differs m.0.name g.0.name (named_within m.0 g.0 m.1 g.1) (ap called g.2 ∙ c.2 ∙ e)
 
-    distinct : AreDistinct (map name_in (flows.functions_of q))
+    pub distinct : AreDistinct (map name_in (flows.functions_of q))
     distinct = (left_distinct (names_of q) (map (λ g. g.name) (globals_of q)) l.accepted.program.names).1.1.1
 
     -- there is one `$start`
@@ -288,7 +288,7 @@ module _ (p : Program) (frame_of : List ℕ → ℕ) (stack : ℕ) where
     no_library_main c (inr (inr (inr k))) n = absurd k
 
     -- the shape of a function is the same with the mark of a volatile type and without
-    unmarked : (m : ProgramModule) (g : FunctionValue) → Has m p.modules → Has g m.tree.functions → shape_of m.tree.records (type_of g.ty) (is_volatile g.ty) ≡ shape_of m.tree.records (type_of g.ty) false
+    pub unmarked : (m : ProgramModule) (g : FunctionValue) → Has m p.modules → Has g m.tree.functions → shape_of m.tree.records (type_of g.ty) (is_volatile g.ty) ≡ shape_of m.tree.records (type_of g.ty) false
     unmarked m g h k =
         let typed = has_each (λ (m : ProgramModule). WellTyped m.tree) p.modules m (recursion_from_All (λ (m : ProgramModule). WellTyped m.tree) p.modules l.accepted.typed.modules) h in
         let is = has_each (IsFunction m.tree) m.tree.functions g (recursion_from_All (IsFunction m.tree) m.tree.functions typed.functions) k in

@@ -1,5 +1,6 @@
 mod Lists
 mod Functions
+mod Named
 mod Bytes
 mod Pairs
 mod Objects

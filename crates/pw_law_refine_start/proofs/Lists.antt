@@ -111,7 +111,7 @@ one_named key (z ∷ zs) all x y (inr k) (inr j) e = one_named key zs all.1 x y 
 abbrev pub bit : (List ℕ → Bool) → List ℕ → ℕ
 bit test name = cond (test name) 1 0
 
-differs : (x y : List ℕ) (b : Bool) → bytes_eq x y ≡ b → x ≢ y → b ≡ false
+pub differs : (x y : List ℕ) (b : Bool) → bytes_eq x y ≡ b → x ≢ y → b ≡ false
 differs x y true e d = absurd (d ((bytes_eq-Decides x y).0 e))
 differs x y false e d = refl
 

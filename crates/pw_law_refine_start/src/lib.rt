@@ -15,6 +15,7 @@ ghost use Rattle.pw_law_refine.specs.Standing.{MemoryStands};
 ghost use Rattle.pw_law_refine.specs.Matching.{IsGlobalAt, global_size};
 ghost use Rattle.pw_law_refine.specs.Calls.{FitShape};
 ghost use Rattle.pw_law_refine.specs.Whole.{AllPartsKeep, ProgramsKeepRuns, StartsMatch, start_machine};
+ghost use Rattle.pw_law_refine_start.specs.Named.{IsFoundAs};
 ghost use Rattle.pw_law_refine_start.specs.Start.{start_spots};
 
 use pw_law_refine_steps::programs_rest_on_parts;
@@ -25,6 +26,13 @@ pub fn names_have_one_number()
     ensures functions { (world : World) (name : List ℕ) → IsLowerableWorld world →
         function_number world.program name ≡ flows.function_number (graphs world) name }
     ensures objects { (world : World) (name : List ℕ) → global_number world.program name ≡ flows.global_number (graphs world) name }
+{}
+
+/// What a name calls is found by both runs alike: a function of the library, or one of a module with its flow graph, which has
+/// its shape.
+pub fn functions_are_found()
+    ensures { (world : World) (name : List ℕ) (f : Callable) → IsLowerableWorld world → function_named world.program name ≡ Some f →
+        IsFoundAs world name f }
 {}
 
 /// The objects at the start: each stands in the object of its own number, has the bytes that stand for its own there,

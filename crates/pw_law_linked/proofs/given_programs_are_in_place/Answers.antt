@@ -6,3 +6,6 @@ returns c =
     in_place c.modules_stand_in_order.ensures.stay
     (λ p d functions objects behind given. c.linked_addresses_are_lawful.ensures p d functions objects behind given.program given.apart given.serve given.made given.fits)
     c.selected_lines_are_ready.ensures.served
+    c.text_words.ensures
+    c.words_stand_at_their_addresses.ensures.words
+    c.runs_keep_lawful_states.ensures.start

@@ -5,10 +5,10 @@ use Rattle.pw_cmean.specs.Worlds.{ProgramModule}
 use Rattle.pw_law_accept.proofs.acceptance.linked_modules_are_well_typed.Goals as goal
 
 pub returns : goal.returns
-returns g = λ p frame_of stack checked plain rising linked words. record {
+returns g = λ p frame_of stack checked plain rising linked. record {
   modules = All-from_recursion (λ (m : ProgramModule). WellTyped m.tree) p.modules (each_by (λ (m : ProgramModule). WellTyped m.tree) p.modules (λ m h.
       let there = contains_by m p.modules h in
       let is = checked m there in
-      g.accepted_is_well_typed.ensures is.syntax m.tree is.parsed.well_formed is.is (words m there) (g.accepted_strings_are_short.ensures is.syntax m.tree (g.strings_of_texts.ensures is.text is.tokens is.syntax is.lexed is.parsed) is.is)));
+      g.accepted_texts_are_well_typed.ensures is.syntax m.tree is.parsed.well_formed (g.strings_of_texts.ensures is.text is.tokens is.syntax is.lexed is.parsed) is.is));
   functions = g.linked_functions_agree.ensures p frame_of stack checked plain rising linked;
 }

@@ -4,7 +4,7 @@ use Rattle.pw_law_accept.proofs.Whole.{makes_program}
 use Rattle.pw_law_accept.proofs.acceptance.linked_modules_make_a_program.Goals as goal
 
 pub returns : goal.returns
-returns g = λ p frame_of stack checked plain rising room linked words. makes_program p frame_of stack
+returns g = λ p frame_of stack checked plain rising room linked. makes_program p frame_of stack
     (λ m h. known_module g.words_spell_what_they_are.ensures g.accepted_names_are_identifiers.ensures.declared g.accepted_names_are_identifiers.ensures.functions
     g.accepted_functions_are_typed.ensures.typed g.accepted_names_are_declared.ensures.functions g.accepted_names_are_declared.ensures.objects m (checked m (contains_by m p.modules h)))
     linked
@@ -12,6 +12,6 @@ returns g = λ p frame_of stack checked plain rising room linked words. makes_pr
     let there = contains_by m p.modules h in
     let is = checked m there in
     g.modules_are_lawful.ensures m.name m.tree
-    (g.accepted_is_well_typed.ensures is.syntax m.tree is.parsed.well_formed is.is (words m there) (g.accepted_strings_are_short.ensures is.syntax m.tree (g.strings_of_texts.ensures is.text is.tokens is.syntax is.lexed is.parsed) is.is))
+    (g.accepted_texts_are_well_typed.ensures is.syntax m.tree is.parsed.well_formed (g.strings_of_texts.ensures is.text is.tokens is.syntax is.lexed is.parsed) is.is)
     (g.linked_modules_are_within.ensures p frame_of stack checked linked m there))
-    rising room (g.linked_operations_refer_rightly.ensures p frame_of stack checked plain rising linked words) (g.linked_items_are_right.ensures p frame_of stack checked plain rising linked words)
+    rising room (g.linked_operations_refer_rightly.ensures p frame_of stack checked plain rising linked) (g.linked_items_are_right.ensures p frame_of stack checked plain rising linked)

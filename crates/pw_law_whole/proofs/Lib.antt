@@ -1,0 +1,5 @@
+mod Names
+mod Texts
+mod Directions
+mod Objects
+mod Parts

@@ -1,0 +1,136 @@
+-- The parts of a full build, as those of an analysed program.
+use Rattle.std.proofs.Common.{◌≡◌, ◌≤◌, ℕ, List, [], ◌∷◌, map, refl, sym, subst, arith}
+use Rattle.std.specs.Prelude.{All, Ok}
+use Rattle.std.specs.List.{AllByRecursion}
+use Rattle.std.specs.FinMap as finite
+use Rattle.pw_value.specs.Limits.{stack_least, stack_limit}
+use Rattle.pw_files.specs.Rising.{IsRising}
+use Rattle.pw_files.proofs.Standing.{Has, has_by, has_map, has_each}
+use Rattle.pw_files.proofs.ByteOrder.{strictly_rising}
+use Rattle.pw_io.proofs.FileMaps.{keys-order}
+use Rattle.pw_flow.specs.declared.flow.FlowModule.{FlowModule}
+use Rattle.pw_flow.specs.ValidFlow.{IsValid}
+use Rattle.pw_db.specs.Limits.{colour_limit, register_count}
+use Rattle.pw_db.specs.Database.{IsDatabase, HasDirectives}
+use Rattle.pw_summary.specs.declared.summary.Summary.{Summary}
+use Rattle.pw_summary.specs.Summary.{IsSummary}
+use Rattle.pw_summarise.proofs.LawfulLaws.{lawful}
+use Rattle.pw_colour.specs.Colours.{IsDatabaseOf}
+use Rattle.pw_store_modules.specs.Modules.{Texts}
+use Rattle.pw_build_objects.specs.Programs.{DirectivesList, AreSummariesOf, Completes, Parts}
+use Rattle.pw_law_direction.specs.Laws.{FirstPlacesServe}
+use Rattle.pw_run_languages.specs.LinkingLaws.{frame_in}
+use Rattle.pw_cmean.specs.Worlds.{Program, ProgramModule}
+use Rattle.pw_law_layers.specs.Lowering.{flow_program, AreChecked, LoweringKeepsRuns}
+use Rattle.pw_law_layers.specs.Accepting.{HasNoColon, AreNamedPlainly, IsWhole}
+use Rattle.pw_law_layers.specs.Whole.{image_of, FramesFit, AllFramesFit, LoweredImplements}
+use Rattle.pw_law_analysis.specs.SummaryGraphs.{AllSummarise}
+use Rattle.pw_token.specs.declared.token.Token.{Token}
+use Rattle.pw_token.specs.Tokenization.{IsLexed}
+use Rattle.pw_tree.specs.Grammar.{IsTreeOf, spelled_all}
+use Rattle.pw_tree.specs.Trees.{Module}
+use Rattle.pw_types.specs.TypedTrees.{ModuleValue}
+use Rattle.pw_check_rules.specs.Checks.{Checks}
+use Rattle.pw_law_checked.specs.Names.{HasShortStrings}
+use Rattle.pw_law_checked.specs.Words.{AreWordsInModule}
+use Rattle.pw_law_accept.specs.Linked.{AreLinked, AreOfWords}
+use Rattle.pw_law_analysis.specs.SummaryLaws.{SummariesSayTheSame}
+use Rattle.pw_law_analysis.specs.AnalyserLaws.{DatabasesServe}
+use Rattle.pw_law_whole.specs.Programs.{IsProgramOf, HavePlainNames, IsWholeWith, flows_in, functions_under}
+use Rattle.pw_law_whole.proofs.Texts.{flow_of, names_same, all_checked}
+use Rattle.pw_law_whole.proofs.Objects.{all_show, modules_named, same_globals, code_of_all}
+
+-- ---- summaries
+
+all_summarise : (flows : List FlowModule) (ss : List Summary) → AreSummariesOf flows ss → AllSummarise flows ss
+all_summarise [] [] are = tt
+all_summarise [] (s ∷ ss) are = absurd are
+all_summarise (flow ∷ flows) [] are = absurd are
+all_summarise (flow ∷ flows) (s ∷ ss) are = (are.0, all_summarise flows ss are.1)
+
+all_lawful : (flows : List FlowModule) (ss : List Summary) → AllByRecursion IsValid flows → AreSummariesOf flows ss → AllByRecursion IsSummary ss
+all_lawful [] [] valid are = tt
+all_lawful [] (s ∷ ss) valid are = absurd are
+all_lawful (flow ∷ flows) [] valid are = absurd are
+all_lawful (flow ∷ flows) (s ∷ ss) valid are = (lawful flow s valid.0 are.0, all_lawful flows ss valid.1 are.1)
+
+-- ---- names
+
+rise : (texts : Texts) (p : Program) → IsProgramOf texts p → IsRising (map (λ m. m.name) p.modules)
+rise texts p are =
+    subst (λ (names : List (List ℕ)). IsRising names) (sym (names_same (finite.entries texts) p.modules are)) (strictly_rising (finite.keys texts) (keys-order texts))
+
+plain_names : (texts : Texts) (p : Program) → HavePlainNames texts → IsProgramOf texts p → AreNamedPlainly p
+plain_names texts p plain are m there =
+    has_each HasNoColon (finite.keys texts) m.name plain
+    (subst (λ (names : List (List ℕ)). Has m.name names) (names_same (finite.entries texts) p.modules are)
+    (has_map (λ (n : ProgramModule). n.name) m p.modules (has_by m p.modules there)))
+
+-- ---- numbers
+
+pub of_words : ((text : List ℕ) (tokens : List Token) (tree : Module) → IsLexed text tokens → IsTreeOf (spelled_all text tokens) tree → HasShortStrings tree) →
+    ((tree : Module) (m : ModuleValue) → HasShortStrings tree → Checks tree (Ok m) → AreWordsInModule m) →
+    (p : Program) → AreChecked p → AreOfWords p
+of_words strings numbers p checked m there =
+    let is = checked m there in
+    numbers is.syntax m.tree (strings is.text is.tokens is.syntax is.lexed is.parsed) is.is
+
+-- ---- together
+
+pub whole_with : LoweringKeepsRuns → LoweredImplements → SummariesSayTheSame → FirstPlacesServe →
+    ((ss : List Summary) (colours : ℕ) (d : DirectivesList) → colours ≤ register_count → IsDatabaseOf ss colours d → IsDatabase d) →
+    ((db : DirectivesList) → IsDatabase db → (gs hs : DirectivesList) → All (HasDirectives db) gs → All (HasDirectives db) hs → map (λ f. f.0) gs ≡ map (λ f. f.0) hs → gs ≡ hs) →
+    ((p : Program) (frame_of : List ℕ → ℕ) (stack : ℕ) → AreChecked p → AreNamedPlainly p → IsRising (map (λ m. m.name) p.modules) → stack ≤ stack_limit →
+    AreLinked (map flow_of p.modules) → AreOfWords p → IsWhole p frame_of stack) → ((p : Program) → AreChecked p → AreOfWords p) →
+    (texts : Texts) (colours stack : ℕ) (parts : Parts) (p : Program) → Completes (map flow_of p.modules) [] colours stack (Ok parts) → IsProgramOf texts p →
+    HavePlainNames texts → colours ≤ colour_limit → stack_least ≤ stack → stack ≤ stack_limit → IsWholeWith p parts colours stack
+whole_with low implements same serve databases one accepted words texts colours stack parts p (are, linked) of_texts plain few enough room =
+    let flows = map flow_of p.modules in
+    let db = parts.database in
+    let has = are.database in
+    let lawful_db : IsDatabase db = databases has.summaries colours db (omega (arith, few)) has.database in
+    let single = one db lawful_db in
+    let checked : AreChecked p = λ m there. all_checked (finite.entries texts) p.modules of_texts m (has_by m p.modules there) in
+    let objects : AreLinked flows = record { objects = parts.objects; show = all_show db single flows parts.objects parts.fresh are.objects; links = linked.program } in
+    let whole : IsWhole p (frame_in (image_of parts.objects stack)) stack =
+    accepted p (frame_in (image_of parts.objects stack)) stack checked (plain_names texts p plain of_texts) (rise texts p of_texts) room objects (words p checked) in
+    let summarised : AllSummarise flows has.summaries = all_summarise flows has.summaries has.of_flows in
+    record {
+      summaries = has.summaries;
+      analysed = record {
+        implements = implements low p (frame_in (image_of parts.objects stack)) stack checked whole.parts whole.accepted;
+        frames = refl;
+        names = whole.names;
+        enough = enough;
+        linked = record { each = all_lawful flows has.summaries are.lawful has.of_flows; linked = has.linked };
+        few = omega (arith, few);
+        database = has.database;
+        alike = same p (frame_in (image_of parts.objects stack)) stack has.summaries has.database.graph whole.accepted summarised has.database.graph_of;
+        serve = serve (flow_program p (frame_in (image_of parts.objects stack)) stack) db whole.accepted.program lawful_db;
+        made = record {
+          modules = modules_named db single flows parts.objects parts.fresh are.objects;
+          globals = same_globals db single flows parts.objects parts.fresh are.objects;
+          code = code_of_all db single flows parts.objects parts.fresh are.objects;
+        };
+        fits = linked.fits;
+      };
+    }
+
+-- ---- frames
+
+pub frames_fit : DatabasesServe → AllFramesFit → (p : Program) (parts : Parts) (colours stack : ℕ) → IsWholeWith p parts colours stack → FramesFit p (image_of parts.objects stack)
+frames_fit serves fit p parts colours stack whole =
+    let built = whole.analysed in
+    let q = flows_in p parts stack in
+    let s = serves q whole.summaries colours parts.database built.linked built.few built.database built.alike in
+    fit p q parts.database (functions_under p parts stack) parts.objects (record {
+      implements = built.implements;
+      frames = built.frames;
+      names = built.names;
+      enough = built.enough;
+      database = s.database;
+      sound = s.sound;
+      serve = built.serve;
+      made = built.made;
+      fits = built.fits;
+    })
