@@ -48,7 +48,7 @@ between : (low at : ℕ) (ps : List Piece) (high : ℕ) → at % 4 ≡ 0 → low
 between low at [] high aligned above below = tt
 between low at (p ∷ ps) high aligned above below =
     let count = sum_by-cons (λ (p : Piece). length p.words) p ps in
-    ((aligned, (above, omega (arith, below))), between low (at + 4 * length p.words) ps high (omega (arith, aligned)) (omega (arith, above)) (omega (arith, count, below)))
+    ((aligned, above, omega (arith, count, below)), between low (at + 4 * length p.words) ps high (omega (arith, aligned)) (omega (arith, above)) (omega (arith, count, below)))
 
 left_out : (P : ℕ → Type 0) (n : ℕ) (qs : List Placed) → AllByRecursion P (map (λ q. q.address) qs) → AllByRecursion P (map (λ q. q.address) (drop n qs))
 left_out P zero qs h = h
@@ -84,7 +84,7 @@ routine_in_text objects stack k fits small =
     let count = placed_count text_start (pieces_of objects) in
     let left = kept n text in
     let h = one_of (IsBetween text_start high) (routine_addresses text) k (left_out (IsBetween text_start high) n text all) (omega (arith, small, many, count, left)) in
-    (h.0, (h.1.0, omega (arith, few, h.1.1)))
+    (h.0, h.1, omega (arith, few, h.2))
 
 -- ---- functions too
 
@@ -93,7 +93,7 @@ pub name_in_text : (p : Program) (objects : List Object) (behind : List ℕ → 
 name_in_text p objects behind fits lawful own name c =
     let few = few_words objects p.stack fits in
     let below = lawful.function_below name c in
-    subst InText (address_is objects p.stack name) (lawful.function_aligned name c, (lawful.function_above name c, omega (arith, few, below)))
+    subst InText (address_is objects p.stack name) (lawful.function_aligned name c, lawful.function_above name c, omega (arith, few, below))
 
 -- ---- relocations
 
