@@ -19,3 +19,6 @@ pub mod Ready
 pub mod LibraryBehind
 pub mod Held
 pub mod InPlace
+pub mod Fixes
+pub mod Callees
+pub mod KnownFixes

@@ -3,3 +3,4 @@ pub mod Standing
 pub mod Whole
 pub mod Given
 pub mod InMemory
+pub mod Relocations

@@ -1,7 +1,7 @@
 //! Laws of linked programs that run, without code: the setting of a linked program, and what holds in it.
 #![tactic(auto)]
 
-ghost use Rattle.std.specs.Prelude.{ℕ, ◌≡◌, ◌+◌, ◌*◌, ◌<◌, ◌≤◌, ◌^◌, Bool, Some, List, ◌∷◌, ◌++◌, map, length, slice_index_or};
+ghost use Rattle.std.specs.Prelude.{ℕ, ◌≡◌, ◌+◌, ◌*◌, ◌<◌, ◌≤◌, ◌^◌, Bool, Some, None, List, ◌∷◌, ◌++◌, map, length, slice_index_or};
 ghost use Rattle.std.specs.List.{AllByRecursion};
 ghost use Rattle.pw_flow.specs.ValidFlow.{AreDistinct};
 ghost use Rattle.pw_db.specs.declared.database.Directives.{Directives};
@@ -13,7 +13,7 @@ ghost use Rattle.pw_select.specs.Selection.{selected};
 ghost use Rattle.pw_delay.specs.declared.items.Item.{Item};
 ghost use Rattle.pw_delay.specs.Placement.{sizes, mark_at, placed};
 ghost use Rattle.pw_link.specs.Layout.{Piece, placed_from, Sites, text_of, data_begin};
-ghost use Rattle.pw_link.specs.Linking.{linked, symbol_address, with_fixes};
+ghost use Rattle.pw_link.specs.Linking.{linked, symbol_address, with_fixes, size_fault};
 ghost use Rattle.pw_inst.specs.declared.relocation.Symbol.TheVariants.{Named, StackLimit, Routine};
 ghost use Rattle.pw_machine.specs.Core.{word_at};
 ghost use Rattle.pw_law_link.specs.Standing.{sites};
@@ -22,7 +22,8 @@ ghost use Rattle.pw_run_languages.specs.Acts as lines;
 ghost use Rattle.pw_run_languages.specs.Programs.{Program, functions_of, globals_of};
 ghost use Rattle.pw_run_languages.specs.Addresses.{AreLawful};
 ghost use Rattle.pw_run_languages.specs.LawfulPrograms.{IsProgram};
-ghost use Rattle.pw_run_languages.specs.Serving.{Serves};
+ghost use Rattle.pw_run_languages.specs.Serving.{Serves, AllServe};
+ghost use Rattle.pw_run_languages.specs.Direction.{directed_functions};
 ghost use Rattle.pw_run_languages.specs.LineRun.{turns, IsCalling};
 ghost use Rattle.pw_run_languages.specs.CodeStands.{is_long, AreReady};
 ghost use Rattle.pw_run_languages.specs.SelectionLaws.{arranged, with_items};
@@ -35,7 +36,7 @@ ghost use Rattle.pw_law_levels.specs.Sparing.{IsSparing};
 ghost use Rattle.pw_law_linked.specs.Settings.{behind_in, behind_of, mark_of, long_of, linked_setting};
 ghost use Rattle.pw_law_linked.specs.Standing.{BeginsOutside, HasItsWords, AtItsAddress, IsFoundAmong, CodeAt, ItsAddressIsItsOwn, HasFrame, EndsBelow};
 ghost use Rattle.pw_law_linked.specs.Given.{IsGiven};
-ghost use Rattle.pw_law_linked.specs.InMemory.{IsInMemory};
+ghost use Rattle.pw_law_linked.specs.InMemory.{HasKnownFixes, IsInMemory};
 ghost use Rattle.pw_law_linked.specs.Whole.{IsInPlace};
 
 use pw_law_code::code::{
@@ -94,6 +95,13 @@ pub fn code_has_its_addresses()
         lines.symbol_address (linked_addresses objects stack behind) StackLimit ≡ Some (symbol_address (sites objects stack) own StackLimit) }
     ensures routines { (objects : List Object) (stack own : ℕ) (behind : List ℕ → ℕ → ℕ) (k : ℕ) →
         lines.symbol_address (linked_addresses objects stack behind) (Routine k) ≡ Some (symbol_address (sites objects stack) own (Routine k)) }
+{}
+
+/// What the relocations of a function's code are of has the linker's address in the run of lines; and each of its branches
+/// leads into the text: for a call names a function of the program, or a routine.
+pub fn relocations_are_known()
+    ensures { (p : Program) (d : List (List ℕ × Directives)) (functions : List Located) (objects : List Object) (input : List ℕ) → IsProgram p → AllServe (directed_functions p d) functions →
+        size_fault objects p.stack ≡ None → AreLawful p (linked_setting p functions objects input).addresses → AllByRecursion (HasKnownFixes p functions objects input) functions }
 {}
 
 /// A function whose words stand at its address in the machine's memory, their relocations done, stands there as items.
