@@ -29,8 +29,7 @@ use Rattle.pw_run_languages.specs.LawfulPrograms as web
 use Rattle.pw_run_languages.specs.LawfulPrograms.{ops_of, taken_names, NamesRightly, IsGlobalName}
 use Rattle.pw_law_layers.specs.Lowering.{flow_program, IsAccepted}
 use Rattle.pw_law_analysis.specs.SummaryGraphs.{AllSummarise}
-use Rattle.pw_law_analysis.proofs.TakingExpressions.{TakesRightly}
-use Rattle.pw_law_analysis.proofs.TakingFunctions.{AllRight, functions_good}
+use Rattle.pw_law_analysis.proofs.Taking.{TakesRightly, AllRight, functions_good}
 use Rattle.pw_law_analysis.proofs.Lists.{across}
 use Rattle.pw_law_analysis.proofs.Declared.{IsSaid, IsShaped, shaped}
 

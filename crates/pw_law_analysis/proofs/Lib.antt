@@ -1,6 +1,4 @@
-mod TakingExpressions
-mod TakingStatements
-mod TakingFunctions
+mod Taking
 mod Lists
 mod Declared
 mod Addresses

@@ -1,18 +1,16 @@
--- The code of an expression names objects as objects and functions as functions, as far as the module says.
-use Rattle.std.proofs.Common.{ℕ, ◌+◌, ◌==◌, Bool, true, false, if◌then◌else◌, Option, Some, None, List, [], ◌∷◌, refl}
+-- Each operation in the code of an expression, by the nodes of the expression.
+use Rattle.std.proofs.Common.{ℕ, ◌+◌, ◌==◌, Bool, true, false, if◌then◌else◌, Option, Some, None, List, [], ◌∷◌}
 use Rattle.std.specs.List.{AllByRecursion}
 use Rattle.pw_value.specs.declared.value.Kind.{Kind}
 use Rattle.pw_types.specs.Kinds.{is_record}
-use Rattle.pw_types.specs.TypeTrees.{CType, Void, Function as FunctionType, QType, Qualified, QTypes, NoType, OneType, type_of, RecordValue}
-use Rattle.pw_types.specs.TypedTrees.{Symbol, External, Internal, Expression, Node, type_at, Number, Str, Local, Global, Function, Unary, Binary, Logic, Cond, Comma, Assign, Compound, Step, Cast, Decay, Member, Deref, Address, Call, CallValue, Expressions, NoExpression, OneExpression, Hidden, LocalValue, ModuleValue}
+use Rattle.pw_types.specs.TypeTrees.{CType, Void, QType, type_of, RecordValue}
+use Rattle.pw_types.specs.TypedTrees.{Expression, Form, Node, type_at, Number, Str, Local, Global, Function, Unary, Binary, Logic, Cond, Comma, Assign, Compound, Step, Cast, Decay, Member, Deref, Address, Call, CallValue, Expressions, NoExpression, OneExpression, Hidden}
 use Rattle.pw_types.specs.declared.tree.UnaryOperator.{UnaryOperator}
 use Rattle.pw_types.specs.declared.tree.UnaryOperator.TheVariants as unary
 use Rattle.pw_types.specs.declared.tree.BinaryOperator.{BinaryOperator}
 use Rattle.pw_types.specs.declared.tree.BinaryOperator.TheVariants as binary
 use Rattle.pw_types.specs.declared.tree.LogicOperator.TheVariants as logic
-use Rattle.pw_types.specs.WellTyped.{promoted_type, type_in, IsObject, IsTyped, AreArguments}
-use Rattle.pw_law_checked.specs.Designators.{NamesObjects, AllNameObjects}
-use Rattle.pw_law_accept.specs.References.{NamesObject, RefersRightly}
+use Rattle.pw_types.specs.WellTyped.{promoted_type, type_in}
 use Rattle.pw_flow.specs.declared.flow.Op.{Op}
 use Rattle.pw_flow.specs.declared.flow.Op.TheVariants as op
 use Rattle.pw_flow.specs.declared.flow.BinKind.{BinKind}
@@ -32,26 +30,34 @@ use Rattle.pw_lower.specs.Codes.{Lowered, lowered_as, temp_of, emit, fresh, cons
 use Rattle.pw_lower.specs.Places.{place_at}
 use Rattle.pw_lower.specs.Operators.{kind_of, with, scaled, moved_by, distance, on_numbers, operation_of, is_turned, sum_or, combined, is_signed, target_size, truth_in, unary_on, extension, extended, converted, step_operator, is_behind, bytes_of, unit_of}
 use Rattle.pw_lower.specs.Expressions.{Home, Placed, full_name, shape_at, read_target, read, write, further, address_of_global, address_of_local, target_of_local, value_at, value_of_global, value_of_local, stored, copied, scalar_kind, updated, fork, in_result, decides, says, gives, is_void, lower, place, arguments}
+use Rattle.pw_law_lower_walk.specs.Parts.{EachExpression, Parts}
+use Rattle.pw_law_lower_walk.specs.Named.{IsNameless, OfObject, NameIn}
 
--- a global that is written or read by its name
-abbrev pub RightTarget : ModuleValue → List ℕ → Target → Type 0
-RightTarget m home (Named g) = NamesObject m home g
-RightTarget m home _ = Unit {0}
+module _ (P : Op → Type 0) (nameless : (o : Op) → IsNameless o → P o) where
+  -- a global that is written or read by its name
+  abbrev pub RightTarget : Target → Type 0
+  RightTarget (Named g) = OfObject P g
+  RightTarget _ = Unit {0}
 
-module _ (m : ModuleValue) (home : List ℕ) where
   -- each operation of the blocks that are closed and of the one that is filled
   abbrev pub Good : Code → Type 0
-  Good c = AllByRecursion (λ (b : Numbered). AllByRecursion (RefersRightly m home) b.block.ops) c.closed × AllByRecursion (RefersRightly m home) c.ops
+  Good c = AllByRecursion (λ (b : Numbered). AllByRecursion P b.block.ops) c.closed × AllByRecursion P c.ops
 
-  pub emits : (o : Op) (c : Code) → Good c → RefersRightly m home o → Good (emit o c)
-  emits o c g r = (g.0, all_append (RefersRightly m home) c.ops (o ∷ []) g.1 (r, tt))
+  pub emits : (o : Op) (c : Code) → Good c → P o → Good (emit o c)
+  emits o c g r = (g.0, all_append P c.ops (o ∷ []) g.1 (r, tt))
 
-  pub adds : (o : ℕ → Op) (c : Code) → Good c → RefersRightly m home (o c.temps) → Good (fresh o c).code
+  pub adds : (o : ℕ → Op) (c : Code) → Good c → P (o c.temps) → Good (fresh o c).code
   adds o c g r = emits (o c.temps) (reserve_temps 1 c) g r
+
+  pub emits_plain : (o : Op) (c : Code) → Good c → IsNameless o → Good (emit o c)
+  emits_plain o c g r = emits o c g (nameless o r)
+
+  pub adds_plain : (o : ℕ → Op) (c : Code) → Good c → IsNameless (o c.temps) → Good (fresh o c).code
+  adds_plain o c g r = adds o c g (nameless (o c.temps) r)
 
   pub cuts : (end : End) (number depth : ℕ) (c : Code) → Good c → Good (cut end number depth c)
   cuts end number depth c g =
-      (all_append (λ (b : Numbered). AllByRecursion (RefersRightly m home) b.block.ops) c.closed (record { number = c.cur; block = record { depth = c.depth; ops = c.ops; end = end } } ∷ []) g.0 (g.1, tt), tt)
+      (all_append (λ (b : Numbered). AllByRecursion P b.block.ops) c.closed (record { number = c.cur; block = record { depth = c.depth; ops = c.ops; end = end } } ∷ []) g.0 (g.1, tt), tt)
 
   pub leaves : (end : End) (c : Code) → Good c → Good (leave end c)
   leaves end c g = cuts end c.blocks c.depth (reserve 1 c) g
@@ -59,10 +65,10 @@ module _ (m : ModuleValue) (home : List ℕ) where
   -- ---- operators
 
   pub constant_good : (n : ℕ) (c : Code) → Good c → Good (constant n c).code
-  constant_good n c g = adds (λ t. op.Const t n) c g tt
+  constant_good n c g = adds_plain (λ t. op.Const t n) c g tt
 
   pub with_good : (k : BinKind) (p : ℕ) (x : Lowered) → Good x.code → Good (with k p x).code
-  with_good k p x g = adds (λ t. op.Bin k t p (temp_of x)) x.code g tt
+  with_good k p x g = adds_plain (λ t. op.Bin k t p (temp_of x)) x.code g tt
 
   scaled_good : (b : Bool) (size n : ℕ) (c : Code) → Good c → Good (if b then value_is n c else with Mul n (constant size c)).code
   scaled_good true size n c g = g
@@ -76,7 +82,7 @@ module _ (m : ModuleValue) (home : List ℕ) where
   in_elements_good false size x g = with_good DivS (temp_of x) (constant size x.code) (constant_good size x.code g)
 
   bin_good : (k : BinKind) (p q : ℕ) (c : Code) → Good c → Good (fresh (λ t. op.Bin k t p q) c).code
-  bin_good k p q c g = adds (λ t. op.Bin k t p q) c g tt
+  bin_good k p q c g = adds_plain (λ t. op.Bin k t p q) c g tt
 
   distance_good : (size p q : ℕ) (c : Code) → Good c → Good (distance size p q c).code
   distance_good size p q c g = in_elements_good (size == 1) size (fresh (λ t. op.Bin Sub t p q) c) (bin_good Sub p q c g)
@@ -99,7 +105,7 @@ module _ (m : ModuleValue) (home : List ℕ) where
 
   extended_good : (k : Option ExtKind) (t : ℕ) (c : Code) → Good c → Good (extended k t c).code
   extended_good None t c g = g
-  extended_good (Some k) t c g = adds (λ r. op.Ext k r t) c g tt
+  extended_good (Some k) t c g = adds_plain (λ r. op.Ext k r t) c g tt
 
   converted_good : (from to : Option Kind) (x : Lowered) → Good x.code → Good (converted from to x).code
   converted_good None to x g = g
@@ -107,25 +113,25 @@ module _ (m : ModuleValue) (home : List ℕ) where
   converted_good (Some from) (Some to) x g = extended_good (extension from to) (temp_of x) x.code g
 
   truth_in_good : (r t : ℕ) (c : Code) → Good c → Good (truth_in r t c)
-  truth_in_good r t c g = let x = constant 0 c in emits (op.Bin Ne r t (temp_of x)) x.code (constant_good 0 c g) tt
+  truth_in_good r t c g = let x = constant 0 c in emits_plain (op.Bin Ne r t (temp_of x)) x.code (constant_good 0 c g) tt
 
   unary_on_good : (o : UnaryOperator) (t : ℕ) (c : Code) → Good c → Good (unary_on o t c).code
   unary_on_good unary.Plus t c g = g
-  unary_on_good unary.Minus t c g = adds (λ r. op.Un Neg r t) c g tt
-  unary_on_good unary.Complement t c g = adds (λ r. op.Un Not r t) c g tt
+  unary_on_good unary.Minus t c g = adds_plain (λ r. op.Un Neg r t) c g tt
+  unary_on_good unary.Complement t c g = adds_plain (λ r. op.Un Not r t) c g tt
   unary_on_good unary.Not t c g = with_good Eq t (constant 0 c) (constant_good 0 c g)
 
   -- ---- lvalues
 
-  read_good : (k : Kind) (target : Target) (c : Code) → RightTarget m home target → Good c → Good (read_target k target c).code
-  read_good k (Kept x) c r g = adds (λ t. op.Copy t x) c g tt
-  read_good k (Named v) c r g = adds (λ t. op.LoadG t v k) c g r
-  read_good k (Led p) c r g = adds (λ t. op.Load k t p) c g tt
+  read_good : (k : Kind) (target : Target) (c : Code) → RightTarget target → Good c → Good (read_target k target c).code
+  read_good k (Kept x) c r g = adds_plain (λ t. op.Copy t x) c g tt
+  read_good k (Named v) c r g = adds (λ t. op.LoadG t v k) c g (r.read c.temps k)
+  read_good k (Led p) c r g = adds_plain (λ t. op.Load k t p) c g tt
 
-  write_good : (k : Kind) (target : Target) (v : ℕ) (c : Code) → RightTarget m home target → Good c → Good (write k target v c)
-  write_good k (Kept x) v c r g = emits (op.Copy x v) c g tt
-  write_good k (Named name) v c r g = emits (op.StoreG name v k) c g r
-  write_good k (Led p) v c r g = emits (op.Store k p v) c g tt
+  write_good : (k : Kind) (target : Target) (v : ℕ) (c : Code) → RightTarget target → Good c → Good (write k target v c)
+  write_good k (Kept x) v c r g = emits_plain (op.Copy x v) c g tt
+  write_good k (Named name) v c r g = emits (op.StoreG name v k) c g (r.written v k)
+  write_good k (Led p) v c r g = emits_plain (op.Store k p v) c g tt
 
   further_by : (b : Bool) (offset : ℕ) (x : Lowered) → Good x.code → Good (if b then x else with Add (temp_of x) (constant offset x.code)).code
   further_by true offset x g = g
@@ -136,7 +142,7 @@ module _ (m : ModuleValue) (home : List ℕ) where
 
   pub address_of_local_good : (p : LocalPlace) (c : Code) → Good c → Good (address_of_local p c).code
   address_of_local_good (Temp x) c g = g
-  address_of_local_good (Slot k) c g = adds (λ t. op.AddrSlot t k) c g tt
+  address_of_local_good (Slot k) c g = adds_plain (λ t. op.AddrSlot t k) c g tt
 
   pub target_of_local_good : (p : LocalPlace) (c : Code) → Good c → Good (target_of_local p c).code
   target_of_local_good (Temp x) c g = g
@@ -144,16 +150,16 @@ module _ (m : ModuleValue) (home : List ℕ) where
 
   value_at_good : (k : Option Kind) (x : Lowered) → Good x.code → Good (value_at k x).code
   value_at_good None x g = g
-  value_at_good (Some k) x g = adds (λ t. op.Load k t (temp_of x)) x.code g tt
+  value_at_good (Some k) x g = adds_plain (λ t. op.Load k t (temp_of x)) x.code g tt
 
-  pub global_good : (name : List ℕ) (c : Code) → NamesObject m home name → Good c → Good (address_of_global name c).code
-  global_good name c r g = adds (λ t. op.AddrGlobal t name 0) c g r
+  pub global_good : (name : List ℕ) (c : Code) → OfObject P name → Good c → Good (address_of_global name c).code
+  global_good name c r g = adds (λ t. op.AddrGlobal t name 0) c g (r.address c.temps 0)
 
-  pub local_target : (p : LocalPlace) (c : Code) → RightTarget m home (target_of_local p c).target
+  pub local_target : (p : LocalPlace) (c : Code) → RightTarget (target_of_local p c).target
   local_target (Temp x) c = tt
   local_target (Slot k) c = tt
 
-  value_of_global_good : (k : Option Kind) (name : List ℕ) (c : Code) → NamesObject m home name → Good c → Good (value_of_global k name c).code
+  value_of_global_good : (k : Option Kind) (name : List ℕ) (c : Code) → OfObject P name → Good c → Good (value_of_global k name c).code
   value_of_global_good None name c r g = global_good name c r g
   value_of_global_good (Some k) name c r g = read_good k (Named name) c r g
 
@@ -165,13 +171,13 @@ module _ (m : ModuleValue) (home : List ℕ) where
 
   -- ---- assignments
 
-  pub stored_good : (k : Kind) (target : Target) (x : Lowered) → RightTarget m home target → Good x.code → Good (stored k target x).code
+  pub stored_good : (k : Kind) (target : Target) (x : Lowered) → RightTarget target → Good x.code → Good (stored k target x).code
   stored_good k target x r g = write_good k target (temp_of x) x.code r g
 
   pub copied_good : (records : List RecordValue) (ty : CType) (to : ℕ) (x : Lowered) → Good x.code → Good (copied records ty to x).code
-  copied_good records ty to x g = emits (op.Move to (temp_of x) (bytes_of records ty) (unit_of records ty)) x.code g tt
+  copied_good records ty to x g = emits_plain (op.Move to (temp_of x) (bytes_of records ty) (unit_of records ty)) x.code g tt
 
-  updated_good : (records : List RecordValue) (o : BinaryOperator) (ty right : CType) (own : Kind) (target : Target) (old : ℕ) (x : Lowered) → RightTarget m home target → Good x.code → Good (updated records o ty right own target old x).code
+  updated_good : (records : List RecordValue) (o : BinaryOperator) (ty right : CType) (own : Kind) (target : Target) (old : ℕ) (x : Lowered) → RightTarget target → Good x.code → Good (updated records o ty right own target old x).code
   updated_good records o ty right own target old x r g =
       let s = combined records o ty right old (temp_of x) x.code in
       let one = sum_or_good o (is_signed ty) (target_size records ty) (target_size records right) old (temp_of x) x.code g in
@@ -205,7 +211,7 @@ module _ (m : ModuleValue) (home : List ℕ) where
       let d = decides f.result y in
       let yes = cut_here (Jump f.join) f.if_not d in
       let gd = truth_in_good f.result (temp_of y) y.code (h f.code (fork_good 1 x g)) in
-      turn_good f.join f.join (says f.result 0 yes) (emits (op.Const f.result 0) yes (turn_good f.join f.if_not d gd) tt)
+      turn_good f.join f.join (says f.result 0 yes) (emits_plain (op.Const f.result 0) yes (turn_good f.join f.if_not d gd) tt)
 
   or_good :
       (x : Lowered) (second : Code → Lowered) → Good x.code → ((d : Code) → Good d → Good (second d).code)
@@ -217,7 +223,7 @@ module _ (m : ModuleValue) (home : List ℕ) where
       let f = fork 1 x in
       let told = says f.result 1 f.code in
       let yes = cut_here (Jump f.join) f.if_not told in
-      let gy = turn_good f.join f.if_not told (emits (op.Const f.result 1) f.code (fork_good 1 x g) tt) in
+      let gy = turn_good f.join f.if_not told (emits_plain (op.Const f.result 1) f.code (fork_good 1 x g) tt) in
       let y = second yes in
       turn_good f.join f.join (decides f.result y) (truth_in_good f.result (temp_of y) y.code (h yes gy))
 
@@ -244,106 +250,109 @@ module _ (m : ModuleValue) (home : List ℕ) where
       let so = first f.code in
       let given = gives f.result so in
       let yes = cut_here (Jump f.join) f.if_not given in
-      let gy = turn_good f.join f.if_not given (emits (op.Copy f.result (temp_of so)) so.code (h f.code (fork_good 1 x g)) tt) in
+      let gy = turn_good f.join f.if_not given (emits_plain (op.Copy f.result (temp_of so)) so.code (h f.code (fork_good 1 x g)) tt) in
       let other = second yes in
-      turn_good f.join f.join (gives f.result other) (emits (op.Copy f.result (temp_of other)) other.code (i yes gy) tt)
+      turn_good f.join f.join (gives f.result other) (emits_plain (op.Copy f.result (temp_of other)) other.code (i yes gy) tt)
 
   -- by whether the type is a record
   assign_good :
       (v : Bool) (records : List RecordValue) (ty : CType) (k : Kind) (x : Lowered) (p : Placed) (second : Code → Lowered)
-      → RightTarget m home p.target → Good x.code → Good p.code → ((d : Code) → Good d → Good (second d).code)
+      → RightTarget p.target → Good x.code → Good p.code → ((d : Code) → Good d → Good (second d).code)
       → Good (if v then copied records ty (temp_of x) (second x.code) else stored k p.target (second p.code)).code
   assign_good true records ty k x p second r g q h = copied_good records ty (temp_of x) (second x.code) (h x.code g)
   assign_good false records ty k x p second r g q h = stored_good k p.target (second p.code) r (h p.code q)
 
   -- by whether the type is void
-  called_good : (b : Bool) (o : Option ℕ → Op) (c : Code) → Good c → ((t : Option ℕ) → RefersRightly m home (o t)) → Good (if b then lowered_as None (emit (o None) c) else fresh (λ t. o (Some t)) c).code
+  called_good : (b : Bool) (o : Option ℕ → Op) (c : Code) → Good c → ((t : Option ℕ) → P (o t)) → Good (if b then lowered_as None (emit (o None) c) else fresh (λ t. o (Some t)) c).code
   called_good true o c g r = emits (o None) c g (r None)
   called_good false o c g r = adds (λ t. o (Some t)) c g (r (Some c.temps))
 
 -- ---- expressions
 
--- well typed, and what names an object there has no function's type
-abbrev pub IsRight : ModuleValue → List LocalValue → Expression → Type 0
-IsRight m locals e = IsTyped m locals e × NamesObjects e
-
--- a symbol of an object
-object_named : (m : ModuleValue) (home : List ℕ) (s : Symbol) (t : ℕ) (y : QType) → IsObject m s y → NamesObjects (Node t y (Global s)) → NamesObject m home (full_name home s)
-object_named m home (External x) t y is n = record { symbol = External x; ty = y; is = is; object = n; named = refl }
-object_named m home (Internal x) t y is n = record { symbol = Internal x; ty = y; is = is; object = tt; named = refl }
-object_named m home (Hidden k) t y is n = record { symbol = Hidden k; ty = y; is = is; object = tt; named = refl }
-
-module _ (m : ModuleValue) (locals : List LocalValue) (h : Home) where
-  place_right : (e : Expression) (c : Code) → IsTyped m locals e → NamesObjects e → RightTarget m h.name (place h e c).target
-  unfolding place IsTyped
-  place_right (Node t y (Local k)) c w n = local_target m h.name (place_at h.places k) c
-  place_right (Node t y (Global s)) c w n = object_named m h.name s t y w.1 n
-  place_right (Node t y (Member a offset)) c w n = tt
-  place_right (Node t y (Deref a)) c w n = tt
-  place_right (Node t y form) c w n = tt
+-- a property of expressions that goes over to the parts of a node, and whose nodes have right names
+module _ (P : Op → Type 0) (nameless : (o : Op) → IsNameless o → P o) (h : Home) (N : Expression → Type 0) (parts : (t : ℕ) (y : QType) (form : Form) → N (Node t y form) → Parts N form) (names : (t : ℕ) (y : QType) (form : Form) → N (Node t y form) → NameIn P h.name form) where
+  place_right : (e : Expression) (c : Code) → N e → RightTarget P nameless (place h e c).target
+  unfolding place
+  place_right (Node t y (Local k)) c w = local_target P nameless (place_at h.places k) c
+  place_right (Node t y (Global s)) c w = names t y (Global s) w
+  place_right (Node t y (Member a offset)) c w = tt
+  place_right (Node t y (Deref a)) c w = tt
+  place_right (Node t y form) c w = tt
 
   mutual
-    unfolding lower IsTyped
+    unfolding lower
 
-    pub lower_good : (e : Expression) (c : Code) → IsTyped m locals e → NamesObjects e → Good m h.name c → Good m h.name (lower h e c).code
-    lower_good (Node t y (Number k)) c w n g = constant_good m h.name k c g
-    lower_good (Node t y (Str k)) c w n g = global_good m h.name (full_name h.name (Hidden k)) c (record { symbol = Hidden k; ty = y; is = w.1.0; object = tt; named = refl }) g
-    lower_good (Node t y (Local k)) c w n g = value_of_local_good m h.name (kind_of (type_of y)) (place_at h.places k) c g
-    lower_good (Node t y (Global s)) c w n g = value_of_global_good m h.name (kind_of (type_of y)) (full_name h.name s) c (object_named m h.name s t y w.1 n) g
-    lower_good (Node t y (Function s)) c w n g = adds m h.name (λ t. op.AddrFn t (full_name h.name s)) c g (record { symbol = s; ty = y; function = w.1.0; is = w.1.1; named = refl })
-    lower_good (Node t y (Unary o a)) c w n g = let x = lower h a c in unary_on_good m h.name o (temp_of x) x.code (lower_good a c w.1.0 n g)
-    lower_good (Node t y (Binary o a b)) c w n g =
+    pub lower_good : (e : Expression) (c : Code) → N e → Good P nameless c → Good P nameless (lower h e c).code
+    lower_good (Node t y (Number k)) c w g = constant_good P nameless k c g
+    lower_good (Node t y (Str k)) c w g = global_good P nameless (full_name h.name (Hidden k)) c (names t y (Str k) w) g
+    lower_good (Node t y (Local k)) c w g = value_of_local_good P nameless (kind_of (type_of y)) (place_at h.places k) c g
+    lower_good (Node t y (Global s)) c w g = value_of_global_good P nameless (kind_of (type_of y)) (full_name h.name s) c (names t y (Global s) w) g
+    lower_good (Node t y (Function s)) c w g = adds P nameless (λ t. op.AddrFn t (full_name h.name s)) c g (names t y (Function s) w c.temps)
+    lower_good (Node t y (Unary o a)) c w g = let x = lower h a c in unary_on_good P nameless o (temp_of x) x.code (lower_good a c (parts t y (Unary o a) w) g)
+    lower_good (Node t y (Binary o a b)) c w g =
+        let n = parts t y (Binary o a b) w in
         let x = lower h a c in
         let z = lower h b x.code in
-        sum_or_good m h.name o (is_signed (type_in a)) (target_size h.records (type_in a)) (target_size h.records (type_in b)) (temp_of x) (temp_of z) z.code (lower_good b x.code w.1.1 n.1 (lower_good a c w.1.0 n.0 g))
-    lower_good (Node t y (Logic logic.And a b)) c w n g = and_good m h.name (lower h a c) (λ d. lower h b d) (lower_good a c w.1.0 n.0 g) (λ d k. lower_good b d w.1.1 n.1 k)
-    lower_good (Node t y (Logic logic.Or a b)) c w n g = or_good m h.name (lower h a c) (λ d. lower h b d) (lower_good a c w.1.0 n.0 g) (λ d k. lower_good b d w.1.1 n.1 k)
-    lower_good (Node t y (Cond a b d)) c w n g =
-        cond_good m h.name (is_void (type_of y)) (lower h a c) (λ e. lower h b e) (λ e. lower h d e) (lower_good a c w.1.0 n.0 g) (λ e k. lower_good b e w.1.1 n.1 k) (λ e k. lower_good d e w.1.2 n.2 k)
-    lower_good (Node t y (Comma a b)) c w n g = lower_good b (lower h a c).code w.1.1 n.1 (lower_good a c w.1.0 n.0 g)
-    lower_good (Node t y (Assign a b)) c w n g =
-        assign_good m h.name (is_record (type_of y)) h.records (type_of y) (scalar_kind (type_of y)) (lower h a c) (place h a c) (λ d. lower h b d) (place_right a c w.1.0 n.0) (lower_good a c w.1.0 n.0 g) (place_good a c w.1.0 n.0 g) (λ d k. lower_good b d w.1.1 n.1 k)
-    lower_good (Node t y (Compound o work a b)) c w n g =
+        sum_or_good P nameless o (is_signed (type_in a)) (target_size h.records (type_in a)) (target_size h.records (type_in b)) (temp_of x) (temp_of z) z.code (lower_good b x.code n.1 (lower_good a c n.0 g))
+    lower_good (Node t y (Logic logic.And a b)) c w g =
+        let n = parts t y (Logic logic.And a b) w in
+        and_good P nameless (lower h a c) (λ d. lower h b d) (lower_good a c n.0 g) (λ d k. lower_good b d n.1 k)
+    lower_good (Node t y (Logic logic.Or a b)) c w g =
+        let n = parts t y (Logic logic.Or a b) w in
+        or_good P nameless (lower h a c) (λ d. lower h b d) (lower_good a c n.0 g) (λ d k. lower_good b d n.1 k)
+    lower_good (Node t y (Cond a b d)) c w g =
+        let n = parts t y (Cond a b d) w in
+        cond_good P nameless (is_void (type_of y)) (lower h a c) (λ e. lower h b e) (λ e. lower h d e) (lower_good a c n.0 g) (λ e k. lower_good b e n.1 k) (λ e k. lower_good d e n.2 k)
+    lower_good (Node t y (Comma a b)) c w g = let n = parts t y (Comma a b) w in lower_good b (lower h a c).code n.1 (lower_good a c n.0 g)
+    lower_good (Node t y (Assign a b)) c w g =
+        let n = parts t y (Assign a b) w in
+        assign_good P nameless (is_record (type_of y)) h.records (type_of y) (scalar_kind (type_of y)) (lower h a c) (place h a c) (λ d. lower h b d) (place_right a c n.0) (lower_good a c n.0 g) (place_good a c n.0 g) (λ d k. lower_good b d n.1 k)
+    lower_good (Node t y (Compound o work a b)) c w g =
+        let n = parts t y (Compound o work a b) w in
         let p = place h a c in
         let old = read (scalar_kind (type_of y)) p in
         let z = lower h b old.code in
-        updated_good m h.name h.records o work (type_in b) (scalar_kind (type_of y)) p.target (temp_of old) z (place_right a c w.1.0 n.0)
-        (lower_good b old.code w.1.1 n.1 (read_good m h.name (scalar_kind (type_of y)) p.target p.code (place_right a c w.1.0 n.0) (place_good a c w.1.0 n.0 g)))
-    lower_good (Node t y (Step o a)) c w n g =
+        updated_good P nameless h.records o work (type_in b) (scalar_kind (type_of y)) p.target (temp_of old) z (place_right a c n.0)
+        (lower_good b old.code n.1 (read_good P nameless (scalar_kind (type_of y)) p.target p.code (place_right a c n.0) (place_good a c n.0 g)))
+    lower_good (Node t y (Step o a)) c w g =
+        let n = parts t y (Step o a) w in
         let p = place h a c in
         let old = read (scalar_kind (type_of y)) p in
         let one = constant 1 old.code in
         let new = updated h.records (step_operator o) (promoted_type (type_of y)) Void (scalar_kind (type_of y)) p.target (temp_of old) one in
-        let go = read_good m h.name (scalar_kind (type_of y)) p.target p.code (place_right a c w.1.0 n) (place_good a c w.1.0 n g) in
-        step_value_good m h.name (is_behind o) (temp_of old) new
-        (updated_good m h.name h.records (step_operator o) (promoted_type (type_of y)) Void (scalar_kind (type_of y)) p.target (temp_of old) one (place_right a c w.1.0 n) (constant_good m h.name 1 old.code go))
-    lower_good (Node t y (Cast a)) c w n g = cast_good m h.name (is_void (type_of y)) (kind_of (type_in a)) (kind_of (type_of y)) (lower h a c) (lower_good a c w.1.0 n g)
-    lower_good (Node t y (Decay a)) c w n g = lower_good a c w.1.0 n g
-    lower_good (Node t y (Member a offset)) c w n g = value_at_good m h.name (kind_of (type_of y)) (further offset (lower h a c)) (further_good m h.name offset (lower h a c) (lower_good a c w.1.0 n g))
-    lower_good (Node t y (Deref a)) c w n g = value_at_good m h.name (kind_of (type_of y)) (lower h a c) (lower_good a c w.1.0 n g)
-    lower_good (Node t y (Address (Node u own (Local k)))) c w n g = address_of_local_good m h.name (place_at h.places k) c g
-    lower_good (Node t y (Address (Node u own (Global s)))) c w n g = global_good m h.name (full_name h.name s) c (object_named m h.name s u own w.1.0.1 n) g
-    lower_good (Node t y (Address (Node u own (Deref a)))) c w n g = lower_good a c w.1.0.1.0 n g
-    lower_good (Node t y (Address (Node u own (Member a offset)))) c w n g = further_good m h.name offset (lower h a c) (lower_good a c w.1.0.1.0 n g)
-    lower_good (Node t y (Address (Node u own form))) c w n g = lower_good (Node u own form) c w.1.0 n g
-    lower_good (Node t y (Call s args)) c w n g =
+        let go = read_good P nameless (scalar_kind (type_of y)) p.target p.code (place_right a c n) (place_good a c n g) in
+        step_value_good P nameless (is_behind o) (temp_of old) new
+        (updated_good P nameless h.records (step_operator o) (promoted_type (type_of y)) Void (scalar_kind (type_of y)) p.target (temp_of old) one (place_right a c n) (constant_good P nameless 1 old.code go))
+    lower_good (Node t y (Cast a)) c w g = cast_good P nameless (is_void (type_of y)) (kind_of (type_in a)) (kind_of (type_of y)) (lower h a c) (lower_good a c (parts t y (Cast a) w) g)
+    lower_good (Node t y (Decay a)) c w g = lower_good a c (parts t y (Decay a) w) g
+    lower_good (Node t y (Member a offset)) c w g =
+        value_at_good P nameless (kind_of (type_of y)) (further offset (lower h a c)) (further_good P nameless offset (lower h a c) (lower_good a c (parts t y (Member a offset) w) g))
+    lower_good (Node t y (Deref a)) c w g = value_at_good P nameless (kind_of (type_of y)) (lower h a c) (lower_good a c (parts t y (Deref a) w) g)
+    lower_good (Node t y (Address (Node u own (Local k)))) c w g = address_of_local_good P nameless (place_at h.places k) c g
+    lower_good (Node t y (Address (Node u own (Global s)))) c w g =
+        global_good P nameless (full_name h.name s) c (names u own (Global s) (parts t y (Address (Node u own (Global s))) w)) g
+    lower_good (Node t y (Address (Node u own (Deref a)))) c w g = lower_good a c (parts u own (Deref a) (parts t y (Address (Node u own (Deref a))) w)) g
+    lower_good (Node t y (Address (Node u own (Member a offset)))) c w g =
+        further_good P nameless offset (lower h a c) (lower_good a c (parts u own (Member a offset) (parts t y (Address (Node u own (Member a offset))) w)) g)
+    lower_good (Node t y (Address (Node u own form))) c w g = lower_good (Node u own form) c (parts t y (Address (Node u own form)) w) g
+    lower_good (Node t y (Call s args)) c w g =
         let xs = arguments h args c in
-        called_good m h.name (is_void (type_of y)) (λ r. op.Call r (full_name h.name s) xs.temps) xs.code (arguments_good args w.1.1 c w.1.5 n g)
-        (λ r. record { symbol = s; ty = Qualified (FunctionType w.1.0 w.1.1) false false; function = (w.1.0, w.1.1, refl); is = w.1.2; named = refl })
-    lower_good (Node t y (CallValue a args)) c w n g =
+        called_good P nameless (is_void (type_of y)) (λ r. op.Call r (full_name h.name s) xs.temps) xs.code (arguments_good args c (parts t y (Call s args) w) g)
+        (λ r. names t y (Call s args) w r xs.temps)
+    lower_good (Node t y (CallValue a args)) c w g =
+        let n = parts t y (CallValue a args) w in
         let x = lower h a c in
         let xs = arguments h args x.code in
-        called_good m h.name (is_void (type_of y)) (λ r. op.CallInd r (temp_of x) (shape_at h.records (type_at a)) xs.temps) xs.code
-        (arguments_good args w.1.1.1 x.code w.1.1.7 n.1 (lower_good a c w.1.0 n.0 g)) (λ r. tt)
+        called_good P nameless (is_void (type_of y)) (λ r. op.CallInd r (temp_of x) (shape_at h.records (type_at a)) xs.temps) xs.code
+        (arguments_good args x.code n.1 (lower_good a c n.0 g)) (λ r. nameless (op.CallInd r (temp_of x) (shape_at h.records (type_at a)) xs.temps) tt)
 
-    place_good : (e : Expression) (c : Code) → IsTyped m locals e → NamesObjects e → Good m h.name c → Good m h.name (place h e c).code
-    place_good (Node t y (Local k)) c w n g = target_of_local_good m h.name (place_at h.places k) c g
-    place_good (Node t y (Global k)) c w n g = g
-    place_good (Node t y (Member a offset)) c w n g = further_good m h.name offset (lower h a c) (lower_good a c w.1.0 n g)
-    place_good (Node t y (Deref a)) c w n g = lower_good a c w.1.0 n g
-    place_good (Node t y form) c w n g = g
+    place_good : (e : Expression) (c : Code) → N e → Good P nameless c → Good P nameless (place h e c).code
+    place_good (Node t y (Local k)) c w g = target_of_local_good P nameless (place_at h.places k) c g
+    place_good (Node t y (Global k)) c w g = g
+    place_good (Node t y (Member a offset)) c w g = further_good P nameless offset (lower h a c) (lower_good a c (parts t y (Member a offset) w) g)
+    place_good (Node t y (Deref a)) c w g = lower_good a c (parts t y (Deref a) w) g
+    place_good (Node t y form) c w g = g
 
-    arguments_good : (args : Expressions) (params : QTypes) (c : Code) → AreArguments m locals args params → AllNameObjects args → Good m h.name c → Good m h.name (arguments h args c).code
-    arguments_good NoExpression params c w n g = g
-    arguments_good (OneExpression e rest) NoType c w n g = absurd w
-    arguments_good (OneExpression e rest) (OneType q qs) c w n g = arguments_good rest qs (lower h e c).code w.3 n.1 (lower_good e c w.0 n.0 g)
+    arguments_good : (args : Expressions) (c : Code) → EachExpression N args → Good P nameless c → Good P nameless (arguments h args c).code
+    arguments_good NoExpression c w g = g
+    arguments_good (OneExpression e rest) c w g = arguments_good rest (lower h e c).code w.1 (lower_good e c w.0 g)

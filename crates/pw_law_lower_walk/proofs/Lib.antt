@@ -1,0 +1,2 @@
+mod Expressions
+pub mod Functions
