@@ -1,11 +1,12 @@
 -- What names in typed trees denote: a node that names an object which all modules share has no function's type, since a function's name
 -- makes a node of its own (ISO C90 6.2.2.1).
-use Rattle.std.specs.Prelude.{Option, None, Some}
-use Rattle.std.specs.List.{AllByRecursion}
+use Rattle.std.specs.Prelude.{Option}
 use Rattle.pw_types.specs.TypeTrees.{QType, type_of}
-use Rattle.pw_types.specs.TypedTrees.{External, Expression, Node, Form, Expressions, NoExpression, OneExpression, Initialiser, Statement, Statements, NoStatement, OneStatement, Arms, NoArm, Arm, Otherwise, NoElse, Else}
+use Rattle.pw_types.specs.TypedTrees.{External, Expression, Node, Form, Expressions, NoExpression, OneExpression, Initialiser, Statement, Statements, Arms, Otherwise}
 use Rattle.pw_types.specs.TypedTrees as T
 use Rattle.pw_types.specs.WellTyped.{IsFunctionType}
+use Rattle.pw_law_lower_walk.specs.Parts.{IfAny}
+use Rattle.pw_law_lower_walk.specs.Folds.{InStatement, InStatements, InArms, InOtherwise}
 
 -- ---- expressions
 
@@ -37,8 +38,7 @@ abbrev mutual
   AllNameObjects (OneExpression e es) = NamesObjects e × AllNameObjects es
 
 abbrev pub NamesObjectsIfAny : Option Expression → Type 0
-NamesObjectsIfAny None = Unit {0}
-NamesObjectsIfAny (Some e) = NamesObjects e
+NamesObjectsIfAny e = IfAny NamesObjects e
 
 -- of what a hidden object is made is not evaluated
 abbrev pub InitialiserNamesObjects : Initialiser → Type 0
@@ -47,30 +47,14 @@ InitialiserNamesObjects (T.Bytes k hidden parts) = Unit {0}
 
 -- ---- statements
 
-abbrev mutual
-  pub StatementNamesObjects : Statement → Type 0
-  StatementNamesObjects (T.Empty t) = Unit {0}
-  StatementNamesObjects (T.Evaluate t e) = NamesObjects e
-  StatementNamesObjects (T.Block t first count initialisers items) = AllByRecursion InitialiserNamesObjects initialisers × StatementsNameObjects items
-  StatementNamesObjects (T.If t arms otherwise) = ArmsNameObjects arms × ElseNamesObjects otherwise
-  StatementNamesObjects (T.While t e body) = NamesObjects e × StatementNamesObjects body
-  StatementNamesObjects (T.Do t body e) = NamesObjects e × StatementNamesObjects body
-  StatementNamesObjects (T.For t a b c body) = NamesObjectsIfAny a × NamesObjectsIfAny b × NamesObjectsIfAny c × StatementNamesObjects body
-  StatementNamesObjects (T.Switch t e cases default body) = NamesObjects e × StatementNamesObjects body
-  StatementNamesObjects (T.Label t labels body) = StatementNamesObjects body
-  StatementNamesObjects (T.Goto t n) = Unit {0}
-  StatementNamesObjects (T.Break t) = Unit {0}
-  StatementNamesObjects (T.Continue t) = Unit {0}
-  StatementNamesObjects (T.Return t e) = NamesObjectsIfAny e
+abbrev pub StatementNamesObjects : Statement → Type 0
+StatementNamesObjects s = InStatement NamesObjects InitialiserNamesObjects s
 
-  pub StatementsNameObjects : Statements → Type 0
-  StatementsNameObjects NoStatement = Unit {0}
-  StatementsNameObjects (OneStatement s rest) = StatementNamesObjects s × StatementsNameObjects rest
+abbrev pub StatementsNameObjects : Statements → Type 0
+StatementsNameObjects all = InStatements NamesObjects InitialiserNamesObjects all
 
-  pub ArmsNameObjects : Arms → Type 0
-  ArmsNameObjects NoArm = Unit {0}
-  ArmsNameObjects (Arm t e body rest) = NamesObjects e × StatementNamesObjects body × ArmsNameObjects rest
+abbrev pub ArmsNameObjects : Arms → Type 0
+ArmsNameObjects arms = InArms NamesObjects InitialiserNamesObjects arms
 
-  pub ElseNamesObjects : Otherwise → Type 0
-  ElseNamesObjects NoElse = Unit {0}
-  ElseNamesObjects (Else s) = StatementNamesObjects s
+abbrev pub ElseNamesObjects : Otherwise → Type 0
+ElseNamesObjects o = InOtherwise NamesObjects InitialiserNamesObjects o

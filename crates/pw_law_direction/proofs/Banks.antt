@@ -1,21 +1,21 @@
 -- Under sound directives each return gives back the registers that a callee keeps, but those of webs in which the function
 -- is a member.
-use Rattle.std.proofs.Common.{◌≡◌, ◌⊎◌, ℕ, zero, suc, ◌+◌, ◌-◌, ◌<◌, ◌≤◌, ◌==◌, ◌&&◌, nat_lt, nat_le, Bool, true, false, if◌then◌else◌, List, [], ◌∷◌, length, map, refl, sym, ap, subst, ◌∙◌, arith, inl, inr}
+use Rattle.std.proofs.Common.{◌≡◌, ◌⊎◌, ℕ, ◌+◌, ◌-◌, ◌<◌, ◌≤◌, ◌==◌, ◌&&◌, nat_lt, nat_le, Bool, true, false, if◌then◌else◌, List, [], ◌∷◌, length, map, refl, sym, ap, subst, ◌∙◌, arith, inl, inr}
 use Rattle.std.specs.Prelude.{Some, slice_get}
-use Rattle.std.proofs.lemmas.Bool.{cases_eq, cases_lt, eqb-true, eqb-false, ltb-true}
+use Rattle.std.proofs.lemmas.Bool.{cases_eq, eqb-true, eqb-false, ltb-true}
 use Rattle.std.proofs.lemmas.Option.{slice_get-get_or}
 use Rattle.std.proofs.lemmas.List.FromFn.{length-map-range_with_len, get_or-map-range_with_len}
 use Rattle.pw_value.specs.ProgramNames.{start_name}
 use Rattle.pw_value.specs.declared.value.Value.{Value}
 use Rattle.pw_value.specs.declared.value.Value.TheVariants.{Undefined}
-use Rattle.pw_files.proofs.Standing.{Has, has_map}
+use Rattle.pw_files.proofs.Standing.{Has, has_map, contains_by, has_by}
 use Rattle.pw_db.specs.Database.{IsDatabase}
 use Rattle.pw_db.specs.Limits.{first_register, last_register, register_count, last_temporary}
 use Rattle.pw_db.specs.declared.database.Web.{Web}
 use Rattle.pw_db.specs.declared.database.Role.{Role}
 use Rattle.pw_db.specs.declared.database.Role.TheVariants.{Entry, Member}
 use Rattle.pw_db.specs.declared.database.Directives.{Directives}
-use Rattle.pw_alloc.specs.Allocation.{is_entry, is_entered, entered_from}
+use Rattle.pw_alloc.specs.Allocation.{is_entered, entered_from}
 use Rattle.pw_db_sound.specs.Sound.{Sound}
 use Rattle.pw_db_sound.specs.Sound.{Has as HasRole}
 use Rattle.pw_run_languages.specs.Traces.{Called, Loaded, Stored, MayChange, member, KeepRegisters}
@@ -24,6 +24,7 @@ use Rattle.pw_run_languages.specs.LawfulPrograms.{graph_of}
 use Rattle.pw_run_languages.specs.Direction.{directives_of}
 use Rattle.pw_run_languages.specs.PlacedRun.{with_register, with_registers, without_scratch, kept}
 use Rattle.pw_law_direction.proofs.Trails.{Log, is_kept, noted_in, entered_among, loads, stored_in, stores, Act, Registers, saves, acted, AgreeBut, nothing, Trail, begun, write, load, store, library, call, return, Last, ended, refused}
+use Rattle.pw_law_direction.proofs.Entered.{enters_so, so_saved}
 use Rattle.pw_law_direction.proofs.Directives.{role_there, there_role, entered_role, web_range}
 use Rattle.pw_law_direction.proofs.Traffic.{Linked, linked}
 
@@ -89,39 +90,11 @@ has_or_not q (r ∷ rs) = elim (cases_eq r q) [
 
 -- ---- what a function saves
 
-entered_by : (b c : Bool) (rest : Bool) → b ≡ true → c ≡ true → (if b && c then true else rest) ≡ true
-entered_by true c rest e f = subst (λ (x : Bool). (if x then true else rest) ≡ true) (sym f) refl
-entered_by false c rest e f = absurd cc
-
-entered_later : (b : Bool) (rest : Bool) → rest ≡ true → (if b then true else rest) ≡ true
-entered_later true rest e = refl
-entered_later false rest e = e
-
-same_number : (a b : ℕ) → a ≡ b → (a == b) ≡ true
-same_number a b e = by_test (a == b) refl where
-  by_test : (t : Bool) → (a == b) ≡ t → t ≡ true
-  by_test true x = refl
-  by_test false x = absurd (eqb-false a b x e)
-
 pub is_entered_by : (webs : List (Web × Role)) (w : Web) → Has (w, Entry) webs → is_entered webs w.reg ≡ true
-is_entered_by [] w h = absurd h
-is_entered_by (u ∷ rest) w (inl e) =
-    entered_by (u.0.reg == w.reg) (is_entry u.1) (is_entered rest w.reg) (same_number u.0.reg w.reg (ap (λ (x : Web × Role). x.0.reg) e)) (ap (λ (x : Web × Role). is_entry x.1) e)
-is_entered_by (u ∷ rest) w (inr h) = entered_later ((u.0.reg == w.reg) && is_entry u.1) (is_entered rest w.reg) (is_entered_by rest w h)
-
-either_has : (b : Bool) (q r : ℕ) (rs : List ℕ) → Has q rs → Has q (if b then r ∷ rs else rs)
-either_has true q r rs h = inr h
-either_has false q r rs h = h
+is_entered_by webs w h = enters_so webs w w.reg (contains_by (w, Entry) webs h) refl
 
 pub in_from : (webs : List (Web × Role)) (q : ℕ) → is_entered webs q ≡ true → (r more : ℕ) → r ≤ q → q < r + more → Has q (entered_from webs r more)
-unfolding entered_from
-in_from webs q on r zero low high = absurd (omega (arith, low, high))
-in_from webs q on r (suc more) low high = elim (cases_eq r q) [
-  | inl e ↦ subst (λ (b : Bool). Has q (if b then r ∷ entered_from webs (suc r) more else entered_from webs (suc r) more)) (sym (ap (is_entered webs) e ∙ on)) (inl e)
-  | inr other ↦ either_has (is_entered webs r) q r (entered_from webs (suc r) more) (in_from webs q on (suc r) more (apart low other) (omega (arith, high)))
-] where
-  apart : r ≤ q → (r ≡ q → ⊥) → suc r ≤ q
-  apart le other = elim (cases_lt r q) [ inl lt ↦ omega (arith, lt) | inr ge ↦ absurd (other (omega (arith, le, ge))) ]
+in_from webs q on r more low high = has_by q (entered_from webs r more) (so_saved webs r more q low high on)
 
 module _ (p : Program) (d : List (List ℕ × Directives)) (base : IsDatabase d) (sound : Sound (graph_of p) d) where
   pub saves_has : (f : List ℕ) (w : Web) → HasRole d f w Entry → Has w.reg (saves (directives_of d f).webs)

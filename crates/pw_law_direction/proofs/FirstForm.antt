@@ -1,25 +1,27 @@
 -- The places of allocation's first form serve: each temporary has a word of its own.
-use Rattle.std.specs.Prelude.{ℕ, zero, suc, ℤ, pos, neg_ℤ, ◌≡◌, ◌≢◌, ◌≤◌, ◌<◌, ◌+◌, ◌*◌, ◌==◌, ◌&&◌, Bool, true, false, if◌then◌else◌, Option, Some, None, List, [], ◌∷◌, length, map, slice_get, Contains, negsuc}
+use Rattle.std.specs.Prelude.{ℕ, zero, suc, ℤ, pos, neg_ℤ, ◌≡◌, ◌≢◌, ◌≤◌, ◌<◌, ◌+◌, ◌*◌, Option, Some, None, List, [], ◌∷◌, length, map, slice_get, Contains, negsuc}
 use Rattle.std.specs.List.{AllByRecursion}
 use Rattle.std.proofs.Common.{arith, subst, sym, ap, refl, inl, inr, ◌∙◌}
 use Rattle.std.proofs.Math.IntN.{neg_ℤ-neg_ℤ}
-use Rattle.std.proofs.lemmas.List.Elements.{All-contains, All-from_recursion, Contains-append_left, Contains-append_right, Contains-append_cases, Contains-push_cases}
+use Rattle.std.proofs.lemmas.List.Elements.{All-contains, All-from_recursion, Contains-append_right, Contains-append_cases, Contains-push_cases}
 use Rattle.pw_db.specs.Limits.{first_register, register_count}
 use Rattle.pw_db.specs.declared.database.Web.{Web}
 use Rattle.pw_db.specs.declared.database.Role.{Role}
-use Rattle.pw_db.specs.declared.database.Role.TheVariants.{Entry, Member}
+use Rattle.pw_db.specs.declared.database.Role.TheVariants.{Entry}
 use Rattle.pw_db.specs.Database.{IsWeb}
 use Rattle.pw_webflow.specs.declared.web.WebFn.{WebFn}
 use Rattle.pw_alloc.specs.declared.located.Place.{Place}
 use Rattle.pw_alloc.specs.declared.located.Place.TheVariants.{Slot, Reg}
-use Rattle.pw_alloc.specs.Allocation.{is_entry, is_entered, entered_from, saved_of, slots_from, allocated}
+use Rattle.pw_alloc.specs.Allocation.{saved_of, slots_from, allocated}
 use Rattle.pw_alloc.specs.Frames.{head_size, temp_offset, slots_begin, last_reach}
 use Rattle.pw_alloc.proofs.SavedLaws.{rises}
 use Rattle.pw_run_languages.specs.Serving.{Interfere, by_operation, by_start, parameters, IsKeptOver, slots_alone, Changes, places, enters, Serves}
-use Rattle.std.proofs.lemmas.Bool.{cases_lt, eqb-true, eqb-false}
+use Rattle.std.proofs.lemmas.Bool.{cases_lt}
 use Rattle.std.proofs.lemmas.Option.{slice_get_past}
 use Rattle.pw_webflow.specs.Direction.{directed}
 use Rattle.pw_run_languages.specs.PlacementLaws.{AllocationServes}
+use Rattle.pw_law_direction.proofs.Elements.{nowhere, first-there}
+use Rattle.pw_law_direction.proofs.Entered.{entered_by, enters_so, saved_so, so_saved}
 
 -- ---- words of the frame
 
@@ -108,107 +110,6 @@ alone : (head saved i n : ℕ) → slots_alone (slots_from head saved i n) ≡ s
 alone head saved i zero = refl
 alone head saved i (suc n) = ap (λ (rest : List Place). Slot (temp_offset head saved i) ∷ rest) (alone head saved (suc i) n)
 
--- ---- the registers of the webs that are entered
-
-nowhere : {X : Type 0} (x : X) → Contains [] x → ⊥
-nowhere x c = let h : c.0 < 0 = c.1 in omega (arith, h)
-
-first_there : {X : Type 0} (x : X) (xs : List X) → Contains (x ∷ xs) x
-first_there x xs = Contains-append_left (x ∷ []) xs x (0, omega arith, refl)
-
-record EntersBy (webs : List (Web × Role)) (r : ℕ) : Type 0 where
-  web : Web
-  there : Contains webs (web, Entry)
-  is : web.reg ≡ r
-
-behind : (x : Web × Role) (rest : List (Web × Role)) (r : ℕ) → EntersBy rest r → EntersBy (x ∷ rest) r
-behind x rest r e = record { web = e.web; there = Contains-append_right (x ∷ []) rest (e.web, Entry) e.there; is = e.is }
-
-entered_step : (w : Web) (role : Role) (rest : List (Web × Role)) (r : ℕ) (b : Bool) → (w.reg == r) ≡ b → (is_entered rest r ≡ true → EntersBy rest r)
-    → (if b && is_entry role then true else is_entered rest r) ≡ true → EntersBy ((w, role) ∷ rest) r
-entered_step w Entry rest r true same later e = record { web = w; there = first_there (w, Entry) rest; is = eqb-true w.reg r same }
-entered_step w Member rest r true same later e = behind (w, Member) rest r (later e)
-entered_step w role rest r false same later e = behind (w, role) rest r (later e)
-
-entered_by : (webs : List (Web × Role)) (r : ℕ) → is_entered webs r ≡ true → EntersBy webs r
-entered_by [] r e = absurd cc
-entered_by (w ∷ rest) r e = entered_step w.0 w.1 rest r (w.0.reg == r) refl (entered_by rest r) e
-
-or_later : (b c : Bool) → c ≡ true → (if b then true else c) ≡ true
-or_later true c e = refl
-or_later false c e = e
-
-itself : (r : ℕ) → (r == r) ≡ true
-itself r = by (r == r) refl
-  where
-    by : (b : Bool) → (r == r) ≡ b → (r == r) ≡ true
-    by true e = e
-    by false e = absurd (eqb-false r r e refl)
-
-is_entered_here : (w : Web) (rest : List (Web × Role)) (r : ℕ) → w.reg ≡ r → is_entered ((w, Entry) ∷ rest) r ≡ true
-is_entered_here w rest r e =
-    ap (λ (b : Bool). if b && true then true else is_entered rest r) (subst (λ (q : ℕ). (w.reg == q) ≡ true) e (itself w.reg))
-
-enters_so : (webs : List (Web × Role)) (w : Web) (r : ℕ) → Contains webs (w, Entry) → w.reg ≡ r → is_entered webs r ≡ true
-enters_so [] w r c e = absurd (nowhere (w, Entry) c)
-enters_so (x ∷ rest) w r c e = elim (Contains-append_cases (x ∷ []) rest (w, Entry) c) [
-  | inl first ↦ elim (Contains-push_cases [] x (w, Entry) first) [
-    | inl none ↦ absurd (nowhere (w, Entry) none)
-    | inr same ↦ subst (λ (x : Web × Role). is_entered (x ∷ rest) r ≡ true) (sym same) (is_entered_here w rest r e)
-  ]
-  | inr later ↦ or_later ((x.0.reg == r) && is_entry x.1) (is_entered rest r) (enters_so rest w r later e)
-]
-
--- ---- the registers that are saved
-
-saved_step : (webs : List (Web × Role)) (r more q : ℕ) (b : Bool) → is_entered webs r ≡ b
-    → (Contains (entered_from webs (suc r) more) q → (suc r ≤ q) × (q < suc r + more) × (is_entered webs q ≡ true))
-    → Contains (if b then r ∷ entered_from webs (suc r) more else entered_from webs (suc r) more) q
-    → (r ≤ q) × (q < r + suc more) × (is_entered webs q ≡ true)
-saved_step webs r more q true here later c = elim (Contains-append_cases (r ∷ []) (entered_from webs (suc r) more) q c) [
-  | inl first ↦ elim (Contains-push_cases [] r q first) [
-    | inl none ↦ absurd (nowhere q none)
-    | inr same ↦
-        let low : r ≤ q = omega (arith, same) in
-        let high : q < r + suc more = omega (arith, same) in
-        (low, high, subst (λ (q : ℕ). is_entered webs q ≡ true) same here)
-  ]
-  | inr behind ↦
-      let k = later behind in
-      let low : r ≤ q = omega (arith, k.0) in
-      let high : q < r + suc more = omega (arith, k.1) in
-      (low, high, k.2)
-]
-saved_step webs r more q false here later c =
-    let k = later c in
-    let low : r ≤ q = omega (arith, k.0) in
-    let high : q < r + suc more = omega (arith, k.1) in
-    (low, high, k.2)
-
-saved_so : (webs : List (Web × Role)) (r more q : ℕ) → Contains (entered_from webs r more) q → (r ≤ q) × (q < r + more) × (is_entered webs q ≡ true)
-unfolding entered_from
-saved_so webs r zero q c = absurd (nowhere q c)
-saved_so webs r (suc more) q c = saved_step webs r more q (is_entered webs r) refl (saved_so webs (suc r) more q) c
-
-in_tail : (b : Bool) (r q : ℕ) (rest : List ℕ) → Contains rest q → Contains (if b then r ∷ rest else rest) q
-in_tail true r q rest c = Contains-append_right (r ∷ []) rest q c
-in_tail false r q rest c = c
-
-so_saved : (webs : List (Web × Role)) (r more q : ℕ) → r ≤ q → q < r + more → is_entered webs q ≡ true → Contains (entered_from webs r more) q
-unfolding entered_from
-so_saved webs r zero q low high e = absurd (omega (arith, low, high))
-so_saved webs r (suc more) q low high e = elim (cases_lt r q) [
-  | inl above ↦
-      let up : suc r ≤ q = omega (arith, above) in
-      let under : q < suc r + more = omega (arith, high) in
-      in_tail (is_entered webs r) r q (entered_from webs (suc r) more) (so_saved webs (suc r) more q up under e)
-  | inr under ↦
-      let same : q ≡ r = omega (arith, low, under) in
-      let here : is_entered webs r ≡ true = subst (λ (q : ℕ). is_entered webs q ≡ true) same e in
-      subst (λ (b : Bool). Contains (if b then r ∷ entered_from webs (suc r) more else entered_from webs (suc r) more) q) (sym here)
-      (subst (Contains (r ∷ entered_from webs (suc r) more)) (sym same) (first_there r (entered_from webs (suc r) more)))
-]
-
 -- ---- together
 
 changes : (f : WebFn) → AllByRecursion IsWeb (map (λ w. w.0) f.directives.webs) → (r : ℕ) → Changes f (allocated f) r → Contains (saved_of f) r
@@ -228,7 +129,7 @@ changes f lawful r (enters has) =
     map_there (x ∷ rest) w c = elim (Contains-append_cases (x ∷ []) rest w c) [
       | inl first ↦ elim (Contains-push_cases [] x w first) [
         | inl none ↦ absurd (nowhere w none)
-        | inr same ↦ subst (λ (w : Web × Role). Contains (map (λ w. w.0) (x ∷ rest)) w.0) same (first_there x.0 (map (λ w. w.0) rest))
+        | inr same ↦ subst (λ (w : Web × Role). Contains (map (λ w. w.0) (x ∷ rest)) w.0) same (first-there x.0 (map (λ w. w.0) rest))
       ]
       | inr later ↦ Contains-append_right (x.0 ∷ []) (map (λ w. w.0) rest) w.0 (map_there rest w later)
     ]

@@ -28,6 +28,7 @@ mod ByName
 mod Library
 mod StoresByName
 mod Runs
+mod Entered
 mod Saving
 mod Callees
 mod Standing

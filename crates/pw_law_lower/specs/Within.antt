@@ -1,6 +1,6 @@
 -- What checking keeps of a module beside its types: names are of letters, no part of an object's bytes is empty, and
 -- sizes, arguments, parameters and rooms keep their limits.
-use Rattle.std.specs.Prelude.{ℕ, suc, ◌≡◌, ◌<◌, ◌≤◌, ◌^◌, ◌⊎◌, Option, None, Some, List, All}
+use Rattle.std.specs.Prelude.{ℕ, ◌≡◌, ◌<◌, ◌≤◌, ◌^◌, ◌⊎◌, Option, None, Some, List, All}
 use Rattle.std.specs.List.{AllByRecursion}
 use Rattle.pw_value.specs.Limits.{parameter_limit, room_limit}
 use Rattle.pw_types.specs.Layouts.{content_at}
@@ -8,10 +8,13 @@ use Rattle.pw_types.specs.Rooms.{room_of}
 use Rattle.pw_types.specs.Sizes.{oversize_of}
 use Rattle.pw_types.specs.TypeTrees.{CType, Record, type_of, ContentValue, RecordValue}
 use Rattle.pw_types.specs.TypedModules.{item_size}
-use Rattle.pw_types.specs.TypedTrees.{Symbol, External, Internal, Hidden, Expression, Node, Form, Unary, Binary, Logic, Cond, Comma, Assign, Compound, Step, Cast, Decay, Member, Deref, Address, Call, CallValue, Expressions, NoExpression, OneExpression, Initialiser, Value, Bytes, Statement, Empty, Evaluate, Block, If, While, Do, For, Switch, Label, Goto, Break, Continue, Return, Arms, NoArm, Arm, Otherwise, NoElse, Else, Statements, NoStatement, OneStatement, FunctionValue, GlobalValue, ModuleValue}
+use Rattle.pw_types.specs.TypedTrees.{Symbol, External, Internal, Hidden, Expression, Node, Form, Unary, Binary, Logic, Cond, Comma, Assign, Compound, Step, Cast, Decay, Member, Deref, Address, Call, CallValue, Expressions, NoExpression, OneExpression, Initialiser, Value, Bytes, Statement, Arms, Otherwise, Statements, FunctionValue, GlobalValue, ModuleValue}
 use Rattle.pw_flow.specs.ValidFlow.{IsMoved}
 use Rattle.pw_lower.specs.Operators.{bytes_of, unit_of}
 use Rattle.pw_law_lower.specs.Parts.{partless}
+pub use Rattle.pw_law_lower_walk.specs.Parts.{count_of}
+use Rattle.pw_law_lower_walk.specs.Parts.{IfAny}
+use Rattle.pw_law_lower_walk.specs.Folds.{InStatement, InStatements, InArms, InOtherwise}
 
 -- ---- names
 
@@ -49,10 +52,6 @@ IsSized records ty = oversize_of records ty ≡ None
 
 -- ---- expressions and statements: their types keep the limit on sizes, and their calls that on arguments
 
-abbrev pub count_of : Expressions → ℕ
-count_of NoExpression = 0
-count_of (OneExpression e rest) = suc (count_of rest)
-
 abbrev mutual
   pub IsSmall : List RecordValue → Expression → Type 0
   IsSmall records (Node t y form) = IsSized records (type_of y) × HasSmall records form
@@ -80,41 +79,23 @@ abbrev mutual
   AreSmall records (OneExpression e rest) = IsSmall records e × AreSmall records rest
 
 abbrev pub IsSmallOrAbsent : List RecordValue → Option Expression → Type 0
-IsSmallOrAbsent records None = Unit {0}
-IsSmallOrAbsent records (Some e) = IsSmall records e
+IsSmallOrAbsent records e = IfAny (IsSmall records) e
 
 abbrev pub IsSmallIn : List RecordValue → Initialiser → Type 0
 IsSmallIn records (Value k e) = IsSmall records e
 IsSmallIn records (Bytes k hidden parts) = Unit {0}
 
-abbrev mutual
-  pub KeepsLimits : List RecordValue → Statement → Type 0
-  KeepsLimits records (Empty t) = Unit {0}
-  KeepsLimits records (Evaluate t e) = IsSmall records e
-  KeepsLimits records (Block t first count initialisers items) = AllByRecursion (IsSmallIn records) initialisers × KeepLimits records items
-  KeepsLimits records (If t arms otherwise) = ArmsKeepLimits records arms × ElseKeepsLimits records otherwise
-  KeepsLimits records (While t e body) = IsSmall records e × KeepsLimits records body
-  KeepsLimits records (Do t body e) = IsSmall records e × KeepsLimits records body
-  KeepsLimits records (For t first e third body) =
-      IsSmallOrAbsent records first × IsSmallOrAbsent records e × IsSmallOrAbsent records third × KeepsLimits records body
-  KeepsLimits records (Switch t e cases default body) = IsSmall records e × KeepsLimits records body
-  KeepsLimits records (Label t labels body) = KeepsLimits records body
-  KeepsLimits records (Goto t n) = Unit {0}
-  KeepsLimits records (Break t) = Unit {0}
-  KeepsLimits records (Continue t) = Unit {0}
-  KeepsLimits records (Return t e) = IsSmallOrAbsent records e
+abbrev pub KeepsLimits : List RecordValue → Statement → Type 0
+KeepsLimits records s = InStatement (IsSmall records) (IsSmallIn records) s
 
-  pub KeepLimits : List RecordValue → Statements → Type 0
-  KeepLimits records NoStatement = Unit {0}
-  KeepLimits records (OneStatement s rest) = KeepsLimits records s × KeepLimits records rest
+abbrev pub KeepLimits : List RecordValue → Statements → Type 0
+KeepLimits records all = InStatements (IsSmall records) (IsSmallIn records) all
 
-  pub ArmsKeepLimits : List RecordValue → Arms → Type 0
-  ArmsKeepLimits records NoArm = Unit {0}
-  ArmsKeepLimits records (Arm t e s rest) = IsSmall records e × KeepsLimits records s × ArmsKeepLimits records rest
+abbrev pub ArmsKeepLimits : List RecordValue → Arms → Type 0
+ArmsKeepLimits records arms = InArms (IsSmall records) (IsSmallIn records) arms
 
-  pub ElseKeepsLimits : List RecordValue → Otherwise → Type 0
-  ElseKeepsLimits records NoElse = Unit {0}
-  ElseKeepsLimits records (Else s) = KeepsLimits records s
+abbrev pub ElseKeepsLimits : List RecordValue → Otherwise → Type 0
+ElseKeepsLimits records o = InOtherwise (IsSmall records) (IsSmallIn records) o
 
 -- ---- objects, functions, modules
 

@@ -1,2 +1,7 @@
 mod Expressions
 pub mod Functions
+pub mod Named
+pub mod Folds
+pub mod Both
+pub mod Typed
+mod Among

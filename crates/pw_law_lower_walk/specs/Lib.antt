@@ -1,2 +1,4 @@
 pub mod Parts
+pub mod Given
+pub mod Folds
 pub mod Named

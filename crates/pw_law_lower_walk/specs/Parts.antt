@@ -1,5 +1,5 @@
 -- What a property of expressions, and of statements, says of the parts of one that has it.
-use Rattle.std.specs.Prelude.{Option, None, Some}
+use Rattle.std.specs.Prelude.{ℕ, suc, Option, None, Some}
 use Rattle.std.specs.List.{AllByRecursion}
 use Rattle.pw_types.specs.TypedTrees.{Expression, Form, Expressions, NoExpression, OneExpression, Initialiser, Statement, Statements, NoStatement, OneStatement, Arms, NoArm, Arm, Otherwise, NoElse, Else}
 use Rattle.pw_types.specs.TypedTrees as T
@@ -28,6 +28,11 @@ Parts N (T.Call symbol args) = EachExpression N args
 Parts N (T.CallValue a args) = N a × EachExpression N args
 Parts N leaf = Unit {0}
 
+-- how many arguments there are
+abbrev pub count_of : Expressions → ℕ
+count_of NoExpression = 0
+count_of (OneExpression e rest) = suc (count_of rest)
+
 -- ---- statements
 
 abbrev pub IfAny : (Expression → Type 0) → Option Expression → Type 0
@@ -46,14 +51,15 @@ abbrev pub InElse : (Statement → Type 0) → Otherwise → Type 0
 InElse S NoElse = Unit {0}
 InElse S (Else s) = S s
 
-abbrev pub StatementParts : (Expression → Type 0) → (Initialiser → Type 0) → (Statement → Type 0) → Statement → Type 0
-StatementParts N I S (T.Evaluate t e) = N e
-StatementParts N I S (T.Block t first count initialisers items) = AllByRecursion I initialisers × EachStatement S items
-StatementParts N I S (T.If t arms otherwise) = EachArm N S arms × InElse S otherwise
-StatementParts N I S (T.While t e body) = N e × S body
-StatementParts N I S (T.Do t body e) = N e × S body
-StatementParts N I S (T.For t a b c body) = IfAny N a × IfAny N b × IfAny N c × S body
-StatementParts N I S (T.Switch t e cases default body) = N e × S body
-StatementParts N I S (T.Label t labels body) = S body
-StatementParts N I S (T.Return t e) = IfAny N e
-StatementParts N I S leaf = Unit {0}
+-- L is what is said of the body of a loop, S of every other statement
+abbrev pub StatementParts : (Expression → Type 0) → (Initialiser → Type 0) → (Statement → Type 0) → (Statement → Type 0) → Statement → Type 0
+StatementParts N I S L (T.Evaluate t e) = N e
+StatementParts N I S L (T.Block t first count initialisers items) = AllByRecursion I initialisers × EachStatement S items
+StatementParts N I S L (T.If t arms otherwise) = EachArm N S arms × InElse S otherwise
+StatementParts N I S L (T.While t e body) = N e × L body
+StatementParts N I S L (T.Do t body e) = N e × L body
+StatementParts N I S L (T.For t a b c body) = IfAny N a × IfAny N b × IfAny N c × L body
+StatementParts N I S L (T.Switch t e cases default body) = N e × S body
+StatementParts N I S L (T.Label t labels body) = S body
+StatementParts N I S L (T.Return t e) = IfAny N e
+StatementParts N I S L leaf = Unit {0}
