@@ -124,7 +124,7 @@ sized_node records (Node t y form) s = s.0
 -- ---- operations
 
 bare_plain : (o : Op) → IsBare o → IsPlainOp o
-bare_plain (op.Const t n) h = (omega (arith, h), tt)
+bare_plain (op.Const t n) h = let small : n ≤ 1 = h in (omega (arith, small), tt)
 bare_plain (op.AddrGlobal t g n) h = absurd h
 bare_plain (op.AddrFn t f) h = absurd h
 bare_plain (op.LoadG t g k) h = absurd h

@@ -34,6 +34,9 @@ use Rattle.pw_law_lower.proofs.Plain.{IsPlainOp, IsPlainBlock, IsPlainTree, at_p
 abbrev IsShallow : ℕ → Statement → Type 0
 IsShallow d s = d + stmt_nodes s < 2 ^ 32
 
+depth_small : (d : ℕ) (s : Statement) → IsShallow d s → IsWord d
+depth_small d s h = let n : d + stmt_nodes s < 2 ^ 32 = h in omega (arith, n)
+
 module _ (N : Expression → Type 0) (I : Initialiser → Type 0) (S : Statement → Type 0) where
   -- with its depth
   abbrev At : ℕ → Statement → Type 0
@@ -113,7 +116,7 @@ module _
     plain_trees = record {
       nodes = plain_nodes m known ids f.locals name;
       initialiser = initialiser_plain;
-      depth = λ d s w. omega (arith, w.1);
+      depth = λ d s w. depth_small d s w.1;
       parts = parts_plain;
       cases = λ d s w. cases_plain s w.0.0;
     }
