@@ -1,8 +1,8 @@
 -- What two properties say of the parts of an expression, and of a statement, they say together.
-use Rattle.std.proofs.Common.{Option, Some, None, List, [], ◌∷◌}
-use Rattle.std.specs.List.{AllByRecursion}
+use Rattle.std.proofs.Common.{Option, Some, None}
 use Rattle.pw_types.specs.TypedTrees.{Expression, Form, Expressions, NoExpression, OneExpression, Initialiser, Statement, Arms, NoArm, Arm, Otherwise, NoElse, Else, Statements, NoStatement, OneStatement}
 use Rattle.pw_types.specs.TypedTrees as T
+use Rattle.pw_flow.proofs.Lists.{all_both}
 use Rattle.pw_law_lower_walk.specs.Parts.{EachExpression, Parts, IfAny, EachStatement, EachArm, InElse, StatementParts}
 
 module _ (A B : Expression → Type 0) where
@@ -43,10 +43,6 @@ module _ (A B : Expression → Type 0) (I J : Initialiser → Type 0) (S Z : Sta
   abbrev BothStatements : Statement → Type 0
   BothStatements s = S s × Z s
 
-  both_initialisers : (all : List Initialiser) → AllByRecursion I all → AllByRecursion J all → AllByRecursion BothInitialisers all
-  both_initialisers [] a b = tt
-  both_initialisers (i ∷ rest) a b = ((a.0, b.0), both_initialisers rest a.1 b.1)
-
   both_statements : (all : Statements) → EachStatement S all → EachStatement Z all → EachStatement BothStatements all
   both_statements NoStatement a b = tt
   both_statements (OneStatement s rest) a b = ((a.0, b.0), both_statements rest a.1 b.1)
@@ -62,7 +58,7 @@ module _ (A B : Expression → Type 0) (I J : Initialiser → Type 0) (S Z : Sta
   pub both_statement : (s : Statement) → StatementParts A I S S s → StatementParts B J Z Z s
       → StatementParts (λ (e : Expression). A e × B e) BothInitialisers BothStatements BothStatements s
   both_statement (T.Evaluate t e) a b = (a, b)
-  both_statement (T.Block t first count initialisers items) a b = (both_initialisers initialisers a.0 b.0, both_statements items a.1 b.1)
+  both_statement (T.Block t first count initialisers items) a b = (all_both I J initialisers a.0 b.0, both_statements items a.1 b.1)
   both_statement (T.If t arms otherwise) a b = (both_arms arms a.0 b.0, both_else otherwise a.1 b.1)
   both_statement (T.While t e body) a b = ((a.0, b.0), (a.1, b.1))
   both_statement (T.Do t body e) a b = ((a.0, b.0), (a.1, b.1))

@@ -6,7 +6,7 @@ use Rattle.pw_types.specs.TypedTrees as T
 use Rattle.pw_law_lower_walk.specs.Parts.{EachExpression, Parts, EachStatement, EachArm, InElse, StatementParts}
 use Rattle.pw_law_lower_walk.specs.Folds.{EachNode, EachNodeAmong, InStatement, InStatements, InArms, InOtherwise}
 
-module _ (P : Form → Type 0) where
+module _ (P : QType → Form → Type 0) where
   arguments_each : (args : Expressions) → EachNodeAmong P args → EachExpression (EachNode P) args
   arguments_each NoExpression h = tt
   arguments_each (OneExpression e rest) h = (h.0, arguments_each rest h.1)

@@ -260,23 +260,21 @@ module _ (P : Op → Type 0) (D : ℕ → Type 0) (fr : Frame) (N : Expression �
 
 -- ---- functions
 
-module _ (P : Op → Type 0) (D : ℕ → Type 0) (none : (o : Op) → IsBare o → P o) (bottom : D 0) where
-  -- ---- the blocks in order
-
-  found_by : (b : Bool) (block : FlowBlock) (rest : Option FlowBlock) → EachBlock P D block → EachBlock P D (unwrap_or rest bare) → EachBlock P D (unwrap_or (if b then Some block else rest) bare)
+-- the blocks in order, and those that nothing was put into
+module _ (B : FlowBlock → Type 0) (empty : B bare) where
+  found_by : (b : Bool) (block : FlowBlock) (rest : Option FlowBlock) → B block → B (unwrap_or rest bare) → B (unwrap_or (if b then Some block else rest) bare)
   found_by true block rest h i = h
   found_by false block rest h i = i
 
-  found_good : (closed : List Numbered) (n : ℕ) → AllByRecursion (λ (b : Numbered). EachBlock P D b.block) closed → EachBlock P D (unwrap_or (block_of closed n) bare)
-  found_good [] n h = (bottom, tt)
-  found_good (b ∷ rest) n h = found_by (b.number == n) b.block (block_of rest n) h.0 (found_good rest n h.1)
+  found : (closed : List Numbered) (n : ℕ) → AllByRecursion (λ (b : Numbered). B b.block) closed → B (unwrap_or (block_of closed n) bare)
+  found [] n h = empty
+  found (b ∷ rest) n h = found_by (b.number == n) b.block (block_of rest n) h.0 (found rest n h.1)
 
-  below_good : (closed : List Numbered) (n : ℕ) → AllByRecursion (λ (b : Numbered). EachBlock P D b.block) closed → AllByRecursion (EachBlock P D) (blocks_below closed n)
-  below_good closed zero h = tt
-  below_good closed (suc n) h = all_append (EachBlock P D) (blocks_below closed n) (unwrap_or (block_of closed n) bare ∷ []) (below_good closed n h) (found_good closed n h, tt)
+  pub in_order : (closed : List Numbered) (n : ℕ) → AllByRecursion (λ (b : Numbered). B b.block) closed → AllByRecursion B (blocks_below closed n)
+  in_order closed zero h = tt
+  in_order closed (suc n) h = all_append B (blocks_below closed n) (unwrap_or (block_of closed n) bare ∷ []) (in_order closed n h) (found closed n h, tt)
 
-  -- ---- the start
-
+module _ (P : Op → Type 0) (D : ℕ → Type 0) (none : (o : Op) → IsBare o → P o) (bottom : D 0) where
   parameters_good : (locals : List LocalValue) (places : List LocalPlace) (k left : ℕ) (c : Code) → Good P D 0 c → Good P D 0 (parameters_stored locals places k left c)
   parameters_good [] places k left c g = g
   parameters_good (local ∷ locals) [] k left c g = g
@@ -308,4 +306,4 @@ module _ (P : Op → Type 0) (D : ℕ → Type 0) (home : List ℕ) (records : L
       let gs = statement_good P D fr N I S give f.body ways 0 begun h gb in
       let gc = turns P D none 0 bottom (Returned None) 0 body gs in
       let c = function_code home records f in
-      below_good P D none bottom c.closed c.blocks gc.1
+      in_order (EachBlock P D) (bottom, tt) c.closed c.blocks gc.1

@@ -8,13 +8,13 @@ use Rattle.pw_types.specs.WellTyped.{promoted_type, type_in}
 use Rattle.pw_flow.specs.declared.flow.Op.{Op}
 use Rattle.pw_flow.specs.declared.flow.Op.TheVariants as op
 use Rattle.pw_flow.specs.declared.flow.Block.{Block}
+use Rattle.pw_flow.proofs.Lists.{all_second}
 use Rattle.pw_lower.specs.Operators.{target_size, bytes_of, unit_of}
 use Rattle.pw_lower.specs.Statements.{local_type}
 use Rattle.pw_lower.specs.Modules.{lowered_function}
 use Rattle.pw_law_lower_walk.specs.Parts.{Parts, StatementParts}
 use Rattle.pw_law_lower_walk.specs.Given.{IsBare, OfNumber, OfSize, NodeIn, InitialiserIn, CasesIn, Nodes, Trees}
 use Rattle.pw_law_lower_walk.specs.Named.{IsNameless, NameIn, InitialiserParts}
-use Rattle.pw_law_lower_walk.proofs.Expressions.{EachBlock}
 use Rattle.pw_law_lower_walk.proofs.Functions.{each_block}
 
 module _ (P : Op → Type 0) (nameless : (o : Op) → IsNameless o → P o) (home : List ℕ) (records : List RecordValue) where
@@ -61,10 +61,6 @@ module _ (P : Op → Type 0) (nameless : (o : Op) → IsNameless o → P o) (hom
   statement_right (T.Switch t e cases default body) = cases_right cases
   statement_right s = tt
 
-ops_of : (P : Op → Type 0) (D : ℕ → Type 0) (blocks : List Block) → AllByRecursion (EachBlock P D) blocks → AllByRecursion (λ (b : Block). AllByRecursion P b.ops) blocks
-ops_of P D [] h = tt
-ops_of P D (b ∷ rest) h = (h.0.1, ops_of P D rest h.1)
-
 abbrev AnyDepth : ℕ → Type 0
 AnyDepth d = Unit {0}
 
@@ -84,4 +80,4 @@ module _ (P : Op → Type 0) (nameless : (o : Op) → IsNameless o → P o) (hom
         parts = λ d s w. statement s w;
         cases = λ d s w. statement_right P nameless home records s;
       } in
-      ops_of P AnyDepth (lowered_function home records f).blocks (each_block P AnyDepth home records N I (λ d s. S s) f trees h)
+      all_second (λ (b : Block). AnyDepth b.depth) (λ (b : Block). AllByRecursion P b.ops) (lowered_function home records f).blocks (each_block P AnyDepth home records N I (λ d s. S s) f trees h)

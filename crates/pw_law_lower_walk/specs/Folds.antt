@@ -1,5 +1,6 @@
 -- What holds of each node of an expression, and of each expression and initialiser of a statement.
 use Rattle.std.specs.List.{AllByRecursion}
+use Rattle.pw_types.specs.TypeTrees.{QType}
 use Rattle.pw_types.specs.TypedTrees.{Expression, Node, Form, Expressions, NoExpression, OneExpression, Initialiser, Statement, Statements, NoStatement, OneStatement, Arms, NoArm, Arm, Otherwise, NoElse, Else}
 use Rattle.pw_types.specs.TypedTrees as T
 use Rattle.pw_law_lower_walk.specs.Parts.{IfAny}
@@ -7,10 +8,11 @@ use Rattle.pw_law_lower_walk.specs.Parts.{IfAny}
 -- ---- expressions
 
 abbrev mutual
-  pub EachNode : (Form → Type 0) → Expression → Type 0
-  EachNode P (Node t y form) = P form × EachNodeIn P form
+  -- by its type and its form
+  pub EachNode : (QType → Form → Type 0) → Expression → Type 0
+  EachNode P (Node t y form) = P y form × EachNodeIn P form
 
-  pub EachNodeIn : (Form → Type 0) → Form → Type 0
+  pub EachNodeIn : (QType → Form → Type 0) → Form → Type 0
   EachNodeIn P (T.Unary op a) = EachNode P a
   EachNodeIn P (T.Binary op a b) = EachNode P a × EachNode P b
   EachNodeIn P (T.Logic op a b) = EachNode P a × EachNode P b
@@ -28,7 +30,7 @@ abbrev mutual
   EachNodeIn P (T.CallValue a args) = EachNode P a × EachNodeAmong P args
   EachNodeIn P leaf = Unit {0}
 
-  pub EachNodeAmong : (Form → Type 0) → Expressions → Type 0
+  pub EachNodeAmong : (QType → Form → Type 0) → Expressions → Type 0
   EachNodeAmong P NoExpression = Unit {0}
   EachNodeAmong P (OneExpression e es) = EachNode P e × EachNodeAmong P es
 

@@ -5,7 +5,7 @@ use Rattle.pw_value.specs.declared.value.Kind.{Kind}
 use Rattle.pw_types.specs.FullNames.{full_name}
 use Rattle.pw_types.specs.Kinds.{is_record}
 use Rattle.pw_types.specs.TypeTrees.{CType, QType, type_of, RecordValue}
-use Rattle.pw_types.specs.TypedTrees.{Symbol, Hidden, Expression, Node, Form, CaseValue, Initialiser, Statement, LocalValue}
+use Rattle.pw_types.specs.TypedTrees.{Hidden, Expression, Node, Form, CaseValue, Initialiser, Statement, LocalValue}
 use Rattle.pw_types.specs.TypedTrees as T
 use Rattle.pw_types.specs.WellTyped.{promoted_type, type_in}
 use Rattle.pw_flow.specs.declared.flow.Op.{Op}

@@ -1,7 +1,8 @@
 -- What a property of operations asks of the names in a tree alone; and names that are among these.
 use Rattle.std.specs.Prelude.{ℕ, Option, List, Contains}
 use Rattle.pw_types.specs.FullNames.{full_name}
-use Rattle.pw_types.specs.TypedTrees.{Symbol, Hidden, Expression, Form, Initialiser, Statement}
+use Rattle.pw_types.specs.TypeTrees.{QType}
+use Rattle.pw_types.specs.TypedTrees.{Hidden, Expression, Form, Initialiser, Statement}
 use Rattle.pw_types.specs.TypedTrees as T
 use Rattle.pw_flow.specs.declared.flow.Op.{Op}
 use Rattle.pw_flow.specs.declared.flow.Op.TheVariants.{AddrGlobal, AddrFn, LoadG, StoreG, Call}
@@ -40,12 +41,12 @@ NamesAmong objects functions (StoreG g a k) = Contains objects g
 NamesAmong objects functions (Call t f args) = Contains functions f
 NamesAmong objects functions o = Unit {0}
 
-abbrev pub NodeAmong : List (List ℕ) → List (List ℕ) → List ℕ → Form → Type 0
-NodeAmong objects functions home (T.Str k) = Contains objects (full_name home (Hidden k))
-NodeAmong objects functions home (T.Global s) = Contains objects (full_name home s)
-NodeAmong objects functions home (T.Function s) = Contains functions (full_name home s)
-NodeAmong objects functions home (T.Call s args) = Contains functions (full_name home s)
-NodeAmong objects functions home form = Unit {0}
+abbrev pub NodeAmong : List (List ℕ) → List (List ℕ) → List ℕ → QType → Form → Type 0
+NodeAmong objects functions home y (T.Str k) = Contains objects (full_name home (Hidden k))
+NodeAmong objects functions home y (T.Global s) = Contains objects (full_name home s)
+NodeAmong objects functions home y (T.Function s) = Contains functions (full_name home s)
+NodeAmong objects functions home y (T.Call s args) = Contains functions (full_name home s)
+NodeAmong objects functions home y form = Unit {0}
 
 abbrev pub InitialiserAmong : List (List ℕ) → List (List ℕ) → List ℕ → Initialiser → Type 0
 InitialiserAmong objects functions home (T.Value k e) = EachNode (NodeAmong objects functions home) e
