@@ -206,8 +206,8 @@ module _ (m : ModuleValue) (known : AreRecordsWithin m.records) (ids : All (λ d
       let v = w.0.1 in
       let limit : count_of args ≤ parameter_limit = w.1.1.0 in
       λ r temps e.
-        let few : length temps ≤ parameter_limit = omega (arith, limit, e) in
-        (few, (function-ordinary g (Qualified (FunctionType v.0 v.1) false false) v.2, tt))
+      let few : length temps ≤ parameter_limit = omega (arith, limit, e) in
+      (few, (function-ordinary g (Qualified (FunctionType v.0 v.1) false false) v.2, tt))
   node_plain t y (CallValue a args) w =
       let limit : count_of args ≤ parameter_limit = w.1.1.0 in
       λ r v shape temps e. let few : length temps ≤ parameter_limit = omega (arith, limit, e) in (few, tt)

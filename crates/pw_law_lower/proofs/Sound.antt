@@ -15,12 +15,9 @@ use Rattle.pw_lower.specs.declared.code.Code.{Code}
 use Rattle.pw_lower.specs.declared.code.Numbered.{Numbered}
 use Rattle.pw_lower.specs.Codes.{Lowered, temp_of, emit, fresh, constant, reserve, reserve_temps, cut, leave, block_of_label, numbered, named_from}
 use Rattle.pw_law_lower.specs.Ranges.{IsInRange, IsBlockInRange}
+use Rattle.pw_law_lower.proofs.Names.{all_more}
 
 -- ---- more temporaries and blocks
-
-pub all_more : {X : Type 0} (P Q : X → Type 0) (xs : List X) → ((x : X) → P x → Q x) → AllByRecursion P xs → AllByRecursion Q xs
-all_more P Q [] f h = tt
-all_more P Q (x ∷ xs) f h = (f x h.0, all_more P Q xs f h.1)
 
 result_more : (n m : ℕ) (t : Option ℕ) → n ≤ m → IsResult n t → IsResult m t
 result_more n m None l h = tt

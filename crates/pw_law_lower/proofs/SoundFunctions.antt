@@ -1,5 +1,5 @@
 -- The flow graph of a well-typed function stays in range.
-use Rattle.std.proofs.Common.{◌≡◌, ℕ, zero, suc, ◌+◌, ◌<◌, ◌≤◌, ◌==◌, nat_lt, Bool, true, false, if◌then◌else◌, Option, Some, None, unwrap_or, List, [], ◌∷◌, length, refl, sym, subst, arith, length-append}
+use Rattle.std.proofs.Common.{◌≡◌, ℕ, zero, suc, ◌+◌, ◌<◌, ◌≤◌, nat_lt, Bool, true, false, if◌then◌else◌, Some, None, unwrap_or, List, [], ◌∷◌, length, refl, sym, subst, arith, length-append}
 use Rattle.std.proofs.lemmas.Bool.{ltb-true, ltb-false}
 use Rattle.std.specs.Prelude.{slice_get, replicate}
 use Rattle.std.specs.List.{AllByRecursion}
@@ -9,9 +9,7 @@ use Rattle.pw_types.specs.TypeTrees.{type_of, RecordValue}
 use Rattle.pw_types.specs.TypedModules.{IsFunction}
 use Rattle.pw_types.specs.TypedTrees.{LocalValue, FunctionValue, ModuleValue}
 use Rattle.pw_flow.specs.declared.flow.Op.TheVariants as op
-use Rattle.pw_flow.specs.declared.flow.Block.{Block}
 use Rattle.pw_flow.specs.declared.flow.End.TheVariants.{Return}
-use Rattle.pw_flow.proofs.Lists.{all_append}
 use Rattle.pw_lower.specs.declared.code.Code.{Code}
 use Rattle.pw_lower.specs.declared.code.Numbered.{Numbered}
 use Rattle.pw_lower.specs.declared.place.LocalPlace.{LocalPlace}
@@ -23,25 +21,14 @@ use Rattle.pw_lower.specs.Expressions.{scalar_kind}
 use Rattle.pw_lower.specs.Statements.{lower_statement}
 use Rattle.pw_lower.specs.Modules.{parameters_stored, closed_at_start, blocks_at_start, start_code, slots_of, frame_of, entered, function_code, lowered_function}
 use Rattle.pw_law_lower.specs.Ranges.{IsBlockInRange, IsFunctionInRange}
+use Rattle.pw_law_lower_walk.proofs.Functions.{in_order}
 use Rattle.pw_law_lower.proofs.Rooms.{still_below, one_more}
-use Rattle.pw_law_lower.proofs.Sound.{all_more, numbered_below, Sound, Goes, stays, goes_then, emits-in, adds-in, cuts-in}
+use Rattle.pw_law_lower.proofs.Names.{all_more}
+use Rattle.pw_law_lower.proofs.Sound.{numbered_below, Sound, Goes, stays, goes_then, emits-in, adds-in, cuts-in}
 use Rattle.pw_law_lower.proofs.SoundExpressions.{IsPlace, Fits, fits_more}
 use Rattle.pw_law_lower.proofs.SoundStatements.{Ready, statement-in}
 
 -- ---- the blocks in order
-
-found-by : (b : Bool) (temps slots blocks : ℕ) (block : Block) (rest : Option Block) → IsBlockInRange temps slots blocks block → IsBlockInRange temps slots blocks (unwrap_or rest bare) → IsBlockInRange temps slots blocks (unwrap_or (if b then Some block else rest) bare)
-found-by true temps slots blocks block rest h i = h
-found-by false temps slots blocks block rest h i = i
-
-found-in : (temps slots blocks : ℕ) (closed : List Numbered) (n : ℕ) → AllByRecursion (λ (b : Numbered). IsBlockInRange temps slots blocks b.block) closed → IsBlockInRange temps slots blocks (unwrap_or (block_of closed n) bare)
-found-in temps slots blocks [] n h = record { ops = tt; end = tt }
-found-in temps slots blocks (b ∷ rest) n h = found-by (b.number == n) temps slots blocks b.block (block_of rest n) h.0 (found-in temps slots blocks rest n h.1)
-
-below-in : (temps slots blocks : ℕ) (closed : List Numbered) (n : ℕ) → AllByRecursion (λ (b : Numbered). IsBlockInRange temps slots blocks b.block) closed → AllByRecursion (IsBlockInRange temps slots blocks) (blocks_below closed n)
-below-in temps slots blocks closed zero h = tt
-below-in temps slots blocks closed (suc n) h =
-    all_append (IsBlockInRange temps slots blocks) (blocks_below closed n) (unwrap_or (block_of closed n) bare ∷ []) (below-in temps slots blocks closed n h) (found-in temps slots blocks closed n h, tt)
 
 length-below : (closed : List Numbered) (n : ℕ) → length (blocks_below closed n) ≡ n
 length-below closed zero = refl
@@ -180,7 +167,7 @@ function-in home m f h =
     let body = lower_statement fr ways f.body begun in
     let g3 = cuts-in slots (Return None) 0 body.depth body g2.sound tt in
     let c = function_code home m.records f in
-    let blocks = below-in c.temps slots c.blocks c.closed c.blocks g3.sound.closed in
+    let blocks = in_order (IsBlockInRange c.temps slots c.blocks) (record { ops = tt; end = tt }) c.closed c.blocks g3.sound.closed in
     record {
       params = omega (arith, many, g1.temps, g2.temps, g3.temps);
       start = omega (arith, length-below c.closed c.blocks, g3.sound.some);
