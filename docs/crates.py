@@ -4,6 +4,7 @@
     docs/crates.py              writes both into the page, and the map into the rows of its test
     docs/crates.py --check      says where the page, the rows or crates.txt differ from the crates, with status 1 where they do
     docs/crates.py --touches    prints the counts
+    docs/crates.py --twice      prints the names of definitions that stand in two crates or more, with their files, and their count
 
 The map has the parts and the order of crates.txt, and of each crate the first sentence of the comment at the head of its
 root file. A part begins with a comment of crates.txt right above a crate's line.
@@ -18,6 +19,10 @@ PAGE = TOP / "docs" / "ARCHITECTURE.md"
 # The test of the map: from the crates' sentences (stdin) its program makes the tables, as the page has them (stdout).
 TEST = CRATES / "pw_tests_map"
 SENTENCE = re.compile(r".*?\.(?=\s|$)")
+# A definition of specs/ with its name, by itself or among those that name one another.
+DEFINITION = re.compile(r"(?:(?:pub|abbrev|unfoldable|opaque|record|data) )+(?!mod |use |mutual)([^\s:(){}=]+)")
+MUTUAL = re.compile(r"(?:\w+ )*mutual$")
+INNER = re.compile(r"  pub ([^\s:(){}=]+)")
 
 # What is changed, the nearest thing of the kind that stands, and what a file names that has to do with it, all of it.
 TOUCHES = [
@@ -137,6 +142,29 @@ def touches(parts):
     return lines
 
 
+def definitions(path):
+    """The names of the definitions of a file."""
+    form = DEFINITION
+    for line in path.read_text().splitlines():
+        if line[:1].strip():
+            form = INNER if MUTUAL.match(line) else DEFINITION
+        definition = form.match(line)
+        if definition:
+            yield definition[1]
+
+
+def twice(parts):
+    """The names of definitions that stand in two crates or more, each with its files, those in most crates first; and their count."""
+    stand = {}
+    for crate in sorted(crate for _, inside in parts for crate in inside):
+        for path in sorted((CRATES / crate / "specs").rglob("*.antt")):
+            for name in definitions(path):
+                stand.setdefault(name, {}).setdefault(crate, path)
+    several = sorted((-len(its), name, its) for name, its in stand.items() if len(its) > 1)
+    lines = [f"{name}: {', '.join(str(path.relative_to(CRATES)) for path in its.values())}" for _, name, its in several]
+    return lines + [f"{len(several)} of {len(stand)} names stand in two crates or more"]
+
+
 def marks(name):
     """The lines between which a table stands in the page."""
     return f"<!-- {name}: made by docs/crates.py -->", f"<!-- end of {name} -->"
@@ -232,6 +260,9 @@ def main(words):
         parts = parts_of_crates()
         if words == ["--touches"]:
             print("\n".join(touches(parts)))
+            return 0
+        if words == ["--twice"]:
+            print("\n".join(twice(parts)))
             return 0
         if words not in ([], ["--check"]):
             print(__doc__)

@@ -1,5 +1,5 @@
 -- Which functions have lawful places.
-use Rattle.std.specs.Prelude.{ℕ, ◌≡◌, ◌<◌, ◌≤◌, List, length, Contains}
+use Rattle.std.specs.Prelude.{ℕ, ◌≡◌, ◌<◌, ◌≤◌, ◌⊎◌, List, length, Contains}
 use Rattle.std.specs.List.{AllByRecursion}
 use Rattle.pw_db.specs.Database.{EachTwo}
 use Rattle.pw_db.specs.Limits.{first_register, last_register, last_temporary}
@@ -11,10 +11,10 @@ use Rattle.pw_alloc.specs.declared.located.Located.{Located}
 use Rattle.pw_alloc.specs.Frames.{head_size, temp_offset, slots_begin, last_reach}
 use Rattle.pw_alloc.specs.Allocation.{saved_of, in_frame}
 
--- A register that a function uses is none of its webs, and it is saved unless every function may change it. A word of
--- the frame is one of those for temporaries.
+-- A register that a function uses is none of its webs, and it is saved unless every function may change it or it is
+-- free for the function. A word of the frame is one of those for temporaries.
 abbrev pub IsPlace : Located → Place → Type 0
-IsPlace l (Reg r) = (first_register ≤ r) × (r ≤ last_temporary) × ¬ HasRegister l.body.directives r × (r ≤ last_register → Contains l.saved r)
+IsPlace l (Reg r) = (first_register ≤ r) × (r ≤ last_temporary) × ¬ HasRegister l.body.directives r × (r ≤ last_register → Contains l.saved r ⊎ Contains l.body.directives.free r)
 IsPlace l (Slot offset) =
     (i : ℕ) × ((i < in_frame l.places) × (offset ≡ temp_offset (head_size l.body) (length l.saved) i))
 

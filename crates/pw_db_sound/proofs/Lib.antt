@@ -1,1 +1,2 @@
 pub mod Relations
+mod Roots

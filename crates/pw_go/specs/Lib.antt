@@ -1,3 +1,4 @@
+pub mod Ends
 pub mod FullBuild
 pub mod BuildViews
 pub mod Going

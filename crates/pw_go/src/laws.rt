@@ -1,11 +1,13 @@
-//! What the answers to a build say of its modules.
+//! What the answers to a build say of its modules, and what runs leave of their input.
 
 ghost use Rattle.std.specs.Prelude.{ℕ, List};
 ghost use Rattle.pw_io.specs.Files.{Files};
 ghost use Rattle.pw_store_modules.specs.Modules.{modules_of};
 ghost use Rattle.pw_top_answer.specs.Outcomes.{Answers};
 ghost use Rattle.pw_top_answer.specs.declared.answer.Answer.{Answer};
-ghost use Rattle.pw_go.specs.FullBuild.{full_build};
+ghost use Rattle.pw_commands.specs.Running.{run_effect};
+ghost use Rattle.pw_go.specs.Ends.{EndsIn};
+ghost use Rattle.pw_go.specs.FullBuild.{Build, full_build};
 ghost use Rattle.pw_go.specs.Going.{AnswersBuild, BuiltAgrees, ReturnsSum, build_effect};
 ghost use Rattle.pw_go.specs.Refusals.{AnswersNoMain, NoMainIs, AnswersRefusal, RefusalIs};
 
@@ -32,3 +34,9 @@ pub fn builds_agree()
     words_agree();
     form_is_exact();
 }
+
+/// What `run` and `go` leave of their input is what stands behind the prefix that they read.
+pub fn runs_leave_an_end()
+    ensures run { (files : Files) (budget : ℕ) (input : List ℕ) → EndsIn input (run_effect files budget input).rest }
+    ensures go { (built : Build) (budget : ℕ) (input : List ℕ) → EndsIn input (build_effect built budget input).rest }
+{}

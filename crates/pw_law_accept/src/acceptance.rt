@@ -23,7 +23,7 @@ ghost use Rattle.pw_law_refine.specs.Lowerable.{IsLowerable};
 ghost use Rattle.pw_law_accept.specs.Linked.{AreAllNumbered, AreLinked, AreNamedPlainly, AreOfWords, HaveRightItems};
 
 use crate::formed::accepted_functions_are_formed;
-use crate::references::lowered_functions_refer_rightly;
+use crate::operations::lowered_functions_refer_rightly;
 use pw_law_checked::{
     accepted_addresses_lead_inside, accepted_functions_are_no_objects,
     accepted_functions_are_typed, accepted_initialisers_have_parts, accepted_is_well_typed,

@@ -5,7 +5,7 @@
 pub mod acceptance;
 pub mod formed;
 pub mod linking_rules;
-pub mod references;
+pub mod operations;
 
 pub use acceptance::{
     accepted_is_lowerable_but_for_addresses, checked_functions_are_formed,
@@ -16,4 +16,4 @@ pub use acceptance::{
 };
 pub use formed::accepted_functions_are_formed;
 pub use linking_rules::accepted_programs_keep_the_rules;
-pub use references::lowered_functions_refer_rightly;
+pub use operations::lowered_functions_refer_rightly;

@@ -6,6 +6,7 @@ mod Places
 mod Shapes
 mod Used
 mod Eligible
+mod Movable
 mod Same
 mod Composition
 mod Joined

@@ -55,7 +55,7 @@ single_has false x e = absurd cc
 module _ (ss : List Summary) (g : CallGraph) (is : IsGraphOf ss g) where
   -- ---- the nodes
 
-  node_back : (n more : ℕ) (x : Node) → Has x (nodes_from ss g n more) → (i : ℕ) × (i < n + more) × (node_at ss g i ≡ x)
+  pub node_back : (n more : ℕ) (x : Node) → Has x (nodes_from ss g n more) → (i : ℕ) × (i < n + more) × (node_at ss g i ≡ x)
   node_back n zero x h = absurd h
   node_back n (suc more) x (inl e) = (n, omega arith, e)
   node_back n (suc more) x (inr h) = let r = node_back (suc n) more x h in (r.0, omega (arith, r.1), r.2)
@@ -70,13 +70,13 @@ module _ (ss : List Summary) (g : CallGraph) (is : IsGraphOf ss g) where
   at_name : (i : ℕ) (f : List ℕ) → i < length g.functions → name_at g i ≡ f → slice_get g.functions i ≡ Some f
   at_name i f lt e = slice_get-get_or g.functions i [] lt ∙ ap Some e
 
-  name_of : (i : ℕ) (f : List ℕ) → slice_get g.functions i ≡ Some f → name_at g i ≡ f
+  pub name_of : (i : ℕ) (f : List ℕ) → slice_get g.functions i ≡ Some f → name_at g i ≡ f
   name_of i f e = get_or_from_slice_get g.functions i f [] e
 
-  place_of : (f : List ℕ) → Has f (map (λ h. h.0) (functions_of ss)) → (i : ℕ) × (slice_get g.functions i ≡ Some f)
+  pub place_of : (f : List ℕ) → Has f (map (λ h. h.0) (functions_of ss)) → (i : ℕ) × (slice_get g.functions i ≡ Some f)
   place_of f h = at_has g.functions f (has_by f g.functions ((is.each_function f).1 (contains_by f (map (λ h. h.0) (functions_of ss)) h)))
 
-  there_at : (i : ℕ) (f : List ℕ) → slice_get g.functions i ≡ Some f → Contains (nodes_from ss g 0 (length g.functions)) (node_at ss g i)
+  pub there_at : (i : ℕ) (f : List ℕ) → slice_get g.functions i ≡ Some f → Contains (nodes_from ss g 0 (length g.functions)) (node_at ss g i)
   there_at i f e = contains_by (node_at ss g i) (nodes_from ss g 0 (length g.functions)) (node_there 0 (length g.functions) i (omega arith) (omega (arith, at_below g.functions i f e)))
 
   -- ---- calls

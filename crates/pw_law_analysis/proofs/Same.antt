@@ -12,14 +12,15 @@ use Rattle.pw_files.proofs.Standing.{Has, has_by, contains_by, has_map, has_map_
 use Rattle.pw_summary.specs.declared.summary.Summary.{Summary}
 use Rattle.pw_summarise.specs.Summarises as s
 use Rattle.pw_graph.specs.declared.graph.CallGraph.{CallGraph}
-use Rattle.pw_graph.specs.Program.{IsCall, by_name, through_value, IsTaken, IsGraphOf}
+use Rattle.pw_graph.specs.Program.{IsCall, by_name, through_value, IsGraphOf}
 use Rattle.pw_graph.specs.Program as summaries
 use Rattle.pw_db_sound.specs.CallGraphs.{Node, Calls, Reads, Writes, SayTheSame}
 use Rattle.pw_run_languages.specs.LawfulPrograms.{NamesRightly, ops_of, has_name, has_shape, taken_names, called, eligible_of, read_by, written_by, node_of, graph_of}
 use Rattle.pw_law_layers.specs.Lowering.{flow_program, IsAccepted}
 use Rattle.pw_law_analysis.specs.SummaryGraphs.{AllSummarise, named_graph}
-use Rattle.pw_law_analysis.proofs.Lists.{both, both_back, has_filter, has_filter_back, named_has, has_named}
-use Rattle.pw_law_analysis.proofs.Addresses.{at_op, by_op, taken_in, taken_addressed, function_taken}
+use Rattle.pw_law_analysis.proofs.Lists.{both, both_back, has_filter, has_filter_back, named_has}
+use Rattle.pw_law_analysis.proofs.Addresses.{at_op, by_op, function_taken}
+use Rattle.pw_law_analysis.proofs.Movable.{is_taken, movable_to, movable_from}
 use Rattle.pw_law_analysis.proofs.Places.{Refers, call_forth, call_back, read_forth, read_back, write_forth, write_back, eligible_named, named_eligible}
 use Rattle.pw_law_analysis.proofs.Shapes.{shape_forth, shape_back, name_listed}
 use Rattle.pw_law_analysis.proofs.Used.{use_forth, use_back, reading, writing, read_weighed, write_weighed}
@@ -43,12 +44,6 @@ module _ (p : Program) (frame_of : List ℕ → ℕ) (stack : ℕ) (accepted : I
   by_value_called (CallInd t a own args) shape name (inr k) h may = absurd k
   by_value_called _ shape name k h may = absurd k
 
-  is_taken : (name : List ℕ) → IsTaken ss name → has_name (taken_names (flow_program p frame_of stack)) name ≡ true
-  is_taken name t =
-      let q = flow_program p frame_of stack in
-      let m = taken_addressed q.modules ss all name t in
-      has_named (taken_names q) name (taken_in q m.0 name m.1 m.2)
-
   -- ---- calls
 
   call_to : (a b : List ℕ) → IsCall ss a b → Calls (graph_of (flow_program p frame_of stack)) a b
@@ -68,7 +63,7 @@ module _ (p : Program) (frame_of : List ℕ → ℕ) (stack : ℕ) (accepted : I
       let f = use_forth q accepted.program ss all a u of in
       let o = at_op s.called_shape f.function shape (has_by shape (s.in_function s.called_shape f.function) ((f.uses.shapes.of shape).0 stands)) in
       let h = shape_forth q accepted.program ss all (b, shape) (has_by (b, shape) (summaries.functions_of ss) function) in
-      let may = both (has_name (taken_names q) b) (has_shape (shape_of q b) shape) (is_taken b taken) h.1 in
+      let may = both (has_name (taken_names q) b) (has_shape (shape_of q b) shape) (is_taken p frame_of stack accepted ss all b taken) h.1 in
       record {
         node = node_of q f.function;
         there = contains_by (node_of q f.function) (map (node_of q) (functions_of q)) (has_map (node_of q) f.function (functions_of q) f.there);
@@ -201,4 +196,5 @@ module _ (p : Program) (frame_of : List ℕ → ℕ) (stack : ℕ) (accepted : I
         reads = λ f v. (λ r. read_to f v (read_forth ss g is f v r), λ r. read_back ss g is f v (read_from f v r));
         writes = λ f v. (λ r. write_to f v (write_forth ss g is f v r), λ r. write_back ss g is f v (write_from f v r));
         eligible = λ v k. (λ h. eligible_to v k (eligible_named ss g is v k h), λ h. named_eligible ss g is v k (eligible_from v k h));
+        movable = λ f. (movable_to p frame_of stack accepted ss all g is f, movable_from p frame_of stack accepted ss all g is f);
       }

@@ -4,7 +4,7 @@
 ghost use Rattle.pw_law_analysis.specs.OwedLaws.{DatabaseIsLawful, DatabaseIsSound, ColouredIsCovered};
 ghost use Rattle.pw_law_analysis.specs.AnalyserLaws.{NamedGraphsSayTheSame, DatabasesServe, FirstPlacesGiveAll, LayersGiveAll};
 
-use crate::composition::{all_laws_compose, analyses_compose};
+use crate::owed::{all_laws_compose, analyses_compose};
 use pw_colour::laws;
 use pw_law_direction::{direction_keeps, first_places_keep};
 

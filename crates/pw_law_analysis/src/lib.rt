@@ -2,12 +2,12 @@
 #![tactic(auto)]
 
 pub mod analyser;
-pub mod composition;
+pub mod owed;
 pub mod summaries;
 
 pub use analyser::{
     coloured_globals_are_covered, databases_are_lawful, databases_are_sound_by_name,
     databases_serve, first_places_give_all, layers_give_all, named_graphs_say_the_same,
 };
-pub use composition::{all_laws_compose, analyses_compose};
+pub use owed::{all_laws_compose, analyses_compose};
 pub use summaries::summaries_say_the_same;

@@ -11,13 +11,13 @@ use Rattle.pw_link_rules.specs.declared.interface.Interface.{Interface}
 use Rattle.pw_link_rules.specs.Linking.{Links, Refusal}
 use Rattle.pw_graph.specs.Program.{AreRefused}
 use Rattle.pw_link.specs.Linking.{size_fault, IsRefusal}
-use Rattle.pw_build.specs.FromPhaseOne.FirstPhase.{Phase, compiled}
+use Rattle.pw_build_files.specs.FromBuild.FirstPhase.{Phase, compiled}
 use Rattle.pw_store_modules.specs.Modules.{Source}
 use Rattle.pw_build_objects.specs.Programs.{AreParts, AreSummariesOf, Completes, Parts}
 use Rattle.pw_build_objects.specs.Kept.{IsGenuineIfKept, anew}
-use Rattle.pw_build.specs.declared.fault.BuildFault.{BuildFault}
-use Rattle.pw_build.specs.declared.fault.BuildFault.TheVariants.{Refused, LinkRefused, StoreFault, NoMemory}
-use Rattle.pw_build.specs.Builds.{limit_passed, before_others, flows_of, within, first_phases, CompletesAs, BuildsBy, Builds}
+use Rattle.pw_build_files.specs.FromBuild.BuildFault.{BuildFault}
+use Rattle.pw_build_files.specs.FromBuild.BuildFault.TheVariants.{Refused, LinkRefused, StoreFault, NoMemory}
+use Rattle.pw_build_files.specs.FromBuild.Builds.{limit_passed, before_others, flows_of, within, first_phases, CompletesAs, BuildsBy, Builds}
 use Rattle.pw_law_build.specs.Alike.{shown, DeclaresMain}
 use Rattle.pw_law_build.specs.Complete.{HasRoom, CanBeBuilt}
 

@@ -16,8 +16,8 @@ use Rattle.pw_link.specs.Linking.{size_fault, IsRefusal, too_large}
 use Rattle.pw_store_modules.specs.Modules.{Source, module_map, modules_of}
 use Rattle.pw_build_objects.specs.Programs.{AreParts, AreSummariesOf, Completes, Parts}
 use Rattle.pw_build_objects.specs.Kept.{IsGenuineIfKept, all_fresh, anew}
-use Rattle.pw_build.specs.declared.fault.BuildFault.{BuildFault}
-use Rattle.pw_build.specs.Builds.{first_phases, Builds, BuildsBy}
+use Rattle.pw_build_files.specs.FromBuild.BuildFault.{BuildFault}
+use Rattle.pw_build_files.specs.FromBuild.Builds.{first_phases, Builds, BuildsBy}
 use Rattle.pw_build_files.specs.Building.{BuildOutcome, Outcome}
 use Rattle.pw_build_files.specs.Full.{BuildsImage, image_of}
 use Rattle.pw_build_files.specs.Genuine.{KeepsGenuine}

@@ -6,7 +6,7 @@ use Rattle.pw_link_rules.specs.Linking.{Links}
 use Rattle.pw_link.specs.Linking.{size_fault}
 use Rattle.pw_store_modules.specs.Modules.{Source}
 use Rattle.pw_build_objects.specs.Programs.{AreParts, Parts}
-use Rattle.pw_build.specs.Builds.{first_phases}
+use Rattle.pw_build_files.specs.FromBuild.Builds.{first_phases}
 use Rattle.pw_law_build.specs.Alike.{shown}
 
 -- The modules are not too many, their texts not too long, the first phase refuses none of them, and together they keep the

@@ -22,7 +22,7 @@ use Rattle.pw_select_lines.specs.Operations.{Layout, layout}
 use Rattle.pw_select.specs.Selection.{slot_offsets}
 use Rattle.pw_select.proofs.PlaceableFn.{Good, LayoutGood, all_below_fit, selected_good}
 use Rattle.pw_alloc.proofs.SavedLaws.{few_between}
-use Rattle.pw_run_languages.specs.Serving.{slots_alone, Changes, places, enters, Serves}
+use Rattle.pw_run_languages.specs.Serving.{slots_alone, Changes, places, enters, saves, Serves}
 use Rattle.pw_run_languages.specs.CodeStands.{AreReady, SelectionIsReady}
 use Rattle.pw_law_code.proofs.SelectedLines.{ready_by}
 
@@ -39,6 +39,7 @@ web_is (x ∷ rest) (suc k) w all lt e = web_is rest k w all.1 (omega (arith, lt
 
 register_between : (f : WebFn) (l : Located) → IsWebFn f → Serves f l → (r : ℕ) → Changes f l r → (first_register ≤ r) × (r ≤ last_register)
 register_between f l is serves r (places c small apart) = let h = (serves.registers r c).0.low in (h, small)
+register_between f l is serves r (saves c) = absurd (let none : c.0 < 0 = c.1 in omega (arith, none))
 register_between f l is serves r (enters w) =
     let web = web_is f.directives.webs w.there.0 (w.web, Entry) is.directives.each w.there.1 w.there.2 in
     (omega (arith, web.low, w.is), omega (arith, web.high, w.is))

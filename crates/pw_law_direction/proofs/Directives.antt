@@ -6,8 +6,6 @@ use Rattle.std.specs.Str.{bytes_eq}
 use Rattle.std.proofs.lemmas.Bool.{eqb-true}
 use Rattle.std.proofs.lemmas.List.Concat.{flat_map-cons}
 use Rattle.std.proofs.lemmas.Slice.Eq.{bytes_eq-Decides}
-use Rattle.pw_files.specs.Rising.{IsRisingBehind}
-use Rattle.pw_files.proofs.ByteOrder.{not_behind}
 use Rattle.pw_files.proofs.Standing.{Has, has_by, contains_by, has_each, each_by, has_split, has_map, has_flat_back}
 use Rattle.pw_db.specs.Database.{EachTwo, IsWeb, IsDirectives, IsDatabase, webs_of}
 use Rattle.pw_db.specs.Limits.{first_register, last_register, register_count, kept_registers}
@@ -20,6 +18,7 @@ use Rattle.pw_db_sound.specs.Sound.{In}
 use Rattle.pw_db_sound.specs.Sound.{Has as HasRole}
 use Rattle.pw_webflow.specs.Direction.{register_of}
 use Rattle.pw_run_languages.specs.Direction.{directives_of}
+use Rattle.pw_run_languages.proofs.Directives.{one_directives}
 use Rattle.pw_law_direction.proofs.Lists.{clash}
 use Rattle.pw_law_direction.proofs.Trails.{of_register, entered_among}
 
@@ -57,21 +56,6 @@ range_rises a (suc n) = (each_by (λ (y : ℕ). a < y) (range_with_len (a + 1) n
 
 -- ---- the directives of a function
 
-one_here : (b : Bool) (g : List ℕ × Directives) (rest : List (List ℕ × Directives)) (f : List ℕ) (dirs : Directives) → bytes_eq g.0 f ≡ b → (g.0 ≡ f → ⊥) → directives_of rest f ≡ dirs → (if b then g.1 else directives_of rest f) ≡ dirs
-one_here true g rest f dirs e lacks r = absurd (lacks ((bytes_eq-Decides g.0 f).0 e))
-one_here false g rest f dirs e lacks r = r
-
-one_by : (before : Option (List ℕ)) (d : List (List ℕ × Directives)) (f : List ℕ) (dirs : Directives) → IsRisingBehind before (map (λ g. g.0) d) → Has (f, dirs) d → directives_of d f ≡ dirs
-one_by before [] f dirs up h = absurd h
-one_by before (g ∷ rest) f dirs up (inl e) =
-    let on : bytes_eq g.0 f ≡ true = (bytes_eq-Decides g.0 f).1 (ap (λ (x : List ℕ × Directives). x.0) e) in
-    subst (λ (b : Bool). (if b then g.1 else directives_of rest f) ≡ dirs) (sym on) (ap (λ (x : List ℕ × Directives). x.1) e)
-one_by before (g ∷ rest) f dirs up (inr h) =
-    let there : Has f (map (λ (x : List ℕ × Directives). x.0) rest) = has_map (λ (x : List ℕ × Directives). x.0) (f, dirs) rest h in
-    one_here (bytes_eq g.0 f) g rest f dirs refl
-    (λ same. not_behind g.0 (map (λ (x : List ℕ × Directives). x.0) rest) up.1 (subst (λ (n : List ℕ). Has n (map (λ (x : List ℕ × Directives). x.0) rest)) (sym same) there))
-    (one_by (Some g.0) rest f dirs up.1 h)
-
 -- directives that hold a web stand in the database
 stands_here : (b : Bool) (g : List ℕ × Directives) (rest : List (List ℕ × Directives)) (f : List ℕ) (w : Web × Role) → bytes_eq g.0 f ≡ b → (Has w (directives_of rest f).webs → (dirs : Directives) × Has (f, dirs) rest × Has w dirs.webs)
     → Has w (if b then g.1 else directives_of rest f).webs → (dirs : Directives) × Has (f, dirs) (g ∷ rest) × Has w dirs.webs
@@ -94,11 +78,8 @@ has_register [] w h e = absurd h
 has_register (u ∷ rest) w h e = register_here (bytes_eq u.0.global w.0.global) u rest w refl (has_register rest w) h e
 
 module _ (d : List (List ℕ × Directives)) (base : IsDatabase d) where
-  one_directives : (f : List ℕ) (dirs : Directives) → Contains d (f, dirs) → directives_of d f ≡ dirs
-  one_directives f dirs h = one_by None d f dirs base.functions (has_by (f, dirs) d h)
-
   pub role_there : (f : List ℕ) (w : Web) (role : Role) → HasRole d f w role → Has (w, role) (directives_of d f).webs
-  role_there f w role h = subst (λ (dirs : Directives). Has (w, role) dirs.webs) (sym (one_directives f h.directives h.there)) (has_by (w, role) h.directives.webs h.web)
+  role_there f w role h = subst (λ (dirs : Directives). Has (w, role) dirs.webs) (sym (one_directives d base f h.directives h.there)) (has_by (w, role) h.directives.webs h.web)
 
   pub there_role : (f : List ℕ) (w : Web) (role : Role) → Has (w, role) (directives_of d f).webs → HasRole d f w role
   there_role f w role h =
@@ -109,7 +90,7 @@ module _ (d : List (List ℕ × Directives)) (base : IsDatabase d) where
   lawful_there f w h =
       let r = stands_by d f w h in
       let own = has_each (λ (g : List ℕ × Directives). IsDirectives g.1) d (f, r.0) base.directives r.1 in
-      subst IsDirectives (sym (one_directives f r.0 (contains_by (f, r.0) d r.1))) own
+      subst IsDirectives (sym (one_directives d base f r.0 (contains_by (f, r.0) d r.1))) own
 
   -- the register of a web of the function is one that a callee keeps
   pub web_range : (f : List ℕ) (w : Web) (role : Role) → HasRole d f w role → (first_register ≤ w.reg) × (w.reg ≤ last_register)

@@ -15,7 +15,7 @@ use Rattle.pw_alloc.specs.declared.located.Place.TheVariants.{Slot, Reg}
 use Rattle.pw_alloc.specs.Allocation.{saved_of, slots_from, allocated}
 use Rattle.pw_alloc.specs.Frames.{head_size, temp_offset, slots_begin, last_reach}
 use Rattle.pw_alloc.proofs.SavedLaws.{rises}
-use Rattle.pw_run_languages.specs.Serving.{Interfere, by_operation, by_start, parameters, IsKeptOver, slots_alone, Changes, places, enters, Serves}
+use Rattle.pw_run_languages.specs.Serving.{Interfere, by_operation, by_start, parameters, IsKeptOver, slots_alone, Changes, places, enters, saves, Serves}
 use Rattle.std.proofs.lemmas.Bool.{cases_lt}
 use Rattle.std.proofs.lemmas.Option.{slice_get_past}
 use Rattle.pw_webflow.specs.Direction.{directed}
@@ -115,6 +115,7 @@ alone head saved i (suc n) = ap (λ (rest : List Place). Slot (temp_offset head 
 changes : (f : WebFn) → AllByRecursion IsWeb (map (λ w. w.0) f.directives.webs) → (r : ℕ) → Changes f (allocated f) r → Contains (saved_of f) r
 unfolding allocated
 changes f lawful r (places c high apart) = absurd (no_register (head_size f) (length (saved_of f)) f.temps r c)
+changes f lawful r (saves c) = absurd (nowhere r c)
 changes f lawful r (enters has) =
     let web : IsWeb has.web = All-contains IsWeb (map (λ w. w.0) f.directives.webs) has.web
     (All-from_recursion IsWeb (map (λ w. w.0) f.directives.webs) lawful)
@@ -161,4 +162,4 @@ serves f lawful =
 
 pub allocation_serves : AllocationServes
 unfolding directed
-allocation_serves f d lawful directives = serves (directed f d) directives.each
+allocation_serves f d l lawful directives is = subst (Serves (directed f d)) (sym is) (serves (directed f d) directives.each)

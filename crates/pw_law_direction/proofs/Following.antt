@@ -12,7 +12,7 @@ use Rattle.pw_run_languages.specs.Programs.{Program}
 use Rattle.pw_run_languages.specs.LawfulPrograms.{graph_of}
 use Rattle.pw_run_languages.specs.Direction.{directives_of}
 use Rattle.pw_run_languages.specs.PlacedRun.{with_registers, without_scratch, kept}
-use Rattle.pw_law_direction.specs.DirectedLaws.{IsCalledBy, FollowsCalls}
+use Rattle.pw_run_languages.specs.Calls.{IsCalledBy, FollowsCalls}
 use Rattle.pw_law_direction.proofs.Trails.{Log, is_kept, noted_in, entered_among, loads, stored_in, stores, Act, Registers, Trail, begun, write, load, store, library, call, return, Last, ended, refused}
 
 abbrev pub names_in : List (Open Byte Value) → List (List ℕ)

@@ -67,7 +67,7 @@ serve_all : AllocationServes → (d : List (List ℕ × Directives)) → AllByRe
     → AllServe (map (directed_by d) fs) (map allocated (map (directed_by d) fs))
 serve_all serves d base [] lawful = tt
 serve_all serves d base (f ∷ fs) lawful =
-    (serves f (directives_of d f.name) (lawful f (inl refl)) (given_lawful d base f.name), serve_all serves d base fs (λ g h. lawful g (inr h)))
+    (serves f (directives_of d f.name) (allocated (directed_by d f)) (lawful f (inl refl)) (given_lawful d base f.name) refl, serve_all serves d base fs (λ g h. lawful g (inr h)))
 
 pub places_serve : AllocationServes → FirstPlacesServe
 places_serve serves p d ok base =

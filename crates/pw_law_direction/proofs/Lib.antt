@@ -33,6 +33,7 @@ mod Saving
 mod Callees
 mod Standing
 mod Edges
+mod Operations
 mod Slots
 mod Entering
 mod Calling

@@ -82,5 +82,8 @@ none_unsound g d base e =
       registers = λ w u f i j apart. absurd (nowhere d all w f i);
       eligible = λ w f i. absurd (nowhere d all w f i);
       writes = λ w f i writes. absurd (nowhere d all w f i);
-      free = λ f ds there. ap (λ (x : Directives). x.free) (has_each IsEmpty d (f, ds) all (has_by (f, ds) d there));
+      free = λ f r i.
+          let none : i.directives.free ≡ [] = ap (λ (x : Directives). x.free) (has_each IsEmpty d (f, i.directives) all (has_by (f, i.directives) d i.there)) in
+          absurd (has_by r [] (subst (λ (rs : List ℕ). Contains rs r) none i.register));
+      saves = λ f r i w has. absurd (has_by r [] i.register);
     }

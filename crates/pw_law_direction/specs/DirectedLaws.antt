@@ -1,33 +1,29 @@
 -- Laws of the run of a program under directives, of that run alone.
-use Rattle.std.specs.Prelude.{ℕ, ◌≡◌, List, [], ◌∷◌, map, Contains}
+use Rattle.std.specs.Prelude.{ℕ, ◌≡◌, true, Option, List, map, Contains}
 use Rattle.pw_value.specs.declared.value.Pointer.TheVariants.{Function}
+use Rattle.pw_value.specs.declared.value.Value.{Value}
 use Rattle.pw_value.specs.ProgramNames.{start_name}
 use Rattle.pw_db.specs.declared.database.Directives.{Directives}
 use Rattle.pw_db.specs.Database.{IsDatabase}
-use Rattle.pw_db_sound.specs.CallGraphs.{Graph, Calls}
+use Rattle.pw_flow.specs.declared.flow.FlowFn.{FlowFn}
+use Rattle.pw_flow.specs.declared.flow.Op.{Op}
+use Rattle.pw_flow.specs.Uses.{op_calls}
+use Rattle.pw_webflow.specs.declared.web.WebBlock.{WebBlock}
+use Rattle.pw_webflow.specs.declared.web.WebOp.TheVariants.{Flow}
+use Rattle.pw_db_sound.specs.CallGraphs.{Calls}
 use Rattle.pw_db_sound.specs.Sound.{Sound}
 use Rattle.pw_run.specs.Runs.{Refines}
-use Rattle.pw_run_languages.specs.Traces.{Event, Called, Refused, Notes, KeepRegisters, calls_of}
-use Rattle.pw_run_languages.specs.Traffic.{Open, active, ObeysTraffic}
-use Rattle.pw_run_languages.specs.Programs.{Program, names_of, function_number}
+use Rattle.pw_run_languages.specs.Traces.{Notes, KeepRegisters, calls_of}
+use Rattle.pw_run_languages.specs.Traffic.{ObeysTraffic}
+use Rattle.pw_run_languages.specs.Calls.{FollowsCalls}
+use Rattle.pw_run_languages.specs.Programs.{Program, functions_of, names_of, function_number}
+use Rattle.pw_run_languages.specs.Commands.{Enter, command}
 use Rattle.pw_run_languages.specs.LawfulPrograms.{IsProgram, graph_of}
 use Rattle.pw_run_languages.specs.FlowRun.{flow_run}
-use Rattle.pw_run_languages.specs.Direction.{unplaced, directed_functions, with_functions, web_run, MomentAlike}
+use Rattle.pw_run_languages.specs.Direction.{directed_by, unplaced, directed_functions, with_functions, web_run, MomentAlike}
 use Rattle.pw_run_languages.specs.PlacedRun.{Machine, On, steps, start}
 use Rattle.pw_run_languages.specs.PlacementLaws.{DirectionKeepsRuns}
-use Rattle.pw_law_direction.specs.Values.{IsTaken, FinePointer, AreFine}
-
--- the innermost active call calls the function; where none is active it is `$start`
-abbrev pub IsCalledBy : {B V : Type 0} → Graph → List ℕ → List (Open B V) → Type 0
-IsCalledBy g f [] = f ≡ start_name
-IsCalledBy g f (c ∷ cs) = Calls g c.function f
-
--- each call of a trace is one of the graph, whether there was stack for it or not
-abbrev pub FollowsCalls : {B V : Type 0} → Graph → List (Event B V) → Type 0
-FollowsCalls g [] = Unit {0}
-FollowsCalls g (Called f gs rs ∷ l) = IsCalledBy g f (active l) × FollowsCalls g l
-FollowsCalls g (Refused f ∷ l) = IsCalledBy g f (active l) × FollowsCalls g l
-FollowsCalls g (e ∷ l) = FollowsCalls g l
+use Rattle.pw_law_direction.specs.Values.{IsTaken, FinePointer, FineValue, AreFine}
 
 abbrev pub CallsAreOfTheGraph : Type 0
 CallsAreOfTheGraph =
@@ -70,3 +66,13 @@ TakenFunctionsAreFine = (p : Program) (f : List ℕ) → IsTaken p f → Contain
 -- no function calls `$start`
 abbrev pub StartIsNotCalled : Type 0
 StartIsNotCalled = (p : Program) (caller : List ℕ) → IsProgram p → ¬ Calls (graph_of p) caller start_name
+
+-- where the values of its temporaries are fine, an operation of a function under directives enters a function only if it is a
+-- call, and then one that the graph says it calls
+abbrev pub OperationsCallByTheGraph : Type 0
+OperationsCallByTheGraph =
+    (p : Program) (d : List (List ℕ × Directives)) (f : FlowFn) (block : WebBlock) (o : Op) (base : ℕ) (value : ℕ → Value)
+    (t : Option ℕ) (g : List ℕ) (args : List Value) →
+    Contains (functions_of p) f → Contains (directed_by d f).blocks block → Contains block.ops (Flow o) →
+    ((t : ℕ) → FineValue p (value t)) → command p base o value ≡ Enter t g args →
+    (op_calls o ≡ true) × Calls (graph_of p) (directed_by d f).name g

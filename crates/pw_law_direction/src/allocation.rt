@@ -1,11 +1,16 @@
 //! Laws of the places that allocation gives in its first form, without code: they serve, and with them the run is the
 //! directed run.
 
-ghost use Rattle.pw_run_languages.specs.PlacementLaws.{AllocationServes};
+ghost use Rattle.pw_run_languages.specs.PlacementLaws.{AllocationIsOne, AllocationServes};
 ghost use Rattle.pw_law_direction.specs.Laws.{FirstPlacesKeep, FirstPlacesRun, FirstPlacesServe, WithoutRegisters};
 
 use crate::directed::directed_runs_keep_registers;
 use crate::undirected::{no_webs_are_sound, webless_runs_keep_theirs};
+
+/// Allocation gives a function one answer.
+pub fn one_allocation()
+    ensures { AllocationIsOne }
+{}
 
 /// The places that allocation gives in its first form serve: no value is lost that is still needed, and exactly those
 /// registers are saved that the function changes and its callers may hold.

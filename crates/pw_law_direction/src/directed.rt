@@ -1,6 +1,6 @@
 //! Laws of the run of a program under directives, of that run alone, without code.
 
-ghost use Rattle.pw_law_direction.specs.DirectedLaws.{CallsAreOfTheGraph, DirectionRestsOnRuns, RegistersAreKept, StartIsNotCalled, TakenFunctionsAreFine, TrafficIsObeyed, ValuesAreFine};
+ghost use Rattle.pw_law_direction.specs.DirectedLaws.{CallsAreOfTheGraph, DirectionRestsOnRuns, OperationsCallByTheGraph, RegistersAreKept, StartIsNotCalled, TakenFunctionsAreFine, TrafficIsObeyed, ValuesAreFine};
 
 /// No value of a run under directives is a pointer, or a piece of one, to a function whose address nothing takes or to a
 /// global that a register may hold: neither in temporaries, registers and what is saved, nor in objects.
@@ -17,6 +17,12 @@ pub fn taken_functions_are_fine()
 /// No function of a lawful program calls `$start`, by its name or through a value.
 pub fn start_is_not_called()
     ensures { StartIsNotCalled }
+{}
+
+/// An operation of a function under directives enters another function only if it is a call, and then one that the graph says
+/// it calls, where the values of its temporaries are fine.
+pub fn operations_call_by_the_graph()
+    ensures { OperationsCallByTheGraph }
 {}
 
 /// Every call of a run under directives is a call of the program's graph: the active function calls by name what the graph
@@ -41,6 +47,7 @@ pub fn directed_runs_keep_registers()
 pub fn direction_rests_on_runs()
     ensures { DirectionRestsOnRuns }
 {
+    directed_calls_are_of_the_graph();
     directed_runs_keep_registers();
     directed_runs_obey_traffic();
 }

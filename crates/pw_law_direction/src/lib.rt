@@ -9,12 +9,12 @@ pub mod undirected;
 
 pub use allocation::{
     first_allocation_serves, first_places_keep, first_places_run, first_places_serve,
-    without_registers,
+    one_allocation, without_registers,
 };
 pub use directed::{
     directed_calls_are_of_the_graph, directed_runs_keep_registers, directed_runs_obey_traffic,
-    directed_values_are_fine, direction_rests_on_runs, start_is_not_called,
-    taken_functions_are_fine,
+    directed_values_are_fine, direction_rests_on_runs, operations_call_by_the_graph,
+    start_is_not_called, taken_functions_are_fine,
 };
 pub use side_by_side::{
     blocks_follow, calls_follow, direction_keeps, direction_refines, inside_follows,

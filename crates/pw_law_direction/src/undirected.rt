@@ -3,7 +3,8 @@
 ghost use Rattle.pw_law_direction.specs.UndirectedLaws.{EmptyDirectionKeeps, WeblessDirectionKeeps, WeblessIsSound};
 
 use crate::directed::{
-    directed_runs_keep_registers, directed_runs_obey_traffic, directed_values_are_fine,
+    directed_calls_are_of_the_graph, directed_runs_keep_registers, directed_runs_obey_traffic,
+    directed_values_are_fine,
 };
 use pw_db_sound::nothing_is_sound;
 
@@ -12,6 +13,7 @@ use pw_db_sound::nothing_is_sound;
 pub fn undirected_runs_keep_theirs()
     ensures { EmptyDirectionKeeps }
 {
+    directed_calls_are_of_the_graph();
     directed_runs_keep_registers();
     directed_runs_obey_traffic();
     directed_values_are_fine();
@@ -27,6 +29,7 @@ pub fn no_webs_are_sound()
 pub fn webless_runs_keep_theirs()
     ensures { WeblessDirectionKeeps }
 {
+    directed_calls_are_of_the_graph();
     directed_runs_keep_registers();
     directed_runs_obey_traffic();
     no_webs_are_sound();

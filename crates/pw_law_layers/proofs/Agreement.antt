@@ -80,18 +80,11 @@ source_to_machine p named source flows webs places lines machine a b c d e =
     (calls_refine (EventInWords p named) (words_kind p named) places lines d)
     (calls_in_time Same same_kind lines machine e)))) n)
 
--- from the source to the directed run, and to the run with places
+-- from the source to the directed run
 pub source_to_webs : (p : Program) (source : ℕ → Stage Moment) (flows : ℕ → Stage flow.Moment) (webs : ℕ → Stage (Event Byte Value))
     → Refines (MomentKept p) source flows → Refines (MomentAlike p) flows (calls_of webs)
     → Refines (Through (MomentKept p) (MomentAlike p)) source (calls_of webs)
 source_to_webs p source flows webs a b = refines_twice (MomentKept p) (MomentAlike p) source flows (calls_of webs) a b
-
-pub source_to_places : (p : Program) (source : ℕ → Stage Moment) (webs places : ℕ → Stage (Event Byte Value))
-    → Refines (Through (MomentKept p) (MomentAlike p)) source (calls_of webs) → Refines (EventAlike Same Same) webs places
-    → Refines (Through (Through (MomentKept p) (MomentAlike p)) (EventAlike Same Same)) source (calls_of places)
-source_to_places p source webs places a c =
-    refines_twice (Through (MomentKept p) (MomentAlike p)) (EventAlike Same Same) source (calls_of webs) (calls_of places) a
-    (calls_refine (EventAlike Same Same) places_kind webs places c)
 
 -- ---- without what is noted
 

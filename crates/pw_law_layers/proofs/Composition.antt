@@ -15,12 +15,13 @@ use Rattle.pw_run.specs.Runs.{Stage, Refines, Same, Through}
 use Rattle.pw_run_agreement.specs.Agreement.{Agree, IsDefined}
 use Rattle.pw_db_sound.specs.CallGraphs.{Graph}
 use Rattle.pw_run_languages.specs.Traces.{Event, EventAlike, calls_alone, calls_of, Notes, KeepRegisters}
+use Rattle.pw_run_languages.specs.Calls.{FollowsCalls}
 use Rattle.pw_run_languages.specs.Traffic.{ObeysTraffic}
 use Rattle.pw_run_languages.specs.Meeting.{MetWith}
 use Rattle.pw_run_languages.specs.Late.{RefinesLately}
-use Rattle.pw_run_languages.proofs.Meeting.{met_with, met_through, of_shown, carried}
+use Rattle.pw_run_languages.proofs.Meeting.{met_with, met_on, carried}
 use Rattle.pw_run_languages.proofs.Late.{late_same, carried_late, same_kind}
-use Rattle.pw_run_languages.proofs.Traffic.{traffic_alike}
+use Rattle.pw_run_languages.proofs.Traffic.{traffic_alike, follows_alike}
 use Rattle.pw_run_languages.specs.Programs.{Program}
 use Rattle.pw_run_languages.specs.FlowRun.{flow_run}
 use Rattle.pw_run_languages.specs.LawfulPrograms.{graph_of}
@@ -34,10 +35,11 @@ use Rattle.pw_run_languages.specs.LinkingLaws.{LinkKeeps, address_of, frame_in, 
 use Rattle.pw_law_layers.specs.Source.{source_stages, source_runs}
 use Rattle.pw_law_layers.specs.Lowering.{MomentKept}
 use Rattle.pw_law_layers.specs.Whole.{InMachine, image_of, program_of, LayersHold, LayersCompose}
+use Rattle.pw_law_layers.specs.Guarding.{SoundDirectivesGuard}
 use Rattle.pw_law_layers.specs.Rooms.{MapHasFrames}
 use Rattle.pw_law_layers.proofs.Fitting.{places_fit}
 use Rattle.pw_law_layers.proofs.Starts.{starts, start_fits}
-use Rattle.pw_law_layers.proofs.Agreement.{source_to_machine, source_to_webs, source_to_places, agrees, places_kind, words_kind}
+use Rattle.pw_law_layers.proofs.Agreement.{source_to_machine, source_to_webs, agrees, places_kind, words_kind}
 use Rattle.pw_law_layers.proofs.Noted.{defined_notes, registers_closed, traffic_closed, same_logs, same_kinds}
 
 -- what the lines note of registers holds of the machine
@@ -45,6 +47,13 @@ registers_down : (d : List (List ℕ × Directives)) (s : Stage Moment) (lines m
     → RefinesLately Same lines machine → MetWith (KeepRegisters d) s lines → MetWith (KeepRegisters d) s machine
 registers_down d s lines machine r m =
     carried_late Same (KeepRegisters d) (KeepRegisters d) (λ l k a h. subst (KeepRegisters d) (same_logs l k a) h) (λ e l h. h.1) s lines machine r m
+
+-- what the directed run notes of calls holds of the placed run
+calls_down : (g : Graph) (s : Stage Moment) (webs places : ℕ → Stage (Event Byte Value)) → Refines (EventAlike Same Same) webs places
+    → MetWith (FollowsCalls g) s webs → MetWith (FollowsCalls g) s places
+calls_down g s webs places a m =
+    carried (EventAlike Same Same) (FollowsCalls g) (FollowsCalls g)
+    (λ l k q. follows_alike g l k (same_kinds (EventAlike Same Same) places_kind l k q)) s webs places a m
 
 -- what the directed run notes of traffic holds of the machine
 traffic_down : (p : Program) (named : List ℕ → ℕ) (g : Graph) (d : List (List ℕ × Directives)) (s : Stage Moment)
@@ -88,14 +97,14 @@ whole p q d functions v frame_of stack input l words =
     let all = source_to_machine q (address_of v) source (flow_run q input) webs places lines machine
     l.low l.direction.runs l.places.runs words down in
     let to_webs = source_to_webs q source (flow_run q input) webs l.low l.direction.runs in
-    let to_places = source_to_places q source webs places to_webs l.places.runs in
     record {
       agree = agrees p frame_of stack input q (address_of v) (map_of q functions v) (image_start v.memory) all;
       places = all;
       registers = λ defined n. defined_notes (KeepRegisters d) (registers_closed d) p frame_of stack input (map_of q functions v) (image_start v.memory) defined
           (λ k. registers_down d (source k) lines machine down
-          (met_through (Through (Through (MomentKept q) (MomentAlike q)) (EventAlike Same Same)) (KeepRegisters d) (source k) (calls_of places) lines
-          (to_places k) (λ j. of_shown (KeepRegisters d) calls_alone (places j) lines (l.selection.registers j)))) n;
+          (met_on (FollowsCalls (graph_of q)) (KeepRegisters d) (source k) places lines
+          (calls_down (graph_of q) (source k) webs places l.places.runs
+          (met_with (Through (MomentKept q) (MomentAlike q)) (FollowsCalls (graph_of q)) calls_alone (source k) webs l.direction.calls (to_webs k))) l.selection.registers)) n;
       traffic = λ defined n. defined_notes (ObeysTraffic (graph_of q) d) (traffic_closed (graph_of q) d) p frame_of stack input (map_of q functions v) (image_start v.memory) defined
           (λ k. traffic_down q (address_of v) (graph_of q) d (source k) webs places lines machine l.places.runs words down
           (met_with (Through (MomentKept q) (MomentAlike q)) (ObeysTraffic (graph_of q) d) calls_alone (source k) webs l.direction.traffic (to_webs k))) n;
@@ -106,13 +115,13 @@ holds p d functions objects stack input l =
     let q = program_of p objects stack in
     let v = image_of objects stack in
     let h = whole p q d functions v (frame_in v) stack input
-    (record { low = l.lowering; direction = l.direction; places = l.places; link = l.linking; selection = l.selection; placement = l.placement })
+    (record { low = l.lowering; direction = l.direction; places = l.places; link = l.linking; selection = l.selection; placement = l.placement.runs })
     (subst (λ named. Refines (EventInWords q named) (placed_run (with_functions q functions) input) (line_run (line_program q functions) l.linking.addresses l.linking.scratch input)) l.linking.named l.selection.runs) in
     record { agree = h.agree; places = h.places; registers = h.registers; traffic = h.traffic }
 
 -- by the laws on the map and on placement
-pub composes : MapHasFrames → PlacementKeepsRuns → LayersHold → LayersCompose
-composes map placement hold low selection link p d functions objects stack input built bytes direction places =
+pub composes : MapHasFrames → PlacementKeepsRuns → SoundDirectivesGuard → LayersHold → LayersCompose
+composes map placement guard hold low selection link p d functions objects stack input built bytes direction places =
     let q = program_of p objects stack in
     let v = image_of objects stack in
     let program = built.accepted.program in
@@ -128,6 +137,6 @@ composes map placement hold low selection link p d functions objects stack input
       direction = direction;
       places = places;
       linking = l;
-      selection = selection q d functions l.addresses l.scratch input program built.database built.sound built.serve frames start l.lawful bytes;
+      selection = selection q d functions l.addresses l.scratch input program built.database.directives (guard q d functions built.database built.sound built.serve) built.serve frames start l.lawful bytes;
       placement = placement q d functions l.addresses l.scratch input program built.database built.serve frames start l.lawful bytes;
     })

@@ -25,7 +25,7 @@ use Rattle.pw_alloc.specs.declared.located.Place.TheVariants.{Slot, Reg}
 use Rattle.pw_alloc.specs.declared.located.Located.{Located}
 use Rattle.pw_alloc.specs.Frames.{argument_count, most_arguments, ops_of, slots_begin}
 use Rattle.pw_alloc.proofs.RoomLaws.{reach_of_sizes}
-use Rattle.pw_run_languages.specs.Serving.{slots_alone, Changes, places, enters, Serves}
+use Rattle.pw_run_languages.specs.Serving.{slots_alone, Changes, places, enters, saves, Serves}
 use Rattle.pw_law_layers.specs.Rooms.{PlacesFit}
 use Rattle.pw_law_layers.proofs.Frames.{first_there, map_there}
 
@@ -50,7 +50,8 @@ few_registers (x ∷ rs) low within rise =
 saved_within : (f : FlowFn) (d : Directives) (l : Located) → IsDirectives d → Serves (directed f d) l
     → (r : ℕ) → Changes (directed f d) l r → (first_register ≤ r) × (r ≤ last_register)
 unfolding directed
-saved_within f d l lawful s r (places c high) = (((s.registers r c).0).low, high)
+saved_within f d l lawful s r (places c high unfree) = (((s.registers r c).0).low, high)
+saved_within f d l lawful s r (saves c) = absurd (let none : c.0 < 0 = c.1 in omega (arith, none))
 saved_within f d l lawful s r (enters has) =
     let web : IsWeb has.web = All-contains IsWeb (map (λ w. w.0) d.webs) has.web
     (All-from_recursion IsWeb (map (λ w. w.0) d.webs) lawful.each)

@@ -51,12 +51,12 @@ map_there h (y ∷ ys) x c = elim (Contains-append_cases (y ∷ []) ys x c) [
 
 -- ---- the place of each function
 
-record Served (f : WebFn) (ls : List Located) : Type 0 where
-  located : Located
-  there : Contains ls located
-  serves : Serves f located
+pub record Served (f : WebFn) (ls : List Located) : Type 0 where
+  pub located : Located
+  pub there : Contains ls located
+  pub serves : Serves f located
 
-served : (g : FlowFn → WebFn) (fs : List FlowFn) (ls : List Located) (f : FlowFn) → AllServe (map g fs) ls → Contains fs f → Served (g f) ls
+pub served : (g : FlowFn → WebFn) (fs : List FlowFn) (ls : List Located) (f : FlowFn) → AllServe (map g fs) ls → Contains fs f → Served (g f) ls
 served g [] ls f s c = absurd (nowhere f c)
 served g (h ∷ fs) [] f s c = absurd s
 served g (h ∷ fs) (l ∷ ls) f s c = elim (Contains-append_cases (h ∷ []) fs f c) [

@@ -40,8 +40,7 @@ use Rattle.pw_run_languages.specs.Standing.{pointer_address, byte_of, EventInWor
 use Rattle.pw_run_languages.specs.LinkingLaws.{AreObjectsOf, AreNamesApart, address_of, frame_in, image_run}
 use Rattle.pw_law_layers.specs.Source.{source_stages, source_runs}
 use Rattle.pw_run_languages.specs.PlacementLaws.{DirectionKeeps, PlacesKeep}
-use Rattle.pw_run_languages.specs.LineRun.{line_run}
-use Rattle.pw_run_languages.specs.SelectionLaws.{line_program, placed_program, SelectionKeeps, SelectionKeepsRuns}
+use Rattle.pw_run_languages.specs.SelectionLaws.{SelectionKeeps, SelectionKeepsRuns, PlacementKeeps}
 use Rattle.pw_run_languages.specs.LinkingLaws.{LinkKeeps, LinkKeepsRuns}
 use Rattle.pw_law_layers.specs.Lowering.{MomentKept, flow_program, IsAccepted, AreChecked, HaveParts, LoweringKeepsRuns}
 
@@ -144,9 +143,7 @@ pub record LayersKeep (p : Program) (d : List (List ℕ × Directives)) (functio
   pub places : PlacesKeep (program_of p objects stack) d functions input
   pub linking : LinkKeeps (program_of p objects stack) functions (image_of objects stack) input
   pub selection : SelectionKeeps (program_of p objects stack) d functions linking.addresses linking.scratch input
-  pub placement : RefinesLately Same
-      (line_run (line_program (program_of p objects stack) functions) linking.addresses linking.scratch input)
-      (line_run (placed_program (program_of p objects stack) functions) linking.addresses linking.scratch input)
+  pub placement : PlacementKeeps (program_of p objects stack) functions linking.addresses linking.scratch input
 
 -- each frame is at most its function's room
 pub record FramesFit (p : Program) (v : Image) : Type 0 where

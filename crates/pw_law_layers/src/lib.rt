@@ -1,9 +1,11 @@
 //! The main law from C to words, without code: the laws of all layers give the agreement of source and machine.
 #![tactic(auto)]
 
+ghost use Rattle.pw_law_layers.specs.Guarding.{SoundDirectivesGuard};
 ghost use Rattle.pw_law_layers.specs.Rooms.{PlacesFit, MapHasFrames};
 ghost use Rattle.pw_law_layers.specs.Whole.{LayersCompose, LayersHold, AllFramesFit, RefinementGoesThrough};
 
+use pw_db_sound::callers_leave_free_registers_alone;
 use pw_law_code::code::placement_keeps_runs;
 use pw_law_link::laws::modules_stand_in_order;
 use pw_law_lower::frames_fit;
@@ -26,6 +28,14 @@ pub fn maps_have_frames()
     modules_stand_in_order();
 }
 
+/// Under sound directives a register that a function may leave with something else in it, each of its callers may leave so
+/// too, or saves.
+pub fn sound_directives_guard()
+    ensures { SoundDirectivesGuard }
+{
+    callers_leave_free_registers_alone();
+}
+
 /// From what the layers keep of one program, with its directives and its places, follows: the source agrees with the
 /// machine; each global has its value in its place at each call and return; and where the source is defined, each return
 /// keeps the registers, and the traffic law holds.
@@ -40,6 +50,7 @@ pub fn layers_compose()
 {
     maps_have_frames();
     placement_keeps_runs();
+    sound_directives_guard();
     layers_hold();
 }
 

@@ -2,37 +2,38 @@
 use Rattle.std.specs.Prelude.{ℕ, suc, ◌≡◌, ◌≢◌, ◌+◌, ◌*◌, ◌%◌, ◌^◌, ◌≤◌, ◌==◌, Bool, true, false, if◌then◌else◌, Option, Some, None, List, [], ◌∷◌, ◌++◌, map, find, Contains, length}
 use Rattle.std.specs.List.{AllByRecursion}
 use Rattle.std.specs.Str.{bytes_eq}
-use Rattle.std.specs.Int.Bits.{or_zero_r}
 use Rattle.std.proofs.Common.{arith, subst, sym, ap, refl, ◌∙◌}
 use Rattle.std.proofs.lemmas.Bool.{eq-eqb, eqb-true}
 use Rattle.std.proofs.lemmas.Slice.Eq.{bytes_eq-Decides}
 use Rattle.pw_value.specs.ProgramNames.{exit_name, getchar_name, putchar_name, library_functions}
-use Rattle.pw_inst.specs.declared.Inst.TheVariants.{Or, Bl, Ble, Break}
+use Rattle.pw_inst.specs.declared.Inst.TheVariants.{Bl, Ble, Break}
 use Rattle.pw_inst.specs.declared.relocation.Symbol.TheVariants as symbol
 use Rattle.pw_machine.specs.declared.ends.End.TheVariants as machine_end
 use Rattle.pw_machine.specs.Effect as machine
+use Rattle.pw_delay.specs.declared.items.Word.{Word}
 use Rattle.pw_delay.specs.declared.items.Turn.TheVariants.{CallTo, CallReg}
 use Rattle.pw_delay.specs.declared.items.Item.{Item}
 use Rattle.pw_delay.specs.declared.items.Item.TheVariants.{Turns}
-use Rattle.pw_delay.specs.Items.{link_moved}
 use Rattle.pw_run.specs.Runs.{End, Ended}
-use Rattle.pw_run_languages.specs.Traces.{Called as CalledEvent}
+use Rattle.pw_run_languages.specs.Traces.{Event, Called as CalledEvent}
 use Rattle.pw_run_languages.specs.Programs.{Library, GetChar, PutChar, Exit, library_at}
 use Rattle.pw_run_languages.specs.Acts as lines
-use Rattle.pw_run_languages.specs.Acts.{Acts, acts, settled, symbol_address}
-use Rattle.pw_run_languages.specs.LineRun.{LineFn, Machine, Step, On, Stopped, Astray, kept, left_behind, linked, return_address, notes_call, does, went_on, and_then, through_slot, function_named, function_at, calls, calls_at, library, enters}
-use Rattle.pw_law_link_run.specs.Steps.{Setting, At, Arrives, with_call, AreInData}
+use Rattle.pw_run_languages.specs.Acts.{settled, symbol_address}
+use Rattle.pw_run_languages.specs.LineRun.{LineFn, Machine, Step, On, Stopped, Astray, kept, left_behind, linked, return_address, notes_call, through_slot, function_named, function_at, calls, calls_at, library, enters}
+use Rattle.pw_law_link_run.specs.Steps.{Setting, At, Arrives, with_call, with_accesses, AreInData}
 use Rattle.pw_law_link_run.specs.Placing.{name_in, own_address}
 use Rattle.pw_law_link_run.specs.Simulating.{calls_from, noted_by, IsLinked, IsCaller, Simulates, IsCalm, IsCalmInside, HasAsking, HasLibrary, IsHigh}
-use Rattle.pw_law_link_run.specs.Meeting.{RunsTo, EndsSo, Meets, end_as}
-use Rattle.pw_law_link_run.proofs.Noting.{enters_at, no_accesses}
+use Rattle.pw_law_link_run.specs.Slots.{SlotDoes, behind_slot}
+use Rattle.pw_law_link_run.specs.Meeting.{RunsTo, EndsSo, Meets, end_as, IsHighBehind}
+use Rattle.pw_law_link_run.proofs.Noting.{high_none, enters_at}
 use Rattle.pw_law_link_run.proofs.Stepping.{starts_at, halts_at_front}
 use Rattle.pw_law_link_run.proofs.Words.{read}
 use Rattle.pw_law_link_run.proofs.Placed.{left_stands}
 use Rattle.pw_law_link_run.proofs.Turning.{text_small, jump_turn, value_turn}
-use Rattle.pw_law_link_run.proofs.Items.{turn_at, inside_at, on_same}
+use Rattle.pw_law_link_run.proofs.Items.{left_fit, turn_at, inside_at, on_same}
+use Rattle.pw_law_link_run.proofs.Slots.{slot_goes, slot_runs}
 use Rattle.pw_law_link_run.proofs.Calls.{globals_are, enters_simulates, called_from}
-use Rattle.pw_law_link_run.proofs.Library.{Asks, high_none, name_of_library, library_simulates}
+use Rattle.pw_law_link_run.proofs.Library.{Asks, name_of_library, library_simulates}
 
 -- ---- what is found
 
@@ -157,97 +158,81 @@ some_same : (a b : ℕ) → Some a ≡ Some b → a ≡ b
 some_same a b e = cc
 
 -- the state at the turn, and the one behind its branch
-abbrev pub calling : Machine → List ℕ → List Item → Machine
-calling m f rest = left_behind (Turns (CallTo (symbol.Named f) 2) None ∷ rest) m
+abbrev pub calling : Machine → List ℕ → Option Word → List Item → Machine
+calling m f slot rest = left_behind (Turns (CallTo (symbol.Named f) 2) slot ∷ rest) m
 
 abbrev pub after_call : Setting → Machine → List Item → Machine
 after_call x m rest = linked 2 (return_address x.addresses m.frame rest) (left_behind rest m)
 
-pub call_turn : (x : Setting) → IsLinked x → (k : ℕ) (m : Machine) (f : List ℕ) (rest : List Item) → Simulates x (calling m f rest) k → m.core.skip ≡ false
-    → IsCalmInside x (calling m f rest) 2 → IsHigh x (calling m f rest) → AreInData x (calls_from x m.frame m.callers)
-    → Called x (after_call x m rest) (suc (suc k)) (x.addresses.named f)
-call_turn x l k m f rest h run inside high saved =
+pub call_turn : (x : Setting) → IsLinked x → (k : ℕ) (m : Machine) (f : List ℕ) (slot : Option Word) (rest : List Item) (d : lines.Core) (es : List (Event ℕ ℕ))
+    → Simulates x (calling m f slot rest) k → m.core.skip ≡ false → IsCalmInside x (calling m f slot rest) 2 → AreInData x (calls_from x m.frame m.callers)
+    → SlotDoes x slot (after_call x m rest).core d es → IsHigh x (behind_slot d es m) → lines.register d 2 ≡ return_address x.addresses m.frame rest
+    → Called x (behind_slot d es (after_call x m rest)) (suc (suc k)) (x.addresses.named f)
+call_turn x l k m f slot rest d es h run inside saved does high link =
     let fn = m.frame.function in
     let a = h.address in
-    let item = Turns (CallTo (symbol.Named f) 2) None in
+    let item = Turns (CallTo (symbol.Named f) 2) slot in
     let stands = left_stands x fn (l.stands fn h.there) (item ∷ rest) a h.left in
+    let fit = (left_fit x l fn h.there (item ∷ rest) a h.left).0.1 in
     let symbol_is = stands.0.0 in
     let to = return_address x.addresses m.frame rest in
     let back : to ≡ a + 8 = stands.0.2 in
     let target : x.addresses.named f ≡ symbol_is.target = some_same (x.addresses.named f) symbol_is.target symbol_is.is in
-    let n = noted_by x (calling m f rest) in
+    let n = noted_by x m in
     let c = m.core in
     let turn = turn_at x l fn h.there item rest a (Bl symbol_is.jumps.displacement 2 false) h.left (omega arith) symbol_is.jumps.is in
     let quiet = inside_at x m (item ∷ rest) 2 a 1 (a + 4) inside h.left (omega arith) (omega arith) (omega arith) in
-    let arrives = jump_turn x k c a symbol_is.target 2 symbol_is.jumps.displacement m.rest m.out n l.setting l.few h.at turn symbol_is.jumps.leads (omega arith) stands.0.1 run run
-    (record { returns = quiet.returns; enters = quiet.enters }) in
-    let linked_to = subst (λ v. Arrives x (suc (suc k)) (lines.with_register 2 v c) symbol_is.target ((symbol_is.target + 4) % 2 ^ 32) m.rest m.out n) (sym back) arrives in
+    let arrives = jump_turn x k c d a symbol_is.target 2 symbol_is.jumps.displacement m.rest m.out n slot es l.setting l.few h.at turn symbol_is.jumps.leads (omega arith) stands.0.1 fit run run
+    (record { returns = quiet.returns; enters = quiet.enters }) (subst (λ v. SlotDoes x slot (lines.with_register 2 v c) d es) back does) in
     let behind : to ≡ a + 4 * 2 = omega (arith, back) in
     record {
       caller = called_from x m item rest h.there a h.left tt behind;
       callers = h.callers;
-      link = refl;
-      run = run;
+      link = link;
+      run = slot_runs x slot (after_call x m rest).core d es fit run does;
       count = omega (arith, h.events);
       read = h.read;
-      at = subst (λ v. Arrives x (suc (suc k)) (lines.with_register 2 to c) v ((v + 4) % 2 ^ 32) m.rest m.out n) (sym target) linked_to;
+      at = subst (λ v. Arrives x (suc (suc k)) d v ((v + 4) % 2 ^ 32) m.rest m.out (with_accesses es n)) (sym target) arrives;
       high = high;
       saved = saved;
     }
 
 -- ---- a call through a register
 
--- the state behind the branch, and behind its slot
+-- the state behind the branch
 abbrev pub branched : Setting → Machine → List Item → Machine
 branched x m rest = linked 31 (return_address x.addresses m.frame rest) (left_behind rest m)
 
-abbrev pub after_value : Setting → Machine → List Item → Machine
-after_value x m rest = linked 2 (return_address x.addresses m.frame rest) (branched x m rest)
+abbrev pub calling_value : Machine → Option Word → List Item → Machine
+calling_value m slot rest = left_behind (Turns CallReg slot ∷ rest) m
 
-moves_link : (x : Setting) (c : lines.Core) (to : ℕ) → c.skip ≡ false
-    → acts x.addresses (Some (Or 31 0 2)) (lines.with_register 31 to c) ≡ Acts (lines.with_register 2 to (lines.with_register 31 to c))
-moves_link x c to run =
-    let d = lines.with_register 31 to c in
-    ap (λ (b : Bool). if b then Acts (record d { skip = false }) else lines.executed x.addresses (Or 31 0 2) d) run
-    ∙ ap (λ v. Acts (lines.with_register 2 v d)) (or_zero_r to)
-
-pub slot_does : (x : Setting) (m : Machine) (rest : List Item) → m.core.skip ≡ false → does x.program x.addresses link_moved (branched x m rest) ≡ On (after_value x m rest)
-slot_does x m rest run =
-    let to = return_address x.addresses m.frame rest in
-    let s = branched x m rest in
-    ap (λ a. went_on x.program x.addresses (Some (Or 31 0 2)) a s) (moves_link x m.core to run)
-    ∙ ap (λ es. On (record s { core = lines.with_register 2 to s.core; trace = es ++ s.trace })) (no_accesses x s.core (Or 31 0 2) refl refl)
-
-abbrev pub calling_value : Machine → List Item → Machine
-calling_value m rest = left_behind (Turns CallReg (Some link_moved) ∷ rest) m
-
-value_called : (x : Setting) → IsLinked x → (k target : ℕ) (m : Machine) (rest : List Item) → Simulates x (calling_value m rest) k → m.core.skip ≡ false
-    → IsCalmInside x (calling_value m rest) 2 → IsHigh x (calling_value m rest) → AreInData x (calls_from x m.frame m.callers)
-    → lines.register m.core 22 ≡ target → Called x (after_value x m rest) (suc (suc k)) target
-value_called x l k target m rest h run inside high saved there =
+value_called : (x : Setting) → IsLinked x → (k target : ℕ) (m : Machine) (slot : Option Word) (rest : List Item) (d : lines.Core) (es : List (Event ℕ ℕ))
+    → Simulates x (calling_value m slot rest) k → m.core.skip ≡ false → IsCalmInside x (calling_value m slot rest) 2 → AreInData x (calls_from x m.frame m.callers)
+    → SlotDoes x slot (branched x m rest).core d es → IsHigh x (behind_slot d es m) → lines.register m.core 22 ≡ target
+    → lines.register d 2 ≡ return_address x.addresses m.frame rest → Called x (behind_slot d es (branched x m rest)) (suc (suc k)) target
+value_called x l k target m slot rest d es h run inside saved does high there link =
     let fn = m.frame.function in
     let a = h.address in
-    let item = Turns CallReg (Some link_moved) in
+    let item = Turns CallReg slot in
     let stands = left_stands x fn (l.stands fn h.there) (item ∷ rest) a h.left in
+    let fit = (left_fit x l fn h.there (item ∷ rest) a h.left).0 in
     let to = return_address x.addresses m.frame rest in
     let back : to ≡ a + 8 = stands.0.2 in
-    let n = noted_by x (calling_value m rest) in
+    let n = noted_by x m in
     let c = m.core in
-    let e = lines.with_register 2 to (lines.with_register 31 to c) in
     let turn = turn_at x l fn h.there item rest a (Ble 22 false) h.left (omega arith) stands.0.0 in
     let quiet = inside_at x m (item ∷ rest) 2 a 1 (a + 4) inside h.left (omega arith) (omega arith) (omega arith) in
-    let act : acts x.addresses (Some (Or 31 0 2)) (lines.with_register 31 (a + 8) c) ≡ Acts e =
-    subst (λ v. acts x.addresses (Some (Or 31 0 2)) (lines.with_register 31 v c) ≡ Acts e) back (moves_link x c to run) in
-    let arrives = value_turn x k c e a m.rest m.out n l.setting l.few h.at turn stands.0.1 act run (record { returns = quiet.returns; enters = quiet.enters }) in
+    let arrives = value_turn x k c d a m.rest m.out n slot es l.setting l.few h.at turn stands.0.1 fit run (record { returns = quiet.returns; enters = quiet.enters })
+    (subst (λ v. SlotDoes x slot (lines.with_register 31 v c) d es) back does) in
     let behind : to ≡ a + 4 * 2 = omega (arith, back) in
     record {
       caller = called_from x m item rest h.there a h.left tt behind;
       callers = h.callers;
-      link = refl;
-      run = run;
+      link = link;
+      run = slot_runs x slot (branched x m rest).core d es fit run does;
       count = omega (arith, h.events);
       read = h.read;
-      at = subst (λ v. Arrives x (suc (suc k)) e v ((v + 4) % 2 ^ 32) m.rest m.out n) there arrives;
+      at = subst (λ v. Arrives x (suc (suc k)) d v ((v + 4) % 2 ^ 32) m.rest m.out (with_accesses es n)) there arrives;
       high = high;
       saved = saved;
     }
@@ -296,37 +281,71 @@ called_ends x l lib k m t f end (Some g) d is h e =
 called_ends x l lib k m t f end None (Some g) is h e = absurd cc
 called_ends x l lib k m t f end None None is h e = absurd cc
 
--- by what a call comes to
-pub calls_meet : (x : Setting) → IsLinked x → HasLibrary x → (k to : ℕ) (m : Machine) (f : List ℕ) (s : Step) → lines.register m.core 2 ≡ to
+-- by what a call comes to, where its return address stands in register 2
+calls_linked : (x : Setting) → IsLinked x → HasLibrary x → (k to : ℕ) (m : Machine) (f : List ℕ) (s : Step) → lines.register m.core 2 ≡ to
     → Called x m k (x.addresses.named f) → calls x.program x.addresses to f m ≡ s → ((t : Machine) → s ≡ On t → library_at f ≢ None → IsCalm x t) → Meets x s
-calls_meet x l lib k to m f (On t) link h e calm = calls_there x l lib k to m t f link h e (calm t refl)
-calls_meet x l lib k to m f (Stopped end t) link h e calm =
+calls_linked x l lib k to m f (On t) link h e calm = calls_there x l lib k to m t f link h e (calm t refl)
+calls_linked x l lib k to m f (Stopped end t) link h e calm =
     called_ends x l lib k m t f end (library_at f) (function_named x.program f) refl h
     (sym (calls_are x m to f (library_at f) (function_named x.program f) refl refl link) ∙ e)
-calls_meet x l lib k to m f Astray link h e calm = tt
+calls_linked x l lib k to m f Astray link h e calm = tt
 
--- ---- through a register
+-- and where it does not, the lines go astray
+pub calls_astray : (x : Setting) (to : ℕ) (m : Machine) (f : List ℕ) → (lines.register m.core 2 == to) ≡ false → calls x.program x.addresses to f m ≡ Astray
+calls_astray x to m f is = rw is refl
 
-value_by : (x : Setting) → IsLinked x → HasLibrary x → (k : ℕ) (m : Machine) (rest : List Item) (s : Step) (o : Option (List ℕ))
-    → function_at x.program x.addresses (lines.register m.core 22) ≡ o → Simulates x (calling_value m rest) k → m.core.skip ≡ false
-    → calls_at x.program x.addresses (return_address x.addresses m.frame rest) o (after_value x m rest) ≡ s
-    → IsCalmInside x (calling_value m rest) 2 → IsHigh x (calling_value m rest) → AreInData x (calls_from x m.frame m.callers)
-    → ((t : Machine) → s ≡ On t → (f : List ℕ) → o ≡ Some f → library_at f ≢ None → IsCalm x t) → Meets x s
-value_by x l lib k m rest s None is h run e inside high saved calm = subst (λ s. Meets x s) e tt
-value_by x l lib k m rest s (Some f) is h run e inside high saved calm =
+pub calls_meet : (x : Setting) → IsLinked x → HasLibrary x → (k to : ℕ) (m : Machine) (f : List ℕ) → (lines.register m.core 2 ≡ to → Called x m k (x.addresses.named f))
+    → ((t : Machine) → calls x.program x.addresses to f m ≡ On t → library_at f ≢ None → IsCalm x t) → Meets x (calls x.program x.addresses to f m)
+calls_meet x l lib k to m f h calm = by (lines.register m.core 2 == to) refl
+  where
+    by : (b : Bool) → (lines.register m.core 2 == to) ≡ b → Meets x (calls x.program x.addresses to f m)
+    by true is =
+        let link = eqb-true (lines.register m.core 2) to is in
+        calls_linked x l lib k to m f (calls x.program x.addresses to f m) link (h link) refl calm
+    by false is = subst (λ s. Meets x s) (sym (calls_astray x to m f is)) tt
+
+-- ---- the turns
+
+-- by the state behind the slot
+pub named_meets : (x : Setting) → IsLinked x → HasLibrary x → (k : ℕ) (m : Machine) (f : List ℕ) (slot : Option Word) (rest : List Item)
+    → Simulates x (calling m f slot rest) k → m.core.skip ≡ false → IsCalmInside x (calling m f slot rest) 2 → AreInData x (calls_from x m.frame m.callers)
+    → IsHighBehind x m (Turns (CallTo (symbol.Named f) 2) slot)
+    → ((t : Machine) → through_slot x.program x.addresses slot (calls x.program x.addresses (return_address x.addresses m.frame rest) f) (after_call x m rest) ≡ On t → library_at f ≢ None → IsCalm x t)
+    → Meets x (through_slot x.program x.addresses slot (calls x.program x.addresses (return_address x.addresses m.frame rest) f) (after_call x m rest))
+named_meets x l lib k m f slot rest h run inside saved high calm =
+    let fn = m.frame.function in
+    let to = return_address x.addresses m.frame rest in
+    let fit = (left_fit x l fn h.there (Turns (CallTo (symbol.Named f) 2) slot ∷ rest) h.address h.left).0.1 in
+    slot_goes x slot (after_call x m rest) (calls x.program x.addresses to f) (λ s. ((t : Machine) → s ≡ On t → library_at f ≢ None → IsCalm x t) → Meets x s) fit run (λ calm. tt)
+    (λ d es does calm.
+    calls_meet x l lib (suc (suc k)) to (behind_slot d es (after_call x m rest)) f
+    (λ link. call_turn x l k m f slot rest d es h run inside saved does (high to d es does) link) calm) calm
+
+-- what is called by what stands at the address in register 22
+value_by : (x : Setting) → IsLinked x → HasLibrary x → (k : ℕ) (m : Machine) (slot : Option Word) (rest : List Item) (o : Option (List ℕ)) (d : lines.Core) (es : List (Event ℕ ℕ))
+    → function_at x.program x.addresses (lines.register m.core 22) ≡ o → Simulates x (calling_value m slot rest) k → m.core.skip ≡ false → IsCalmInside x (calling_value m slot rest) 2
+    → AreInData x (calls_from x m.frame m.callers) → IsHighBehind x m (Turns CallReg slot) → SlotDoes x slot (branched x m rest).core d es
+    → ((t : Machine) → calls_at x.program x.addresses (return_address x.addresses m.frame rest) o (behind_slot d es (branched x m rest)) ≡ On t → (f : List ℕ) → o ≡ Some f → library_at f ≢ None → IsCalm x t)
+    → Meets x (calls_at x.program x.addresses (return_address x.addresses m.frame rest) o (behind_slot d es (branched x m rest)))
+value_by x l lib k m slot rest None d es is h run inside saved high does calm = tt
+value_by x l lib k m slot rest (Some f) d es is h run inside saved high does calm =
+    let to = return_address x.addresses m.frame rest in
     let found = finds (λ f. x.addresses.named f == lines.register m.core 22) (library_functions ++ map (λ f. f.located.body.name) x.program.functions) f is in
     let target : lines.register m.core 22 ≡ x.addresses.named f = sym (eqb-true (x.addresses.named f) (lines.register m.core 22) found.passes) in
-    calls_meet x l lib (suc (suc k)) (return_address x.addresses m.frame rest) (after_value x m rest) f s refl
-    (value_called x l k (x.addresses.named f) m rest h run inside high saved target) e (λ t same. calm t same f refl)
+    calls_meet x l lib (suc (suc k)) to (behind_slot d es (branched x m rest)) f
+    (λ link. value_called x l k (x.addresses.named f) m slot rest d es h run inside saved does (high to d es does) target link) (λ t same. calm t same f refl)
 
--- the turn with the word in its slot
-pub values_meet : (x : Setting) → IsLinked x → HasLibrary x → (k : ℕ) (m : Machine) (rest : List Item) (s : Step) → Simulates x (calling_value m rest) k → m.core.skip ≡ false
-    → through_slot x.program x.addresses (Some link_moved)
-    (calls_at x.program x.addresses (return_address x.addresses m.frame rest) (function_at x.program x.addresses (lines.register m.core 22))) (branched x m rest) ≡ s
-    → IsCalmInside x (calling_value m rest) 2 → IsHigh x (calling_value m rest) → AreInData x (calls_from x m.frame m.callers)
-    → ((t : Machine) → s ≡ On t → (f : List ℕ) → function_at x.program x.addresses (lines.register m.core 22) ≡ Some f → library_at f ≢ None → IsCalm x t) → Meets x s
-values_meet x l lib k m rest s h run e inside high saved calm =
-    let next = calls_at x.program x.addresses (return_address x.addresses m.frame rest) (function_at x.program x.addresses (lines.register m.core 22)) in
-    value_by x l lib k m rest s (function_at x.program x.addresses (lines.register m.core 22)) refl h run
-    (sym (ap (λ s. and_then s next) (slot_does x m rest run)) ∙ e)
-    inside high saved calm
+pub values_meet : (x : Setting) → IsLinked x → HasLibrary x → (k : ℕ) (m : Machine) (slot : Option Word) (rest : List Item)
+    → Simulates x (calling_value m slot rest) k → m.core.skip ≡ false → IsCalmInside x (calling_value m slot rest) 2 → AreInData x (calls_from x m.frame m.callers)
+    → IsHighBehind x m (Turns CallReg slot)
+    → ((t : Machine) → through_slot x.program x.addresses slot
+    (calls_at x.program x.addresses (return_address x.addresses m.frame rest) (function_at x.program x.addresses (lines.register m.core 22))) (branched x m rest) ≡ On t
+    → (f : List ℕ) → function_at x.program x.addresses (lines.register m.core 22) ≡ Some f → library_at f ≢ None → IsCalm x t)
+    → Meets x (through_slot x.program x.addresses slot
+    (calls_at x.program x.addresses (return_address x.addresses m.frame rest) (function_at x.program x.addresses (lines.register m.core 22))) (branched x m rest))
+values_meet x l lib k m slot rest h run inside saved high calm =
+    let o = function_at x.program x.addresses (lines.register m.core 22) in
+    let next = calls_at x.program x.addresses (return_address x.addresses m.frame rest) o in
+    let fit = (left_fit x l m.frame.function h.there (Turns CallReg slot ∷ rest) h.address h.left).0 in
+    slot_goes x slot (branched x m rest) next (λ s. ((t : Machine) → s ≡ On t → (f : List ℕ) → o ≡ Some f → library_at f ≢ None → IsCalm x t) → Meets x s) fit run (λ calm. tt)
+    (λ d es does calm. value_by x l lib k m slot rest o d es refl h run inside saved high does calm) calm

@@ -1,5 +1,5 @@
 -- Lines that words can be made of, with the links of the calling convention, are items that fit.
-use Rattle.std.specs.Prelude.{ℕ, pos, ◌≡◌, ◌+◌, ◌/◌, ◌%◌, ◌^◌, ◌<◌, Bool, true, false, if◌then◌else◌, Option, Some, None, List, [], ◌∷◌}
+use Rattle.std.specs.Prelude.{ℕ, pos, ◌≡◌, ◌+◌, ◌/◌, ◌%◌, ◌^◌, ◌<◌, bit_or, Bool, true, false, if◌then◌else◌, Option, Some, None, List, [], ◌∷◌}
 use Rattle.std.specs.List.{AllByRecursion}
 use Rattle.std.proofs.Common.{arith, subst, sym, refl, ◌∙◌}
 use Rattle.std.proofs.lemmas.Int.{ints}
@@ -16,9 +16,11 @@ use Rattle.pw_delay.specs.declared.items.Turn.TheVariants as turn
 use Rattle.pw_delay.specs.declared.items.Item.{Item}
 use Rattle.pw_delay.specs.declared.items.Item.TheVariants.{Plain, Turns, Mark}
 use Rattle.pw_delay.specs.Items.{link_moved, begins_next, plain_item, item_of, before, slotted}
-use Rattle.pw_run_languages.specs.Acts.{with_address, settled, symbol_address}
+use Rattle.pw_run_languages.specs.Acts as lines
+use Rattle.pw_run_languages.specs.Acts.{Acts, Full, acts, with_address, settled, symbol_address}
 use Rattle.pw_run_languages.specs.CodeStands.{IsReady}
 use Rattle.pw_law_link_run.specs.Steps.{Setting}
+use Rattle.pw_law_link_run.specs.Slots.{IsSlotWord}
 use Rattle.pw_law_link_run.specs.Simulating.{IsFit}
 use Rattle.pw_law_link_run.specs.Conventional.{IsConventional}
 
@@ -40,6 +42,9 @@ address_range kind.Im14 a (i.Sth q im b) y small r e = let same : i.Sth q (pos (
 address_range kind.Im14 a (i.Stw q im b) y small r e = let same : i.Stw q (pos (a % 2 ^ 11)) b ≡ y = cc in subst (λ y. IsInRange y) same ((omega (arith, ints), omega (arith, ints)), r.1, r.2)
 address_range _ a _ y small r e = absurd cc
 
+act_same : (c d : lines.Core) → Acts c ≡ Acts d → c.skip ≡ false → d.skip ≡ false
+act_same c d e run = let same : c ≡ d = cc in subst (λ (c : lines.Core). c.skip ≡ false) same run
+
 some_same : (x y : Inst) → Some x ≡ Some y → x ≡ y
 some_same x y e = cc
 
@@ -56,7 +61,7 @@ settled_range z x y (Some l) r e = by (symbol_address z.addresses l.symbol) refl
 -- ---- lines as items
 
 plain_fits : (z : Setting) (x : Inst) → IsInRange x → IsFit z (plain_item x)
-plain_fits z (i.Combf c r1 r2 disp) r = (r, refl)
+plain_fits z (i.Combf c r1 r2 disp) r = (r, tt)
 plain_fits z _ r = λ y e. settled_range z _ y None r e
 
 before_all : (z : Setting) (o : Option Item) (rest : List Item) → ((item : Item) → o ≡ Some item → IsFit z item) → AllByRecursion (IsFit z) rest → AllByRecursion (IsFit z) (before o rest)
@@ -68,7 +73,19 @@ fit_same z a b e h = let same : a ≡ b = cc in subst (λ item. IsFit z item) sa
 
 jump_fits : (z : Setting) (b : ℕ) (n : Bool) (item : Item) → (if n then None else Some (Turns (turn.Goto b) None)) ≡ Some item → IsFit z item
 jump_fits z b true item e = absurd cc
-jump_fits z b false item e = fit_same z (Turns (turn.Goto b) None) item e refl
+jump_fits z b false item e = fit_same z (Turns (turn.Goto b) None) item e tt
+
+-- the word in the slot of a call through a register
+moved_acts : (z : Setting) (c : lines.Core) → c.skip ≡ false → acts z.addresses (Some (i.Or 31 0 2)) c ≡ Acts (lines.with_register 2 (bit_or (lines.register c 31) 0) c)
+moved_acts z c run = rw run refl
+
+moved_fits : (z : Setting) → IsSlotWord z link_moved
+unfolding IsInRange
+moved_fits z = record {
+  range = λ y e. subst IsInRange (some_same (i.Or 31 0 2) y e) (omega arith, omega arith, omega arith);
+  stays = λ c run e. let no : Acts (lines.with_register 2 (bit_or (lines.register c 31) 0) c) ≡ Full = sym (moved_acts z c run) ∙ e in cc;
+  runs = λ c d run e. act_same (lines.with_register 2 (bit_or (lines.register c 31) 0) c) d (sym (moved_acts z c run) ∙ e) run;
+}
 
 line_fits : (z : Setting) (l : Line) (rest : List Line) → IsReady l → IsConventional l → (item : Item) → item_of l rest ≡ Some item → IsFit z item
 line_fits z (line.Plain x) rest ready conv item e = fit_same z (plain_item x) item e (plain_fits z x ready)
@@ -76,14 +93,14 @@ line_fits z (line.Fixed x k s n) rest ready conv item e =
     fit_same z (Plain (record { inst = x; relocation = Some (record { kind = k; symbol = s; addend = n }) })) item e
     (λ y e. settled_range z x y (Some (record { kind = k; symbol = s; addend = n })) ready.0 e)
 line_fits z (line.Jump b) rest ready conv item e = jump_fits z b (begins_next b rest) item e
-line_fits z (line.BranchNonZero r b) rest ready conv item e = fit_same z (Turns (turn.If r b) None) item e refl
+line_fits z (line.BranchNonZero r b) rest ready conv item e = fit_same z (Turns (turn.If r b) None) item e tt
 line_fits z (line.Label b) rest ready conv item e = fit_same z (Mark b) item e tt
-line_fits z (line.CallTo (symbol.Named f) r) rest ready conv item e = fit_same z (Turns (turn.CallTo (symbol.Named f) r) None) item e (conv, refl)
-line_fits z (line.CallTo (symbol.Routine k) r) rest ready conv item e = fit_same z (Turns (turn.CallTo (symbol.Routine k) r) None) item e (conv.0, refl, conv.1)
+line_fits z (line.CallTo (symbol.Named f) r) rest ready conv item e = fit_same z (Turns (turn.CallTo (symbol.Named f) r) None) item e (conv, tt)
+line_fits z (line.CallTo (symbol.Routine k) r) rest ready conv item e = fit_same z (Turns (turn.CallTo (symbol.Routine k) r) None) item e (conv.0, tt, tt, conv.1)
 line_fits z (line.CallTo symbol.StackLimit r) rest ready conv item e = absurd conv
 line_fits z (line.CallTo (symbol.Word k) r) rest ready conv item e = absurd conv
-line_fits z line.CallReg rest ready conv item e = fit_same z (Turns turn.CallReg (Some link_moved)) item e refl
-line_fits z line.Leave rest ready conv item e = fit_same z (Turns turn.Leave None) item e refl
+line_fits z line.CallReg rest ready conv item e = fit_same z (Turns turn.CallReg (Some link_moved)) item e (moved_fits z)
+line_fits z line.Leave rest ready conv item e = fit_same z (Turns turn.Leave None) item e tt
 
 pub lines_fit : (z : Setting) (lines : List Line) → AllByRecursion IsReady lines → AllByRecursion IsConventional lines → AllByRecursion (IsFit z) (slotted lines)
 lines_fit z [] ready conv = tt

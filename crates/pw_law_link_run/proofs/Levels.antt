@@ -2,7 +2,7 @@
 use Rattle.std.specs.Prelude.{ℕ, ◌≡◌, ◌≢◌, ◌+◌, ◌*◌, ◌<◌, ◌≤◌, ◌⊎◌, ◌==◌, Bool, false, Option, Some, None, List, [], ◌∷◌, ◌++◌, length, Contains}
 use Rattle.std.specs.List.{AllByRecursion, flat_map}
 use Rattle.std.proofs.Common.{arith, subst, sym, ap, ◌∙◌, inl, inr, length-append}
-use Rattle.std.proofs.lemmas.Bool.{ne_eqb, and_left, and_right}
+use Rattle.std.proofs.lemmas.Bool.{ne_eqb, and_left}
 use Rattle.pw_alloc.specs.Frames.{head_size}
 use Rattle.pw_delay.specs.declared.items.Word.{Word}
 use Rattle.pw_delay.specs.declared.items.Turn.TheVariants.{Back, Goto, If, CallTo, CallReg, Leave}
@@ -14,11 +14,11 @@ use Rattle.pw_run_languages.specs.LineRun.{LineFn, Frame, Machine, left_behind, 
 use Rattle.pw_run_languages.specs.MachineRun.{Call, function_at, active_as}
 use Rattle.pw_law_link_run.specs.Steps.{Setting, map_in, is_back, IsSavedFrom, AreInData}
 use Rattle.pw_law_link_run.specs.Placing.{name_in, own_address, words_of, Parts}
-use Rattle.pw_law_link_run.specs.Simulating.{link_of, call_from, calls_behind, calls_from, IsLinked, IsCalm, IsCalmInside, IsCalmBehind, IsHigh, IsCaller}
-use Rattle.pw_law_link_run.specs.Leveled.{IsStack, IsRaised, IsCold, IsPassing, IsFramed, AreFramed, IsBehind, ChainFrom, IsInLevel}
+use Rattle.pw_law_link_run.specs.Simulating.{link_of, call_from, calls_behind, calls_from, IsLinked, IsCalm, IsCalmInside, IsCalmPast, IsHigh, IsCaller}
+use Rattle.pw_law_link_run.specs.Leveled.{IsStack, IsRaised, IsCold, IsApart, IsPassing, IsFramed, AreFramed, IsBehind, ChainFrom, IsInLevel}
+use Rattle.pw_law_link_run.proofs.Noting.{high_none}
 use Rattle.pw_law_link_run.proofs.Placed.{joined, more}
 use Rattle.pw_law_link_run.proofs.Calls.{found_as}
-use Rattle.pw_law_link_run.proofs.Library.{high_none}
 
 -- ---- stack pointers of callers
 
@@ -117,9 +117,6 @@ no_return x a f g n there h le cold e =
 
 -- ---- what is quiet
 
-not_back : (c : lines.Core) (a : ℕ) (call : Call) → lines.register c 30 ≢ call.stack → is_back c a call ≡ false
-not_back c a call ne = and_right (a == call.link) (lines.register c 30 == call.stack) (ne_eqb (lines.register c 30) call.stack ne)
-
 not_there : (c : lines.Core) (a : ℕ) (call : Call) → a ≢ call.link → is_back c a call ≡ false
 not_there c a call ne = and_left (a == call.link) (lines.register c 30 == call.stack) (ne_eqb a call.link ne)
 
@@ -129,19 +126,24 @@ not_link : (x : Setting) → AreFramed x → (f : LineFn) (n stack : ℕ) (calle
 not_link x a f n stack [] there some chain le cold = λ e. omega (arith, e, some)
 not_link x a f n stack (g ∷ gs) there some chain le cold = no_return x a f g n there chain.0 le cold
 
+none_there : (x : Setting) → AreFramed x → (f : LineFn) (n a : ℕ) (c : lines.Core) → Contains x.program.functions f → 1 ≤ own_address x f
+    → n ≤ words_of x f f.items → IsCold x f n → a ≡ own_address x f + 4 * n
+    → (g : Frame) (stack : ℕ) (callers : List Frame) → ChainFrom x stack callers → AllByRecursion (λ call. is_back c a call ≡ false) (calls_from x g callers)
+none_there x fr f n a c there some le cold at g stack [] chain =
+    (not_there c a (call_from x g []) (λ e. not_link x fr f n stack [] there some chain le cold (sym at ∙ e)), tt)
+none_there x fr f n a c there some le cold at g stack (h ∷ hs) chain = (
+  not_there c a (call_from x g (h ∷ hs)) (λ e. not_link x fr f n stack (h ∷ hs) there some chain le cold (sym at ∙ e)),
+  none_there x fr f n a c there some le cold at h h.stack hs chain.2,
+)
+
 -- at a place of the function, where the stack pointer is above the one at the call, or no call leads
 pub none_back : (x : Setting) → AreFramed x → (m : Machine) (n a : ℕ) → Contains x.program.functions m.frame.function → 1 ≤ own_address x m.frame.function
     → ChainFrom x m.frame.stack m.callers → n ≤ words_of x m.frame.function m.frame.function.items → a ≡ own_address x m.frame.function + 4 * n
-    → (m.frame.stack < lines.register m.core 30) ⊎ ((lines.register m.core 30 ≡ m.frame.stack) × IsCold x m.frame.function n)
+    → IsApart x m.frame.function n m.frame.stack m.core
     → AllByRecursion (λ call. is_back m.core a call ≡ false) (calls_from x m.frame m.callers)
 none_back x fr m n a there some chain le at (inl above) =
     high_none m.core a (calls_from x m.frame m.callers) (above, callers_low x fr m.frame.stack (lines.register m.core 30) m.callers chain (omega (arith, above)))
-none_back x fr m n a there some chain le at (inr level) =
-    let f = m.frame.function in
-    let apart = not_link x fr f n m.frame.stack m.callers there some chain le level.1 in (
-      not_there m.core a (call_from x m.frame m.callers) (λ e. apart (sym at ∙ e)),
-      high_none m.core a (calls_behind x m.callers) (callers_low x fr m.frame.stack (lines.register m.core 30) m.callers chain (let e = level.0 in omega (arith, e))),
-    )
+none_back x fr m n a there some chain le at (inr cold) = none_there x fr m.frame.function n a m.core there some le cold at m.frame m.frame.stack m.callers chain
 
 -- the place of what is left
 pub record Place (x : Setting) (m : Machine) (before : List Item) : Type 0 where
@@ -179,24 +181,34 @@ calm_inside x fr m item rest there is high = λ a j left one below.
       enters = inr (ap (λ a. function_at (map_in x) a) at ∙ (fr.framed f there).entries (n + j) (omega (arith, one)) (omega (arith, total, here, below)));
     }
 
-leave_size : (long : Bool) (slot : Option Word) → 1 ≤ size long (Turns Leave slot)
-leave_size long None = omega arith
-leave_size long (Some w) = omega arith
-
--- behind a return
-pub calm_behind : (x : Setting) → IsLinked x → (fr : AreFramed x) (m : Machine) (slot : Option Word) (rest : List Item) → IsInLevel x fr (left_behind (Turns Leave slot ∷ rest) m)
-    → IsCalmBehind x (left_behind (Turns Leave slot ∷ rest) m)
-calm_behind x l fr m slot rest h = λ a left.
+-- behind a return: at the word that is passed over, or at the one in its slot
+pub calm_past : (x : Setting) → IsLinked x → (fr : AreFramed x) (m : Machine) (slot : Option Word) (rest : List Item) → IsInLevel x fr (left_behind (Turns Leave slot ∷ rest) m)
+    → IsCalmPast x (left_behind (Turns Leave slot ∷ rest) m) slot
+calm_past x l fr m None rest h = λ a left.
     let f = m.frame.function in
     let long = x.long (name_in f) in
-    let item = Turns Leave slot in
+    let item = Turns Leave None in
     let before = left.before in
     let n = words_of x f before in
-    let leaves = (fr.framed f h.there).leveled.leave before rest slot m.frame.stack m.core left.items h.holds in
+    let leaves = (fr.framed f h.there).leveled.leave before rest None m.frame.stack m.core left.items h.holds in
     let total : words_of x f f.items ≡ n + words_of x f (item ∷ rest) = ap (words_of x f) left.items ∙ joined long before (item ∷ rest) in
-    let some = leave_size long slot in
     let own : 1 ≤ own_address x f = let above = (l.stands f h.there).above in omega (arith, above) in
-    none_back x fr m (n + 1) (a + 4) h.there own h.chain (omega (arith, total, more long item rest, some)) (omega (arith, left.at)) (inr (leaves.0.pointer, leaves.1))
+    none_back x fr m (n + 1) (a + 4) h.there own h.chain (omega (arith, total, more long item rest)) (omega (arith, left.at)) leaves
+calm_past x l fr m (Some word) rest h = λ a j left one below.
+    let f = m.frame.function in
+    let long = x.long (name_in f) in
+    let item = Turns Leave (Some word) in
+    let before = left.before in
+    let n = words_of x f before in
+    let framed = fr.framed f h.there in
+    let leaves = framed.leveled.leave before rest (Some word) m.frame.stack m.core left.items h.holds in
+    let total : words_of x f f.items ≡ n + words_of x f (item ∷ rest) = ap (words_of x f) left.items ∙ joined long before (item ∷ rest) in
+    let own : 1 ≤ own_address x f = let above = (l.stands f h.there).above in omega (arith, above) in
+    let at : a + 4 * j ≡ own_address x f + 4 * (n + 1) = omega (arith, left.at, one, below) in
+    record {
+      returns = none_back x fr m (n + 1) (a + 4 * j) h.there own h.chain (omega (arith, total, more long item rest)) at leaves;
+      enters = inr (ap (λ a. function_at (map_in x) a) at ∙ framed.entries (n + 1) (omega arith) (omega (arith, total, more long item rest)));
+    }
 
 -- ---- what is saved
 

@@ -3,6 +3,7 @@ pub mod Noting
 pub mod Stepping
 pub mod Branches
 pub mod Placed
+pub mod Slots
 pub mod Turning
 pub mod Items
 pub mod Calls

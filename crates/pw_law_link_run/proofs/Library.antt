@@ -21,7 +21,7 @@ use Rattle.pw_law_link_run.specs.Steps.{Setting, map_in, fetched, IsInText, IsSe
 use Rattle.pw_law_link_run.specs.Placing.{IsLeft}
 use Rattle.pw_law_link_run.specs.Simulating.{calls_from, noted_by, IsLinked, IsCaller, Simulates, IsCalm, IsAsking, HasAsking, HasLibrary, IsHigh}
 use Rattle.pw_law_link_run.proofs.Words.{read, puts_done, effect_runs}
-use Rattle.pw_law_link_run.proofs.Noting.{settles, returns_at, accesses_shown, no_accesses}
+use Rattle.pw_law_link_run.proofs.Noting.{settles, high_none, returns_at, accesses_shown, no_accesses}
 use Rattle.pw_law_link_run.proofs.Stepping.{faces, starts_at}
 use Rattle.pw_law_link_run.proofs.Turning.{text_small, return_turn}
 use Rattle.pw_law_link_run.proofs.Items.{here_in_text}
@@ -149,14 +149,6 @@ answers_simulate x l k i a v read m f rest out caller callers link run count rea
 
 on_same : (m t : Machine) → On m ≡ On t → t ≡ m
 on_same m t e = cc
-
--- no call returns where the stack pointer is above those of all calls
-pub high_none : (c : lines.Core) (a : ℕ) (calls : List Call) → AllByRecursion (λ call. call.stack < lines.register c 30) calls
-    → AllByRecursion (λ call. is_back c a call ≡ false) calls
-high_none c a [] h = tt
-high_none c a (call ∷ calls) h =
-    let other : (lines.register c 30 == call.stack) ≡ false = ne_eqb (lines.register c 30) call.stack (λ e. omega (arith, e, h.0)) in
-    (and_right (a == call.link) (lines.register c 30 == call.stack) other, high_none c a calls h.1)
 
 -- the call itself does not, behind the first word
 alone_by : (x : Setting) → (m : Machine) (f : List ℕ) (i : ℕ) → HasAsking x f i → IsCaller x m.frame

@@ -10,22 +10,22 @@ use Rattle.pw_delay.specs.declared.items.Turn.{Turn}
 use Rattle.pw_delay.specs.declared.items.Turn.TheVariants.{Back, Goto, If, CallTo, CallReg, Leave}
 use Rattle.pw_delay.specs.declared.items.Item.{Item}
 use Rattle.pw_delay.specs.declared.items.Item.TheVariants.{Plain, Turns, Mark}
-use Rattle.pw_delay.specs.Items.{link_moved}
-use Rattle.pw_delay.specs.Placement.{size}
 use Rattle.pw_run.specs.Runs.{End, StackFull}
+use Rattle.pw_run_languages.specs.Traces.{Event}
 use Rattle.pw_run_languages.specs.Acts as lines
 use Rattle.pw_run_languages.specs.Acts.{Act, Acts, Full, Fails, acts, settled}
-use Rattle.pw_run_languages.specs.LineRun.{Frame, Machine, Step, On, Stopped, Astray, left_behind, counted, return_address, does, went_on, goes_to, to_block, from_mark, goes_back, words_back, returns, turned, step}
+use Rattle.pw_run_languages.specs.LineRun.{Frame, Machine, Step, On, Stopped, Astray, left_behind, counted, does, went_on, goes_to, to_block, from_mark, goes_back, words_back, returns, through_slot, turned, step}
 use Rattle.pw_law_link_run.specs.Steps.{Setting, AreInData}
-use Rattle.pw_law_link_run.specs.Placing.{name_in}
-use Rattle.pw_law_link_run.specs.Simulating.{calls_from, calls_behind, noted_by, IsFit, IsLinked, Simulates, IsCalm, IsCalmInside, IsCalmBehind, leaving, HasLibrary}
-use Rattle.pw_law_link_run.specs.Meeting.{EndsSo, Meets, IsSteady}
+use Rattle.pw_law_link_run.specs.Simulating.{calls_behind, noted_by, IsFit, IsLinked, Simulates, IsCalm, IsCalmPast, HasLibrary}
+use Rattle.pw_law_link_run.specs.Slots.{IsSlotFit, SlotDoes, behind_slot}
+use Rattle.pw_law_link_run.specs.Meeting.{RunsTo, EndsSo, Meets, IsSteady}
 use Rattle.pw_law_link_run.proofs.Placed.{left_stands}
 use Rattle.pw_law_link_run.proofs.Stepping.{full_at_front}
-use Rattle.pw_law_link_run.proofs.Items.{left_fit, here_in_text, word_simulates, mark_simulates, goto_simulates, if_simulates, back_simulates}
-use Rattle.pw_law_link_run.proofs.Calls.{return_simulates}
-use Rattle.pw_law_link_run.proofs.Entering.{after_call, call_turn, calls_meet, values_meet}
-use Rattle.pw_law_link_run.specs.Routines.{HasRoutines, LeaveSo, to_routine, after_routine}
+use Rattle.pw_law_link_run.proofs.Items.{left_fit, here_in_text, counted_behind, passed_behind, word_simulates, mark_simulates, goto_acted, if_acted, back_acted}
+use Rattle.pw_law_link_run.proofs.Slots.{slot_goes}
+use Rattle.pw_law_link_run.proofs.Calls.{return_acted}
+use Rattle.pw_law_link_run.proofs.Entering.{named_meets, values_meet}
+use Rattle.pw_law_link_run.specs.Routines.{HasRoutines, LeaveSo}
 use Rattle.pw_law_link_run.proofs.Routines.{routine_meets}
 
 -- ---- words
@@ -77,84 +77,26 @@ word_meets x l k m word rest h (On t) e calm = record { steps = suc k; simulates
 word_meets x l k m word rest h (Stopped end t) e calm = word_ends x l k m t end word rest h e
 word_meets x l k m word rest h Astray e calm = tt
 
--- ---- turns that go on, or go wrong
+-- ---- turns
 
+-- what goes to a place goes on, or goes wrong
 goes_on_alone : (o : Option (List Item)) (m t : Machine) (end : End) → goes_to o m ≡ Stopped end t → ⊥
 goes_on_alone None m t end e = cc
 goes_on_alone (Some items) m t end e = cc
-
-goto_meets : (x : Setting) → IsLinked x → (k b : ℕ) (m : Machine) (rest : List Item) → Simulates x (left_behind (Turns (Goto b) None ∷ rest) m) k → m.core.skip ≡ false
-    → IsCalmInside x (left_behind (Turns (Goto b) None ∷ rest) m) 2 → (s : Step) → to_block b (counted (left_behind (Turns (Goto b) None ∷ rest) m)) ≡ s
-    → ((t : Machine) → s ≡ On t → IsCalm x t) → Meets x s
-goto_meets x l k b m rest h run inside (On t) e calm = record { steps = suc (suc k); simulates = goto_simulates x l k b m t rest h run e inside (calm t refl) }
-goto_meets x l k b m rest h run inside (Stopped end t) e calm =
-    absurd (goes_on_alone (from_mark b m.frame.function.items) (counted (left_behind (Turns (Goto b) None ∷ rest) m)) t end e)
-goto_meets x l k b m rest h run inside Astray e calm = tt
-
-if_alone : (b : Bool) (r : ℕ) (n : ℕ) (m u t : Machine) (end : End) → (if b then On m else to_block n u) ≡ Stopped end t → ⊥
-if_alone true r n m u t end e = cc
-if_alone false r n m u t end e = goes_on_alone (from_mark n u.frame.function.items) u t end e
-
-if_meets : (x : Setting) → IsLinked x → (k r b : ℕ) (m : Machine) (rest : List Item) → Simulates x (left_behind (Turns (If r b) None ∷ rest) m) k → m.core.skip ≡ false
-    → IsCalmInside x (left_behind (Turns (If r b) None ∷ rest) m) (size (x.long (name_in m.frame.function)) (Turns (If r b) None)) → (s : Step)
-    → (if lines.register m.core r == 0 then On (left_behind rest m) else to_block b (counted (left_behind (Turns (If r b) None ∷ rest) m))) ≡ s
-    → ((t : Machine) → s ≡ On t → IsCalm x t) → Meets x s
-if_meets x l k r b m rest h run inside (On t) e calm =
-    let c = if_simulates x l k r b m t rest h run e inside (calm t refl) in
-    record { steps = c.0; simulates = c.1 }
-if_meets x l k r b m rest h run inside (Stopped end t) e calm =
-    absurd (if_alone (lines.register m.core r == 0) r b (left_behind rest m) (counted (left_behind (Turns (If r b) None ∷ rest) m)) t end e)
-if_meets x l k r b m rest h run inside Astray e calm = tt
 
 back_to_alone : (o : Option ℕ) (here : List Item) (m t : Machine) (end : End) → goes_back o here m ≡ Stopped end t → ⊥
 back_to_alone None here m t end e = cc
 back_to_alone (Some n) here m t end e = goes_on_alone _ m t end e
 
-back_alone : (b : Bool) (o : Option ℕ) (here : List Item) (u m t : Machine) (end : End) → (if (if b then false else true) then goes_back o here u else On m) ≡ Stopped end t → ⊥
-back_alone true o here u m t end e = cc
-back_alone false o here u m t end e = back_to_alone o here u t end e
-
-back_meets : (x : Setting) → IsLinked x → (k j r u : ℕ) (disp : ℤ) (m : Machine) (rest : List Item)
-    → Simulates x (left_behind (Turns (Back (i.Combf j r u disp)) None ∷ rest) m) k → m.core.skip ≡ false
-    → IsCalmInside x (left_behind (Turns (Back (i.Combf j r u disp)) None ∷ rest) m) 2 → (s : Step)
-    → (if (if condition j (lines.register m.core r) (lines.register m.core u) then false else true)
-    then goes_back (words_back disp) (Turns (Back (i.Combf j r u disp)) None ∷ rest) (counted (left_behind (Turns (Back (i.Combf j r u disp)) None ∷ rest) m))
-    else On (left_behind rest m)) ≡ s
-    → ((t : Machine) → s ≡ On t → IsCalm x t) → Meets x s
-back_meets x l k j r u disp m rest h run inside (On t) e calm =
-    record { steps = suc (suc k); simulates = back_simulates x l k j r u disp m t rest h run e inside (calm t refl) }
-back_meets x l k j r u disp m rest h run inside (Stopped end t) e calm =
-    let item = Turns (Back (i.Combf j r u disp)) None in
-    absurd (back_alone (condition j (lines.register m.core r) (lines.register m.core u)) (words_back disp) (item ∷ rest) (counted (left_behind (item ∷ rest) m)) (left_behind rest m) t end e)
-back_meets x l k j r u disp m rest h run inside Astray e calm = tt
-
--- ---- returns
-
 return_alone : (b : Bool) (u t : Machine) (end : End) → (if b then On u else Astray) ≡ Stopped end t → ⊥
 return_alone true u t end e = cc
 return_alone false u t end e = cc
 
-leave_none : (x : Setting) (m : Machine) (rest : List Item) (s : Step) → returns x.program x.addresses (lines.register m.core 2) (record (left_behind rest m) { callers = [] }) ≡ s → Meets x s
-leave_none x m rest s e = subst (λ s. Meets x s) e tt
-
-leave_some : (x : Setting) → IsLinked x → (k : ℕ) (m : Machine) (rest : List Item) (caller : Frame) (callers : List Frame) → Simulates x (leaving m rest caller callers) k
-    → m.core.skip ≡ false → IsCalmBehind x (leaving m rest caller callers) → AreInData x (calls_from x caller callers) → (s : Step)
-    → returns x.program x.addresses (lines.register m.core 2) (left_behind rest (leaving m rest caller callers)) ≡ s
-    → ((t : Machine) → s ≡ On t → IsCalm x t) → Meets x s
-leave_some x l k m rest caller callers h run behind saved (On t) e calm =
-    record { steps = suc (suc k); simulates = return_simulates x l k m t rest caller callers h run e behind (calm t refl) saved }
-leave_some x l k m rest caller callers h run behind saved (Stopped end t) e calm = absurd (return_alone _ _ t end e)
-leave_some x l k m rest caller callers h run behind saved Astray e calm = tt
-
-leave_meets : (x : Setting) → IsLinked x → (k : ℕ) (m : Machine) (rest : List Item) (callers : List Frame)
-    → Simulates x (record (left_behind (Turns Leave None ∷ rest) m) { callers = callers }) k
-    → m.core.skip ≡ false → IsCalmBehind x (record (left_behind (Turns Leave None ∷ rest) m) { callers = callers }) → AreInData x (calls_behind x callers) → (s : Step)
-    → returns x.program x.addresses (lines.register m.core 2) (record (left_behind rest m) { callers = callers }) ≡ s
-    → ((t : Machine) → s ≡ On t → IsCalm x t) → Meets x s
-leave_meets x l k m rest [] h run behind saved s e calm = leave_none x m rest s e
-leave_meets x l k m rest (caller ∷ callers) h run behind saved s e calm = leave_some x l k m rest caller callers h run behind saved s e calm
-
--- ---- the item that is next
+-- a step that goes on, or goes wrong, by the state that it goes on to
+on_meets : (x : Setting) (s : Step) → ((t : Machine) (end : End) → s ≡ Stopped end t → ⊥) → ((t : Machine) → s ≡ On t → RunsTo x t) → Meets x s
+on_meets x (On t) alone on = on t refl
+on_meets x (Stopped end t) alone on = absurd (alone t end refl)
+on_meets x Astray alone on = tt
 
 abbrev StepOf : Setting → (ℕ → (ℕ → ℕ) → ℕ → ℕ) → Machine → Turn → Option Word → List Item → Step
 StepOf x scratch m turn slot rest = turned x.program x.addresses scratch turn slot (Turns turn slot ∷ rest) rest (left_behind (Turns turn slot ∷ rest) m)
@@ -163,64 +105,140 @@ StepOf x scratch m turn slot rest = turned x.program x.addresses scratch turn sl
 abbrev TurnMeets : Setting → (ℕ → (ℕ → ℕ) → ℕ → ℕ) → Turn → Option Word → Type 0
 TurnMeets x scratch turn slot =
     (k : ℕ) (m : Machine) (rest : List Item) → Simulates x (left_behind (Turns turn slot ∷ rest) m) k → m.core.skip ≡ false
-    → (s : Step) → StepOf x scratch m turn slot rest ≡ s
-    → IsSteady x (left_behind (Turns turn slot ∷ rest) m) (Turns turn slot) s → Meets x s
+    → IsSteady x (left_behind (Turns turn slot ∷ rest) m) (Turns turn slot) (StepOf x scratch m turn slot rest) → Meets x (StepOf x scratch m turn slot rest)
 
-named_two : (x : Setting) → IsLinked x → HasLibrary x → (scratch : ℕ → (ℕ → ℕ) → ℕ → ℕ) (f : List ℕ) → TurnMeets x scratch (CallTo (symbol.Named f) 2) None
-named_two x l lib scratch f k m rest h run s e steady =
-    calls_meet x l lib (suc (suc k)) (return_address x.addresses m.frame rest) (after_call x m rest) f s refl
-    (call_turn x l k m f rest h run (steady.inside tt) (steady.high tt) (steady.saved tt)) e steady.next
+-- behind the slot, where the state that a step comes to is calm
+abbrev CalmMeets : Setting → Step → Type 0
+CalmMeets x s = ((t : Machine) → s ≡ On t → IsCalm x t) → Meets x s
 
-named_meets : (x : Setting) → IsLinked x → HasLibrary x → (scratch : ℕ → (ℕ → ℕ) → ℕ → ℕ) (f : List ℕ) (link : ℕ) (slot : Option Word) → link ≡ 2 → slot ≡ None
+fit_here : (x : Setting) → IsLinked x → (k : ℕ) (m : Machine) (item : Item) (rest : List Item) → Simulates x (left_behind (item ∷ rest) m) k → IsFit x item
+fit_here x l k m item rest h = (left_fit x l m.frame.function h.there (item ∷ rest) h.address h.left).0
+
+goto_meets : (x : Setting) → IsLinked x → (scratch : ℕ → (ℕ → ℕ) → ℕ → ℕ) (b : ℕ) (slot : Option Word) → TurnMeets x scratch (Goto b) slot
+goto_meets x l scratch b slot k m rest h run steady =
+    let u = counted (left_behind (Turns (Goto b) slot ∷ rest) m) in
+    slot_goes x slot u (to_block b) (λ s. CalmMeets x s) (fit_here x l k m (Turns (Goto b) slot) rest h) run (λ calm. tt)
+    (λ d es does calm.
+    on_meets x (to_block b (behind_slot d es u)) (λ t end e. goes_on_alone (from_mark b m.frame.function.items) (behind_slot d es u) t end e)
+    (λ t e. record { steps = suc (suc k); simulates = goto_acted x l k b slot m t rest d es h run does e (steady.inside (tt, run)) (calm t e) })) steady.next
+
+if_alone : (b : Bool) (n : ℕ) (m u t : Machine) (end : End) → (if b then On m else to_block n u) ≡ Stopped end t → ⊥
+if_alone true n m u t end e = cc
+if_alone false n m u t end e = goes_on_alone (from_mark n u.frame.function.items) u t end e
+
+if_meets : (x : Setting) → IsLinked x → (scratch : ℕ → (ℕ → ℕ) → ℕ → ℕ) (r b : ℕ) (slot : Option Word) → TurnMeets x scratch (If r b) slot
+if_meets x l scratch r b slot k m rest h run steady = by (lines.register m.core r == 0) refl steady.next
+  where
+    item : Item
+    item = Turns (If r b) slot
+
+    fit : IsSlotFit x slot
+    fit = fit_here x l k m item rest h
+
+    goes : (null : Bool) → (lines.register m.core r == 0) ≡ null → (d : lines.Core) (es : List (Event ℕ ℕ)) → SlotDoes x slot m.core d es
+        → CalmMeets x (if null then On (passed_behind d es m rest) else to_block b (counted_behind d es m item rest))
+    goes null is d es does calm =
+        let s = if null then On (passed_behind d es m rest) else to_block b (counted_behind d es m item rest) in
+        on_meets x s (λ t end e. if_alone null b (passed_behind d es m rest) (counted_behind d es m item rest) t end e)
+        (λ t e.
+        let c = if_acted x l k r b slot m t rest d es h run does (steady.high (tt, run) 0 d es does)
+        (ap (λ (z : Bool). if z then On (passed_behind d es m rest) else to_block b (counted_behind d es m item rest)) is ∙ e) (steady.inside (tt, run)) (calm t e) in
+        record { steps = c.0; simulates = c.1 })
+
+    by : (null : Bool) → (lines.register m.core r == 0) ≡ null
+        → CalmMeets x (if null then through_slot x.program x.addresses slot On (left_behind rest m) else through_slot x.program x.addresses slot (to_block b) (counted (left_behind (item ∷ rest) m)))
+    by true is calm = slot_goes x slot (left_behind rest m) (λ s. On s) (λ s. CalmMeets x s) fit run (λ calm. tt) (goes true is) calm
+    by false is calm = slot_goes x slot (counted (left_behind (item ∷ rest) m)) (to_block b) (λ s. CalmMeets x s) fit run (λ calm. tt) (goes false is) calm
+
+back_alone : (b : Bool) (o : Option ℕ) (here : List Item) (u m t : Machine) (end : End) → (if b then goes_back o here u else On m) ≡ Stopped end t → ⊥
+back_alone true o here u m t end e = back_to_alone o here u t end e
+back_alone false o here u m t end e = cc
+
+back_meets : (x : Setting) → IsLinked x → (scratch : ℕ → (ℕ → ℕ) → ℕ → ℕ) (j r u : ℕ) (disp : ℤ) (slot : Option Word) → TurnMeets x scratch (Back (i.Combf j r u disp)) slot
+back_meets x l scratch j r u disp slot k m rest h run steady = by (if condition j (lines.register m.core r) (lines.register m.core u) then false else true) refl steady.next
+  where
+    item : Item
+    item = Turns (Back (i.Combf j r u disp)) slot
+
+    fit : IsSlotFit x slot
+    fit = (fit_here x l k m item rest h).1
+
+    taken : Bool
+    taken = if condition j (lines.register m.core r) (lines.register m.core u) then false else true
+
+    goes : (b : Bool) → taken ≡ b → (d : lines.Core) (es : List (Event ℕ ℕ)) → SlotDoes x slot m.core d es
+        → CalmMeets x (if b then goes_back (words_back disp) (item ∷ rest) (counted_behind d es m item rest) else On (passed_behind d es m rest))
+    goes b is d es does calm =
+        let s = if b then goes_back (words_back disp) (item ∷ rest) (counted_behind d es m item rest) else On (passed_behind d es m rest) in
+        on_meets x s (λ t end e. back_alone b (words_back disp) (item ∷ rest) (counted_behind d es m item rest) (passed_behind d es m rest) t end e)
+        (λ t e. record {
+          steps = suc (suc k);
+          simulates = back_acted x l k j r u disp slot m t rest d es h run does
+              (ap (λ (z : Bool). if z then goes_back (words_back disp) (item ∷ rest) (counted_behind d es m item rest) else On (passed_behind d es m rest)) is ∙ e) (steady.inside (tt, run)) (calm t e);
+        })
+
+    by : (b : Bool) → taken ≡ b
+        → CalmMeets x (if b then through_slot x.program x.addresses slot (goes_back (words_back disp) (item ∷ rest)) (counted (left_behind (item ∷ rest) m)) else through_slot x.program x.addresses slot On (left_behind rest m))
+    by true is calm = slot_goes x slot (counted (left_behind (item ∷ rest) m)) (goes_back (words_back disp) (item ∷ rest)) (λ s. CalmMeets x s) fit run (λ calm. tt) (goes true is) calm
+    by false is calm = slot_goes x slot (left_behind rest m) (λ s. On s) (λ s. CalmMeets x s) fit run (λ calm. tt) (goes false is) calm
+
+-- ---- returns
+
+-- the state at a return, by its callers
+abbrev at_return : Machine → Option Word → List Item → List Frame → Machine
+at_return m slot rest callers = record (left_behind (Turns Leave slot ∷ rest) m) { callers = callers }
+
+leave_meets : (x : Setting) → IsLinked x → (k : ℕ) (m : Machine) (slot : Option Word) (rest : List Item) (callers : List Frame)
+    → Simulates x (at_return m slot rest callers) k → m.core.skip ≡ false → IsCalmPast x (at_return m slot rest callers) slot → AreInData x (calls_behind x callers)
+    → (d : lines.Core) (es : List (Event ℕ ℕ)) → SlotDoes x slot m.core d es
+    → CalmMeets x (returns x.program x.addresses (lines.register m.core 2) (behind_slot d es (record (left_behind rest m) { callers = callers })))
+leave_meets x l k m slot rest [] h run past saved d es does calm = tt
+leave_meets x l k m slot rest (caller ∷ callers) h run past saved d es does calm =
+    let s = returns x.program x.addresses (lines.register m.core 2) (behind_slot d es (record (left_behind rest m) { callers = caller ∷ callers })) in
+    on_meets x s (λ t end e. return_alone _ _ t end e)
+    (λ t e. record { steps = suc (suc k); simulates = return_acted x l k slot m t rest caller callers d es h run does e past (calm t e) saved })
+
+return_meets : (x : Setting) → IsLinked x → (scratch : ℕ → (ℕ → ℕ) → ℕ → ℕ) (slot : Option Word) → TurnMeets x scratch Leave slot
+return_meets x l scratch slot k m rest h run steady =
+    slot_goes x slot (left_behind rest m) (returns x.program x.addresses (lines.register m.core 2)) (λ s. CalmMeets x s) (fit_here x l k m (Turns Leave slot) rest h) run (λ calm. tt)
+    (λ d es does calm. leave_meets x l k m slot rest m.callers h run (steady.past (tt, run)) (steady.saved_behind (tt, run)) d es does calm) steady.next
+
+-- ---- by what the turn is
+
+named_two : (x : Setting) → IsLinked x → HasLibrary x → (scratch : ℕ → (ℕ → ℕ) → ℕ → ℕ) (f : List ℕ) (slot : Option Word) → TurnMeets x scratch (CallTo (symbol.Named f) 2) slot
+named_two x l lib scratch f slot k m rest h run steady =
+    named_meets x l lib k m f slot rest h run (steady.inside (tt, run)) (steady.saved (tt, run)) (steady.high (tt, run)) steady.next
+
+named_linked : (x : Setting) → IsLinked x → HasLibrary x → (scratch : ℕ → (ℕ → ℕ) → ℕ → ℕ) (f : List ℕ) (link : ℕ) (slot : Option Word) → link ≡ 2
     → TurnMeets x scratch (CallTo (symbol.Named f) link) slot
-named_meets x l lib scratch f link slot is none =
-    subst (λ v. TurnMeets x scratch (CallTo (symbol.Named f) v) slot) (sym is)
-    (subst (λ o. TurnMeets x scratch (CallTo (symbol.Named f) 2) o) (sym none) (named_two x l lib scratch f))
+named_linked x l lib scratch f link slot is = subst (λ v. TurnMeets x scratch (CallTo (symbol.Named f) v) slot) (sym is) (named_two x l lib scratch f slot)
 
-routine_none : (x : Setting) → IsLinked x → (has : HasRoutines x) (scratch : ℕ → (ℕ → ℕ) → ℕ → ℕ) → LeaveSo x has scratch → (j : ℕ) → j < 5 → TurnMeets x scratch (CallTo (symbol.Routine j) 31) None
-routine_none x l has scratch so j below k m rest h run s e steady =
-    subst (λ s. Meets x s) e
-    (routine_meets x l has scratch so k j m rest below h run (steady.inside tt) (steady.high tt)
-    (steady.next (after_routine (to_routine x m rest) j (scratch j (to_routine x m rest).core.registers)) (sym e)))
+numbered_one : (x : Setting) → IsLinked x → (has : HasRoutines x) (scratch : ℕ → (ℕ → ℕ) → ℕ → ℕ) → LeaveSo x has scratch → (j : ℕ) (slot : Option Word) → j < 5
+    → TurnMeets x scratch (CallTo (symbol.Routine j) 31) slot
+numbered_one x l has scratch so j slot below k m rest h run steady =
+    routine_meets x l has scratch so k j m slot rest below h run (steady.inside (tt, run)) (steady.high (tt, run)) steady.next
 
-numbered_meets : (x : Setting) → IsLinked x → (has : HasRoutines x) (scratch : ℕ → (ℕ → ℕ) → ℕ → ℕ) → LeaveSo x has scratch → (j link : ℕ) (slot : Option Word) → link ≡ 31 → slot ≡ None → j < 5
+numbered_linked : (x : Setting) → IsLinked x → (has : HasRoutines x) (scratch : ℕ → (ℕ → ℕ) → ℕ → ℕ) → LeaveSo x has scratch → (j link : ℕ) (slot : Option Word) → link ≡ 31 → j < 5
     → TurnMeets x scratch (CallTo (symbol.Routine j) link) slot
-numbered_meets x l has scratch so j link slot is none below =
-    subst (λ v. TurnMeets x scratch (CallTo (symbol.Routine j) v) slot) (sym is)
-    (subst (λ o. TurnMeets x scratch (CallTo (symbol.Routine j) 31) o) (sym none) (routine_none x l has scratch so j below))
+numbered_linked x l has scratch so j link slot is below =
+    subst (λ v. TurnMeets x scratch (CallTo (symbol.Routine j) v) slot) (sym is) (numbered_one x l has scratch so j slot below)
 
-value_moved : (x : Setting) → IsLinked x → HasLibrary x → (scratch : ℕ → (ℕ → ℕ) → ℕ → ℕ) → TurnMeets x scratch CallReg (Some link_moved)
-value_moved x l lib scratch k m rest h run s e steady =
-    values_meet x l lib k m rest s h run e (steady.inside tt) (steady.high tt) (steady.saved tt) steady.next
-
-value_meets : (x : Setting) → IsLinked x → HasLibrary x → (scratch : ℕ → (ℕ → ℕ) → ℕ → ℕ) (slot : Option Word) → slot ≡ Some link_moved → TurnMeets x scratch CallReg slot
-value_meets x l lib scratch slot is = subst (λ o. TurnMeets x scratch CallReg o) (sym is) (value_moved x l lib scratch)
-
-none_some : (w : Word) → Some w ≡ None → ⊥
-none_some w e = cc
+value_linked : (x : Setting) → IsLinked x → HasLibrary x → (scratch : ℕ → (ℕ → ℕ) → ℕ → ℕ) (slot : Option Word) → TurnMeets x scratch CallReg slot
+value_linked x l lib scratch slot k m rest h run steady =
+    values_meet x l lib k m slot rest h run (steady.inside (tt, run)) (steady.saved (tt, run)) (steady.high (tt, run)) steady.next
 
 turn_meets : (x : Setting) → IsLinked x → HasLibrary x → (has : HasRoutines x) (scratch : ℕ → (ℕ → ℕ) → ℕ → ℕ) → LeaveSo x has scratch → (turn : Turn) (slot : Option Word) → IsFit x (Turns turn slot)
     → TurnMeets x scratch turn slot
-turn_meets x l lib has scratch so (Goto b) None fit k m rest h run s e steady =
-    goto_meets x l k b m rest h run (steady.inside tt) s e steady.next
-turn_meets x l lib has scratch so (Goto b) (Some w) fit k m rest h run s e steady = absurd (none_some w fit)
-turn_meets x l lib has scratch so (If r b) None fit k m rest h run s e steady =
-    if_meets x l k r b m rest h run (steady.inside tt) s e steady.next
-turn_meets x l lib has scratch so (If r b) (Some w) fit k m rest h run s e steady = absurd (none_some w fit)
-turn_meets x l lib has scratch so (Back (i.Combf j r u disp)) None fit k m rest h run s e steady =
-    back_meets x l k j r u disp m rest h run (steady.inside tt) s e steady.next
-turn_meets x l lib has scratch so (Back (i.Combf j r u disp)) (Some w) fit k m rest h run s e steady = absurd (none_some w fit.1)
-turn_meets x l lib has scratch so (Back _) slot fit k m rest h run s e steady = absurd fit
-turn_meets x l lib has scratch so (CallTo (symbol.Named f) link) slot fit k m rest h run s e steady =
-    named_meets x l lib scratch f link slot fit.0 fit.1 k m rest h run s e steady
-turn_meets x l lib has scratch so (CallTo (symbol.Routine j) link) slot fit k m rest h run s e steady =
-    numbered_meets x l has scratch so j link slot fit.0 fit.1 fit.2 k m rest h run s e steady
-turn_meets x l lib has scratch so (CallTo symbol.StackLimit link) slot fit k m rest h run s e steady = absurd fit
-turn_meets x l lib has scratch so (CallTo (symbol.Word j) link) slot fit k m rest h run s e steady = absurd fit
-turn_meets x l lib has scratch so CallReg slot fit k m rest h run s e steady = value_meets x l lib scratch slot fit k m rest h run s e steady
-turn_meets x l lib has scratch so Leave None fit k m rest h run s e steady =
-    leave_meets x l k m rest m.callers h run (steady.behind tt) (steady.saved_behind tt) s e steady.next
-turn_meets x l lib has scratch so Leave (Some w) fit k m rest h run s e steady = absurd (none_some w fit)
+turn_meets x l lib has scratch so (Goto b) slot fit = goto_meets x l scratch b slot
+turn_meets x l lib has scratch so (If r b) slot fit = if_meets x l scratch r b slot
+turn_meets x l lib has scratch so (Back (i.Combf j r u disp)) slot fit = back_meets x l scratch j r u disp slot
+turn_meets x l lib has scratch so (Back _) slot fit = absurd fit
+turn_meets x l lib has scratch so (CallTo (symbol.Named f) link) slot fit = named_linked x l lib scratch f link slot fit.0
+turn_meets x l lib has scratch so (CallTo (symbol.Routine j) link) slot fit = numbered_linked x l has scratch so j link slot fit.0 fit.3
+turn_meets x l lib has scratch so (CallTo symbol.StackLimit link) slot fit = absurd fit
+turn_meets x l lib has scratch so (CallTo (symbol.Word j) link) slot fit = absurd fit
+turn_meets x l lib has scratch so CallReg slot fit = value_linked x l lib scratch slot
+turn_meets x l lib has scratch so Leave slot fit = return_meets x l scratch slot
 
 -- ---- one step of the lines
 
@@ -231,7 +249,7 @@ skip_meets : (x : Setting) → IsLinked x → HasLibrary x → (has : HasRoutine
 skip_meets x l lib has scratch so k m turn slot rest h true is steady = tt
 skip_meets x l lib has scratch so k m turn slot rest h false is steady =
     turn_meets x l lib has scratch so turn slot (left_fit x l m.frame.function h.there (Turns turn slot ∷ rest) h.address h.left).0
-    k m rest h is (StepOf x scratch m turn slot rest) refl steady
+    k m rest h is steady
 
 pub step_meets : (x : Setting) → IsLinked x → HasLibrary x → (has : HasRoutines x) (scratch : ℕ → (ℕ → ℕ) → ℕ → ℕ) → LeaveSo x has scratch → (k : ℕ) (m : Machine) (left : List Item)
     → Simulates x (left_behind left m) k

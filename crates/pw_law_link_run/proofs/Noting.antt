@@ -1,9 +1,10 @@
 -- What the machine notes at a step, in the words of the run of lines.
-use Rattle.std.specs.Prelude.{ℕ, zero, suc, ℤ, ◌≡◌, ◌+◌, ◌-◌, ◌*◌, ◌^◌, ◌%◌, ◌≤◌, ◌⊎◌, ◌==◌, ◌&&◌, Bool, true, false, if◌then◌else◌, Option, Some, None, option_map, List, [], ◌∷◌, ◌++◌, map, length}
+use Rattle.std.specs.Prelude.{ℕ, zero, suc, ℤ, ◌≡◌, ◌+◌, ◌-◌, ◌*◌, ◌^◌, ◌%◌, ◌<◌, ◌≤◌, ◌⊎◌, ◌==◌, ◌&&◌, Bool, true, false, if◌then◌else◌, Option, Some, None, option_map, List, [], ◌∷◌, ◌++◌, map, length}
 use Rattle.std.specs.List.{AllByRecursion, flat_map}
 use Rattle.std.specs.Option.{option_or}
 use Rattle.std.specs.Int.{cast_unsigned, w32}
 use Rattle.std.proofs.Common.{arith, subst, sym, ap, refl, ◌∙◌, inl, inr}
+use Rattle.std.proofs.lemmas.Bool.{and_right, ne_eqb}
 use Rattle.std.proofs.Math.Path.{fun_ext}
 use Rattle.pw_inst.specs.declared.Inst.{Inst}
 use Rattle.pw_inst.specs.declared.Inst.TheVariants.{Ldb, Ldh, Ldw, Stb, Sth, Stw}
@@ -66,6 +67,14 @@ quiet_arrival x c core a n h e q =
       | inl skip ↦ inl (sym h.skip ∙ skip)
       | inr none ↦ inr (ap (λ f. function_at (map_in x) f) e ∙ none)
     ])
+
+-- no call returns where the stack pointer is above those of all calls
+pub high_none : (c : lines.Core) (a : ℕ) (calls : List Call) → AllByRecursion (λ call. call.stack < lines.register c 30) calls
+    → AllByRecursion (λ call. is_back c a call ≡ false) calls
+high_none c a [] h = tt
+high_none c a (call ∷ calls) h =
+    let other : (lines.register c 30 == call.stack) ≡ false = ne_eqb (lines.register c 30) call.stack (λ e. omega (arith, e, h.0)) in
+    (and_right (a == call.link) (lines.register c 30 == call.stack) other, high_none c a calls h.1)
 
 -- ---- accesses
 

@@ -7,30 +7,34 @@ use Rattle.pw_inst.specs.declared.Inst.{Inst}
 use Rattle.pw_inst.specs.declared.Inst.TheVariants as i
 use Rattle.pw_inst.specs.InstructionTable.{decoded}
 use Rattle.pw_inst.specs.declared.relocation.Symbol.TheVariants as symbol
+use Rattle.pw_delay.specs.declared.items.Word.{Word}
 use Rattle.pw_delay.specs.declared.items.Turn.TheVariants.{CallTo}
 use Rattle.pw_delay.specs.declared.items.Item.{Item}
 use Rattle.pw_delay.specs.declared.items.Item.TheVariants.{Turns}
 use Rattle.pw_machine.specs.Core.{Core, register, word_at}
 use Rattle.pw_machine.specs.Run.{State, Progress, Running, Stopped, run_of, began, goes_on, continued}
 use Rattle.pw_milli.specs.Calls.{Enters, returned, is_scratch, is_access, IsInside, StaysInside}
+use Rattle.pw_run_languages.specs.Traces.{Event}
 use Rattle.pw_run_languages.specs.Programs.{globals_of}
 use Rattle.pw_run_languages.specs.Acts as lines
 use Rattle.pw_run_languages.specs.Acts.{put}
-use Rattle.pw_run_languages.specs.LineRun.{Frame, Machine, left_behind, return_address, result_of, scratch_registers, with_scratch, with_result}
+use Rattle.pw_run_languages.specs.LineRun.{Frame, Machine, On, left_behind, return_address, routine, through_slot, result_of, scratch_registers, with_scratch, with_result}
 use Rattle.pw_run_languages.specs.MachineRun.{Map, Call, Noted, has_returned, arrived, stepped, accesses_of, accesses_in, core_of, function_at}
 use Rattle.pw_run_languages.specs.MachineRun as noting
 use Rattle.pw_law_link_run.specs.Steps.{Setting, map_in, IsSetting, At, Arrives, with_accesses}
 use Rattle.pw_law_link_run.specs.Simulating.{calls_from, noted_by, IsLinked, IsCaller, Simulates, IsCalm, IsCalmInside, IsHigh}
-use Rattle.pw_law_link_run.specs.Meeting.{RunsTo}
+use Rattle.pw_law_link_run.specs.Placing.{IsLeft}
+use Rattle.pw_law_link_run.specs.Slots.{SlotDoes, behind_slot}
+use Rattle.pw_law_link_run.specs.Meeting.{RunsTo, Meets, IsHighBehind}
 use Rattle.pw_law_link_run.specs.Routines.{IsClear, ResultIs, Makes, after_routine, Begins, HasRoutine, HasRoutines, calling_routine, to_routine, LeavesSo, LeaveSo}
 use Rattle.pw_law_link_run.proofs.Words.{read, put_same, put_other}
-use Rattle.pw_law_link_run.proofs.Noting.{arrived_quiet, no_touch, settles}
+use Rattle.pw_law_link_run.proofs.Noting.{arrived_quiet, high_none, no_touch, settles}
 use Rattle.pw_law_link_run.proofs.Placed.{left_stands}
 use Rattle.pw_law_link_run.proofs.Stepping.{later, below_data, noted_next}
 use Rattle.pw_law_link_run.proofs.Turning.{jump_turn}
-use Rattle.pw_law_link_run.proofs.Items.{rests, turn_at, inside_at}
+use Rattle.pw_law_link_run.proofs.Items.{left_fit, rests, turn_at, inside_at}
+use Rattle.pw_law_link_run.proofs.Slots.{slot_goes, slot_runs, slot_leaves}
 use Rattle.pw_law_link_run.proofs.Calls.{caller_left, called_from}
-use Rattle.pw_law_link_run.proofs.Library.{high_none}
 
 -- ---- a run inside words
 
@@ -278,47 +282,49 @@ links_below : (x : Setting) (address : ℕ) (f : Frame) (callers : List Frame) �
 links_below x address f [] some apart h = (some, tt)
 links_below x address f (caller ∷ callers) some apart h = (apart caller h.0, links_below x address caller callers some apart h.1)
 
-routine_begins : (x : Setting) → IsLinked x → (k j : ℕ) (m : Machine) (rest : List Item) (r : HasRoutine x j) → Simulates x (calling_routine m j rest) k → m.core.skip ≡ false
-    → IsCalmInside x (calling_routine m j rest) 2 → IsHigh x (calling_routine m j rest)
-    → Begins x (to_routine x m rest) (suc (suc k)) (x.addresses.routine j) r.words
-routine_begins x l k j m rest r h run inside high =
+routine_begins : (x : Setting) → IsLinked x → (k j : ℕ) (m : Machine) (slot : Option Word) (rest : List Item) (d : lines.Core) (es : List (Event ℕ ℕ)) (r : HasRoutine x j)
+    → Simulates x (calling_routine m j slot rest) k → m.core.skip ≡ false → IsCalmInside x (calling_routine m j slot rest) 2
+    → SlotDoes x slot (to_routine x m rest).core d es → IsHigh x (behind_slot d es m)
+    → Begins x (behind_slot d es (to_routine x m rest)) (suc (suc k)) (x.addresses.routine j) r.words
+routine_begins x l k j m slot rest d es r h run inside does high =
     let fn = m.frame.function in
     let a = h.address in
-    let item = Turns (CallTo (symbol.Routine j) 31) None in
+    let item = Turns (CallTo (symbol.Routine j) 31) slot in
     let stands = left_stands x fn (l.stands fn h.there) (item ∷ rest) a h.left in
+    let fit = (left_fit x l fn h.there (item ∷ rest) a h.left).0 in
     let symbol_is = stands.0.0 in
     let to = return_address x.addresses m.frame rest in
     let back : to ≡ a + 8 = stands.0.2 in
     let target = x.addresses.routine j in
     let same : target ≡ symbol_is.target = some_same target symbol_is.target symbol_is.is in
-    let n = noted_by x (calling_routine m j rest) in
-    let c = lines.with_register 31 to m.core in
+    let n = noted_by x m in
+    let c = (to_routine x m rest).core in
+    let link : lines.register d 31 ≡ to = slot_leaves x 31 slot c d es fit.2 run does in
     let turn = turn_at x l fn h.there item rest a (i.Bl symbol_is.jumps.displacement 31 false) h.left (omega arith) symbol_is.jumps.is in
     let quiet = inside_at x m (item ∷ rest) 2 a 1 (a + 4) inside h.left (omega arith) (omega arith) (omega arith) in
-    let arrives = jump_turn x k m.core a symbol_is.target 31 symbol_is.jumps.displacement m.rest m.out n l.setting l.few h.at turn symbol_is.jumps.leads (omega arith) stands.0.1 run run
-    (record { returns = quiet.returns; enters = quiet.enters }) in
-    let linked_to = subst (λ v. Arrives x (suc (suc k)) (lines.with_register 31 v m.core) symbol_is.target ((symbol_is.target + 4) % 2 ^ 32) m.rest m.out n) (sym back) arrives in
-    let there = subst (λ v. Arrives x (suc (suc k)) c v ((v + 4) % 2 ^ 32) m.rest m.out n) (sym same) linked_to in
+    let arrives = jump_turn x k m.core d a symbol_is.target 31 symbol_is.jumps.displacement m.rest m.out n slot es l.setting l.few h.at turn symbol_is.jumps.leads (omega arith) stands.0.1 fit.1 run run
+    (record { returns = quiet.returns; enters = quiet.enters }) (subst (λ v. SlotDoes x slot (lines.with_register 31 v m.core) d es) back does) in
+    let there = subst (λ v. Arrives x (suc (suc k)) d v ((v + 4) % 2 ^ 32) m.rest m.out (with_accesses es n)) (sym same) arrives in
     let small : (target + 4) % 2 ^ 32 ≡ target + 4 = omega (arith, r.stands.within, l.few) in
     let behind : to ≡ a + 4 * 2 = omega (arith, back) in
     let caller = called_from x m item rest h.there a h.left tt behind in
     let low = r.apart (left_behind rest m).frame caller in
     record {
       there = h.there;
-      left = caller_left x (left_behind rest m).frame caller;
+      left = subst (λ v. IsLeft x fn rest v) (sym link) (caller_left x (left_behind rest m).frame caller);
       callers = h.callers;
-      run = run;
+      run = slot_runs x slot c d es fit.1 run does;
       count = omega (arith, h.events);
       read = h.read;
-      at = subst (λ b. At x (suc (suc k)) c target b m.rest m.out n) small
-          (settles x (suc (suc k)) c target ((target + 4) % 2 ^ 32) m.rest m.out n there
-          (record { returns = high_none c target (calls_from x m.frame m.callers) high; enters = inr (r.entries target (omega arith) (omega (arith, r.some))) }));
+      at = subst (λ b. At x (suc (suc k)) d target b m.rest m.out (with_accesses es n)) small
+          (settles x (suc (suc k)) d target ((target + 4) % 2 ^ 32) m.rest m.out (with_accesses es n) there
+          (record { returns = high_none d target (calls_from x m.frame m.callers) high; enters = inr (r.entries target (omega arith) (omega (arith, r.some))) }));
       stands = r.stands;
       clear = record {
         links = links_below x target (left_behind rest m).frame m.callers (omega (arith, low)) r.apart h.callers;
         entries = r.entries;
       };
-      below = low;
+      below = subst (λ (v : ℕ). v < target) (sym link) low;
     }
 
 -- the routine of a number
@@ -350,24 +356,38 @@ same_left m j ws vs h =
     ap (λ (f : ℕ → ℕ). record m { core = record m.core { registers = with_result (result_of j (lines.register m.core 26) (lines.register m.core 25)) f } })
     (same_scratch ws vs scratch_registers m.core.registers h)
 
-pub routine_meets : (x : Setting) → IsLinked x → (has : HasRoutines x) (scratch : ℕ → (ℕ → ℕ) → ℕ → ℕ) → LeaveSo x has scratch → (k j : ℕ) (m : Machine) (rest : List Item) → j < 5
-    → Simulates x (calling_routine m j rest) k → m.core.skip ≡ false → IsCalmInside x (calling_routine m j rest) 2 → IsHigh x (calling_routine m j rest)
-    → IsCalm x (after_routine (to_routine x m rest) j (scratch j (to_routine x m rest).core.registers))
-    → RunsTo x (after_routine (to_routine x m rest) j (scratch j (to_routine x m rest).core.registers))
-routine_meets x l has scratch so k j m rest below h run inside high calm =
+-- by the state behind the slot
+pub routine_acted : (x : Setting) → IsLinked x → (has : HasRoutines x) (scratch : ℕ → (ℕ → ℕ) → ℕ → ℕ) → LeaveSo x has scratch → (k j : ℕ) (m : Machine) (slot : Option Word) (rest : List Item)
+    (d : lines.Core) (es : List (Event ℕ ℕ)) → j < 5
+    → Simulates x (calling_routine m j slot rest) k → m.core.skip ≡ false → IsCalmInside x (calling_routine m j slot rest) 2
+    → SlotDoes x slot (to_routine x m rest).core d es → IsHigh x (behind_slot d es m)
+    → IsCalm x (after_routine (behind_slot d es (to_routine x m rest)) j (scratch j d.registers))
+    → RunsTo x (after_routine (behind_slot d es (to_routine x m rest)) j (scratch j d.registers))
+routine_acted x l has scratch so k j m slot rest d es below h run inside does high calm =
     let r = one_routine has j below in
-    let u = to_routine x m rest in
+    let u = behind_slot d es (to_routine x m rest) in
     let a = x.addresses.routine j in
-    let b = routine_begins x l k j m rest r h run inside high in
+    let b = routine_begins x l k j m slot rest d es r h run inside does high in
     let s : State = record { core = b.at.core; rest = m.rest; output = m.out } in
     let e = enters_routine x l.setting u (suc (suc k)) a r.words b in
-    let d = r.makes s e in
+    let makes = r.makes s e in
     let link : register b.at.core 31 ≡ lines.register u.core 31 = sym (read u.core b.at.core b.at.shows 31) in
     let lawful = (later x (suc (suc k)) u.core a (a + 4) m.rest m.out (noted_by x u) l.setting b.at).lawful.core.registers in
     let left = one_left x has scratch so j below u.core.registers s e b.at.shows.registers lawful.zero (omega (arith, link, b.below)) in
-    let same : after_routine u j (scratch j u.core.registers) ≡ after_routine u j (λ r. slice_index d.registers r) = same_left u j (scratch j u.core.registers) (λ r. slice_index d.registers r) left in
+    let same : after_routine u j (scratch j u.core.registers) ≡ after_routine u j (λ r. slice_index makes.registers r) = same_left u j (scratch j u.core.registers) (λ r. slice_index makes.registers r) left in
     record {
-      steps = suc (suc k) + d.steps;
-      simulates = subst (λ (t : Machine). Simulates x t (suc (suc k) + d.steps)) (sym same)
-          (routine_simulates x l u (suc (suc k)) j a r.words b d (subst (λ (t : Machine). IsCalm x t) same calm));
+      steps = suc (suc k) + makes.steps;
+      simulates = subst (λ (t : Machine). Simulates x t (suc (suc k) + makes.steps)) (sym same)
+          (routine_simulates x l u (suc (suc k)) j a r.words b makes (subst (λ (t : Machine). IsCalm x t) same calm));
     }
+
+pub routine_meets : (x : Setting) → IsLinked x → (has : HasRoutines x) (scratch : ℕ → (ℕ → ℕ) → ℕ → ℕ) → LeaveSo x has scratch → (k j : ℕ) (m : Machine) (slot : Option Word) (rest : List Item) → j < 5
+    → Simulates x (calling_routine m j slot rest) k → m.core.skip ≡ false → IsCalmInside x (calling_routine m j slot rest) 2 → IsHighBehind x m (Turns (CallTo (symbol.Routine j) 31) slot)
+    → ((t : Machine) → through_slot x.program x.addresses slot (routine scratch j) (to_routine x m rest) ≡ On t → IsCalm x t)
+    → Meets x (through_slot x.program x.addresses slot (routine scratch j) (to_routine x m rest))
+routine_meets x l has scratch so k j m slot rest below h run inside high calm =
+    let fit = (left_fit x l m.frame.function h.there (Turns (CallTo (symbol.Routine j) 31) slot ∷ rest) h.address h.left).0 in
+    slot_goes x slot (to_routine x m rest) (routine scratch j) (λ s. ((t : Machine) → s ≡ On t → IsCalm x t) → Meets x s) fit.1 run (λ calm. tt)
+    (λ d es does calm.
+    routine_acted x l has scratch so k j m slot rest d es below h run inside does (high (return_address x.addresses m.frame rest) d es does)
+    (calm (after_routine (behind_slot d es (to_routine x m rest)) j (scratch j d.registers)) refl)) calm

@@ -13,21 +13,23 @@ use Rattle.pw_delay.specs.declared.items.Turn.{Turn}
 use Rattle.pw_delay.specs.declared.items.Turn.TheVariants.{Back, Goto, If, CallTo, CallReg, Leave}
 use Rattle.pw_delay.specs.declared.items.Item.{Item}
 use Rattle.pw_delay.specs.declared.items.Item.TheVariants.{Plain, Turns, Mark}
-use Rattle.pw_delay.specs.Items.{link_moved}
+use Rattle.pw_run_languages.specs.Traces.{Event}
 use Rattle.pw_run_languages.specs.Programs.{Library, GetChar, PutChar, Exit, library_at}
 use Rattle.pw_run_languages.specs.Acts as lines
-use Rattle.pw_run_languages.specs.LineRun.{LineFn, Frame, Machine, Step, On, Stopped, Astray, left_behind, counted, return_address, does, goes_to, to_block, from_mark, back_over, goes_back, words_back, library, calls, calls_at, function_at, function_named, and_then, through_slot, result_of, scratch_registers, with_scratch, with_result, returns, turned, step, steps, IsCalling}
+use Rattle.pw_run_languages.specs.LineRun.{LineFn, Frame, Machine, Step, On, Stopped, Astray, left_behind, counted, return_address, does, goes_to, to_block, from_mark, back_over, goes_back, words_back, library, calls, calls_at, function_at, function_named, and_then, through_slot, routine, result_of, scratch_registers, with_scratch, with_result, returns, turned, step, steps, IsCalling}
 use Rattle.pw_law_link_run.specs.Steps.{Setting}
-use Rattle.pw_law_link_run.specs.Simulating.{IsFit, IsLinked, IsCalm, IsCalmBehind}
-use Rattle.pw_law_link_run.specs.Meeting.{StepCalm, IsTurning, IsReturn, IsSteady}
+use Rattle.pw_law_link_run.specs.Simulating.{IsFit, IsLinked, IsCalm}
+use Rattle.pw_law_link_run.specs.Slots.{IsSlotFit, SlotDoes, behind_slot, behind_branch}
+use Rattle.pw_law_link_run.specs.Meeting.{StepCalm, IsTurning, IsReturn, AtTurn, AtReturn, IsSteady}
 use Rattle.pw_law_link_run.specs.Routines.{IsSteadyRun, to_routine, after_routine}
 use Rattle.pw_law_link_run.specs.Leveled.{IsRaised, IsPassing, AreFramed, ChainFrom, IsInLevel, StepLevel}
-use Rattle.pw_law_link_run.proofs.Items.{behind_all}
+use Rattle.pw_law_link_run.proofs.Items.{behind_all, counted_behind, passed_behind}
+use Rattle.pw_law_link_run.proofs.Slots.{slot_by, slot_runs}
 use Rattle.pw_law_link_run.proofs.Calls.{after_return}
 use Rattle.pw_law_link_run.proofs.Library.{after_answer}
-use Rattle.pw_law_link_run.proofs.Entering.{finds, called_by, calls_are, after_call, after_value, branched, slot_does}
+use Rattle.pw_law_link_run.proofs.Entering.{finds, called_by, calls_are, calls_astray, after_call, branched}
 use Rattle.pw_law_link_run.proofs.Running.{last_step}
-use Rattle.pw_law_link_run.proofs.Levels.{raised_high, calm_inside, calm_behind, callers_saved, all_saved}
+use Rattle.pw_law_link_run.proofs.Levels.{raised_high, calm_inside, calm_past, callers_saved, all_saved}
 use Rattle.pw_law_link_run.proofs.Keeping.{Keeps, keeps_calm, word_keeps, block_keeps, turn_keeps, goes_keeps, loop_keeps, enters_level, returns_keeps}
 
 -- and not where a function begins
@@ -60,32 +62,51 @@ raised_at : (x : Setting) (fr : AreFramed x) (m : Machine) (item : Item) (rest :
     → IsRaised x m.frame.function m.frame.stack m.core
 raised_at x fr m item rest turning h = (fr.framed m.frame.function h.there).leveled.turn h.before rest item m.frame.stack m.core h.parts turning h.holds
 
-to_steps : (x : Setting) (fr : AreFramed x) (m : Machine) (item : Item) (rest : List Item) (b : ℕ) → IsTurning item → (h : TurnAt x fr m item rest)
-    → StepKeeps x fr (to_block b (counted (left_behind (item ∷ rest) m)))
-to_steps x fr m item rest b turning h = by (from_mark b m.frame.function.items) refl
-  where
-    by : (o : Option (List Item)) → from_mark b m.frame.function.items ≡ o → StepKeeps x fr (goes_to o (counted (left_behind (item ∷ rest) m)))
-    by None e = tt
-    by (Some items) e = goes_keeps x fr (left_behind items (counted (left_behind (item ∷ rest) m))) b h.there e (raised_at x fr m item rest turning h) h.chain
+-- behind the slot of a turn, where the branch leaves the stack pointer
+raised_behind : (x : Setting) (fr : AreFramed x) (m : Machine) (turn : Turn) (slot : Option Word) (rest : List Item) (c d : lines.Core) (es : List (Event ℕ ℕ)) → IsTurning (Turns turn slot)
+    → (h : TurnAt x fr m (Turns turn slot) rest) → c.skip ≡ false → lines.register c 30 ≡ lines.register m.core 30 → SlotDoes x slot c d es
+    → IsRaised x m.frame.function m.frame.stack d
+raised_behind x fr m turn None rest c d es turning h run same does =
+    let raised = raised_at x fr m (Turns turn None) rest turning h in
+    record { bounds = raised.bounds; pointer = ap (λ (c : lines.Core). lines.register c 30) does.0 ∙ (same ∙ raised.pointer) }
+raised_behind x fr m turn (Some word) rest c d es turning h run same does =
+    let f = m.frame.function in
+    let raised = raised_at x fr m (Turns turn (Some word)) rest turning h in
+    let here : IsRaised x f m.frame.stack c = record { bounds = raised.bounds; pointer = same ∙ raised.pointer } in
+    let stays = (fr.framed f h.there).leveled.slot h.before rest turn word m.frame.stack c d h.parts turning here run does.0 in
+    record { bounds = raised.bounds; pointer = stays ∙ here.pointer }
 
-behind_steps : (x : Setting) (fr : AreFramed x) (m : Machine) (item : Item) (rest : List Item) → IsTurning item → IsPassing item → TurnAt x fr m item rest
-    → StepKeeps x fr (On (left_behind rest m))
-behind_steps x fr m item rest turning passes h =
-    turn_keeps x fr (left_behind rest m) h.before rest item h.there h.parts turning passes refl (raised_at x fr m item rest turning h) h.chain
+to_steps : (x : Setting) (fr : AreFramed x) (m : Machine) (item : Item) (rest : List Item) (b : ℕ) (d : lines.Core) (es : List (Event ℕ ℕ)) → (h : TurnAt x fr m item rest)
+    → IsRaised x m.frame.function m.frame.stack d → StepKeeps x fr (to_block b (counted_behind d es m item rest))
+to_steps x fr m item rest b d es h raised = by (from_mark b m.frame.function.items) refl
+  where
+    by : (o : Option (List Item)) → from_mark b m.frame.function.items ≡ o → StepKeeps x fr (goes_to o (counted_behind d es m item rest))
+    by None e = tt
+    by (Some items) e = goes_keeps x fr (left_behind items (counted_behind d es m item rest)) b h.there e raised h.chain
+
+behind_steps : (x : Setting) (fr : AreFramed x) (m : Machine) (item : Item) (rest : List Item) (d : lines.Core) (es : List (Event ℕ ℕ)) → IsTurning item → IsPassing item → (h : TurnAt x fr m item rest)
+    → IsRaised x m.frame.function m.frame.stack d → StepKeeps x fr (On (passed_behind d es m rest))
+behind_steps x fr m item rest d es turning passes h raised =
+    turn_keeps x fr (passed_behind d es m rest) h.before rest item h.there h.parts turning passes refl raised h.chain
+
+back_steps : (x : Setting) (fr : AreFramed x) (m : Machine) (item : Item) (rest : List Item) (o : Option ℕ) (d : lines.Core) (es : List (Event ℕ ℕ)) → IsTurning item → (h : TurnAt x fr m item rest)
+    → IsRaised x m.frame.function m.frame.stack d → StepKeeps x fr (goes_back o (item ∷ rest) (counted_behind d es m item rest))
+back_steps x fr m item rest None d es turning h raised = tt
+back_steps x fr m item rest (Some n) d es turning h raised = by (back_over n (item ∷ rest) m.frame.function.items) refl
+  where
+    by : (o : Option (List Item)) → back_over n (item ∷ rest) m.frame.function.items ≡ o → StepKeeps x fr (goes_to o (counted_behind d es m item rest))
+    by None e = tt
+    by (Some from) e = loop_keeps x fr (left_behind from (counted_behind d es m item rest)) h.before rest item n h.there h.parts turning e raised h.chain
 
 choice_steps : (x : Setting) (fr : AreFramed x) (b : Bool) (s t : Step) → StepKeeps x fr s → StepKeeps x fr t → StepKeeps x fr (if b then s else t)
 choice_steps x fr true s t h k = h
 choice_steps x fr false s t h k = k
 
-back_steps : (x : Setting) (fr : AreFramed x) (m : Machine) (item : Item) (rest : List Item) (o : Option ℕ) → IsTurning item → (h : TurnAt x fr m item rest)
-    → StepKeeps x fr (goes_back o (item ∷ rest) (counted (left_behind (item ∷ rest) m)))
-back_steps x fr m item rest None turning h = tt
-back_steps x fr m item rest (Some n) turning h = by (back_over n (item ∷ rest) m.frame.function.items) refl
-  where
-    by : (o : Option (List Item)) → back_over n (item ∷ rest) m.frame.function.items ≡ o → StepKeeps x fr (goes_to o (counted (left_behind (item ∷ rest) m)))
-    by None e = tt
-    by (Some from) e =
-        loop_keeps x fr (left_behind from (counted (left_behind (item ∷ rest) m))) h.before rest item n h.there h.parts turning e (raised_at x fr m item rest turning h) h.chain
+-- through the slot, by the state behind it
+slot_keeps : (x : Setting) (fr : AreFramed x) (slot : Option Word) (m : Machine) (next : Machine → Step)
+    → ((d : lines.Core) (es : List (Event ℕ ℕ)) → SlotDoes x slot m.core d es → StepKeeps x fr (next (behind_slot d es m)))
+    → StepKeeps x fr (through_slot x.program x.addresses slot next m)
+slot_keeps x fr slot m next go = slot_by x slot m next (λ s. StepKeeps x fr s) (λ word is full. tt) tt go
 
 -- ---- calls
 
@@ -101,39 +122,45 @@ library_steps x fr m PutChar rest k =
 library_steps x fr m Exit rest k = tt
 
 -- by a state with the same frame and callers
-pub behind_call : (x : Setting) (fr : AreFramed x) (m : Machine) (item : Item) (rest : List Item) → IsTurning item → IsPassing item → TurnAt x fr m item rest
-    → (t : Machine) → lines.register t.core 30 ≡ lines.register m.core 30 → Keeps x fr (record t { frame = (left_behind rest m).frame; callers = m.callers })
-behind_call x fr m item rest turning passes h t same =
-    let raised = raised_at x fr m item rest turning h in
+behind_call : (x : Setting) (fr : AreFramed x) (m : Machine) (item : Item) (rest : List Item) → IsTurning item → IsPassing item → TurnAt x fr m item rest
+    → (c : lines.Core) → IsRaised x m.frame.function m.frame.stack c
+    → (t : Machine) → lines.register t.core 30 ≡ lines.register c 30 → Keeps x fr (record t { frame = (left_behind rest m).frame; callers = m.callers })
+behind_call x fr m item rest turning passes h c raised t same =
     turn_keeps x fr (record t { frame = (left_behind rest m).frame; callers = m.callers }) h.before rest item h.there h.parts turning passes refl
     (record { bounds = raised.bounds; pointer = same ∙ raised.pointer }) h.chain
 
--- what is called by a name, from a state behind the branch of the turn
+-- what is called by a name, from a state behind the slot of the turn
 called_steps : (x : Setting) → IsLinked x → (fr : AreFramed x) (m : Machine) (item : Item) (rest : List Item) → IsCalling item → IsTurning item → IsPassing item
-    → TurnAt x fr m item rest → (c : lines.Core) → lines.register c 30 ≡ lines.register m.core 30 → c.skip ≡ false → (o : Option Library) (d : Option LineFn) (f : List ℕ)
-    → function_named x.program f ≡ d → StepLevel x fr (called_by x (record (left_behind rest m) { core = c }) o d) × (o ≢ None → StepKeeps x fr (called_by x (record (left_behind rest m) { core = c }) o d))
-called_steps x l fr m item rest calling turning passes h c same run (Some g) d f is =
-    let k = library_steps x fr (record (left_behind rest m) { core = c }) g m.rest
-    (λ t r. behind_call x fr m item rest turning passes h t (r ∙ same)) in
-    (level_of x fr (library x.program x.addresses g (record (left_behind rest m) { core = c })) k, λ some. k)
-called_steps x l fr m item rest calling turning passes h c same run None (Some g) f is =
-    let found = finds (λ g. bytes_eq g.located.body.name f) x.program.functions g is in
-    let raised = raised_at x fr m item rest turning h in (
-      enters_level x l fr (record (left_behind rest m) { core = c }) g h.before rest item found.there h.there h.parts calling refl
-          (record { bounds = raised.bounds; pointer = same ∙ raised.pointer }) h.chain run,
+    → TurnAt x fr m item rest → (c : lines.Core) (es : List (Event ℕ ℕ)) → IsRaised x m.frame.function m.frame.stack c → c.skip ≡ false → (o : Option Library) (d : Option LineFn) (f : List ℕ)
+    → function_named x.program f ≡ d → StepLevel x fr (called_by x (passed_behind c es m rest) o d) × (o ≢ None → StepKeeps x fr (called_by x (passed_behind c es m rest) o d))
+called_steps x l fr m item rest calling turning passes h c es raised run (Some g) d f is =
+    let k = library_steps x fr (passed_behind c es m rest) g m.rest (λ t r. behind_call x fr m item rest turning passes h c raised t r) in
+    (level_of x fr (library x.program x.addresses g (passed_behind c es m rest)) k, λ some. k)
+called_steps x l fr m item rest calling turning passes h c es raised run None (Some g) f is =
+    let found = finds (λ g. bytes_eq g.located.body.name f) x.program.functions g is in (
+      enters_level x l fr (passed_behind c es m rest) g h.before rest item found.there h.there h.parts calling refl raised h.chain run,
       λ some. absurd (some refl),
     )
-called_steps x l fr m item rest calling turning passes h c same run None None f is = (tt, λ some. tt)
+called_steps x l fr m item rest calling turning passes h c es raised run None None f is = (tt, λ some. tt)
+
+-- what a call comes to: in level, and by a function of the library not where a function begins
+abbrev CallKeeps : (x : Setting) → AreFramed x → List ℕ → Step → Type 0
+CallKeeps x fr f s = StepLevel x fr s × (library_at f ≢ None → StepKeeps x fr s)
 
 calls_steps : (x : Setting) → IsLinked x → (fr : AreFramed x) (m : Machine) (item : Item) (rest : List Item) → IsCalling item → IsTurning item → IsPassing item
-    → TurnAt x fr m item rest → (c : lines.Core) → lines.register c 30 ≡ lines.register m.core 30 → c.skip ≡ false → (to : ℕ) (f : List ℕ) → lines.register c 2 ≡ to
-    → StepLevel x fr (calls x.program x.addresses to f (record (left_behind rest m) { core = c }))
-    × (library_at f ≢ None → StepKeeps x fr (calls x.program x.addresses to f (record (left_behind rest m) { core = c })))
-calls_steps x l fr m item rest calling turning passes h c same run to f link =
-    let s = record (left_behind rest m) { core = c } in
-    let e = calls_are x s to f (library_at f) (function_named x.program f) refl refl link in
-    let both = called_steps x l fr m item rest calling turning passes h c same run (library_at f) (function_named x.program f) f refl in
-    (subst (λ s. StepLevel x fr s) (sym e) both.0, λ some. subst (λ s. StepKeeps x fr s) (sym e) (both.1 some))
+    → TurnAt x fr m item rest → (c : lines.Core) (es : List (Event ℕ ℕ)) → IsRaised x m.frame.function m.frame.stack c → c.skip ≡ false → (to : ℕ) (f : List ℕ)
+    → CallKeeps x fr f (calls x.program x.addresses to f (passed_behind c es m rest))
+calls_steps x l fr m item rest calling turning passes h c es raised run to f = by (lines.register c 2 == to) refl
+  where
+    s : Machine
+    s = passed_behind c es m rest
+
+    by : (b : Bool) → (lines.register c 2 == to) ≡ b → CallKeeps x fr f (calls x.program x.addresses to f s)
+    by true is =
+        let e = calls_are x s to f (library_at f) (function_named x.program f) refl refl (eqb-true (lines.register c 2) to is) in
+        let both = called_steps x l fr m item rest calling turning passes h c es raised run (library_at f) (function_named x.program f) f refl in
+        (subst (λ s. StepLevel x fr s) (sym e) both.0, λ some. subst (λ s. StepKeeps x fr s) (sym e) (both.1 some))
+    by false is = let e = calls_astray x to s f is in (subst (λ s. StepLevel x fr s) (sym e) tt, λ some. subst (λ s. StepKeeps x fr s) (sym e) tt)
 
 -- ---- a step
 
@@ -143,19 +170,21 @@ pub record Steady (x : Setting) (fr : AreFramed x) (m : Machine) (item : Item) (
   pub level : StepLevel x fr s
 
 -- at a turn but a return
-turning_steady : (x : Setting) → IsLinked x → (fr : AreFramed x) (m : Machine) (item : Item) (rest : List Item) → IsTurning item → ¬ IsReturn item → TurnAt x fr m item rest → (s : Step)
-    → StepLevel x fr s → ((t : Machine) → s ≡ On t → StepCalm x (left_behind (item ∷ rest) m) item t) → Steady x fr (left_behind (item ∷ rest) m) item s
-turning_steady x l fr m item rest turning back h s level next =
+turning_steady : (x : Setting) → IsLinked x → (fr : AreFramed x) (m : Machine) (turn : Turn) (slot : Option Word) (rest : List Item) → IsTurning (Turns turn slot) → ¬ IsReturn (Turns turn slot)
+    → TurnAt x fr m (Turns turn slot) rest → m.core.skip ≡ false
+    → ((to : ℕ) → (behind_branch turn to m.core).skip ≡ false) → ((to : ℕ) → lines.register (behind_branch turn to m.core) 30 ≡ lines.register m.core 30) → (s : Step)
+    → StepLevel x fr s → ((t : Machine) → s ≡ On t → StepCalm x (left_behind (Turns turn slot ∷ rest) m) (Turns turn slot) t) → Steady x fr (left_behind (Turns turn slot ∷ rest) m) (Turns turn slot) s
+turning_steady x l fr m turn slot rest turning back h run runs same s level next =
+    let item = Turns turn slot in
     let raised = raised_at x fr m item rest turning h in
     let s0 = left_behind (item ∷ rest) m in
-    let high = raised_high x fr s0 h.there h.chain raised in
     record {
       steady = record {
-        high = λ t. high;
-        inside = λ t. calm_inside x fr s0 item rest h.there refl high;
+        high = λ t to d es does. raised_high x fr (behind_slot d es s0) h.there h.chain (raised_behind x fr m turn slot rest (behind_branch turn to m.core) d es turning h (runs to) (same to) does);
+        inside = λ t. calm_inside x fr s0 item rest h.there refl (raised_high x fr s0 h.there h.chain raised);
         saved = λ t. all_saved x l fr s0 h.there h.chain raised.bounds;
-        behind = λ r. absurd (back r);
-        saved_behind = λ r. absurd (back r);
+        past = λ r. absurd (back r.0);
+        saved_behind = λ r. absurd (back r.0);
         next = next;
       };
       level = level;
@@ -166,66 +195,82 @@ TurnSteady x fr scratch turn slot =
     (m : Machine) (rest : List Item) → TurnAt x fr m (Turns turn slot) rest → m.core.skip ≡ false
     → Steady x fr (left_behind (Turns turn slot ∷ rest) m) (Turns turn slot) (turned x.program x.addresses scratch turn slot (Turns turn slot ∷ rest) rest (left_behind (Turns turn slot ∷ rest) m))
 
-goto_steady : (x : Setting) → IsLinked x → (fr : AreFramed x) (scratch : ℕ → (ℕ → ℕ) → ℕ → ℕ) (b : ℕ) → TurnSteady x fr scratch (Goto b) None
-goto_steady x l fr scratch b m rest h run =
-    let item = Turns (Goto b) None in
-    let k = to_steps x fr m item rest b tt h in
-    turning_steady x l fr m item rest tt (λ e. e) h (to_block b (counted (left_behind (item ∷ rest) m))) (level_of x fr (to_block b (counted (left_behind (item ∷ rest) m))) k) (calm_of x l fr (to_block b (counted (left_behind (item ∷ rest) m))) k)
+goto_steady : (x : Setting) → IsLinked x → (fr : AreFramed x) (scratch : ℕ → (ℕ → ℕ) → ℕ → ℕ) (b : ℕ) (slot : Option Word) → TurnSteady x fr scratch (Goto b) slot
+goto_steady x l fr scratch b slot m rest h run =
+    let item = Turns (Goto b) slot in
+    let u = counted (left_behind (item ∷ rest) m) in
+    let s = through_slot x.program x.addresses slot (to_block b) u in
+    let k = slot_keeps x fr slot u (to_block b) (λ d es does. to_steps x fr m item rest b d es h (raised_behind x fr m (Goto b) slot rest m.core d es tt h run refl does)) in
+    turning_steady x l fr m (Goto b) slot rest tt (λ e. e) h run (λ to. run) (λ to. refl) s (level_of x fr s k) (calm_of x l fr s k)
 
-if_steady : (x : Setting) → IsLinked x → (fr : AreFramed x) (scratch : ℕ → (ℕ → ℕ) → ℕ → ℕ) (r b : ℕ) → TurnSteady x fr scratch (If r b) None
-if_steady x l fr scratch r b m rest h run =
-    let item = Turns (If r b) None in
-    let s0 = left_behind (item ∷ rest) m in
-    let k = choice_steps x fr (lines.register m.core r == 0) (On (left_behind rest m)) (to_block b (counted s0)) (behind_steps x fr m item rest tt tt h) (to_steps x fr m item rest b tt h) in
-    turning_steady x l fr m item rest tt (λ e. e) h (if lines.register m.core r == 0 then On (left_behind rest m) else to_block b (counted s0)) (level_of x fr (if lines.register m.core r == 0 then On (left_behind rest m) else to_block b (counted s0)) k) (calm_of x l fr (if lines.register m.core r == 0 then On (left_behind rest m) else to_block b (counted s0)) k)
+if_steady : (x : Setting) → IsLinked x → (fr : AreFramed x) (scratch : ℕ → (ℕ → ℕ) → ℕ → ℕ) (r b : ℕ) (slot : Option Word) → TurnSteady x fr scratch (If r b) slot
+if_steady x l fr scratch r b slot m rest h run =
+    let item = Turns (If r b) slot in
+    let u = counted (left_behind (item ∷ rest) m) in
+    let one = through_slot x.program x.addresses slot (λ s. On s) (left_behind rest m) in
+    let two = through_slot x.program x.addresses slot (to_block b) u in
+    let s = if lines.register m.core r == 0 then one else two in
+    let k = choice_steps x fr (lines.register m.core r == 0) one two
+    (slot_keeps x fr slot (left_behind rest m) (λ s. On s) (λ d es does. behind_steps x fr m item rest d es tt tt h (raised_behind x fr m (If r b) slot rest m.core d es tt h run refl does)))
+    (slot_keeps x fr slot u (to_block b) (λ d es does. to_steps x fr m item rest b d es h (raised_behind x fr m (If r b) slot rest m.core d es tt h run refl does))) in
+    turning_steady x l fr m (If r b) slot rest tt (λ e. e) h run (λ to. run) (λ to. refl) s (level_of x fr s k) (calm_of x l fr s k)
 
-back_steady : (x : Setting) → IsLinked x → (fr : AreFramed x) (scratch : ℕ → (ℕ → ℕ) → ℕ → ℕ) (j r u : ℕ) (disp : ℤ) → TurnSteady x fr scratch (Back (i.Combf j r u disp)) None
-back_steady x l fr scratch j r u disp m rest h run =
-    let item = Turns (Back (i.Combf j r u disp)) None in
-    let s0 = left_behind (item ∷ rest) m in
+back_steady : (x : Setting) → IsLinked x → (fr : AreFramed x) (scratch : ℕ → (ℕ → ℕ) → ℕ → ℕ) (j r u : ℕ) (disp : ℤ) (slot : Option Word) → TurnSteady x fr scratch (Back (i.Combf j r u disp)) slot
+back_steady x l fr scratch j r u disp slot m rest h run =
+    let turn = Back (i.Combf j r u disp) in
+    let item = Turns turn slot in
+    let m' = counted (left_behind (item ∷ rest) m) in
     let taken = if condition j (lines.register m.core r) (lines.register m.core u) then false else true in
-    let k = choice_steps x fr taken (goes_back (words_back disp) (item ∷ rest) (counted s0)) (On (left_behind rest m)) (back_steps x fr m item rest (words_back disp) tt h) (behind_steps x fr m item rest tt tt h) in
-    turning_steady x l fr m item rest tt (λ e. e) h (if taken then goes_back (words_back disp) (item ∷ rest) (counted s0) else On (left_behind rest m)) (level_of x fr (if taken then goes_back (words_back disp) (item ∷ rest) (counted s0) else On (left_behind rest m)) k) (calm_of x l fr (if taken then goes_back (words_back disp) (item ∷ rest) (counted s0) else On (left_behind rest m)) k)
+    let one = through_slot x.program x.addresses slot (goes_back (words_back disp) (item ∷ rest)) m' in
+    let two = through_slot x.program x.addresses slot (λ s. On s) (left_behind rest m) in
+    let s = if taken then one else two in
+    let k = choice_steps x fr taken one two
+    (slot_keeps x fr slot m' (goes_back (words_back disp) (item ∷ rest)) (λ d es does. back_steps x fr m item rest (words_back disp) d es tt h (raised_behind x fr m turn slot rest m.core d es tt h run refl does)))
+    (slot_keeps x fr slot (left_behind rest m) (λ s. On s) (λ d es does. behind_steps x fr m item rest d es tt tt h (raised_behind x fr m turn slot rest m.core d es tt h run refl does))) in
+    turning_steady x l fr m turn slot rest tt (λ e. e) h run (λ to. run) (λ to. refl) s (level_of x fr s k) (calm_of x l fr s k)
 
-named_steady : (x : Setting) → IsLinked x → (fr : AreFramed x) (scratch : ℕ → (ℕ → ℕ) → ℕ → ℕ) (f : List ℕ) → TurnSteady x fr scratch (CallTo (symbol.Named f) 2) None
-named_steady x l fr scratch f m rest h run =
-    let item = Turns (CallTo (symbol.Named f) 2) None in
+named_steady : (x : Setting) → IsLinked x → (fr : AreFramed x) (scratch : ℕ → (ℕ → ℕ) → ℕ → ℕ) (f : List ℕ) (slot : Option Word) → IsSlotFit x slot → TurnSteady x fr scratch (CallTo (symbol.Named f) 2) slot
+named_steady x l fr scratch f slot fit m rest h run =
+    let turn = CallTo (symbol.Named f) 2 in
     let to = return_address x.addresses m.frame rest in
-    let both = calls_steps x l fr m item rest tt tt tt h (lines.with_register 2 to m.core) refl run to f refl in
-    turning_steady x l fr m item rest tt (λ e. e) h (calls x.program x.addresses to f (after_call x m rest)) both.0
-    (λ t e some. calm_of x l fr (calls x.program x.addresses to f (after_call x m rest)) (both.1 some) t e)
+    let u = after_call x m rest in
+    let s = through_slot x.program x.addresses slot (calls x.program x.addresses to f) u in
+    let both : CallKeeps x fr f s = slot_by x slot u (calls x.program x.addresses to f) (λ s. CallKeeps x fr f s) (λ word is full. (tt, λ some. tt)) (tt, λ some. tt)
+    (λ d es does. calls_steps x l fr m (Turns turn slot) rest tt tt tt h d es (raised_behind x fr m turn slot rest u.core d es tt h run refl does) (slot_runs x slot u.core d es fit run does) to f) in
+    turning_steady x l fr m turn slot rest tt (λ e. e) h run (λ to. run) (λ to. refl) s both.0 (λ t e some. calm_of x l fr s (both.1 some) t e)
 
 result_stays : (o : Option ℕ) (f : ℕ → ℕ) → with_result o f 30 ≡ f 30
 result_stays None f = refl
 result_stays (Some n) f = refl
 
-routine_steady : (x : Setting) → IsLinked x → (fr : AreFramed x) (scratch : ℕ → (ℕ → ℕ) → ℕ → ℕ) (j : ℕ) → TurnSteady x fr scratch (CallTo (symbol.Routine j) 31) None
-routine_steady x l fr scratch j m rest h run =
-    let item = Turns (CallTo (symbol.Routine j) 31) None in
-    let t = after_routine (to_routine x m rest) j (scratch j (to_routine x m rest).core.registers) in
-    let same = result_stays (result_of j (lines.register (to_routine x m rest).core 26) (lines.register (to_routine x m rest).core 25))
-    (with_scratch (scratch j (to_routine x m rest).core.registers) scratch_registers (to_routine x m rest).core.registers) in
-    let k : StepKeeps x fr (On t) = behind_call x fr m item rest tt tt h t same in
-    turning_steady x l fr m item rest tt (λ e. e) h (On t) (level_of x fr (On t) k) (calm_of x l fr (On t) k)
+routine_steady : (x : Setting) → IsLinked x → (fr : AreFramed x) (scratch : ℕ → (ℕ → ℕ) → ℕ → ℕ) (j : ℕ) (slot : Option Word) → TurnSteady x fr scratch (CallTo (symbol.Routine j) 31) slot
+routine_steady x l fr scratch j slot m rest h run =
+    let turn = CallTo (symbol.Routine j) 31 in
+    let u = to_routine x m rest in
+    let s = through_slot x.program x.addresses slot (routine scratch j) u in
+    let k : StepKeeps x fr s = slot_keeps x fr slot u (routine scratch j) (λ d es does.
+    behind_call x fr m (Turns turn slot) rest tt tt h d (raised_behind x fr m turn slot rest u.core d es tt h run refl does) (after_routine (behind_slot d es u) j (scratch j d.registers))
+    (result_stays (result_of j (lines.register d 26) (lines.register d 25)) (with_scratch (scratch j d.registers) scratch_registers d.registers))) in
+    turning_steady x l fr m turn slot rest tt (λ e. e) h run (λ to. run) (λ to. refl) s (level_of x fr s k) (calm_of x l fr s k)
 
-value_steady : (x : Setting) → IsLinked x → (fr : AreFramed x) (scratch : ℕ → (ℕ → ℕ) → ℕ → ℕ) → TurnSteady x fr scratch CallReg (Some link_moved)
-value_steady x l fr scratch m rest h run =
-    let item = Turns CallReg (Some link_moved) in
-    let to = return_address x.addresses m.frame rest in
-    let next = calls_at x.program x.addresses to (function_at x.program x.addresses (lines.register m.core 22)) in
-    let e : through_slot x.program x.addresses (Some link_moved) next (branched x m rest) ≡ next (after_value x m rest) = ap (λ s. and_then s next) (slot_does x m rest run) in
-    let both = by (function_at x.program x.addresses (lines.register m.core 22)) refl in
-    turning_steady x l fr m item rest tt (λ e. e) h (through_slot x.program x.addresses (Some link_moved) next (branched x m rest))
-    (subst (λ s. StepLevel x fr s) (sym e) both.0)
-    (λ t same f is some. calm_of x l fr (next (after_value x m rest)) (both.1 f is some) t (sym e ∙ same))
+abbrev ValueKeeps : (x : Setting) → AreFramed x → Option (List ℕ) → Step → Type 0
+ValueKeeps x fr o s = StepLevel x fr s × ((f : List ℕ) → o ≡ Some f → library_at f ≢ None → StepKeeps x fr s)
+
+value_steady : (x : Setting) → IsLinked x → (fr : AreFramed x) (scratch : ℕ → (ℕ → ℕ) → ℕ → ℕ) (slot : Option Word) → IsSlotFit x slot → TurnSteady x fr scratch CallReg slot
+value_steady x l fr scratch slot fit m rest h run =
+    let o = function_at x.program x.addresses (lines.register m.core 22) in
+    let next = calls_at x.program x.addresses (return_address x.addresses m.frame rest) o in
+    let u = branched x m rest in
+    let s = through_slot x.program x.addresses slot next u in
+    let both : ValueKeeps x fr o s = slot_by x slot u next (λ s. ValueKeeps x fr o s) (λ word is full. (tt, λ f is some. tt)) (tt, λ f is some. tt)
+    (λ d es does. by d es (raised_behind x fr m CallReg slot rest u.core d es tt h run refl does) (slot_runs x slot u.core d es fit run does) o) in
+    turning_steady x l fr m CallReg slot rest tt (λ e. e) h run (λ to. run) (λ to. refl) s both.0 (λ t same f is some. calm_of x l fr s (both.1 f is some) t same)
   where
-    by : (o : Option (List ℕ)) → function_at x.program x.addresses (lines.register m.core 22) ≡ o
-        → StepLevel x fr (calls_at x.program x.addresses (return_address x.addresses m.frame rest) o (after_value x m rest))
-        × ((f : List ℕ) → o ≡ Some f → library_at f ≢ None → StepKeeps x fr (calls_at x.program x.addresses (return_address x.addresses m.frame rest) o (after_value x m rest)))
-    by None e = (tt, λ f is some. tt)
-    by (Some f) e =
-        let to = return_address x.addresses m.frame rest in
-        let both = calls_steps x l fr m (Turns CallReg (Some link_moved)) rest tt tt tt h (lines.with_register 2 to (lines.with_register 31 to m.core)) refl run to f refl in
+    by : (d : lines.Core) (es : List (Event ℕ ℕ)) → IsRaised x m.frame.function m.frame.stack d → d.skip ≡ false → (o : Option (List ℕ))
+        → ValueKeeps x fr o (calls_at x.program x.addresses (return_address x.addresses m.frame rest) o (passed_behind d es m rest))
+    by d es raised on None = (tt, λ f is some. tt)
+    by d es raised on (Some f) =
+        let both = calls_steps x l fr m (Turns CallReg slot) rest tt tt tt h d es raised on (return_address x.addresses m.frame rest) f in
         (both.0, λ g is some. both.1 (subst (λ (g : List ℕ). library_at g ≢ None) (let same : g ≡ f = cc in same) some))
 
 leave_by : (x : Setting) (fr : AreFramed x) (s t : Machine) (g : Frame) (gs : List Frame) (b : Bool) → ChainFrom x s.frame.stack (g ∷ gs) → (b ≡ true → lines.register t.core 30 ≡ s.frame.stack)
@@ -233,25 +278,26 @@ leave_by : (x : Setting) (fr : AreFramed x) (s t : Machine) (g : Frame) (gs : Li
 leave_by x fr s t g gs true chain pointer = returns_keeps x fr t s.frame.stack g gs chain (pointer refl)
 leave_by x fr s t g gs false chain pointer = tt
 
-leave_steps : (x : Setting) (fr : AreFramed x) (m : Machine) (rest : List Item) (callers : List Frame) → ChainFrom x m.frame.stack callers
-    → StepKeeps x fr (returns x.program x.addresses (lines.register m.core 2) (record (left_behind rest m) { callers = callers }))
-leave_steps x fr m rest [] chain = tt
-leave_steps x fr m rest (g ∷ gs) chain =
-    let s = record (left_behind rest m) { callers = g ∷ gs } in
-    let one = lines.register m.core 2 == return_address x.addresses g g.left in
-    let two = lines.register m.core 30 == m.frame.stack in
-    leave_by x fr s (after_return x s g gs) g gs (one && two) chain (λ e. eqb-true (lines.register m.core 30) m.frame.stack (and_parts one two e).1)
+leave_steps : (x : Setting) (fr : AreFramed x) (m : Machine) (to : ℕ) (rest : List Item) (d : lines.Core) (es : List (Event ℕ ℕ)) (callers : List Frame) → ChainFrom x m.frame.stack callers
+    → StepKeeps x fr (returns x.program x.addresses to (behind_slot d es (record (left_behind rest m) { callers = callers })))
+leave_steps x fr m to rest d es [] chain = tt
+leave_steps x fr m to rest d es (g ∷ gs) chain =
+    let s = behind_slot d es (record (left_behind rest m) { callers = g ∷ gs }) in
+    let one = to == return_address x.addresses g g.left in
+    let two = lines.register d 30 == m.frame.stack in
+    leave_by x fr s (after_return x s g gs) g gs (one && two) chain (λ e. eqb-true (lines.register d 30) m.frame.stack (and_parts one two e).1)
 
-leave_steady : (x : Setting) → IsLinked x → (fr : AreFramed x) (scratch : ℕ → (ℕ → ℕ) → ℕ → ℕ) → TurnSteady x fr scratch Leave None
-leave_steady x l fr scratch m rest h run =
-    let s = returns x.program x.addresses (lines.register m.core 2) (left_behind rest m) in
-    let k = leave_steps x fr m rest m.callers h.chain in
+leave_steady : (x : Setting) → IsLinked x → (fr : AreFramed x) (scratch : ℕ → (ℕ → ℕ) → ℕ → ℕ) (slot : Option Word) → TurnSteady x fr scratch Leave slot
+leave_steady x l fr scratch slot m rest h run =
+    let next = returns x.program x.addresses (lines.register m.core 2) in
+    let s = through_slot x.program x.addresses slot next (left_behind rest m) in
+    let k = slot_keeps x fr slot (left_behind rest m) next (λ d es does. leave_steps x fr m (lines.register m.core 2) rest d es m.callers h.chain) in
     record {
       steady = record {
-        high = λ t. absurd t;
-        inside = λ t. absurd t;
-        saved = λ t. absurd t;
-        behind = λ r. calm_behind x l fr m None rest h;
+        high = λ t. absurd t.0;
+        inside = λ t. absurd t.0;
+        saved = λ t. absurd t.0;
+        past = λ r. calm_past x l fr m slot rest h;
         saved_behind = λ r. callers_saved x l fr m.frame.stack m.callers h.chain;
         next = calm_of x l fr s k;
       };
@@ -260,88 +306,45 @@ leave_steady x l fr scratch m rest h run =
 
 -- ---- by what is next
 
-none_some : (w : Word) → Some w ≡ None → ⊥
-none_some w e = cc
-
-named_of : (x : Setting) → IsLinked x → (fr : AreFramed x) (scratch : ℕ → (ℕ → ℕ) → ℕ → ℕ) (f : List ℕ) (link : ℕ) (slot : Option Word) → link ≡ 2 → slot ≡ None
-    → TurnSteady x fr scratch (CallTo (symbol.Named f) link) slot
-named_of x l fr scratch f link slot is none =
-    subst (λ v. TurnSteady x fr scratch (CallTo (symbol.Named f) v) slot) (sym is)
-    (subst (λ o. TurnSteady x fr scratch (CallTo (symbol.Named f) 2) o) (sym none) (named_steady x l fr scratch f))
-
-routine_of : (x : Setting) → IsLinked x → (fr : AreFramed x) (scratch : ℕ → (ℕ → ℕ) → ℕ → ℕ) (j link : ℕ) (slot : Option Word) → link ≡ 31 → slot ≡ None
-    → TurnSteady x fr scratch (CallTo (symbol.Routine j) link) slot
-routine_of x l fr scratch j link slot is none =
-    subst (λ v. TurnSteady x fr scratch (CallTo (symbol.Routine j) v) slot) (sym is)
-    (subst (λ o. TurnSteady x fr scratch (CallTo (symbol.Routine j) 31) o) (sym none) (routine_steady x l fr scratch j))
-
-value_of : (x : Setting) → IsLinked x → (fr : AreFramed x) (scratch : ℕ → (ℕ → ℕ) → ℕ → ℕ) (slot : Option Word) → slot ≡ Some link_moved → TurnSteady x fr scratch CallReg slot
-value_of x l fr scratch slot is = subst (λ o. TurnSteady x fr scratch CallReg o) (sym is) (value_steady x l fr scratch)
-
 turn_steady : (x : Setting) → IsLinked x → (fr : AreFramed x) (scratch : ℕ → (ℕ → ℕ) → ℕ → ℕ) (turn : Turn) (slot : Option Word) → IsFit x (Turns turn slot)
     → TurnSteady x fr scratch turn slot
-turn_steady x l fr scratch (Goto b) None fit m rest h run = goto_steady x l fr scratch b m rest h run
-turn_steady x l fr scratch (Goto b) (Some w) fit m rest h run = absurd (none_some w fit)
-turn_steady x l fr scratch (If r b) None fit m rest h run = if_steady x l fr scratch r b m rest h run
-turn_steady x l fr scratch (If r b) (Some w) fit m rest h run = absurd (none_some w fit)
-turn_steady x l fr scratch (Back (i.Combf j r u disp)) None fit m rest h run = back_steady x l fr scratch j r u disp m rest h run
-turn_steady x l fr scratch (Back (i.Combf j r u disp)) (Some w) fit m rest h run = absurd (none_some w fit.1)
-turn_steady x l fr scratch (Back _) slot fit m rest h run = absurd fit
-turn_steady x l fr scratch (CallTo (symbol.Named f) link) slot fit m rest h run = named_of x l fr scratch f link slot fit.0 fit.1 m rest h run
-turn_steady x l fr scratch (CallTo (symbol.Routine j) link) slot fit m rest h run = routine_of x l fr scratch j link slot fit.0 fit.1 m rest h run
-turn_steady x l fr scratch (CallTo symbol.StackLimit link) slot fit m rest h run = absurd fit
-turn_steady x l fr scratch (CallTo (symbol.Word j) link) slot fit m rest h run = absurd fit
-turn_steady x l fr scratch CallReg slot fit m rest h run = value_of x l fr scratch slot fit m rest h run
-turn_steady x l fr scratch Leave None fit m rest h run = leave_steady x l fr scratch m rest h run
-turn_steady x l fr scratch Leave (Some w) fit m rest h run = absurd (none_some w fit)
+turn_steady x l fr scratch (Goto b) slot fit = goto_steady x l fr scratch b slot
+turn_steady x l fr scratch (If r b) slot fit = if_steady x l fr scratch r b slot
+turn_steady x l fr scratch (Back (i.Combf j r u disp)) slot fit = back_steady x l fr scratch j r u disp slot
+turn_steady x l fr scratch (Back _) slot fit = absurd fit
+turn_steady x l fr scratch (CallTo (symbol.Named f) link) slot fit =
+    subst (λ v. TurnSteady x fr scratch (CallTo (symbol.Named f) v) slot) (sym fit.0) (named_steady x l fr scratch f slot fit.1)
+turn_steady x l fr scratch (CallTo (symbol.Routine j) link) slot fit =
+    subst (λ v. TurnSteady x fr scratch (CallTo (symbol.Routine j) v) slot) (sym fit.0) (routine_steady x l fr scratch j slot)
+turn_steady x l fr scratch (CallTo symbol.StackLimit link) slot fit = absurd fit
+turn_steady x l fr scratch (CallTo (symbol.Word j) link) slot fit = absurd fit
+turn_steady x l fr scratch CallReg slot fit = value_steady x l fr scratch slot fit
+turn_steady x l fr scratch Leave slot fit = leave_steady x l fr scratch slot
 
--- a word that is passed over stops the lines at a turn
-behind_of : (x : Setting) → IsLinked x → (fr : AreFramed x) (m : Machine) (turn : Turn) (slot : Option Word) (rest : List Item) → TurnAt x fr m (Turns turn slot) rest
-    → IsReturn (Turns turn slot) → IsCalmBehind x (left_behind (Turns turn slot ∷ rest) m)
-behind_of x l fr m Leave slot rest h r = calm_behind x l fr m slot rest h
-behind_of x l fr m (Goto b) slot rest h r = absurd r
-behind_of x l fr m (If q b) slot rest h r = absurd r
-behind_of x l fr m (Back i) slot rest h r = absurd r
-behind_of x l fr m (CallTo s link) slot rest h r = absurd r
-behind_of x l fr m CallReg slot rest h r = absurd r
-
-stuck_at : (x : Setting) → IsLinked x → (fr : AreFramed x) (m : Machine) (turn : Turn) (slot : Option Word) (rest : List Item) → TurnAt x fr m (Turns turn slot) rest
-    → Steady x fr (left_behind (Turns turn slot ∷ rest) m) (Turns turn slot) Astray
-stuck_at x l fr m turn slot rest h =
-    let item = Turns turn slot in
-    let s0 = left_behind (item ∷ rest) m in
-    record {
-      steady = record {
-        high = λ t. raised_high x fr s0 h.there h.chain (raised_at x fr m item rest t h);
-        inside = λ t. calm_inside x fr s0 item rest h.there refl (raised_high x fr s0 h.there h.chain (raised_at x fr m item rest t h));
-        saved = λ t. all_saved x l fr s0 h.there h.chain (raised_at x fr m item rest t h).bounds;
-        behind = behind_of x l fr m turn slot rest h;
-        saved_behind = λ r. callers_saved x l fr m.frame.stack m.callers h.chain;
-        next = λ t e. absurd cc;
-      };
-      level = tt;
-    }
-
-no_turn : (x : Setting) (fr : AreFramed x) (m : Machine) (item : Item) (s : Step) → (IsTurning item → ⊥) → (IsReturn item → ⊥) → StepLevel x fr s
+-- nothing is asked where no turn is taken
+no_turn : (x : Setting) (fr : AreFramed x) (m : Machine) (item : Item) (s : Step) → (AtTurn m item → ⊥) → (AtReturn m item → ⊥) → StepLevel x fr s
     → ((t : Machine) → s ≡ On t → StepCalm x m item t) → Steady x fr m item s
 no_turn x fr m item s one two level next = record {
   steady = record {
     high = λ t. absurd (one t);
     inside = λ t. absurd (one t);
     saved = λ t. absurd (one t);
-    behind = λ r. absurd (two r);
+    past = λ r. absurd (two r);
     saved_behind = λ r. absurd (two r);
     next = next;
   };
   level = level;
 }
 
+-- a word that is passed over stops the lines at a turn
 skip_steady : (x : Setting) → IsLinked x → (fr : AreFramed x) (scratch : ℕ → (ℕ → ℕ) → ℕ → ℕ) (m : Machine) (turn : Turn) (slot : Option Word) (rest : List Item) → IsFit x (Turns turn slot)
     → TurnAt x fr m (Turns turn slot) rest → (b : Bool) → m.core.skip ≡ b
     → Steady x fr (left_behind (Turns turn slot ∷ rest) m) (Turns turn slot)
     (if b then Astray else turned x.program x.addresses scratch turn slot (Turns turn slot ∷ rest) rest (left_behind (Turns turn slot ∷ rest) m))
 skip_steady x l fr scratch m turn slot rest fit h false run = turn_steady x l fr scratch turn slot fit m rest h run
-skip_steady x l fr scratch m turn slot rest fit h true run = stuck_at x l fr m turn slot rest h
+skip_steady x l fr scratch m turn slot rest fit h true run =
+    no_turn x fr (left_behind (Turns turn slot ∷ rest) m) (Turns turn slot) Astray
+    (λ t. let e : true ≡ false = sym run ∙ t.1 in cc) (λ t. let e : true ≡ false = sym run ∙ t.1 in cc) tt (λ t e. absurd cc)
 
 pub step_steady : (x : Setting) → IsLinked x → (fr : AreFramed x) (scratch : ℕ → (ℕ → ℕ) → ℕ → ℕ) (m : Machine) (left : List Item) → AllByRecursion (IsFit x) left → IsInLevel x fr (left_behind left m)
     → (item : Item) (rest : List Item) → left ≡ item ∷ rest → Steady x fr (left_behind left m) item (step x.program x.addresses scratch (left_behind left m))
@@ -351,7 +354,7 @@ step_steady x l fr scratch m (Plain w ∷ left) fits h item rest e =
     let k = word_steps x fr m w left h (does x.program x.addresses w (left_behind left m)) refl in
     let same : Plain w ≡ item = cc in
     subst (λ item. Steady x fr (left_behind (Plain w ∷ left) m) item (does x.program x.addresses w (left_behind left m))) same
-    (no_turn x fr (left_behind (Plain w ∷ left) m) (Plain w) (does x.program x.addresses w (left_behind left m)) (λ t. t) (λ t. t)
+    (no_turn x fr (left_behind (Plain w ∷ left) m) (Plain w) (does x.program x.addresses w (left_behind left m)) (λ t. t.0) (λ t. t.0)
     (level_of x fr (does x.program x.addresses w (left_behind left m)) k) (calm_of x l fr (does x.program x.addresses w (left_behind left m)) k))
 step_steady x l fr scratch m (Mark b ∷ left) fits h item rest e =
     let f = m.frame.function in
@@ -359,7 +362,7 @@ step_steady x l fr scratch m (Mark b ∷ left) fits h item rest e =
     let k : StepKeeps x fr (On (left_behind left m)) = block_keeps x fr (left_behind left m) h.before left b h.there h.parts refl raised h.chain in
     let same : Mark b ≡ item = cc in
     subst (λ item. Steady x fr (left_behind (Mark b ∷ left) m) item (On (left_behind left m))) same
-    (no_turn x fr (left_behind (Mark b ∷ left) m) (Mark b) (On (left_behind left m)) (λ t. t) (λ t. t) (level_of x fr (On (left_behind left m)) k) (calm_of x l fr (On (left_behind left m)) k))
+    (no_turn x fr (left_behind (Mark b ∷ left) m) (Mark b) (On (left_behind left m)) (λ t. t.0) (λ t. t.0) (level_of x fr (On (left_behind left m)) k) (calm_of x l fr (On (left_behind left m)) k))
 step_steady x l fr scratch m (Turns turn slot ∷ left) fits h item rest e =
     let same : Turns turn slot ≡ item = cc in
     subst (λ item. Steady x fr (left_behind (Turns turn slot ∷ left) m) item

@@ -1,21 +1,25 @@
 -- A turn of control as the machine takes it: the branch, and behind it the word in its slot.
-use Rattle.std.specs.Prelude.{ℕ, suc, ℤ, ◌≡◌, ◌+◌, ◌%◌, ◌^◌, ◌<◌, ◌≤◌, not, true, false, if◌then◌else◌, Some, None, List}
-use Rattle.std.proofs.Common.{arith, subst, sym, refl}
+use Rattle.std.specs.Prelude.{ℕ, suc, ℤ, ◌≡◌, ◌+◌, ◌%◌, ◌^◌, ◌<◌, ◌≤◌, not, true, false, if◌then◌else◌, Option, Some, None, List}
+use Rattle.std.proofs.Common.{arith, subst, sym, ap, refl, ◌∙◌}
 use Rattle.pw_value.specs.Limits.{word_limit}
 use Rattle.pw_inst.specs.declared.Inst.{Inst}
-use Rattle.pw_inst.specs.declared.Inst.TheVariants.{Or, Combt, Combf, Bl, Bv, Ble}
+use Rattle.pw_inst.specs.declared.Inst.TheVariants.{Combt, Combf, Bl, Bv, Ble}
 use Rattle.pw_inst.specs.InstructionTable.{IsInRange, nop}
 use Rattle.pw_machine.specs.Core.{Core}
 use Rattle.pw_inst.specs.Computing.{condition}
 use Rattle.pw_machine.specs.Effect as machine
+use Rattle.pw_delay.specs.declared.items.Word.{Word}
 use Rattle.pw_delay.specs.Placement.{in_slot}
+use Rattle.pw_run_languages.specs.Traces.{Event}
 use Rattle.pw_run_languages.specs.Acts as lines
 use Rattle.pw_run_languages.specs.Acts.{Acts, acts, settled, loaded_at, stored_at}
 use Rattle.pw_run_languages.specs.LineRun.{accesses}
 use Rattle.pw_run_languages.specs.MachineRun.{Noted}
 use Rattle.pw_law_link_run.specs.Showing.{Leads}
 use Rattle.pw_law_link_run.specs.Steps.{Setting, fetched, IsInText, IsSetting, At, Arrives, IsQuiet, with_accesses}
+use Rattle.pw_law_link_run.specs.Slots.{IsSlotFit, SlotDoes}
 use Rattle.pw_law_link_run.proofs.Noting.{settles, no_accesses}
+use Rattle.pw_law_link_run.proofs.Slots.{acting}
 use Rattle.pw_law_link_run.proofs.Stepping.{Faces, word_at_front, branch_at_front, pass_at_front}
 use Rattle.pw_law_link_run.proofs.Branches.{Goal, jump_leads, call_leads, return_leads, false_leads, true_leads}
 
@@ -61,38 +65,6 @@ empty_turn x k c d a to rest output n i s h t slot run on l st does q =
     (settles x (suc k) d (a + 4) to rest output n (branch_at_front x k c d a (a + 4) to rest output n i s h t.here t.is run l st does) q)
     t.slot slot on
 
--- to a block, or to a symbol with the return address in a register
-pub jump_turn : (x : Setting) (k : ℕ) (c : lines.Core) (a to link : ℕ) (disp : ℤ) (rest output : List ℕ) (n : Noted) → IsSetting x → x.start.core.text ≤ word_limit
-    → At x k c a (a + 4) rest output n → IsTurn x a (Bl disp link false) → Goal a disp to → link < 32 → fetched x (a + 4) ≡ settled x.addresses (in_slot None)
-    → c.skip ≡ false → (lines.with_register link (a + 8) c).skip ≡ false → IsQuiet x (lines.with_register link (a + 8) c) (a + 4) n.calls
-    → Arrives x (suc (suc k)) (lines.with_register link (a + 8) c) to ((to + 4) % 2 ^ 32) rest output n
-jump_turn x k c a to link disp rest output n s few h t goal small slot run on q =
-    empty_turn x k c (lines.with_register link (a + 8) c) a to rest output n (Bl disp link false) s h t slot run on refl refl
-    (λ core f. jump_leads x c a to link disp core f run small (omega (arith, text_small x a few t.here)) goal) q
-
--- a conditional branch, where the condition does not hold
-pub false_turn : (x : Setting) (k : ℕ) (c : lines.Core) (a to j r u : ℕ) (disp : ℤ) (rest output : List ℕ) (n : Noted) → IsSetting x → x.start.core.text ≤ word_limit
-    → At x k c a (a + 4) rest output n → IsTurn x a (Combf j r u disp) → Goal a disp to → fetched x (a + 4) ≡ settled x.addresses (in_slot None)
-    → c.skip ≡ false → IsQuiet x c (a + 4) n.calls → (goal : ℕ) → goal ≡ (if not (condition j (lines.register c r) (lines.register c u)) then to else a + 8)
-    → Arrives x (suc (suc k)) c goal ((goal + 4) % 2 ^ 32) rest output n
-false_turn x k c a to j r u disp rest output n s few h t goes slot run q goal e =
-    empty_turn x k c c a goal rest output n (Combf j r u disp) s h t slot run run refl refl
-    (λ core f. subst (λ v. Leads core (machine.executed core (Combf j r u disp)) c v) (sym e) (false_leads x c a to j r u disp core f run (omega (arith, text_small x a few t.here)) goes)) q
-
--- and one where it holds
-pub true_turn : (x : Setting) (k : ℕ) (c : lines.Core) (a to j r u : ℕ) (disp : ℤ) (rest output : List ℕ) (n : Noted) → IsSetting x → x.start.core.text ≤ word_limit
-    → At x k c a (a + 4) rest output n → IsTurn x a (Combt j r u disp) → Goal a disp to → fetched x (a + 4) ≡ settled x.addresses (in_slot None)
-    → c.skip ≡ false → IsQuiet x c (a + 4) n.calls → (goal : ℕ) → goal ≡ (if condition j (lines.register c r) (lines.register c u) then to else a + 8)
-    → Arrives x (suc (suc k)) c goal ((goal + 4) % 2 ^ 32) rest output n
-true_turn x k c a to j r u disp rest output n s few h t goes slot run q goal e =
-    empty_turn x k c c a goal rest output n (Combt j r u disp) s h t slot run run refl refl
-    (λ core f. subst (λ v. Leads core (machine.executed core (Combt j r u disp)) c v) (sym e) (true_leads x c a to j r u disp core f run (omega (arith, text_small x a few t.here)) goes)) q
-
--- a call through register 22, whose slot takes the return address from register 31 to register 2
-link_range : IsInRange (Or 31 0 2)
-unfolding IsInRange
-link_range = (omega arith, omega arith, omega arith)
-
 -- a branch whose slot has a word that acts
 pub filled_turn : (x : Setting) (k : ℕ) (c d e : lines.Core) (a to : ℕ) (rest output : List ℕ) (n : Noted) (i j : Inst) → IsSetting x
     → At x k c a (a + 4) rest output n → IsTurn x a i → fetched x (a + 4) ≡ Some j → IsInRange j → acts x.addresses (Some j) d ≡ Acts e → c.skip ≡ false
@@ -104,15 +76,70 @@ filled_turn x k c d e a to rest output n i j s h t slot range act run l st does 
     (settles x (suc k) d (a + 4) to rest output n (branch_at_front x k c d a (a + 4) to rest output n i s h t.here t.is run l st does) q)
     t.slot slot range act
 
-pub value_turn : (x : Setting) (k : ℕ) (c e : lines.Core) (a : ℕ) (rest output : List ℕ) (n : Noted) → IsSetting x → x.start.core.text ≤ word_limit
-    → At x k c a (a + 4) rest output n → IsTurn x a (Ble 22 false) → fetched x (a + 4) ≡ Some (Or 31 0 2)
-    → acts x.addresses (Some (Or 31 0 2)) (lines.with_register 31 (a + 8) c) ≡ Acts e → c.skip ≡ false
-    → IsQuiet x (lines.with_register 31 (a + 8) c) (a + 4) n.calls
-    → Arrives x (suc (suc k)) e (lines.register c 22) ((lines.register c 22 + 4) % 2 ^ 32) rest output n
-value_turn x k c e a rest output n s few h t slot act run q =
-    to_accesses x (suc (suc k)) e (lines.with_register 31 (a + 8) c) (lines.register c 22) ((lines.register c 22 + 4) % 2 ^ 32) rest output n (Or 31 0 2) refl refl
-    (filled_turn x k c (lines.with_register 31 (a + 8) c) e a (lines.register c 22) rest output n (Ble 22 false) (Or 31 0 2) s h t slot link_range act run refl refl
-    (λ core f. call_leads x c a 22 core f run (omega (arith, text_small x a few t.here))) q)
+-- a branch with its slot, filled or not
+pub slot_turn : (x : Setting) (k : ℕ) (c d e : lines.Core) (a to : ℕ) (rest output : List ℕ) (n : Noted) (i : Inst) (slot : Option Word) (es : List (Event ℕ ℕ)) → IsSetting x
+    → At x k c a (a + 4) rest output n → IsTurn x a i → fetched x (a + 4) ≡ settled x.addresses (in_slot slot) → IsSlotFit x slot → c.skip ≡ false → d.skip ≡ false
+    → loaded_at i c ≡ None → stored_at i c ≡ None → ((core : Core) → Faces x c a (a + 4) i core → Leads core (machine.executed core i) d to)
+    → IsQuiet x d (a + 4) n.calls → SlotDoes x slot d e es
+    → Arrives x (suc (suc k)) e to ((to + 4) % 2 ^ 32) rest output (with_accesses es n)
+slot_turn x k c d e a to rest output n i None es s h t slot fit run on l st does q behind =
+    subst (λ es. Arrives x (suc (suc k)) e to ((to + 4) % 2 ^ 32) rest output (with_accesses es n)) (sym behind.1)
+    (subst (λ e. Arrives x (suc (suc k)) e to ((to + 4) % 2 ^ 32) rest output n) (sym behind.0)
+    (empty_turn x k c d a to rest output n i s h t slot run on l st does q))
+slot_turn x k c d e a to rest output n i (Some word) es s h t slot fit run on l st does q behind =
+    let j = acting x (settled x.addresses word) d e behind.0 in
+    let noted : accesses x.program x.addresses (Some j.0) d ≡ es = ap (λ o. accesses x.program x.addresses o d) (sym j.1) ∙ sym behind.1 in
+    subst (λ es. Arrives x (suc (suc k)) e to ((to + 4) % 2 ^ 32) rest output (with_accesses es n)) noted
+    (filled_turn x k c d e a to rest output n i j.0 s h t (slot ∙ j.1) (fit.range j.0 j.1) (ap (λ o. acts x.addresses o d) (sym j.1) ∙ behind.0) run l st does q)
+
+-- to a block, or to a symbol with the return address in a register
+pub jump_turn : (x : Setting) (k : ℕ) (c e : lines.Core) (a to link : ℕ) (disp : ℤ) (rest output : List ℕ) (n : Noted) (slot : Option Word) (es : List (Event ℕ ℕ)) → IsSetting x → x.start.core.text ≤ word_limit
+    → At x k c a (a + 4) rest output n → IsTurn x a (Bl disp link false) → Goal a disp to → link < 32 → fetched x (a + 4) ≡ settled x.addresses (in_slot slot) → IsSlotFit x slot
+    → c.skip ≡ false → (lines.with_register link (a + 8) c).skip ≡ false → IsQuiet x (lines.with_register link (a + 8) c) (a + 4) n.calls
+    → SlotDoes x slot (lines.with_register link (a + 8) c) e es
+    → Arrives x (suc (suc k)) e to ((to + 4) % 2 ^ 32) rest output (with_accesses es n)
+jump_turn x k c e a to link disp rest output n slot es s few h t goal small stands fit run on q does =
+    slot_turn x k c (lines.with_register link (a + 8) c) e a to rest output n (Bl disp link false) slot es s h t stands fit run on refl refl
+    (λ core f. jump_leads x c a to link disp core f run small (omega (arith, text_small x a few t.here)) goal) q does
+
+-- a conditional branch, where the condition does not hold
+pub false_turn : (x : Setting) (k : ℕ) (c e : lines.Core) (a to j r u : ℕ) (disp : ℤ) (rest output : List ℕ) (n : Noted) (slot : Option Word) (es : List (Event ℕ ℕ)) → IsSetting x → x.start.core.text ≤ word_limit
+    → At x k c a (a + 4) rest output n → IsTurn x a (Combf j r u disp) → Goal a disp to → fetched x (a + 4) ≡ settled x.addresses (in_slot slot) → IsSlotFit x slot
+    → c.skip ≡ false → IsQuiet x c (a + 4) n.calls → SlotDoes x slot c e es
+    → (goal : ℕ) → goal ≡ (if not (condition j (lines.register c r) (lines.register c u)) then to else a + 8)
+    → Arrives x (suc (suc k)) e goal ((goal + 4) % 2 ^ 32) rest output (with_accesses es n)
+false_turn x k c e a to j r u disp rest output n slot es s few h t goes stands fit run q does goal is =
+    slot_turn x k c c e a goal rest output n (Combf j r u disp) slot es s h t stands fit run run refl refl
+    (λ core f. subst (λ v. Leads core (machine.executed core (Combf j r u disp)) c v) (sym is) (false_leads x c a to j r u disp core f run (omega (arith, text_small x a few t.here)) goes)) q does
+
+-- and one where it holds
+pub true_turn : (x : Setting) (k : ℕ) (c e : lines.Core) (a to j r u : ℕ) (disp : ℤ) (rest output : List ℕ) (n : Noted) (slot : Option Word) (es : List (Event ℕ ℕ)) → IsSetting x → x.start.core.text ≤ word_limit
+    → At x k c a (a + 4) rest output n → IsTurn x a (Combt j r u disp) → Goal a disp to → fetched x (a + 4) ≡ settled x.addresses (in_slot slot) → IsSlotFit x slot
+    → c.skip ≡ false → IsQuiet x c (a + 4) n.calls → SlotDoes x slot c e es
+    → (goal : ℕ) → goal ≡ (if condition j (lines.register c r) (lines.register c u) then to else a + 8)
+    → Arrives x (suc (suc k)) e goal ((goal + 4) % 2 ^ 32) rest output (with_accesses es n)
+true_turn x k c e a to j r u disp rest output n slot es s few h t goes stands fit run q does goal is =
+    slot_turn x k c c e a goal rest output n (Combt j r u disp) slot es s h t stands fit run run refl refl
+    (λ core f. subst (λ v. Leads core (machine.executed core (Combt j r u disp)) c v) (sym is) (true_leads x c a to j r u disp core f run (omega (arith, text_small x a few t.here)) goes)) q does
+
+-- a call through register 22
+pub value_turn : (x : Setting) (k : ℕ) (c e : lines.Core) (a : ℕ) (rest output : List ℕ) (n : Noted) (slot : Option Word) (es : List (Event ℕ ℕ)) → IsSetting x → x.start.core.text ≤ word_limit
+    → At x k c a (a + 4) rest output n → IsTurn x a (Ble 22 false) → fetched x (a + 4) ≡ settled x.addresses (in_slot slot) → IsSlotFit x slot → c.skip ≡ false
+    → IsQuiet x (lines.with_register 31 (a + 8) c) (a + 4) n.calls → SlotDoes x slot (lines.with_register 31 (a + 8) c) e es
+    → Arrives x (suc (suc k)) e (lines.register c 22) ((lines.register c 22 + 4) % 2 ^ 32) rest output (with_accesses es n)
+value_turn x k c e a rest output n slot es s few h t stands fit run q does =
+    slot_turn x k c (lines.with_register 31 (a + 8) c) e a (lines.register c 22) rest output n (Ble 22 false) slot es s h t stands fit run run refl refl
+    (λ core f. call_leads x c a 22 core f run (omega (arith, text_small x a few t.here))) q does
+
+-- a return with a word in its slot
+pub filled_return : (x : Setting) (k : ℕ) (c e : lines.Core) (a b : ℕ) (rest output : List ℕ) (n : Noted) (word : Word) (es : List (Event ℕ ℕ)) → IsSetting x
+    → At x k c a (a + 4) rest output n → IsTurn x a (Bv b false) → fetched x (a + 4) ≡ settled x.addresses (in_slot (Some word)) → IsSlotFit x (Some word) → c.skip ≡ false
+    → IsQuiet x c (a + 4) n.calls → SlotDoes x (Some word) c e es
+    → Arrives x (suc (suc k)) e (lines.register c b) ((lines.register c b + 4) % 2 ^ 32) rest output (with_accesses es n)
+filled_return x k c e a b rest output n word es s h t stands fit run q does =
+    let same : record c { skip = false } ≡ c = ap (λ b. record c { skip = b }) (sym run) in
+    slot_turn x k c c e a (lines.register c b) rest output n (Bv b false) (Some word) es s h t stands fit run run refl refl
+    (λ core f. subst (λ c'. Leads core (machine.executed core (Bv b false)) c' (lines.register c b)) same (return_leads x c a b false core f)) q does
 
 -- a return, behind which the next word is passed over
 pub return_turn : (x : Setting) (k : ℕ) (c : lines.Core) (a b : ℕ) (rest output : List ℕ) (n : Noted) → IsSetting x

@@ -4,6 +4,7 @@ use Rattle.std.specs.Prelude.{ℕ, ◌≡◌, ◌≢◌, ◌+◌, ◌*◌, ◌<�
 use Rattle.std.specs.List.{AllByRecursion}
 use Rattle.pw_alloc.specs.Frames.{head_size}
 use Rattle.pw_delay.specs.declared.items.Word.{Word}
+use Rattle.pw_delay.specs.declared.items.Turn.{Turn}
 use Rattle.pw_delay.specs.declared.items.Turn.TheVariants.{Goto, Leave}
 use Rattle.pw_delay.specs.declared.items.Item.{Item}
 use Rattle.pw_delay.specs.declared.items.Item.TheVariants.{Plain, Turns, Mark}
@@ -27,17 +28,13 @@ pub record IsRaised (x : Setting) (f : LineFn) (stack : ℕ) (c : lines.Core) : 
   pub bounds : IsStack x f stack
   pub pointer : lines.register c 30 ≡ stack + f.located.frame
 
--- or it is as it was at the call
-pub record IsLowered (x : Setting) (f : LineFn) (stack : ℕ) (c : lines.Core) : Type 0 where
-  pub bounds : IsStack x f stack
-  pub pointer : lines.register c 30 ≡ stack
-
 -- ---- levels
 
--- What is known at a place: whether the pointer is at the end of the frame, whether the stack is known to be one, whether
--- the next word is not passed over, and what register 1 holds: a number, above the stack pointer at the call or by itself.
+-- What is known at a place: where the pointer is, at the end of the frame or as at the call; whether the stack is known to
+-- be one; whether the next word is not passed over; and what register 1 holds: a number, above the stack pointer at the
+-- call or by itself.
 pub record Level : Type 0 where
-  pub raised : Bool
+  pub raised : Option Bool
   pub bounded : Bool
   pub clear : Bool
   pub help : Option (Bool × ℕ)
@@ -46,9 +43,13 @@ abbrev pub HelpIs : Option (Bool × ℕ) → ℕ → lines.Core → Type 0
 HelpIs None stack c = Unit {0}
 HelpIs (Some h) stack c = lines.register c 1 ≡ ((if h.0 then stack else 0) + h.1) % 2 ^ 32
 
+abbrev pub PointerIs : Option Bool → LineFn → ℕ → lines.Core → Type 0
+PointerIs None f stack c = Unit {0}
+PointerIs (Some raised) f stack c = lines.register c 30 ≡ (if raised then stack + f.located.frame else stack)
+
 pub record HoldsAt (x : Setting) (f : LineFn) (l : Level) (stack : ℕ) (c : lines.Core) : Type 0 where
   pub small : stack < 2 ^ 32
-  pub pointer : lines.register c 30 ≡ (if l.raised then stack + f.located.frame else stack)
+  pub pointer : PointerIs l.raised f stack c
   pub bounds : l.bounded ≡ true → IsStack x f stack
   pub clear : l.clear ≡ true → c.skip ≡ false
   pub help : HelpIs l.help stack c
@@ -58,9 +59,13 @@ abbrev pub IsCold : Setting → LineFn → ℕ → Type 0
 IsCold x f words =
     (before rest : List Item) (item : Item) → f.items ≡ before ++ item ∷ rest → IsCalling item → words ≢ words_of x f (before ++ item ∷ [])
 
+-- the pointer is above the one at the call, or no call leads back to where so many words stand before
+abbrev pub IsApart : Setting → LineFn → ℕ → ℕ → lines.Core → Type 0
+IsApart x f words stack c = (stack < lines.register c 30) ⊎ IsCold x f words
+
 -- What holds at each place of a function's items, by the stack pointer at its call: from one place to the next by each
--- word; at the beginning of a block and at each turn but a return the pointer is at the end of the frame, and behind
--- these nothing else need hold; at a return it is as at the call.
+-- word; at the beginning of a block and at each turn but a return, and behind its slot, the pointer is at the end of the
+-- frame, and behind these nothing else need hold; a return is not where a call leads back to.
 pub record IsLeveled (x : Setting) (f : LineFn) : Type 0 where
   pub at : List Item → Level
   pub entry : (stack : ℕ) (c : lines.Core) → stack < 2 ^ 32 → lines.register c 30 ≡ stack → c.skip ≡ false → HoldsAt x f (at f.items) stack c
@@ -74,11 +79,12 @@ pub record IsLeveled (x : Setting) (f : LineFn) : Type 0 where
       → HoldsAt x f (at rest) stack c
   pub loop : (before rest from : List Item) (item : Item) (n stack : ℕ) (c : lines.Core) → Parts f before (item ∷ rest) → IsTurning item
       → back_over n (item ∷ rest) f.items ≡ Some from → IsRaised x f stack c → HoldsAt x f (at from) stack c
+  pub slot : (before rest : List Item) (turn : Turn) (w : Word) (stack : ℕ) (c d : lines.Core) → Parts f before (Turns turn (Some w) ∷ rest) → IsTurning (Turns turn (Some w))
+      → IsRaised x f stack c → c.skip ≡ false → acts x.addresses (settled x.addresses w) c ≡ Acts d → lines.register d 30 ≡ lines.register c 30
   pub leave : (before rest : List Item) (slot : Option Word) (stack : ℕ) (c : lines.Core) → Parts f before (Turns Leave slot ∷ rest)
-      → HoldsAt x f (at (Turns Leave slot ∷ rest)) stack c → IsLowered x f stack c × IsCold x f (words_of x f before + 1)
-  -- the pointer is above the one at the call, or no call leads here
+      → HoldsAt x f (at (Turns Leave slot ∷ rest)) stack c → IsApart x f (words_of x f before + 1) stack c
   pub quiet : (before left : List Item) (stack : ℕ) (c : lines.Core) → Parts f before left → HoldsAt x f (at left) stack c
-      → (stack < lines.register c 30) ⊎ ((lines.register c 30 ≡ stack) × IsCold x f (words_of x f before))
+      → IsApart x f (words_of x f before) stack c
 
 -- what does not lead away for good: words, blocks, and turns but jumps and returns
 abbrev pub IsPassing : Item → Type 0

@@ -1,6 +1,7 @@
 pub mod Showing
 pub mod Steps
 pub mod Placing
+pub mod Slots
 pub mod Simulating
 pub mod Meeting
 pub mod Routines

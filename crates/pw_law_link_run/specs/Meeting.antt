@@ -1,5 +1,5 @@
 -- What the machine comes to, where the lines take a step.
-use Rattle.std.specs.Prelude.{ℕ, ◌≡◌, ◌≢◌, ◌+◌, ◌≤◌, Some, None, List, length}
+use Rattle.std.specs.Prelude.{ℕ, ◌≡◌, ◌≢◌, ◌+◌, ◌≤◌, false, Some, None, List, length}
 use Rattle.pw_inst.specs.declared.relocation.Symbol.TheVariants as symbol
 use Rattle.pw_machine.specs.declared.ends.End.{End as MachineEnd}
 use Rattle.pw_machine.specs.declared.ends.End.TheVariants as machine
@@ -11,6 +11,7 @@ use Rattle.pw_delay.specs.declared.items.Item.{Item}
 use Rattle.pw_delay.specs.declared.items.Item.TheVariants.{Turns}
 use Rattle.pw_delay.specs.Placement.{size}
 use Rattle.pw_run.specs.Runs.{End, Ended, StackFull}
+use Rattle.pw_run_languages.specs.Traces.{Event}
 use Rattle.pw_run_languages.specs.Programs.{library_at}
 use Rattle.pw_run_languages.specs.Acts as lines
 use Rattle.pw_run_languages.specs.LineRun.{Machine, Step, On, Astray, function_at}
@@ -18,7 +19,8 @@ use Rattle.pw_run_languages.specs.LineRun as run
 use Rattle.pw_run_languages.specs.MachineRun as noting
 use Rattle.pw_law_link_run.specs.Steps.{Setting, map_in, AreInData}
 use Rattle.pw_law_link_run.specs.Placing.{name_in}
-use Rattle.pw_law_link_run.specs.Simulating.{calls_from, calls_behind, Simulates, IsCalm, IsCalmInside, IsCalmBehind, IsHigh}
+use Rattle.pw_law_link_run.specs.Slots.{SlotDoes, behind_slot, behind_branch}
+use Rattle.pw_law_link_run.specs.Simulating.{calls_from, calls_behind, Simulates, IsCalm, IsCalmInside, IsCalmPast, IsHigh}
 
 -- ---- what it comes to
 
@@ -68,12 +70,29 @@ IsTurning (Turns Leave slot) = ⊥
 IsTurning (Turns turn slot) = Unit {0}
 IsTurning _ = ⊥
 
--- Before an item is passed: at every turn but a return the stack pointer is above those of all active calls, and nothing
--- begins at the words of the turn.
+-- at a turn, or at a return, that is not passed over
+abbrev pub AtTurn : Machine → Item → Type 0
+AtTurn m item = IsTurning item × (m.core.skip ≡ false)
+
+abbrev pub AtReturn : Machine → Item → Type 0
+AtReturn m item = IsReturn item × (m.core.skip ≡ false)
+
+-- behind the slot of a turn the stack pointer is above those of all active calls
+abbrev pub IsHighBehind : Setting → Machine → Item → Type 0
+IsHighBehind x m (Turns turn slot) =
+    (to : ℕ) (d : lines.Core) (es : List (Event ℕ ℕ)) → SlotDoes x slot (behind_branch turn to m.core) d es → IsHigh x (behind_slot d es m)
+IsHighBehind x m item = Unit {0}
+
+abbrev pub IsPastReturn : Setting → Machine → Item → Type 0
+IsPastReturn x m (Turns turn slot) = IsCalmPast x m slot
+IsPastReturn x m item = Unit {0}
+
+-- Before an item is passed: behind every turn but a return the stack pointer is above those of all active calls, and
+-- nothing begins at the words of a turn.
 pub record IsSteady (x : Setting) (m : Machine) (item : Item) (s : Step) : Type 0 where
-  pub high : IsTurning item → IsHigh x m
-  pub inside : IsTurning item → IsCalmInside x m (size (x.long (name_in m.frame.function)) item)
-  pub saved : IsTurning item → AreInData x (calls_from x m.frame m.callers)
-  pub behind : IsReturn item → IsCalmBehind x m
-  pub saved_behind : IsReturn item → AreInData x (calls_behind x m.callers)
+  pub high : AtTurn m item → IsHighBehind x m item
+  pub inside : AtTurn m item → IsCalmInside x m (size (x.long (name_in m.frame.function)) item)
+  pub saved : AtTurn m item → AreInData x (calls_from x m.frame m.callers)
+  pub past : AtReturn m item → IsPastReturn x m item
+  pub saved_behind : AtReturn m item → AreInData x (calls_behind x m.callers)
   pub next : (t : Machine) → s ≡ On t → StepCalm x m item t

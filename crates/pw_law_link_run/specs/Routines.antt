@@ -5,6 +5,7 @@ use Rattle.pw_inst.specs.declared.relocation.Symbol.TheVariants as symbol
 use Rattle.pw_machine.specs.Core.{register}
 use Rattle.pw_machine.specs.Run.{State, Running, run_of}
 use Rattle.pw_milli.specs.Calls.{StandsAt, AreRegisters, Enters, returned, is_scratch, StaysInside}
+use Rattle.pw_delay.specs.declared.items.Word.{Word}
 use Rattle.pw_delay.specs.declared.items.Turn.TheVariants.{CallTo}
 use Rattle.pw_delay.specs.declared.items.Item.{Item}
 use Rattle.pw_delay.specs.declared.items.Item.TheVariants.{Turns}
@@ -76,8 +77,8 @@ pub record HasRoutines (x : Setting) : Type 0 where
   pub remu : HasRoutine x 4
 
 -- the state at the turn, and behind its branch
-abbrev pub calling_routine : Machine → ℕ → List Item → Machine
-calling_routine m j rest = left_behind (Turns (CallTo (symbol.Routine j) 31) None ∷ rest) m
+abbrev pub calling_routine : Machine → ℕ → Option Word → List Item → Machine
+calling_routine m j slot rest = left_behind (Turns (CallTo (symbol.Routine j) 31) slot ∷ rest) m
 
 abbrev pub to_routine : Setting → Machine → List Item → Machine
 to_routine x m rest = linked 31 (return_address x.addresses m.frame rest) (left_behind rest m)

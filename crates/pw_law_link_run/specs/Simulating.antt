@@ -1,5 +1,5 @@
 -- A state of the run of lines, and the machine after so many steps that shows it.
-use Rattle.std.specs.Prelude.{ℕ, ◌≡◌, ◌+◌, ◌*◌, ◌≤◌, ◌<◌, true, false, Some, None, List, [], ◌∷◌, Contains, find, length, ◌++◌}
+use Rattle.std.specs.Prelude.{ℕ, ◌≡◌, ◌+◌, ◌*◌, ◌≤◌, ◌<◌, true, false, Option, Some, None, List, [], ◌∷◌, Contains, find, length, ◌++◌}
 use Rattle.std.specs.Str.{bytes_eq}
 use Rattle.std.specs.List.{AllByRecursion}
 use Rattle.pw_value.specs.Limits.{word_limit}
@@ -8,15 +8,16 @@ use Rattle.pw_inst.specs.declared.Inst.{Inst}
 use Rattle.pw_inst.specs.declared.Inst.TheVariants.{Combf, Break, Bv}
 use Rattle.pw_inst.specs.InstructionTable.{IsInRange}
 use Rattle.pw_inst.specs.declared.relocation.Symbol.TheVariants as symbol
+use Rattle.pw_delay.specs.declared.items.Word.{Word}
 use Rattle.pw_delay.specs.declared.items.Turn.TheVariants.{Back, Goto, If, CallTo, CallReg, Leave}
 use Rattle.pw_delay.specs.declared.items.Item.{Item}
 use Rattle.pw_delay.specs.declared.items.Item.TheVariants.{Plain, Turns, Mark}
-use Rattle.pw_delay.specs.Items.{link_moved}
 use Rattle.pw_run_languages.specs.Acts.{settled}
 use Rattle.pw_run_languages.specs.Acts as lines
 use Rattle.pw_run_languages.specs.LineRun.{LineFn, Frame, Machine, name_of, left_behind, IsCalling, return_address}
 use Rattle.pw_run_languages.specs.MachineRun.{Call, Noted, function_at}
 use Rattle.pw_law_link_run.specs.Steps.{Setting, map_in, fetched, IsInText, IsSetting, At, is_back, IsQuiet}
+use Rattle.pw_law_link_run.specs.Slots.{IsSlotFit, LeavesRegister}
 use Rattle.pw_law_link_run.specs.Placing.{name_in, own_address, words_of, Stands, Parts, IsLeft}
 
 -- ---- the calls that are active, by the frames of the lines
@@ -41,20 +42,20 @@ noted_by x m = record { calls = calls_from x m.frame m.callers; log = m.trace }
 
 -- ---- code that can run
 
--- Each word has its fields in range where its address is in it. Slots are empty, but for that of a call through a
--- register; calls of functions put the return address into register 2, those of routines into register 31.
+-- Each word has its fields in range where its address is in it, also in slots; calls of functions put the return address
+-- into register 2, those of routines into register 31, where a slot leaves it.
 abbrev pub IsFit : Setting → Item → Type 0
 IsFit x (Plain word) = (i : Inst) → settled x.addresses word ≡ Some i → IsInRange i
 IsFit x (Mark b) = Unit {0}
-IsFit x (Turns (Back (Combf k r s disp)) slot) = IsInRange (Combf k r s disp) × (slot ≡ None)
+IsFit x (Turns (Back (Combf k r s disp)) slot) = IsInRange (Combf k r s disp) × IsSlotFit x slot
 IsFit x (Turns (Back i) slot) = ⊥
-IsFit x (Turns (Goto b) slot) = slot ≡ None
-IsFit x (Turns (If r b) slot) = slot ≡ None
-IsFit x (Turns (CallTo (symbol.Named f) link) slot) = (link ≡ 2) × (slot ≡ None)
-IsFit x (Turns (CallTo (symbol.Routine k) link) slot) = (link ≡ 31) × (slot ≡ None) × (k < 5)
+IsFit x (Turns (Goto b) slot) = IsSlotFit x slot
+IsFit x (Turns (If r b) slot) = IsSlotFit x slot
+IsFit x (Turns (CallTo (symbol.Named f) link) slot) = (link ≡ 2) × IsSlotFit x slot
+IsFit x (Turns (CallTo (symbol.Routine k) link) slot) = (link ≡ 31) × IsSlotFit x slot × LeavesRegister x 31 slot × (k < 5)
 IsFit x (Turns (CallTo s link) slot) = ⊥
-IsFit x (Turns CallReg slot) = slot ≡ Some link_moved
-IsFit x (Turns Leave slot) = slot ≡ None
+IsFit x (Turns CallReg slot) = IsSlotFit x slot
+IsFit x (Turns Leave slot) = IsSlotFit x slot
 
 -- the functions stand in the text
 pub record IsLinked (x : Setting) : Type 0 where
@@ -103,9 +104,14 @@ abbrev pub IsCalmBehind : Setting → Machine → Type 0
 IsCalmBehind x m =
     (a : ℕ) → IsLeft x m.frame.function m.frame.left a → AllByRecursion (λ call. is_back m.core (a + 4) call ≡ false) (calls_from x m.frame m.callers)
 
+-- nor at the word in its slot, where it has one
+abbrev pub IsCalmPast : Setting → Machine → Option Word → Type 0
+IsCalmPast x m None = IsCalmBehind x m
+IsCalmPast x m (Some word) = IsCalmInside x m 2
+
 -- the state at a return, with the callers of the function
-abbrev pub leaving : Machine → List Item → Frame → List Frame → Machine
-leaving m rest caller callers = record (left_behind (Turns Leave None ∷ rest) m) { callers = caller ∷ callers }
+abbrev pub leaving : Machine → Option Word → List Item → Frame → List Frame → Machine
+leaving m slot rest caller callers = record (left_behind (Turns Leave slot ∷ rest) m) { callers = caller ∷ callers }
 
 -- ---- the library
 

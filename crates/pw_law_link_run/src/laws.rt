@@ -1,6 +1,6 @@
 //! What the machine does where the items of the program's functions stand in its text.
 
-ghost use Rattle.std.specs.Prelude.{ℕ, suc, ℤ, ◌≡◌, ◌≢◌, ◌*◌, [], ◌++◌, ◌+◌, ◌%◌, ◌^◌, ◌≤◌, ◌<◌, ◌==◌, Bool, true, false, if◌then◌else◌, Some, None, List, ◌∷◌, Contains, length};
+ghost use Rattle.std.specs.Prelude.{ℕ, suc, ℤ, ◌≡◌, ◌≢◌, ◌*◌, [], ◌++◌, ◌+◌, ◌%◌, ◌^◌, ◌≤◌, ◌<◌, ◌==◌, Bool, true, false, if◌then◌else◌, Option, Some, None, List, ◌∷◌, Contains, length};
 ghost use Rattle.std.specs.List.{AllByRecursion};
 ghost use Rattle.pw_inst.specs.declared.Inst.{Inst};
 ghost use Rattle.pw_inst.specs.declared.Inst.TheVariants.{Combf};
@@ -21,7 +21,7 @@ ghost use Rattle.pw_delay.specs.Placement.{size};
 ghost use Rattle.pw_run_languages.specs.Addresses.{Addresses};
 ghost use Rattle.pw_run_languages.specs.Acts as lines;
 ghost use Rattle.pw_run_languages.specs.Acts.{acts};
-ghost use Rattle.pw_run_languages.specs.LineRun.{LineFn, Frame, Machine, On, function_named, left_behind, counted, does, to_block, words_back, goes_back, return_address, enters, returns, start, line_run};
+ghost use Rattle.pw_run_languages.specs.LineRun.{LineFn, Frame, Machine, On, function_named, left_behind, counted, does, to_block, words_back, goes_back, return_address, enters, returns, through_slot, start, line_run};
 ghost use Rattle.pw_run.specs.Runs.{Refines, Same};
 ghost use Rattle.pw_milli.specs.Words.{divs_words, divu_words, mul_words, rems_words, remu_words};
 ghost use Rattle.pw_milli.specs.Calls.{Enters};
@@ -36,8 +36,8 @@ ghost use Rattle.pw_webflow.specs.declared.web.WebBlock.{WebBlock};
 ghost use Rattle.pw_law_link_run.specs.Showing.{Shows, DoesSo};
 ghost use Rattle.pw_law_link_run.specs.Steps.{Setting, map_in, IsSetting, Arrives, is_back, AreInData};
 ghost use Rattle.pw_law_link_run.specs.Placing.{name_in, own_address, words_of, Parts};
-ghost use Rattle.pw_law_link_run.specs.Simulating.{calls_from, noted_by, IsLinked, IsCaller, Simulates, IsCalm, IsCalmInside, IsCalmBehind, leaving, HasLibrary, IsFit};
-ghost use Rattle.pw_law_link_run.specs.Meeting.{Meets};
+ghost use Rattle.pw_law_link_run.specs.Simulating.{calls_from, noted_by, IsLinked, IsCaller, Simulates, IsCalm, IsCalmInside, IsCalmPast, leaving, HasLibrary, IsFit};
+ghost use Rattle.pw_law_link_run.specs.Meeting.{Meets, IsHighBehind};
 ghost use Rattle.pw_law_link_run.specs.Behind.{AllStand};
 ghost use Rattle.pw_law_link_run.specs.Leaving.{AreByRegisters, Leaves};
 ghost use Rattle.pw_law_link_run.specs.Routines.{HasRoutines, LeaveSo, IsSteadyRun, Makes};
@@ -66,22 +66,24 @@ pub fn words_are_met()
     ensures block { (x : Setting) (k b : ℕ) (m : Machine) (rest : List Item) → Simulates x (left_behind (Mark b ∷ rest) m) k → Simulates x (left_behind rest m) k }
 {}
 
-/// So do a jump to a block, a conditional branch, short or long, and a loop inside a block.
+/// So do a jump to a block, a conditional branch, short or long, and a loop inside a block, whatever stands in the slot;
+/// of a conditional branch the stack pointer behind the slot is above those of all active calls.
 #[tactic(auto, using(crate::proofs::Items::goto_simulates, crate::proofs::Items::if_simulates, crate::proofs::Items::back_simulates))]
 pub fn branches_are_met()
-    ensures jump { (x : Setting) → IsLinked x → (k b : ℕ) (m t : Machine) (rest : List Item) →
-        Simulates x (left_behind (Turns (Goto b) None ∷ rest) m) k → m.core.skip ≡ false → to_block b (counted (left_behind (Turns (Goto b) None ∷ rest) m)) ≡ On t →
-        IsCalmInside x (left_behind (Turns (Goto b) None ∷ rest) m) 2 → IsCalm x t → Simulates x t (suc (suc k)) }
-    ensures branch { (x : Setting) → IsLinked x → (k r b : ℕ) (m t : Machine) (rest : List Item) →
-        Simulates x (left_behind (Turns (If r b) None ∷ rest) m) k → m.core.skip ≡ false →
-        (if lines.register m.core r == 0 then On (left_behind rest m) else to_block b (counted (left_behind (Turns (If r b) None ∷ rest) m))) ≡ On t →
-        IsCalmInside x (left_behind (Turns (If r b) None ∷ rest) m) (size (x.long (name_in m.frame.function)) (Turns (If r b) None)) → IsCalm x t → (j : ℕ) × Simulates x t j }
-    ensures back { (x : Setting) → IsLinked x → (k j r u : ℕ) (disp : ℤ) (m t : Machine) (rest : List Item) →
-        Simulates x (left_behind (Turns (Back (Combf j r u disp)) None ∷ rest) m) k → m.core.skip ≡ false →
+    ensures jump { (x : Setting) → IsLinked x → (k b : ℕ) (slot : Option Word) (m t : Machine) (rest : List Item) →
+        Simulates x (left_behind (Turns (Goto b) slot ∷ rest) m) k → m.core.skip ≡ false → through_slot x.program x.addresses slot (to_block b) (counted (left_behind (Turns (Goto b) slot ∷ rest) m)) ≡ On t →
+        IsCalmInside x (left_behind (Turns (Goto b) slot ∷ rest) m) 2 → IsCalm x t → Simulates x t (suc (suc k)) }
+    ensures branch { (x : Setting) → IsLinked x → (k r b : ℕ) (slot : Option Word) (m t : Machine) (rest : List Item) →
+        Simulates x (left_behind (Turns (If r b) slot ∷ rest) m) k → m.core.skip ≡ false → IsHighBehind x m (Turns (If r b) slot) →
+        (if lines.register m.core r == 0 then through_slot x.program x.addresses slot On (left_behind rest m)
+        else through_slot x.program x.addresses slot (to_block b) (counted (left_behind (Turns (If r b) slot ∷ rest) m))) ≡ On t →
+        IsCalmInside x (left_behind (Turns (If r b) slot ∷ rest) m) (size (x.long (name_in m.frame.function)) (Turns (If r b) slot)) → IsCalm x t → (j : ℕ) × Simulates x t j }
+    ensures back { (x : Setting) → IsLinked x → (k j r u : ℕ) (disp : ℤ) (slot : Option Word) (m t : Machine) (rest : List Item) →
+        Simulates x (left_behind (Turns (Back (Combf j r u disp)) slot ∷ rest) m) k → m.core.skip ≡ false →
         (if (if condition j (lines.register m.core r) (lines.register m.core u) then false else true)
-        then goes_back (words_back disp) (Turns (Back (Combf j r u disp)) None ∷ rest) (counted (left_behind (Turns (Back (Combf j r u disp)) None ∷ rest) m))
-        else On (left_behind rest m)) ≡ On t →
-        IsCalmInside x (left_behind (Turns (Back (Combf j r u disp)) None ∷ rest) m) 2 → IsCalm x t → Simulates x t (suc (suc k)) }
+        then through_slot x.program x.addresses slot (goes_back (words_back disp) (Turns (Back (Combf j r u disp)) slot ∷ rest)) (counted (left_behind (Turns (Back (Combf j r u disp)) slot ∷ rest) m))
+        else through_slot x.program x.addresses slot On (left_behind rest m)) ≡ On t →
+        IsCalmInside x (left_behind (Turns (Back (Combf j r u disp)) slot ∷ rest) m) 2 → IsCalm x t → Simulates x t (suc (suc k)) }
 {}
 
 /// Where the machine arrives at a function's address, with the return address in register 2, it shows the state of the
@@ -94,10 +96,10 @@ pub fn calls_are_met()
         Arrives x k m.core (own_address x g) ((own_address x g + 4) % 2 ^ 32) m.rest m.out (noted_by x m) → m.events + 1 ≤ k → m.read + length m.rest ≡ length x.start.rest → m.core.skip ≡ false →
         AllByRecursion (λ call. is_back m.core (own_address x g) call ≡ false) (calls_from x m.frame m.callers) → AreInData x (calls_from x m.frame m.callers) →
         Simulates x (enters x.program x.addresses g m) k }
-    ensures exit { (x : Setting) → IsLinked x → (k : ℕ) (m t : Machine) (rest : List Item) (caller : Frame) (callers : List Frame) →
-        Simulates x (leaving m rest caller callers) k → m.core.skip ≡ false →
-        returns x.program x.addresses (lines.register m.core 2) (left_behind rest (leaving m rest caller callers)) ≡ On t →
-        IsCalmBehind x (leaving m rest caller callers) → IsCalm x t → AreInData x (calls_from x caller callers) → Simulates x t (suc (suc k)) }
+    ensures exit { (x : Setting) → IsLinked x → (k : ℕ) (slot : Option Word) (m t : Machine) (rest : List Item) (caller : Frame) (callers : List Frame) →
+        Simulates x (leaving m slot rest caller callers) k → m.core.skip ≡ false →
+        through_slot x.program x.addresses slot (returns x.program x.addresses (lines.register m.core 2)) (left_behind rest (leaving m slot rest caller callers)) ≡ On t →
+        IsCalmPast x (leaving m slot rest caller callers) slot → IsCalm x t → AreInData x (calls_from x caller callers) → Simulates x t (suc (suc k)) }
 {}
 
 /// A routine that is entered leaves the result that the run of lines has, in register 29, and changes scratch registers

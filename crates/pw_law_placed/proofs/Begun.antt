@@ -1,13 +1,12 @@
 -- A function that has just been called: it has saved, and its temporaries hold nothing.
 use Rattle.std.specs.Prelude.{ℕ, zero, suc, ◌≡◌, ◌≤◌, ◌<◌, ◌==◌, Bool, true, false, if◌then◌else◌, Option, Some, None, List, [], ◌∷◌, length, map, replicate, slice_get, slice_index_or, Contains}
-use Rattle.std.proofs.Common.{◌⊎◌, arith, refl, sym, ap, subst, ◌∙◌, get_or, inl, inr}
+use Rattle.std.proofs.Common.{arith, refl, sym, ap, subst, ◌∙◌, get_or, inl, inr}
 use Rattle.std.proofs.lemmas.Bool.{cases_lt, eqb-true, eqb-false}
 use Rattle.std.proofs.lemmas.List.{get_or-replicate, get_or_past, length-replicate}
 use Rattle.pw_value.specs.declared.value.Value.{Value}
 use Rattle.pw_value.specs.declared.value.Value.TheVariants.{Undefined}
-use Rattle.pw_files.proofs.Standing.{Has, contains_by, has_by}
-use Rattle.pw_db.specs.Limits.{first_register, last_register}
-use Rattle.pw_db.specs.declared.database.Directives.{Directives}
+use Rattle.pw_files.proofs.Standing.{has_by}
+use Rattle.pw_db.specs.Limits.{last_register}
 use Rattle.pw_webflow.specs.declared.web.WebBlock.{WebBlock}
 use Rattle.pw_webflow.specs.ValidWebs.{IsWebFn}
 use Rattle.pw_alloc.specs.declared.located.Place.{Place}
@@ -15,11 +14,11 @@ use Rattle.pw_alloc.specs.declared.located.Place.TheVariants.{Slot, Reg}
 use Rattle.pw_alloc.specs.declared.located.Located.{Located}
 use Rattle.pw_alloc.specs.Allocation.{saved_of}
 use Rattle.pw_run_languages.specs.FlowRun.{with_slots}
-use Rattle.pw_run_languages.specs.PlacedRun.{kept, with_register, with_registers, without_places, entered}
+use Rattle.pw_run_languages.specs.PlacedRun.{kept, with_register, without_places, entered}
 use Rattle.pw_run_languages.specs.Direction.{unplaced}
-use Rattle.pw_run_languages.specs.Serving.{Serves, Changes, places}
+use Rattle.pw_run_languages.specs.Serving.{Serves, places}
 use Rattle.pw_law_direction.proofs.Banks.{saved_same, saved_covered, has_or_not}
-use Rattle.pw_law_placed.specs.Twins.{Own, Active, Twin, bare_side, placed_side, bare_value, placed_value}
+use Rattle.pw_law_placed.specs.Twins.{Twin, bare_side, placed_side, bare_value, placed_value}
 use Rattle.pw_law_placed.specs.Alike.{Registers, given_back}
 use Rattle.pw_law_placed.proofs.Lists.{nowhere, first_there, later_there}
 use Rattle.pw_law_placed.proofs.Places.{register_of_place, value_at, place_there}
@@ -88,7 +87,7 @@ uncleared (Reg r ∷ rest) bank q lacks =
     other true e = absurd (lacks (subst (λ (n : ℕ). Contains (Reg n ∷ rest) (Reg q)) (eqb-true q r e) (first_there (Reg q) rest)))
     other false e = refl
 
-nothing_there : (n t : ℕ) → slice_index_or (replicate n Undefined) t Undefined ≡ Undefined
+pub nothing_there : (n t : ℕ) → slice_index_or (replicate n Undefined) t Undefined ≡ Undefined
 nothing_there n t = elim (cases_lt t n) [
   | inl lt ↦ get_or-replicate n t Undefined Undefined lt
   | inr ge ↦ let count : length (replicate n Undefined) ≡ n = length-replicate n Undefined in get_or_past (replicate n Undefined) t Undefined (omega (arith, ge, count))

@@ -1,5 +1,5 @@
 -- The end of a block that does not return, and what stands before an operation.
-use Rattle.std.specs.Prelude.{ℕ, zero, suc, ◌≡◌, ◌≢◌, ◌+◌, ◌==◌, Bool, true, false, if◌then◌else◌, Option, Some, None, List, [], ◌∷◌, ◌++◌, map, slice_get, Contains}
+use Rattle.std.specs.Prelude.{ℕ, zero, suc, ◌≡◌, ◌+◌, ◌==◌, Bool, true, false, if◌then◌else◌, Option, Some, None, List, [], ◌∷◌, ◌++◌, slice_get, Contains}
 use Rattle.std.proofs.Common.{refl, sym, subst, ap, ◌∙◌}
 use Rattle.std.proofs.lemmas.List.Elements.{Contains-get_or}
 use Rattle.std.proofs.lemmas.Option.{slice_get_within, get_or_from_slice_get}
@@ -17,9 +17,9 @@ use Rattle.pw_run_languages.specs.Values.{is_somewhere}
 use Rattle.pw_run_languages.specs.Programs.{Program}
 use Rattle.pw_run_languages.specs.PlacedRun.{Machine, Step, On, Astray, counted, jumps, branches, ends}
 use Rattle.pw_run_languages.specs.Direction.{with_functions}
-use Rattle.pw_run_languages.specs.Serving.{Live, used, past, at_end, on, StandsIn}
+use Rattle.pw_run_languages.specs.Serving.{Live, used, past, at_end, on}
 use Rattle.pw_law_placed.specs.Twins.{Active, Twin, bare_side, placed_side, bare_program, bare_value, placed_value}
-use Rattle.pw_law_placed.specs.Alike.{Registers, IsInside, TempsAgree, Runs, Gets, IsReady, IsAlike, Follows, goes, strays}
+use Rattle.pw_law_placed.specs.Alike.{Registers, TempsAgree, IsReady, IsAlike, Follows, goes, strays}
 use Rattle.pw_law_placed.specs.Laws.{StaysInFunction, BlocksFollow}
 use Rattle.pw_law_placed.proofs.Lists.{first_there, later_there}
 

@@ -1,6 +1,6 @@
 -- Calls of functions that a module of the program defines.
-use Rattle.std.specs.Prelude.{ℕ, zero, suc, ◌≡◌, ◌≤◌, ◌<◌, ◌+◌, ◌-◌, ◌==◌, ◌&&◌, nat_lt, Bool, true, false, if◌then◌else◌, Option, Some, None, List, [], ◌∷◌, length, map, replicate, slice_get, Contains}
-use Rattle.std.proofs.Common.{◌⊎◌, arith, refl, sym, ap, subst, ◌∙◌, inl, inr}
+use Rattle.std.specs.Prelude.{ℕ, zero, suc, ◌≡◌, ◌≤◌, ◌<◌, ◌+◌, ◌-◌, ◌==◌, ◌&&◌, nat_lt, Bool, true, false, if◌then◌else◌, Option, Some, None, List, [], ◌∷◌, length, map, slice_get, Contains}
+use Rattle.std.proofs.Common.{arith, refl, sym, ap, subst, ◌∙◌, inl, inr}
 use Rattle.std.specs.List.{flat_map, range_with_len, AllByRecursion}
 use Rattle.std.specs.Str.{bytes_eq}
 use Rattle.std.proofs.lemmas.Bool.{cases_eq, cases_lt, eqb-true, eqb-false}
@@ -24,23 +24,25 @@ use Rattle.pw_webflow.specs.ValidWebs.{HasRegister, IsWebFn}
 use Rattle.pw_webflow.proofs.DirectionLaws.{directed_lawful}
 use Rattle.pw_alloc.specs.Allocation.{is_entry, saved_of}
 use Rattle.pw_alloc.specs.declared.located.Located.{Located}
-use Rattle.pw_alloc.specs.declared.located.Place.TheVariants.{Reg}
 use Rattle.pw_run.specs.Runs as run
 use Rattle.pw_db_sound.specs.CallGraphs.{Calls}
 use Rattle.pw_db_sound.specs.Sound.{Sound, In}
 use Rattle.pw_db_sound.specs.Sound.{Has as HasRole}
-use Rattle.pw_run_languages.specs.Programs.{Program, functions_of}
+use Rattle.pw_run_languages.specs.Traces.{Called, Refused}
+use Rattle.pw_run_languages.specs.Programs.{Program, Library, library_at, functions_of}
 use Rattle.pw_run_languages.specs.LawfulPrograms.{IsProgram, graph_of}
 use Rattle.pw_run_languages.specs.Direction.{directives_of, directed_by, directed_functions, unplaced, with_functions}
-use Rattle.pw_run_languages.specs.PlacedRun.{PlacedProgram, Machine, Step, On, Stopped, Astray, entered_webs, without_places, with_parameters, and_then, enters_webs, entered, begins, calls_defined, counted, noted, kept, depth, first_block}
+use Rattle.pw_run_languages.specs.PlacedRun.{PlacedProgram, Machine, Step, On, Stopped, Astray, entered_webs, without_places, with_parameters, and_then, enters_webs, entered, begins, calls_defined, calls, counted, noted, kept, depth, first_block, globals_now, function_named}
 use Rattle.pw_run_languages.specs.Serving.{Serves}
-use Rattle.pw_law_placed.specs.Twins.{Active, Twin, bare_side, placed_side, bare_program}
+use Rattle.pw_law_placed.specs.Twins.{Active, Twin, bare_frame, bare_side, placed_side, bare_program}
 use Rattle.pw_law_placed.specs.Alike.{Registers, name_of, IsPlaced, IsReady, IsCalling, Follows, goes, strays}
+use Rattle.pw_law_placed.specs.Laws.{IsServed, BothNamed, neither, both}
 use Rattle.pw_law_placed.proofs.Begun.{begun, begun_temps, bare_under, placed_under, uncleared}
 use Rattle.pw_law_placed.proofs.Entering.{Entering, LoadsBoth, all_loaded, unloaded, loads_both}
 use Rattle.pw_law_placed.proofs.Receiving.{Receiving, all_received, received_alike}
-use Rattle.pw_law_placed.proofs.Library.{call_noted, call_ready, refusal_follows}
-use Rattle.pw_law_placed.proofs.Noting.{bare_globals, placed_globals, depth_same}
+use Rattle.pw_law_placed.proofs.Library.{call_noted, call_ready, refusal_follows, calls_by, by_library}
+use Rattle.pw_law_placed.proofs.Naming.{same_functions}
+use Rattle.pw_law_placed.proofs.Noting.{depth_same}
 use Rattle.pw_law_placed.proofs.WebSteps.{register_web}
 use Rattle.pw_law_placed.proofs.Webs.{web_has, web_register}
 use Rattle.pw_law_direction.proofs.Directives.{web_range, entered_role}
@@ -106,7 +108,7 @@ entry_entered l w h low high =
 
 -- ---- what was saved
 
-keys : (a : Registers) (rs : List ℕ) → map (λ (s : ℕ × Value). s.0) (map (λ (r : ℕ). (r, a r)) rs) ≡ rs
+pub keys : (a : Registers) (rs : List ℕ) → map (λ (s : ℕ × Value). s.0) (map (λ (r : ℕ). (r, a r)) rs) ≡ rs
 keys a [] = refl
 keys a (r ∷ rs) = ap (λ (qs : List ℕ). r ∷ qs) (keys a rs)
 
@@ -141,7 +143,7 @@ module _ (p : Program) (d : List (List ℕ × Directives)) (base : IsDatabase d)
           ∙ sym (uncleared l.places x.bank r (λ c. (is.serves.registers r c).1 own))
 
   pub begun_entering : (l : Located) (b : WebBlock) (to : Option ℕ) (x : Twin) → IsOfProgram p d l.body → Serves l.body l → slice_get l.body.blocks 0 ≡ Some b → IsReady p d x to
-      → Calls (graph_of p) (name_of x.frame) l.body.name → Entering p d x l to (entered_webs l) (begun l b to x)
+      → Calls (graph_of p) (name_of x.frame) l.body.name → Entering p d x.registers x.bank (x.frame ∷ x.callers) l to (entered_webs l) (begun l b to x)
   begun_entering l b to x of serves first ready edge =
       let is = begun_placed l b to x of serves in
       record {
@@ -152,7 +154,6 @@ module _ (p : Program) (d : List (List ℕ × Directives)) (base : IsDatabase d)
         end = refl;
         result = refl;
         function = refl;
-        edge = edge;
         webs = begun_webs l b to x is ready edge;
         temps = begun_temps l b to x;
         bare_under = λ q high. bare_under l b to x q;
@@ -165,40 +166,43 @@ module _ (p : Program) (d : List (List ℕ × Directives)) (base : IsDatabase d)
 
   -- ---- the call
 
-  abbrev receives : List Value → Machine → Step
+  -- with all webs loaded it is to get its parameters
+  pub loaded_receiving : (old old_bank : Registers) (below : List Active) (l : Located) (to : Option ℕ) (y : Twin) → Entering p d old old_bank below l to [] y → Receiving p d old old_bank below l to y
+  loaded_receiving old old_bank below l to y e = record {
+    placed = e.placed;
+    block = e.block;
+    first = e.first;
+    ops = e.ops;
+    end = e.end;
+    result = e.result;
+    function = e.function;
+    webs = λ q h. e.webs q h (λ w among same. among);
+    temps = λ u needed. e.temps u;
+    bare_under = e.bare_under;
+    placed_under = e.placed_under;
+    before = e.before;
+    callers = e.callers;
+    log = e.log;
+    keeps = e.keeps;
+  }
+
+  abbrev pub receives : List Value → Machine → Step
   receives args m = On (with_parameters 0 args m)
 
-  -- with all webs loaded it gets its parameters
-  after_loads : (x : Twin) (l : Located) (to : Option ℕ) (args : List Value) (s t : Step) → IsCalling p d x to → length args ≡ l.body.params → LoadsBoth p d x l to s t
-      → Follows p d (and_then s (receives args)) (and_then t (receives args))
-  after_loads x l to args s t c count (all_loaded y e) =
-      let r = all_received p d x to args 0 y (let own : length args ≡ y.frame.function.body.params = count ∙ ap (λ (f : Located). f.body.params) (sym e.function) in omega (arith, own)) (record {
-        placed = e.placed;
-        block = e.block;
-        first = e.first;
-        ops = e.ops;
-        end = e.end;
-        result = e.result;
-        edge = e.edge;
-        webs = λ q h. e.webs q h (λ w among same. among);
-        temps = λ u needed. e.temps u;
-        bare_under = e.bare_under;
-        placed_under = e.placed_under;
-        before = e.before;
-        callers = e.callers;
-        log = e.log;
-        keeps = e.keeps;
-      }) in
-      goes (record { twin = r.twin; bare = ap On r.bare; placed = ap On r.full; alike = received_alike p d x to r.twin c r.receiving.edge r.receiving })
-  after_loads x l to args s t c count unloaded = strays refl refl
+  after_loads : (x : Twin) (l : Located) (to : Option ℕ) (args : List Value) (s t : Step) → IsCalling p d x to → Calls (graph_of p) (name_of x.frame) l.body.name → length args ≡ l.body.params
+      → LoadsBoth p d x.registers x.bank (x.frame ∷ x.callers) l to s t → Follows p d (and_then s (receives args)) (and_then t (receives args))
+  after_loads x l to args s t c edge count (all_loaded y e) =
+      let below : List Active = x.frame ∷ x.callers in
+      let own : length args ≡ y.frame.function.body.params = count ∙ ap (λ (f : Located). f.body.params) (sym e.function) in
+      let r = all_received p d x.registers x.bank below l to args 0 y (omega (arith, own)) (loaded_receiving x.registers x.bank below l to y e) in
+      goes (record { twin = r.twin; bare = ap On r.bare; placed = ap On r.full; alike = received_alike p d x l to r.twin c edge r.receiving })
+  after_loads x l to args s t c edge count unloaded = strays refl refl
 
-  entries_alone : (l : Located) (b : WebBlock) (to : Option ℕ) (x : Twin) (is : IsPlaced p d (begun l b to x).frame) → (w : Web) → Has w (entered_webs l) → HasRole d l.body.name w Entry
+  pub entries_alone : (f : WebFn) → IsOfProgram p d f → (w : Web) → Has w (entered_webs (unplaced f)) → HasRole d f.name w Entry
   unfolding directed
-  entries_alone l b to x is w h = by_body l.body is.body h where
-    by_body : (g : WebFn) → g ≡ directed_by d is.flow → Has w (entered_webs (unplaced g)) → HasRole d g.name w Entry
-    by_body g e k =
-        subst (λ (f : WebFn). HasRole d f.name w Entry) (sym e)
-        (entered_role d base is.flow.name w (subst (λ (f : WebFn). Has w (entered_webs (unplaced f))) e k))
+  entries_alone f is w h =
+      subst (λ (g : WebFn). HasRole d g.name w Entry) (sym is.body)
+      (entered_role d base is.flow.name w (subst (λ (g : WebFn). Has w (entered_webs (unplaced g))) is.body h))
 
   pub begins_follow : (ls : List Located) (l : Located) (block : Option WebBlock) (to : Option ℕ) (args : List Value) (x : Twin) → IsOfProgram p d l.body → Serves l.body l → slice_get l.body.blocks 0 ≡ block → IsCalling p d x to
       → Calls (graph_of p) (name_of x.frame) l.body.name → Follows p d (begins (bare_program p d) (unplaced l.body) block to args (bare_side x)) (begins (with_functions p ls) l block to args (placed_side x))
@@ -208,7 +212,47 @@ module _ (p : Program) (d : List (List ℕ × Directives)) (base : IsDatabase d)
         (if t then and_then (enters_webs (with_functions p ls) (entered_webs l) (entered l b to (placed_side x))) (receives args) else Astray)
     by_count true e =
         after_loads x l to args (enters_webs (bare_program p d) (entered_webs l) (bare_side (begun l b to x))) (enters_webs (with_functions p ls) (entered_webs l) (placed_side (begun l b to x)))
-        c (eqb-true (length args) l.body.params e)
-        (loads_both p d base sound ls x l to (entered_webs l) (begun l b to x) (entries_alone l b to x (begun_placed l b to x of serves)) (begun_entering l b to x of serves first c.ready edge))
+        c edge (eqb-true (length args) l.body.params e)
+        (loads_both p d base sound ls x.registers x.bank (x.frame ∷ x.callers) l to (entered_webs l) (begun l b to x) (entries_alone l.body of) (begun_entering l b to x of serves first c.ready edge))
     by_count false e = strays refl refl
   begins_follow ls l None to args x of serves first c edge = strays refl refl
+
+  -- ---- whatever it calls
+
+  -- the frames of the active functions and its own against the stack
+  abbrev defined_by : PlacedProgram → Located → Option ℕ → List Value → Machine → ℕ → Step
+  defined_by q f t args m n =
+      if nat_lt q.flow.stack (q.flow.frame_of f.body.name + n) then Stopped run.StackFull (noted (Refused f.body.name) m)
+      else begins q f (first_block f) t args (counted (noted (Called f.body.name (globals_now q m.registers (m.frame ∷ m.callers) m.objects) (kept m.registers)) m))
+
+  either_follows : {s t u v : Step} (b : Bool) → Follows p d s t → Follows p d u v → Follows p d (if b then s else u) (if b then t else v)
+  either_follows true h k = h
+  either_follows false h k = k
+
+  pub defined_follows : (ls : List Located) (l : Located) (to : Option ℕ) (args : List Value) (x : Twin) → IsOfProgram p d l.body → Serves l.body l → IsCalling p d x to
+      → Calls (graph_of p) (name_of x.frame) l.body.name → Follows p d (calls_defined (bare_program p d) (unplaced l.body) to args (bare_side x)) (calls_defined (with_functions p ls) l to args (placed_side x))
+  defined_follows ls l to args x of serves c edge =
+      let name : List ℕ = l.body.name in
+      let y : Twin = record (call_noted p d ls name x) { events = x.events + 1 } in
+      let r = call_ready p d ls name x to c.ready in
+      let calling : IsCalling p d y to = record { ready = record { frame = c.ready.frame; callers = c.ready.callers; log = r.log; kept = r.kept }; calls = c.calls } in
+      let deep : ℕ = depth (bare_program p d) (map bare_frame (x.frame ∷ x.callers)) in
+      subst (λ (n : ℕ). Follows p d (defined_by (bare_program p d) (unplaced l.body) to args (bare_side x) deep) (defined_by (with_functions p ls) l to args (placed_side x) n))
+      (sym (depth_same p d ls (x.frame ∷ x.callers)))
+      (either_follows (nat_lt p.stack (p.frame_of name + deep)) (refusal_follows p d ls name x to c.ready) (begins_follow ls l (first_block l) to args y of serves refl calling edge))
+
+  named_follows : (ls : List Located) (f : List ℕ) (a b : Option Located) (to : Option ℕ) (args : List Value) (x : Twin) → IsProgram p → BothNamed (directed_functions p d) f a b → IsCalling p d x to
+      → Calls (graph_of p) (name_of x.frame) f → Follows p d (calls_by p d ls (bare_program p d) to f args (bare_side x) None a) (calls_by p d ls (with_functions p ls) to f args (placed_side x) None b)
+  named_follows ls f a b to args x ok neither c edge = strays refl refl
+  named_follows ls f a b to args x ok (both l there serves name) c edge =
+      defined_follows ls l to args x (of_program p d l.body ok base there) serves c (subst (λ (n : List ℕ). Calls (graph_of p) (name_of x.frame) n) (sym name) edge)
+
+  by_own : (ls : List Located) (f : List ℕ) (own : Option Library) (to : Option ℕ) (args : List Value) (x : Twin) → IsProgram p → IsServed p d ls → IsCalling p d x to → Calls (graph_of p) (name_of x.frame) f
+      → Follows p d (calls_by p d ls (bare_program p d) to f args (bare_side x) own (function_named (bare_program p d) f)) (calls_by p d ls (with_functions p ls) to f args (placed_side x) own (function_named (with_functions p ls) f))
+  by_own ls f (Some lib) to args x ok served c edge = by_library p d ls lib x to f args (Some lib) refl c
+  by_own ls f None to args x ok served c edge =
+      named_follows ls f (function_named (bare_program p d) f) (function_named (with_functions p ls) f) to args x ok (same_functions p d ls f served) c edge
+
+  pub calls_follow : (ls : List Located) (f : List ℕ) (to : Option ℕ) (args : List Value) (x : Twin) → IsProgram p → IsServed p d ls → IsCalling p d x to → Calls (graph_of p) (name_of x.frame) f
+      → Follows p d (calls (bare_program p d) to f args (bare_side x)) (calls (with_functions p ls) to f args (placed_side x))
+  calls_follow ls f to args x ok served c edge = by_own ls f (library_at f) to args x ok served c edge

@@ -1,7 +1,6 @@
 -- What an operation asks for depends on the temporaries that it reads.
-use Rattle.std.specs.Prelude.{ℕ, ◌≡◌, List, [], ◌∷◌, map}
+use Rattle.std.specs.Prelude.{[], ◌∷◌}
 use Rattle.std.proofs.Common.{refl, ap, ap₂}
-use Rattle.pw_value.specs.declared.value.Value.{Value}
 use Rattle.pw_flow.specs.declared.flow.Op.TheVariants as op
 use Rattle.pw_run_languages.specs.Values.{unary, extension}
 use Rattle.pw_run_languages.specs.Commands as command

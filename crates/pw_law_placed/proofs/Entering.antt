@@ -1,32 +1,29 @@
 -- The webs that a function enters are loaded, in both runs.
-use Rattle.std.specs.Prelude.{ℕ, ◌≡◌, ◌≤◌, ◌≢◌, Bool, true, false, Option, Some, None, List, [], ◌∷◌, map, slice_get}
+use Rattle.std.specs.Prelude.{ℕ, ◌≡◌, ◌≤◌, Bool, true, false, Option, Some, None, List, [], ◌∷◌, slice_get}
 use Rattle.std.proofs.Common.{refl, sym, ap, subst, ◌∙◌, inl, inr}
 use Rattle.std.proofs.lemmas.Bool.{cases_eq}
 use Rattle.pw_value.specs.declared.value.Value.{Value}
-use Rattle.pw_value.specs.declared.value.Byte.{Byte}
-use Rattle.pw_files.proofs.Standing.{Has, contains_by, has_map}
-use Rattle.pw_db.specs.Limits.{first_register, last_register}
+use Rattle.pw_files.proofs.Standing.{Has}
+use Rattle.pw_db.specs.Limits.{last_register}
 use Rattle.pw_db.specs.Database.{IsDatabase}
 use Rattle.pw_db.specs.declared.database.Web.{Web}
-use Rattle.pw_db.specs.declared.database.Role.{Role}
 use Rattle.pw_db.specs.declared.database.Role.TheVariants.{Entry}
 use Rattle.pw_db.specs.declared.database.Directives.{Directives}
 use Rattle.pw_webflow.specs.ValidWebs.{HasRegister}
 use Rattle.pw_webflow.specs.declared.web.WebBlock.{WebBlock}
-use Rattle.pw_db_sound.specs.CallGraphs.{Calls}
 use Rattle.pw_alloc.specs.declared.located.Located.{Located}
 use Rattle.pw_alloc.specs.declared.located.Place.TheVariants.{Reg}
 use Rattle.pw_run.specs.Runs as run
 use Rattle.pw_run.specs.Runs.{Same}
-use Rattle.pw_db_sound.specs.Sound.{Sound, In}
+use Rattle.pw_db_sound.specs.Sound.{Sound}
 use Rattle.pw_db_sound.specs.Sound.{Has as HasRole}
-use Rattle.pw_run_languages.specs.Traces.{Event, Loaded, EventAlike, loaded, KeepRegisters}
+use Rattle.pw_run_languages.specs.Traces.{Loaded, EventAlike, loaded, KeepRegisters}
 use Rattle.pw_run_languages.specs.Programs.{Program}
 use Rattle.pw_run_languages.specs.FlowRun.{get_global}
 use Rattle.pw_run_languages.specs.LawfulPrograms.{graph_of}
 use Rattle.pw_run_languages.specs.Direction.{with_functions}
 use Rattle.pw_run_languages.specs.PlacedRun.{PlacedProgram, Machine, Step, On, Astray, kept, with_register, noted_if, is_eligible, and_then, enters_webs}
-use Rattle.pw_law_direction.proofs.Banks.{with_same, with_covered, written_other, is_entered_by}
+use Rattle.pw_law_direction.proofs.Banks.{written_other, is_entered_by}
 use Rattle.pw_law_direction.proofs.Directives.{web_range}
 use Rattle.pw_law_placed.specs.Twins.{Active, Twin, bare_side, placed_side, bare_program, bare_value, placed_value}
 use Rattle.pw_law_placed.specs.Alike.{Registers, given_back, name_of, IsPlaced}
@@ -34,9 +31,9 @@ use Rattle.pw_law_placed.proofs.Places.{placed_same, place_there}
 use Rattle.pw_law_placed.proofs.Writing.{with_here}
 use Rattle.pw_law_placed.proofs.Webs.{web_has, web_register, covered_both, covered_same}
 
--- A function that still has to load some of the webs that it enters. The registers of its other webs hold the same, and so do
--- all its temporaries; and what it would give back is what the registers held at its call.
-pub record Entering (p : Program) (d : List (List ℕ × Directives)) (old : Twin) (l : Located) (to : Option ℕ) (left : List Web) (x : Twin) : Type 0 where
+-- A function that still has to load some of the webs that it enters, above those that are active. The registers of its other
+-- webs hold the same, and so do all its temporaries; and what it would give back is what the registers held at its call.
+pub record Entering (p : Program) (d : List (List ℕ × Directives)) (old old_bank : Registers) (below : List Active) (l : Located) (to : Option ℕ) (left : List Web) (x : Twin) : Type 0 where
   pub placed : IsPlaced p d x.frame
   pub block : WebBlock
   pub first : slice_get x.frame.function.body.blocks 0 ≡ Some block
@@ -44,26 +41,25 @@ pub record Entering (p : Program) (d : List (List ℕ × Directives)) (old : Twi
   pub end : x.frame.end ≡ block.end
   pub result : x.frame.result ≡ to
   pub function : x.frame.function ≡ l
-  pub edge : Calls (graph_of p) (name_of old.frame) (name_of x.frame)
   pub webs : (r : ℕ) → HasRegister x.frame.function.body.directives r → ((w : Web) → Has w left → w.reg ≡ r → ⊥) → x.registers r ≡ x.bank r
   pub temps : (t : ℕ) → bare_value x.frame t ≡ placed_value x.frame x.bank t
-  pub bare_under : (q : ℕ) → q ≤ last_register → given_back x.frame.bare x.registers q ≡ old.registers q
-  pub placed_under : (q : ℕ) → q ≤ last_register → given_back x.frame.placed x.bank q ≡ old.bank q
-  pub before : x.frame.placed.before ≡ kept old.bank
-  pub callers : x.callers ≡ old.frame ∷ old.callers
+  pub bare_under : (q : ℕ) → q ≤ last_register → given_back x.frame.bare x.registers q ≡ old q
+  pub placed_under : (q : ℕ) → q ≤ last_register → given_back x.frame.placed x.bank q ≡ old_bank q
+  pub before : x.frame.placed.before ≡ kept old_bank
+  pub callers : x.callers ≡ below
   pub log : run.AreAlike (EventAlike Same Same) x.trace x.notes
   pub keeps : KeepRegisters d x.notes
 
 -- both runs come to such a state with nothing left to load, or both go astray
-pub data LoadsBoth (p : Program) (d : List (List ℕ × Directives)) (old : Twin) (l : Located) (to : Option ℕ) : Step → Step → Type 0 where
-  all_loaded : (x : Twin) → Entering p d old l to [] x → LoadsBoth p d old l to (On (bare_side x)) (On (placed_side x))
-  unloaded : LoadsBoth p d old l to Astray Astray
+pub data LoadsBoth (p : Program) (d : List (List ℕ × Directives)) (old old_bank : Registers) (below : List Active) (l : Located) (to : Option ℕ) : Step → Step → Type 0 where
+  all_loaded : (x : Twin) → Entering p d old old_bank below l to [] x → LoadsBoth p d old old_bank below l to (On (bare_side x)) (On (placed_side x))
+  unloaded : LoadsBoth p d old old_bank below l to Astray Astray
 
-module _ (p : Program) (d : List (List ℕ × Directives)) (base : IsDatabase d) (sound : Sound (graph_of p) d) (ls : List Located) (old : Twin) (l : Located) (to : Option ℕ) where
+module _ (p : Program) (d : List (List ℕ × Directives)) (base : IsDatabase d) (sound : Sound (graph_of p) d) (ls : List Located) (old old_bank : Registers) (below : List Active) (l : Located) (to : Option ℕ) where
   abbrev web_loaded : Twin → Web → Value → Twin
   web_loaded x w v = record x { registers = with_register w.reg v x.registers; bank = with_register w.reg v x.bank }
 
-  one_loaded : (x : Twin) (w : Web) (left : List Web) (v : Value) → HasRole d (name_of x.frame) w Entry → Entering p d old l to (w ∷ left) x → Entering p d old l to left (web_loaded x w v)
+  one_loaded : (x : Twin) (w : Web) (left : List Web) (v : Value) → HasRole d (name_of x.frame) w Entry → Entering p d old old_bank below l to (w ∷ left) x → Entering p d old old_bank below l to left (web_loaded x w v)
   one_loaded x w left v role e =
       let own : HasRegister x.frame.function.body.directives w.reg = web_register p d base sound x.frame w e.placed (record { role = Entry; has = role }) in
       let range = web_range d base (name_of x.frame) w Entry role in
@@ -77,7 +73,6 @@ module _ (p : Program) (d : List (List ℕ × Directives)) (base : IsDatabase d)
         end = e.end;
         result = e.result;
         function = e.function;
-        edge = e.edge;
         webs = λ r h others. elim (cases_eq r w.reg) [
           | inl here ↦ subst (λ (n : ℕ). with_register w.reg v x.registers n ≡ with_register w.reg v x.bank n) (sym here) (with_here w.reg v x.registers ∙ sym (with_here w.reg v x.bank))
           | inr other ↦ sym (written_other w.reg r v x.registers other)
@@ -98,7 +93,7 @@ module _ (p : Program) (d : List (List ℕ × Directives)) (base : IsDatabase d)
   noted_both true g x = record x { trace = Loaded g ∷ x.trace; notes = Loaded g ∷ x.notes }
   noted_both false g x = x
 
-  noted_entering : (b : Bool) (g : List ℕ) (left : List Web) (x : Twin) → Entering p d old l to left x → Entering p d old l to left (noted_both b g x)
+  noted_entering : (b : Bool) (g : List ℕ) (left : List Web) (x : Twin) → Entering p d old old_bank below l to left x → Entering p d old old_bank below l to left (noted_both b g x)
   noted_entering true g left x e = record {
     placed = e.placed;
     block = e.block;
@@ -107,7 +102,6 @@ module _ (p : Program) (d : List (List ℕ × Directives)) (base : IsDatabase d)
     end = e.end;
     result = e.result;
     function = e.function;
-    edge = e.edge;
     webs = e.webs;
     temps = e.temps;
     bare_under = e.bare_under;
@@ -135,20 +129,20 @@ module _ (p : Program) (d : List (List ℕ × Directives)) (base : IsDatabase d)
   loaded_by q w m (Some v) = On (noted_if (is_eligible q w.global) (Loaded w.global) (record m { registers = with_register w.reg v m.registers }))
   loaded_by q w m None = Astray
 
-  pub loads_both : (ws : List Web) (x : Twin) → ((w : Web) → Has w ws → HasRole d (name_of x.frame) w Entry) → Entering p d old l to ws x
-      → LoadsBoth p d old l to (enters_webs (bare_program p d) ws (bare_side x)) (enters_webs (with_functions p ls) ws (placed_side x))
+  pub loads_both : (ws : List Web) (x : Twin) → ((w : Web) → Has w ws → HasRole d (name_of x.frame) w Entry) → Entering p d old old_bank below l to ws x
+      → LoadsBoth p d old old_bank below l to (enters_webs (bare_program p d) ws (bare_side x)) (enters_webs (with_functions p ls) ws (placed_side x))
   loads_both [] x roles e = all_loaded x e
   loads_both (w ∷ ws) x roles e = by_value (get_global p w.global w.kind x.objects) (loads_both ws) where
     b : Bool
     b = is_eligible (bare_program p d) w.global
 
-    by_value : (v : Option Value) → ((y : Twin) → ((u : Web) → Has u ws → HasRole d (name_of y.frame) u Entry) → Entering p d old l to ws y
-        → LoadsBoth p d old l to (enters_webs (bare_program p d) ws (bare_side y)) (enters_webs (with_functions p ls) ws (placed_side y)))
-        → LoadsBoth p d old l to (and_then (loaded_by (bare_program p d) w (bare_side x) v) (enters_webs (bare_program p d) ws)) (and_then (loaded_by (with_functions p ls) w (placed_side x) v) (enters_webs (with_functions p ls) ws))
+    by_value : (v : Option Value) → ((y : Twin) → ((u : Web) → Has u ws → HasRole d (name_of y.frame) u Entry) → Entering p d old old_bank below l to ws y
+        → LoadsBoth p d old old_bank below l to (enters_webs (bare_program p d) ws (bare_side y)) (enters_webs (with_functions p ls) ws (placed_side y)))
+        → LoadsBoth p d old old_bank below l to (and_then (loaded_by (bare_program p d) w (bare_side x) v) (enters_webs (bare_program p d) ws)) (and_then (loaded_by (with_functions p ls) w (placed_side x) v) (enters_webs (with_functions p ls) ws))
     by_value (Some v) rest =
         let y : Twin = web_loaded x w v in
-        subst (λ (m : Machine). LoadsBoth p d old l to (enters_webs (bare_program p d) ws m) (enters_webs (with_functions p ls) ws (noted_if b (Loaded w.global) (placed_side y)))) (sym (bare_noted b w.global y))
-        (subst (λ (m : Machine). LoadsBoth p d old l to (enters_webs (bare_program p d) ws (bare_side (noted_both b w.global y))) (enters_webs (with_functions p ls) ws m)) (sym (placed_noted b w.global y))
+        subst (λ (m : Machine). LoadsBoth p d old old_bank below l to (enters_webs (bare_program p d) ws m) (enters_webs (with_functions p ls) ws (noted_if b (Loaded w.global) (placed_side y)))) (sym (bare_noted b w.global y))
+        (subst (λ (m : Machine). LoadsBoth p d old old_bank below l to (enters_webs (bare_program p d) ws (bare_side (noted_both b w.global y))) (enters_webs (with_functions p ls) ws m)) (sym (placed_noted b w.global y))
         (rest (noted_both b w.global y)
         (λ u among. subst (λ (n : List ℕ). HasRole d n u Entry) (sym (same_name b w.global y)) (roles u (inr among)))
         (noted_entering b w.global ws y (one_loaded x w ws v (roles w (inl refl)) e))))

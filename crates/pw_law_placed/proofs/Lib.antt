@@ -16,3 +16,6 @@ mod Entering
 mod Receiving
 mod Calling
 mod Returning
+mod Starting
+mod Stepping
+mod Running

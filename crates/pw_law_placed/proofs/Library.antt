@@ -1,23 +1,20 @@
 -- Calls of the library.
-use Rattle.std.specs.Prelude.{ℕ, ◌≡◌, ◌≤◌, ◌+◌, ◌%◌, nat_lt, Bool, true, false, if◌then◌else◌, Option, Some, None, List, [], ◌∷◌, ◌++◌, map}
-use Rattle.std.proofs.Common.{refl, sym, ap, subst, ◌∙◌}
+use Rattle.std.specs.Prelude.{ℕ, ◌≡◌, ◌+◌, ◌%◌, nat_lt, Bool, true, false, if◌then◌else◌, Option, Some, None, List, [], ◌∷◌, ◌++◌}
+use Rattle.std.proofs.Common.{refl, sym, subst}
 use Rattle.pw_value.specs.declared.value.Value.{Value}
-use Rattle.pw_value.specs.declared.value.Value.TheVariants.{Undefined, Num, Null, At, Piece}
-use Rattle.pw_value.specs.declared.value.Byte.{Byte}
+use Rattle.pw_value.specs.declared.value.Value.TheVariants.{Num}
 use Rattle.pw_value.specs.ProgramNames.{exit_name, getchar_name, putchar_name}
 use Rattle.pw_value.specs.Words.{end_of_input}
-use Rattle.pw_db.specs.Limits.{last_register}
 use Rattle.pw_db.specs.declared.database.Directives.{Directives}
 use Rattle.pw_alloc.specs.declared.located.Located.{Located}
 use Rattle.pw_run.specs.Runs as run
-use Rattle.pw_run.specs.Runs.{Same}
-use Rattle.pw_run_languages.specs.Traces.{Event, Called, Refused, Returned, EventAlike, called, refused, returned}
+use Rattle.pw_run_languages.specs.Traces.{Called, Refused, Returned, called, refused, returned}
 use Rattle.pw_run_languages.specs.Programs.{Program, Library, GetChar, PutChar, Exit, library_at}
-use Rattle.pw_run_languages.specs.PlacedRun.{PlacedProgram, Machine, Step, On, Stopped, Astray, kept, noted, depth, without_scratch, library_call, gives_back, calls_library, calls_defined, calls, function_named, takes_result}
+use Rattle.pw_run_languages.specs.PlacedRun.{PlacedProgram, Machine, Step, Stopped, Astray, kept, noted, depth, without_scratch, library_call, gives_back, calls_library, calls_defined, calls, function_named}
 use Rattle.pw_run_languages.specs.Direction.{with_functions}
 use Rattle.pw_law_direction.proofs.Banks.{with_same, scratch_keeps}
-use Rattle.pw_law_placed.specs.Twins.{Active, Twin, bare_side, placed_side, bare_program}
-use Rattle.pw_law_placed.specs.Alike.{Registers, given_back, IsReady, IsCalling, IsAlike, Follows, stops, strays}
+use Rattle.pw_law_placed.specs.Twins.{Twin, bare_side, placed_side, bare_program}
+use Rattle.pw_law_placed.specs.Alike.{given_back, IsReady, IsCalling, Follows, stops, strays}
 use Rattle.pw_law_placed.specs.Laws.{LibraryFollows}
 use Rattle.pw_law_placed.proofs.Waiting.{gets_kept, waiting_same}
 use Rattle.pw_law_placed.proofs.Writing.{results_follow}
@@ -106,7 +103,7 @@ module _ (p : Program) (d : List (List ℕ × Directives)) (ls : List Located) w
   abbrev library_by : PlacedProgram → Library → Option ℕ → List ℕ → List Value → Machine → ℕ → Step
   library_by q g t f args m n = if nat_lt q.flow.stack (q.flow.frame_of f + n) then Stopped run.StackFull (noted (Refused f) m) else calls_library q g t args m
 
-  abbrev calls_by : PlacedProgram → Option ℕ → List ℕ → List Value → Machine → Option Library → Option Located → Step
+  abbrev pub calls_by : PlacedProgram → Option ℕ → List ℕ → List Value → Machine → Option Library → Option Located → Step
   calls_by q t f args m (Some g) defined = library_by q g t f args m (depth q (m.frame ∷ m.callers))
   calls_by q t f args m None (Some defined) = calls_defined q defined t args m
   calls_by q t f args m None None = Astray
@@ -122,7 +119,7 @@ module _ (p : Program) (d : List (List ℕ × Directives)) (ls : List Located) w
       subst (λ (n : ℕ). Follows p d (library_by bare lib to f args (bare_side x) deep) (library_by full lib to f args (placed_side x) n)) (sym (depth_same p d ls (x.frame ∷ x.callers)))
       (either_follows (nat_lt p.stack (p.frame_of f + deep)) (refusal_follows f x to c.ready) (each_follows lib x to args c))
 
-  by_library : (lib : Library) (x : Twin) (to : Option ℕ) (f : List ℕ) (args : List Value) (own : Option Library) → own ≡ Some lib → IsCalling p d x to
+  pub by_library : (lib : Library) (x : Twin) (to : Option ℕ) (f : List ℕ) (args : List Value) (own : Option Library) → own ≡ Some lib → IsCalling p d x to
       → Follows p d (calls_by bare to f args (bare_side x) own (function_named bare f)) (calls_by full to f args (placed_side x) own (function_named full f))
   by_library lib x to f args (Some g) e c = within_stack g x to f args c
   by_library lib x to f args None e c = absurd cc

@@ -1,15 +1,13 @@
 -- What an operation asks for is done alike in both runs, where it calls nothing.
-use Rattle.std.specs.Prelude.{ℕ, ◌≡◌, Bool, true, false, if◌then◌else◌, ◌||◌, Option, Some, None, List, [], ◌∷◌, map}
-use Rattle.std.proofs.Common.{refl, subst, sym, ap}
+use Rattle.std.specs.Prelude.{ℕ, Bool, true, false, if◌then◌else◌, ◌||◌, Option, Some, None, List, ◌∷◌, map}
+use Rattle.std.proofs.Common.{refl, subst}
 use Rattle.pw_value.specs.declared.value.Value.{Value}
 use Rattle.pw_value.specs.declared.value.Value.TheVariants.{Undefined, Num, Null, At, Piece}
 use Rattle.pw_value.specs.declared.value.Pointer.TheVariants as P
 use Rattle.pw_value.specs.declared.value.Byte.{Byte}
 use Rattle.pw_value.specs.Objects.{Object}
 use Rattle.pw_db.specs.declared.database.Directives.{Directives}
-use Rattle.pw_flow.specs.declared.flow.Op.{Op}
 use Rattle.pw_flow.specs.declared.flow.Op.TheVariants as op
-use Rattle.pw_flow.specs.Uses.{op_defines}
 use Rattle.pw_alloc.specs.declared.located.Located.{Located}
 use Rattle.pw_run.specs.Runs as run
 use Rattle.pw_run_languages.specs.Traces.{Event, Loaded, Stored, EventAlike, loaded, stored, KeepsRegisters}
@@ -21,11 +19,11 @@ use Rattle.pw_run_languages.specs.Commands as command
 use Rattle.pw_run_languages.specs.Commands.{command}
 use Rattle.pw_run_languages.specs.FlowRun.{get_global, put_global}
 use Rattle.std.specs.Str.{bytes_eq}
-use Rattle.pw_run_languages.specs.PlacedRun.{PlacedProgram, Machine, Step, On, Astray, gives, noted, noted_if, is_eligible, is_reserved, changes, obeys}
+use Rattle.pw_run_languages.specs.PlacedRun.{PlacedProgram, Machine, Step, On, Astray, gives, noted_if, is_eligible, is_reserved, changes, obeys}
 use Rattle.pw_run_languages.specs.Direction.{with_functions}
 use Rattle.pw_law_placed.specs.Twins.{Twin, bare_side, placed_side, bare_program}
-use Rattle.pw_law_placed.specs.Alike.{IsReady, IsAlike, Follows, goes, strays}
-use Rattle.pw_law_placed.specs.Laws.{HasResult, StaysInside, CommandsHaveResults, CommandsFollow}
+use Rattle.pw_law_placed.specs.Alike.{IsReady, Follows, strays}
+use Rattle.pw_law_placed.specs.Laws.{HasResult, StaysInside, CommandsHaveResults}
 use Rattle.pw_law_placed.proofs.Writing.{results_follow}
 
 -- ---- where the result goes

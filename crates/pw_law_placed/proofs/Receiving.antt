@@ -1,60 +1,60 @@
 -- The parameters of a function that was called, which are its first temporaries.
-use Rattle.std.specs.Prelude.{ℕ, suc, ◌≡◌, ◌≢◌, ◌≤◌, ◌<◌, ◌+◌, ◌-◌, Option, Some, None, List, [], ◌∷◌, length, map, slice_get, slice_set, Contains}
+use Rattle.std.specs.Prelude.{ℕ, suc, ◌≡◌, ◌≤◌, ◌<◌, ◌+◌, ◌-◌, Option, Some, None, List, [], ◌∷◌, length, slice_get, Contains}
 use Rattle.std.proofs.Common.{◌⊎◌, arith, refl, sym, ap, subst, ◌∙◌, inl, inr}
 use Rattle.std.proofs.lemmas.Bool.{cases_eq}
-use Rattle.std.proofs.lemmas.List.{length-set}
 use Rattle.std.proofs.lemmas.List.Elements.{Contains-get_or}
 use Rattle.std.proofs.lemmas.Option.{slice_get_within, get_or_from_slice_get}
 use Rattle.pw_value.specs.declared.value.Value.{Value}
-use Rattle.pw_value.specs.declared.value.Byte.{Byte}
+use Rattle.pw_value.specs.ProgramNames.{start_name}
 use Rattle.pw_db.specs.Limits.{first_register, last_register}
 use Rattle.pw_db.specs.declared.database.Directives.{Directives}
 use Rattle.pw_webflow.specs.ValidWebs.{HasRegister}
 use Rattle.pw_webflow.specs.declared.web.WebOp.{WebOp}
 use Rattle.pw_webflow.specs.declared.web.WebBlock.{WebBlock}
 use Rattle.pw_alloc.specs.declared.located.Place.TheVariants.{Reg}
+use Rattle.pw_alloc.specs.declared.located.Located.{Located}
 use Rattle.pw_run.specs.Runs as run
 use Rattle.pw_run.specs.Runs.{Same}
 use Rattle.pw_db_sound.specs.CallGraphs.{Calls}
 use Rattle.pw_run_languages.specs.Traces.{EventAlike, KeepRegisters}
 use Rattle.pw_run_languages.specs.Programs.{Program}
 use Rattle.pw_run_languages.specs.LawfulPrograms.{graph_of}
-use Rattle.pw_run_languages.specs.PlacedRun.{Machine, kept, with_register, with_parameters}
+use Rattle.pw_run_languages.specs.PlacedRun.{Machine, kept, with_parameters}
 use Rattle.pw_run_languages.specs.Serving.{Live, Interfere, by_start, parameters}
 use Rattle.pw_law_direction.proofs.Banks.{kept_at, with_same, written_other}
 use Rattle.pw_law_placed.specs.Twins.{Active, Twin, bare_side, placed_side, bare_value, placed_value}
-use Rattle.pw_law_placed.specs.Alike.{Registers, given_back, name_of, IsPlaced, AllWait, IsReady, IsCalling, IsAlike}
+use Rattle.pw_law_placed.specs.Alike.{Registers, given_back, name_of, IsPlaced, Runs, AllWait, IsCalling, IsAlike}
 use Rattle.pw_law_placed.proofs.Places.{register_of_place, place_there}
 use Rattle.pw_law_placed.proofs.Writing.{puts, bare_puts, placed_puts, own_put, other_put, put_placed, given_same, of_register}
 use Rattle.pw_law_placed.proofs.Waiting.{gets_kept, waiting_same}
 
 -- Its webs hold the same in both runs, and so do its parameters and what is needed of its first block. What it would give back is
 -- what the registers held at its call.
-pub record Receiving (p : Program) (d : List (List ℕ × Directives)) (old : Twin) (to : Option ℕ) (x : Twin) : Type 0 where
+pub record Receiving (p : Program) (d : List (List ℕ × Directives)) (old old_bank : Registers) (below : List Active) (l : Located) (to : Option ℕ) (x : Twin) : Type 0 where
   pub placed : IsPlaced p d x.frame
   pub block : WebBlock
   pub first : slice_get x.frame.function.body.blocks 0 ≡ Some block
   pub ops : x.frame.ops ≡ block.ops
   pub end : x.frame.end ≡ block.end
   pub result : x.frame.result ≡ to
-  pub edge : Calls (graph_of p) (name_of old.frame) (name_of x.frame)
+  pub function : x.frame.function ≡ l
   pub webs : (r : ℕ) → HasRegister x.frame.function.body.directives r → x.registers r ≡ x.bank r
   pub temps : (t : ℕ) → (t < x.frame.function.body.params) ⊎ Live x.frame.function.body t block.ops block.end → bare_value x.frame t ≡ placed_value x.frame x.bank t
-  pub bare_under : (q : ℕ) → q ≤ last_register → given_back x.frame.bare x.registers q ≡ old.registers q
-  pub placed_under : (q : ℕ) → q ≤ last_register → given_back x.frame.placed x.bank q ≡ old.bank q
-  pub before : x.frame.placed.before ≡ kept old.bank
-  pub callers : x.callers ≡ old.frame ∷ old.callers
+  pub bare_under : (q : ℕ) → q ≤ last_register → given_back x.frame.bare x.registers q ≡ old q
+  pub placed_under : (q : ℕ) → q ≤ last_register → given_back x.frame.placed x.bank q ≡ old_bank q
+  pub before : x.frame.placed.before ≡ kept old_bank
+  pub callers : x.callers ≡ below
   pub log : run.AreAlike (EventAlike Same Same) x.trace x.notes
   pub keeps : KeepRegisters d x.notes
 
-module _ (p : Program) (d : List (List ℕ × Directives)) (old : Twin) (to : Option ℕ) where
+module _ (p : Program) (d : List (List ℕ × Directives)) (old old_bank : Registers) (below : List Active) (l : Located) (to : Option ℕ) where
   -- a parameter is in no place of another temporary that is needed at the start
-  interfere : (x : Twin) (t u : ℕ) (e : Receiving p d old to x) → t < x.frame.function.body.params → (t ≡ u → ⊥)
+  interfere : (x : Twin) (t u : ℕ) (e : Receiving p d old old_bank below l to x) → t < x.frame.function.body.params → (t ≡ u → ⊥)
       → (u < x.frame.function.body.params) ⊎ Live x.frame.function.body u e.block.ops e.block.end → Interfere x.frame.function.body t u
   interfere x t u e low apart (inl also) = parameters low also apart
   interfere x t u e low apart (inr lives) = by_start e.block e.first low lives apart
 
-  other_place : (x : Twin) (t u r : ℕ) (e : Receiving p d old to x) → t < x.frame.function.body.params → (t ≡ u → ⊥)
+  other_place : (x : Twin) (t u r : ℕ) (e : Receiving p d old old_bank below l to x) → t < x.frame.function.body.params → (t ≡ u → ⊥)
       → (u < x.frame.function.body.params) ⊎ Live x.frame.function.body u e.block.ops e.block.end
       → slice_get x.frame.function.places t ≡ Some (Reg r) → slice_get x.frame.function.places u ≡ Some (Reg r) → ⊥
   other_place x t u r e low apart needed here there =
@@ -64,7 +64,7 @@ module _ (p : Program) (d : List (List ℕ × Directives)) (old : Twin) (to : Op
 
   -- one gets its value
   one_received : (x : Twin) (t : ℕ) (v : Value) (o : Option ℕ) → register_of_place (slice_get x.frame.function.places t) ≡ o → t < x.frame.function.body.params
-      → Receiving p d old to x → Receiving p d old to (puts x t v o)
+      → Receiving p d old old_bank below l to x → Receiving p d old old_bank below l to (puts x t v o)
   one_received x t v (Some r) is low e =
       let there = of_register (slice_get x.frame.function.places t) r is in
       record {
@@ -74,7 +74,7 @@ module _ (p : Program) (d : List (List ℕ × Directives)) (old : Twin) (to : Op
         ops = e.ops;
         end = e.end;
         result = e.result;
-        edge = e.edge;
+        function = e.function;
         webs = λ q h. e.webs q h ∙ written_other r q v x.bank (λ same.
             (e.placed.serves.registers r (place_there x.frame.function.places t (Reg r) there)).1 (subst (HasRegister x.frame.function.body.directives) same h));
         temps = λ u needed. elim (cases_eq t u) [
@@ -95,7 +95,7 @@ module _ (p : Program) (d : List (List ℕ × Directives)) (old : Twin) (to : Op
     ops = e.ops;
     end = e.end;
     result = e.result;
-    edge = e.edge;
+    function = e.function;
     webs = e.webs;
     temps = λ u needed. elim (cases_eq t u) [
       | inl same ↦ subst (λ (n : ℕ). bare_value (puts x t v None).frame n ≡ placed_value (puts x t v None).frame (puts x t v None).bank n) same (own_put p d x t v None is e.placed)
@@ -114,13 +114,13 @@ module _ (p : Program) (d : List (List ℕ × Directives)) (old : Twin) (to : Op
     pub twin : Twin
     pub bare : with_parameters k args (bare_side x) ≡ bare_side twin
     pub full : with_parameters k args (placed_side x) ≡ placed_side twin
-    pub receiving : Receiving p d old to twin
+    pub receiving : Receiving p d old old_bank below l to twin
 
   same_params : (x : Twin) (t : ℕ) (v : Value) (o : Option ℕ) → (puts x t v o).frame.function.body.params ≡ x.frame.function.body.params
   same_params x t v (Some r) = refl
   same_params x t v None = refl
 
-  pub all_received : (args : List Value) (k : ℕ) (x : Twin) → k + length args ≡ x.frame.function.body.params → Receiving p d old to x → Received k args x
+  pub all_received : (args : List Value) (k : ℕ) (x : Twin) → k + length args ≡ x.frame.function.body.params → Receiving p d old old_bank below l to x → Received k args x
   all_received [] k x count e = record { twin = x; bare = refl; full = refl; receiving = e }
   all_received (v ∷ vs) k x count e =
       let o : Option ℕ = register_of_place (slice_get x.frame.function.places k) in
@@ -133,36 +133,52 @@ module _ (p : Program) (d : List (List ℕ × Directives)) (old : Twin) (to : Op
         receiving = r.receiving;
       }
 
-  first_there_block : (x : Twin) (e : Receiving p d old to x) → Contains x.frame.function.body.blocks e.block
+  first_there_block : (x : Twin) (e : Receiving p d old old_bank below l to x) → Contains x.frame.function.body.blocks e.block
   first_there_block x e =
       subst (Contains x.frame.function.body.blocks) (get_or_from_slice_get x.frame.function.body.blocks 0 e.block e.block e.first)
       (Contains-get_or x.frame.function.body.blocks 0 e.block (slice_get_within x.frame.function.body.blocks 0 e.block e.first))
 
-  -- then both states are alike
-  pub received_alike : (x : Twin) → IsCalling p d old to → Calls (graph_of p) (name_of old.frame) (name_of x.frame) → Receiving p d old to x → IsAlike p d x
+  -- then it runs
+  pub received_runs : (x : Twin) → Receiving p d old old_bank below l to x → Runs p d x.frame x.registers x.bank
+  received_runs x e = record {
+    placed = e.placed;
+    inside = record { block = e.block; there = first_there_block x e; before = []; ops = sym e.ops; is = sym e.end };
+    webs = e.webs;
+    temps = λ t lives. e.temps t (inr (subst (λ (ops : List WebOp). Live x.frame.function.body t ops e.block.end) e.ops
+        (subst (λ end. Live x.frame.function.body t x.frame.ops end) e.end lives)));
+    gives = λ q low high out.
+        ap (λ (vs : List Value). slice_get vs (q - first_register)) e.before ∙ kept_at old_bank q low high ∙ ap Some (sym (e.placed_under q high));
+  }
+
+module _ (p : Program) (d : List (List ℕ × Directives)) where
+  -- above its caller both states are alike
+  pub received_alike : (was : Twin) (l : Located) (to : Option ℕ) (x : Twin) → IsCalling p d was to → Calls (graph_of p) (name_of was.frame) l.body.name
+      → Receiving p d was.registers was.bank (was.frame ∷ was.callers) l to x → IsAlike p d x
   unfolding gets_kept
-  received_alike x c edge e = record {
-    frame = record {
-      placed = e.placed;
-      inside = record { block = e.block; there = first_there_block x e; before = []; ops = sym e.ops; is = sym e.end };
-      webs = e.webs;
-      temps = λ t lives. e.temps t (inr (subst (λ (l : List WebOp). Live x.frame.function.body t l e.block.end) e.ops
-          (subst (λ end. Live x.frame.function.body t x.frame.ops end) e.end lives)));
-      gives = λ q low high out.
-          ap (λ (l : List Value). slice_get l (q - first_register)) e.before ∙ kept_at old.bank q low high ∙ ap Some (sym (e.placed_under q high));
-    };
+  received_alike was l to x c edge e = record {
+    frame = received_runs p d was.registers was.bank (was.frame ∷ was.callers) l to x e;
     callers = subst (λ (fs : List Active). AllWait p d (name_of x.frame) x.frame.result fs (given_back x.frame.bare x.registers) (given_back x.frame.placed x.bank)) (sym e.callers)
-        (subst (λ (o : Option ℕ). AllWait p d (name_of x.frame) o (old.frame ∷ old.callers) (given_back x.frame.bare x.registers) (given_back x.frame.placed x.bank)) (sym e.result) (
+        (subst (λ (o : Option ℕ). AllWait p d (name_of x.frame) o (was.frame ∷ was.callers) (given_back x.frame.bare x.registers) (given_back x.frame.placed x.bank)) (sym e.result) (
           record {
-            edge = edge;
-            gets = gets_kept p d old.frame to old.registers old.bank (given_back x.frame.bare x.registers) (given_back x.frame.placed x.bank) c.ready.frame c.calls e.bare_under e.placed_under;
+            edge = subst (λ (f : Located). Calls (graph_of p) (name_of was.frame) f.body.name) (sym e.function) edge;
+            gets = gets_kept p d was.frame to was.registers was.bank (given_back x.frame.bare x.registers) (given_back x.frame.placed x.bank) c.ready.frame c.calls e.bare_under e.placed_under;
             calls = c.calls;
           },
-          waiting_same p d (name_of old.frame) old.frame.result old.callers (given_back old.frame.bare old.registers) (given_back old.frame.placed old.bank)
-              (given_back old.frame.bare (given_back x.frame.bare x.registers)) (given_back old.frame.placed (given_back x.frame.placed x.bank))
-              (λ r high. with_same old.frame.bare.saved (given_back x.frame.bare x.registers) old.registers r (e.bare_under r high))
-              (λ r high. with_same old.frame.placed.saved (given_back x.frame.placed x.bank) old.bank r (e.placed_under r high)) c.ready.callers,
+          waiting_same p d (name_of was.frame) was.frame.result was.callers (given_back was.frame.bare was.registers) (given_back was.frame.placed was.bank)
+              (given_back was.frame.bare (given_back x.frame.bare x.registers)) (given_back was.frame.placed (given_back x.frame.placed x.bank))
+              (λ r high. with_same was.frame.bare.saved (given_back x.frame.bare x.registers) was.registers r (e.bare_under r high))
+              (λ r high. with_same was.frame.placed.saved (given_back x.frame.placed x.bank) was.bank r (e.placed_under r high)) c.ready.callers,
         ));
+    log = e.log;
+    kept = e.keeps;
+  }
+
+  -- above none it is `$start`
+  pub started_alike : (old old_bank : Registers) (l : Located) (x : Twin) → l.body.name ≡ start_name → Receiving p d old old_bank [] l None x → IsAlike p d x
+  started_alike old old_bank l x name e = record {
+    frame = received_runs p d old old_bank [] l None x e;
+    callers = subst (λ (fs : List Active). AllWait p d (name_of x.frame) x.frame.result fs (given_back x.frame.bare x.registers) (given_back x.frame.placed x.bank)) (sym e.callers)
+        (ap (λ (f : Located). f.body.name) e.function ∙ name);
     log = e.log;
     kept = e.keeps;
   }

@@ -1,19 +1,16 @@
 -- Returns.
-use Rattle.std.specs.Prelude.{ℕ, ◌≡◌, ◌≤◌, ◌-◌, Bool, true, false, if◌then◌else◌, Option, Some, None, List, [], ◌∷◌, length, map, slice_get, Contains}
+use Rattle.std.specs.Prelude.{ℕ, ◌≡◌, ◌-◌, Bool, true, false, if◌then◌else◌, Option, Some, None, List, [], ◌∷◌, length, map, Contains}
 use Rattle.std.proofs.Common.{refl, sym, ap, subst, ◌∙◌, inl, inr}
 use Rattle.pw_value.specs.declared.value.Value.{Value}
 use Rattle.pw_value.specs.declared.value.Value.TheVariants.{Undefined}
 use Rattle.pw_value.specs.declared.value.Byte.{Byte}
 use Rattle.pw_value.specs.Objects.{Object}
 use Rattle.pw_files.proofs.Standing.{Has}
-use Rattle.pw_db.specs.Limits.{first_register, last_register}
-use Rattle.pw_db.specs.Database.{IsDatabase}
 use Rattle.pw_db.specs.declared.database.Web.{Web}
 use Rattle.pw_db.specs.declared.database.Directives.{Directives}
 use Rattle.pw_flow.specs.declared.flow.End.{End}
 use Rattle.pw_flow.specs.declared.flow.End.TheVariants.{Return}
 use Rattle.pw_flow.specs.Uses.{end_uses}
-use Rattle.pw_webflow.specs.ValidWebs.{HasRegister}
 use Rattle.pw_alloc.specs.declared.located.Located.{Located}
 use Rattle.pw_run.specs.Runs as run
 use Rattle.pw_run.specs.Runs.{Same}
@@ -21,10 +18,10 @@ use Rattle.pw_run_languages.specs.Traces.{Event, Stored, Returned, EventAlike, s
 use Rattle.pw_run_languages.specs.Programs.{Program}
 use Rattle.pw_run_languages.specs.FlowRun.{put_global, end_from}
 use Rattle.pw_run_languages.specs.Direction.{with_functions}
-use Rattle.pw_run_languages.specs.PlacedRun.{PlacedProgram, Frame, Machine, Step, On, Astray, kept, with_register, with_registers, without_scratch, noted_if, is_eligible, and_then, leaves, leaves_webs, entered_webs, value_in, returns}
+use Rattle.pw_run_languages.specs.PlacedRun.{PlacedProgram, Frame, Machine, Step, On, Astray, kept, without_scratch, noted_if, is_eligible, and_then, leaves_webs, entered_webs, value_in, returns}
 use Rattle.pw_run_languages.specs.PlacedRun.{given_back as gives_all_back}
 use Rattle.pw_law_direction.proofs.Banks.{with_same, scratch_keeps, kept_at}
-use Rattle.pw_law_placed.specs.Twins.{Active, Twin, bare_side, placed_side, bare_frame, placed_frame, bare_program, bare_value, placed_value}
+use Rattle.pw_law_placed.specs.Twins.{Active, Twin, bare_side, placed_side, bare_frame, placed_frame, bare_program}
 use Rattle.pw_law_placed.specs.Alike.{Registers, given_back, name_of, AllWait, IsReady, IsAlike, Follows, strays}
 use Rattle.pw_law_placed.proofs.Lists.{first_there}
 use Rattle.pw_law_placed.proofs.Waiting.{gets_kept, waiting_same}

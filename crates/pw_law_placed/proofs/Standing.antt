@@ -1,6 +1,6 @@
 -- Where the globals stand in both runs.
-use Rattle.std.specs.Prelude.{ℕ, suc, ◌≡◌, Bool, true, false, if◌then◌else◌, Option, Some, None, option_map, List, [], ◌∷◌, map, Contains}
-use Rattle.std.proofs.Common.{refl, sym, ap, ap₂, subst, ◌∙◌}
+use Rattle.std.specs.Prelude.{ℕ, suc, ◌≡◌, Bool, true, false, if◌then◌else◌, Option, Some, option_map, List, [], ◌∷◌, map, Contains}
+use Rattle.std.proofs.Common.{refl, sym, ap, ap₂, ◌∙◌}
 use Rattle.std.specs.Option.{option_or}
 use Rattle.std.specs.Str.{bytes_eq}
 use Rattle.pw_value.specs.declared.value.Value.{Value}
@@ -11,7 +11,7 @@ use Rattle.pw_db.specs.declared.database.Role.{Role}
 use Rattle.pw_webflow.specs.Direction.{register_of}
 use Rattle.pw_run_languages.specs.Traces.{Standing}
 use Rattle.pw_run_languages.specs.Programs.{Program, globals_of}
-use Rattle.pw_run_languages.specs.PlacedRun.{PlacedProgram, held, standing, standings, globals_now, with_registers}
+use Rattle.pw_run_languages.specs.PlacedRun.{held, standing, standings}
 use Rattle.pw_law_placed.specs.Twins.{Active, bare_frame, placed_frame}
 use Rattle.pw_law_placed.specs.Alike.{Registers, given_back}
 use Rattle.pw_law_placed.specs.Laws.{AllWebsAgree, GlobalsStandAlike}

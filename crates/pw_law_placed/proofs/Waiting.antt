@@ -1,6 +1,6 @@
 -- What the functions that wait find in registers.
 use Rattle.std.specs.Prelude.{ℕ, ◌≡◌, ◌≢◌, ◌≤◌, true, Option, Some, List, [], ◌∷◌, slice_get}
-use Rattle.std.proofs.Common.{refl, sym, ap, ◌∙◌}
+use Rattle.std.proofs.Common.{sym, ap, ◌∙◌}
 use Rattle.pw_db.specs.Limits.{last_register}
 use Rattle.pw_db.specs.declared.database.Directives.{Directives}
 use Rattle.pw_webflow.specs.WebOutline.{calls}
@@ -9,7 +9,7 @@ use Rattle.pw_run_languages.specs.Programs.{Program}
 use Rattle.pw_run_languages.specs.Serving.{Live, IsHeld}
 use Rattle.pw_law_direction.proofs.Banks.{with_same}
 use Rattle.pw_law_placed.specs.Twins.{Active}
-use Rattle.pw_law_placed.specs.Alike.{Registers, given_back, Gets, AllWait}
+use Rattle.pw_law_placed.specs.Alike.{Registers, given_back, Gets}
 use Rattle.pw_law_placed.specs.Laws.{WaitingRestsOnKept}
 use Rattle.pw_law_placed.proofs.Places.{placed_same, web_kept}
 

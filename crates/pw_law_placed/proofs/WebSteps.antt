@@ -1,11 +1,10 @@
 -- Copies from and to the register of a web, and all that a function does by itself.
-use Rattle.std.specs.Prelude.{ℕ, ◌≡◌, ◌==◌, Bool, true, false, if◌then◌else◌, Option, Some, None, List, [], ◌∷◌, ◌++◌, map, Contains}
-use Rattle.std.proofs.Common.{◌⊎◌, refl, sym, subst, ap, ◌∙◌, inl, inr}
+use Rattle.std.specs.Prelude.{ℕ, ◌≡◌, Some, None, List, [], ◌∷◌, ◌++◌, map}
+use Rattle.std.proofs.Common.{refl, sym, subst, ◌∙◌, inl, inr}
 use Rattle.std.specs.List.{AllByRecursion}
-use Rattle.std.proofs.lemmas.Bool.{eqb-false}
 use Rattle.pw_value.specs.declared.value.Value.{Value}
 use Rattle.pw_value.specs.declared.value.Value.TheVariants.{Undefined}
-use Rattle.pw_files.proofs.Standing.{Has, has_by, contains_by, has_each}
+use Rattle.pw_files.proofs.Standing.{Has, has_by, has_each}
 use Rattle.pw_db.specs.Database.{IsDatabase}
 use Rattle.pw_db.specs.declared.database.Web.{Web}
 use Rattle.pw_db.specs.declared.database.Role.{Role}
@@ -13,21 +12,20 @@ use Rattle.pw_db.specs.declared.database.Directives.{Directives}
 use Rattle.pw_webflow.specs.ValidWebs.{HasRegister, IsWebFn, IsWebBlock, IsWebOp}
 use Rattle.pw_webflow.specs.declared.web.WebFn.{WebFn}
 use Rattle.pw_webflow.specs.declared.web.WebOp.{WebOp}
-use Rattle.pw_webflow.specs.declared.web.WebOp.TheVariants.{Flow, Read, Write}
-use Rattle.pw_webflow.specs.WebOutline.{uses, defines}
+use Rattle.pw_webflow.specs.declared.web.WebOp.TheVariants.{Read, Write}
 use Rattle.pw_webflow.specs.Direction.{directed}
 use Rattle.pw_flow.specs.declared.flow.End.{End}
 use Rattle.pw_db_sound.specs.Sound.{Sound, In}
 use Rattle.pw_db_sound.specs.Sound.{Has as HasRole}
 use Rattle.pw_run_languages.specs.Programs.{Program}
 use Rattle.pw_run_languages.specs.LawfulPrograms.{graph_of}
-use Rattle.pw_run_languages.specs.Direction.{directives_of, directed_by}
-use Rattle.pw_run_languages.specs.PlacedRun.{On, with_register, with_temp, value_in}
+use Rattle.pw_run_languages.specs.Direction.{directed_by}
+use Rattle.pw_run_languages.specs.PlacedRun.{On, with_register, with_temp}
 use Rattle.pw_run_languages.specs.Serving.{StandsIn}
 use Rattle.pw_law_direction.proofs.Banks.{written_other}
 use Rattle.pw_law_direction.proofs.Directives.{there_role}
 use Rattle.pw_law_placed.specs.Twins.{Active, Twin, bare_side, placed_side, bare_value, placed_value}
-use Rattle.pw_law_placed.specs.Alike.{Registers, given_back, name_of, IsPlaced, IsReady, IsAlike, Follows}
+use Rattle.pw_law_placed.specs.Alike.{name_of, IsPlaced, IsReady, IsAlike, Follows}
 use Rattle.pw_law_placed.proofs.Lists.{first_there}
 use Rattle.pw_law_placed.proofs.Writing.{results_follow, with_here}
 use Rattle.pw_law_placed.proofs.Blocks.{popped, ready_behind, uses_agree}

@@ -1,7 +1,7 @@
 -- A function writes the register of one of its webs: in both runs, down to the function that saved it.
-use Rattle.std.specs.Prelude.{ℕ, zero, suc, ◌≡◌, ◌≢◌, ◌≤◌, ◌<◌, ◌+◌, ◌==◌, ◌&&◌, Bool, true, false, if◌then◌else◌, Option, Some, List, [], ◌∷◌, map, slice_get, Contains}
+use Rattle.std.specs.Prelude.{ℕ, zero, suc, ◌≡◌, ◌≤◌, ◌==◌, ◌&&◌, Bool, true, false, if◌then◌else◌, Option, Some, List, [], ◌∷◌, map, Contains}
 use Rattle.std.proofs.Common.{◌⊎◌, arith, refl, sym, subst, ap, ◌∙◌, inl, inr}
-use Rattle.std.proofs.lemmas.Bool.{cases_eq, cases_lt, eqb-true, eqb-false}
+use Rattle.std.proofs.lemmas.Bool.{cases_eq, eqb-true}
 use Rattle.pw_value.specs.declared.value.Value.{Value}
 use Rattle.pw_files.proofs.Standing.{Has, has_by, contains_by, has_map}
 use Rattle.pw_db.specs.Limits.{first_register, last_register, register_count}
@@ -13,20 +13,20 @@ use Rattle.pw_db.specs.declared.database.Directives.{Directives}
 use Rattle.pw_webflow.specs.ValidWebs.{HasRegister}
 use Rattle.pw_webflow.specs.declared.web.WebFn.{WebFn}
 use Rattle.pw_webflow.specs.Direction.{directed}
-use Rattle.pw_alloc.specs.Allocation.{is_entry, is_entered, entered_from, saved_of}
+use Rattle.pw_alloc.specs.Allocation.{is_entry, is_entered, entered_from}
 use Rattle.pw_alloc.specs.declared.located.Place.TheVariants.{Reg}
 use Rattle.pw_db_sound.specs.Sound.{Sound, In}
 use Rattle.pw_db_sound.specs.Sound.{Has as HasRole}
 use Rattle.pw_run_languages.specs.Traces.{MayChange, member}
 use Rattle.pw_run_languages.specs.Programs.{Program}
 use Rattle.pw_run_languages.specs.LawfulPrograms.{graph_of}
-use Rattle.pw_run_languages.specs.Direction.{directives_of, directed_by}
+use Rattle.pw_run_languages.specs.Direction.{directed_by}
 use Rattle.pw_run_languages.specs.PlacedRun.{with_register, with_registers}
-use Rattle.pw_run_languages.specs.Serving.{Changes, places, enters}
+use Rattle.pw_run_languages.specs.Serving.{Changes, places, enters, saves}
 use Rattle.pw_law_direction.proofs.Banks.{with_same, with_covered, in_from, is_entered_by}
 use Rattle.pw_law_direction.proofs.Directives.{role_there, web_range}
 use Rattle.pw_law_placed.specs.Twins.{Active}
-use Rattle.pw_law_placed.specs.Alike.{Registers, given_back, name_of, IsPlaced, GivesBack, Gets, Waits, AllWait}
+use Rattle.pw_law_placed.specs.Alike.{Registers, given_back, name_of, IsPlaced, GivesBack, Gets, AllWait}
 use Rattle.pw_law_placed.proofs.Lists.{differ}
 use Rattle.pw_law_placed.proofs.Places.{placed_same, place_there}
 use Rattle.pw_law_placed.proofs.Waiting.{waiting_same}
@@ -109,6 +109,7 @@ module _ (p : Program) (d : List (List ℕ × Directives)) (base : IsDatabase d)
   ) where
     not_changed : Changes f.function.body f.function r → ⊥
     not_changed (places c high free) = (is.serves.registers r c).1 own
+    not_changed (saves c) = absurd (has_by r [] c)
     not_changed (enters has) =
         differ (is_entered f.function.body.directives.webs r) (subst (λ (q : ℕ). is_entered f.function.body.directives.webs q ≡ true) has.is
         (is_entered_by f.function.body.directives.webs has.web (has_by (has.web, Entry) f.function.body.directives.webs has.there))) e

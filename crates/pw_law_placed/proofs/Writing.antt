@@ -1,5 +1,5 @@
 -- A temporary gets a value, in its place.
-use Rattle.std.specs.Prelude.{ℕ, ◌≡◌, ◌≢◌, ◌<◌, ◌≤◌, ◌==◌, Bool, true, false, if◌then◌else◌, Option, Some, None, List, [], ◌∷◌, ◌++◌, length, map, slice_get, slice_set, slice_index_or, Contains}
+use Rattle.std.specs.Prelude.{ℕ, ◌≡◌, ◌≤◌, ◌==◌, Bool, true, false, if◌then◌else◌, Option, Some, None, List, [], ◌∷◌, ◌++◌, length, map, slice_get, slice_set, slice_index_or, Contains}
 use Rattle.std.proofs.Common.{arith, refl, sym, ap, subst, ◌∙◌, get_or, inl, inr}
 use Rattle.std.proofs.lemmas.Bool.{cases_eq, cases_lt, eqb-false}
 use Rattle.std.proofs.lemmas.List.{get_or-set_same, get_or-set_other, get_or_past, length-set, append_assoc}
@@ -7,18 +7,18 @@ use Rattle.std.proofs.lemmas.Option.{slice_get_within, same_Some}
 use Rattle.pw_value.specs.declared.value.Value.{Value}
 use Rattle.pw_value.specs.declared.value.Value.TheVariants.{Undefined}
 use Rattle.pw_files.proofs.Standing.{Has, has_by}
-use Rattle.pw_db.specs.Limits.{first_register, last_register}
+use Rattle.pw_db.specs.Limits.{last_register}
 use Rattle.pw_db.specs.declared.database.Directives.{Directives}
 use Rattle.pw_webflow.specs.ValidWebs.{HasRegister}
 use Rattle.pw_webflow.specs.declared.web.WebOp.{WebOp}
 use Rattle.pw_alloc.specs.declared.located.Place.{Place}
 use Rattle.pw_alloc.specs.declared.located.Place.TheVariants.{Slot, Reg}
 use Rattle.pw_run_languages.specs.Programs.{Program}
-use Rattle.pw_run_languages.specs.PlacedRun.{Machine, Step, On, with_register, with_registers, with_temp, takes_result}
-use Rattle.pw_run_languages.specs.Serving.{Live, StandsIn, Interfere, by_operation, Changes, places}
+use Rattle.pw_run_languages.specs.PlacedRun.{Machine, On, with_register, with_temp}
+use Rattle.pw_run_languages.specs.Serving.{Live, StandsIn, by_operation, places}
 use Rattle.pw_law_direction.proofs.Banks.{with_same, with_covered, written_other}
-use Rattle.pw_law_placed.specs.Twins.{Own, Active, Twin, bare_side, placed_side, bare_value, placed_value}
-use Rattle.pw_law_placed.specs.Alike.{Registers, given_back, IsPlaced, IsInside, WebsAgree, TempsAgree, GivesBack, Runs, Gets, AllWait, IsReady, IsAlike, GoesBoth, Follows, goes}
+use Rattle.pw_law_placed.specs.Twins.{Active, Twin, bare_side, placed_side, bare_value, placed_value}
+use Rattle.pw_law_placed.specs.Alike.{Registers, given_back, IsPlaced, IsInside, Gets, IsReady, IsAlike, goes}
 use Rattle.pw_law_placed.specs.Laws.{ResultsFollow}
 use Rattle.pw_law_placed.proofs.Lists.{nowhere}
 use Rattle.pw_law_placed.proofs.Places.{register_of_place, value_at, placed_same, place_there}

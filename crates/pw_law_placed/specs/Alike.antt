@@ -2,7 +2,6 @@
 -- functions called after it have given back what they saved.
 use Rattle.std.specs.Prelude.{ℕ, ◌≡◌, ◌≢◌, ◌-◌, ◌≤◌, true, Option, Some, List, [], ◌∷◌, ◌++◌, length, map, slice_get, Contains}
 use Rattle.pw_value.specs.declared.value.Value.{Value}
-use Rattle.pw_value.specs.declared.value.Byte.{Byte}
 use Rattle.pw_value.specs.ProgramNames.{start_name}
 use Rattle.pw_db.specs.Limits.{first_register, last_register}
 use Rattle.pw_db.specs.declared.database.Directives.{Directives}
@@ -15,7 +14,7 @@ use Rattle.pw_alloc.specs.Allocation.{saved_of}
 use Rattle.pw_run.specs.Runs as run
 use Rattle.pw_run.specs.Runs.{Same}
 use Rattle.pw_db_sound.specs.CallGraphs.{Calls}
-use Rattle.pw_run_languages.specs.Traces.{Event, EventAlike, MayChange, KeepRegisters}
+use Rattle.pw_run_languages.specs.Traces.{EventAlike, MayChange, KeepRegisters}
 use Rattle.pw_run_languages.specs.Programs.{Program, functions_of}
 use Rattle.pw_run_languages.specs.LawfulPrograms.{graph_of}
 use Rattle.pw_run_languages.specs.PlacedRun.{Step, On, Stopped, Astray, with_registers}

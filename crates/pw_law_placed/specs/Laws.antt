@@ -4,21 +4,26 @@ use Rattle.pw_value.specs.declared.value.Value.{Value}
 use Rattle.pw_value.specs.Objects.{Object}
 use Rattle.pw_db.specs.Limits.{last_register}
 use Rattle.pw_db.specs.declared.database.Directives.{Directives}
+use Rattle.pw_db.specs.Database.{IsDatabase}
 use Rattle.pw_flow.specs.declared.flow.Op.{Op}
 use Rattle.pw_flow.specs.declared.flow.End.{End}
 use Rattle.pw_flow.specs.declared.flow.End.TheVariants.{Return}
 use Rattle.pw_flow.specs.Uses.{op_uses, op_defines}
 use Rattle.pw_webflow.specs.declared.web.WebFn.{WebFn}
 use Rattle.pw_alloc.specs.declared.located.Located.{Located}
+use Rattle.pw_db_sound.specs.CallGraphs.{Calls}
+use Rattle.pw_db_sound.specs.Sound.{Sound}
 use Rattle.pw_run_languages.specs.Programs.{Program, Library, library_at}
+use Rattle.pw_run_languages.specs.LawfulPrograms.{IsProgram, graph_of}
 use Rattle.pw_run_languages.specs.Commands as command
 use Rattle.pw_run_languages.specs.Commands.{command}
-use Rattle.pw_run_languages.specs.PlacedRun.{PlacedProgram, globals_now, On, takes_result, obeys, ends, function_named}
+use Rattle.pw_run_languages.specs.PlacedRun.{PlacedProgram, globals_now, On, takes_result, obeys, ends, returns, start, step, function_named}
 use Rattle.pw_run_languages.specs.PlacedRun.{calls as place_calls}
 use Rattle.pw_run_languages.specs.Direction.{directed_functions, with_functions, unplaced}
 use Rattle.pw_run_languages.specs.Serving.{AllServe, Serves}
+use Rattle.pw_law_direction.specs.Values.{AreFine}
 use Rattle.pw_law_placed.specs.Twins.{Active, Twin, bare_frame, placed_frame, bare_side, placed_side, bare_program}
-use Rattle.pw_law_placed.specs.Alike.{Registers, WebsAgree, AllWait, IsReady, IsCalling, IsAlike, Follows, given_back}
+use Rattle.pw_law_placed.specs.Alike.{Registers, WebsAgree, AllWait, IsReady, IsCalling, IsAlike, Follows, given_back, name_of}
 
 -- what an operation asks for depends on the temporaries that it reads alone
 abbrev pub CommandsRestOnUses : Type 0
@@ -105,11 +110,41 @@ LibraryFollows =
 -- ---- functions of both runs
 
 -- a name is that of no function in either run, or of one whose places serve it
-pub data BothNamed (fs : List WebFn) : Option Located → Option Located → Type 0 where
-  neither : BothNamed fs None None
-  both : (l : Located) → Contains fs l.body → Serves l.body l → BothNamed fs (Some (unplaced l.body)) (Some l)
+pub data BothNamed (fs : List WebFn) (name : List ℕ) : Option Located → Option Located → Type 0 where
+  neither : BothNamed fs name None None
+  both : (l : Located) → Contains fs l.body → Serves l.body l → l.body.name ≡ name → BothNamed fs name (Some (unplaced l.body)) (Some l)
 
 abbrev pub SameFunctions : Type 0
 SameFunctions =
     (p : Program) (d : List (List ℕ × Directives)) (ls : List Located) (name : List ℕ) → IsServed p d ls →
-    BothNamed (directed_functions p d) (function_named (bare_program p d) name) (function_named (with_functions p ls) name)
+    BothNamed (directed_functions p d) name (function_named (bare_program p d) name) (function_named (with_functions p ls) name)
+
+-- ---- calls, returns, starts
+
+-- a call that is one of the graph, of whatever function
+abbrev pub CallsFollow : Type 0
+CallsFollow =
+    (p : Program) (d : List (List ℕ × Directives)) (ls : List Located) (x : Twin) (result : Option ℕ) (f : List ℕ) (args : List Value) →
+    IsProgram p → IsDatabase d → Sound (graph_of p) d → IsServed p d ls → IsCalling p d x result → Calls (graph_of p) (name_of x.frame) f →
+    Follows p d (place_calls (bare_program p d) result f args (bare_side x)) (place_calls (with_functions p ls) result f args (placed_side x))
+
+abbrev pub ReturnsFollow : Type 0
+ReturnsFollow =
+    (p : Program) (d : List (List ℕ × Directives)) (ls : List Located) (x : Twin) (t : Option ℕ) →
+    IsDatabase d → Sound (graph_of p) d → IsAlike p d x → x.frame.ops ≡ [] → x.frame.end ≡ Return t →
+    Follows p d (returns (bare_program p d) t (bare_side x)) (returns (with_functions p ls) t (placed_side x))
+
+abbrev pub StartsFollow : Type 0
+StartsFollow =
+    (p : Program) (d : List (List ℕ × Directives)) (ls : List Located) (input : List ℕ) →
+    IsProgram p → IsDatabase d → Sound (graph_of p) d → IsServed p d ls →
+    Follows p d (start (bare_program p d) input) (start (with_functions p ls) input)
+
+-- ---- all steps
+
+-- from states that are alike and whose values are fine
+abbrev pub StepsFollow : Type 0
+StepsFollow =
+    (p : Program) (d : List (List ℕ × Directives)) (ls : List Located) (x : Twin) →
+    IsProgram p → IsDatabase d → Sound (graph_of p) d → IsServed p d ls → IsAlike p d x → AreFine p (bare_side x) →
+    Follows p d (step (bare_program p d) (bare_side x)) (step (with_functions p ls) (placed_side x))

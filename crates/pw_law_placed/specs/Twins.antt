@@ -1,6 +1,6 @@
 -- The directed run and the placed run side by side. They go step by step together, so what both have stands here once, and
 -- beside it what each has of its own.
-use Rattle.std.specs.Prelude.{ℕ, Option, List, ◌∷◌, map, slice_index_or}
+use Rattle.std.specs.Prelude.{ℕ, Option, List, map, slice_index_or}
 use Rattle.pw_value.specs.declared.value.Value.{Value}
 use Rattle.pw_value.specs.declared.value.Value.TheVariants.{Undefined}
 use Rattle.pw_value.specs.declared.value.Byte.{Byte}

@@ -1,7 +1,10 @@
 //! The law of places, without code: the run of functions whose temporaries have places beside the directed run.
 #![tactic(auto)]
 
-ghost use Rattle.pw_law_placed.specs.Laws.{CommandsRestOnUses, GlobalsStandAlike, WaitingRestsOnKept, ResultsFollow, CommandsHaveResults, CommandsFollow, BlocksFollow, LibraryFollows, SameFunctions};
+ghost use Rattle.pw_law_placed.specs.Laws.{BlocksFollow, CallsFollow, CommandsFollow, CommandsHaveResults, CommandsRestOnUses, GlobalsStandAlike, LibraryFollows, ResultsFollow, ReturnsFollow, SameFunctions, StartsFollow, StepsFollow, WaitingRestsOnKept};
+ghost use Rattle.pw_run_languages.specs.PlacementLaws.{PlacesKeepRuns};
+
+use pw_law_direction::{directed_values_are_fine, operations_call_by_the_graph};
 
 /// What an operation asks for depends on the temporaries that it reads alone.
 pub fn commands_rest_on_uses()
@@ -47,3 +50,34 @@ pub fn library_follows()
 pub fn same_functions()
     ensures { SameFunctions }
 {}
+
+/// A call that is one of the graph does the same in both runs, whatever it calls.
+pub fn calls_follow()
+    ensures { CallsFollow }
+{}
+
+/// So does a return.
+pub fn returns_follow()
+    ensures { ReturnsFollow }
+{}
+
+/// The starts are alike.
+pub fn starts_follow()
+    ensures { StartsFollow }
+{}
+
+/// Every step does the same in both runs, from states that are alike.
+pub fn steps_follow()
+    ensures { StepsFollow }
+{
+    operations_call_by_the_graph();
+}
+
+/// Where places serve, the placed run does what the directed run does and notes the same; and returns keep the registers.
+pub fn places_keep()
+    ensures { PlacesKeepRuns }
+{
+    directed_values_are_fine();
+    starts_follow();
+    steps_follow();
+}

@@ -13,9 +13,9 @@ use Rattle.pw_store_modules.specs.Modules.{module_map}
 use Rattle.pw_top_answer.specs.Effects.{Effect}
 use Rattle.pw_gen.specs.Generator.{generated, main_text, module_file, module_of}
 use Rattle.pw_session.specs.FromBuild.BuildFault.{BuildFault}
-use Rattle.pw_session.specs.FromBuilding.Building.{BuildOutcome, Outcome, counted, object_in}
-use Rattle.pw_session.specs.FromBuilding.Full.{BuildsImage, image_of}
-use Rattle.pw_session.specs.FromBuilding.Genuine.{KeepsGenuine}
+use Rattle.pw_session.specs.FromBuildFiles.Building.{BuildOutcome, Outcome, counted, object_in}
+use Rattle.pw_session.specs.FromBuildFiles.Full.{BuildsImage, image_of}
+use Rattle.pw_session.specs.FromBuildFiles.Genuine.{KeepsGenuine}
 use Rattle.pw_session.specs.declared.opts.SessionOpts.{SessionOpts}
 use Rattle.pw_session.specs.Bench.{BenchEffect, bench_files, bench_modules, made_files}
 use Rattle.pw_law_session.specs.Full.{BenchBuildsInFull}

@@ -7,14 +7,14 @@ use Rattle.pw_store_modules.specs.Modules.{is_module_file, module_map}
 use Rattle.pw_top_answer.specs.Effects.{NamedFile, after_puts}
 use Rattle.pw_law_build.specs.Whole.{HoldsFullBuild}
 use Rattle.pw_session.specs.FromBuild.BuildFault.{BuildFault}
-use Rattle.pw_session.specs.FromBuilding.Building.{BuildOutcome, Outcome}
-use Rattle.pw_session.specs.FromBuilding.Full.{BuildsImage, image_of}
-use Rattle.pw_session.specs.FromBuilding.Genuine.{KeepsGenuine}
+use Rattle.pw_session.specs.FromBuildFiles.Building.{BuildOutcome, Outcome}
+use Rattle.pw_session.specs.FromBuildFiles.Full.{BuildsImage, image_of}
+use Rattle.pw_session.specs.FromBuildFiles.Genuine.{KeepsGenuine}
 use Rattle.pw_session_script.specs.Script.{LineValue, PutText, RemoveText, BuildProgram, RunProgram, NamesModule}
 use Rattle.pw_session.specs.declared.opts.SessionOpts.{SessionOpts}
 use Rattle.pw_session.specs.Builds.{BuildsTo}
 use Rattle.pw_session.specs.Changes.{Puts, after_changes}
-use Rattle.pw_session.specs.Session.{Act, Acts, Effects, LinesAct, State, builds_as, lines_of, next_state, session_start}
+use Rattle.pw_session.specs.Session.{LineEffect, Acts, Effects, LinesAct, SessionState, builds_as, script_lines, next_state, session_start}
 use Rattle.pw_law_session.specs.Full.{BuildsInFull, LeavesFullBuild, LinesBuildInFull, SessionBuildsInFull}
 use Rattle.pw_law_session.proofs.NamingLemmas.{script_named}
 
@@ -33,7 +33,7 @@ puts_are : (told : Told) (files : List NamedFile) → after_changes told (map Pu
 puts_are told [] = refl
 puts_are told (file ∷ files) = puts_are (after_put told file.0 file.1) files
 
-build_left : Laws → (opts : SessionOpts) (s : State) (comes : Result Outcome BuildFault) → KeepsGenuine s.told.files → BuildOutcome s.told.files opts.build.colours opts.build.stack comes → KeepsGenuine (next_state s (builds_as s comes)).told.files
+build_left : Laws → (opts : SessionOpts) (s : SessionState) (comes : Result Outcome BuildFault) → KeepsGenuine s.told.files → BuildOutcome s.told.files opts.build.colours opts.build.stack comes → KeepsGenuine (next_state s (builds_as s comes)).told.files
 build_left laws opts s (Ok outcome) keeps h = subst (λ (t : Told). KeepsGenuine t.files) (sym (puts_are s.told outcome.puts)) (laws.leaves s.told opts.build.colours opts.build.stack outcome keeps h)
 build_left laws opts s (Err fault) keeps h = keeps
 
@@ -41,39 +41,39 @@ pub opened : (opts : SessionOpts) (files : Files) (comes : Result Outcome BuildF
 unfolding BuildsTo
 opened opts files comes h = h
 
-left_by : (s : State) (act one : Act) → act ≡ one → KeepsGenuine (next_state s one).told.files → KeepsGenuine (next_state s act).told.files
-left_by s act one e h = subst (λ (a : Act). KeepsGenuine (next_state s a).told.files) (sym e) h
+left_by : (s : SessionState) (effect one : LineEffect) → effect ≡ one → KeepsGenuine (next_state s one).told.files → KeepsGenuine (next_state s effect).told.files
+left_by s effect one e h = subst (λ (a : LineEffect). KeepsGenuine (next_state s a).told.files) (sym e) h
 
-line_left : Laws → (opts : SessionOpts) (s : State) (line : LineValue) (act : Act) → KeepsGenuine s.told.files → NamesModule line → Acts opts s line act → KeepsGenuine (next_state s act).told.files
-line_left laws opts s (PutText file text) act keeps named h = left_by s act _ h (laws.texts file s.told.files (after_put s.told file text).files named (laws.insertion s.told.files file text) keeps)
-line_left laws opts s (RemoveText file) act keeps named h = left_by s act _ h (laws.texts file s.told.files (after_remove s.told file).files named (laws.removal s.told.files file) keeps)
-line_left laws opts s BuildProgram act keeps named h = left_by s act _ h.2 (build_left laws opts s h.0 keeps (opened opts s.told.files h.0 h.1))
-line_left laws opts s (RunProgram input) act keeps named h = left_by s act _ h.2 keeps
+line_left : Laws → (opts : SessionOpts) (s : SessionState) (line : LineValue) (effect : LineEffect) → KeepsGenuine s.told.files → NamesModule line → Acts opts s line effect → KeepsGenuine (next_state s effect).told.files
+line_left laws opts s (PutText file text) effect keeps named h = left_by s effect _ h (laws.texts file s.told.files (after_put s.told file text).files named (laws.insertion s.told.files file text) keeps)
+line_left laws opts s (RemoveText file) effect keeps named h = left_by s effect _ h (laws.texts file s.told.files (after_remove s.told file).files named (laws.removal s.told.files file) keeps)
+line_left laws opts s BuildProgram effect keeps named h = left_by s effect _ h.2 (build_left laws opts s h.0 keeps (opened opts s.told.files h.0 h.1))
+line_left laws opts s (RunProgram input) effect keeps named h = left_by s effect _ h.2 keeps
 
 -- a build leaves the full build's files
-full_left : Laws → (opts : SessionOpts) (s : State) (outcome : Outcome) → KeepsGenuine s.told.files → BuildOutcome s.told.files opts.build.colours opts.build.stack (Ok outcome)
+full_left : Laws → (opts : SessionOpts) (s : SessionState) (outcome : Outcome) → KeepsGenuine s.told.files → BuildOutcome s.told.files opts.build.colours opts.build.stack (Ok outcome)
     → HoldsFullBuild (module_map s.told.files) opts.build.colours opts.build.stack (next_state s (builds_as s (Ok outcome))).told.files
 full_left laws opts s outcome keeps h =
     subst (λ (t : Told). HoldsFullBuild (module_map s.told.files) opts.build.colours opts.build.stack t.files) (sym (puts_are s.told outcome.puts)) (laws.whole s.told opts.build.colours opts.build.stack outcome keeps h)
 
-build_leaves : Laws → (opts : SessionOpts) (s : State) (act : Act) (comes : Result Outcome BuildFault) → act ≡ builds_as s comes → KeepsGenuine s.told.files → BuildOutcome s.told.files opts.build.colours opts.build.stack comes → LeavesFullBuild opts s act comes
-build_leaves laws opts s act (Ok outcome) e keeps h = (
-  subst (λ (a : Act). HoldsFullBuild (module_map s.told.files) opts.build.colours opts.build.stack (next_state s a).told.files) (sym e) (full_left laws opts s outcome keeps h),
-  left_by s act (builds_as s (Ok outcome)) e (build_left laws opts s (Ok outcome) keeps h),
+build_leaves : Laws → (opts : SessionOpts) (s : SessionState) (effect : LineEffect) (comes : Result Outcome BuildFault) → effect ≡ builds_as s comes → KeepsGenuine s.told.files → BuildOutcome s.told.files opts.build.colours opts.build.stack comes → LeavesFullBuild opts s effect comes
+build_leaves laws opts s effect (Ok outcome) e keeps h = (
+  subst (λ (a : LineEffect). HoldsFullBuild (module_map s.told.files) opts.build.colours opts.build.stack (next_state s a).told.files) (sym e) (full_left laws opts s outcome keeps h),
+  left_by s effect (builds_as s (Ok outcome)) e (build_left laws opts s (Ok outcome) keeps h),
 )
-build_leaves laws opts s act (Err fault) e keeps h = tt
+build_leaves laws opts s effect (Err fault) e keeps h = tt
 
 -- ---- lines
 
-line_in_full : Laws → (opts : SessionOpts) (s : State) (line : LineValue) (act : Act) → KeepsGenuine s.told.files → Acts opts s line act → BuildsInFull opts s line act
-line_in_full laws opts s (PutText file text) act keeps h = h
-line_in_full laws opts s (RemoveText file) act keeps h = h
-line_in_full laws opts s BuildProgram act keeps h =
+line_in_full : Laws → (opts : SessionOpts) (s : SessionState) (line : LineValue) (effect : LineEffect) → KeepsGenuine s.told.files → Acts opts s line effect → BuildsInFull opts s line effect
+line_in_full laws opts s (PutText file text) effect keeps h = h
+line_in_full laws opts s (RemoveText file) effect keeps h = h
+line_in_full laws opts s BuildProgram effect keeps h =
     let comes = opened opts s.told.files h.0 h.1 in
-    (h.0, h.1, h.2, laws.full s.told.files opts.build.colours opts.build.stack h.0 keeps comes, build_leaves laws opts s act h.0 h.2 keeps comes)
-line_in_full laws opts s (RunProgram input) act keeps h = h
+    (h.0, h.1, h.2, laws.full s.told.files opts.build.colours opts.build.stack h.0 keeps comes, build_leaves laws opts s effect h.0 h.2 keeps comes)
+line_in_full laws opts s (RunProgram input) effect keeps h = h
 
-lines_in_full : Laws → (opts : SessionOpts) (s : State) (lines : List LineValue) (e : Effects) → AllByRecursion NamesModule lines → KeepsGenuine s.told.files → LinesAct opts s lines e → LinesBuildInFull opts s lines e
+lines_in_full : Laws → (opts : SessionOpts) (s : SessionState) (lines : List LineValue) (e : Effects) → AllByRecursion NamesModule lines → KeepsGenuine s.told.files → LinesAct opts s lines e → LinesBuildInFull opts s lines e
 lines_in_full laws opts s [] e named keeps h = h
 lines_in_full laws opts s (line ∷ lines) e named keeps h =
     (h.0, h.1, line_in_full laws opts s line h.0 keeps h.2, lines_in_full laws opts (next_state s h.0) lines h.1 named.1 (line_left laws opts s line h.0 keeps named.0 h.2) h.3, h.4)

@@ -6,7 +6,7 @@ use Rattle.std.specs.Str.{bytes_eq}
 use Rattle.pw_store_modules.specs.Modules.{is_module_file}
 use Rattle.pw_session_script.specs.Script.{Command, PutFile, RemoveFile, BuildAll, RunWith, LineValue, NamesModule, by_command, by_line, command_in, command_of, content_of, file_in, first_line, first_word, line_limit, line_within, long_command, put_in, put_limit, run_limit, with_content, words_behind}
 use Rattle.pw_top_words.specs.CommandLine.{number_in}
-use Rattle.pw_session.specs.Session.{lines_from, lines_limit, lines_of, no_line, with_line}
+use Rattle.pw_session.specs.Session.{script_lines_from, lines_limit, script_lines, no_line, with_line}
 
 -- the command names a module's file
 abbrev NamesFile : Command → Type 0
@@ -100,16 +100,16 @@ first_named script = by_line_named (line_within line_limit script)
 abbrev AreNamed : List LineValue → Type 0
 AreNamed lines = AllByRecursion NamesModule lines
 
-cut_named : (n offset : ℕ) (script : List ℕ) (cut : Option (LineValue × List ℕ)) → ((at : ℕ) (rest : List ℕ) → AreNamed (lines_from n at rest).lines) → IfNamed cut
-    → AreNamed (option_map_or (λ c. with_line c.0 (lines_from n (offset + (length script - length c.1)) c.1)) cut (no_line offset script)).lines
+cut_named : (n offset : ℕ) (script : List ℕ) (cut : Option (LineValue × List ℕ)) → ((at : ℕ) (rest : List ℕ) → AreNamed (script_lines_from n at rest).lines) → IfNamed cut
+    → AreNamed (option_map_or (λ c. with_line c.0 (script_lines_from n (offset + (length script - length c.1)) c.1)) cut (no_line offset script)).lines
 cut_named n offset script None behind h = tt
 cut_named n offset script (Some cut) behind h = (h, behind (offset + (length script - length cut.1)) cut.1)
 
-lines_named : (n offset : ℕ) (script : List ℕ) → AreNamed (lines_from n offset script).lines
-unfolding lines_from
+lines_named : (n offset : ℕ) (script : List ℕ) → AreNamed (script_lines_from n offset script).lines
+unfolding script_lines_from
 lines_named zero offset script = tt
 lines_named (suc n) offset script = cut_named n offset script (first_line script) (λ at rest. lines_named n at rest) (first_named script)
 
-pub script_named : (script : List ℕ) → AllByRecursion NamesModule (lines_of script).lines
-unfolding lines_of
+pub script_named : (script : List ℕ) → AllByRecursion NamesModule (script_lines script).lines
+unfolding script_lines
 script_named script = lines_named lines_limit 0 script

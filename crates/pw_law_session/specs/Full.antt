@@ -5,38 +5,38 @@ use Rattle.pw_store_modules.specs.Modules.{module_map}
 use Rattle.pw_top_answer.specs.Effects.{Effect}
 use Rattle.pw_law_build.specs.Whole.{HoldsFullBuild}
 use Rattle.pw_session.specs.FromBuild.BuildFault.{BuildFault}
-use Rattle.pw_session.specs.FromBuilding.Building.{Outcome}
-use Rattle.pw_session.specs.FromBuilding.Full.{BuildsImage, image_of}
-use Rattle.pw_session.specs.FromBuilding.Genuine.{KeepsGenuine}
+use Rattle.pw_session.specs.FromBuildFiles.Building.{Outcome}
+use Rattle.pw_session.specs.FromBuildFiles.Full.{BuildsImage, image_of}
+use Rattle.pw_session.specs.FromBuildFiles.Genuine.{KeepsGenuine}
 use Rattle.pw_session_script.specs.Script.{LineValue, BuildProgram}
 use Rattle.pw_session.specs.declared.opts.SessionOpts.{SessionOpts}
 use Rattle.pw_session.specs.Builds.{BuildsTo}
 use Rattle.pw_session.specs.Bench.{BenchOver, bench_files}
-use Rattle.pw_session.specs.Session.{Act, Acts, Effects, LinesAct, State, behind_act, builds_as, lines_of, next_state, session_start}
+use Rattle.pw_session.specs.Session.{LineEffect, Acts, Effects, LinesAct, SessionState, behind_effect, builds_as, script_lines, next_state, session_start}
 
 -- Behind a build that is done the database and the image of the full build of the texts stand in their files, and the objects
 -- that are kept are genuine.
-abbrev pub LeavesFullBuild : SessionOpts → State → Act → Result Outcome BuildFault → Type 0
-LeavesFullBuild opts s act (Ok outcome) =
-    HoldsFullBuild (module_map s.told.files) opts.build.colours opts.build.stack (next_state s act).told.files × KeepsGenuine (next_state s act).told.files
-LeavesFullBuild opts s act (Err fault) = Unit {0}
+abbrev pub LeavesFullBuild : SessionOpts → SessionState → LineEffect → Result Outcome BuildFault → Type 0
+LeavesFullBuild opts s effect (Ok outcome) =
+    HoldsFullBuild (module_map s.told.files) opts.build.colours opts.build.stack (next_state s effect).told.files × KeepsGenuine (next_state s effect).told.files
+LeavesFullBuild opts s effect (Err fault) = Unit {0}
 
 -- A build comes to the image of the full build of the texts as they are then, or to its fault, and leaves that build's files.
-abbrev pub BuildsInFull : SessionOpts → State → LineValue → Act → Type 0
-BuildsInFull opts s BuildProgram act =
-    (comes : Result Outcome BuildFault) × BuildsTo s.told.files opts.build comes × (act ≡ builds_as s comes) × BuildsImage (module_map s.told.files) opts.build.colours opts.build.stack (image_of comes) × LeavesFullBuild opts s act comes
-BuildsInFull opts s line act = Acts opts s line act
+abbrev pub BuildsInFull : SessionOpts → SessionState → LineValue → LineEffect → Type 0
+BuildsInFull opts s BuildProgram effect =
+    (comes : Result Outcome BuildFault) × BuildsTo s.told.files opts.build comes × (effect ≡ builds_as s comes) × BuildsImage (module_map s.told.files) opts.build.colours opts.build.stack (image_of comes) × LeavesFullBuild opts s effect comes
+BuildsInFull opts s line effect = Acts opts s line effect
 
 -- what lines do, one behind another, where each build is a full build
-abbrev pub LinesBuildInFull : SessionOpts → State → List LineValue → Effects → Type 0
+abbrev pub LinesBuildInFull : SessionOpts → SessionState → List LineValue → Effects → Type 0
 LinesBuildInFull opts s [] e = e ≡ record { output = []; changes = [] }
 LinesBuildInFull opts s (line ∷ lines) e =
-    (act : Act) × (more : Effects) × BuildsInFull opts s line act × LinesBuildInFull opts (next_state s act) lines more × (e ≡ behind_act act more)
+    (effect : LineEffect) × (more : Effects) × BuildsInFull opts s line effect × LinesBuildInFull opts (next_state s effect) lines more × (e ≡ behind_effect effect more)
 
 -- What the lines of a script do, or a prefix of them that was obeyed, they do with full builds.
 abbrev pub SessionBuildsInFull : SessionOpts → Told → List ℕ → Type 0
 SessionBuildsInFull opts told script =
-    (front more : List LineValue) (e : Effects) → (lines_of script).lines ≡ front ++ more → LinesAct opts (session_start told) front e → LinesBuildInFull opts (session_start told) front e
+    (front more : List LineValue) (e : Effects) → (script_lines script).lines ≡ front ++ more → LinesAct opts (session_start told) front e → LinesBuildInFull opts (session_start told) front e
 
 -- `bench` with a number comes to this over the image of the full build of the texts that are made from the number, or over
 -- that build's fault.

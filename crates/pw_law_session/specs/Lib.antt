@@ -1,9 +1,2 @@
-pub mod Ends
-pub mod FromCommands
-pub mod FromGo
-pub mod FromBuild
 pub mod FromBuildLaws
-pub mod FromBuilding
-pub mod FromDriving
-pub mod FromSession
 pub mod Full

@@ -1,16 +1,7 @@
-//! Laws of sessions, of `bench` and of the commands that run a program; what the top call names of them is passed
-//! on from here.
+//! Laws of sessions and of `bench`: their builds are full builds.
 #![tactic(auto)]
 
-mod ends;
 mod sessions;
 
-pub use ends::runs_leave_an_end;
-pub use pw_commands::{analyse_modules, link_modules, list_image, run_image, show_database};
-pub use pw_go::go;
-pub use pw_go::laws::{builds_agree, refusals_are_due};
 pub use pw_law_build::a_build_leaves_the_whole_program;
-pub use pw_session::{
-    Opts, SessionOpts, bench, build_modules, genuine_files_keep_genuine, run_session,
-};
 pub use sessions::{bench_builds_in_full, sessions_build_in_full};

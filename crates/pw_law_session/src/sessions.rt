@@ -4,7 +4,7 @@ ghost use Rattle.std.specs.Prelude.{List, ℕ};
 ghost use Rattle.pw_io.specs.Files.{Told};
 ghost use Rattle.pw_top_answer.specs.Effects.{Effect};
 ghost use Rattle.pw_session.specs.Bench.{BenchEffect};
-ghost use Rattle.pw_session.specs.FromBuilding.Genuine.{KeepsGenuine};
+ghost use Rattle.pw_session.specs.FromBuildFiles.Genuine.{KeepsGenuine};
 ghost use Rattle.pw_session.specs.declared.opts.SessionOpts.{SessionOpts};
 ghost use Rattle.pw_law_session.specs.Full.{BenchBuildsInFull, SessionBuildsInFull};
 

@@ -86,24 +86,19 @@ carried F P Q h (Over end v) b c r p =
     }
 carried F P Q h Wrong b c r p = tt
 
--- ---- to a run that meets, so, each stage of one that is met
+-- ---- on from a stage of whose log something holds
 
-pub met_through : {L M N : Type 0} (F : L → M → Type 0) (P : List N → Type 0) (s : Stage L) (b : ℕ → Stage M) (c : ℕ → Stage N)
-    → Met F s b → ((n : ℕ) → MetWith P (b n) c) → MetWith P s c
-met_through F P (Going v) b c p h =
-    let m : GoesWith P p.view c = subst (λ s. MetWith P s c) p.is (h p.at) in record {
+pub met_on : {L M N : Type 0} (P : List M → Type 0) (Q : List N → Type 0) (s : Stage L) (b : ℕ → Stage M) (c : ℕ → Stage N)
+    → MetWith P s b → ((n : ℕ) → Notes P (b n) → MetWith Q (b n) c) → MetWith Q s c
+met_on P Q (Going v) b c p h =
+    let m : GoesWith Q p.view c = subst (λ s. MetWith Q s c) p.is (h p.at (subst (Notes P) (sym p.is) p.holds)) in record {
       at = m.at;
       view = m.view;
       is = m.is;
       counted = omega (arith, p.counted, m.counted);
       holds = m.holds;
     }
-met_through F P (Over end v) b c p h =
-    let m : EndsWith P end c = subst (λ s. MetWith P s c) p.is (h p.at) in record { at = m.at; view = m.view; is = m.is; holds = m.holds }
-met_through F P Wrong b c p h = tt
-
--- as much is met of a run of which less is shown
-pub of_shown : {K M N : Type 0} (P : List N → Type 0) (f : List M → List K) (s : Stage M) (c : ℕ → Stage N) → MetWith P s c → MetWith P (shown_by f s) c
-of_shown P f (Going v) c m = record { at = m.at; view = m.view; is = m.is; counted = m.counted; holds = m.holds }
-of_shown P f (Over end v) c m = m
-of_shown P f Wrong c m = tt
+met_on P Q (Over end v) b c p h =
+    let m : EndsWith Q end c = subst (λ s. MetWith Q s c) p.is (h p.at (subst (Notes P) (sym p.is) p.holds)) in
+    record { at = m.at; view = m.view; is = m.is; holds = m.holds }
+met_on P Q Wrong b c p h = tt

@@ -4,9 +4,10 @@ use Rattle.std.proofs.Common.{arith, subst, sym, refl, inl, inr}
 use Rattle.std.proofs.lemmas.List.Elements.{Contains-append_left, Contains-append_right, Contains-append_cases, Contains-push_cases}
 use Rattle.pw_db.specs.declared.database.Directives.{Directives}
 use Rattle.pw_run.specs.Runs.{AreAlike, none, also}
-use Rattle.pw_db_sound.specs.CallGraphs.{Graph, SayTheSame}
+use Rattle.pw_db_sound.specs.CallGraphs.{Graph, Calls, SayTheSame}
 use Rattle.pw_db_sound.proofs.Relations.{references_back}
 use Rattle.pw_run_languages.specs.Traces.{Event, Called, Refused, Returned, Loaded, Stored, SameKind, call, refusal, return, load, store}
+use Rattle.pw_run_languages.specs.Calls.{IsCalledBy, FollowsCalls}
 use Rattle.pw_run_languages.specs.Traffic.{Open, with_event, active, without, Enters, IsCovered, StandsInEntry, OnlyWhereWritten, NoneHasStored, Obeys, ObeysTraffic}
 
 -- ---- elements of like lists
@@ -111,6 +112,23 @@ pub traffic_alike : {B C V W : Type 0} (g : Graph) (d : List (List ℕ × Direct
 traffic_alike g d l m none o = tt
 traffic_alike g d l m (also e f l' m' k a) o =
     (obeys_alike g d e f (active l') (active m') k (active_alike l' m' a) o.0, traffic_alike g d l' m' a o.1)
+
+-- ---- calls of the graph
+
+called_alike : {B C V W : Type 0} (g : Graph) (f : List ℕ) (xs : List (Open B V)) (ys : List (Open C W)) → AreAlike OpenAlike xs ys → IsCalledBy g f xs → IsCalledBy g f ys
+called_alike g f xs ys none c = c
+called_alike g f xs ys (also x y xs' ys' p q) c = subst (λ (n : List ℕ). Calls g n f) p.function c
+
+-- of like logs the calls are alike those of the graph
+pub follows_alike : {B C V W : Type 0} (g : Graph) (l : List (Event B V)) (m : List (Event C W)) → AreAlike SameKind l m → FollowsCalls g l → FollowsCalls g m
+follows_alike g l m none o = tt
+follows_alike g l m (also e f l' m' (call h gs hs rs ss) a) o =
+    (called_alike g h (active l') (active m') (active_alike l' m' a) o.0, follows_alike g l' m' a o.1)
+follows_alike g l m (also e f l' m' (refusal h) a) o =
+    (called_alike g h (active l') (active m') (active_alike l' m' a) o.0, follows_alike g l' m' a o.1)
+follows_alike g l m (also e f l' m' (return h k gs hs rs ss ts us) a) o = follows_alike g l' m' a o
+follows_alike g l m (also e f l' m' (load v) a) o = follows_alike g l' m' a o
+follows_alike g l m (also e f l' m' (store v) a) o = follows_alike g l' m' a o
 
 -- ---- another graph that says the same
 

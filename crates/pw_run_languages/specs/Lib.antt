@@ -5,6 +5,7 @@ pub mod Commands
 pub mod FlowRun
 pub mod Traces
 pub mod Traffic
+pub mod Calls
 pub mod Meeting
 pub mod LawfulPrograms
 pub mod PlacedRun
@@ -15,6 +16,7 @@ pub mod Addresses
 pub mod Acts
 pub mod Standing
 pub mod LineRun
+pub mod Links
 pub mod Words
 pub mod SelectionLaws
 pub mod Late

@@ -1,16 +1,18 @@
 -- What direction and allocation owe to the layers between which they stand: the statements of their laws.
-use Rattle.std.specs.Prelude.{ℕ, List}
+use Rattle.std.specs.Prelude.{ℕ, ◌≡◌, List}
 use Rattle.pw_db.specs.declared.database.Directives.{Directives}
 use Rattle.pw_db.specs.Database.{IsDatabase, IsDirectives}
 use Rattle.pw_flow.specs.declared.flow.FlowFn.{FlowFn}
 use Rattle.pw_flow.specs.ValidFlow.{IsFunction}
 use Rattle.pw_webflow.specs.Direction.{directed}
+use Rattle.pw_webflow.specs.declared.web.WebFn.{WebFn}
 use Rattle.pw_alloc.specs.declared.located.Located.{Located}
 use Rattle.pw_alloc.specs.Allocation.{allocated}
 use Rattle.pw_run.specs.Runs.{Refines, Same}
 use Rattle.pw_db_sound.specs.Sound.{Sound}
 use Rattle.pw_run_languages.specs.Traces.{EventAlike, calls_of, Notes, KeepRegisters}
 use Rattle.pw_run_languages.specs.Traffic.{ObeysTraffic}
+use Rattle.pw_run_languages.specs.Calls.{FollowsCalls}
 use Rattle.pw_run_languages.specs.Programs.{Program}
 use Rattle.pw_run_languages.specs.FlowRun.{flow_run}
 use Rattle.pw_run_languages.specs.LawfulPrograms.{IsProgram, graph_of}
@@ -19,10 +21,11 @@ use Rattle.pw_run_languages.specs.Direction.{web_run, directed_functions, with_f
 use Rattle.pw_run_languages.specs.Serving.{Serves, AllServe}
 
 -- The directed run does what the flow run does, with each global in its place at each call and return; returns keep
--- the registers; and the traffic law holds of all that it notes.
+-- the registers; its calls are those of the graph; and the traffic law holds of all that it notes.
 pub record DirectionKeeps (p : Program) (d : List (List ℕ × Directives)) (input : List ℕ) : Type 0 where
   pub runs : Refines (MomentAlike p) (flow_run p input) (calls_of (web_run p d input))
   pub registers : (n : ℕ) → Notes (KeepRegisters d) (web_run p d input n)
+  pub calls : (n : ℕ) → Notes (FollowsCalls (graph_of p)) (web_run p d input n)
   pub traffic : (n : ℕ) → Notes (ObeysTraffic (graph_of p) d) (web_run p d input n)
 
 abbrev pub DirectionKeepsRuns : Type 0
@@ -41,6 +44,17 @@ PlacesKeepRuns =
     (p : Program) (d : List (List ℕ × Directives)) (functions : List Located) (input : List ℕ) →
     IsProgram p → IsDatabase d → Sound (graph_of p) d → AllServe (directed_functions p d) functions → PlacesKeep p d functions input
 
--- The places that allocation gives, in its first form, serve.
+-- ---- allocation
+
+-- The places that allocation gives a function. They are those of its first form.
+abbrev pub IsAllocated : WebFn → Located → Type 0
+IsAllocated f l = l ≡ allocated f
+
+-- there is one answer
+abbrev pub AllocationIsOne : Type 0
+AllocationIsOne = (f : WebFn) (l m : Located) → IsAllocated f l → IsAllocated f m → l ≡ m
+
+-- it serves
 abbrev pub AllocationServes : Type 0
-AllocationServes = (f : FlowFn) (d : Directives) → IsFunction f → IsDirectives d → Serves (directed f d) (allocated (directed f d))
+AllocationServes =
+    (f : FlowFn) (d : Directives) (l : Located) → IsFunction f → IsDirectives d → IsAllocated (directed f d) l → Serves (directed f d) l

@@ -18,6 +18,7 @@ use Rattle.pw_alloc.specs.declared.located.Place.TheVariants.{Slot, Reg}
 use Rattle.pw_alloc.specs.declared.located.Located.{Located}
 use Rattle.pw_alloc.specs.Allocation.{slots_from}
 use Rattle.pw_alloc.specs.Frames.{head_size, slots_begin, last_reach}
+use Rattle.pw_db_sound.specs.Sound.{saves_of}
 
 -- ---- what is needed
 
@@ -63,9 +64,10 @@ pub record IsTempRegister (r : ℕ) : Type 0 where
   pub low : first_register ≤ r
   pub high : r ≤ last_temporary
 
--- A call leaves the place as it is: a word of the frame, or a register that a callee keeps and that is not free.
+-- A call leaves the place as it is: a word of the frame, or a register that a callee keeps and that neither this function
+-- nor one below it is free to use.
 abbrev pub IsKeptOver : WebFn → Place → Type 0
-IsKeptOver f (Reg r) = (first_register ≤ r) × (r ≤ last_register) × (¬ Contains f.directives.free r)
+IsKeptOver f (Reg r) = (first_register ≤ r) × (r ≤ last_register) × (¬ Contains f.directives.free r) × (¬ Contains (saves_of f.directives) r)
 IsKeptOver f (Slot offset) = Unit {0}
 
 -- the places that are words of the frame
@@ -80,10 +82,12 @@ pub record HasWebIn (f : WebFn) (role : Role) (r : ℕ) : Type 0 where
   pub there : Contains f.directives.webs (web, role)
   pub is : web.reg ≡ r
 
--- a register that the function has to save: a temporary's that is not free, or that of a web that it enters
+-- a register that the function has to save: a temporary's that is not free, that of a web that it enters, or one for the
+-- functions below it
 pub data Changes (f : WebFn) (l : Located) (r : ℕ) : Type 0 where
   places : Contains l.places (Reg r) → r ≤ last_register → ¬ Contains f.directives.free r → Changes f l r
   enters : HasWebIn f Entry r → Changes f l r
+  saves : Contains (saves_of f.directives) r → Changes f l r
 
 pub record Serves (f : WebFn) (l : Located) : Type 0 where
   pub body : l.body ≡ f
@@ -93,7 +97,7 @@ pub record Serves (f : WebFn) (l : Located) : Type 0 where
   pub held : (t : ℕ) (place : Place) → IsHeld f t → slice_get l.places t ≡ Some place → IsKeptOver f place
   -- registers are those of temporaries, and of no web of the function
   pub registers : (r : ℕ) → Contains l.places (Reg r) → IsTempRegister r × (¬ HasRegister f.directives r)
-  -- exactly those are saved that the function changes and its callers may hold, each once, rising
+  -- exactly those are saved that the function has to save, each once, rising
   pub saved : (r : ℕ) → Contains l.saved r ↔ Changes f l r
   pub order : EachTwo (λ r q. r < q) l.saved
   -- the words of the frame, from the stack pointer downward: arguments, saved registers, temporaries, slots

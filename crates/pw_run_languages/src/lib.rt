@@ -3,9 +3,9 @@
 #![tactic(auto)]
 
 pub mod machine_calls;
+pub mod notes;
 pub mod run_lines;
-pub mod traffic;
 
 pub use machine_calls::noted_calls_are_its_own;
+pub use notes::traffic_rests_on_relations;
 pub use run_lines::late_logs_compose;
-pub use traffic::traffic_rests_on_relations;

@@ -27,7 +27,7 @@ use Rattle.pw_build_files.specs.Building.{Outcome}
 use Rattle.pw_build_files.specs.Outcomes.{AnswersFault, IsNoWant, ObeysBuild, Reports, fault_answer}
 use Rattle.pw_session.specs.declared.opts.SessionOpts.{SessionOpts}
 use Rattle.pw_session.specs.Builds.{BuildsTo}
-use Rattle.pw_session.specs.Bench.{BenchEffect, BenchOver, IsBenchAnswer, IsBenchFound, IsBenchLine, ObeysBench, ObeysReport, StopsAs, bench_files, bench_line, made_files, stop_of}
+use Rattle.pw_session.specs.Bench.{BenchEffect, BenchOver, IsBenchAnswer, IsBenchFound, IsBenchLine, ObeysBench, ObeysReport, StopsWithoutInput, bench_files, bench_line, made_files, stop_of}
 use Rattle.pw_session.specs.Runs.{is_stop, runs_as}
 use Rattle.pw_session.proofs.BuildLemmas.{IsFaultFound, does_build}
 use Rattle.pw_session.proofs.OutputLemmas.{puts_alone, puts_none}
@@ -41,7 +41,7 @@ files_made number modules files e = ap (λ (xs : List (List ℕ × List ℕ)). f
 
 -- ---- the run
 
-pub said_line : (number : ℕ) (image digest : List ℕ) (budget : ℕ) (stop answer : Answer) (taken taken' : Option (List ℕ)) → StopsAs image budget stop → is_stop stop ≡ true → PutsOut (bench_line number image digest stop) answer taken taken'
+pub said_line : (number : ℕ) (image digest : List ℕ) (budget : ℕ) (stop answer : Answer) (taken taken' : Option (List ℕ)) → StopsWithoutInput image budget stop → is_stop stop ≡ true → PutsOut (bench_line number image digest stop) answer taken taken'
     → ObeysReport number image digest budget answer taken taken'
 said_line number image digest budget stop answer taken taken' stops is out = record {
   output = λ c h. subst (λ (a : Answer). PutsOut (bench_line number image digest a) answer taken taken') (sym (stop_is (stop_of budget c) stop is (stops.each c h))) out;
@@ -185,13 +185,13 @@ fault_write build.NoMemory count = refl
 pub report_none : (number : ℕ) (image digest : List ℕ) (budget : ℕ) (taken : Option (List ℕ)) → ObeysReport number image digest budget NoMemory taken taken
 report_none number image digest budget taken = record { output = λ c h. puts_alone (bench_line number image digest (stop_of budget c)) NoMemory taken taken (λ more. tt) refl; found = λ d. absurd (d refl) }
 
-pub said_line_so : (number : ℕ) (image i digest : List ℕ) (budget : ℕ) (stop answer : Answer) (taken taken' : Option (List ℕ)) → i ≡ image → StopsAs i budget stop → is_stop stop ≡ true → PutsOut (bench_line number image digest stop) answer taken taken'
+pub said_line_so : (number : ℕ) (image i digest : List ℕ) (budget : ℕ) (stop answer : Answer) (taken taken' : Option (List ℕ)) → i ≡ image → StopsWithoutInput i budget stop → is_stop stop ≡ true → PutsOut (bench_line number image digest stop) answer taken taken'
     → ObeysReport number image digest budget answer taken taken'
 said_line_so number image i digest budget stop answer taken taken' e stops is out =
-    said_line number image digest budget stop answer taken taken' (subst (λ (x : List ℕ). StopsAs x budget stop) e stops) is out
+    said_line number image digest budget stop answer taken taken' (subst (λ (x : List ℕ). StopsWithoutInput x budget stop) e stops) is out
 
-pub stops_loaded : (image : List ℕ) (budget : ℕ) (core : Core) (answer : Answer) → ((c : Contents Image) → IsImageFile image c → core ≡ image_start c.value.memory) → (c : Contents Image) × IsImageFile image c → Answers (run_answer (runs_as budget [] core)) answer → StopsAs image budget answer
+pub stops_loaded : (image : List ℕ) (budget : ℕ) (core : Core) (answer : Answer) → ((c : Contents Image) → IsImageFile image c → core ≡ image_start c.value.memory) → (c : Contents Image) × IsImageFile image c → Answers (run_answer (runs_as budget [] core)) answer → StopsWithoutInput image budget answer
 stops_loaded image budget core answer same found h = record { each = λ c k. subst (λ (x : Core). Answers (run_answer (runs_as budget [] x)) answer) (same c k) h; found = λ e. found }
 
-pub stops_none : (image : List ℕ) (budget : ℕ) → StopsAs image budget NoMemory
+pub stops_none : (image : List ℕ) (budget : ℕ) → StopsWithoutInput image budget NoMemory
 stops_none image budget = record { each = λ c k. tt; found = λ e. absurd cc }

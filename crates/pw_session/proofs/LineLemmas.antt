@@ -25,8 +25,8 @@ use Rattle.pw_session_script.specs.Script.{LineValue, PutText, RemoveText, Build
 use Rattle.pw_session.specs.declared.opts.SessionOpts.{SessionOpts}
 use Rattle.pw_session.specs.Builds.{BuildsTo}
 use Rattle.pw_session.specs.Changes.{AreOwnChanges, Change, MakesChanges, MakesSome, Puts, Removes, after_changes}
-use Rattle.pw_session.specs.Session.{Act, Acts, State, builds_as, changes_as, puts_out}
-use Rattle.pw_session.specs.Outcomes.{Does, IsLineAnswer, IsObeyed, ObeysLine, ObeysRun, SaysFault}
+use Rattle.pw_session.specs.Session.{LineEffect, Acts, SessionState, builds_as, changes_as, puts_out}
+use Rattle.pw_session.specs.Outcomes.{DoesEffect, IsLineAnswer, IsLineObeyed, ObeysLine, ObeysRun, SaysFault}
 use Rattle.pw_session.proofs.OutputLemmas.{puts_alone}
 use Rattle.pw_session.proofs.BuildLemmas.{DoesBuild, IsFaultFound, does_build}
 use Rattle.pw_session.proofs.ChangeLemmas.{front_none, makes_all, makes_some, own_puts, part_none, put_part, puts_make, puts_some}
@@ -36,23 +36,23 @@ use Rattle.pw_session.proofs.TurnLemmas.{say_store}
 
 -- all was changed
 pub does_all : (output : List ℕ) (changes : List Change) (answer : Answer) (first new : Option Told) (taken taken' : Option (List ℕ)) → IfSome first (λ told. new ≡ Some (after_changes told changes)) → PutsOut output answer taken taken'
-    → IfSome first (λ told. Does output changes answer told new taken taken')
+    → IfSome first (λ told. DoesEffect output changes answer told new taken taken')
 does_all output changes answer None new taken taken' e out = tt
 does_all output changes answer (Some told) new taken taken' e out = record { said = out; made = makes_all changes answer told new e }
 
 -- nothing was, since memory ran out
-pub does_none : (output : List ℕ) (changes : List Change) (first new : Option Told) (taken taken' : Option (List ℕ)) → IfSome first (λ told. new ≡ Some told) → taken' ≡ taken → IfSome first (λ told. Does output changes NoMemory told new taken taken')
+pub does_none : (output : List ℕ) (changes : List Change) (first new : Option Told) (taken taken' : Option (List ℕ)) → IfSome first (λ told. new ≡ Some told) → taken' ≡ taken → IfSome first (λ told. DoesEffect output changes NoMemory told new taken taken')
 does_none output changes None new taken taken' e same = tt
 does_none output changes (Some told) new taken taken' e same = record { said = puts_alone output NoMemory taken taken' (λ more. tt) same; made = front_none changes told new e }
 
 -- or the store failed
-pub does_failed : (output : List ℕ) (changes : List Change) (first new : Option Told) (taken taken' : Option (List ℕ)) → IfSome first (λ told. new ≡ Some told) → taken' ≡ taken → IfSome first (λ told. Does output changes StoreFault told new taken taken')
+pub does_failed : (output : List ℕ) (changes : List Change) (first new : Option Told) (taken taken' : Option (List ℕ)) → IfSome first (λ told. new ≡ Some told) → taken' ≡ taken → IfSome first (λ told. DoesEffect output changes StoreFault told new taken taken')
 does_failed output changes None new taken taken' e same = tt
 does_failed output changes (Some told) new taken taken' e same = record { said = puts_alone output StoreFault taken taken' (λ more. tt) same; made = part_none changes told new e }
 
 -- and the file was put in part
 pub does_part : (output file text : List ℕ) (first new : Option Told) (taken taken' : Option (List ℕ)) → IfSome first (λ told. IsSomeAnd new (λ left. (left.puts ≡ told.puts) × LeavesFile told.files left.files file text)) → taken' ≡ taken
-    → IfSome first (λ told. Does output (Puts (file, text) ∷ []) StoreFault told new taken taken')
+    → IfSome first (λ told. DoesEffect output (Puts (file, text) ∷ []) StoreFault told new taken taken')
 does_part output file text None new taken taken' e same = tt
 does_part output file text (Some told) new taken taken' e same =
     record { said = puts_alone output StoreFault taken taken' (λ more. tt) same; made = record { done = []; more = Puts (file, text) ∷ []; split = refl; left = inr e } }
@@ -66,7 +66,7 @@ fault_line build.StoreFault due line e = refl
 fault_line build.NoMemory due line e = refl
 
 -- the files that a build puts are its changes
-act_changes : (s : State) (comes : Result Outcome BuildFault) → (builds_as s comes).changes ≡ map Puts (puts_of comes)
+act_changes : (s : SessionState) (comes : Result Outcome BuildFault) → (builds_as s comes).changes ≡ map Puts (puts_of comes)
 act_changes s (Ok outcome) = refl
 act_changes s (Err fault) = refl
 
@@ -77,24 +77,24 @@ report_said outcome report r =
     ∙ ap (λ (image : List ℕ). report_lines (length outcome.rebuilt) outcome.modules (length image) report.digest) r.image
     ∙ ap (λ (digest : List ℕ). report_lines (length outcome.rebuilt) outcome.modules (length outcome.image) digest) r.digest
 
--- the act of a program that was built
-built_act : (opts : SessionOpts) (s : State) (report : Report) (comes : Result Outcome BuildFault) (new : Option Told) (answer : Answer) (taken taken' : Option (List ℕ)) → AnswersBuild comes (Ok report) → PutsFiles (puts_of comes) Done s.told new
-    → PutsOut (report_text report) answer taken taken' → Does (builds_as s comes).output (builds_as s comes).changes answer s.told new taken taken'
+-- the effect of a program that was built
+built_act : (opts : SessionOpts) (s : SessionState) (report : Report) (comes : Result Outcome BuildFault) (new : Option Told) (answer : Answer) (taken taken' : Option (List ℕ)) → AnswersBuild comes (Ok report) → PutsFiles (puts_of comes) Done s.told new
+    → PutsOut (report_text report) answer taken taken' → DoesEffect (builds_as s comes).output (builds_as s comes).changes answer s.told new taken taken'
 built_act opts s report comes new answer taken taken' h puts out =
     let same : comes ≡ Ok h.0 = h.1 in
     let text = report_said h.0 report h.2 in
     let made : new ≡ Some (after_changes s.told (map Puts h.0.puts)) = puts_make h.0.puts Done s.told new (subst (λ (c : Result Outcome BuildFault). PutsFiles (puts_of c) Done s.told new) same puts) in
-    subst (λ (c : Result Outcome BuildFault). Does (builds_as s c).output (builds_as s c).changes answer s.told new taken taken') (sym same)
+    subst (λ (c : Result Outcome BuildFault). DoesEffect (builds_as s c).output (builds_as s c).changes answer s.told new taken taken') (sym same)
     (record { said = subst (λ (t : List ℕ). PutsOut t answer taken taken') text out; made = makes_all (map Puts h.0.puts) answer s.told new made })
 
-built_image : (s : State) (report : Report) (comes : Result Outcome BuildFault) → AnswersBuild comes (Ok report) → Some report.image.items ≡ (builds_as s comes).image
+built_image : (s : SessionState) (report : Report) (comes : Result Outcome BuildFault) → AnswersBuild comes (Ok report) → Some report.image.items ≡ (builds_as s comes).image
 built_image s report comes h = ap (λ (i : List ℕ). Some i) h.2.image ∙ ap (λ (c : Result Outcome BuildFault). (builds_as s c).image) (sym h.1)
 
-built_line : (opts : SessionOpts) (s : State) (report : Report) (new : Option Told) (answer : Answer) (taken taken' image : Option (List ℕ)) → DoesBuild opts.build (Ok report) s.told new → PutsOut (report_text report) answer taken taken'
+built_line : (opts : SessionOpts) (s : SessionState) (report : Report) (new : Option Told) (answer : Answer) (taken taken' image : Option (List ℕ)) → DoesBuild opts.build (Ok report) s.told new → PutsOut (report_text report) answer taken taken'
     → image ≡ Some report.image.items → ObeysLine opts s BuildProgram answer new taken taken' image
 built_line opts s report new answer taken taken' image obeys out e = record {
-  does = λ act h. subst (λ (a : Act). Does a.output a.changes answer s.told new taken taken') (sym h.2) (built_act opts s report h.0 new answer taken taken' (obeys.answers h.0 h.1) (obeys.puts h.0 h.1) out);
-  keeps = λ act h d. e ∙ built_image s report h.0 (obeys.answers h.0 h.1) ∙ ap (λ (a : Act). a.image) (sym h.2);
+  does = λ effect h. subst (λ (a : LineEffect). DoesEffect a.output a.changes answer s.told new taken taken') (sym h.2) (built_act opts s report h.0 new answer taken taken' (obeys.answers h.0 h.1) (obeys.puts h.0 h.1) out);
+  keeps = λ effect h d. e ∙ built_image s report h.0 (obeys.answers h.0 h.1) ∙ ap (λ (a : LineEffect). a.image) (sym h.2);
   found = λ d. (builds_as s (Ok obeys.found.0), (Ok obeys.found.0, obeys.found.1, refl), puts_make obeys.found.0.puts Done s.told new (obeys.puts (Ok obeys.found.0) obeys.found.1));
 }
 
@@ -109,23 +109,23 @@ made_built may (Some told) new answer some = puts_some may some.0 answer told ne
 
 -- ---- a build that is not done
 
-fault_act : (s : State) (unbuilt : Unbuilt) (comes : Result Outcome BuildFault) (new : Option Told) (answer : Answer) (taken taken' : Option (List ℕ)) → AnswersFault comes unbuilt.fault → PutsFiles (puts_of comes) (fault_answer unbuilt.fault) s.told new
-    → IsLine (refused_line (modules_of s.told.files)) unbuilt.fault unbuilt.line → SaysFault unbuilt.fault unbuilt.line answer taken taken' → Does (builds_as s comes).output (builds_as s comes).changes answer s.told new taken taken'
+fault_act : (s : SessionState) (unbuilt : Unbuilt) (comes : Result Outcome BuildFault) (new : Option Told) (answer : Answer) (taken taken' : Option (List ℕ)) → AnswersFault comes unbuilt.fault → PutsFiles (puts_of comes) (fault_answer unbuilt.fault) s.told new
+    → IsLine (refused_line (modules_of s.told.files)) unbuilt.fault unbuilt.line → SaysFault unbuilt.fault unbuilt.line answer taken taken' → DoesEffect (builds_as s comes).output (builds_as s comes).changes answer s.told new taken taken'
 fault_act s unbuilt comes new answer taken taken' h puts line said = by_fault unbuilt.fault unbuilt.line h puts line said
   where
-    stopped : (y : Answer) → answer ≡ y → taken' ≡ taken → ((more : List ℕ) → IsWhole y more) → MakesChanges (map Puts (puts_of comes)) y s.told new → Does (builds_as s comes).output (builds_as s comes).changes answer s.told new taken taken'
-    stopped y e same stop made = subst (λ (a : Answer). Does (builds_as s comes).output (builds_as s comes).changes a s.told new taken taken') (sym e)
+    stopped : (y : Answer) → answer ≡ y → taken' ≡ taken → ((more : List ℕ) → IsWhole y more) → MakesChanges (map Puts (puts_of comes)) y s.told new → DoesEffect (builds_as s comes).output (builds_as s comes).changes answer s.told new taken taken'
+    stopped y e same stop made = subst (λ (a : Answer). DoesEffect (builds_as s comes).output (builds_as s comes).changes a s.told new taken taken') (sym e)
         (record { said = puts_alone (builds_as s comes).output y taken taken' stop same; made = subst (λ (cs : List Change). MakesChanges cs y s.told new) (sym (act_changes s comes)) made })
 
-    refused : (fault : BuildFault) (at : ℕ) → comes ≡ Err fault → new ≡ Some s.told → IsLine (refused_line (modules_of s.told.files)) fault at → PutsOut (line_text at (fault_answer fault)) answer taken taken' → Does (builds_as s comes).output (builds_as s comes).changes answer s.told new taken taken'
-    refused fault at e none due out = subst (λ (c : Result Outcome BuildFault). Does (builds_as s c).output (builds_as s c).changes answer s.told new taken taken') (sym e)
+    refused : (fault : BuildFault) (at : ℕ) → comes ≡ Err fault → new ≡ Some s.told → IsLine (refused_line (modules_of s.told.files)) fault at → PutsOut (line_text at (fault_answer fault)) answer taken taken' → DoesEffect (builds_as s comes).output (builds_as s comes).changes answer s.told new taken taken'
+    refused fault at e none due out = subst (λ (c : Result Outcome BuildFault). DoesEffect (builds_as s c).output (builds_as s c).changes answer s.told new taken taken') (sym e)
         (record { said = subst (λ (t : List ℕ). PutsOut t answer taken taken') (fault_line fault (refused_line (modules_of s.told.files)) at due) out; made = makes_all [] answer s.told new none })
 
     nothing : (fault : BuildFault) (y : Answer) → comes ≡ Err fault → PutsFiles (puts_of comes) y s.told new → PutsFiles [] y s.told new
     nothing fault y e p = subst (λ (c : Result Outcome BuildFault). PutsFiles (puts_of c) y s.told new) e p
 
     by_fault : (fault : BuildFault) (at : ℕ) → AnswersFault comes fault → PutsFiles (puts_of comes) (fault_answer fault) s.told new → IsLine (refused_line (modules_of s.told.files)) fault at → SaysFault fault at answer taken taken'
-        → Does (builds_as s comes).output (builds_as s comes).changes answer s.told new taken taken'
+        → DoesEffect (builds_as s comes).output (builds_as s comes).changes answer s.told new taken taken'
     by_fault build.StoreFault at c p l q = stopped StoreFault q.0 q.1 (λ more. tt) (puts_make (puts_of comes) StoreFault s.told new p)
     by_fault build.NoMemory at c p l q = stopped NoMemory q.0 q.1 (λ more. tt) (puts_make (puts_of comes) NoMemory s.told new p)
     by_fault (build.Refused name refusal) at c p l q = refused (build.Refused name refusal) at c (nothing (build.Refused name refusal) (Refused name refusal) c p) l q.0
@@ -138,31 +138,31 @@ memory_is_no_done : ◌≡◌ {A = Answer} NoMemory Done → ⊥
 memory_is_no_done e = cc
 
 -- where the line of a fault was told, or could not be put out, it is what the build comes to
-fault_found : (files : Files) (opts : Opts) (fault : BuildFault) (line : ℕ) (answer : Answer) (taken taken' : Option (List ℕ)) → IsFaultFound files opts fault → SaysFault fault line answer taken taken' → IsObeyed answer → BuildsTo files opts (Err fault)
-fault_found files opts build.StoreFault line answer taken taken' f q d = absurd (subst IsObeyed q.0 d)
-fault_found files opts build.NoMemory line answer taken taken' f q d = absurd (subst IsObeyed q.0 d)
+fault_found : (files : Files) (opts : Opts) (fault : BuildFault) (line : ℕ) (answer : Answer) (taken taken' : Option (List ℕ)) → IsFaultFound files opts fault → SaysFault fault line answer taken taken' → IsLineObeyed answer → BuildsTo files opts (Err fault)
+fault_found files opts build.StoreFault line answer taken taken' f q d = absurd (subst IsLineObeyed q.0 d)
+fault_found files opts build.NoMemory line answer taken taken' f q d = absurd (subst IsLineObeyed q.0 d)
 fault_found files opts (build.Refused name refusal) line answer taken taken' f q d = f
 fault_found files opts (build.LinkRefused fault) line answer taken taken' f q d = f
 
 -- and nothing was put
-fault_made : (told : Told) (fault : BuildFault) (line : ℕ) (new : Option Told) (answer : Answer) (taken taken' : Option (List ℕ)) → SaysFault fault line answer taken taken' → IsObeyed answer → PutsFiles [] (fault_answer fault) told new → new ≡ Some told
-fault_made told build.StoreFault line new answer taken taken' q d puts = absurd (subst IsObeyed q.0 d)
-fault_made told build.NoMemory line new answer taken taken' q d puts = absurd (subst IsObeyed q.0 d)
+fault_made : (told : Told) (fault : BuildFault) (line : ℕ) (new : Option Told) (answer : Answer) (taken taken' : Option (List ℕ)) → SaysFault fault line answer taken taken' → IsLineObeyed answer → PutsFiles [] (fault_answer fault) told new → new ≡ Some told
+fault_made told build.StoreFault line new answer taken taken' q d puts = absurd (subst IsLineObeyed q.0 d)
+fault_made told build.NoMemory line new answer taken taken' q d puts = absurd (subst IsLineObeyed q.0 d)
 fault_made told (build.Refused name refusal) line new answer taken taken' q d puts = puts
 fault_made told (build.LinkRefused fault) line new answer taken taken' q d puts = puts
 
 -- a refusal leaves the image
-fault_image : (s : State) (fault : BuildFault) (line : ℕ) (comes : Result Outcome BuildFault) (answer : Answer) (taken taken' : Option (List ℕ)) → AnswersFault comes fault → SaysFault fault line answer taken taken' → answer ≡ Done → s.image ≡ (builds_as s comes).image
+fault_image : (s : SessionState) (fault : BuildFault) (line : ℕ) (comes : Result Outcome BuildFault) (answer : Answer) (taken taken' : Option (List ℕ)) → AnswersFault comes fault → SaysFault fault line answer taken taken' → answer ≡ Done → s.image ≡ (builds_as s comes).image
 fault_image s build.StoreFault line comes answer taken taken' c q d = absurd (store_is_no_done (sym q.0 ∙ d))
 fault_image s build.NoMemory line comes answer taken taken' c q d = absurd (memory_is_no_done (sym q.0 ∙ d))
 fault_image s (build.Refused name refusal) line comes answer taken taken' c q d = ap (λ (r : Result Outcome BuildFault). (builds_as s r).image) (sym c)
 fault_image s (build.LinkRefused fault) line comes answer taken taken' c q d = ap (λ (r : Result Outcome BuildFault). (builds_as s r).image) (sym c)
 
-fault_said : (opts : SessionOpts) (s : State) (unbuilt : Unbuilt) (new : Option Told) (answer : Answer) (taken taken' image : Option (List ℕ)) → DoesBuild opts.build (Err unbuilt) s.told new → IsLine (refused_line (modules_of s.told.files)) unbuilt.fault unbuilt.line
+fault_said : (opts : SessionOpts) (s : SessionState) (unbuilt : Unbuilt) (new : Option Told) (answer : Answer) (taken taken' image : Option (List ℕ)) → DoesBuild opts.build (Err unbuilt) s.told new → IsLine (refused_line (modules_of s.told.files)) unbuilt.fault unbuilt.line
     → SaysFault unbuilt.fault unbuilt.line answer taken taken' → image ≡ s.image → ObeysLine opts s BuildProgram answer new taken taken' image
 fault_said opts s unbuilt new answer taken taken' image obeys line said e = record {
-  does = λ act h. subst (λ (a : Act). Does a.output a.changes answer s.told new taken taken') (sym h.2) (fault_act s unbuilt h.0 new answer taken taken' (obeys.answers h.0 h.1) (obeys.puts h.0 h.1) line said);
-  keeps = λ act h d. e ∙ fault_image s unbuilt.fault unbuilt.line h.0 answer taken taken' (obeys.answers h.0 h.1) said d ∙ ap (λ (a : Act). a.image) (sym h.2);
+  does = λ effect h. subst (λ (a : LineEffect). DoesEffect a.output a.changes answer s.told new taken taken') (sym h.2) (fault_act s unbuilt h.0 new answer taken taken' (obeys.answers h.0 h.1) (obeys.puts h.0 h.1) line said);
+  keeps = λ effect h d. e ∙ fault_image s unbuilt.fault unbuilt.line h.0 answer taken taken' (obeys.answers h.0 h.1) said d ∙ ap (λ (a : LineEffect). a.image) (sym h.2);
   found = λ d.
       let is : BuildsTo s.told.files opts.build (Err unbuilt.fault) = fault_found s.told.files opts.build unbuilt.fault unbuilt.line answer taken taken' obeys.found said d in
       (builds_as s (Err unbuilt.fault), (Err unbuilt.fault, is, refl), fault_made s.told unbuilt.fault unbuilt.line new answer taken taken' said d (obeys.puts (Err unbuilt.fault) is));
@@ -188,45 +188,45 @@ made_refused may unbuilt (Some told) new answer taken taken' some said = some_re
 -- ---- the other lines
 
 -- a change of a file, as a line
-change_line : (opts : SessionOpts) (s : State) (line : LineValue) (change : Change) (new : Option Told) (answer : Answer) (taken taken' image : Option (List ℕ)) → ((act : Act) → Acts opts s line act → act ≡ changes_as s change) → Acts opts s line (changes_as s change)
-    → Does (codes "ok\n") (change ∷ []) answer s.told new taken taken' → (IsObeyed answer → new ≡ Some (after_changes s.told (change ∷ []))) → image ≡ s.image → ObeysLine opts s line answer new taken taken' image
+change_line : (opts : SessionOpts) (s : SessionState) (line : LineValue) (change : Change) (new : Option Told) (answer : Answer) (taken taken' image : Option (List ℕ)) → ((effect : LineEffect) → Acts opts s line effect → effect ≡ changes_as s change) → Acts opts s line (changes_as s change)
+    → DoesEffect (codes "ok\n") (change ∷ []) answer s.told new taken taken' → (IsLineObeyed answer → new ≡ Some (after_changes s.told (change ∷ []))) → image ≡ s.image → ObeysLine opts s line answer new taken taken' image
 change_line opts s line change new answer taken taken' image one is does made e = record {
-  does = λ act h. subst (λ (a : Act). Does a.output a.changes answer s.told new taken taken') (sym (one act h)) does;
-  keeps = λ act h d. e ∙ ap (λ (a : Act). a.image) (sym (one act h));
+  does = λ effect h. subst (λ (a : LineEffect). DoesEffect a.output a.changes answer s.told new taken taken') (sym (one effect h)) does;
+  keeps = λ effect h d. e ∙ ap (λ (a : LineEffect). a.image) (sym (one effect h));
   found = λ d. (changes_as s change, is, made d);
 }
 
-pub line_put : (opts : SessionOpts) (built : Option (List ℕ)) (file text : List ℕ) (first new : Option Told) (answer : Answer) (taken taken' image : Option (List ℕ)) → IfSome first (λ told. Does (codes "ok\n") (Puts (file, text) ∷ []) answer told new taken taken')
-    → IfSome first (λ told. IsObeyed answer → new ≡ Some (after_changes told (Puts (file, text) ∷ []))) → image ≡ built → IfSome first (λ told. ObeysLine opts (record { told = told; image = built }) (PutText file text) answer new taken taken' image)
+pub line_put : (opts : SessionOpts) (built : Option (List ℕ)) (file text : List ℕ) (first new : Option Told) (answer : Answer) (taken taken' image : Option (List ℕ)) → IfSome first (λ told. DoesEffect (codes "ok\n") (Puts (file, text) ∷ []) answer told new taken taken')
+    → IfSome first (λ told. IsLineObeyed answer → new ≡ Some (after_changes told (Puts (file, text) ∷ []))) → image ≡ built → IfSome first (λ told. ObeysLine opts (record { told = told; image = built }) (PutText file text) answer new taken taken' image)
 line_put opts built file text None new answer taken taken' image does made e = tt
 line_put opts built file text (Some told) new answer taken taken' image does made e =
-    change_line opts (record { told = told; image = built }) (PutText file text) (Puts (file, text)) new answer taken taken' image (λ act h. h) refl does made e
+    change_line opts (record { told = told; image = built }) (PutText file text) (Puts (file, text)) new answer taken taken' image (λ effect h. h) refl does made e
 
-pub line_removed : (opts : SessionOpts) (built : Option (List ℕ)) (file : List ℕ) (first new : Option Told) (answer : Answer) (taken taken' image : Option (List ℕ)) → IfSome first (λ told. Does (codes "ok\n") (Removes file ∷ []) answer told new taken taken')
-    → IfSome first (λ told. IsObeyed answer → new ≡ Some (after_changes told (Removes file ∷ []))) → image ≡ built → IfSome first (λ told. ObeysLine opts (record { told = told; image = built }) (RemoveText file) answer new taken taken' image)
+pub line_removed : (opts : SessionOpts) (built : Option (List ℕ)) (file : List ℕ) (first new : Option Told) (answer : Answer) (taken taken' image : Option (List ℕ)) → IfSome first (λ told. DoesEffect (codes "ok\n") (Removes file ∷ []) answer told new taken taken')
+    → IfSome first (λ told. IsLineObeyed answer → new ≡ Some (after_changes told (Removes file ∷ []))) → image ≡ built → IfSome first (λ told. ObeysLine opts (record { told = told; image = built }) (RemoveText file) answer new taken taken' image)
 line_removed opts built file None new answer taken taken' image does made e = tt
 line_removed opts built file (Some told) new answer taken taken' image does made e =
-    change_line opts (record { told = told; image = built }) (RemoveText file) (Removes file) new answer taken taken' image (λ act h. h) refl does made e
+    change_line opts (record { told = told; image = built }) (RemoveText file) (Removes file) new answer taken taken' image (λ effect h. h) refl does made e
 
-pub does_some : (may : List ℕ → Type 0) (output : List ℕ) (changes : List Change) (first new : Option Told) (answer : Answer) (taken taken' : Option (List ℕ)) → AreOwnChanges may changes → IfSome first (λ told. Does output changes answer told new taken taken')
+pub does_some : (may : List ℕ → Type 0) (output : List ℕ) (changes : List Change) (first new : Option Told) (answer : Answer) (taken taken' : Option (List ℕ)) → AreOwnChanges may changes → IfSome first (λ told. DoesEffect output changes answer told new taken taken')
     → IfSome first (λ told. MakesSome may answer told new)
 does_some may output changes None new answer taken taken' own does = tt
 does_some may output changes (Some told) new answer taken taken' own does = makes_some may changes answer told new own does.made
 
 -- of one module's file
-pub put_some : (may : List ℕ → Type 0) (output file text : List ℕ) (first new : Option Told) (answer : Answer) (taken taken' : Option (List ℕ)) → is_module_file file ≡ true → IfSome first (λ told. Does output (Puts (file, text) ∷ []) answer told new taken taken')
+pub put_some : (may : List ℕ → Type 0) (output file text : List ℕ) (first new : Option Told) (answer : Answer) (taken taken' : Option (List ℕ)) → is_module_file file ≡ true → IfSome first (λ told. DoesEffect output (Puts (file, text) ∷ []) answer told new taken taken')
     → IfSome first (λ told. MakesSome may answer told new)
 put_some may output file text first new answer taken taken' own does = does_some may output (Puts (file, text) ∷ []) first new answer taken taken' (inl own, tt) does
 
-pub removed_some : (may : List ℕ → Type 0) (output file : List ℕ) (first new : Option Told) (answer : Answer) (taken taken' : Option (List ℕ)) → may file → IfSome first (λ told. Does output (Removes file ∷ []) answer told new taken taken')
+pub removed_some : (may : List ℕ → Type 0) (output file : List ℕ) (first new : Option Told) (answer : Answer) (taken taken' : Option (List ℕ)) → may file → IfSome first (λ told. DoesEffect output (Removes file ∷ []) answer told new taken taken')
     → IfSome first (λ told. MakesSome may answer told new)
 removed_some may output file first new answer taken taken' own does = does_some may output (Removes file ∷ []) first new answer taken taken' (own, tt) does
 
-run_does : (opts : SessionOpts) (s : State) (input : List ℕ) (new : Option Told) (answer : Answer) (taken taken' image : Option (List ℕ)) → ObeysRun s.image opts.budget input answer taken taken' → new ≡ Some s.told → image ≡ s.image
+run_does : (opts : SessionOpts) (s : SessionState) (input : List ℕ) (new : Option Told) (answer : Answer) (taken taken' image : Option (List ℕ)) → ObeysRun s.image opts.budget input answer taken taken' → new ≡ Some s.told → image ≡ s.image
     → ObeysLine opts s (RunProgram input) answer new taken taken' image
 run_does opts s input new answer taken taken' image run same e = record {
-  does = λ act h. subst (λ (a : Act). Does a.output a.changes answer s.told new taken taken') (sym h.2) (record { said = run.output h.0 h.1; made = makes_all [] answer s.told new same });
-  keeps = λ act h d. e ∙ ap (λ (a : Act). a.image) (sym h.2);
+  does = λ effect h. subst (λ (a : LineEffect). DoesEffect a.output a.changes answer s.told new taken taken') (sym h.2) (record { said = run.output h.0 h.1; made = makes_all [] answer s.told new same });
+  keeps = λ effect h d. e ∙ ap (λ (a : LineEffect). a.image) (sym h.2);
   found = λ d. (puts_out s (run.found d).0, ((run.found d).0, (run.found d).1, refl), same);
 }
 
@@ -241,22 +241,22 @@ same_some may (Some told) answer = makes_some may [] answer told (Some told) tt 
 
 -- ---- over what the calls gave
 
-pub line_put_so : (opts : SessionOpts) (built : Option (List ℕ)) (file text f t : List ℕ) (first new : Option Told) (answer : Answer) (taken taken' image : Option (List ℕ)) → f ≡ file → t ≡ text → IfSome first (λ told. Does (codes "ok\n") (Puts (f, t) ∷ []) answer told new taken taken')
-    → IfSome first (λ told. IsObeyed answer → new ≡ Some (after_changes told (Puts (f, t) ∷ []))) → image ≡ built
+pub line_put_so : (opts : SessionOpts) (built : Option (List ℕ)) (file text f t : List ℕ) (first new : Option Told) (answer : Answer) (taken taken' image : Option (List ℕ)) → f ≡ file → t ≡ text → IfSome first (λ told. DoesEffect (codes "ok\n") (Puts (f, t) ∷ []) answer told new taken taken')
+    → IfSome first (λ told. IsLineObeyed answer → new ≡ Some (after_changes told (Puts (f, t) ∷ []))) → image ≡ built
     → IfSome first (λ told. ObeysLine opts (record { told = told; image = built }) (PutText file text) answer new taken taken' image)
 line_put_so opts built file text f t first new answer taken taken' image e h does made same =
     line_put opts built file text first new answer taken taken' image
-    (subst (λ (x : List ℕ). IfSome first (λ told. Does (codes "ok\n") (Puts (x, text) ∷ []) answer told new taken taken')) e
-    (subst (λ (y : List ℕ). IfSome first (λ told. Does (codes "ok\n") (Puts (f, y) ∷ []) answer told new taken taken')) h does))
-    (subst (λ (x : List ℕ). IfSome first (λ told. IsObeyed answer → new ≡ Some (after_changes told (Puts (x, text) ∷ [])))) e
-    (subst (λ (y : List ℕ). IfSome first (λ told. IsObeyed answer → new ≡ Some (after_changes told (Puts (f, y) ∷ [])))) h made)) same
+    (subst (λ (x : List ℕ). IfSome first (λ told. DoesEffect (codes "ok\n") (Puts (x, text) ∷ []) answer told new taken taken')) e
+    (subst (λ (y : List ℕ). IfSome first (λ told. DoesEffect (codes "ok\n") (Puts (f, y) ∷ []) answer told new taken taken')) h does))
+    (subst (λ (x : List ℕ). IfSome first (λ told. IsLineObeyed answer → new ≡ Some (after_changes told (Puts (x, text) ∷ [])))) e
+    (subst (λ (y : List ℕ). IfSome first (λ told. IsLineObeyed answer → new ≡ Some (after_changes told (Puts (f, y) ∷ [])))) h made)) same
 
-pub line_removed_so : (opts : SessionOpts) (built : Option (List ℕ)) (file f : List ℕ) (first new : Option Told) (answer : Answer) (taken taken' image : Option (List ℕ)) → f ≡ file → IfSome first (λ told. Does (codes "ok\n") (Removes f ∷ []) answer told new taken taken')
-    → IfSome first (λ told. IsObeyed answer → new ≡ Some (after_changes told (Removes f ∷ []))) → image ≡ built
+pub line_removed_so : (opts : SessionOpts) (built : Option (List ℕ)) (file f : List ℕ) (first new : Option Told) (answer : Answer) (taken taken' image : Option (List ℕ)) → f ≡ file → IfSome first (λ told. DoesEffect (codes "ok\n") (Removes f ∷ []) answer told new taken taken')
+    → IfSome first (λ told. IsLineObeyed answer → new ≡ Some (after_changes told (Removes f ∷ []))) → image ≡ built
     → IfSome first (λ told. ObeysLine opts (record { told = told; image = built }) (RemoveText file) answer new taken taken' image)
 line_removed_so opts built file f first new answer taken taken' image e does made same =
-    line_removed opts built file first new answer taken taken' image (subst (λ (x : List ℕ). IfSome first (λ told. Does (codes "ok\n") (Removes x ∷ []) answer told new taken taken')) e does)
-    (subst (λ (x : List ℕ). IfSome first (λ told. IsObeyed answer → new ≡ Some (after_changes told (Removes x ∷ [])))) e made) same
+    line_removed opts built file first new answer taken taken' image (subst (λ (x : List ℕ). IfSome first (λ told. DoesEffect (codes "ok\n") (Removes x ∷ []) answer told new taken taken')) e does)
+    (subst (λ (x : List ℕ). IfSome first (λ told. IsLineObeyed answer → new ≡ Some (after_changes told (Removes x ∷ [])))) e made) same
 
 pub line_run_so : (opts : SessionOpts) (built given : Option (List ℕ)) (input i : List ℕ) (first : Option Told) (answer : Answer) (taken taken' image : Option (List ℕ)) → given ≡ built → i ≡ input → ObeysRun given opts.budget i answer taken taken' → image ≡ built
     → IfSome first (λ told. ObeysLine opts (record { told = told; image = built }) (RunProgram input) answer first taken taken' image)
@@ -267,17 +267,17 @@ line_run_so opts built given input i first answer taken taken' image e h run sam
 -- ---- faults of the store
 
 pub put_error : (output file text : List ℕ) (error : StoreError) (answer : Answer) (first new : Option Told) (taken : Option (List ℕ)) → answer ≡ store_answer error → OnFailed {T = Unit {0}} (Err error) (PutsPart first new file text)
-    → OnNoMemory {T = Unit {0}} (Err error) (Keeps first new) → IfSome first (λ told. Does output (Puts (file, text) ∷ []) answer told new taken taken)
+    → OnNoMemory {T = Unit {0}} (Err error) (Keeps first new) → IfSome first (λ told. DoesEffect output (Puts (file, text) ∷ []) answer told new taken taken)
 put_error output file text store.Failed answer first new taken e part none =
-    subst (λ (a : Answer). IfSome first (λ told. Does output (Puts (file, text) ∷ []) a told new taken taken)) (sym e) (does_part output file text first new taken taken part refl)
+    subst (λ (a : Answer). IfSome first (λ told. DoesEffect output (Puts (file, text) ∷ []) a told new taken taken)) (sym e) (does_part output file text first new taken taken part refl)
 put_error output file text store.NoMemory answer first new taken e part none =
-    subst (λ (a : Answer). IfSome first (λ told. Does output (Puts (file, text) ∷ []) a told new taken taken)) (sym e) (does_none output (Puts (file, text) ∷ []) first new taken taken none refl)
+    subst (λ (a : Answer). IfSome first (λ told. DoesEffect output (Puts (file, text) ∷ []) a told new taken taken)) (sym e) (does_none output (Puts (file, text) ∷ []) first new taken taken none refl)
 
-pub remove_error : (output file : List ℕ) (error : StoreError) (answer : Answer) (first new : Option Told) (taken : Option (List ℕ)) → answer ≡ store_answer error → Keeps first new → IfSome first (λ told. Does output (Removes file ∷ []) answer told new taken taken)
+pub remove_error : (output file : List ℕ) (error : StoreError) (answer : Answer) (first new : Option Told) (taken : Option (List ℕ)) → answer ≡ store_answer error → Keeps first new → IfSome first (λ told. DoesEffect output (Removes file ∷ []) answer told new taken taken)
 remove_error output file store.Failed answer first new taken e none =
-    subst (λ (a : Answer). IfSome first (λ told. Does output (Removes file ∷ []) a told new taken taken)) (sym e) (does_failed output (Removes file ∷ []) first new taken taken none refl)
+    subst (λ (a : Answer). IfSome first (λ told. DoesEffect output (Removes file ∷ []) a told new taken taken)) (sym e) (does_failed output (Removes file ∷ []) first new taken taken none refl)
 remove_error output file store.NoMemory answer first new taken e none =
-    subst (λ (a : Answer). IfSome first (λ told. Does output (Removes file ∷ []) a told new taken taken)) (sym e) (does_none output (Removes file ∷ []) first new taken taken none refl)
+    subst (λ (a : Answer). IfSome first (λ told. DoesEffect output (Removes file ∷ []) a told new taken taken)) (sym e) (does_none output (Removes file ∷ []) first new taken taken none refl)
 
 pub error_count : (error : StoreError) (answer : Answer) (before now : ℕ) → answer ≡ store_answer error → HasStoreCause {T = Unit {0}} before now (Err error) → StoreCount before now answer
 error_count store.Failed answer before now e h = subst (StoreCount before now) (sym e) h
@@ -287,12 +287,12 @@ pub error_write : (error : StoreError) (answer : Answer) (count : ℕ) → answe
 error_write store.Failed answer count e = subst (OutputCount count count) (sym e) refl
 error_write store.NoMemory answer count e = subst (OutputCount count count) (sym e) refl
 
-pub error_made : (error : StoreError) (answer : Answer) (changes : List Change) (first new : Option Told) → answer ≡ store_answer error → IfSome first (λ told. IsObeyed answer → new ≡ Some (after_changes told changes))
+pub error_made : (error : StoreError) (answer : Answer) (changes : List Change) (first new : Option Told) → answer ≡ store_answer error → IfSome first (λ told. IsLineObeyed answer → new ≡ Some (after_changes told changes))
 error_made error answer changes None new e = tt
-error_made store.Failed answer changes (Some told) new e = λ d. absurd (subst IsObeyed e d)
-error_made store.NoMemory answer changes (Some told) new e = λ d. absurd (subst IsObeyed e d)
+error_made store.Failed answer changes (Some told) new e = λ d. absurd (subst IsLineObeyed e d)
+error_made store.NoMemory answer changes (Some told) new e = λ d. absurd (subst IsLineObeyed e d)
 
-pub made_so : (answer : Answer) (changes : List Change) (first new : Option Told) → IfSome first (λ told. new ≡ Some (after_changes told changes)) → IfSome first (λ told. IsObeyed answer → new ≡ Some (after_changes told changes))
+pub made_so : (answer : Answer) (changes : List Change) (first new : Option Told) → IfSome first (λ told. new ≡ Some (after_changes told changes)) → IfSome first (λ told. IsLineObeyed answer → new ≡ Some (after_changes told changes))
 made_so answer changes None new e = tt
 made_so answer changes (Some told) new e = λ d. e
 

@@ -16,7 +16,7 @@ use Rattle.pw_session_script.specs.Script.{taken_limit}
 use Rattle.pw_session.specs.declared.session.Turn.{Turn}
 use Rattle.pw_session.specs.declared.session.Turn.TheVariants.{Over, Obeyed}
 use Rattle.pw_session.specs.Changes.{MakesSome, after_changes}
-use Rattle.pw_session.specs.Outcomes.{IsLastAnswer, IsLineAnswer, IsReadAnswer, IsSessionAnswer, IsTaken, IsTurn, LeavesScript, LeavesTurn, end_answer, turn_answer, unread}
+use Rattle.pw_session.specs.Outcomes.{IsLastAnswer, IsLineAnswer, IsReadAnswer, IsSessionAnswer, IsLineTaken, IsSessionTurn, LeavesScript, LeavesTurn, last_answer, turn_answer, unread}
 use Rattle.pw_session.proofs.ChangeLemmas.{some_then}
 
 -- ---- the store
@@ -158,25 +158,25 @@ say_store _ before now k h = h
 
 -- ---- a line that was read
 
-pub leaves_taken : (line : TakenLine) (turn : Turn) (first new : Option (List ℕ)) → IsTaken line turn → IfSome first (λ script. IsReadInPart script new) → IfSome first (λ script. LeavesTurn script turn new)
+pub leaves_taken : (line : TakenLine) (turn : Turn) (first new : Option (List ℕ)) → IsLineTaken line turn → IfSome first (λ script. IsReadInPart script new) → IfSome first (λ script. LeavesTurn script turn new)
 leaves_taken line (Over answer) first new k h = leaves_line answer first new k.0 k.1 h
 leaves_taken line (Obeyed size) None new k h = tt
 leaves_taken line (Obeyed size) (Some script) new k h = tt
 
-pub taken_read : (line : TakenLine) (turn : Turn) (before now : ℕ) → IsTaken line turn → now ≡ before → InputCount before now (turn_answer turn)
+pub taken_read : (line : TakenLine) (turn : Turn) (before now : ℕ) → IsLineTaken line turn → now ≡ before → InputCount before now (turn_answer turn)
 taken_read line (Over answer) before now k h = line_read answer before now k.0 h
 taken_read line (Obeyed size) before now k h = h
 
 pub short_so : (found : Option TakenLine) (line : TakenLine) → found ≡ Some line → IfSome found (λ taken. taken.length ≤ taken_limit) → line.length ≤ taken_limit
 short_so found line e h = subst (λ (o : Option TakenLine). IfSome o (λ taken. taken.length ≤ taken_limit)) e h
 
-pub taken_is : (line : TakenLine) (turn : Turn) → IsTaken line turn → line.length ≤ taken_limit → IsTurn turn
+pub taken_is : (line : TakenLine) (turn : Turn) → IsLineTaken line turn → line.length ≤ taken_limit → IsSessionTurn turn
 taken_is line (Over answer) k h = line_is answer k.0
 taken_is line (Obeyed size) k h = subst (λ (n : ℕ). n ≤ taken_limit) (sym k) h
 
 -- ---- behind the last line
 
-pub end_is : (found : Option ℕ) (offset : ℕ) (first new : Option (List ℕ)) → TakesNext first new (Ok found) → IfSome first (λ script. IsLastAnswer offset script (end_answer found offset))
+pub end_is : (found : Option ℕ) (offset : ℕ) (first new : Option (List ℕ)) → TakesNext first new (Ok found) → IfSome first (λ script. IsLastAnswer offset script (last_answer found offset))
 end_is found offset None new h = tt
 end_is None offset (Some script) new h = subst (λ (s : List ℕ). IsLastAnswer offset s Done) (sym h.0) refl
 end_is (Some byte) offset (Some script) None h = absurd h
@@ -193,7 +193,7 @@ end_part (Ok (Some byte)) (Some script) None h = absurd h
 end_part (Ok (Some byte)) (Some script) (Some later) h = (byte ∷ [], h)
 end_part (Err failed) (Some script) new h = subst (λ (o : Option (List ℕ)). IsReadInPart script o) (sym h) ([], refl)
 
-pub end_whole : (found : Option ℕ) (offset : ℕ) (first new : Option (List ℕ)) → TakesNext first new (Ok found) → IfSome first (λ script. LeavesScript script (end_answer found offset) new)
+pub end_whole : (found : Option ℕ) (offset : ℕ) (first new : Option (List ℕ)) → TakesNext first new (Ok found) → IfSome first (λ script. LeavesScript script (last_answer found offset) new)
 end_whole found offset None new h = tt
 end_whole None offset (Some script) new h = h.1
 end_whole (Some byte) offset (Some script) None h = absurd h
@@ -206,11 +206,11 @@ pub fault_whole : (failed : Failed) (first new : Option (List ℕ)) → TakesNex
 fault_whole failed None new h = tt
 fault_whole failed (Some script) new h = fault_part script new (end_part (Err failed) (Some script) new h)
 
-pub end_read : (found : Option ℕ) (offset before now : ℕ) → now ≡ before → InputCount before now (end_answer found offset)
+pub end_read : (found : Option ℕ) (offset before now : ℕ) → now ≡ before → InputCount before now (last_answer found offset)
 end_read None offset before now h = h
 end_read (Some byte) offset before now h = h
 
-pub end_kind : (found : Option ℕ) (offset : ℕ) → IsReadAnswer (end_answer found offset)
+pub end_kind : (found : Option ℕ) (offset : ℕ) → IsReadAnswer (last_answer found offset)
 end_kind None offset = tt
 end_kind (Some byte) offset = tt
 

@@ -98,7 +98,7 @@ IsBenchLine number answer line = IsLineDue (refused_line (modules_of (bench_file
 -- ---- inside
 
 -- the answer to the run of an image over no input
-pub record StopsAs (image : List ℕ) (budget : ℕ) (answer : Answer) : Type 0 where
+pub record StopsWithoutInput (image : List ℕ) (budget : ℕ) (answer : Answer) : Type 0 where
   pub each : (c : Contents Image) → IsImageFile image c → Answers (stop_of budget c) answer
   pub found : is_stop answer ≡ true → (c : Contents Image) × IsImageFile image c
 

@@ -2,8 +2,7 @@ pub mod Bench
 pub mod Builds
 pub mod Changes
 pub mod FromBuild
-pub mod FromBuilding
-pub mod FromDriving
+pub mod FromBuildFiles
 pub mod Outcomes
 pub mod Removals
 pub mod Runs

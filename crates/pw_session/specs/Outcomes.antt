@@ -20,12 +20,12 @@ use Rattle.pw_session.specs.declared.session.Turn.{Turn}
 use Rattle.pw_session.specs.declared.session.Turn.TheVariants.{Over, Obeyed}
 use Rattle.pw_session.specs.Changes.{Change, MakesChanges, after_changes}
 use Rattle.pw_session.specs.Runs.{RunPrints}
-use Rattle.pw_session.specs.Session.{Act, Acts, Effects, LinesAct, ScriptLines, State, bad_at, lines_from, lines_of, script_answer, session_start, with_line}
+use Rattle.pw_session.specs.Session.{LineEffect, Acts, Effects, LinesAct, ScriptLines, SessionState, bad_at, script_lines_from, script_lines, script_answer, session_start, with_line}
 
 -- ---- the session
 
 -- The output was put out and the changes were made; where something failed or memory ran out, a prefix of both.
-pub record Does (output : List ℕ) (changes : List Change) (answer : Answer) (told : Told) (new : Option Told) (taken taken' : Option (List ℕ)) : Type 0 where
+pub record DoesEffect (output : List ℕ) (changes : List Change) (answer : Answer) (told : Told) (new : Option Told) (taken taken' : Option (List ℕ)) : Type 0 where
   pub said : PutsOut output answer taken taken'
   pub made : MakesChanges changes answer told new
 
@@ -35,7 +35,7 @@ both_effects first later = record { output = first.output ++ later.output; chang
 
 -- A prefix of lines comes to what was put out and changed: to all the changes, and to the output. That of the lines before the
 -- last was put out whole, and behind it that of the last, of which after a fault of the output a prefix was put out.
-pub record PrefixActs (opts : SessionOpts) (s : State) (lines : List LineValue) (answer : Answer) (new : Option Told) (taken taken' : Option (List ℕ)) : Type 0 where
+pub record PrefixActs (opts : SessionOpts) (s : SessionState) (lines : List LineValue) (answer : Answer) (new : Option Told) (taken taken' : Option (List ℕ)) : Type 0 where
   pub before : List LineValue
   pub last : List LineValue
   pub more : List LineValue
@@ -53,7 +53,7 @@ pub record PrefixActs (opts : SessionOpts) (s : State) (lines : List LineValue) 
 -- The lines come to something, where no fault and no want of memory was answered. Where the input had a fault, a prefix of
 -- them comes to exactly what was put out and changed; where the output had one, to what was changed, and to an output of
 -- which the end of the last line's is missing.
-abbrev pub IsSessionFound : SessionOpts → State → List LineValue → Answer → Option Told → Option (List ℕ) → Option (List ℕ) → Type 0
+abbrev pub IsSessionFound : SessionOpts → SessionState → List LineValue → Answer → Option Told → Option (List ℕ) → Option (List ℕ) → Type 0
 IsSessionFound opts s lines ReadFault new taken taken' = PrefixActs opts s lines Done new taken taken'
 IsSessionFound opts s lines WriteFault new taken taken' = PrefixActs opts s lines WriteFault new taken taken'
 IsSessionFound opts s lines StoreFault new taken taken' = Unit {0}
@@ -61,14 +61,14 @@ IsSessionFound opts s lines NoMemory new taken taken' = Unit {0}
 IsSessionFound opts s lines _ new taken taken' = (e : Effects) × LinesAct opts s lines e
 
 -- Lines of a script come to what was answered, put out and changed; a fault and want of memory may come in its place.
-pub record ObeysLines (opts : SessionOpts) (s : State) (script : ScriptLines) (answer : Answer) (new : Option Told) (taken taken' : Option (List ℕ)) : Type 0 where
+pub record ObeysLines (opts : SessionOpts) (s : SessionState) (script : ScriptLines) (answer : Answer) (new : Option Told) (taken taken' : Option (List ℕ)) : Type 0 where
   pub answers : Answers (script_answer script.bad) answer
-  pub does : (e : Effects) → LinesAct opts s script.lines e → Does e.output e.changes answer s.told new taken taken'
+  pub does : (e : Effects) → LinesAct opts s script.lines e → DoesEffect e.output e.changes answer s.told new taken taken'
   pub found : IsSessionFound opts s script.lines answer new taken taken'
 
 -- so does a session over its whole script
 abbrev pub ObeysSession : SessionOpts → Told → List ℕ → Answer → Option Told → Option (List ℕ) → Option (List ℕ) → Type 0
-ObeysSession opts told script answer new taken taken' = ObeysLines opts (session_start told) (lines_of script) answer new taken taken'
+ObeysSession opts told script answer new taken taken' = ObeysLines opts (session_start told) (script_lines script) answer new taken taken'
 
 -- the answers of a session
 abbrev pub IsSessionAnswer : Answer → Type 0
@@ -83,7 +83,7 @@ IsSessionAnswer _ = ⊥
 -- How a session ends is a function of its script alone, whatever the store tells; a fault and want of memory may come in
 -- place of that.
 abbrev pub EndsAs : List ℕ → Answer → Type 0
-EndsAs script answer = Answers (script_answer (lines_of script).bad) answer
+EndsAs script answer = Answers (script_answer (script_lines script).bad) answer
 
 -- A script that was taken to its end is read whole; else a prefix of it was read.
 abbrev pub LeavesScript : List ℕ → Answer → Option (List ℕ) → Type 0
@@ -108,34 +108,34 @@ abbrev pub KeepsImage : Option (List ℕ) → Type 0
 KeepsImage image = IfSome image HoldsImage
 
 -- the answers after which a line was obeyed, but perhaps for its output
-abbrev pub IsObeyed : Answer → Type 0
-IsObeyed Done = Unit {0}
-IsObeyed WriteFault = Unit {0}
-IsObeyed _ = ⊥
+abbrev pub IsLineObeyed : Answer → Type 0
+IsLineObeyed Done = Unit {0}
+IsLineObeyed WriteFault = Unit {0}
+IsLineObeyed _ = ⊥
 
 -- what a line does was put out and changed, and its image is kept
-pub record ObeysLine (opts : SessionOpts) (s : State) (line : LineValue) (answer : Answer) (new : Option Told) (taken taken' : Option (List ℕ)) (image : Option (List ℕ)) : Type 0 where
-  pub does : (act : Act) → Acts opts s line act → Does act.output act.changes answer s.told new taken taken'
-  pub keeps : (act : Act) → Acts opts s line act → answer ≡ Done → image ≡ act.image
-  pub found : IsObeyed answer → (act : Act) × Acts opts s line act × (new ≡ Some (after_changes s.told act.changes))
+pub record ObeysLine (opts : SessionOpts) (s : SessionState) (line : LineValue) (answer : Answer) (new : Option Told) (taken taken' : Option (List ℕ)) (image : Option (List ℕ)) : Type 0 where
+  pub does : (effect : LineEffect) → Acts opts s line effect → DoesEffect effect.output effect.changes answer s.told new taken taken'
+  pub keeps : (effect : LineEffect) → Acts opts s line effect → answer ≡ Done → image ≡ effect.image
+  pub found : IsLineObeyed answer → (effect : LineEffect) × Acts opts s line effect × (new ≡ Some (after_changes s.told effect.changes))
 
 -- what comes of a run was put out
 pub record ObeysRun (built : Option (List ℕ)) (budget : ℕ) (input : List ℕ) (answer : Answer) (taken taken' : Option (List ℕ)) : Type 0 where
   pub output : (output : List ℕ) → RunPrints built budget input output → PutsOut output answer taken taken'
-  pub found : IsObeyed answer → (output : List ℕ) × RunPrints built budget input output
+  pub found : IsLineObeyed answer → (output : List ℕ) × RunPrints built budget input output
 
 -- The first line of what is left of a script was read and obeyed; or the session is over, as the lines that are left come to.
-abbrev pub TakesTurn : SessionOpts → State → ℕ → List ℕ → Turn → Option Told → Option (List ℕ) → Option (List ℕ) → Option (List ℕ) → Option (List ℕ) → Type 0
+abbrev pub TakesTurn : SessionOpts → SessionState → ℕ → List ℕ → Turn → Option Told → Option (List ℕ) → Option (List ℕ) → Option (List ℕ) → Option (List ℕ) → Type 0
 TakesTurn opts s offset script (Over answer) new rest taken taken' image =
-    (n : ℕ) → ObeysLines opts s (lines_from (suc n) offset script) answer new taken taken'
+    (n : ℕ) → ObeysLines opts s (script_lines_from (suc n) offset script) answer new taken taken'
 TakesTurn opts s offset script (Obeyed size) new rest taken taken' image =
     (line : LineValue) × (later : List ℕ) × (first_line script ≡ Some (line, later)) × (length script ≡ size + length later) × (rest ≡ Some later) × ObeysLine opts s line Done new taken taken' image
 
 -- What a turn says of how the session ends, as what is left of the script says; or of the line that was obeyed, which stands
 -- before those that are left behind it.
 abbrev pub EndsTurn : ℕ → List ℕ → Turn → Option (List ℕ) → Type 0
-EndsTurn offset script (Over answer) rest = (n : ℕ) → Answers (script_answer (lines_from (suc n) offset script).bad) answer
-EndsTurn offset script (Obeyed size) rest = IsSomeAnd rest (λ later. (line : LineValue) × ((n : ℕ) → lines_from (suc n) offset script ≡ with_line line (lines_from n (offset + size) later)))
+EndsTurn offset script (Over answer) rest = (n : ℕ) → Answers (script_answer (script_lines_from (suc n) offset script).bad) answer
+EndsTurn offset script (Obeyed size) rest = IsSomeAnd rest (λ later. (line : LineValue) × ((n : ℕ) → script_lines_from (suc n) offset script ≡ with_line line (script_lines_from n (offset + size) later)))
 
 -- the answer of a turn: `Done` where its line was obeyed
 abbrev pub turn_answer : Turn → Answer
@@ -143,14 +143,14 @@ turn_answer (Over answer) = answer
 turn_answer (Obeyed size) = Done
 
 -- a line that was read is obeyed, with the count of its bytes, or the session is over
-abbrev pub IsTaken : TakenLine → Turn → Type 0
-IsTaken taken (Over answer) = IsLineAnswer answer × (answer ≡ Done → ⊥)
-IsTaken taken (Obeyed size) = size ≡ taken.length
+abbrev pub IsLineTaken : TakenLine → Turn → Type 0
+IsLineTaken taken (Over answer) = IsLineAnswer answer × (answer ≡ Done → ⊥)
+IsLineTaken taken (Obeyed size) = size ≡ taken.length
 
 -- how many bytes a line takes at most, and how a session ends
-abbrev pub IsTurn : Turn → Type 0
-IsTurn (Over answer) = IsSessionAnswer answer
-IsTurn (Obeyed size) = size ≤ taken_limit
+abbrev pub IsSessionTurn : Turn → Type 0
+IsSessionTurn (Over answer) = IsSessionAnswer answer
+IsSessionTurn (Obeyed size) = size ≤ taken_limit
 
 -- where no line was read at an offset
 abbrev pub unread : ScriptFault → ℕ → Answer
@@ -167,9 +167,9 @@ LeavesTurn script (Obeyed size) new = Unit {0}
 abbrev pub IsLastAnswer : ℕ → List ℕ → Answer → Type 0
 IsLastAnswer offset script answer = Answers (script_answer (bad_at offset script)) answer
 
-abbrev pub end_answer : Option ℕ → ℕ → Answer
-end_answer None offset = Done
-end_answer (Some byte) offset = BadScript offset
+abbrev pub last_answer : Option ℕ → ℕ → Answer
+last_answer None offset = Done
+last_answer (Some byte) offset = BadScript offset
 
 abbrev pub IsReadAnswer : Answer → Type 0
 IsReadAnswer Done = Unit {0}

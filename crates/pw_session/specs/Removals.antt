@@ -2,7 +2,7 @@
 use Rattle.std.specs.Prelude.{◌≡◌, ℕ, List, Option, Some, None, Contains}
 use Rattle.pw_store_modules.specs.Modules.{IsModuleFile}
 use Rattle.pw_session_script.specs.Script.{LineValue, RemoveText, first_line}
-use Rattle.pw_session.specs.Session.{lines_of}
+use Rattle.pw_session.specs.Session.{script_lines}
 
 -- the line removes the file, which is a module's
 abbrev pub IsRemovedBy : LineValue → List ℕ → Type 0
@@ -14,7 +14,7 @@ IsRemovedFirst script name = (line : LineValue) × (later : List ℕ) × (first_
 
 -- a line of a script does
 abbrev pub IsRemovedIn : List ℕ → List ℕ → Type 0
-IsRemovedIn script name = IsModuleFile name × Contains (lines_of script).lines (RemoveText name)
+IsRemovedIn script name = IsModuleFile name × Contains (script_lines script).lines (RemoveText name)
 
 -- the same of what an input tells; of one that tells nothing it is only known that the file is a module's
 abbrev pub MayRemoveFirst : Option (List ℕ) → List ℕ → Type 0

@@ -40,13 +40,13 @@ abbrev pub with_line : LineValue → ScriptLines → ScriptLines
 with_line line more = record { lines = line ∷ more.lines; bad = more.bad }
 
 -- at most so many lines of a script, of which this stands at an offset
-unfoldable pub lines_from : ℕ → ℕ → List ℕ → ScriptLines
-lines_from zero offset script = no_line offset script
-lines_from (suc n) offset script =
-    option_map_or (λ cut. with_line cut.0 (lines_from n (offset + (length script - length cut.1)) cut.1)) (first_line script) (no_line offset script)
+unfoldable pub script_lines_from : ℕ → ℕ → List ℕ → ScriptLines
+script_lines_from zero offset script = no_line offset script
+script_lines_from (suc n) offset script =
+    option_map_or (λ cut. with_line cut.0 (script_lines_from n (offset + (length script - length cut.1)) cut.1)) (first_line script) (no_line offset script)
 
-unfoldable pub lines_of : List ℕ → ScriptLines
-lines_of script = lines_from lines_limit 0 script
+unfoldable pub script_lines : List ℕ → ScriptLines
+script_lines script = script_lines_from lines_limit 0 script
 
 -- how a session ends
 abbrev pub script_answer : Option ℕ → Answer
@@ -56,22 +56,22 @@ script_answer (Some offset) = BadScript offset
 -- ---- one line
 
 -- what a session goes through its lines with: what the store tells, and the image that was built last
-pub record State : Type 0 where
+pub record SessionState : Type 0 where
   pub told : Told
   pub image : Option (List ℕ)
 
 -- what a line does: what it puts out, which files it changes, and the image that is run from then on
-pub record Act : Type 0 where
+pub record LineEffect : Type 0 where
   pub output : List ℕ
   pub changes : List Change
   pub image : Option (List ℕ)
 
 -- a change of a file, which is told
-abbrev pub changes_as : State → Change → Act
+abbrev pub changes_as : SessionState → Change → LineEffect
 changes_as s change = record { output = codes "ok\n"; changes = change ∷ []; image = s.image }
 
 -- A build puts its files, tells its report, and leaves its image; one that is refused tells that alone.
-abbrev pub builds_as : State → Result Outcome BuildFault → Act
+abbrev pub builds_as : SessionState → Result Outcome BuildFault → LineEffect
 builds_as s (Ok outcome) = record {
   output = outcome_lines outcome;
   changes = map Puts outcome.puts;
@@ -79,38 +79,38 @@ builds_as s (Ok outcome) = record {
 }
 builds_as s (Err fault) = record { output = line_text (refused_line (modules_of s.told.files)) (fault_answer fault); changes = []; image = s.image }
 
-abbrev pub puts_out : State → List ℕ → Act
+abbrev pub puts_out : SessionState → List ℕ → LineEffect
 puts_out s output = record { output = output; changes = []; image = s.image }
 
 -- what a line does
-abbrev pub Acts : SessionOpts → State → LineValue → Act → Type 0
-Acts opts s (PutText file text) act = act ≡ changes_as s (Puts (file, text))
-Acts opts s (RemoveText file) act = act ≡ changes_as s (Removes file)
-Acts opts s BuildProgram act = (comes : Result Outcome BuildFault) × BuildsTo s.told.files opts.build comes × (act ≡ builds_as s comes)
-Acts opts s (RunProgram input) act = (output : List ℕ) × RunPrints s.image opts.budget input output × (act ≡ puts_out s output)
+abbrev pub Acts : SessionOpts → SessionState → LineValue → LineEffect → Type 0
+Acts opts s (PutText file text) effect = effect ≡ changes_as s (Puts (file, text))
+Acts opts s (RemoveText file) effect = effect ≡ changes_as s (Removes file)
+Acts opts s BuildProgram effect = (comes : Result Outcome BuildFault) × BuildsTo s.told.files opts.build comes × (effect ≡ builds_as s comes)
+Acts opts s (RunProgram input) effect = (output : List ℕ) × RunPrints s.image opts.budget input output × (effect ≡ puts_out s output)
 
 -- ---- all lines
 
-abbrev pub next_state : State → Act → State
-next_state s act = record { told = after_changes s.told act.changes; image = act.image }
+abbrev pub next_state : SessionState → LineEffect → SessionState
+next_state s effect = record { told = after_changes s.told effect.changes; image = effect.image }
 
 -- what lines put out together, and which files they change, in order
 pub record Effects : Type 0 where
   pub output : List ℕ
   pub changes : List Change
 
-abbrev pub behind_act : Act → Effects → Effects
-behind_act act more = record { output = act.output ++ more.output; changes = act.changes ++ more.changes }
+abbrev pub behind_effect : LineEffect → Effects → Effects
+behind_effect effect more = record { output = effect.output ++ more.output; changes = effect.changes ++ more.changes }
 
 -- what lines do, one behind another
-abbrev pub LinesAct : SessionOpts → State → List LineValue → Effects → Type 0
+abbrev pub LinesAct : SessionOpts → SessionState → List LineValue → Effects → Type 0
 LinesAct opts s [] e = e ≡ record { output = []; changes = [] }
-LinesAct opts s (line ∷ lines) e = (act : Act) × (more : Effects) × Acts opts s line act × LinesAct opts (next_state s act) lines more × (e ≡ behind_act act more)
+LinesAct opts s (line ∷ lines) e = (effect : LineEffect) × (more : Effects) × Acts opts s line effect × LinesAct opts (next_state s effect) lines more × (e ≡ behind_effect effect more)
 
 -- a session begins with what the store tells, and with no image
-abbrev pub session_start : Told → State
+abbrev pub session_start : Told → SessionState
 session_start told = record { told = told; image = None }
 
 -- what the lines of a script do over a store that tells this
 abbrev pub SessionActs : SessionOpts → Told → List ℕ → Effects → Type 0
-SessionActs opts told script e = LinesAct opts (session_start told) (lines_of script).lines e
+SessionActs opts told script e = LinesAct opts (session_start told) (script_lines script).lines e

@@ -4,7 +4,7 @@ ghost use Rattle.std.specs.Prelude.{◌≡◌, ◌≤◌, ℕ, [], List, Option,
 ghost use Rattle.pw_top_answer.specs.Outcomes.{Answers, IsPrintAnswer, LeavesStreams, OutputCount, PutsOut};
 ghost use Rattle.pw_commands.specs.MachineRun.{run_answer};
 ghost use Rattle.pw_build_files.specs.Outcomes.{AreOpts, HoldsImage};
-ghost use Rattle.pw_session.specs.Bench.{BenchEffect, IsBenchAnswer, IsBenchLine, ObeysBench, ObeysReport, StopsAs, bench_prefix, bench_functions, bench_line, bench_modules, made_files};
+ghost use Rattle.pw_session.specs.Bench.{BenchEffect, IsBenchAnswer, IsBenchLine, ObeysBench, ObeysReport, StopsWithoutInput, bench_prefix, bench_functions, bench_line, bench_modules, made_files};
 ghost use Rattle.pw_session.specs.Runs.{runs_as};
 
 use crate::opts::SessionOpts;
@@ -51,7 +51,7 @@ fn run_quietly(alloc: Global, machine: &mut Machine, budget: u64) -> Answer
 /// The answer to the run of an image over no input. The bytes are its file.
 fn run_of_image(alloc: Global, image: &[u8], budget: u64) -> Answer
     requires { HoldsImage image.now }
-    ensures { StopsAs image.now budget result }
+    ensures { StopsWithoutInput image.now budget result }
 {
     match Machine::load(alloc, image) {
         Ok(mut machine) => run_quietly(alloc, &mut machine, budget),

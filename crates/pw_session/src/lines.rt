@@ -10,7 +10,7 @@ ghost use Rattle.pw_session_script.specs.Reading.{line_view};
 ghost use Rattle.pw_session_script.specs.Script.{BuildProgram, NamesModule};
 ghost use Rattle.pw_session.specs.Changes.{MakesSome, Puts, Removes, after_changes};
 ghost use Rattle.pw_session.specs.Removals.{IsRemovedBy};
-ghost use Rattle.pw_session.specs.Outcomes.{Does, IsLineAnswer, IsObeyed, KeepsImage, ObeysLine, SaysFault, image_view};
+ghost use Rattle.pw_session.specs.Outcomes.{DoesEffect, IsLineAnswer, IsLineObeyed, KeepsImage, ObeysLine, SaysFault, image_view};
 
 use crate::opts::SessionOpts;
 use crate::runs::run_image;
@@ -32,8 +32,8 @@ fn put_text<S: Store, O: Sink>(
     text: &[u8],
 ) -> Answer
     requires { is_module_file file.now ≡ true }
-    ensures does { IfSome (S.told store.old) (λ told. Does (codes "ok\n") (Puts (file.now, text.now) ∷ []) result told (S.told store.new) (O.taken out.old) (O.taken out.new)) }
-    ensures made { IfSome (S.told store.old) (λ told. IsObeyed result → S.told store.new ≡ Some (after_changes told (Puts (file.now, text.now) ∷ []))) }
+    ensures does { IfSome (S.told store.old) (λ told. DoesEffect (codes "ok\n") (Puts (file.now, text.now) ∷ []) result told (S.told store.new) (O.taken out.old) (O.taken out.new)) }
+    ensures made { IfSome (S.told store.old) (λ told. IsLineObeyed result → S.told store.new ≡ Some (after_changes told (Puts (file.now, text.now) ∷ []))) }
     ensures genuine { IfSome (S.told store.old) (λ told. KeepsGenuine told.files → IfSome (S.told store.new) (λ now. KeepsGenuine now.files)) }
     ensures store { StoreCount (S.faults store.old) (S.faults store.new) result }
     ensures write { OutputCount (O.faults out.old) (O.faults out.new) result }
@@ -50,8 +50,8 @@ fn put_text<S: Store, O: Sink>(
 /// Removes a module's file.
 fn remove_text<S: Store, O: Sink>(alloc: Global, store: &mut S, out: &mut O, file: &str) -> Answer
     requires { is_module_file file.now ≡ true }
-    ensures does { IfSome (S.told store.old) (λ told. Does (codes "ok\n") (Removes file.now ∷ []) result told (S.told store.new) (O.taken out.old) (O.taken out.new)) }
-    ensures made { IfSome (S.told store.old) (λ told. IsObeyed result → S.told store.new ≡ Some (after_changes told (Removes file.now ∷ []))) }
+    ensures does { IfSome (S.told store.old) (λ told. DoesEffect (codes "ok\n") (Removes file.now ∷ []) result told (S.told store.new) (O.taken out.old) (O.taken out.new)) }
+    ensures made { IfSome (S.told store.old) (λ told. IsLineObeyed result → S.told store.new ≡ Some (after_changes told (Removes file.now ∷ []))) }
     ensures genuine { IfSome (S.told store.old) (λ told. KeepsGenuine told.files → IfSome (S.told store.new) (λ now. KeepsGenuine now.files)) }
     ensures store { StoreCount (S.faults store.old) (S.faults store.new) result }
     ensures write { OutputCount (O.faults out.old) (O.faults out.new) result }

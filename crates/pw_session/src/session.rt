@@ -9,7 +9,7 @@ ghost use Rattle.pw_session_script.specs.Script.{NamesModule};
 ghost use Rattle.pw_session.specs.Changes.{MakesSome};
 ghost use Rattle.pw_session.specs.Session.{lines_limit};
 ghost use Rattle.pw_session.specs.Removals.{IsRemovedBy, MayRemove, MayRemoveFirst};
-ghost use Rattle.pw_session.specs.Outcomes.{EndsAs, EndsTurn, IsLastAnswer, IsReadAnswer, IsSessionAnswer, IsTaken, IsTurn, KeepsImage, LeavesScript, LeavesTurn, ObeysLine, ObeysSession, TakesTurn, image_view, end_answer, turn_answer, unread};
+ghost use Rattle.pw_session.specs.Outcomes.{EndsAs, EndsTurn, IsLastAnswer, IsReadAnswer, IsSessionAnswer, IsLineTaken, IsSessionTurn, KeepsImage, LeavesScript, LeavesTurn, ObeysLine, ObeysSession, TakesTurn, image_view, last_answer, turn_answer, unread};
 
 use crate::lines::obey_line;
 use crate::opts::SessionOpts;
@@ -63,7 +63,7 @@ fn obey_taken<S: Store, O: Sink>(
     ensures genuine { IfSome (S.told store.old) (λ told. KeepsGenuine told.files → IfSome (S.told store.new) (λ now. KeepsGenuine now.files)) }
     ensures store { StoreCount (S.faults store.old) (S.faults store.new) (turn_answer result) }
     ensures write { OutputCount (O.faults out.old) (O.faults out.new) (turn_answer result) }
-    ensures turn { IsTaken taken.now result }
+    ensures turn { IsLineTaken taken.now result }
 {
     match obey_line(alloc, store, out, opts, image, &taken.line) {
         Answer::Done => Turn::Obeyed(taken.length),
@@ -93,7 +93,7 @@ fn take_turn<S: Store, I: Source, O: Sink>(
     ensures store { StoreCount (S.faults store.old) (S.faults store.new) (turn_answer result) }
     ensures read { InputCount (I.faults input.old) (I.faults input.new) (turn_answer result) }
     ensures write { OutputCount (O.faults out.old) (O.faults out.new) (turn_answer result) }
-    ensures kind { IsTurn result }
+    ensures kind { IsSessionTurn result }
 {
     match next_line(alloc, input) {
         Ok(Some(taken)) => obey_taken(alloc, store, out, opts, image, &taken),
@@ -103,8 +103,8 @@ fn take_turn<S: Store, I: Source, O: Sink>(
 }
 
 /// The answer where no further line may stand, by the byte that stands there.
-fn end_answer(found: Option<u8>, offset: u64) -> Answer
-    ensures { result ≡ end_answer found offset }
+fn last_answer(found: Option<u8>, offset: u64) -> Answer
+    ensures { result ≡ last_answer found offset }
 {
     match found {
         None => Answer::Done,
@@ -121,7 +121,7 @@ fn last_turn<I: Source>(input: &mut I, offset: u64) -> Answer
     ensures kind { IsReadAnswer result }
 {
     match input.next() {
-        Ok(found) => end_answer(found, offset),
+        Ok(found) => last_answer(found, offset),
         Err(Failed) => Answer::ReadFault,
     }
 }

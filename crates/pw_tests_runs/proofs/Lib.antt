@@ -2,6 +2,8 @@ mod Stories
 mod Programs
 mod PlacedRows
 mod LineRows
+mod LinkRows
+mod PlaceRows
 mod LawfulRows
 mod LawRows
 mod JumpRows

@@ -16,7 +16,7 @@ use Rattle.pw_run_languages.specs.SelectionLaws.{line_program}
 use Rattle.pw_tests_runs.proofs.Stories.{story, globals_at}
 use Rattle.pw_tests_runs.proofs.Programs.{bumping, bump_directives, recursion, recursion_directives, starting, start_directives, nesting, nest_directives, pointing, pointing_directives}
 
-abbrev place : List ℕ → ℕ
+abbrev pub place : List ℕ → ℕ
 place name =
     if bytes_eq name (codes "$start") then 1 else if bytes_eq name (codes "main") then 2 else
     if bytes_eq name (codes "putchar") then 3 else if bytes_eq name (codes "exit") then 4 else
@@ -25,7 +25,7 @@ place name =
     if bytes_eq name (codes "g") then 7 else 8
 
 -- functions from 4352 on, each in 256 bytes; n at 8192, m at 8448; a stack of so many bytes from 16384 on
-abbrev addresses : ℕ → Addresses
+abbrev pub addresses : ℕ → Addresses
 addresses stack = record {
   named = λ name. 4096 + 256 * place name;
   routine = λ k. 7424;

@@ -1,5 +1,6 @@
--- Lawful, sound databases with webs exist: bump and main have one web, which main enters.
-use Rattle.std.specs.Prelude.{ℕ, ◌≡◌, ◌≢◌, ◌⊎◌, List, [], ◌∷◌, codes, Contains}
+-- Lawful, sound databases with webs exist: bump and main have one web, which main enters. The root of both is `$start`,
+-- which saves nothing for them, so that no register may be free; and main saves what bump may change.
+use Rattle.std.specs.Prelude.{ℕ, ◌≡◌, ◌≢◌, ◌⊎◌, List, [], ◌∷◌, map, codes, Contains}
 use Rattle.std.specs.List.{AllByRecursion}
 use Rattle.std.proofs.Common.{arith, subst, sym, ap, refl, ◌∙◌, inl, inr}
 use Rattle.pw_files.proofs.Standing.{Has, has_by, has_each}
@@ -9,11 +10,17 @@ use Rattle.pw_db.specs.declared.database.Role.{Role}
 use Rattle.pw_db.specs.declared.database.Role.TheVariants.{Entry, Member}
 use Rattle.pw_db.specs.declared.database.Directives.{Directives}
 use Rattle.pw_db.specs.Database.{IsDirectives, IsDatabase}
-use Rattle.pw_db_sound.specs.CallGraphs.{Node, Graph, Calls, Path, call, on, References}
-use Rattle.pw_db_sound.specs.Sound.{In, Needs, refers, keeps, Sound}
+use Rattle.pw_db_sound.specs.CallGraphs.{Node, Graph, Calls, Path, call, on, References, IsMovable, IsInner, RootOf, outer, of_callers}
+use Rattle.pw_db_sound.specs.Sound.{In, Needs, refers, keeps, IsFree, Sound}
 use Rattle.pw_db_sound.specs.Sound as sound
-use Rattle.pw_run_languages.specs.LawfulPrograms.{graph_of}
-use Rattle.pw_tests_runs.proofs.Programs.{bumping, bump_directives, web, only}
+use Rattle.pw_webflow.specs.Direction.{directed}
+use Rattle.pw_alloc.specs.declared.located.Located.{Located}
+use Rattle.pw_alloc.specs.Allocation.{allocated, entered_from}
+use Rattle.pw_run_languages.specs.Traces.{MayChange, member, free}
+use Rattle.pw_run_languages.specs.Calls.{Saves, AreGuarded}
+use Rattle.pw_run_languages.specs.LawfulPrograms.{node_of, graph_of}
+use Rattle.pw_run_languages.specs.Direction.{directed_by, directed_functions}
+use Rattle.pw_tests_runs.proofs.Programs.{bumping, bump, bump_main, start, bump_directives, web, only}
 use Rattle.pw_tests_runs.proofs.ProgramRows.{differ}
 
 abbrev bump_name : List ℕ
@@ -192,10 +199,11 @@ eligible_so : (w : Web) → w ≡ n_web → Contains graph.eligible (w.global, w
 unfolding graph_of
 eligible_so w e = subst (λ (w : Web). Contains graph.eligible (w.global, w.kind)) (sym e) (0, omega arith, refl)
 
-none_free : (f : List ℕ) (ds : Directives) → Contains bump_directives (f, ds) → ds.free ≡ []
-none_free f ds c =
-    let own : List ℕ × Directives = (f, ds) in
-    has_each (λ (x : List ℕ × Directives). x.1.free ≡ []) bump_directives own (refl, (refl, tt)) (has_by own bump_directives c)
+none_free : (f : List ℕ) (r : ℕ) → IsFree bump_directives f r → ⊥
+none_free f r i =
+    let own : List ℕ × Directives = (f, i.directives) in
+    let none = has_each (λ (x : List ℕ × Directives). x.1.free ≡ []) bump_directives own (refl, (refl, tt)) (has_by own bump_directives i.there) in
+    has_by r [] (subst (λ (rs : List ℕ). Contains rs r) none i.register)
 
 sound_database : Sound graph bump_directives
 sound_database = record {
@@ -207,5 +215,95 @@ sound_database = record {
   registers = λ w u f i j apart. absurd (apart ((seats w f i).0 ∙ sym (seats u f j).0));
   eligible = λ w f i. eligible_so w (seats w f i).0;
   writes = λ w f i written. ap (λ (w : Web). w.writes) (seats w f i).0;
-  free = none_free;
+  free = λ f r i. absurd (none_free f r i);
+  saves = λ f r i w has. absurd (has_by r [] i.register);
 }
+
+-- ---- roots
+
+main_calls_bump : Calls graph main_name bump_name
+unfolding graph_of
+main_calls_bump = record { node = node_of bumping bump_main; there = (1, omega arith, refl); name = refl; call = (0, omega arith, refl) }
+
+start_calls_main : Calls graph start_name main_name
+unfolding graph_of
+start_calls_main = record { node = node_of bumping start; there = (2, omega arith, refl); name = refl; call = (0, omega arith, refl) }
+
+bump_moves : IsMovable graph bump_name
+unfolding graph_of
+bump_moves = record { node = node_of bumping bump; there = (0, omega arith, refl); name = refl; defined = refl; taken = refl }
+
+main_moves : IsMovable graph main_name
+unfolding graph_of
+main_moves = record { node = node_of bumping bump_main; there = (1, omega arith, refl); name = refl; defined = refl; taken = refl }
+
+bump_inner : IsInner graph bump_name
+bump_inner = record {
+  movable = bump_moves;
+  other = differ bump_name start_name refl;
+  once = λ p. leaf_path bump_name bump_name (inl refl) p;
+  caller = main_name;
+  called = main_calls_bump;
+}
+
+main_inner : IsInner graph main_name
+main_inner = record {
+  movable = main_moves;
+  other = differ main_name start_name refl;
+  once = λ p. leaf_apart main_name main_name (differ bump_name main_name refl) (differ putchar_name main_name refl) (web_path main_name main_name (inr refl) p) refl;
+  caller = start_name;
+  called = start_calls_main;
+}
+
+start_root : RootOf graph start_name start_name
+start_root = outer start_name (λ i. i.other refl)
+
+main_root : RootOf graph main_name start_name
+main_root = of_callers main_name start_name main_inner (λ a c. subst (λ (n : List ℕ). RootOf graph n start_name) (sym (calls_main a main_name refl c)) start_root)
+
+bump_root : RootOf graph bump_name start_name
+bump_root = of_callers bump_name start_name bump_inner (λ a c. subst (λ (n : List ℕ). RootOf graph n start_name) (sym (calls_bump a bump_name refl c)) main_root)
+
+-- a register that nothing saves above may not be free
+abbrev freed : Directives
+freed = record { webs = []; free = 15 ∷ [] }
+
+free_unsound : Sound graph ((bump_name, freed) ∷ []) → ⊥
+free_unsound s =
+    let above = s.free bump_name 15 (record { directives = freed; there = (0, omega arith, refl); register = (0, omega arith, refl) }) in
+    has_by 15 [] above.saver.register
+
+-- ---- what bump may change, main saves
+
+abbrev functions : List Located
+functions = map allocated (directed_functions bumping bump_directives)
+
+main_saves : Saves functions main_name 3
+unfolding directed allocated entered_from
+main_saves = record { function = allocated (directed_by bump_directives bump_main); there = (1, omega arith, refl); named = refl; saved = (0, omega arith, refl) }
+
+saved_above : (a b : List ℕ) (r : ℕ) (w : Web) → IsSeat w b Member → w.reg ≡ r → Calls graph a b → Saves functions a r
+saved_above a b r w (e, inl s) is c =
+    let three : 3 ≡ r = sym (ap (λ (w : Web). w.reg) e) ∙ is in
+    subst (λ (n : List ℕ). Saves functions n r) (sym (calls_bump a b s.0 c)) (subst (λ (q : ℕ). Saves functions main_name q) three main_saves)
+saved_above a b r w (e, inr m) is c = absurd (no_entry_of_bump Member m.1 refl)
+
+guarded : AreGuarded graph bump_directives functions
+guarded a b r c (member m) = inr (saved_above a b r m.web (seat m.web b Member m.has) m.is c)
+guarded a b r c (free ds there k) = absurd (none_free b r (record { directives = ds; there = there; register = k }))
+
+-- where nothing is saved, main may change no more than it may otherwise
+main_keeps : (r : ℕ) → MayChange bump_directives main_name r → ⊥
+main_keeps r (member m) = elim (seat m.web main_name Member m.has).1 [
+  | inl b ↦ clash main_name bump_name main_name (differ bump_name main_name refl) b.0 refl
+  | inr m ↦ no_entry_of_bump Member m.1 refl
+]
+main_keeps r (free ds there k) = none_free main_name r (record { directives = ds; there = there; register = k })
+
+unguarded : AreGuarded graph bump_directives [] → ⊥
+unguarded g =
+    let has : sound.Has bump_directives bump_name n_web Member = record { directives = only n_web Member; there = (0, omega arith, refl); web = (0, omega arith, refl) } in
+    elim (g main_name bump_name 3 main_calls_bump (member (record { web = n_web; has = has; is = refl }))) [
+      | inl m ↦ main_keeps 3 m
+      | inr s ↦ has_by s.function [] s.there
+    ]

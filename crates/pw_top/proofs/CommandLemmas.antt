@@ -14,20 +14,20 @@ use Rattle.pw_top_answer.specs.declared.answer.Answer.{Answer}
 use Rattle.pw_top_answer.specs.declared.answer.Answer.TheVariants.{Usage, Refused, LinkRefused, ReadFault, WriteFault, StoreFault, NoMemory, BadFile}
 use Rattle.pw_top_answer.specs.Effects.{Effect, NamedFile, PutsFiles, answers_alone, prints}
 use Rattle.pw_top_answer.specs.Outcomes.{Answers, InputCount, IsLineDue, LeavesInput, LeavesStreams, OutputCount, PutsOut}
-use Rattle.pw_law_session.specs.Ends.{Ends}
-use Rattle.pw_law_session.specs.FromBuild.BuildFault.{BuildFault}
-use Rattle.pw_law_session.specs.FromBuilding.Building.{Outcome}
-use Rattle.pw_law_session.specs.FromDriving.Driving.{BuildEffect, IsBuildAnswer, built_effect}
-use Rattle.pw_law_session.specs.FromGo.FullBuild.{Build, full_build}
-use Rattle.pw_law_session.specs.FromGo.FullBuild as build
-use Rattle.pw_law_session.specs.FromGo.Going.{IsLineOf, IsNoUsage, build_effect, refused_line}
-use Rattle.pw_law_session.specs.FromCommands.Analysing.{AnalyseEffect, AnalyseOver, summaries_of}
-use Rattle.pw_law_session.specs.FromCommands.Linking.{LinkEffect, LinkOver, objects_of}
-use Rattle.pw_law_session.specs.FromCommands.Needed.{needed, needed_bytes}
-use Rattle.pw_law_session.specs.FromCommands.Outcome.{IsStoreAnswer, Obeys}
-use Rattle.pw_law_session.specs.FromCommands.Running.{IsRunOrStop, core_in, run_effect, runs}
-use Rattle.pw_law_session.specs.FromCommands.Showing.{DatabaseEffect, IsShowAnswer, ListEffect, ListOver, Shows, database_text, image_in, printed}
-use Rattle.pw_law_session.specs.FromSession.Bench.{BenchEffect}
+use Rattle.pw_go.specs.Ends.{EndsIn}
+use Rattle.pw_session.specs.FromBuild.BuildFault.{BuildFault}
+use Rattle.pw_session.specs.FromBuildFiles.Building.{Outcome}
+use Rattle.pw_session.specs.FromBuildFiles.Driving.{BuildEffect, IsBuildAnswer, built_effect}
+use Rattle.pw_go.specs.FullBuild.{Build, full_build}
+use Rattle.pw_go.specs.FullBuild as build
+use Rattle.pw_go.specs.Going.{IsLineOf, IsNoUsage, build_effect, refused_line}
+use Rattle.pw_commands.specs.Analysing.{AnalyseEffect, AnalyseOver, summaries_of}
+use Rattle.pw_commands.specs.Linking.{LinkEffect, LinkOver, objects_of}
+use Rattle.pw_commands.specs.Needed.{needed, needed_bytes}
+use Rattle.pw_commands.specs.Outcome.{IsStoreAnswer, Obeys}
+use Rattle.pw_commands.specs.Running.{IsRunOrStop, core_in, run_effect, runs}
+use Rattle.pw_commands.specs.Showing.{DatabaseEffect, IsShowAnswer, ListEffect, ListOver, Shows, database_text, image_in, printed}
+use Rattle.pw_session.specs.Bench.{BenchEffect}
 use Rattle.pw_top_words.specs.declared.commands.Command.{Command}
 use Rattle.pw_top_words.specs.declared.commands.Command.TheVariants.{Go, Build as BuildAll, Session, PhaseOne, Analyse, PhaseTwo, Link, Run, List as ListImage, Db, Bench}
 use Rattle.pw_commands_phases.specs.First.{EffectOfPhase, PhaseOneEffect, PhaseOneOver}
@@ -214,20 +214,20 @@ build_reads count _ h = refl
 -- ---- what each command leaves of the input is a rest of it
 
 abbrev pub RunsEnd : Type 0
-RunsEnd = (files : Files) (budget : ℕ) (input : List ℕ) → Ends input (run_effect files budget input).rest
+RunsEnd = (files : Files) (budget : ℕ) (input : List ℕ) → EndsIn input (run_effect files budget input).rest
 
 abbrev pub BuildsEnd : Type 0
-BuildsEnd = (built : Build) (budget : ℕ) (input : List ℕ) → Ends input (build_effect built budget input).rest
+BuildsEnd = (built : Build) (budget : ℕ) (input : List ℕ) → EndsIn input (build_effect built budget input).rest
 
-ends_itself : (input : List ℕ) → Ends input input
+ends_itself : (input : List ℕ) → EndsIn input input
 ends_itself input = ([], refl)
 
-left_all : (input : List ℕ) (e : Effect) → e.rest ≡ input → Ends input e.rest
-left_all input e h = subst (Ends input) (sym h) (ends_itself input)
+left_all : (input : List ℕ) (e : Effect) → e.rest ≡ input → EndsIn input e.rest
+left_all input e h = subst (EndsIn input) (sym h) (ends_itself input)
 
-pub comes_ends : RunsEnd → BuildsEnd → (command : Option Command) (files : Files) (input : List ℕ) (e : Effect) → Comes command files input e → Ends input e.rest
+pub comes_ends : RunsEnd → BuildsEnd → (command : Option Command) (files : Files) (input : List ℕ) (e : Effect) → Comes command files input e → EndsIn input e.rest
 comes_ends runs builds None files input e h = left_all input e (ap (λ (x : Effect). x.rest) h)
-comes_ends runs builds (Some (Go colours stack steps)) files input e h = subst (λ (x : Effect). Ends input x.rest) (sym h) (builds (full_build files) steps input)
+comes_ends runs builds (Some (Go colours stack steps)) files input e h = subst (λ (x : Effect). EndsIn input x.rest) (sym h) (builds (full_build files) steps input)
 comes_ends runs builds (Some (BuildAll colours stack)) files input e h = left_all input e (comes_rest files colours stack input e h)
 comes_ends runs builds (Some (Session colours stack steps)) files input e h = absurd h
 comes_ends runs builds (Some (Bench number colours stack steps)) files input e h = left_all input e (bench_prints number (opts_of colours stack steps) input e h).rest
@@ -235,7 +235,7 @@ comes_ends runs builds (Some (PhaseOne name)) files input e h = left_all input e
 comes_ends runs builds (Some (Analyse colours)) files input e h = left_all input e (analyse_quiet (summaries_of files) colours input e h).rest
 comes_ends runs builds (Some (PhaseTwo name)) files input e h = left_all input e (phase_two_quiet name (needed flow_at files (flow_name name)) (needed database_at files database_name) input e h).rest
 comes_ends runs builds (Some (Link stack)) files input e h = left_all input e (link_quiet (objects_of files) stack input e h).rest
-comes_ends runs builds (Some (Run steps)) files input e h = subst (λ (x : Effect). Ends input x.rest) (sym h) (runs files steps input)
+comes_ends runs builds (Some (Run steps)) files input e h = subst (λ (x : Effect). EndsIn input x.rest) (sym h) (runs files steps input)
 comes_ends runs builds (Some ListImage) files input e h = left_all input e (list_prints (image_in files) input e h).rest
 comes_ends runs builds (Some Db) files input e h = left_all input e (subst (Prints input) (sym h) (printed_prints (database_text files) input)).rest
 

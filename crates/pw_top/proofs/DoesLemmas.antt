@@ -7,9 +7,9 @@ use Rattle.pw_top_answer.specs.declared.answer.Answer.{Answer}
 use Rattle.pw_top_answer.specs.declared.answer.Answer.TheVariants.{Usage, ReadFault, WriteFault, StoreFault, NoMemory}
 use Rattle.pw_top_answer.specs.Effects.{Effect, NamedFile, PutsFiles, answers_alone}
 use Rattle.pw_top_answer.specs.Outcomes.{Answers, IsWhole, LeavesInput, PutsOut, WasReadInPart}
-use Rattle.pw_law_session.specs.Ends.{Ends}
-use Rattle.pw_law_session.specs.FromCommands.Outcome.{IsFound, Obeys}
-use Rattle.pw_law_session.specs.FromCommands.Showing.{Shows}
+use Rattle.pw_go.specs.Ends.{EndsIn}
+use Rattle.pw_commands.specs.Outcome.{IsFound, Obeys}
+use Rattle.pw_commands.specs.Showing.{Shows}
 use Rattle.pw_top.specs.Does.{Does}
 
 -- ---- nothing was put, put out or read
@@ -106,10 +106,10 @@ usage_does None rest taken = tt
 usage_does (Some t) None taken = tt
 usage_does (Some t) (Some input) taken = one_does (answers_alone Usage input) Usage t (Some t) input (Some input) taken taken refl (nothing_put Usage t (Some t) refl) (nothing_out Usage taken) (nothing_read Usage input)
 
-untouched_part : (wanted input : List ℕ) → Ends input wanted → WasReadInPart wanted input (Some input)
+untouched_part : (wanted input : List ℕ) → EndsIn input wanted → WasReadInPart wanted input (Some input)
 untouched_part wanted input e = ([], e.0, (refl, e.1))
 
-pub memory_here : (comes : Effect → Type 0) (told : Told) (input : List ℕ) (taken : Option (List ℕ)) → ((e : Effect) → comes e → Ends input e.rest) → Does comes NoMemory told (Some told) input (Some input) taken taken
+pub memory_here : (comes : Effect → Type 0) (told : Told) (input : List ℕ) (taken : Option (List ℕ)) → ((e : Effect) → comes e → EndsIn input e.rest) → Does comes NoMemory told (Some told) input (Some input) taken taken
 memory_here comes told input taken ends = record {
   answers = λ e d. tt;
   puts = λ e d. record { done = []; more = e.puts; split = refl; left = refl };

@@ -4,14 +4,14 @@ use Rattle.pw_value.specs.declared.fault.LinkFault.{LinkFault}
 use Rattle.pw_value.specs.declared.fault.LinkFault.TheVariants as link
 use Rattle.pw_top_answer.specs.declared.answer.Answer.{Answer}
 use Rattle.pw_top_answer.specs.declared.answer.Answer.TheVariants.{Refused, LinkRefused}
-use Rattle.pw_law_session.specs.FromGo.Refusals.{HoldsNoLinkWant, HoldsNoWantOfMemory}
-use Rattle.pw_law_session.specs.FromCommands.Outcome.{IsStoreAnswer}
-use Rattle.pw_law_session.specs.FromCommands.Running.{IsRunOrStop}
-use Rattle.pw_law_session.specs.FromCommands.Showing.{IsShowAnswer}
+use Rattle.pw_go.specs.Refusals.{HoldsNoLinkWant, HoldsNoWantOfMemory}
+use Rattle.pw_commands.specs.Outcome.{IsStoreAnswer}
+use Rattle.pw_commands.specs.Running.{IsRunOrStop}
+use Rattle.pw_commands.specs.Showing.{IsShowAnswer}
 use Rattle.pw_commands_phases.specs.Made.{IsPhaseAnswer}
-use Rattle.pw_law_session.specs.FromDriving.Driving.{IsBuildAnswer}
-use Rattle.pw_law_session.specs.FromSession.Bench.{IsBenchAnswer}
-use Rattle.pw_law_session.specs.FromSession.Outcomes.{IsSessionAnswer}
+use Rattle.pw_session.specs.FromBuildFiles.Driving.{IsBuildAnswer}
+use Rattle.pw_session.specs.Bench.{IsBenchAnswer}
+use Rattle.pw_session.specs.Outcomes.{IsSessionAnswer}
 
 link_proper : (fault : LinkFault) → fault ≢ link.NoMemory → HoldsNoLinkWant fault
 link_proper link.NoMemory h = h refl

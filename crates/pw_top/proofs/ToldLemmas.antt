@@ -8,16 +8,16 @@ use Rattle.pw_top_answer.specs.declared.answer.Answer.TheVariants.{Usage, Refuse
 use Rattle.pw_top_answer.specs.Answers.{line_text, NeedsMemory}
 use Rattle.pw_top_answer.specs.Effects.{Effect, NamedFile, PutsFiles, PutPrefix}
 use Rattle.pw_top_answer.specs.Outcomes.{Answers, InputCount, IsLineDue, LeavesInput, LeavesStreams, OutputCount, StoreCount, ToldAs, WasReadInPart}
-use Rattle.pw_law_session.specs.Ends.{Ends}
-use Rattle.pw_law_session.specs.FromCommands.Others.{KeepsOthers}
-use Rattle.pw_law_session.specs.FromGo.FullBuild as build
-use Rattle.pw_law_session.specs.FromGo.FullBuild.{Build, full_build}
-use Rattle.pw_law_session.specs.FromGo.Going.{AnswersBuild, ReturnsSum, build_effect}
-use Rattle.pw_law_session.specs.FromGo.Refusals.{HoldsNoWantOfMemory}
+use Rattle.pw_go.specs.Ends.{EndsIn}
+use Rattle.pw_commands.specs.Others.{KeepsOthers}
+use Rattle.pw_go.specs.FullBuild as build
+use Rattle.pw_go.specs.FullBuild.{Build, full_build}
+use Rattle.pw_go.specs.Going.{AnswersBuild, ReturnsSum, build_effect}
+use Rattle.pw_go.specs.Refusals.{HoldsNoWantOfMemory}
 use Rattle.pw_top_words.specs.declared.commands.Command.{Command}
 use Rattle.pw_top_words.specs.declared.commands.Command.TheVariants.{Go, Build as BuildAll, Session}
-use Rattle.pw_law_session.specs.FromDriving.Driving.{KeepsUnput, Unput}
-use Rattle.pw_law_session.specs.FromSession.Removals.{MayRemove}
+use Rattle.pw_session.specs.FromBuildFiles.Driving.{KeepsUnput, Unput}
+use Rattle.pw_session.specs.Removals.{MayRemove}
 use Rattle.pw_top.specs.Commands.{EndsScript, KeepsTheRest, files_put, opts_of}
 use Rattle.pw_top.specs.Does.{Does, DoesAs}
 use Rattle.pw_top.proofs.DoesLemmas.{memory_here, out_part}
@@ -58,10 +58,10 @@ puts_all (BadFile name at) files told new n h = record { done = files; more = []
 puts_all (BadScript at) files told new n h = record { done = files; more = []; split = sym (append-nil files); left = h }
 puts_all _ files told new n h = absurd n
 
-part_of_wanted : (input wanted : List ℕ) (new : Option (List ℕ)) → Ends input wanted → new ≡ Some wanted → WasReadInPart wanted input new
+part_of_wanted : (input wanted : List ℕ) (new : Option (List ℕ)) → EndsIn input wanted → new ≡ Some wanted → WasReadInPart wanted input new
 part_of_wanted input wanted new e h = let P : Option (List ℕ) → Type 0 = λ o. WasReadInPart wanted input o in subst P (sym h) (e.0, [], (e.1, refl))
 
-left_part : (input wanted : List ℕ) (new : Option (List ℕ)) (answer : Answer) → Ends input wanted → NeedsMemory answer → LeavesInput wanted input answer new → WasReadInPart wanted input new
+left_part : (input wanted : List ℕ) (new : Option (List ℕ)) (answer : Answer) → EndsIn input wanted → NeedsMemory answer → LeavesInput wanted input answer new → WasReadInPart wanted input new
 left_part input wanted new (Refused name refusal) e n h = part_of_wanted input wanted new e h
 left_part input wanted new (LinkRefused fault) e n h = part_of_wanted input wanted new e h
 left_part input wanted new (Halted halt at) e n h = part_of_wanted input wanted new e h
@@ -69,7 +69,7 @@ left_part input wanted new (BadFile name at) e n h = part_of_wanted input wanted
 left_part input wanted new (BadScript at) e n h = part_of_wanted input wanted new e h
 left_part input wanted new _ e n h = absurd n
 
-does_no_memory : (comes : Effect → Type 0) (answer : Answer) (told : Told) (new : Option Told) (input : List ℕ) (rest taken taken' : Option (List ℕ)) → ((e : Effect) → comes e → Ends input e.rest) → NeedsMemory answer
+does_no_memory : (comes : Effect → Type 0) (answer : Answer) (told : Told) (new : Option Told) (input : List ℕ) (rest taken taken' : Option (List ℕ)) → ((e : Effect) → comes e → EndsIn input e.rest) → NeedsMemory answer
     → Does comes answer told new input rest taken taken' → Does comes NoMemory told new input rest taken taken'
 does_no_memory comes answer told new input rest taken taken' ends n h = record {
   answers = λ e d. tt;

@@ -6,16 +6,16 @@ use Rattle.pw_store_modules.specs.Modules.{module_map}
 use Rattle.pw_top_answer.specs.declared.answer.Answer.{Answer}
 use Rattle.pw_top_answer.specs.declared.answer.Answer.TheVariants.{Done}
 use Rattle.pw_top_answer.specs.Effects.{Effect, PutsFiles, after_puts}
-use Rattle.pw_law_session.specs.FromBuild.BuildFault.{BuildFault}
-use Rattle.pw_law_session.specs.FromBuild.BuildFault.TheVariants as build
-use Rattle.pw_law_session.specs.FromBuilding.Building.{BuildOutcome, Outcome}
-use Rattle.pw_law_session.specs.FromBuilding.Genuine.{KeepsGenuine}
-use Rattle.pw_law_session.specs.FromBuilding.Outcomes.{fault_answer}
+use Rattle.pw_session.specs.FromBuild.BuildFault.{BuildFault}
+use Rattle.pw_session.specs.FromBuild.BuildFault.TheVariants as build
+use Rattle.pw_session.specs.FromBuildFiles.Building.{BuildOutcome, Outcome}
+use Rattle.pw_session.specs.FromBuildFiles.Genuine.{KeepsGenuine}
+use Rattle.pw_session.specs.FromBuildFiles.Outcomes.{fault_answer}
 use Rattle.pw_law_session.specs.FromBuildLaws.Whole.{HoldsFullBuild}
-use Rattle.pw_law_session.specs.FromDriving.Driving.{BuildEffect, built_effect}
+use Rattle.pw_session.specs.FromBuildFiles.Driving.{BuildEffect, built_effect}
 use Rattle.pw_top_words.specs.declared.commands.Command.{Command}
 use Rattle.pw_law_session.specs.Full.{SessionBuildsInFull}
-use Rattle.pw_law_session.specs.FromSession.SessionOpts.{SessionOpts}
+use Rattle.pw_session.specs.declared.opts.SessionOpts.{SessionOpts}
 use Rattle.pw_top_words.specs.declared.commands.Command.TheVariants.{Build as BuildAll, Session}
 use Rattle.pw_top.specs.Commands.{BuildsWhole, IfDone, opts_of}
 use Rattle.pw_top.specs.Does.{Does, DoesAs}

@@ -5,18 +5,18 @@ use Rattle.pw_store_modules.specs.FileNames.{database_name, image_name}
 use Rattle.pw_top_answer.specs.declared.answer.Answer.{Answer}
 use Rattle.pw_top_answer.specs.declared.answer.Answer.TheVariants.{Done}
 use Rattle.pw_store_modules.specs.Modules.{module_map, modules_of}
-use Rattle.pw_law_session.specs.FromBuild.Phases as phases
-use Rattle.pw_law_session.specs.FromGo.FullBuild.{full_build}
-use Rattle.pw_law_session.specs.FromGo.Going.{refused_line}
-use Rattle.pw_law_session.specs.FromCommands.Others.{KeepsOthers}
-use Rattle.pw_law_session.specs.FromBuilding.Genuine.{KeepsGenuine}
+use Rattle.pw_session.specs.FromBuild.Phases as phases
+use Rattle.pw_go.specs.FullBuild.{full_build}
+use Rattle.pw_go.specs.Going.{refused_line}
+use Rattle.pw_commands.specs.Others.{KeepsOthers}
+use Rattle.pw_session.specs.FromBuildFiles.Genuine.{KeepsGenuine}
 use Rattle.pw_law_session.specs.FromBuildLaws.Whole.{HoldsFullBuild}
-use Rattle.pw_law_session.specs.FromSession.SessionOpts.{SessionOpts}
-use Rattle.pw_law_session.specs.FromSession.Bench.{bench_files}
-use Rattle.pw_law_session.specs.FromSession.Changes.{MakesSome}
-use Rattle.pw_law_session.specs.FromSession.Outcomes.{EndsAs}
-use Rattle.pw_law_session.specs.FromSession.Removals.{MayRemove}
-use Rattle.pw_law_session.specs.FromDriving.Driving.{KeepsUnput}
+use Rattle.pw_session.specs.declared.opts.SessionOpts.{SessionOpts}
+use Rattle.pw_session.specs.Bench.{bench_files}
+use Rattle.pw_session.specs.Changes.{MakesSome}
+use Rattle.pw_session.specs.Outcomes.{EndsAs}
+use Rattle.pw_session.specs.Removals.{MayRemove}
+use Rattle.pw_session.specs.FromBuildFiles.Driving.{KeepsUnput}
 use Rattle.pw_law_session.specs.Full.{SessionBuildsInFull}
 use Rattle.pw_top.specs.Rest.{LeavesRest}
 use Rattle.pw_commands_phases.specs.First.{phase_line, phase_one_puts}

@@ -6,19 +6,19 @@ use Rattle.pw_top_answer.specs.declared.answer.Answer.{Answer}
 use Rattle.pw_top_answer.specs.declared.answer.Answer.TheVariants.{Usage}
 use Rattle.pw_top_answer.specs.Effects.{Effect, PutsFiles, answers_alone}
 use Rattle.pw_top_answer.specs.Outcomes.{Answers, LeavesInput, PutsOut}
-use Rattle.pw_law_session.specs.FromGo.FullBuild.{full_build}
-use Rattle.pw_law_session.specs.FromGo.Going.{build_effect}
-use Rattle.pw_law_session.specs.FromCommands.Analysing.{AnalyseEffect}
-use Rattle.pw_law_session.specs.FromCommands.Linking.{LinkEffect}
-use Rattle.pw_law_session.specs.FromCommands.Outcome.{IsFound}
-use Rattle.pw_law_session.specs.FromCommands.Running.{run_effect}
-use Rattle.pw_law_session.specs.FromCommands.Showing.{DatabaseEffect, ListEffect}
+use Rattle.pw_go.specs.FullBuild.{full_build}
+use Rattle.pw_go.specs.Going.{build_effect}
+use Rattle.pw_commands.specs.Analysing.{AnalyseEffect}
+use Rattle.pw_commands.specs.Linking.{LinkEffect}
+use Rattle.pw_commands.specs.Outcome.{IsFound}
+use Rattle.pw_commands.specs.Running.{run_effect}
+use Rattle.pw_commands.specs.Showing.{DatabaseEffect, ListEffect}
 use Rattle.pw_commands_phases.specs.First.{PhaseOneEffect}
 use Rattle.pw_commands_phases.specs.Second.{PhaseTwoEffect}
-use Rattle.pw_law_session.specs.FromDriving.Driving.{BuildEffect}
-use Rattle.pw_law_session.specs.FromSession.SessionOpts.{SessionOpts}
-use Rattle.pw_law_session.specs.FromSession.Bench.{BenchEffect}
-use Rattle.pw_law_session.specs.FromSession.Outcomes.{LeavesScript, ObeysSession}
+use Rattle.pw_session.specs.FromBuildFiles.Driving.{BuildEffect}
+use Rattle.pw_session.specs.declared.opts.SessionOpts.{SessionOpts}
+use Rattle.pw_session.specs.Bench.{BenchEffect}
+use Rattle.pw_session.specs.Outcomes.{LeavesScript, ObeysSession}
 use Rattle.pw_top_words.specs.declared.commands.Command.{Command}
 use Rattle.pw_top_words.specs.declared.commands.Command.TheVariants.{Go, Build, Session, PhaseOne, Analyse, PhaseTwo, Link, Run, List as ListImage, Db, Bench}
 use Rattle.pw_top.specs.Commands.{opts_of}

@@ -3,10 +3,10 @@ use Rattle.std.specs.Prelude.{ℕ, List, Option, IfSome}
 use Rattle.pw_io.specs.Files.{Told, Keeps}
 use Rattle.pw_top_answer.specs.declared.answer.Answer.{Answer}
 use Rattle.pw_top_answer.specs.Outcomes.{InputCount, IsLineDue, LeavesStreams, OutputCount, StoreCount}
-use Rattle.pw_law_session.specs.FromGo.FullBuild.{full_build}
-use Rattle.pw_law_session.specs.FromGo.Going.{AnswersBuild}
-use Rattle.pw_law_session.specs.FromGo.Refusals.{HoldsNoWantOfMemory}
-use Rattle.pw_law_session.specs.FromBuilding.Genuine.{KeepsGenuine}
+use Rattle.pw_go.specs.FullBuild.{full_build}
+use Rattle.pw_go.specs.Going.{AnswersBuild}
+use Rattle.pw_go.specs.Refusals.{HoldsNoWantOfMemory}
+use Rattle.pw_session.specs.FromBuildFiles.Genuine.{KeepsGenuine}
 use Rattle.pw_top_words.specs.declared.commands.Command.{Command}
 use Rattle.pw_top.specs.Commands.{EndsScript, IsGo, IsNoSession, KeepsTheRest, OnlyReads, line_of}
 use Rattle.pw_top.specs.Does.{DoesAs}

@@ -4,24 +4,26 @@ ghost use Rattle.std.specs.Prelude.{◌≡◌, ◌⊎◌, ℕ, IfSome, List, Non
 ghost use Rattle.pw_io.specs.Files.{Keeps};
 ghost use Rattle.pw_top_answer.specs.Answers.{line_text};
 ghost use Rattle.pw_top_answer.specs.Outcomes.{InputCount, LeavesStreams, OutputCount, StoreCount, Tells, TellsSome};
-ghost use Rattle.pw_law_session.specs.FromGo.FullBuild.{full_build};
-ghost use Rattle.pw_law_session.specs.FromGo.Going.{AnswersBuild, BuiltAgrees, IsNoUsage, ReturnsSum};
-ghost use Rattle.pw_law_session.specs.FromGo.Refusals.{HoldsNoWantOfMemory, AnswersNoMain, NoMainIs, AnswersRefusal, RefusalIs};
+ghost use Rattle.pw_go.specs.FullBuild.{full_build};
+ghost use Rattle.pw_go.specs.Going.{AnswersBuild, BuiltAgrees, IsNoUsage, ReturnsSum};
+ghost use Rattle.pw_go.specs.Refusals.{HoldsNoWantOfMemory, AnswersNoMain, NoMainIs, AnswersRefusal, RefusalIs};
 ghost use Rattle.pw_store_modules.specs.Modules.{modules_of};
-ghost use Rattle.pw_law_session.specs.FromBuilding.Genuine.{KeepsGenuine};
+ghost use Rattle.pw_session.specs.FromBuildFiles.Genuine.{KeepsGenuine};
 ghost use Rattle.pw_top.specs.Commands.{BuildsWhole, EndsScript, IsGo, IsNoSession, KeepsTheRest, OnlyReads, is_builder, is_phase, is_reader, line_of, opts_of};
 ghost use Rattle.pw_top.specs.Does.{DoesAs};
 ghost use Rattle.pw_top.specs.Obeying.{CarriesOut, outside_of};
 ghost use Rattle.pw_top_words.specs.CommandLine.{command_of};
 ghost use Rattle.pw_top_words.specs.Limits.{IsWithin};
 
+use pw_commands::{analyse_modules, link_modules, list_image, run_image, show_database};
 use pw_commands_phases::{compile_flow, compile_text};
+use pw_go::go;
+use pw_go::laws::{builds_agree, refusals_are_due, runs_leave_an_end};
 use pw_io::laws::other_files;
 use pw_io::{Sink, Source, Store};
-use pw_law_session::{
-    Opts, SessionOpts, a_build_leaves_the_whole_program, analyse_modules, bench, build_modules,
-    builds_agree, genuine_files_keep_genuine, go, link_modules, list_image, refusals_are_due,
-    run_image, run_session, runs_leave_an_end, sessions_build_in_full, show_database,
+use pw_law_session::{a_build_leaves_the_whole_program, sessions_build_in_full};
+use pw_session::{
+    Opts, SessionOpts, bench, build_modules, genuine_files_keep_genuine, run_session,
 };
 use pw_top_answer::{Answer, Reply, tell};
 use pw_top_words::laws::commands_are_within;

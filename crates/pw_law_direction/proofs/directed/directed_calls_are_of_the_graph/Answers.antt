@@ -1,5 +1,5 @@
 use Rattle.pw_run_languages.specs.LawfulPrograms.{graph_of}
-use Rattle.pw_law_direction.specs.DirectedLaws.{FollowsCalls}
+use Rattle.pw_run_languages.specs.Calls.{FollowsCalls}
 use Rattle.pw_law_direction.proofs.Following.{follows, last_follows}
 use Rattle.pw_law_direction.proofs.Running.{run_notes}
 use Rattle.pw_law_direction.proofs.directed.directed_calls_are_of_the_graph.Goals as goal

@@ -9,5 +9,6 @@ returns c = λ p input ok.
     record {
       runs = refines p ok (λ i n m e. c.directed_values_are_fine.ensures p [] i ok n m e) input;
       registers = c.directed_runs_keep_registers.ensures p [] input ok (record { functions = tt; directives = tt; agree = tt }) sound;
+      calls = c.directed_calls_are_of_the_graph.ensures p [] input ok;
       traffic = c.directed_runs_obey_traffic.ensures p [] input ok (record { functions = tt; directives = tt; agree = tt }) sound;
     }

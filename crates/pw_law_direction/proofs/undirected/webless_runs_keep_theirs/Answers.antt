@@ -13,5 +13,6 @@ returns c = λ p d input ok base none.
     record {
       runs = subst (λ run. Refines (MomentAlike p) (flow_run p input) (calls_of run)) (same_run p d input base none) (c.undirected_runs_keep_theirs.ensures p input ok).runs;
       registers = c.directed_runs_keep_registers.ensures p d input ok base sound;
+      calls = c.directed_calls_are_of_the_graph.ensures p d input ok;
       traffic = c.directed_runs_obey_traffic.ensures p d input ok base sound;
     }

@@ -1,5 +1,5 @@
 use Rattle.std.proofs.Common.{[]}
-use Rattle.pw_law_session.specs.FromSession.Removals.{MayRemove}
+use Rattle.pw_session.specs.Removals.{MayRemove}
 use Rattle.pw_top.proofs.CommandLemmas.{build_does, build_no_usage, build_reads, go_does, go_line, kept_alone, of_go, of_other, plain_line}
 use Rattle.pw_top.proofs.GenuineLemmas.{genuine_alone, kept_others, others_alone, stays_genuine}
 use Rattle.pw_top.proofs.ProperLemmas.{bench_proper, build_proper, session_proper}

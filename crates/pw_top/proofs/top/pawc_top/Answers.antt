@@ -2,9 +2,9 @@ use Rattle.std.proofs.Common.{◌≡◌, ℕ, List, map}
 use Rattle.std.specs.Prelude.{None, string_bytes}
 use Rattle.pw_store_modules.specs.Modules.{modules_of}
 use Rattle.pw_top_answer.specs.Outcomes.{Tells}
-use Rattle.pw_law_session.specs.FromGo.FullBuild.{full_build}
-use Rattle.pw_law_session.specs.FromGo.Going.{BuiltAgrees}
-use Rattle.pw_law_session.specs.FromGo.Refusals.{AnswersNoMain, NoMainIs, AnswersRefusal, RefusalIs}
+use Rattle.pw_go.specs.FullBuild.{full_build}
+use Rattle.pw_go.specs.Going.{BuiltAgrees}
+use Rattle.pw_go.specs.Refusals.{AnswersNoMain, NoMainIs, AnswersRefusal, RefusalIs}
 use Rattle.pw_top_words.specs.CommandLine.{command_of}
 use Rattle.pw_top.specs.Commands.{IsGo, IsNoSession, line_of}
 use Rattle.pw_top.proofs.ToldLemmas.{by_law, ends_told, input_told, of_files, output_told, rest_told, returns_sum, store_told, streams_told, told_does, told_line, told_proper, told_refuses, usage_comes, usage_is}

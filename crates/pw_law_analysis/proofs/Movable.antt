@@ -1,0 +1,119 @@
+-- The functions that may be moved are the same by summaries and by flow graphs.
+use Rattle.std.proofs.Common.{◌≡◌, ℕ, Bool, true, false, List, map, length, refl, sym, ap, subst, ◌∙◌}
+use Rattle.std.specs.List.{flat_map, list_any}
+use Rattle.std.specs.Str.{bytes_eq}
+use Rattle.std.proofs.lemmas.Slice.Eq.{bytes_eq-Decides}
+use Rattle.pw_value.specs.ProgramNames.{library_functions}
+use Rattle.pw_flow.specs.declared.flow.FlowFn.{FlowFn}
+use Rattle.pw_flow.specs.declared.flow.FlowModule.{FlowModule}
+use Rattle.pw_run_languages.specs.Programs.{functions_of}
+use Rattle.pw_cmean.specs.Worlds.{Program}
+use Rattle.pw_files.proofs.Standing.{Has, has_by, contains_by, has_right, has_map, has_map_back, has_flat, has_flat_back}
+use Rattle.pw_summary.specs.declared.summary.Summary.{Summary}
+use Rattle.pw_summarise.specs.Summarises.{function_entry, function_entries}
+use Rattle.pw_graph.specs.declared.graph.CallGraph.{CallGraph}
+use Rattle.pw_graph.specs.Program.{IsTaken, IsGraphOf}
+use Rattle.pw_graph.specs.Program as summaries
+use Rattle.pw_db_sound.specs.CallGraphs.{Node, IsMovable}
+use Rattle.pw_run_languages.specs.LawfulPrograms.{has_name, taken_names, node_of, graph_of}
+use Rattle.pw_law_layers.specs.Lowering.{flow_program, IsAccepted}
+use Rattle.pw_law_analysis.specs.SummaryGraphs.{AllSummarise, is_among, name_at, node_at, nodes_from, named_graph}
+use Rattle.pw_law_analysis.proofs.Lists.{clash, any_has, has_any, named_has, has_named}
+use Rattle.pw_law_analysis.proofs.Addresses.{taken_in, summary_of, module_of, taken_addressed, function_taken}
+use Rattle.pw_law_analysis.proofs.Places.{node_back, name_of, place_of, there_at}
+use Rattle.pw_law_analysis.proofs.Shapes.{function_listed}
+
+-- ---- names among entries
+
+not_so : (b : Bool) → (b ≡ true → ⊥) → b ≡ false
+not_so true never = absurd (never refl)
+not_so false never = refl
+
+abbrev named : List (List ℕ × List ℕ) → List (List ℕ)
+named entries = map (λ e. e.0) entries
+
+among : (entries : List (List ℕ × List ℕ)) (name : List ℕ) → is_among entries name ≡ true → Has name (named entries)
+among entries name e =
+    let r = any_has (λ (x : List ℕ × List ℕ). bytes_eq x.0 name) entries e in
+    subst (λ (n : List ℕ). Has n (named entries)) ((bytes_eq-Decides r.0.0 name).0 r.2) (has_map (λ (x : List ℕ × List ℕ). x.0) r.0 entries r.1)
+
+to_among : (entries : List (List ℕ × List ℕ)) (name : List ℕ) → Has name (named entries) → is_among entries name ≡ true
+to_among entries name h =
+    let r = has_map_back (λ (x : List ℕ × List ℕ). x.0) name entries h in
+    has_any (λ (x : List ℕ × List ℕ). bytes_eq x.0 name) entries r.0 r.1 ((bytes_eq-Decides r.0.0 name).1 r.2)
+
+-- ---- what nodes say of summaries
+
+abbrev is_defined : List Summary → List ℕ → Bool
+is_defined ss name = list_any (λ s. is_among s.functions name) ss
+
+abbrev is_addressed : List Summary → List ℕ → Bool
+is_addressed ss name = list_any (λ s. is_among s.taken name) ss
+
+taken_seen : (ss : List Summary) (name : List ℕ) → IsTaken ss name → is_addressed ss name ≡ true
+taken_seen ss name t =
+    has_any (λ (s : Summary). is_among s.taken name) ss t.summary (has_by t.summary ss t.stands) (to_among t.summary.taken name (has_by name (named t.summary.taken) t.taken))
+
+seen_taken : (ss : List Summary) (name : List ℕ) → is_addressed ss name ≡ true → IsTaken ss name
+seen_taken ss name e =
+    let s = any_has (λ (s : Summary). is_among s.taken name) ss e in
+    record { summary = s.0; stands = contains_by s.0 ss s.1; taken = contains_by name (named s.0.taken) (among s.0.taken name s.2) }
+
+-- ---- both ways
+
+module _ (p : Program) (frame_of : List ℕ → ℕ) (stack : ℕ) (accepted : IsAccepted p frame_of stack) (ss : List Summary) (all : AllSummarise (flow_program p frame_of stack).modules ss) where
+  pub is_taken : (name : List ℕ) → IsTaken ss name → has_name (taken_names (flow_program p frame_of stack)) name ≡ true
+  is_taken name t =
+      let q = flow_program p frame_of stack in
+      let m = taken_addressed q.modules ss all name t in
+      has_named (taken_names q) name (taken_in q m.0 name m.1 m.2)
+
+  pub movable_to : (g : CallGraph) → IsGraphOf ss g → (f : List ℕ) → IsMovable (named_graph ss g) f → IsMovable (graph_of (flow_program p frame_of stack)) f
+  unfolding named_graph graph_of
+  movable_to g is f m =
+      let q = flow_program p frame_of stack in
+      let n = node_back ss g is 0 (length g.functions) m.node (has_by m.node (nodes_from ss g 0 (length g.functions)) m.there) in
+      let name : name_at g n.0 ≡ f = ap (λ (x : Node). x.name) n.2 ∙ m.name in
+      let defined : is_defined ss f ≡ true = subst (λ (k : List ℕ). is_defined ss k ≡ true) name (ap (λ (x : Node). x.defined) n.2 ∙ m.defined) in
+      let untaken : is_addressed ss f ≡ false = subst (λ (k : List ℕ). is_addressed ss k ≡ false) name (ap (λ (x : Node). x.taken) n.2 ∙ m.taken) in
+      let s = any_has (λ (s : Summary). is_among s.functions f) ss defined in
+      let h = has_map_back (λ (x : List ℕ × List ℕ). x.0) f s.0.functions (among s.0.functions f s.2) in
+      let own = module_of q.modules ss all s.0 s.1 in
+      let e = has_map_back function_entry h.0 own.0.functions (has_by h.0 (function_entries own.0) ((own.2.functions.of h.0).0 (contains_by h.0 s.0.functions h.1))) in
+      let there : Has e.0 (functions_of q) = has_flat (λ (m : FlowModule). m.functions) own.0 e.0 q.modules own.1 e.1 in
+      let same : e.0.name ≡ f = ap (λ (x : List ℕ × List ℕ). x.0) e.2 ∙ h.2 in
+      let names = map (λ (f : FlowFn). f.name) (functions_of q) in
+      let listed = has_right f library_functions names (subst (λ (n : List ℕ). Has n names) same (has_map (λ (f : FlowFn). f.name) e.0 (functions_of q) there)) in
+      record {
+        node = node_of q e.0;
+        there = contains_by (node_of q e.0) (map (node_of q) (functions_of q)) (has_map (node_of q) e.0 (functions_of q) there);
+        name = same;
+        defined = refl;
+        taken = not_so (has_name (taken_names q) e.0.name) (λ t.
+            let addressed : has_name (taken_names q) f ≡ true = subst (λ (n : List ℕ). has_name (taken_names q) n ≡ true) same t in
+            clash (is_addressed ss f) (taken_seen ss f (function_taken p frame_of stack accepted ss all f listed (named_has (taken_names q) f addressed))) untaken);
+      }
+
+  pub movable_from : (g : CallGraph) → IsGraphOf ss g → (f : List ℕ) → IsMovable (graph_of (flow_program p frame_of stack)) f → IsMovable (named_graph ss g) f
+  unfolding named_graph graph_of
+  movable_from g is f m =
+      let q = flow_program p frame_of stack in
+      let x = has_map_back (node_of q) m.node (functions_of q) (has_by m.node (map (node_of q) (functions_of q)) m.there) in
+      let name : x.0.name ≡ f = ap (λ (n : Node). n.name) x.2 ∙ m.name in
+      let untaken : has_name (taken_names q) f ≡ false = subst (λ (k : List ℕ). has_name (taken_names q) k ≡ false) name (ap (λ (n : Node). n.taken) x.2 ∙ m.taken) in
+      let home = has_flat_back (λ (m : FlowModule). m.functions) x.0 q.modules x.1 in
+      let s = summary_of q.modules ss all home.0 home.1 in
+      let own = has_by (function_entry x.0) s.0.functions ((s.2.functions.of (function_entry x.0)).1 (contains_by (function_entry x.0) (function_entries home.0) (has_map function_entry x.0 home.0.functions home.2))) in
+      let entered : Has f (named s.0.functions) = subst (λ (n : List ℕ). Has n (named s.0.functions)) name (has_map (λ (e : List ℕ × List ℕ). e.0) (function_entry x.0) s.0.functions own) in
+      let listed = subst (λ (n : List ℕ). Has n (named (summaries.functions_of ss))) name
+      (has_map (λ (e : List ℕ × List ℕ). e.0) (function_entry x.0) (summaries.functions_of ss) (function_listed q accepted.program ss all x.0 x.1)) in
+      let i = place_of ss g is f listed in
+      let at : name_at g i.0 ≡ f = name_of ss g is i.0 f i.1 in
+      record {
+        node = node_at ss g i.0;
+        there = there_at ss g is i.0 f i.1;
+        name = at;
+        defined = subst (λ (k : List ℕ). is_defined ss k ≡ true) (sym at) (has_any (λ (s : Summary). is_among s.functions f) ss s.0 s.1 (to_among s.0.functions f entered));
+        taken = subst (λ (k : List ℕ). is_addressed ss k ≡ false) (sym at)
+            (not_so (is_addressed ss f) (λ t. clash (has_name (taken_names q) f) (is_taken f (seen_taken ss f t)) untaken));
+      }

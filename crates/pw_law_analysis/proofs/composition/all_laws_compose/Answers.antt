@@ -1,5 +1,0 @@
-use Rattle.pw_law_analysis.proofs.Joined.{joined}
-use Rattle.pw_law_analysis.proofs.composition.all_laws_compose.Goals as goal
-
-pub returns : goal.returns
-returns c = joined c.layers_compose.ensures c.analyses_compose.ensures

@@ -1,6 +1,0 @@
--- What is left of a list once a prefix of it is gone.
-use Rattle.std.specs.Prelude.{◌≡◌, ℕ, List, ◌++◌}
-
--- the second list is what is left of the first behind some prefix
-abbrev pub Ends : List ℕ → List ℕ → Type 0
-Ends whole left = (front : List ℕ) × (whole ≡ front ++ left)

@@ -1,2 +1,0 @@
--- The definitions of pw_session that crates above name.
-pub use Rattle.pw_session.specs.FromDriving.Driving
