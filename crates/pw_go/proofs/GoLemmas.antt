@@ -1,39 +1,235 @@
--- What a build leaves of the streams.
-use Rattle.std.proofs.Common.{ℕ, List, Option, Some, None}
+-- What `go` did, by what its build did and by the run of the image.
+use Rattle.std.proofs.Common.{◌≡◌, ℕ, List, [], Option, Some, None, Result, Ok, Err, refl, sym, ap, subst, append-nil}
 use Rattle.std.specs.Prelude.{IfSome}
-use Rattle.pw_io.specs.Files.{Told}
+use Rattle.pw_io.specs.Files.{Files, Told}
+use Rattle.pw_image.specs.declared.image.Image.{Image}
+use Rattle.pw_image.specs.Image.{Contents, IsImageFile}
+use Rattle.pw_machine.specs.Start.{image_start}
 use Rattle.pw_top_answer.specs.declared.answer.Answer.{Answer}
-use Rattle.pw_top_answer.specs.declared.answer.Answer.TheVariants.{Usage, Refused, LinkRefused, StoreFault, BadFile}
-use Rattle.pw_top_answer.specs.Outcomes.{WasReadInPart, LeavesStreams}
-use Rattle.pw_go_sum.specs.Code.{words_of}
-use Rattle.pw_go_sum.specs.Built.{start_of}
-use Rattle.pw_commands.proofs.RunLemmas.{Ends, ends_itself, run_ends, untouched}
-use Rattle.pw_commands.specs.MachineRun.{IsRunAnswer}
-use Rattle.pw_go.specs.FullBuild as build
-use Rattle.pw_go.specs.FullBuild.{Build, full_build}
-use Rattle.pw_go.specs.Going.{IsNoUsage, IsObeyed, run_built, build_effect}
+use Rattle.pw_top_answer.specs.declared.answer.Answer.TheVariants as answer
+use Rattle.pw_top_answer.specs.Effects.{Effect, PutsFiles, NamedFile, after_puts, answers_alone}
+use Rattle.pw_top_answer.specs.Outcomes.{Answers, InputCount, IsLineDue, IsNoRefusal, LeavesInput, LeavesStreams, PutsOut, StoreCount, WasReadInPart}
+use Rattle.pw_commands.specs.MachineRun.{IsRunAnswer, started}
+use Rattle.pw_commands.specs.Outcome.{IsFound, Obeys}
+use Rattle.pw_commands.proofs.RunLemmas.{Ends, ends_itself, run_ends}
+use Rattle.pw_build_files.specs.FromBuild.BuildFault.{BuildFault}
+use Rattle.pw_build_files.specs.FromBuild.BuildFault.TheVariants as build
+use Rattle.pw_build_files.specs.FromBuild.Unbuilt.{Unbuilt}
+use Rattle.pw_build_files.specs.declared.report.Opts.{Opts}
+use Rattle.pw_build_files.specs.declared.report.Report.{Report}
+use Rattle.pw_build_files.specs.Building.{BuildOutcome, Outcome, puts_of}
+use Rattle.pw_build_files.specs.Outcomes.{AnswersFault, FaultFound, HoldsImage, IsNoWant, ObeysBuild, fault_answer}
+use Rattle.pw_go.specs.Going.{AnswersComes, GoEffect, GoOver, IsGoAnswer, RunsImage, ran_behind, run_from}
+use Rattle.pw_go.proofs.RunLemmas.{appends_none, none_out}
 
--- a run leaves the streams as it likes
-pub run_leaves : (answer : Answer) (input input' output output' : Option (List ℕ)) → IsRunAnswer answer → LeavesStreams answer input input' output output'
-run_leaves Usage input input' output output' h = absurd h
-run_leaves (Refused name refusal) input input' output output' h = absurd h
-run_leaves (LinkRefused fault) input input' output output' h = absurd h
-run_leaves (BadFile name at) input input' output output' h = absurd h
-run_leaves StoreFault input input' output output' h = absurd h
-run_leaves _ input input' output output' h = tt
+-- ---- what the command comes to
 
--- what a build leaves of the input is a rest of it
-pub build_leaves : (built : Build) (budget : ℕ) (input : List ℕ) → Ends input (build_effect built budget input).rest
-unfolding run_built
-build_leaves (build.Program numbers) budget input = run_ends (start_of (words_of numbers) input) budget
-build_leaves (build.Refused name refusal line) budget input = ends_itself input
-build_leaves (build.LinkRefused fault) budget input = ends_itself input
+-- what it leaves of the input is a rest of it
+over_ends : (budget : ℕ) (input : List ℕ) (comes : Result Outcome BuildFault) (e : Effect) → GoOver budget input comes e → Ends input e.rest
+over_ends budget input (Ok outcome) e h = subst (λ (x : Effect). Ends input x.rest) (sym h.2) (run_ends (started (image_start h.0.value.memory) input) budget)
+over_ends budget input (Err fault) e h = subst (λ (x : Effect). Ends input x.rest) (sym h) (ends_itself input)
 
--- an input that was left alone, whatever the store's files come to
-pub told_untouched : (told : Option Told) (budget : ℕ) (rest : Option (List ℕ)) → IfSome told (λ t. IfSome rest (λ input. WasReadInPart (build_effect (full_build t.files) budget input).rest input rest))
-told_untouched None budget rest = tt
-told_untouched (Some t) budget rest = untouched rest (λ input. (build_effect (full_build t.files) budget input).rest) (λ input. build_leaves (full_build t.files) budget input)
+pub go_ends : (files : Files) (colours stack budget : ℕ) (input : List ℕ) (e : Effect) → GoEffect files colours stack budget input e → Ends input e.rest
+go_ends files colours stack budget input e d = over_ends budget input d.0 e d.2
 
-pub obeyed_is_no_usage : (answer : Answer) → IsObeyed answer → IsNoUsage answer
-obeyed_is_no_usage Usage h = absurd h
-obeyed_is_no_usage _ h = tt
+puts_are : (budget : ℕ) (input : List ℕ) (comes : Result Outcome BuildFault) (e : Effect) → GoOver budget input comes e → puts_of comes ≡ e.puts
+puts_are budget input (Ok outcome) e h = sym (ap (λ (x : Effect). x.puts) h.2)
+puts_are budget input (Err fault) e h = sym (ap (λ (x : Effect). x.puts) h)
+
+-- ---- a build that was done, and the run of its image
+
+-- what the command comes to is the run of an image in the file that was built, behind the puts of what was put
+the_run : (opts : Opts) (report : Report) (told : Told) (new : Option Told) (budget : ℕ) (input : List ℕ) (e : Effect) → ObeysBuild opts (Ok report) told new → GoEffect told.files opts.colours opts.stack budget input e
+    → (outcome : Outcome) × (c : Contents Image) × IsImageFile report.image.items c × (new ≡ Some (after_puts told outcome.puts)) × (e ≡ ran_behind outcome.puts (run_from budget input c))
+the_run opts report told new budget input e b d =
+    let r = b.answers d.0 d.1 in
+    let over : GoOver budget input (Ok r.0) e = subst (λ (x : Result Outcome BuildFault). GoOver budget input x e) r.1 d.2 in
+    let put : new ≡ Some (after_puts told (puts_of (Ok r.0))) = subst (λ (x : Result Outcome BuildFault). new ≡ Some (after_puts told (puts_of x))) r.1 (b.puts d.0 d.1) in
+    (r.0, over.0, subst (λ (i : List ℕ). IsImageFile i over.0) (sym r.2.image) over.1, put, over.2)
+
+all_put : (files : List NamedFile) (a : Answer) (told : Told) (new : Option Told) → IsRunAnswer a → new ≡ Some (after_puts told files) → PutsFiles files a told new
+all_put files answer.StoreFault told new k e = absurd k
+all_put files answer.NoMemory told new k e = record { done = files; more = []; split = sym (append-nil files); left = e }
+all_put files _ told new k e = e
+
+found_run : (comes : Effect → Type 0) (one : Effect) (a : Answer) → comes one → Answers one.answer a → IsFound comes a
+found_run comes one answer.ReadFault c h = (one, c)
+found_run comes one answer.WriteFault c h = (one, c)
+found_run comes one answer.StoreFault c h = tt
+found_run comes one answer.NoMemory c h = tt
+found_run comes one _ c h = (one, c, h)
+
+run_found : (opts : Opts) (report : Report) (a : Answer) (told : Told) (new : Option Told) (budget : ℕ) (input : List ℕ) (input' taken taken' : Option (List ℕ)) → HoldsImage report.image.items → ObeysBuild opts (Ok report) told new
+    → RunsImage report.image.items budget input a input' taken taken' → IsFound (GoEffect told.files opts.colours opts.stack budget input) a
+run_found opts report a told new budget input input' taken taken' held b run =
+    let outcome = b.found.0 in
+    let h : IsImageFile outcome.image held.0 = subst (λ (i : List ℕ). IsImageFile i held.0) b.found.2.image held.1 in
+    found_run (GoEffect told.files opts.colours opts.stack budget input) (ran_behind outcome.puts (run_from budget input held.0)) a (Ok outcome, b.found.1, (held.0, h, refl)) (run.answers held.0 held.1)
+
+did_run : (opts : Opts) (report : Report) (a : Answer) (told : Told) (new : Option Told) (budget : ℕ) (input : List ℕ) (input' taken taken' : Option (List ℕ)) → IsRunAnswer a → HoldsImage report.image.items → ObeysBuild opts (Ok report) told new
+    → RunsImage report.image.items budget input a input' taken taken' → Obeys (GoEffect told.files opts.colours opts.stack budget input) a told new
+did_run opts report a told new budget input input' taken taken' k held b run = record {
+  answers = λ e d. let r = the_run opts report told new budget input e b d in subst (λ (x : Effect). Answers x.answer a) (sym r.4) (run.answers r.1 r.2);
+  puts = λ e d. let r = the_run opts report told new budget input e b d in subst (λ (x : Effect). PutsFiles x.puts a told new) (sym r.4) (all_put r.0.puts a told new k r.3);
+  found = run_found opts report a told new budget input input' taken taken' held b run;
+}
+
+pub run_obeys : (told new : Option Told) (old input' taken taken' : Option (List ℕ)) (opts : Opts) (report : Report) (a : Answer) (budget : ℕ) → IsRunAnswer a → HoldsImage report.image.items → IfSome told (λ t. ObeysBuild opts (Ok report) t new)
+    → IfSome old (λ input. RunsImage report.image.items budget input a input' taken taken') → IfSome told (λ t. IfSome old (λ input. Obeys (GoEffect t.files opts.colours opts.stack budget input) a t new))
+run_obeys None new old input' taken taken' opts report a budget k held b run = tt
+run_obeys (Some t) new None input' taken taken' opts report a budget k held b run = tt
+run_obeys (Some t) new (Some input) input' taken taken' opts report a budget k held b run = did_run opts report a t new budget input input' taken taken' k held b run
+
+pub run_output_is : (told new : Option Told) (old input' taken taken' : Option (List ℕ)) (opts : Opts) (report : Report) (a : Answer) (budget : ℕ) → IfSome told (λ t. ObeysBuild opts (Ok report) t new)
+    → IfSome old (λ input. RunsImage report.image.items budget input a input' taken taken') → IfSome told (λ t. IfSome old (λ input. (e : Effect) → GoEffect t.files opts.colours opts.stack budget input e → PutsOut e.output a taken taken'))
+run_output_is None new old input' taken taken' opts report a budget b run = tt
+run_output_is (Some t) new None input' taken taken' opts report a budget b run = tt
+run_output_is (Some t) new (Some input) input' taken taken' opts report a budget b run =
+    λ e d. let r = the_run opts report t new budget input e b d in subst (λ (x : Effect). PutsOut x.output a taken taken') (sym r.4) (run.output r.1 r.2)
+
+pub run_rest_is : (told new : Option Told) (old input' taken taken' : Option (List ℕ)) (opts : Opts) (report : Report) (a : Answer) (budget : ℕ) → IfSome told (λ t. ObeysBuild opts (Ok report) t new)
+    → IfSome old (λ input. RunsImage report.image.items budget input a input' taken taken') → IfSome told (λ t. IfSome old (λ input. (e : Effect) → GoEffect t.files opts.colours opts.stack budget input e → LeavesInput e.rest input a input'))
+run_rest_is None new old input' taken taken' opts report a budget b run = tt
+run_rest_is (Some t) new None input' taken taken' opts report a budget b run = tt
+run_rest_is (Some t) new (Some input) input' taken taken' opts report a budget b run =
+    λ e d. let r = the_run opts report t new budget input e b d in subst (λ (x : Effect). LeavesInput x.rest input a input') (sym r.4) (run.rest r.1 r.2)
+
+no_refusal : (a : Answer) → IsRunAnswer a → IsNoRefusal a
+no_refusal (answer.Refused name refusal) k = absurd k
+no_refusal (answer.LinkRefused fault) k = absurd k
+no_refusal (answer.BadFile name at) k = absurd k
+no_refusal (answer.BadScript at) k = absurd k
+no_refusal _ k = tt
+
+pub run_comes : (told new : Option Told) (opts : Opts) (report : Report) (a : Answer) → IsRunAnswer a → IfSome told (λ t. ObeysBuild opts (Ok report) t new)
+    → IfSome told (λ t. (comes : Result Outcome BuildFault) → BuildOutcome t.files opts.colours opts.stack comes → AnswersComes comes a)
+run_comes None new opts report a k b = tt
+run_comes (Some t) new opts report a k b = λ comes h. subst (λ (x : Result Outcome BuildFault). AnswersComes x a) (sym (b.answers comes h).1) (no_refusal a k)
+
+pub run_line : (due : Files → ℕ) (told : Option Told) (a : Answer) → IsRunAnswer a → IfSome told (λ t. IsLineDue (due t.files) a 1)
+run_line due None a k = tt
+run_line due (Some t) (answer.Refused name refusal) k = absurd k
+run_line due (Some t) _ k = tt
+
+pub run_is : (a : Answer) → IsRunAnswer a → IsGoAnswer a
+run_is answer.Done k = absurd k
+run_is answer.Usage k = absurd k
+run_is (answer.Refused name refusal) k = absurd k
+run_is (answer.LinkRefused fault) k = absurd k
+run_is (answer.BadFile name at) k = absurd k
+run_is (answer.BadScript at) k = absurd k
+run_is _ k = tt
+
+pub run_stores : (before now : ℕ) (a : Answer) → IsRunAnswer a → now ≡ before → StoreCount before now a
+run_stores before now answer.StoreFault k e = absurd k
+run_stores before now _ k e = e
+
+pub run_streams : (a : Answer) (i i' o o' : Option (List ℕ)) → IsRunAnswer a → LeavesStreams a i i' o o'
+run_streams answer.Usage i i' o o' k = absurd k
+run_streams (answer.Refused name refusal) i i' o o' k = absurd k
+run_streams (answer.LinkRefused fault) i i' o o' k = absurd k
+run_streams (answer.BadFile name at) i i' o o' k = absurd k
+run_streams answer.StoreFault i i' o o' k = absurd k
+run_streams _ i i' o o' k = tt
+
+-- ---- a build that was not done
+
+-- the command comes to its refusal alone
+told_alone : (fault : BuildFault) (budget : ℕ) (input : List ℕ) (comes : Result Outcome BuildFault) (e : Effect) → comes ≡ Err fault → GoOver budget input comes e → e ≡ answers_alone (fault_answer fault) input
+told_alone fault budget input comes e is h = subst (λ (x : Result Outcome BuildFault). GoOver budget input x e) is h
+
+fault_answers : (fault : BuildFault) (budget : ℕ) (input : List ℕ) (comes : Result Outcome BuildFault) (e : Effect) → AnswersFault comes fault → GoOver budget input comes e → Answers e.answer (fault_answer fault)
+fault_answers (build.Refused name refusal) budget input comes e is h = ap (λ (x : Effect). x.answer) (told_alone (build.Refused name refusal) budget input comes e is h)
+fault_answers (build.LinkRefused fault) budget input comes e is h = ap (λ (x : Effect). x.answer) (told_alone (build.LinkRefused fault) budget input comes e is h)
+fault_answers build.StoreFault budget input comes e is h = tt
+fault_answers build.NoMemory budget input comes e is h = tt
+
+fault_found : (files : Files) (opts : Opts) (budget : ℕ) (input : List ℕ) (fault : BuildFault) → FaultFound files opts fault → IsFound (GoEffect files opts.colours opts.stack budget input) (fault_answer fault)
+fault_found files opts budget input (build.Refused name refusal) h = (answers_alone (answer.Refused name refusal) input, (Err (build.Refused name refusal), h, refl), refl)
+fault_found files opts budget input (build.LinkRefused fault) h = (answers_alone (answer.LinkRefused fault) input, (Err (build.LinkRefused fault), h, refl), refl)
+fault_found files opts budget input build.StoreFault h = tt
+fault_found files opts budget input build.NoMemory h = tt
+
+unbuilt_obeys : (opts : Opts) (unbuilt : Unbuilt) (told : Told) (new : Option Told) (budget : ℕ) (input : List ℕ) → ObeysBuild opts (Err unbuilt) told new → Obeys (GoEffect told.files opts.colours opts.stack budget input) (fault_answer unbuilt.fault) told new
+unbuilt_obeys opts unbuilt told new budget input b = record {
+  answers = λ e d. fault_answers unbuilt.fault budget input d.0 e (b.answers d.0 d.1) d.2;
+  puts = λ e d. subst (λ (files : List NamedFile). PutsFiles files (fault_answer unbuilt.fault) told new) (puts_are budget input d.0 e d.2) (b.puts d.0 d.1);
+  found = fault_found told.files opts budget input unbuilt.fault b.found;
+}
+
+pub fault_obeys : (told new : Option Told) (old : Option (List ℕ)) (opts : Opts) (unbuilt : Unbuilt) (a : Answer) (budget : ℕ) → a ≡ fault_answer unbuilt.fault → IfSome told (λ t. ObeysBuild opts (Err unbuilt) t new)
+    → IfSome told (λ t. IfSome old (λ input. Obeys (GoEffect t.files opts.colours opts.stack budget input) a t new))
+fault_obeys None new old opts unbuilt a budget is b = tt
+fault_obeys (Some t) new None opts unbuilt a budget is b = tt
+fault_obeys (Some t) new (Some input) opts unbuilt a budget is b =
+    subst (λ (x : Answer). Obeys (GoEffect t.files opts.colours opts.stack budget input) x t new) (sym is) (unbuilt_obeys opts unbuilt t new budget input b)
+
+refused_out : (fault : BuildFault) (budget : ℕ) (input : List ℕ) (comes : Result Outcome BuildFault) (e : Effect) (taken : Option (List ℕ)) → AnswersFault comes fault → GoOver budget input comes e → PutsOut e.output (fault_answer fault) taken taken
+refused_out (build.Refused name refusal) budget input comes e taken is h =
+    subst (λ (x : Effect). PutsOut x.output (answer.Refused name refusal) taken taken) (sym (told_alone (build.Refused name refusal) budget input comes e is h))
+    (record { output = []; more = []; taken = appends_none taken; front = refl; whole = refl })
+refused_out (build.LinkRefused fault) budget input comes e taken is h =
+    subst (λ (x : Effect). PutsOut x.output (answer.LinkRefused fault) taken taken) (sym (told_alone (build.LinkRefused fault) budget input comes e is h))
+    (record { output = []; more = []; taken = appends_none taken; front = refl; whole = refl })
+refused_out build.StoreFault budget input comes e taken is h = record { output = []; more = e.output; taken = appends_none taken; front = refl; whole = tt }
+refused_out build.NoMemory budget input comes e taken is h = none_out e.output taken
+
+pub fault_output : (told new : Option Told) (old taken : Option (List ℕ)) (opts : Opts) (unbuilt : Unbuilt) (a : Answer) (budget : ℕ) → a ≡ fault_answer unbuilt.fault → IfSome told (λ t. ObeysBuild opts (Err unbuilt) t new)
+    → IfSome told (λ t. IfSome old (λ input. (e : Effect) → GoEffect t.files opts.colours opts.stack budget input e → PutsOut e.output a taken taken))
+fault_output None new old taken opts unbuilt a budget is b = tt
+fault_output (Some t) new None taken opts unbuilt a budget is b = tt
+fault_output (Some t) new (Some input) taken opts unbuilt a budget is b =
+    λ e d. subst (λ (x : Answer). PutsOut e.output x taken taken) (sym is) (refused_out unbuilt.fault budget input d.0 e taken (b.answers d.0 d.1) d.2)
+
+untouched : (input rest : List ℕ) → Ends input rest → WasReadInPart rest input (Some input)
+untouched input rest ends = ([], ends.0, (refl, ends.1))
+
+refused_rest : (fault : BuildFault) (budget : ℕ) (input : List ℕ) (comes : Result Outcome BuildFault) (e : Effect) → AnswersFault comes fault → GoOver budget input comes e → LeavesInput e.rest input (fault_answer fault) (Some input)
+refused_rest (build.Refused name refusal) budget input comes e is h = ap (λ (x : Effect). Some x.rest) (sym (told_alone (build.Refused name refusal) budget input comes e is h))
+refused_rest (build.LinkRefused fault) budget input comes e is h = ap (λ (x : Effect). Some x.rest) (sym (told_alone (build.LinkRefused fault) budget input comes e is h))
+refused_rest build.StoreFault budget input comes e is h = untouched input e.rest (over_ends budget input comes e h)
+refused_rest build.NoMemory budget input comes e is h = untouched input e.rest (over_ends budget input comes e h)
+
+pub fault_rest : (told new : Option Told) (old : Option (List ℕ)) (opts : Opts) (unbuilt : Unbuilt) (a : Answer) (budget : ℕ) → a ≡ fault_answer unbuilt.fault → IfSome told (λ t. ObeysBuild opts (Err unbuilt) t new)
+    → IfSome told (λ t. IfSome old (λ input. (e : Effect) → GoEffect t.files opts.colours opts.stack budget input e → LeavesInput e.rest input a old))
+fault_rest None new old opts unbuilt a budget is b = tt
+fault_rest (Some t) new None opts unbuilt a budget is b = tt
+fault_rest (Some t) new (Some input) opts unbuilt a budget is b =
+    λ e d. subst (λ (x : Answer). LeavesInput e.rest input x (Some input)) (sym is) (refused_rest unbuilt.fault budget input d.0 e (b.answers d.0 d.1) d.2)
+
+in_store : (comes : Result Outcome BuildFault) → AnswersComes comes answer.StoreFault
+in_store (Ok outcome) = tt
+in_store (Err fault) = tt
+
+in_memory : (comes : Result Outcome BuildFault) → AnswersComes comes answer.NoMemory
+in_memory (Ok outcome) = tt
+in_memory (Err fault) = tt
+
+refused_as : (fault : BuildFault) (comes : Result Outcome BuildFault) → AnswersFault comes fault → AnswersComes comes (fault_answer fault)
+refused_as (build.Refused name refusal) comes is = subst (λ (x : Result Outcome BuildFault). AnswersComes x (answer.Refused name refusal)) (sym is) refl
+refused_as (build.LinkRefused fault) comes is = subst (λ (x : Result Outcome BuildFault). AnswersComes x (answer.LinkRefused fault)) (sym is) refl
+refused_as build.StoreFault comes is = in_store comes
+refused_as build.NoMemory comes is = in_memory comes
+
+pub fault_comes : (told new : Option Told) (opts : Opts) (unbuilt : Unbuilt) (a : Answer) → a ≡ fault_answer unbuilt.fault → IfSome told (λ t. ObeysBuild opts (Err unbuilt) t new)
+    → IfSome told (λ t. (comes : Result Outcome BuildFault) → BuildOutcome t.files opts.colours opts.stack comes → AnswersComes comes a)
+fault_comes None new opts unbuilt a is b = tt
+fault_comes (Some t) new opts unbuilt a is b = λ comes h. subst (AnswersComes comes) (sym is) (refused_as unbuilt.fault comes (b.answers comes h))
+
+fault_is_go : (fault : BuildFault) → IsNoWant fault → IsGoAnswer (fault_answer fault)
+fault_is_go (build.Refused name refusal) h = h
+fault_is_go (build.LinkRefused fault) h = h
+fault_is_go build.StoreFault h = tt
+fault_is_go build.NoMemory h = tt
+
+pub fault_is : (fault : BuildFault) (a : Answer) → a ≡ fault_answer fault → IsNoWant fault → IsGoAnswer a
+fault_is fault a is h = subst IsGoAnswer (sym is) (fault_is_go fault h)
+
+reads_none : (count : ℕ) (fault : BuildFault) → InputCount count count (fault_answer fault)
+reads_none count (build.Refused name refusal) = refl
+reads_none count (build.LinkRefused fault) = refl
+reads_none count build.StoreFault = refl
+reads_none count build.NoMemory = refl
+
+pub fault_reads : (count : ℕ) (fault : BuildFault) (a : Answer) → a ≡ fault_answer fault → InputCount count count a
+fault_reads count fault a is = subst (λ (x : Answer). InputCount count count x) (sym is) (reads_none count fault)

@@ -1,5 +1,2 @@
+pub mod RunLemmas
 pub mod GoLemmas
-pub mod BuiltLemmas
-pub mod FoundLemmas
-pub mod RefusalLemmas
-pub mod ProperLemmas

@@ -1,77 +1,59 @@
--- What `go` answers, puts out and leaves: the run of what was built.
-use Rattle.std.specs.Prelude.{◌≡◌, ℕ, ◌≤◌, ◌%◌, List, sum}
+-- What `go` comes to: a build over the files of a store, and the run of its image over an input.
+use Rattle.std.specs.Prelude.{◌≡◌, ◌≢◌, ℕ, List, Option, Result, Ok, Err}
+use Rattle.pw_value.specs.declared.fault.LinkFault.TheVariants as link
+use Rattle.pw_io.specs.Files.{Files}
+use Rattle.pw_front_end.specs.Fronts.{HoldsNoWant}
+use Rattle.pw_image.specs.declared.image.Image.{Image}
+use Rattle.pw_image.specs.Image.{Contents, IsImageFile}
 use Rattle.pw_machine.specs.Run.{Progress, run_of}
-use Rattle.pw_top_answer.specs.Effects.{Effect, answers_alone}
-use Rattle.pw_top_answer.specs.Outcomes.{Answers, IsLineDue, IsNoRefusal, RefusesAs}
-use Rattle.pw_commands.specs.MachineRun.{ran}
+use Rattle.pw_machine.specs.Start.{image_start}
 use Rattle.pw_top_answer.specs.declared.answer.Answer.{Answer}
-use Rattle.pw_top_answer.specs.declared.answer.Answer.TheVariants.{Ended, Usage, Refused, LinkRefused, StoreFault}
-use Rattle.pw_go.specs.FullBuild as build
-use Rattle.pw_go.specs.FullBuild.{Build}
-use Rattle.pw_go_sum.specs.Code.{words_of}
-use Rattle.pw_run_agreement.specs.Agreement.{Agree}
-use Rattle.pw_go_sum.specs.SourceRun.{source_run}
-use Rattle.pw_go_sum.specs.Built.{EndsWithin, FramesFit, core_of, start_of, frames_of, rooms_of, sum_steps}
+use Rattle.pw_top_answer.specs.declared.answer.Answer.TheVariants.{Done, Usage, Refused, LinkRefused, BadFile, BadScript}
+use Rattle.pw_top_answer.specs.Effects.{Effect, NamedFile, answers_alone}
+use Rattle.pw_top_answer.specs.Outcomes.{Answers, IsNoRefusal, LeavesInput, PutsOut, RefusesAs}
+use Rattle.pw_commands.specs.MachineRun.{run_answer, run_output, run_rest, started}
+use Rattle.pw_build_files.specs.FromBuild.BuildFault.{BuildFault}
+use Rattle.pw_build_files.specs.Building.{BuildOutcome, Outcome}
+use Rattle.pw_build_files.specs.Outcomes.{fault_answer}
 
--- ---- the built program's run
+-- the run of a program over an input, for at most so many instructions
+abbrev pub run_from : ℕ → List ℕ → Contents Image → Progress
+run_from budget input c = run_of budget (started (image_start c.value.memory) input)
 
--- so many first steps of the built words, from their start
-unfoldable pub run_built : ℕ → List ℕ → List ℕ → Progress
-run_built budget numbers input = run_of budget (start_of (words_of numbers) input)
+-- a run as far as it went, behind the puts of these files
+abbrev pub ran_behind : List NamedFile → Progress → Effect
+ran_behind puts progress = record { answer = run_answer progress; puts = puts; output = run_output progress; rest = run_rest progress }
 
--- ---- what is wanted of the command, where nothing fails
+-- what comes of what the build comes to: its files are put, and its image is run; or its refusal is told
+abbrev pub GoOver : ℕ → List ℕ → Result Outcome BuildFault → Effect → Type 0
+GoOver budget input (Ok outcome) effect = (c : Contents Image) × IsImageFile outcome.image c × (effect ≡ ran_behind outcome.puts (run_from budget input c))
+GoOver budget input (Err fault) effect = effect ≡ answers_alone (fault_answer fault) input
 
-abbrev pub build_effect : Build → ℕ → List ℕ → Effect
-build_effect (build.Program numbers) budget input = ran (run_built budget numbers input)
-build_effect (build.Refused name refusal line) budget input = answers_alone (Refused name refusal) input
-build_effect (build.LinkRefused fault) budget input = answers_alone (LinkRefused fault) input
+-- `go` over a store's files and an input, for so many registers, such a stack and so many instructions at most
+abbrev pub GoEffect : Files → ℕ → ℕ → ℕ → List ℕ → Effect → Type 0
+GoEffect files colours stack budget input effect =
+    (comes : Result Outcome BuildFault) × BuildOutcome files colours stack comes × GoOver budget input comes effect
 
--- The answer to a build that refuses is that refusal, whatever the input tells; any other build is not refused.
-abbrev pub AnswersBuild : Build → Answer → Type 0
-AnswersBuild (build.Program numbers) answer = IsNoRefusal answer
-AnswersBuild (build.Refused name refusal line) answer = RefusesAs (Refused name refusal) answer
-AnswersBuild (build.LinkRefused fault) answer = RefusesAs (LinkRefused fault) answer
+-- The refusal to which the build comes is the answer, before the input and the output are touched; want of memory and a fault of
+-- the store may come in its place. A build that comes to a program is not refused.
+abbrev pub AnswersComes : Result Outcome BuildFault → Answer → Type 0
+AnswersComes (Ok outcome) answer = IsNoRefusal answer
+AnswersComes (Err fault) answer = RefusesAs (fault_answer fault) answer
 
--- the line on which a module is refused
-abbrev pub refused_line : Build → ℕ
-refused_line (build.Program numbers) = 1
-refused_line (build.Refused name refusal line) = line
-refused_line (build.LinkRefused fault) = 1
+-- the answers of the command, whose refusals are none for want of memory
+abbrev pub IsGoAnswer : Answer → Type 0
+IsGoAnswer Done = ⊥
+IsGoAnswer Usage = ⊥
+IsGoAnswer (Refused name refusal) = HoldsNoWant refusal
+IsGoAnswer (LinkRefused fault) = fault ≢ link.NoMemory
+IsGoAnswer (BadFile name at) = ⊥
+IsGoAnswer (BadScript at) = ⊥
+IsGoAnswer _ = Unit {0}
 
--- ---- agreement of source and machine, for every input
+-- ---- inside
 
--- The words of a sum program agree with it at every bound, on a stack of every size. Their run ends within
--- `sum_steps` steps with the low 8 bits of the sum, and each frame is within its function's room.
-pub record SumAgrees (numbers : List ℕ) : Type 0 where
-  pub agree : (stack : ℕ) (input : List ℕ) → Agree (source_run (frames_of numbers) stack numbers) (core_of (words_of numbers)) input
-  pub end : (input : List ℕ) → EndsWithin sum_steps (sum numbers % 256) (words_of numbers) input
-  pub fit : FramesFit (frames_of numbers) (rooms_of numbers)
-
-abbrev pub BuiltAgrees : Build → Type 0
-BuiltAgrees (build.Program numbers) = SumAgrees numbers
-BuiltAgrees (build.Refused name refusal line) = Unit {0}
-BuiltAgrees (build.LinkRefused fault) = Unit {0}
-
--- Where the build is a program and `sum_steps` steps may be taken, it ends with the low 8 bits of its sum; faults and want of
--- memory may come in place of that answer.
-abbrev pub ReturnsSum : ℕ → Build → Answer → Type 0
-ReturnsSum budget (build.Program numbers) answer = sum_steps ≤ budget → Answers (Ended (sum numbers % 256)) answer
-ReturnsSum budget (build.Refused name refusal line) answer = Unit {0}
-ReturnsSum budget (build.LinkRefused fault) answer = Unit {0}
-
--- ---- inside the command
-
--- the answers to which a build that is obeyed may come, the store's fault apart
-abbrev pub IsObeyed : Answer → Type 0
-IsObeyed Usage = ⊥
-IsObeyed StoreFault = ⊥
-IsObeyed _ = Unit {0}
-
--- the line on which a module is refused, where the answer names one
-abbrev pub IsLineOf : Build → Answer → ℕ → Type 0
-IsLineOf built answer line = IsLineDue (refused_line built) answer line
-
--- the answer is not that the words are no command line
-abbrev pub IsNoUsage : Answer → Type 0
-IsNoUsage Usage = ⊥
-IsNoUsage _ = Unit {0}
+-- The run of the image in this file was answered and put out, and its rest of the input left.
+pub record RunsImage (image : List ℕ) (budget : ℕ) (input : List ℕ) (answer : Answer) (input' taken taken' : Option (List ℕ)) : Type 0 where
+  pub answers : (c : Contents Image) → IsImageFile image c → Answers (run_answer (run_from budget input c)) answer
+  pub output : (c : Contents Image) → IsImageFile image c → PutsOut (run_output (run_from budget input c)) answer taken taken'
+  pub rest : (c : Contents Image) → IsImageFile image c → LeavesInput (run_rest (run_from budget input c)) input answer input'

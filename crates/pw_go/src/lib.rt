@@ -1,9 +1,7 @@
-//! The command `go`: builds what the files of a store are, and runs it.
+//! The command `go`: builds the program of the modules of a store, and runs it.
 #![tactic(auto)]
 
-mod build;
 mod going;
 pub mod laws;
-mod run;
 
 pub use going::go;

@@ -50,7 +50,7 @@ module _ (p : Program) where
       let r = two_tests g.volatile (has_name (taken_names p) g.name) (g.name, k) v h in
       (ap (λ (x : List ℕ × Kind). Some x.1) r.2, r.0, r.1, ap (λ (x : List ℕ × Kind). x.0) r.2)
 
-  eligible_where : (g : FlowGlobal) (v : List ℕ × Kind) → Has v (eligible_as p g) → (g.kind ≡ Some v.1) × (g.volatile ≡ false) × (has_name (taken_names p) g.name ≡ false) × (g.name ≡ v.0)
+  pub eligible_where : (g : FlowGlobal) (v : List ℕ × Kind) → Has v (eligible_as p g) → (g.kind ≡ Some v.1) × (g.volatile ≡ false) × (has_name (taken_names p) g.name ≡ false) × (g.name ≡ v.0)
   eligible_where g v h = kind_by g g.kind v h
 
   module _ (ss : List Summary) (all : AllSummarise p.modules ss) where

@@ -9,6 +9,8 @@ mod Eligible
 mod Movable
 mod Same
 mod Composition
+mod Symbols
+mod ImageTraffic
 mod Joined
 mod Naming
 mod Covering

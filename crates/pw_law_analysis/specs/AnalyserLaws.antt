@@ -8,42 +8,32 @@ use Rattle.pw_colour.specs.Colours.{IsDatabaseOf}
 use Rattle.pw_colour.specs.Naming.{IsNamed}
 use Rattle.pw_alloc.specs.declared.located.Located.{Located}
 use Rattle.pw_object.specs.declared.object.Object.{Object}
+use Rattle.pw_db_sound.specs.CallGraphs.{SayTheSame}
+use Rattle.pw_run_languages.specs.Programs as flows
 use Rattle.pw_run_languages.specs.Programs.{AreBytes}
-use Rattle.pw_run_languages.specs.PlacementLaws.{PlacesKeep}
+use Rattle.pw_run_languages.specs.LawfulPrograms.{graph_of}
 use Rattle.pw_run_languages.specs.SelectionLaws.{SelectionKeepsRuns}
 use Rattle.pw_run_languages.specs.LinkingLaws.{LinkKeepsRuns}
 use Rattle.pw_cmean.specs.Worlds.{Program}
-use Rattle.pw_law_layers.specs.Lowering.{flow_program, IsAccepted, LoweringKeepsRuns}
-use Rattle.pw_law_layers.specs.Whole.{program_of}
-use Rattle.pw_law_direction.specs.Laws.{first_places}
-use Rattle.pw_law_analysis.specs.SummaryGraphs.{named_graph, AllSummarise}
+use Rattle.pw_law_analysis.specs.SummaryGraphs.{named_graph}
 use Rattle.pw_law_analysis.specs.OwedLaws.{AreSummaries, Serves, IsAnalysed, HoldsOver}
 
 -- the graph of summaries by names says what their call graph says by places
 abbrev pub NamedGraphsSayTheSame : Type 0
 NamedGraphsSayTheSame = (ss : List Summary) (g : CallGraph) → IsGraphOf ss g → IsNamed g (named_graph ss g)
 
--- the database of an accepted program's summaries serves its flow graphs
+-- the database serves flow graphs of which its summaries say what they say themselves
 abbrev pub DatabasesServe : Type 0
 DatabasesServe =
-    (p : Program) (frame_of : List ℕ → ℕ) (stack : ℕ) (ss : List Summary) (colours : ℕ) (db : List (List ℕ × Directives)) →
-    IsAccepted p frame_of stack → AllSummarise (flow_program p frame_of stack).modules ss → AreSummaries ss → colours ≤ 16 →
-    (i : IsDatabaseOf ss colours db) → Serves p frame_of stack ss colours db i
+    (q : flows.Program) (ss : List Summary) (colours : ℕ) (db : List (List ℕ × Directives)) →
+    AreSummaries ss → colours ≤ 16 → (i : IsDatabaseOf ss colours db) → SayTheSame (named_graph ss i.graph) (graph_of q) →
+    Serves q ss colours db i
 
--- what holds of a program that was built with this database, from the laws of lowering, selection and linking, and from
--- that of places for the program's places
+-- what holds of a program that was built with this database and with places that serve, from the laws of selection and
+-- linking
 abbrev pub LayersGiveAll : Type 0
 LayersGiveAll =
-    LoweringKeepsRuns → SelectionKeepsRuns → LinkKeepsRuns →
-    (p : Program) (ss : List Summary) (colours : ℕ) (db : List (List ℕ × Directives)) (functions : List Located) (objects : List Object) (stack : ℕ) (input : List ℕ) →
-    (built : IsAnalysed p ss colours db functions objects stack) → AreBytes input →
-    PlacesKeep (program_of p objects stack) db functions input →
-    HoldsOver p ss colours db functions objects stack input built.database
-
--- with the places of allocation's first form the law of places is no premise
-abbrev pub FirstPlacesGiveAll : Type 0
-FirstPlacesGiveAll =
-    LoweringKeepsRuns → SelectionKeepsRuns → LinkKeepsRuns →
-    (p : Program) (ss : List Summary) (colours : ℕ) (db : List (List ℕ × Directives)) (objects : List Object) (stack : ℕ) (input : List ℕ) →
-    (built : IsAnalysed p ss colours db (first_places (program_of p objects stack) db) objects stack) → AreBytes input →
-    HoldsOver p ss colours db (first_places (program_of p objects stack) db) objects stack input built.database
+    SelectionKeepsRuns → LinkKeepsRuns →
+    (p : Program) (q : flows.Program) (ss : List Summary) (colours : ℕ) (db : List (List ℕ × Directives)) (functions : List Located) (objects : List Object) (input : List ℕ) →
+    IsAnalysed p q ss colours db functions objects → AreBytes input →
+    HoldsOver p q ss colours db functions objects input

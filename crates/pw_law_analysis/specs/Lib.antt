@@ -1,5 +1,6 @@
 pub mod SummaryGraphs
 pub mod SummaryLaws
 pub mod PlacedGlobals
+pub mod ImageTraffic
 pub mod OwedLaws
 pub mod AnalyserLaws

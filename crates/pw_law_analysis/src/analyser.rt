@@ -2,11 +2,12 @@
 //! words.
 
 ghost use Rattle.pw_law_analysis.specs.OwedLaws.{DatabaseIsLawful, DatabaseIsSound, ColouredIsCovered};
-ghost use Rattle.pw_law_analysis.specs.AnalyserLaws.{NamedGraphsSayTheSame, DatabasesServe, FirstPlacesGiveAll, LayersGiveAll};
+ghost use Rattle.pw_law_analysis.specs.AnalyserLaws.{NamedGraphsSayTheSame, DatabasesServe, LayersGiveAll};
 
 use crate::owed::{all_laws_compose, analyses_compose};
 use pw_colour::laws;
-use pw_law_direction::{direction_keeps, first_places_keep};
+use pw_law_direction::direction_keeps;
+use pw_law_placed::places_keep;
 
 /// The graph of summaries by the names of functions and globals says of calls, references, writes and eligible globals
 /// what their call graph says by places.
@@ -36,7 +37,7 @@ pub fn coloured_globals_are_covered()
     named_graphs_say_the_same();
 }
 
-/// The database of the summaries of an accepted program is lawful, and sound for the program's flow graphs; what obeys
+/// The database of summaries is lawful, and sound for flow graphs of which they say what these say themselves; what obeys
 /// the law of traffic over the flow graphs obeys it over the summaries; and of a global all of whose webs have a register,
 /// that law speaks.
 pub fn databases_serve()
@@ -48,9 +49,9 @@ pub fn databases_serve()
     coloured_globals_are_covered();
 }
 
-/// From the laws of lowering, selection and linking follows of each program that was built with the database that the analyser
-/// makes of it, where the law of places holds for the program's places: what holds of built programs; and where the source is
-/// defined, the law of traffic holds over the summaries, which speaks of each global all of whose webs have a register.
+/// From the laws of selection and linking follows of each program that was built with the database that the analyser makes of
+/// it, and with places that serve: what holds of built programs; and where the source is defined, the law of traffic of the
+/// image, which speaks of each eligible global all of whose webs have a register.
 pub fn layers_give_all()
     ensures { LayersGiveAll }
 {
@@ -60,13 +61,5 @@ pub fn layers_give_all()
     coloured_globals_are_covered();
     databases_serve();
     direction_keeps();
-}
-
-/// Where the places are those of allocation's first form, the same follows without the law of places as a premise.
-pub fn first_places_give_all()
-    ensures { FirstPlacesGiveAll }
-{
-    databases_serve();
-    first_places_keep();
-    layers_give_all();
+    places_keep();
 }

@@ -1,5 +1,5 @@
 -- The linker's addresses are lawful for the run of lines.
-use Rattle.std.proofs.Common.{◌≡◌, ◌≢◌, inl, inr, ℕ, zero, suc, ◌+◌, ◌%◌, ◌^◌, ◌≤◌, ◌<◌, Bool, true, false, ◌&&◌, Option, None, Some, List, [], ◌∷◌, ◌++◌, map, length, get_or, refl, sym, ap, subst, ◌∙◌, arith}
+use Rattle.std.proofs.Common.{◌≡◌, ◌≢◌, inl, inr, ℕ, zero, suc, ◌+◌, ◌*◌, ◌%◌, ◌^◌, ◌≤◌, ◌<◌, Bool, true, false, ◌&&◌, Option, None, Some, List, [], ◌∷◌, ◌++◌, map, length, get_or, refl, sym, ap, subst, ◌∙◌, arith}
 use Rattle.std.specs.Prelude.{Contains, nat_lt, unwrap_or}
 use Rattle.std.specs.List.{AllByRecursion, flat_map}
 use Rattle.std.specs.Map.{lookup}
@@ -74,6 +74,37 @@ pieces_are p functions objects is of =
     ap (λ (os : List Object). function_pieces os ++ routine_pieces) (order_stays p functions objects is of)
     ∙ ap (λ (ps : List Piece). ps ++ routine_pieces) (flat_map_map objects ∙ ap (map piece_of) of.code)
 
+-- the pieces have the names of the program's functions, of the library's and of the routines
+pub names_are : (p : Program) (d : List (List ℕ × Directives)) (functions : List Located) (objects : List Object) → IsProgram p → AllServe (directed_functions p d) functions → AreObjectsOf p functions objects
+    → piece_names (pieces_of objects) ≡ map (λ f. f.name) (functions_of p) ++ map (λ r. r.0) routines
+names_are p d functions objects is serve of =
+    ap piece_names (pieces_are p functions objects is of)
+    ∙ map-append (λ (q : Piece). q.name) (pieces functions) routine_pieces
+    ∙ (λ i. (compiled_names functions ∙ served_names d (functions_of p) functions serve) i ++ routine_piece_names routines i)
+
+globals_are : (p : Program) (functions : List Located) (objects : List Object) → IsProgram p → AreObjectsOf p functions objects → link.globals_of objects ≡ globals_of p
+globals_are p functions objects is of = ap (λ (os : List Object). flat_map (λ o. o.globals) os) (order_stays p functions objects is of) ∙ of.globals
+
+-- so does the map, and it has the program's global objects
+mapped_names : (at : ℕ) (ps : List Piece) → map (λ f. f.name) (map function_of (placed_from at ps)) ≡ piece_names ps
+mapped_names at [] = refl
+mapped_names at (q ∷ ps) = ap (λ (rest : List (List ℕ)). q.name ∷ rest) (mapped_names (at + 4 * length q.words) ps)
+
+mapped_globals : (begin at : ℕ) (gs : List FlowGlobal) → map (λ g. g.name) (map (global_of begin) (standing_from at gs)) ≡ map (λ g. g.name) gs
+mapped_globals begin at [] = refl
+mapped_globals begin at (g ∷ gs) = ap (λ (rest : List (List ℕ)). g.name ∷ rest) (mapped_globals begin (at + global_room g) gs)
+
+pub map_names_functions : (p : Program) (d : List (List ℕ × Directives)) (functions : List Located) (objects : List Object) → IsProgram p → AllServe (directed_functions p d) functions → AreObjectsOf p functions objects
+    → map (λ f. f.name) (linked objects p.stack).functions ≡ map (λ f. f.name) (functions_of p) ++ map (λ r. r.0) routines
+unfolding linked
+map_names_functions p d functions objects is serve of = mapped_names text_start (pieces_of objects) ∙ names_are p d functions objects is serve of
+
+pub map_names_globals : (p : Program) (functions : List Located) (objects : List Object) → IsProgram p → AreObjectsOf p functions objects
+    → map (λ g. g.name) (linked objects p.stack).globals ≡ map (λ g. g.name) (globals_of p)
+unfolding linked
+map_names_globals p functions objects is of =
+    mapped_globals (data_begin objects) 0 (link.globals_of objects) ∙ ap (map (λ (g : FlowGlobal). g.name)) (globals_are p functions objects is of)
+
 -- ---- each piece has words
 
 has_words : (l : Located) → 0 < length (placed (selected l)).words
@@ -135,14 +166,10 @@ all_names P (x ∷ xs) ys h k = (h.0, all_names P xs ys h.1 k)
 
 known : (p : Program) (d : List (List ℕ × Directives)) (functions : List Located) (objects : List Object) → IsProgram p → AreNamesApart p → AllServe (directed_functions p d) functions → AreObjectsOf p functions objects → size_fault objects p.stack ≡ None → Known p objects
 known p d functions objects is apart serve of fits =
-    let stay = order_stays p functions objects is of in
     let all = pieces_are p functions objects is of in
     let function_names = map (λ f. f.name) (functions_of p) in
-    let names : piece_names (pieces_of objects) ≡ function_names ++ map (λ r. r.0) routines =
-    ap piece_names all
-    ∙ map-append (λ (q : Piece). q.name) (pieces functions) routine_pieces
-    ∙ (λ i. (compiled_names functions ∙ served_names d (functions_of p) functions serve) i ++ routine_piece_names routines i) in
-    let globals : link.globals_of objects ≡ globals_of p = ap (λ (os : List Object). flat_map (λ o. o.globals) os) stay ∙ of.globals in
+    let names = names_are p d functions objects is serve of in
+    let globals = globals_are p functions objects is of in
     let behind = distinct_right (map (λ r. r.0) routines) (function_names ++ global_names (globals_of p)) apart in
     record {
       names = names;

@@ -1,10 +1,11 @@
 //! Laws of selection, placement and the linker's addresses.
 
-ghost use Rattle.std.specs.Prelude.{ℕ, ◌≡◌, ◌<◌, ◌^◌, None, List};
+ghost use Rattle.std.specs.Prelude.{ℕ, ◌≡◌, ◌<◌, ◌^◌, None, List, ◌++◌, map};
 ghost use Rattle.pw_db.specs.declared.database.Directives.{Directives};
 ghost use Rattle.pw_object.specs.declared.object.Object.{Object};
-ghost use Rattle.pw_link.specs.Linking.{size_fault};
-ghost use Rattle.pw_run_languages.specs.Programs.{Program};
+ghost use Rattle.pw_link.specs.Linking.{linked, size_fault};
+ghost use Rattle.pw_milli.specs.Library.{routines};
+ghost use Rattle.pw_run_languages.specs.Programs.{Program, functions_of, globals_of};
 ghost use Rattle.pw_run_languages.specs.LawfulPrograms.{IsProgram};
 ghost use Rattle.pw_run_languages.specs.Direction.{directed_functions};
 ghost use Rattle.pw_run_languages.specs.Serving.{AllServe};
@@ -57,4 +58,14 @@ pub fn linked_addresses_are_lawful()
     ensures { (p : Program) (d : List (List ℕ × Directives)) (functions : List Located) (objects : List Object) (behind : List ℕ → ℕ → ℕ) →
         IsProgram p → AreNamesApart p → AllServe (directed_functions p d) functions → AreObjectsOf p functions objects →
         size_fault objects p.stack ≡ None → ((f : List ℕ) (n : ℕ) → behind f n < 2 ^ 32) → AreLawful p (linked_addresses objects p.stack behind) }
+{}
+
+/// The map of an image has the functions of the program's modules, in their order, and behind them the library's and the
+/// routines; and it has the program's global objects in their order.
+pub fn maps_name_the_program()
+    ensures functions { (p : Program) (d : List (List ℕ × Directives)) (functions : List Located) (objects : List Object) →
+        IsProgram p → AllServe (directed_functions p d) functions → AreObjectsOf p functions objects →
+        map (λ f. f.name) (linked objects p.stack).functions ≡ map (λ f. f.name) (functions_of p) ++ map (λ r. r.0) routines }
+    ensures globals { (p : Program) (functions : List Located) (objects : List Object) → IsProgram p → AreObjectsOf p functions objects →
+        map (λ g. g.name) (linked objects p.stack).globals ≡ map (λ g. g.name) (globals_of p) }
 {}

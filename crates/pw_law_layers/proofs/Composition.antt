@@ -4,6 +4,7 @@ use Rattle.std.proofs.Common.{arith, subst}
 use Rattle.pw_value.specs.declared.value.Value.{Value}
 use Rattle.pw_value.specs.Limits.{stack_least}
 use Rattle.pw_value.specs.ProgramNames.{start_name}
+use Rattle.pw_types.specs.Rooms.{start_room}
 use Rattle.pw_value.specs.declared.value.Byte.{Byte}
 use Rattle.pw_db.specs.declared.database.Directives.{Directives}
 use Rattle.pw_alloc.specs.declared.located.Located.{Located}
@@ -34,11 +35,11 @@ use Rattle.pw_run_languages.specs.SelectionLaws.{line_program, placed_program, S
 use Rattle.pw_run_languages.specs.LinkingLaws.{LinkKeeps, address_of, frame_in, map_of, image_run}
 use Rattle.pw_law_layers.specs.Source.{source_stages, source_runs}
 use Rattle.pw_law_layers.specs.Lowering.{MomentKept}
-use Rattle.pw_law_layers.specs.Whole.{InMachine, image_of, program_of, LayersHold, LayersCompose}
+use Rattle.pw_law_layers.specs.Whole.{InMachine, image_of, LayersHold, LayersCompose}
 use Rattle.pw_law_layers.specs.Guarding.{SoundDirectivesGuard}
 use Rattle.pw_law_layers.specs.Rooms.{MapHasFrames}
 use Rattle.pw_law_layers.proofs.Fitting.{places_fit}
-use Rattle.pw_law_layers.proofs.Starts.{starts, start_fits}
+use Rattle.pw_law_layers.proofs.Frames.{frames_are, frame_of_room}
 use Rattle.pw_law_layers.proofs.Agreement.{source_to_machine, source_to_webs, agrees, places_kind, words_kind}
 use Rattle.pw_law_layers.proofs.Noted.{defined_notes, registers_closed, traffic_closed, same_logs, same_kinds}
 
@@ -111,29 +112,27 @@ whole p q d functions v frame_of stack input l words =
     }
 
 pub holds : LayersHold
-holds p d functions objects stack input l =
-    let q = program_of p objects stack in
-    let v = image_of objects stack in
-    let h = whole p q d functions v (frame_in v) stack input
+holds p q d functions objects input l =
+    let v = image_of objects q.stack in
+    let h = whole p q d functions v (frame_in v) q.stack input
     (record { low = l.lowering; direction = l.direction; places = l.places; link = l.linking; selection = l.selection; placement = l.placement.runs })
     (subst (λ named. Refines (EventInWords q named) (placed_run (with_functions q functions) input) (line_run (line_program q functions) l.linking.addresses l.linking.scratch input)) l.linking.named l.selection.runs) in
     record { agree = h.agree; places = h.places; registers = h.registers; traffic = h.traffic }
 
 -- by the laws on the map and on placement
 pub composes : MapHasFrames → PlacementKeepsRuns → SoundDirectivesGuard → LayersHold → LayersCompose
-composes map placement guard hold low selection link p d functions objects stack input built bytes direction places =
-    let q = program_of p objects stack in
-    let v = image_of objects stack in
-    let program = built.accepted.program in
-    let frames = map q d functions objects program built.serve built.made in
-    let first : frame_in v start_name ≤ stack_least =
-    start_fits places_fit q d functions frames built.serve program.modules built.database.directives (starts p.modules program.modules program.start) in
-    let enough : stack_least ≤ stack = built.enough in
-    let start : frame_in v start_name ≤ stack = omega (arith, first, enough) in
+composes map placement guard hold selection link p q d functions objects input built bytes direction places =
+    let v = image_of objects q.stack in
+    let program = built.implements.program in
+    let frames = frames_are map p q d functions objects built in
+    let first : q.frame_of start_name ≤ start_room = frame_of_room places_fit q d functions frames built.serve program built.database start_name start_room built.implements.start in
+    let enough : stack_least ≤ q.stack = built.enough in
+    let start : q.frame_of start_name ≤ q.stack = omega (arith, first, enough) in
     let l = link q d functions objects input program built.names built.database built.sound built.serve frames start built.made built.fits bytes in
-    hold p d functions objects stack input
+    hold p q d functions objects input
     (record {
-      lowering = low p (frame_in v) stack input built.checked built.accepted frames.library bytes;
+      lowering = subst (λ (F : List ℕ → ℕ). Refines (MomentKept q) (source_stages p F q.stack input) (flow_run q input)) built.frames
+          (built.implements.runs input frames.library bytes);
       direction = direction;
       places = places;
       linking = l;

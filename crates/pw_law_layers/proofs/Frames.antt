@@ -1,4 +1,4 @@
--- Frames are within rooms, by the laws of lowering, places and the map.
+-- Frames are within rooms, by the laws of places and the map.
 use Rattle.std.specs.Prelude.{ℕ, ◌≡◌, ◌≤◌, ◌<◌, Bool, true, false, if◌then◌else◌, List, [], ◌∷◌, map, Contains}
 use Rattle.std.specs.List.{flat_map, AllByRecursion}
 use Rattle.std.specs.Str.{bytes_eq}
@@ -6,30 +6,26 @@ use Rattle.std.proofs.Common.{arith, subst, sym, ap, refl, inl, inr, ◌∙◌}
 use Rattle.std.proofs.lemmas.List.Elements.{All-contains, All-from_recursion, Contains-append_left, Contains-append_right, Contains-append_cases, Contains-push_cases}
 use Rattle.std.proofs.lemmas.List.Concat.{flat_map-cons}
 use Rattle.pw_value.specs.ProgramNames.{start_name}
-use Rattle.pw_types.specs.TypedTrees.{FunctionValue, ModuleValue}
-use Rattle.pw_types.specs.Rooms.{room_of}
-use Rattle.pw_types.specs.TypedModules.{WellTyped, IsFunction as IsSourceFunction}
-use Rattle.pw_types.specs.Rooms.{start_room}
+use Rattle.pw_types.specs.Rooms.{room_of, start_room}
 use Rattle.pw_db.specs.declared.database.Directives.{Directives}
-use Rattle.pw_db.specs.Database.{IsDirectives}
+use Rattle.pw_db.specs.Database.{IsDirectives, IsDatabase}
 use Rattle.pw_flow.specs.declared.flow.FlowFn.{FlowFn}
 use Rattle.pw_flow.specs.declared.flow.FlowModule.{FlowModule}
 use Rattle.pw_flow.specs.ValidFlow.{IsFunction, IsValid}
 use Rattle.pw_webflow.specs.declared.web.WebFn.{WebFn}
 use Rattle.pw_webflow.specs.Direction.{directed}
 use Rattle.pw_flow.specs.FrameRooms.{flow_room}
-use Rattle.pw_lower.specs.Modules.{lowered, lowered_function, start_of, start_function}
 use Rattle.pw_alloc.specs.declared.located.Located.{Located}
-use Rattle.pw_cmean.specs.Worlds.{ProgramModule, full_name}
+use Rattle.pw_object.specs.declared.object.Object.{Object}
+use Rattle.pw_cmean.specs.Worlds.{Program, full_name}
 use Rattle.pw_run_languages.specs.Programs as flows
-use Rattle.pw_run_languages.specs.Programs.{functions_of}
+use Rattle.pw_run_languages.specs.Programs.{functions_of, NoneForLibrary}
+use Rattle.pw_run_languages.specs.LawfulPrograms.{IsProgram}
 use Rattle.pw_run_languages.specs.Direction.{directives_of, directed_by}
 use Rattle.pw_run_languages.specs.Serving.{Serves, AllServe}
 use Rattle.pw_run_languages.specs.SelectionLaws.{FramesAre}
-use Rattle.pw_run_languages.specs.LinkingLaws.{frame_in}
-use Rattle.pw_law_lower.specs.Parts.{partless}
 use Rattle.pw_law_layers.specs.Rooms.{MapHasFrames, PlacesFit}
-use Rattle.pw_law_layers.specs.Whole.{image_of, program_of, AllFramesFit}
+use Rattle.pw_law_layers.specs.Whole.{HasRoom, IsBuilt, AllFramesFit}
 
 -- ---- elements
 
@@ -101,58 +97,36 @@ frame_fits fit q d functions frames serve valid lawful f c =
     subst (λ n. n ≤ flow_room f) (sym framed)
     (fit f (directives_of d f.name) s.located (is_function q.modules valid f c) (are_directives d lawful f.name) s.serves)
 
--- ---- functions of the source
+-- ---- built programs
 
-in_modules : (ms : List ProgramModule) (m : ProgramModule) (f : FlowFn) → Contains ms m → Contains (lowered m.name m.tree).functions f
-    → Contains (flat_map (λ m. m.functions) (map (λ m. lowered m.name m.tree) ms)) f
-in_modules [] m f c h = absurd (nowhere m c)
-in_modules (n ∷ ns) m f c h =
-    subst (λ l. Contains l f) (sym (flat_map-cons (λ m. m.functions) (lowered n.name n.tree) (map (λ m. lowered m.name m.tree) ns)))
-    (elim (Contains-append_cases (n ∷ []) ns m c) [
-      | inl first ↦ elim (Contains-push_cases [] n m first) [
-        | inl none ↦ absurd (nowhere m none)
-        | inr e ↦ Contains-append_left (lowered n.name n.tree).functions (flat_map (λ m. m.functions) (map (λ m. lowered m.name m.tree) ns)) f
-            (subst (λ m. Contains (lowered m.name m.tree).functions f) (sym e) h)
-      ]
-      | inr later ↦ Contains-append_right (lowered n.name n.tree).functions (flat_map (λ m. m.functions) (map (λ m. lowered m.name m.tree) ns)) f
-          (in_modules ns m f later h)
-    ])
-
-in_module : (name : List ℕ) (m : ModuleValue) (f : FunctionValue) → Contains m.functions f
-    → Contains (lowered name m).functions (lowered_function name m.records f)
-unfolding lowered
-in_module name m f c =
-    Contains-append_left (map (lowered_function name m.records) m.functions) (start_of m.functions) (lowered_function name m.records f)
-    (map_there (lowered_function name m.records) m.functions f c)
-
-start_in_module : (name : List ℕ) (m : ModuleValue) → Contains (start_of m.functions) start_function → Contains (lowered name m).functions start_function
-unfolding lowered
-start_in_module name m c = Contains-append_right (map (lowered_function name m.records) m.functions) (start_of m.functions) start_function c
-
-pub lowered_name : (name : List ℕ) (m : ModuleValue) (f : FunctionValue) → (lowered_function name m.records f).name ≡ full_name name f.name
-unfolding lowered_function
-lowered_name name m f = refl
-
--- by the laws on the rooms of flow graphs, on places and on the map
-pub all_fit : ((home : List ℕ) (m : ModuleValue) (f : FunctionValue) → IsSourceFunction m f → partless f.body ≡ 0
-    → flow_room (lowered_function home m.records f) ≤ room_of m.records f)
-    → flow_room start_function ≤ start_room → PlacesFit → MapHasFrames → AllFramesFit
-all_fit lowering starts fit map p d functions objects stack built =
-    let q = program_of p objects stack in
-    let frames = map q d functions objects built.accepted.program built.serve built.made in
-    let fits = frame_fits fit q d functions frames built.serve built.accepted.program.modules built.database.directives in
+-- their frames are those that allocation made
+pub frames_are : MapHasFrames → (p : Program) (q : flows.Program) (d : List (List ℕ × Directives)) (functions : List Located) (objects : List Object)
+    → IsBuilt p q d functions objects → FramesAre q functions
+frames_are map p q d functions objects built =
+    let mapped = map q d functions objects built.implements.program built.serve built.made in
     record {
-      functions = λ m f c h.
-          let g = lowered_function m.name m.tree.records f in
-          let a : frame_in (image_of objects stack) g.name ≤ flow_room g = fits g (in_modules p.modules m g c (in_module m.name m.tree f h)) in
-          let typed = All-contains (λ m. WellTyped m.tree) p.modules m built.accepted.typed.modules c in
-          let b : flow_room g ≤ room_of m.tree.records f =
-          lowering m.name m.tree f (All-contains (IsSourceFunction m.tree) m.tree.functions f typed.functions h) (built.parts m f c h) in
-          let both : frame_in (image_of objects stack) g.name ≤ room_of m.tree.records f = omega (arith, a, b) in
-          subst (λ n. frame_in (image_of objects stack) n ≤ room_of m.tree.records f) (lowered_name m.name m.tree f) both;
-      start = λ m c h.
-          let a : frame_in (image_of objects stack) start_name ≤ flow_room start_function =
-          fits start_function (in_modules p.modules m start_function c (start_in_module m.name m.tree h)) in
-          let b : flow_room start_function ≤ start_room = starts in
-          omega (arith, a, b);
+      defined = λ f c. ap (λ (F : List ℕ → ℕ). F f.body.name) built.frames ∙ mapped.defined f c;
+      library = subst NoneForLibrary (sym built.frames) mapped.library;
+    }
+
+-- the frame of a function that has at most so much room
+pub frame_of_room : PlacesFit → (q : flows.Program) (d : List (List ℕ × Directives)) (functions : List Located)
+    → FramesAre q functions → AllServe (map (directed_by d) (functions_of q)) functions → IsProgram q → IsDatabase d
+    → (name : List ℕ) (room : ℕ) → HasRoom q name room → q.frame_of name ≤ room
+frame_of_room fit q d functions frames serve program database name room has =
+    let a : q.frame_of has.function.name ≤ flow_room has.function = frame_fits fit q d functions frames serve program.modules database.directives has.function has.there in
+    let b : flow_room has.function ≤ room = has.fits in
+    let c : q.frame_of has.function.name ≡ q.frame_of name = ap q.frame_of has.named in
+    omega (arith, a, b, c)
+
+-- by the laws on places and on the map
+pub all_fit : PlacesFit → MapHasFrames → AllFramesFit
+all_fit fit map p q d functions objects built =
+    let frames = frames_are map p q d functions objects built in
+    let within = λ (name : List ℕ) (room : ℕ) (has : HasRoom q name room).
+    let a = frame_of_room fit q d functions frames built.serve built.implements.program built.database name room has in
+    subst (λ (F : List ℕ → ℕ). F name ≤ room) built.frames a in
+    record {
+      functions = λ m f c h. within (full_name m.name f.name) (room_of m.tree.records f) (built.implements.functions m f c h);
+      start = λ m c h. within start_name start_room built.implements.start;
     }

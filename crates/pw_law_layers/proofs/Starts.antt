@@ -1,31 +1,24 @@
--- The program has the function that calls `main`, and its frame fits in every stack that may be asked for.
+-- The lowered graphs of a program have the function that calls `main`, and implement the program.
 use Rattle.std.specs.Prelude.{ℕ, ◌≡◌, ◌≢◌, ◌≤◌, Bool, true, false, if◌then◌else◌, List, [], ◌∷◌, ◌++◌, map, Contains}
 use Rattle.std.specs.List.{flat_map, AllByRecursion}
 use Rattle.std.specs.Str.{bytes_eq}
 use Rattle.std.proofs.Common.{arith, subst, sym, ap, refl, inl, inr, ◌∙◌}
-use Rattle.std.proofs.lemmas.Bool.{leb-true}
 use Rattle.std.proofs.lemmas.List.Elements.{All-contains, All-from_recursion, Contains-append_left, Contains-append_right, Contains-append_cases, Contains-push_cases}
 use Rattle.std.proofs.lemmas.List.Concat.{flat_map-cons}
-use Rattle.pw_value.specs.Limits.{stack_least}
 use Rattle.pw_value.specs.ProgramNames.{start_name, main_name}
 use Rattle.pw_types.specs.TypedTrees.{Symbol, External, Internal, Hidden, FunctionValue, ModuleValue}
-use Rattle.pw_db.specs.declared.database.Directives.{Directives}
-use Rattle.pw_db.specs.Database.{IsDirectives}
+use Rattle.pw_types.specs.Rooms.{room_of, start_room}
+use Rattle.pw_types.specs.TypedModules.{WellTyped, IsFunction as IsSourceFunction}
 use Rattle.pw_flow.specs.declared.flow.FlowFn.{FlowFn}
 use Rattle.pw_flow.specs.declared.flow.FlowModule.{FlowModule}
 use Rattle.pw_flow.specs.ValidFlow.{IsValid}
 use Rattle.pw_flow.specs.FlowGraph.{function_names}
 use Rattle.pw_flow.specs.FrameRooms.{flow_room}
 use Rattle.pw_lower.specs.Modules.{lowered, lowered_function, start_of, start_function, is_main}
-use Rattle.pw_alloc.specs.declared.located.Located.{Located}
 use Rattle.pw_cmean.specs.Worlds.{ProgramModule, full_name}
-use Rattle.pw_run_languages.specs.Programs as flows
-use Rattle.pw_run_languages.specs.Programs.{functions_of}
-use Rattle.pw_run_languages.specs.Direction.{directed_by}
-use Rattle.pw_run_languages.specs.Serving.{AllServe}
-use Rattle.pw_run_languages.specs.SelectionLaws.{FramesAre}
-use Rattle.pw_law_layers.specs.Rooms.{PlacesFit}
-use Rattle.pw_law_layers.proofs.Frames.{nowhere, first_there, map_there, frame_fits, lowered_name}
+use Rattle.pw_law_lower.specs.Parts.{partless}
+use Rattle.pw_law_layers.specs.Whole.{LoweredImplements}
+use Rattle.pw_law_layers.proofs.Frames.{nowhere, first_there, map_there}
 
 -- ---- elements
 
@@ -70,6 +63,10 @@ in_all (n ∷ ns) m f c h = subst (λ l. Contains l f) (sym (flat_map-cons (λ m
       ]
       | inr later ↦ Contains-append_right n.functions (flat_map (λ m. m.functions) ns) f (in_all ns m f later h)
     ])
+
+pub lowered_name : (name : List ℕ) (m : ModuleValue) (f : FunctionValue) → (lowered_function name m.records f).name ≡ full_name name f.name
+unfolding lowered_function
+lowered_name name m f = refl
 
 -- ---- where a function `main` is, the function that calls it is too
 
@@ -145,12 +142,38 @@ starts ms valid c =
     in_all flows (lowered m.from.name m.from.tree) start_function
     (map_there (λ (m : ProgramModule). lowered m.name m.tree) ms m.from m.there) (starts_in m.from lawful named)
 
--- the frame of that function fits in the least stack
-pub start_fits : PlacesFit → (q : flows.Program) (d : List (List ℕ × Directives)) (functions : List Located)
-    → FramesAre q functions → AllServe (map (directed_by d) (functions_of q)) functions
-    → AllByRecursion IsValid q.modules → AllByRecursion (λ f. IsDirectives f.1) d
-    → Contains (functions_of q) start_function → q.frame_of start_name ≤ stack_least
-start_fits fit q d functions frames serve valid lawful c =
-    let a : q.frame_of start_name ≤ flow_room start_function = frame_fits fit q d functions frames serve valid lawful start_function c in
-    let b : flow_room start_function ≤ stack_least = leb-true (flow_room start_function) stack_least refl in
-    omega (arith, a, b)
+-- ---- the lowered graphs implement the program
+
+in_module : (name : List ℕ) (m : ModuleValue) (f : FunctionValue) → Contains m.functions f
+    → Contains (lowered name m).functions (lowered_function name m.records f)
+unfolding lowered
+in_module name m f c =
+    Contains-append_left (map (lowered_function name m.records) m.functions) (start_of m.functions) (lowered_function name m.records f)
+    (map_there (lowered_function name m.records) m.functions f c)
+
+-- by the laws on the rooms of flow graphs
+pub lowered_implements : ((home : List ℕ) (m : ModuleValue) (f : FunctionValue) → IsSourceFunction m f → partless f.body ≡ 0
+    → flow_room (lowered_function home m.records f) ≤ room_of m.records f)
+    → flow_room start_function ≤ start_room → LoweredImplements
+lowered_implements rooms least low p frame_of stack checked parts accepted =
+    let program = accepted.program in
+    record {
+      program = program;
+      runs = λ input none bytes. low p frame_of stack input checked accepted none bytes;
+      functions = λ m f c h.
+          let g = lowered_function m.name m.tree.records f in
+          let flows = map (λ m. lowered m.name m.tree) p.modules in
+          let typed = All-contains (λ m. WellTyped m.tree) p.modules m accepted.typed.modules c in
+          record {
+            function = g;
+            there = in_all flows (lowered m.name m.tree) g (map_there (λ (m : ProgramModule). lowered m.name m.tree) p.modules m c) (in_module m.name m.tree f h);
+            named = lowered_name m.name m.tree f;
+            fits = rooms m.name m.tree f (All-contains (IsSourceFunction m.tree) m.tree.functions f typed.functions h) (parts m f c h);
+          };
+      start = record {
+        function = start_function;
+        there = starts p.modules program.modules program.start;
+        named = refl;
+        fits = least;
+      };
+    }

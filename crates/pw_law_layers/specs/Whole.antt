@@ -15,6 +15,8 @@ use Rattle.pw_types.specs.Rooms.{room_of, start_room}
 use Rattle.pw_db.specs.declared.database.Directives.{Directives}
 use Rattle.pw_db.specs.Database.{IsDatabase}
 use Rattle.pw_flow.specs.declared.flow.FlowGlobal.{FlowGlobal}
+use Rattle.pw_flow.specs.declared.flow.FlowFn.{FlowFn}
+use Rattle.pw_flow.specs.FrameRooms.{flow_room}
 use Rattle.pw_alloc.specs.declared.located.Located.{Located}
 use Rattle.pw_object.specs.declared.object.Object.{Object}
 use Rattle.pw_image.specs.declared.image.Image.{Image}
@@ -32,8 +34,8 @@ use Rattle.pw_run_languages.specs.Late.{RefinesLately}
 use Rattle.pw_run_languages.specs.Memory.{scalar_of}
 use Rattle.pw_run_languages.specs.Programs as flows
 use Rattle.pw_run_languages.specs.FlowRun as flow
-use Rattle.pw_run_languages.specs.Programs.{globals_of, AreBytes}
-use Rattle.pw_run_languages.specs.LawfulPrograms.{graph_of}
+use Rattle.pw_run_languages.specs.Programs.{functions_of, globals_of, AreBytes, NoneForLibrary}
+use Rattle.pw_run_languages.specs.LawfulPrograms.{IsProgram, graph_of}
 use Rattle.pw_run_languages.specs.Direction.{directed_functions, MomentAlike}
 use Rattle.pw_run_languages.specs.Serving.{AllServe}
 use Rattle.pw_run_languages.specs.Standing.{pointer_address, byte_of, EventInWords}
@@ -98,52 +100,63 @@ InMachine p named m e = ⊥
 
 -- ---- a program and what was made of it
 
--- the frames are those of the image's map
+-- a function of the name takes at most so much room
+pub record HasRoom (q : flows.Program) (name : List ℕ) (room : ℕ) : Type 0 where
+  pub function : FlowFn
+  pub there : Contains (functions_of q) function
+  pub named : function.name ≡ name
+  pub fits : flow_room function ≤ room
+
+-- Flow graphs do what the program means, with their frames and their stack, and none takes more room than its source:
+-- those that lowering gives, or what later passes make of them.
+pub record Implements (p : Program) (q : flows.Program) : Type 0 where
+  pub program : IsProgram q
+  pub runs : (input : List ℕ) → NoneForLibrary q.frame_of → AreBytes input →
+      Refines (MomentKept q) (source_stages p q.frame_of q.stack input) (flow.flow_run q input)
+  pub functions : (m : ProgramModule) (f : FunctionValue) → Contains p.modules m → Contains m.tree.functions f →
+      HasRoom q (full_name m.name f.name) (room_of m.tree.records f)
+  pub start : HasRoom q start_name start_room
+
 abbrev pub image_of : List Object → ℕ → Image
 image_of objects stack = linked objects stack
 
-abbrev pub program_of : Program → List Object → ℕ → flows.Program
-program_of p objects stack = flow_program p (frame_in (image_of objects stack)) stack
-
--- An accepted program, a lawful stack, sound directives, places that serve, and the objects made with them, which fit
--- into the memory.
-pub record IsBuilt (p : Program) (d : List (List ℕ × Directives)) (functions : List Located) (objects : List Object) (stack : ℕ) : Type 0 where
-  pub checked : AreChecked p
-  pub parts : HaveParts p
-  pub accepted : IsAccepted p (frame_in (image_of objects stack)) stack
-  pub names : AreNamesApart (program_of p objects stack)
-  pub enough : stack_least ≤ stack
+-- Flow graphs that implement the program, with the frames of the image's map and a lawful stack, sound directives, places
+-- that serve, and the objects made with them, which fit into the memory.
+pub record IsBuilt (p : Program) (q : flows.Program) (d : List (List ℕ × Directives)) (functions : List Located) (objects : List Object) : Type 0 where
+  pub implements : Implements p q
+  pub frames : q.frame_of ≡ frame_in (image_of objects q.stack)
+  pub names : AreNamesApart q
+  pub enough : stack_least ≤ q.stack
   pub database : IsDatabase d
-  pub sound : Sound (graph_of (program_of p objects stack)) d
-  pub serve : AllServe (directed_functions (program_of p objects stack) d) functions
-  pub made : AreObjectsOf (program_of p objects stack) functions objects
-  pub fits : size_fault objects stack ≡ None
+  pub sound : Sound (graph_of q) d
+  pub serve : AllServe (directed_functions q d) functions
+  pub made : AreObjectsOf q functions objects
+  pub fits : size_fault objects q.stack ≡ None
 
 -- ---- what holds of them
 
-pub record Holds (p : Program) (d : List (List ℕ × Directives)) (functions : List Located) (objects : List Object) (stack : ℕ) (input : List ℕ) : Type 0 where
+pub record Holds (p : Program) (q : flows.Program) (d : List (List ℕ × Directives)) (functions : List Located) (objects : List Object) (input : List ℕ) : Type 0 where
   -- the source agrees with the machine
-  pub agree : Agree (source_runs p (frame_in (image_of objects stack)) stack input) (image_start (image_of objects stack).memory) input
+  pub agree : Agree (source_runs p (frame_in (image_of objects q.stack)) q.stack input) (image_start (image_of objects q.stack).memory) input
   -- each global has its value in its place at each call and return
-  pub places : Refines (InMachine (program_of p objects stack) (address_of (image_of objects stack)))
-      (source_stages p (frame_in (image_of objects stack)) stack input)
-      (calls_of (image_run (program_of p objects stack) functions (image_of objects stack) input))
+  pub places : Refines (InMachine q (address_of (image_of objects q.stack)))
+      (source_stages p (frame_in (image_of objects q.stack)) q.stack input)
+      (calls_of (image_run q functions (image_of objects q.stack) input))
   -- where the source is defined, each return keeps the registers, and the traffic law holds
-  pub registers : IsDefined (source_runs p (frame_in (image_of objects stack)) stack input) → (n : ℕ) →
-      Notes (KeepRegisters d) (image_run (program_of p objects stack) functions (image_of objects stack) input n)
-  pub traffic : IsDefined (source_runs p (frame_in (image_of objects stack)) stack input) → (n : ℕ) →
-      Notes (ObeysTraffic (graph_of (program_of p objects stack)) d) (image_run (program_of p objects stack) functions (image_of objects stack) input n)
+  pub registers : IsDefined (source_runs p (frame_in (image_of objects q.stack)) q.stack input) → (n : ℕ) →
+      Notes (KeepRegisters d) (image_run q functions (image_of objects q.stack) input n)
+  pub traffic : IsDefined (source_runs p (frame_in (image_of objects q.stack)) q.stack input) → (n : ℕ) →
+      Notes (ObeysTraffic (graph_of q) d) (image_run q functions (image_of objects q.stack) input n)
 
--- What each layer keeps in the runs of one program, with its directives and its places: selection and placement at the addresses
--- that linking gives, with the words that the routines leave there.
-pub record LayersKeep (p : Program) (d : List (List ℕ × Directives)) (functions : List Located) (objects : List Object) (stack : ℕ) (input : List ℕ) : Type 0 where
-  pub lowering : Refines (MomentKept (program_of p objects stack))
-      (source_stages p (frame_in (image_of objects stack)) stack input) (flow.flow_run (program_of p objects stack) input)
-  pub direction : DirectionKeeps (program_of p objects stack) d input
-  pub places : PlacesKeep (program_of p objects stack) d functions input
-  pub linking : LinkKeeps (program_of p objects stack) functions (image_of objects stack) input
-  pub selection : SelectionKeeps (program_of p objects stack) d functions linking.addresses linking.scratch input
-  pub placement : PlacementKeeps (program_of p objects stack) functions linking.addresses linking.scratch input
+-- What each layer keeps in the runs of one program, with its flow graphs, its directives and its places: selection and
+-- placement at the addresses that linking gives, with the words that the routines leave there.
+pub record LayersKeep (p : Program) (q : flows.Program) (d : List (List ℕ × Directives)) (functions : List Located) (objects : List Object) (input : List ℕ) : Type 0 where
+  pub lowering : Refines (MomentKept q) (source_stages p (frame_in (image_of objects q.stack)) q.stack input) (flow.flow_run q input)
+  pub direction : DirectionKeeps q d input
+  pub places : PlacesKeep q d functions input
+  pub linking : LinkKeeps q functions (image_of objects q.stack) input
+  pub selection : SelectionKeeps q d functions linking.addresses linking.scratch input
+  pub placement : PlacementKeeps q functions linking.addresses linking.scratch input
 
 -- each frame is at most its function's room
 pub record FramesFit (p : Program) (v : Image) : Type 0 where
@@ -163,24 +176,30 @@ RefinementGoesThrough =
     Refines (EventAlike Same Same) webs places → Refines (EventInWords p named) places lines → RefinesLately Same lines machine →
     Refines (InMachine p named) meaning (calls_of machine)
 
+-- by the law of lowering, the lowered flow graphs of an accepted program implement it
+abbrev pub LoweredImplements : Type 0
+LoweredImplements =
+    LoweringKeepsRuns →
+    (p : Program) (frame_of : List ℕ → ℕ) (stack : ℕ) → AreChecked p → HaveParts p → IsAccepted p frame_of stack →
+    Implements p (flow_program p frame_of stack)
+
 -- what the layers keep of one program gives what holds of it
 abbrev pub LayersHold : Type 0
 LayersHold =
-    (p : Program) (d : List (List ℕ × Directives)) (functions : List Located) (objects : List Object) (stack : ℕ) (input : List ℕ) →
-    LayersKeep p d functions objects stack input → Holds p d functions objects stack input
+    (p : Program) (q : flows.Program) (d : List (List ℕ × Directives)) (functions : List Located) (objects : List Object) (input : List ℕ) →
+    LayersKeep p q d functions objects input → Holds p q d functions objects input
 
--- so do, of a built program, the laws of lowering, selection and linking, and those of direction and of places for its
--- directives and its places
+-- so do, of a built program, the laws of selection and linking, and those of direction and of places for its directives
+-- and its places
 abbrev pub LayersCompose : Type 0
 LayersCompose =
-    LoweringKeepsRuns → SelectionKeepsRuns → LinkKeepsRuns →
-    (p : Program) (d : List (List ℕ × Directives)) (functions : List Located) (objects : List Object) (stack : ℕ) (input : List ℕ) →
-    IsBuilt p d functions objects stack → AreBytes input →
-    DirectionKeeps (program_of p objects stack) d input → PlacesKeep (program_of p objects stack) d functions input →
-    Holds p d functions objects stack input
+    SelectionKeepsRuns → LinkKeepsRuns →
+    (p : Program) (q : flows.Program) (d : List (List ℕ × Directives)) (functions : List Located) (objects : List Object) (input : List ℕ) →
+    IsBuilt p q d functions objects → AreBytes input → DirectionKeeps q d input → PlacesKeep q d functions input →
+    Holds p q d functions objects input
 
 -- of each built program, each frame is at most its function's room
 abbrev pub AllFramesFit : Type 0
 AllFramesFit =
-    (p : Program) (d : List (List ℕ × Directives)) (functions : List Located) (objects : List Object) (stack : ℕ) →
-    IsBuilt p d functions objects stack → FramesFit p (image_of objects stack)
+    (p : Program) (q : flows.Program) (d : List (List ℕ × Directives)) (functions : List Located) (objects : List Object) →
+    IsBuilt p q d functions objects → FramesFit p (image_of objects q.stack)

@@ -3,7 +3,7 @@
 
 ghost use Rattle.pw_law_layers.specs.Guarding.{SoundDirectivesGuard};
 ghost use Rattle.pw_law_layers.specs.Rooms.{PlacesFit, MapHasFrames};
-ghost use Rattle.pw_law_layers.specs.Whole.{LayersCompose, LayersHold, AllFramesFit, RefinementGoesThrough};
+ghost use Rattle.pw_law_layers.specs.Whole.{AllFramesFit, LayersCompose, LayersHold, LoweredImplements, RefinementGoesThrough};
 
 use pw_db_sound::callers_leave_free_registers_alone;
 use pw_law_code::code::placement_keeps_runs;
@@ -28,6 +28,14 @@ pub fn maps_have_frames()
     modules_stand_in_order();
 }
 
+/// From the law of lowering follows: the lowered flow graphs of an accepted program of checked texts implement it: they do
+/// what it means, and no function takes more room than its source.
+pub fn lowering_implements()
+    ensures { LoweredImplements }
+{
+    frames_fit();
+}
+
 /// Under sound directives a register that a function may leave with something else in it, each of its callers may leave so
 /// too, or saves.
 pub fn sound_directives_guard()
@@ -43,8 +51,8 @@ pub fn layers_hold()
     ensures { LayersHold }
 {}
 
-/// The same follows of each built program from the laws of lowering, selection and linking, and from those of direction and
-/// of places for the program's own directives and places.
+/// The same follows of each built program from the laws of selection and linking, and from those of direction and of places
+/// for the program's own directives and places. The flow graphs that it was built of are any that implement the program.
 pub fn layers_compose()
     ensures { LayersCompose }
 {
@@ -58,7 +66,6 @@ pub fn layers_compose()
 pub fn frames_are_within_rooms()
     ensures { AllFramesFit }
 {
-    frames_fit();
     places_fit_their_rooms();
     maps_have_frames();
 }

@@ -1,3 +1,4 @@
 pub mod NamingLemmas
 pub mod FullLemmas
 pub mod BenchLemmas
+pub mod WholeLemmas

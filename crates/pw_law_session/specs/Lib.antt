@@ -1,2 +1,2 @@
-pub mod FromBuildLaws
 pub mod Full
+pub mod Whole

@@ -6,3 +6,4 @@ pub mod Directives
 pub mod Forgetting
 pub mod Growing
 pub mod OwnCalls
+pub mod Telling

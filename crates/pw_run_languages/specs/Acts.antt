@@ -11,6 +11,7 @@ use Rattle.pw_inst.specs.declared.relocation.Symbol.TheVariants as symbol
 use Rattle.pw_inst.specs.Computing.{Action, Puts, Loads, Stores, Shifts, Clears, Asks, bytes_of_width, action}
 use Rattle.pw_delay.specs.declared.items.Relocation.{Relocation}
 use Rattle.pw_delay.specs.declared.items.Word.{Word}
+use Rattle.pw_run_languages.specs.Traces.{load_of, store_of}
 use Rattle.pw_run_languages.specs.Addresses.{Addresses}
 
 -- ---- words with their addresses
@@ -117,16 +118,7 @@ acts w (Some i) c = if c.skip then Acts (record c { skip = false }) else execute
 
 -- ---- accesses
 
--- what an action loads, or stores: the address and the number of bytes
-abbrev pub load_of : Action → Option (ℕ × ℕ)
-load_of (Loads width a t) = Some (a, bytes_of_width width)
-load_of other = None
-
-abbrev pub store_of : Action → Option (ℕ × ℕ)
-store_of (Stores width a word) = Some (a, bytes_of_width width)
-store_of other = None
-
--- what an instruction does
+-- what an instruction loads, or stores
 abbrev pub loaded_at : Inst → Core → Option (ℕ × ℕ)
 loaded_at i c = load_of (action_of i c)
 

@@ -20,6 +20,7 @@ pub mod Links
 pub mod Words
 pub mod SelectionLaws
 pub mod Late
+pub mod ImageTrace
 pub mod MachineRun
 pub mod CodeStands
 pub mod LinkingLaws

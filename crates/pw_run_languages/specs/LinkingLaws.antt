@@ -24,6 +24,7 @@ use Rattle.pw_run_languages.specs.Serving.{AllServe}
 use Rattle.pw_run_languages.specs.Addresses.{Addresses, AreLawful}
 use Rattle.pw_run_languages.specs.LineRun.{line_run}
 use Rattle.pw_run_languages.specs.SelectionLaws.{placed_program, FramesAre}
+pub use Rattle.pw_run_languages.specs.ImageTrace.{address_of}
 use Rattle.pw_run_languages.specs.MachineRun.{Map, traced_run}
 
 -- ---- objects of a program
@@ -44,10 +45,6 @@ AreNamesApart p =
     AreDistinct (map (λ r. r.0) routines ++ (map (λ f. f.name) (functions_of p) ++ map (λ g. g.name) (globals_of p)))
 
 -- ---- the image
-
--- where its map has a function or a global
-abbrev pub address_of : Image → List ℕ → ℕ
-address_of v name = address_in (map (λ f. (f.name, f.address)) v.functions ++ map (λ g. (g.name, g.address)) v.globals) name
 
 -- the frame of a function by its map
 abbrev pub frame_in : Image → List ℕ → ℕ

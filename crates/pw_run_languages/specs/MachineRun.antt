@@ -16,6 +16,8 @@ use Rattle.pw_machine.specs.Run.{State, Progress, Running, Stopped, run_of}
 use Rattle.pw_run.specs.Runs.{View, Stage, Going, Over, Wrong, Ended, StackFull}
 use Rattle.pw_run_languages.specs.Traces.{Standing, Event, Called, Returned, Loaded, Stored, with_refusal, touches}
 use Rattle.pw_run_languages.specs.Traffic.{active}
+pub use Rattle.pw_run_languages.specs.ImageTrace.{start_state}
+use Rattle.pw_run_languages.specs.ImageTrace.{Symbols}
 use Rattle.pw_run_languages.specs.Programs.{Program, names_of, globals_of}
 use Rattle.pw_run_languages.specs.Acts as lines
 use Rattle.pw_run_languages.specs.Acts.{loaded_at, stored_at}
@@ -135,9 +137,6 @@ staged input steps (Stopped (machine.Ended status) s) log = Over (Ended status) 
 staged input steps (Stopped machine.StackStop s) log = Over StackFull (shown input steps s (with_refusal log))
 staged input steps (Stopped (machine.Halted halt at) s) log = Wrong
 
-abbrev pub start_state : Core → List ℕ → State
-start_state c input = record { core = c; rest = input; output = [] }
-
 -- the machine over an input, from a state of registers and memory
 unfoldable pub traced_run : Map → Core → List ℕ → ℕ → Stage (Event ℕ ℕ)
 traced_run m c input n =
@@ -151,3 +150,12 @@ told_active log = map (λ o. o.function) (active log)
 
 abbrev pub own_active : List Call → List (List ℕ)
 own_active calls = map (λ c. c.function) calls
+
+-- ---- the same without where globals stand and what registers hold
+
+abbrev pub sized : Map → FlowGlobal → List (List ℕ × ℕ)
+sized m g = if is_eligible m g then (g.name, g.size) ∷ [] else []
+
+-- the symbols of which the run tells
+abbrev pub symbols_in : Map → Symbols
+symbols_in m = record { functions = names_of m.flow; globals = flat_map (sized m) (globals_of m.flow); named = m.named }

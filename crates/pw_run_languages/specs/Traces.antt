@@ -4,6 +4,7 @@ use Rattle.std.specs.Prelude.{ℕ, ◌≡◌, ◌≤◌, ◌+◌, ◌-◌, ◌&&
 use Rattle.std.specs.List.{list_any}
 use Rattle.std.specs.Str.{bytes_eq}
 use Rattle.pw_value.specs.ProgramNames.{start_name, library_functions}
+use Rattle.pw_inst.specs.Computing.{Action, Loads, Stores, bytes_of_width}
 use Rattle.pw_db.specs.Limits.{first_register, last_register}
 use Rattle.pw_db.specs.declared.database.Web.{Web}
 use Rattle.pw_db.specs.declared.database.Role.TheVariants.{Member}
@@ -87,6 +88,15 @@ with_refusal (Called f globals registers ∷ l) = Refused f ∷ l
 with_refusal l = l
 
 -- ---- accesses
+
+-- what an action loads, or stores: the address and the number of bytes
+abbrev pub load_of : Action → Option (ℕ × ℕ)
+load_of (Loads width a t) = Some (a, bytes_of_width width)
+load_of other = None
+
+abbrev pub store_of : Action → Option (ℕ × ℕ)
+store_of (Stores width a word) = Some (a, bytes_of_width width)
+store_of other = None
 
 -- an access has a byte in common with so many bytes from an address on
 abbrev pub touches : Option (ℕ × ℕ) → ℕ → ℕ → Bool

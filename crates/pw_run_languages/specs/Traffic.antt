@@ -67,15 +67,22 @@ OnlyWhereWritten {B} {V} d v calls = (c : Open B V) (w : Web) → Contains calls
 abbrev pub NoneHasStored : {B V : Type 0} → List (List ℕ × Directives) → List ℕ → List (Open B V) → Type 0
 NoneHasStored {B} {V} d v calls = (c : Open B V) (w : Web) → Contains calls c → Enters d w v c.function → ¬ Contains c.inside (Stored v)
 
--- what the law asks of an event where these calls are active
-abbrev pub Obeys : {B V : Type 0} → Graph → List (List ℕ × Directives) → Event B V → List (Open B V) → Type 0
-Obeys g d (Loaded v) calls = IsCovered g d v → StandsInEntry d v (Loaded v) calls
-Obeys g d (Stored v) calls = IsCovered g d v → StandsInEntry d v (Stored v) calls × OnlyWhereWritten d v calls
-Obeys g d (Called f gs rs) calls = (v : List ℕ) → IsCovered g d v → NoneHasStored d v calls
-Obeys g d (Refused f) calls = (v : List ℕ) → IsCovered g d v → NoneHasStored d v calls
-Obeys g d (Returned f inner gs rs ss) calls = Unit {0}
+-- what the law asks of an event where these calls are active, of the globals of which it speaks
+abbrev pub ObeysFor : {B V : Type 0} → (List ℕ → Type 0) → List (List ℕ × Directives) → Event B V → List (Open B V) → Type 0
+ObeysFor Speaks d (Loaded v) calls = Speaks v → StandsInEntry d v (Loaded v) calls
+ObeysFor Speaks d (Stored v) calls = Speaks v → StandsInEntry d v (Stored v) calls × OnlyWhereWritten d v calls
+ObeysFor Speaks d (Called f gs rs) calls = (v : List ℕ) → Speaks v → NoneHasStored d v calls
+ObeysFor Speaks d (Refused f) calls = (v : List ℕ) → Speaks v → NoneHasStored d v calls
+ObeysFor Speaks d (Returned f inner gs rs ss) calls = Unit {0}
 
 -- the law of a trace, the latest event first
+abbrev pub ObeysTrafficFor : {B V : Type 0} → (List ℕ → Type 0) → List (List ℕ × Directives) → List (Event B V) → Type 0
+ObeysTrafficFor Speaks d [] = Unit {0}
+ObeysTrafficFor Speaks d (e ∷ l) = ObeysFor Speaks d e (active l) × ObeysTrafficFor Speaks d l
+
+-- of covered globals
+abbrev pub Obeys : {B V : Type 0} → Graph → List (List ℕ × Directives) → Event B V → List (Open B V) → Type 0
+Obeys g d = ObeysFor (IsCovered g d) d
+
 abbrev pub ObeysTraffic : {B V : Type 0} → Graph → List (List ℕ × Directives) → List (Event B V) → Type 0
-ObeysTraffic g d [] = Unit {0}
-ObeysTraffic g d (e ∷ l) = Obeys g d e (active l) × ObeysTraffic g d l
+ObeysTraffic g d = ObeysTrafficFor (IsCovered g d) d

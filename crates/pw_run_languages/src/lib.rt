@@ -6,6 +6,6 @@ pub mod machine_calls;
 pub mod notes;
 pub mod run_lines;
 
-pub use machine_calls::noted_calls_are_its_own;
+pub use machine_calls::{noted_calls_are_its_own, traces_tell_what_is_noted};
 pub use notes::traffic_rests_on_relations;
 pub use run_lines::late_logs_compose;

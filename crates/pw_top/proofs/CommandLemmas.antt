@@ -18,9 +18,7 @@ use Rattle.pw_go.specs.Ends.{EndsIn}
 use Rattle.pw_session.specs.FromBuild.BuildFault.{BuildFault}
 use Rattle.pw_session.specs.FromBuildFiles.Building.{Outcome}
 use Rattle.pw_session.specs.FromBuildFiles.Driving.{BuildEffect, IsBuildAnswer, built_effect}
-use Rattle.pw_go.specs.FullBuild.{Build, full_build}
-use Rattle.pw_go.specs.FullBuild as build
-use Rattle.pw_go.specs.Going.{IsLineOf, IsNoUsage, build_effect, refused_line}
+use Rattle.pw_go.specs.Going.{GoEffect, IsGoAnswer}
 use Rattle.pw_commands.specs.Analysing.{AnalyseEffect, AnalyseOver, summaries_of}
 use Rattle.pw_commands.specs.Linking.{LinkEffect, LinkOver, objects_of}
 use Rattle.pw_commands.specs.Needed.{needed, needed_bytes}
@@ -33,6 +31,7 @@ use Rattle.pw_top_words.specs.declared.commands.Command.TheVariants.{Go, Build a
 use Rattle.pw_commands_phases.specs.First.{EffectOfPhase, PhaseOneEffect, PhaseOneOver}
 use Rattle.pw_commands_phases.specs.Made.{IsPhaseAnswer}
 use Rattle.pw_commands_phases.specs.Second.{PhaseTwoEffect, PhaseTwoOver, database_at, flow_at}
+use Rattle.pw_top.specs.Answers.{IsNoUsage}
 use Rattle.pw_top.specs.Commands.{opts_of}
 use Rattle.pw_top.specs.Does.{Does}
 use Rattle.pw_top.proofs.SessionLemmas.{bench_prints}
@@ -41,7 +40,7 @@ use Rattle.pw_top.proofs.DoesLemmas.{Prints, Quiet, left_so, nothing_put, one_do
 -- what the words come to, but for a session
 abbrev pub Comes : Option Command → Files → List ℕ → (Effect → Type 0)
 Comes None files input = λ effect. effect ≡ answers_alone Usage input
-Comes (Some (Go colours stack steps)) files input = λ effect. effect ≡ build_effect (full_build files) steps input
+Comes (Some (Go colours stack steps)) files input = GoEffect files colours stack steps input
 Comes (Some (BuildAll colours stack)) files input = BuildEffect files colours stack input
 Comes (Some (Session colours stack steps)) files input = λ effect. ⊥
 Comes (Some (Bench number colours stack steps)) files input = BenchEffect number (opts_of colours stack steps) input
@@ -146,21 +145,6 @@ ran_does : (one : Effect) (answer : Answer) (told : Told) (new : Option Told) (i
 ran_does one answer told new input rest taken taken' none same h out left =
     one_does one answer told new input rest taken taken' h (subst (λ (fs : List NamedFile). PutsFiles fs answer told new) (sym none) (nothing_put answer told new same)) out left
 
-build_puts : (built : Build) (budget : ℕ) (input : List ℕ) → (build_effect built budget input).puts ≡ []
-build_puts (build.Program numbers) budget input = refl
-build_puts (build.Refused name refusal line) budget input = refl
-build_puts (build.LinkRefused fault) budget input = refl
-
-pub go_does : (told new : Option Told) (old rest taken taken' : Option (List ℕ)) (budget : ℕ) (answer : Answer) → Keeps told new
-    → IfSome told (λ t. IfSome old (λ input. Answers (build_effect (full_build t.files) budget input).answer answer))
-    → IfSome told (λ t. IfSome old (λ input. PutsOut (build_effect (full_build t.files) budget input).output answer taken taken'))
-    → IfSome told (λ t. IfSome old (λ input. LeavesInput (build_effect (full_build t.files) budget input).rest input answer rest))
-    → IfSome told (λ t. IfSome old (λ input. Does (λ e. e ≡ build_effect (full_build t.files) budget input) answer t new input rest taken taken'))
-go_does None new old rest taken taken' budget answer same h out left = tt
-go_does (Some t) new None rest taken taken' budget answer same h out left = tt
-go_does (Some t) new (Some input) rest taken taken' budget answer same h out left =
-    ran_does (build_effect (full_build t.files) budget input) answer t new input rest taken taken' (build_puts (full_build t.files) budget input) same h out left
-
 runs_puts : (found : Result Core Answer) (budget : ℕ) (input : List ℕ) → (runs found budget input).puts ≡ []
 runs_puts (Err answer) budget input = refl
 runs_puts (Ok core) budget input = refl
@@ -175,7 +159,7 @@ run_does (Some t) new None rest taken taken' budget answer same h out left = tt
 run_does (Some t) new (Some input) rest taken taken' budget answer same h out left =
     ran_does (run_effect t.files budget input) answer t new input rest taken taken' (runs_puts (core_in t.files) budget input) same h out left
 
--- ---- the command that builds
+-- ---- the commands that build
 
 built_rest : (comes : Result Outcome BuildFault) (input : List ℕ) → (built_effect comes input).rest ≡ input
 built_rest (Ok outcome) input = refl
@@ -211,13 +195,26 @@ pub build_reads : (count : ℕ) (answer : Answer) → IsBuildAnswer answer → I
 build_reads count ReadFault h = absurd h
 build_reads count _ h = refl
 
+pub go_does : (told new : Option Told) (old rest taken taken' : Option (List ℕ)) (colours stack budget : ℕ) (answer : Answer)
+    → IfSome told (λ t. IfSome old (λ input. Obeys (GoEffect t.files colours stack budget input) answer t new))
+    → IfSome told (λ t. IfSome old (λ input. (e : Effect) → GoEffect t.files colours stack budget input e → PutsOut e.output answer taken taken'))
+    → IfSome told (λ t. IfSome old (λ input. (e : Effect) → GoEffect t.files colours stack budget input e → LeavesInput e.rest input answer rest))
+    → IfSome told (λ t. IfSome old (λ input. Does (GoEffect t.files colours stack budget input) answer t new input rest taken taken'))
+go_does None new old rest taken taken' colours stack budget answer h out left = tt
+go_does (Some t) new None rest taken taken' colours stack budget answer h out left = tt
+go_does (Some t) new (Some input) rest taken taken' colours stack budget answer h out left = record { answers = λ e d. h.answers e d; puts = λ e d. h.puts e d; output = out; rest = left; found = h.found }
+
+pub go_no_usage : (answer : Answer) → IsGoAnswer answer → IsNoUsage answer
+go_no_usage Usage h = h
+go_no_usage _ h = tt
+
 -- ---- what each command leaves of the input is a rest of it
 
 abbrev pub RunsEnd : Type 0
 RunsEnd = (files : Files) (budget : ℕ) (input : List ℕ) → EndsIn input (run_effect files budget input).rest
 
 abbrev pub BuildsEnd : Type 0
-BuildsEnd = (built : Build) (budget : ℕ) (input : List ℕ) → EndsIn input (build_effect built budget input).rest
+BuildsEnd = (files : Files) (colours stack budget : ℕ) (input : List ℕ) (e : Effect) → GoEffect files colours stack budget input e → EndsIn input e.rest
 
 ends_itself : (input : List ℕ) → EndsIn input input
 ends_itself input = ([], refl)
@@ -227,7 +224,7 @@ left_all input e h = subst (EndsIn input) (sym h) (ends_itself input)
 
 pub comes_ends : RunsEnd → BuildsEnd → (command : Option Command) (files : Files) (input : List ℕ) (e : Effect) → Comes command files input e → EndsIn input e.rest
 comes_ends runs builds None files input e h = left_all input e (ap (λ (x : Effect). x.rest) h)
-comes_ends runs builds (Some (Go colours stack steps)) files input e h = subst (λ (x : Effect). EndsIn input x.rest) (sym h) (builds (full_build files) steps input)
+comes_ends runs builds (Some (Go colours stack steps)) files input e h = builds files colours stack steps input e h
 comes_ends runs builds (Some (BuildAll colours stack)) files input e h = left_all input e (comes_rest files colours stack input e h)
 comes_ends runs builds (Some (Session colours stack steps)) files input e h = absurd h
 comes_ends runs builds (Some (Bench number colours stack steps)) files input e h = left_all input e (bench_prints number (opts_of colours stack steps) input e h).rest
@@ -306,30 +303,12 @@ pub plain_line : (told : Option Told) (answer : Answer) → IfSome told (λ t. I
 plain_line None answer = tt
 plain_line (Some t) answer = first_line answer
 
-built_line : (built : Build) (answer : Answer) (line : ℕ) → IsLineOf built answer line → IsLineDue (refused_line built) answer line
-built_line built (Refused name refusal) line h = h
-built_line built _ line h = tt
-
-pub go_line : (told : Option Told) (answer : Answer) (line : ℕ) → IfSome told (λ t. IsLineOf (full_build t.files) answer line) → IfSome told (λ t. IsLineDue (refused_line (full_build t.files)) answer line)
-go_line None answer line h = tt
-go_line (Some t) answer line h = built_line (full_build t.files) answer line h
-
--- ---- what holds of `go` alone
-
-pub of_go : (P : Told → Type 0) (told : Option Told) → IfSome told P → IfSome told (λ t. Unit {0} → P t)
-of_go P None h = tt
-of_go P (Some t) h = λ u. h
-
-pub of_other : (P : Told → Type 0) (told : Option Told) → IfSome told (λ t. ⊥ → P t)
-of_other P None = tt
-of_other P (Some t) = λ h. absurd h
-
 -- ---- words that say no command
 
 pub kept_alone : (told : Option Told) → Keeps told told
 kept_alone None = tt
 kept_alone (Some t) = refl
 
-pub no_line : (told : Option Told) → IfSome told (λ t. Unit {0})
-no_line None = tt
-no_line (Some t) = tt
+pub none_due : (told : Option Told) → IfSome told (λ t. Unit {0})
+none_due None = tt
+none_due (Some t) = tt

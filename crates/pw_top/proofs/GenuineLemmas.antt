@@ -16,7 +16,7 @@ use Rattle.pw_commands_phases.specs.First.{phase_one_puts}
 use Rattle.pw_commands_phases.specs.Second.{IsMade, IsMadeFile, PutsMade}
 use Rattle.pw_session.specs.FromBuildFiles.Driving.{KeepsUnput}
 use Rattle.pw_top_words.specs.declared.commands.Command.{Command}
-use Rattle.pw_top_words.specs.declared.commands.Command.TheVariants.{Build as BuildAll, Session, PhaseOne, Analyse, PhaseTwo, Link}
+use Rattle.pw_top_words.specs.declared.commands.Command.TheVariants.{Go, Build as BuildAll, Session, PhaseOne, Analyse, PhaseTwo, Link}
 use Rattle.pw_session.specs.Removals.{MayRemove}
 use Rattle.pw_top.specs.Commands.{KeepsTheRest, files_put}
 use Rattle.pw_top.proofs.SessionLemmas.{changes_none, rest_none}
@@ -69,6 +69,7 @@ stays_genuine names answer (Some t) (Some now) apart h =
 
 -- the command puts the files of its words alone, and none of them is an object's
 abbrev pub PutsNoObject : Option Command → Type 0
+PutsNoObject (Some (Go colours stack steps)) = ⊥
 PutsNoObject (Some (BuildAll colours stack)) = ⊥
 PutsNoObject (Some (Session colours stack steps)) = ⊥
 PutsNoObject (Some (PhaseTwo name)) = ⊥
@@ -82,6 +83,7 @@ puts_apart (Some (Link stack)) h name = image_apart name
 puts_apart _ h name = tt
 
 others_of : (command : Option Command) (script : Option (List ℕ)) (answer : Answer) (told new : Option Told) → PutsNoObject command → KeepsTheRest command script answer told new → KeepsOthers (files_put command) answer told new
+others_of (Some (Go colours stack steps)) script answer told new p h = absurd p
 others_of (Some (BuildAll colours stack)) script answer told new p h = absurd p
 others_of (Some (Session colours stack steps)) script answer told new p h = absurd p
 others_of command script answer told new p h = h
@@ -130,6 +132,8 @@ unput_alone : (answer : Answer) (told : Told) → KeepsUnput answer told (Some t
 unput_alone answer told = record { put = []; failed = []; own = tt; one = omega arith; none = λ h. refl; told_so = sym (append-nil told.puts); same = λ name n. refl }
 
 pub rest_alone : (command : Option Command) (script : Option (List ℕ)) (told : Option Told) → KeepsTheRest command script NoMemory told told
+rest_alone (Some (Go colours stack steps)) script None = tt
+rest_alone (Some (Go colours stack steps)) script (Some t) = unput_alone NoMemory t
 rest_alone (Some (BuildAll colours stack)) script None = tt
 rest_alone (Some (BuildAll colours stack)) script (Some t) = unput_alone NoMemory t
 rest_alone (Some (Session colours stack steps)) script None = tt

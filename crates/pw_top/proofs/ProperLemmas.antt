@@ -4,14 +4,15 @@ use Rattle.pw_value.specs.declared.fault.LinkFault.{LinkFault}
 use Rattle.pw_value.specs.declared.fault.LinkFault.TheVariants as link
 use Rattle.pw_top_answer.specs.declared.answer.Answer.{Answer}
 use Rattle.pw_top_answer.specs.declared.answer.Answer.TheVariants.{Refused, LinkRefused}
-use Rattle.pw_go.specs.Refusals.{HoldsNoLinkWant, HoldsNoWantOfMemory}
 use Rattle.pw_commands.specs.Outcome.{IsStoreAnswer}
 use Rattle.pw_commands.specs.Running.{IsRunOrStop}
 use Rattle.pw_commands.specs.Showing.{IsShowAnswer}
 use Rattle.pw_commands_phases.specs.Made.{IsPhaseAnswer}
 use Rattle.pw_session.specs.FromBuildFiles.Driving.{IsBuildAnswer}
+use Rattle.pw_go.specs.Going.{IsGoAnswer}
 use Rattle.pw_session.specs.Bench.{IsBenchAnswer}
 use Rattle.pw_session.specs.Outcomes.{IsSessionAnswer}
+use Rattle.pw_top.specs.Answers.{HoldsNoLinkWant, HoldsNoWantOfMemory}
 
 link_proper : (fault : LinkFault) → fault ≢ link.NoMemory → HoldsNoLinkWant fault
 link_proper link.NoMemory h = h refl
@@ -21,6 +22,11 @@ pub build_proper : (answer : Answer) → IsBuildAnswer answer → HoldsNoWantOfM
 build_proper (Refused name refusal) h = h
 build_proper (LinkRefused fault) h = link_proper fault h
 build_proper _ h = tt
+
+pub go_proper : (answer : Answer) → IsGoAnswer answer → HoldsNoWantOfMemory answer
+go_proper (Refused name refusal) h = h
+go_proper (LinkRefused fault) h = link_proper fault h
+go_proper _ h = tt
 
 pub bench_proper : (answer : Answer) → IsBenchAnswer answer → HoldsNoWantOfMemory answer
 bench_proper (Refused name refusal) h = h

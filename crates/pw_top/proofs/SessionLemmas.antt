@@ -12,10 +12,10 @@ use Rattle.pw_session.specs.FromBuild.Phases.{refused_line}
 use Rattle.pw_session.specs.FromBuild.BuildFault.{BuildFault}
 use Rattle.pw_session.specs.FromBuildFiles.Building.{Outcome}
 use Rattle.pw_commands.specs.Outcome.{IsFound}
-use Rattle.pw_go.specs.Going.{IsNoUsage}
 use Rattle.pw_session.specs.declared.opts.SessionOpts.{SessionOpts}
 use Rattle.pw_session.specs.Bench.{BenchEffect, BenchOver, IsBenchAnswer, IsBenchFound, IsBenchLine, ObeysBench, bench_files}
 use Rattle.pw_session.specs.Changes.{Change, ChangePrefix, MakesChanges, MakesSome}
+use Rattle.pw_top.specs.Answers.{IsNoUsage}
 use Rattle.pw_top.specs.Rest.{LeavesRest}
 use Rattle.pw_session.specs.Outcomes.{IsSessionAnswer, LeavesScript, ObeysSession}
 use Rattle.pw_top.specs.Does.{Does, DoesSession}

@@ -1,5 +1,5 @@
 -- What holds of the answer that is told: it is the answer, or want of memory for its line.
-use Rattle.std.proofs.Common.{◌≡◌, ℕ, ◌⊎◌, ⊎_elim, inl, inr, List, [], Option, Some, None, refl, sym, ap, ◌∙◌, subst, append-nil}
+use Rattle.std.proofs.Common.{◌≡◌, ℕ, ◌⊎◌, ⊎_elim, inl, inr, List, [], Option, Some, None, Result, Ok, Err, refl, sym, ap, ◌∙◌, subst, append-nil}
 use Rattle.std.specs.Prelude.{IfSome}
 use Rattle.pw_io.specs.Files.{Files, Told}
 use Rattle.pw_front_end.specs.declared.refusal.Refusal.{Refusal}
@@ -10,15 +10,15 @@ use Rattle.pw_top_answer.specs.Effects.{Effect, NamedFile, PutsFiles, PutPrefix}
 use Rattle.pw_top_answer.specs.Outcomes.{Answers, InputCount, IsLineDue, LeavesInput, LeavesStreams, OutputCount, StoreCount, ToldAs, WasReadInPart}
 use Rattle.pw_go.specs.Ends.{EndsIn}
 use Rattle.pw_commands.specs.Others.{KeepsOthers}
-use Rattle.pw_go.specs.FullBuild as build
-use Rattle.pw_go.specs.FullBuild.{Build, full_build}
-use Rattle.pw_go.specs.Going.{AnswersBuild, ReturnsSum, build_effect}
-use Rattle.pw_go.specs.Refusals.{HoldsNoWantOfMemory}
+use Rattle.pw_session.specs.FromBuild.BuildFault.{BuildFault}
+use Rattle.pw_session.specs.FromBuildFiles.Building.{Outcome}
+use Rattle.pw_go.specs.Going.{AnswersComes}
 use Rattle.pw_top_words.specs.declared.commands.Command.{Command}
 use Rattle.pw_top_words.specs.declared.commands.Command.TheVariants.{Go, Build as BuildAll, Session}
 use Rattle.pw_session.specs.FromBuildFiles.Driving.{KeepsUnput, Unput}
 use Rattle.pw_session.specs.Removals.{MayRemove}
-use Rattle.pw_top.specs.Commands.{EndsScript, KeepsTheRest, files_put, opts_of}
+use Rattle.pw_top.specs.Answers.{HoldsNoWantOfMemory}
+use Rattle.pw_top.specs.Commands.{EndsScript, KeepsTheRest, RefusesAsBuilt, files_put, opts_of}
 use Rattle.pw_top.specs.Does.{Does, DoesAs}
 use Rattle.pw_top.proofs.DoesLemmas.{memory_here, out_part}
 use Rattle.pw_top.proofs.SessionLemmas.{left_memory, session_memory_here, session_no_memory, some_memory}
@@ -114,49 +114,24 @@ ends_told command script answer last t h = told_by (EndsScript command script) a
 
 -- ---- the refusals of `go`
 
-build_no_memory : (built : Build) → AnswersBuild built NoMemory
-build_no_memory (build.Program numbers) = tt
-build_no_memory (build.Refused name refusal line) = tt
-build_no_memory (build.LinkRefused fault) = tt
+comes_no_memory : (comes : Result Outcome BuildFault) → AnswersComes comes NoMemory
+comes_no_memory (Ok outcome) = tt
+comes_no_memory (Err fault) = tt
 
-pub memory_refuses : (P : Type 0) (told : Option Told) → IfSome told (λ t. P → AnswersBuild (full_build t.files) NoMemory)
-memory_refuses P None = tt
-memory_refuses P (Some t) = λ p. build_no_memory (full_build t.files)
+refuses_no_memory : (command : Option Command) (files : Files) → RefusesAsBuilt command files NoMemory
+refuses_no_memory (Some (Go colours stack steps)) files = λ comes h. comes_no_memory comes
+refuses_no_memory command files = tt
 
-pub told_refuses : (P : Type 0) (first : Option Told) (answer last : Answer) → ToldAs answer last → IfSome first (λ t. P → AnswersBuild (full_build t.files) answer) → IfSome first (λ t. P → AnswersBuild (full_build t.files) last)
-told_refuses P None answer last t h = tt
-told_refuses P (Some now) answer last t h = λ p. told_by (AnswersBuild (full_build now.files)) answer last t (h p) (λ n a. build_no_memory (full_build now.files))
+pub memory_refuses : (command : Option Command) (told : Option Told) → IfSome told (λ t. RefusesAsBuilt command t.files NoMemory)
+memory_refuses command None = tt
+memory_refuses command (Some t) = refuses_no_memory command t.files
 
-pub by_law : (P : Type 0) (Q : Files → Answer → Type 0) (first : Option Told) (last : Answer) → ((files : Files) (answer : Answer) → AnswersBuild (full_build files) answer → Q files answer)
-    → IfSome first (λ t. P → AnswersBuild (full_build t.files) last) → IfSome first (λ t. P → Q t.files last)
-by_law P Q None last law h = tt
-by_law P Q (Some now) last law h = λ p. law now.files last (h p)
+pub told_refuses : (command : Option Command) (first : Option Told) (answer last : Answer) → ToldAs answer last → IfSome first (λ t. RefusesAsBuilt command t.files answer) → IfSome first (λ t. RefusesAsBuilt command t.files last)
+told_refuses command None answer last t h = tt
+told_refuses command (Some now) answer last t h = told_by (RefusesAsBuilt command now.files) answer last t h (λ n a. refuses_no_memory command now.files)
 
 pub told_proper : (answer last : Answer) → ToldAs answer last → HoldsNoWantOfMemory answer → HoldsNoWantOfMemory last
 told_proper answer last t h = told_by HoldsNoWantOfMemory answer last t h (λ n x. tt)
-
--- ---- source and machine
-
-sum_of : (command : Option Command) (input : List ℕ) (last : Answer) (told : Told) (new : Option Told) (rest taken taken' : Option (List ℕ)) (colours stack steps : ℕ)
-    → ((files : Files) (budget : ℕ) (input : List ℕ) (answer : Answer) → Answers (build_effect (full_build files) budget input).answer answer → ReturnsSum budget (full_build files) answer)
-    → command ≡ Some (Go colours stack steps) → DoesAs command last told new input rest taken taken' → ReturnsSum steps (full_build told.files) last
-sum_of command input last told new rest taken taken' colours stack steps law e h =
-    let P : Option Command → Type 0 = λ c. DoesAs c last told new input rest taken taken' in
-    let d = subst P e h in
-    law told.files steps input last (d.answers (build_effect (full_build told.files) steps input) refl)
-
-pub returns_sum : (command : Option Command) (first new : Option Told) (old rest taken taken' : Option (List ℕ)) (last : Answer)
-    → ((files : Files) (budget : ℕ) (input : List ℕ) (answer : Answer) → Answers (build_effect (full_build files) budget input).answer answer → ReturnsSum budget (full_build files) answer)
-    → IfSome first (λ t. IfSome old (λ input. DoesAs command last t new input rest taken taken'))
-    → IfSome first (λ t. IfSome old (λ input. (colours stack steps : ℕ) → command ≡ Some (Go colours stack steps) → ReturnsSum steps (full_build t.files) last))
-returns_sum command None new old rest taken taken' last law h = tt
-returns_sum command (Some now) new None rest taken taken' last law h = tt
-returns_sum command (Some now) new (Some input) rest taken taken' last law h =
-    λ colours stack steps e. sum_of command input last now new rest taken taken' colours stack steps law e h
-
-pub of_files : (P : Files → Type 0) (first : Option Told) → ((files : Files) → P files) → IfSome first (λ t. P t.files)
-of_files P None law = tt
-of_files P (Some now) law = law now.files
 
 -- ---- counts and streams
 
@@ -215,6 +190,8 @@ puts_memory names answer (Some told) None n h = absurd h
 puts_memory names answer (Some told) (Some left) n h = record { put = h.put; failed = h.failed; own = h.own; one = h.one; none = λ e. h.none (needs_no_store answer n); told_so = h.told_so; same = h.same }
 
 rest_memory : (command : Option Command) (script : Option (List ℕ)) (answer : Answer) (old new : Option Told) → NeedsMemory answer → KeepsTheRest command script answer old new → KeepsTheRest command script NoMemory old new
+rest_memory (Some (Go colours stack steps)) script answer None new n h = tt
+rest_memory (Some (Go colours stack steps)) script answer (Some told) new n h = unput_memory answer told new n h
 rest_memory (Some (BuildAll colours stack)) script answer None new n h = tt
 rest_memory (Some (BuildAll colours stack)) script answer (Some told) new n h = unput_memory answer told new n h
 rest_memory (Some (Session colours stack steps)) script answer None new n h = tt

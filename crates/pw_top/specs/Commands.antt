@@ -1,16 +1,15 @@
 -- Kinds of commands, and what each leaves alone.
-use Rattle.std.specs.Prelude.{ℕ, Bool, true, false, List, [], ◌∷◌, Option, Some, IfSome, IsSomeAnd}
+use Rattle.std.specs.Prelude.{ℕ, Bool, true, false, List, [], ◌∷◌, Option, Some, IfSome, IsSomeAnd, Result}
 use Rattle.pw_io.specs.Files.{Files, Told}
 use Rattle.pw_store_modules.specs.FileNames.{database_name, image_name}
 use Rattle.pw_top_answer.specs.declared.answer.Answer.{Answer}
-use Rattle.pw_top_answer.specs.declared.answer.Answer.TheVariants.{Done}
-use Rattle.pw_store_modules.specs.Modules.{module_map, modules_of}
+use Rattle.pw_store_modules.specs.Modules.{modules_of}
 use Rattle.pw_session.specs.FromBuild.Phases as phases
-use Rattle.pw_go.specs.FullBuild.{full_build}
-use Rattle.pw_go.specs.Going.{refused_line}
+use Rattle.pw_session.specs.FromBuild.BuildFault.{BuildFault}
+use Rattle.pw_session.specs.FromBuildFiles.Building.{BuildOutcome, Outcome}
+use Rattle.pw_go.specs.Going.{AnswersComes}
 use Rattle.pw_commands.specs.Others.{KeepsOthers}
 use Rattle.pw_session.specs.FromBuildFiles.Genuine.{KeepsGenuine}
-use Rattle.pw_law_session.specs.FromBuildLaws.Whole.{HoldsFullBuild}
 use Rattle.pw_session.specs.declared.opts.SessionOpts.{SessionOpts}
 use Rattle.pw_session.specs.Bench.{bench_files}
 use Rattle.pw_session.specs.Changes.{MakesSome}
@@ -19,6 +18,7 @@ use Rattle.pw_session.specs.Removals.{MayRemove}
 use Rattle.pw_session.specs.FromBuildFiles.Driving.{KeepsUnput}
 use Rattle.pw_law_session.specs.Full.{SessionBuildsInFull}
 use Rattle.pw_top.specs.Rest.{LeavesRest}
+use Rattle.pw_top.specs.Whole.{ComesInFull, IfMade, ReportsFull, RunsFull}
 use Rattle.pw_commands_phases.specs.First.{phase_line, phase_one_puts}
 use Rattle.pw_commands_phases.specs.Second.{phase_two_puts}
 use Rattle.pw_top_words.specs.declared.commands.Command.{Command}
@@ -51,13 +51,9 @@ is_builder (Session colours stack steps) = true
 is_builder (Bench number colours stack steps) = true
 is_builder _ = false
 
--- the command is `go`
-abbrev pub IsGo : Option Command → Type 0
-IsGo (Some (Go colours stack steps)) = Unit {0}
-IsGo _ = ⊥
-
 -- the command puts no file
 abbrev pub OnlyReads : Option Command → Type 0
+OnlyReads (Some (Go colours stack steps)) = ⊥
 OnlyReads (Some (Build colours stack)) = ⊥
 OnlyReads (Some (Session colours stack steps)) = ⊥
 OnlyReads (Some (PhaseOne name)) = ⊥
@@ -79,26 +75,32 @@ abbrev pub IsNoSession : Option Command → Type 0
 IsNoSession (Some (Session colours stack steps)) = ⊥
 IsNoSession _ = Unit {0}
 
--- A store that told its files goes on telling them, and each file but those that the command puts is as it was; of a
+-- A store that told its files goes on telling them, and each file but those that the command puts is as it was; of `go`, of a
 -- build and of a session the store tells which were put, and a session put files of modules and of builds, and removed files
 -- of modules, each by a line of its script, in order. Where the store failed, perhaps one file more was put in part.
 abbrev pub KeepsTheRest : Option Command → Option (List ℕ) → Answer → Option Told → Option Told → Type 0
+KeepsTheRest (Some (Go colours stack steps)) script answer old new = IfSome old (λ told. KeepsUnput answer told new)
 KeepsTheRest (Some (Build colours stack)) script answer old new = IfSome old (λ told. KeepsUnput answer told new)
 KeepsTheRest (Some (Session colours stack steps)) script answer old new =
     IfSome old (λ told. MakesSome (MayRemove script) answer told new × IsSomeAnd new (LeavesRest (MayRemove script) answer told))
 KeepsTheRest command script answer old new = KeepsOthers (files_put command) answer old new
 
--- what holds where the answer is `Done`
-abbrev pub IfDone : Answer → Type 0 → Type 0
-IfDone Done P = P
-IfDone _ P = Unit {0}
+-- The refusal to which the build of `go` comes is its answer, whatever the input tells; only want of memory and a fault of the
+-- store may come in its place.
+abbrev pub RefusesAsBuilt : Option Command → Files → Answer → Type 0
+RefusesAsBuilt (Some (Go colours stack steps)) files answer = (comes : Result Outcome BuildFault) → BuildOutcome files colours stack comes → AnswersComes comes answer
+RefusesAsBuilt _ files answer = Unit {0}
 
--- Where the kept objects were genuine, a build that is done leaves the database and the image of the full build of the modules,
--- and each build of a session, whatever ended it, is the full build of the modules as they were then.
-abbrev pub BuildsWhole : Option Command → Answer → Told → Option Told → List ℕ → Type 0
-BuildsWhole (Some (Build colours stack)) answer told new input = IfDone answer (KeepsGenuine told.files → IsSomeAnd new (λ now. HoldsFullBuild (module_map told.files) colours stack now.files))
-BuildsWhole (Some (Session colours stack steps)) answer told new input = KeepsGenuine told.files → SessionBuildsInFull (opts_of colours stack steps) told input
-BuildsWhole _ answer told new input = Unit {0}
+-- Where the kept objects were genuine, `build` and `go` come to the report and to the run of the full build's image, or to its
+-- refusal, and leave its database and its image; and each build of a session, whatever ended it, is the full build of the
+-- modules as they were then.
+abbrev pub BuildsWhole : Option Command → Answer → Told → Option Told → (input : List ℕ) → (input' taken taken' : Option (List ℕ)) → Type 0
+BuildsWhole (Some (Build colours stack)) answer told new input input' taken taken' =
+    KeepsGenuine told.files → IfMade answer (ComesInFull colours stack told new (λ full. ReportsFull full answer taken taken'))
+BuildsWhole (Some (Go colours stack steps)) answer told new input input' taken taken' =
+    KeepsGenuine told.files → IfMade answer (ComesInFull colours stack told new (λ full. RunsFull steps input full answer input' taken taken'))
+BuildsWhole (Some (Session colours stack steps)) answer told new input input' taken taken' = KeepsGenuine told.files → SessionBuildsInFull (opts_of colours stack steps) told input
+BuildsWhole _ answer told new input input' taken taken' = Unit {0}
 
 -- How a session ends is a function of its script, whatever the store tells.
 abbrev pub EndsScript : Option Command → Option (List ℕ) → Answer → Type 0
@@ -107,7 +109,7 @@ EndsScript _ script answer = Unit {0}
 
 -- the line on which a module is refused
 abbrev pub line_of : Option Command → Files → ℕ
-line_of (Some (Go colours stack steps)) files = refused_line (full_build files)
+line_of (Some (Go colours stack steps)) files = phases.refused_line (modules_of files)
 line_of (Some (Build colours stack)) files = phases.refused_line (modules_of files)
 line_of (Some (Bench number colours stack steps)) files = phases.refused_line (modules_of (bench_files number))
 line_of (Some (PhaseOne name)) files = phase_line files name

@@ -6,8 +6,7 @@ use Rattle.pw_top_answer.specs.declared.answer.Answer.{Answer}
 use Rattle.pw_top_answer.specs.declared.answer.Answer.TheVariants.{Usage}
 use Rattle.pw_top_answer.specs.Effects.{Effect, PutsFiles, answers_alone}
 use Rattle.pw_top_answer.specs.Outcomes.{Answers, LeavesInput, PutsOut}
-use Rattle.pw_go.specs.FullBuild.{full_build}
-use Rattle.pw_go.specs.Going.{build_effect}
+use Rattle.pw_go.specs.Going.{GoEffect}
 use Rattle.pw_commands.specs.Analysing.{AnalyseEffect}
 use Rattle.pw_commands.specs.Linking.{LinkEffect}
 use Rattle.pw_commands.specs.Outcome.{IsFound}
@@ -41,7 +40,7 @@ pub record DoesSession (opts : SessionOpts) (answer : Answer) (told : Told) (tol
 -- What a command, or words that say none, did.
 abbrev pub DoesAs : Option Command → Answer → Told → Option Told → List ℕ → Option (List ℕ) → Option (List ℕ) → Option (List ℕ) → Type 0
 DoesAs None answer told told' input input' taken taken' = Does (λ effect. effect ≡ answers_alone Usage input) answer told told' input input' taken taken'
-DoesAs (Some (Go colours stack steps)) answer told told' input input' taken taken' = Does (λ effect. effect ≡ build_effect (full_build told.files) steps input) answer told told' input input' taken taken'
+DoesAs (Some (Go colours stack steps)) answer told told' input input' taken taken' = Does (GoEffect told.files colours stack steps input) answer told told' input input' taken taken'
 DoesAs (Some (Build colours stack)) answer told told' input input' taken taken' = Does (BuildEffect told.files colours stack input) answer told told' input input' taken taken'
 DoesAs (Some (Session colours stack steps)) answer told told' input input' taken taken' = DoesSession (opts_of colours stack steps) answer told told' input input' taken taken'
 DoesAs (Some (Bench number colours stack steps)) answer told told' input input' taken taken' = Does (BenchEffect number (opts_of colours stack steps) input) answer told told' input input' taken taken'

@@ -1,4 +1,6 @@
+pub mod Answers
 pub mod Commands
 pub mod Does
 pub mod Obeying
 pub mod Rest
+pub mod Whole

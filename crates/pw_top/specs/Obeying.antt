@@ -3,12 +3,10 @@ use Rattle.std.specs.Prelude.{ℕ, List, Option, IfSome}
 use Rattle.pw_io.specs.Files.{Told, Keeps}
 use Rattle.pw_top_answer.specs.declared.answer.Answer.{Answer}
 use Rattle.pw_top_answer.specs.Outcomes.{InputCount, IsLineDue, LeavesStreams, OutputCount, StoreCount}
-use Rattle.pw_go.specs.FullBuild.{full_build}
-use Rattle.pw_go.specs.Going.{AnswersBuild}
-use Rattle.pw_go.specs.Refusals.{HoldsNoWantOfMemory}
 use Rattle.pw_session.specs.FromBuildFiles.Genuine.{KeepsGenuine}
 use Rattle.pw_top_words.specs.declared.commands.Command.{Command}
-use Rattle.pw_top.specs.Commands.{EndsScript, IsGo, IsNoSession, KeepsTheRest, OnlyReads, line_of}
+use Rattle.pw_top.specs.Answers.{HoldsNoWantOfMemory}
+use Rattle.pw_top.specs.Commands.{EndsScript, IsNoSession, KeepsTheRest, OnlyReads, RefusesAsBuilt, line_of}
 use Rattle.pw_top.specs.Does.{DoesAs}
 
 -- What the store, the input and the output tell, where they do, and how many faults each of them had.
@@ -28,7 +26,7 @@ outside_of told rest taken store input output =
 pub record CarriesOut (command : Option Command) (answer : Answer) (number : ℕ) (old new : Outside) : Type 0 where
   pub does : IfSome old.told (λ told. IfSome old.rest (λ rest. DoesAs command answer told new.told rest new.rest old.taken new.taken))
   pub ends : EndsScript command old.rest answer
-  pub refusal : IfSome old.told (λ told. IsGo command → AnswersBuild (full_build told.files) answer)
+  pub refusal : IfSome old.told (λ told. RefusesAsBuilt command told.files answer)
   pub proper : HoldsNoWantOfMemory answer
   pub others : KeepsTheRest command old.rest answer old.told new.told
   pub genuine : IfSome old.told (λ told. KeepsGenuine told.files → IfSome new.told (λ now. KeepsGenuine now.files))

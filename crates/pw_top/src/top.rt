@@ -4,12 +4,9 @@ ghost use Rattle.std.specs.Prelude.{◌≡◌, ◌⊎◌, ℕ, IfSome, List, Non
 ghost use Rattle.pw_io.specs.Files.{Keeps};
 ghost use Rattle.pw_top_answer.specs.Answers.{line_text};
 ghost use Rattle.pw_top_answer.specs.Outcomes.{InputCount, LeavesStreams, OutputCount, StoreCount, Tells, TellsSome};
-ghost use Rattle.pw_go.specs.FullBuild.{full_build};
-ghost use Rattle.pw_go.specs.Going.{AnswersBuild, BuiltAgrees, IsNoUsage, ReturnsSum};
-ghost use Rattle.pw_go.specs.Refusals.{HoldsNoWantOfMemory, AnswersNoMain, NoMainIs, AnswersRefusal, RefusalIs};
-ghost use Rattle.pw_store_modules.specs.Modules.{modules_of};
 ghost use Rattle.pw_session.specs.FromBuildFiles.Genuine.{KeepsGenuine};
-ghost use Rattle.pw_top.specs.Commands.{BuildsWhole, EndsScript, IsGo, IsNoSession, KeepsTheRest, OnlyReads, is_builder, is_phase, is_reader, line_of, opts_of};
+ghost use Rattle.pw_top.specs.Answers.{HoldsNoWantOfMemory, IsNoUsage};
+ghost use Rattle.pw_top.specs.Commands.{BuildsWhole, EndsScript, IsNoSession, KeepsTheRest, OnlyReads, RefusesAsBuilt, is_builder, is_phase, is_reader, line_of, opts_of};
 ghost use Rattle.pw_top.specs.Does.{DoesAs};
 ghost use Rattle.pw_top.specs.Obeying.{CarriesOut, outside_of};
 ghost use Rattle.pw_top_words.specs.CommandLine.{command_of};
@@ -18,10 +15,10 @@ ghost use Rattle.pw_top_words.specs.Limits.{IsWithin};
 use pw_commands::{analyse_modules, link_modules, list_image, run_image, show_database};
 use pw_commands_phases::{compile_flow, compile_text};
 use pw_go::go;
-use pw_go::laws::{builds_agree, refusals_are_due, runs_leave_an_end};
+use pw_go::laws::runs_leave_an_end;
 use pw_io::laws::other_files;
 use pw_io::{Sink, Source, Store};
-use pw_law_session::{a_build_leaves_the_whole_program, sessions_build_in_full};
+use pw_law_session::{builds_are_full, sessions_build_in_full};
 use pw_session::{
     Opts, SessionOpts, bench, build_modules, genuine_files_keep_genuine, run_session,
 };
@@ -110,7 +107,21 @@ fn obey_builder<S: Store, I: Source, O: Sink>(
 {
     other_files();
     match command {
-        Command::Go { steps, .. } => go(alloc, store, *steps, input, out),
+        Command::Go {
+            colours,
+            stack,
+            steps,
+        } => go(
+            alloc,
+            store,
+            &Opts {
+                colours: *colours,
+                stack: *stack,
+            },
+            *steps,
+            input,
+            out,
+        ),
         Command::Build { colours, stack } => build_modules(
             alloc,
             store,
@@ -215,21 +226,13 @@ pub fn pawc_top<S: Store, I: Source, O: Sink, E: Sink>(
     // the answer, the files, the output and the input
     ensures does { IfSome (S.told store.old) (λ told. IfSome (I.rest input.old) (λ rest. DoesAs (command_of (map string_bytes words.now)) result told (S.told store.new) rest (I.rest input.new) (O.taken out.old) (O.taken out.new))) }
     ensures ends_script { EndsScript (command_of (map string_bytes words.now)) (I.rest input.old) result }
-    ensures builds_whole { IfSome (S.told store.old) (λ told. IfSome (I.rest input.old) (λ rest. BuildsWhole (command_of (map string_bytes words.now)) result told (S.told store.new) rest)) }
+    ensures builds_whole { IfSome (S.told store.old) (λ told. IfSome (I.rest input.old) (λ rest. BuildsWhole (command_of (map string_bytes words.now)) result told (S.told store.new) rest (I.rest input.new) (O.taken out.old) (O.taken out.new))) }
 
     // no refusal is one for want of memory
     ensures no_want_refused { HoldsNoWantOfMemory result }
 
-    // the refusals of `go`
-    ensures refusal_is { IfSome (S.told store.old) (λ told. IsGo (command_of (map string_bytes words.now)) → RefusalIs (modules_of told.files) result) }
-    ensures refusal_comes { IfSome (S.told store.old) (λ told. IsGo (command_of (map string_bytes words.now)) → AnswersRefusal (modules_of told.files) result) }
-    ensures no_main_is { IfSome (S.told store.old) (λ told. IsGo (command_of (map string_bytes words.now)) → NoMainIs (modules_of told.files) result) }
-    ensures no_main_comes { IfSome (S.told store.old) (λ told. IsGo (command_of (map string_bytes words.now)) → AnswersNoMain (modules_of told.files) result) }
-    ensures refuses { IfSome (S.told store.old) (λ told. IsGo (command_of (map string_bytes words.now)) → AnswersBuild (full_build told.files) result) }
-
-    // source and machine
-    ensures returns_sum { IfSome (S.told store.old) (λ told. IfSome (I.rest input.old) (λ rest. (colours stack steps : ℕ) → command_of (map string_bytes words.now) ≡ Some (Command.Go colours stack steps) → ReturnsSum steps (full_build told.files) result)) }
-    ensures agrees { IfSome (S.told store.old) (λ told. BuiltAgrees (full_build told.files)) }
+    // the refusals of `go`, whatever the input tells
+    ensures refuses { IfSome (S.told store.old) (λ told. RefusesAsBuilt (command_of (map string_bytes words.now)) told.files result) }
 
     // what stays
     ensures streams_left { IsNoSession (command_of (map string_bytes words.now)) → LeavesStreams result (I.rest input.old) (I.rest input.new) (O.taken out.old) (O.taken out.new) }
@@ -246,9 +249,8 @@ pub fn pawc_top<S: Store, I: Source, O: Sink, E: Sink>(
     ensures line { IfSome (S.told store.old) (λ told. Tells (line_text (line_of (command_of (map string_bytes words.now)) told.files) result) (E.taken err.old) (E.taken err.new) (E.faults err.old) (E.faults err.new)) }
     ensures some_line { TellsSome result (E.taken err.old) (E.taken err.new) (E.faults err.old) (E.faults err.new) }
 {
-    a_build_leaves_the_whole_program();
-    builds_agree();
-    refusals_are_due();
+    builds_are_full();
+    commands_are_within();
     runs_leave_an_end();
     sessions_build_in_full();
     let reply = obey_words(alloc, words, store, input, out);

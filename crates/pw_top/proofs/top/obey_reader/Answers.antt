@@ -1,5 +1,5 @@
 use Rattle.std.proofs.Common.{[]}
-use Rattle.pw_top.proofs.CommandLemmas.{db_does, list_does, of_other, plain_line, run_does, run_no_usage, show_no_usage, show_reads}
+use Rattle.pw_top.proofs.CommandLemmas.{db_does, list_does, none_due, plain_line, run_does, run_no_usage, show_no_usage, show_reads}
 use Rattle.pw_top.proofs.GenuineLemmas.{kept_others, stays_genuine}
 use Rattle.pw_top.proofs.ProperLemmas.{run_proper, show_proper}
 use Rattle.pw_top.proofs.top.obey_reader.Goals as goal
@@ -15,7 +15,7 @@ returns-in-Run-clause-obeys g c =
     rw c.in-Run.is (record {
       does = run_does told _ rest _ taken _ _ _ c.run_image.ensures.same c.run_image.ensures.answer c.run_image.ensures.output c.run_image.ensures.rest;
       ends = tt;
-      refusal = of_other _ told;
+      refusal = none_due told;
       proper = run_proper _ c.run_image.ensures.run;
       others = kept_others c.run_image.result told _ c.run_image.ensures.same;
       genuine = stays_genuine [] c.run_image.result told _ (λ name. tt) (kept_others c.run_image.result told _ c.run_image.ensures.same);
@@ -38,7 +38,7 @@ returns-in-List-clause-obeys g c =
     rw c.in-List.is (record {
       does = list_does told _ rest taken _ _ c.list_image.ensures.same c.list_image.ensures.shows;
       ends = tt;
-      refusal = of_other _ told;
+      refusal = none_due told;
       proper = show_proper _ c.list_image.ensures.answer;
       others = kept_others c.list_image.result told _ c.list_image.ensures.same;
       genuine = stays_genuine [] c.list_image.result told _ (λ name. tt) (kept_others c.list_image.result told _ c.list_image.ensures.same);
@@ -61,7 +61,7 @@ returns-in-Db-clause-obeys g c =
     rw c.in-Db.is (record {
       does = db_does told _ rest taken _ _ c.show_database.ensures.same c.show_database.ensures.shows;
       ends = tt;
-      refusal = of_other _ told;
+      refusal = none_due told;
       proper = show_proper _ c.show_database.ensures.answer;
       others = kept_others c.show_database.result told _ c.show_database.ensures.same;
       genuine = stays_genuine [] c.show_database.result told _ (λ name. tt) (kept_others c.show_database.result told _ c.show_database.ensures.same);

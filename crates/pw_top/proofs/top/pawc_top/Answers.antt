@@ -1,14 +1,10 @@
 use Rattle.std.proofs.Common.{◌≡◌, ℕ, List, map}
 use Rattle.std.specs.Prelude.{None, string_bytes}
-use Rattle.pw_store_modules.specs.Modules.{modules_of}
 use Rattle.pw_top_answer.specs.Outcomes.{Tells}
-use Rattle.pw_go.specs.FullBuild.{full_build}
-use Rattle.pw_go.specs.Going.{BuiltAgrees}
-use Rattle.pw_go.specs.Refusals.{AnswersNoMain, NoMainIs, AnswersRefusal, RefusalIs}
 use Rattle.pw_top_words.specs.CommandLine.{command_of}
-use Rattle.pw_top.specs.Commands.{IsGo, IsNoSession, line_of}
-use Rattle.pw_top.proofs.ToldLemmas.{by_law, ends_told, input_told, of_files, output_told, rest_told, returns_sum, store_told, streams_told, told_does, told_line, told_proper, told_refuses, usage_comes, usage_is}
-use Rattle.pw_top.proofs.WholeLemmas.{builds_whole}
+use Rattle.pw_top.specs.Commands.{IsNoSession, line_of}
+use Rattle.pw_top.proofs.ToldLemmas.{ends_told, input_told, output_told, rest_told, store_told, streams_told, told_does, told_line, told_proper, told_refuses, usage_comes, usage_is}
+use Rattle.pw_top.proofs.WholeLemmas.{are_within, builds_whole}
 use Rattle.pw_top.proofs.top.pawc_top.Goals as goal
 
 pub returns-clause-usage_is : goal.returns-clause-usage_is
@@ -29,39 +25,11 @@ returns-clause-ends_script g c = ends_told (command_of (map string_bytes c.args.
 
 pub returns-clause-refuses : goal.returns-clause-refuses
 returns-clause-refuses g c =
-    told_refuses (IsGo (command_of (map string_bytes c.args.words.now))) (g.S.Store.told c.args.store.now) c.obey_words-reply.result.answer c.tell.result c.tell.ensures.answer c.obey_words-reply.ensures.obeys.refusal
-
-pub returns-clause-refusal_is : goal.returns-clause-refusal_is
-returns-clause-refusal_is g c =
-    by_law (IsGo (command_of (map string_bytes c.args.words.now))) (λ files answer. RefusalIs (modules_of files) answer) (g.S.Store.told c.args.store.now) c.tell.result c.refusals_are_due.ensures.is
-    (returns-clause-refuses g c)
-
-pub returns-clause-refusal_comes : goal.returns-clause-refusal_comes
-returns-clause-refusal_comes g c =
-    by_law (IsGo (command_of (map string_bytes c.args.words.now))) (λ files answer. AnswersRefusal (modules_of files) answer) (g.S.Store.told c.args.store.now) c.tell.result c.refusals_are_due.ensures.comes
-    (returns-clause-refuses g c)
-
-pub returns-clause-no_main_is : goal.returns-clause-no_main_is
-returns-clause-no_main_is g c =
-    by_law (IsGo (command_of (map string_bytes c.args.words.now))) (λ files answer. NoMainIs (modules_of files) answer) (g.S.Store.told c.args.store.now) c.tell.result c.refusals_are_due.ensures.no_main_is
-    (returns-clause-refuses g c)
-
-pub returns-clause-no_main_comes : goal.returns-clause-no_main_comes
-returns-clause-no_main_comes g c =
-    by_law (IsGo (command_of (map string_bytes c.args.words.now))) (λ files answer. AnswersNoMain (modules_of files) answer) (g.S.Store.told c.args.store.now) c.tell.result c.refusals_are_due.ensures.no_main_comes
-    (returns-clause-refuses g c)
+    told_refuses (command_of (map string_bytes c.args.words.now)) (g.S.Store.told c.args.store.now) c.obey_words-reply.result.answer c.tell.result c.tell.ensures.answer c.obey_words-reply.ensures.obeys.refusal
 
 pub returns-clause-no_want_refused : goal.returns-clause-no_want_refused
 returns-clause-no_want_refused g c =
     told_proper c.obey_words-reply.result.answer c.tell.result c.tell.ensures.answer c.obey_words-reply.ensures.obeys.proper
-
-pub returns-clause-returns_sum : goal.returns-clause-returns_sum
-returns-clause-returns_sum g c =
-    returns_sum (command_of (map string_bytes c.args.words.now)) (g.S.Store.told c.args.store.now) _ (g.I.Source.rest c.args.input.now) _ (g.O.Sink.taken c.args.out.now) _ c.tell.result c.builds_agree.ensures.sum
-    (returns-clause-does g c)
-
-pub returns-clause-agrees : goal.returns-clause-agrees
-returns-clause-agrees g c = of_files (λ files. BuiltAgrees (full_build files)) (g.S.Store.told c.args.store.now) c.builds_agree.ensures.agree
 
 pub returns-clause-streams_left : goal.returns-clause-streams_left
 returns-clause-streams_left g c =
@@ -86,7 +54,8 @@ returns-clause-some_line g c = (c.obey_words-reply.result.line, c.tell.ensures.l
 
 pub returns-clause-builds_whole : goal.returns-clause-builds_whole
 returns-clause-builds_whole g c =
-    builds_whole c.a_build_leaves_the_whole_program.ensures c.sessions_build_in_full.ensures (command_of (map string_bytes c.args.words.now)) (g.S.Store.told c.args.store.now) _ (g.I.Source.rest c.args.input.now) _ (g.O.Sink.taken c.args.out.now) _ c.tell.result
+    builds_whole c.builds_are_full.ensures c.sessions_build_in_full.ensures (command_of (map string_bytes c.args.words.now)) (g.S.Store.told c.args.store.now) _ (g.I.Source.rest c.args.input.now) _ (g.O.Sink.taken c.args.out.now) _ c.tell.result
+    (are_within (command_of (map string_bytes c.args.words.now)) (c.commands_are_within.ensures (map string_bytes c.args.words.now)))
     (returns-clause-does g c)
 
 pub returns-clause-keeps_others : goal.returns-clause-keeps_others

@@ -1,0 +1,5 @@
+use Rattle.pw_law_levels.proofs.Selected.{pointed}
+use Rattle.pw_law_levels.proofs.selected_functions_are_pointed.Goals as goal
+
+pub returns : goal.returns
+returns c = λ x g f. pointed c.actions_go_by_registers.ensures.targets x g f

@@ -1,0 +1,21 @@
+-- One build over the files of a store, where the objects that are kept there are genuine: it is the full build of the modules.
+use Rattle.std.specs.Prelude.{◌≡◌, ℕ, List, Option, Some, Result, Ok, Err, IsSomeAnd}
+use Rattle.pw_io.specs.Files.{Told}
+use Rattle.pw_store_modules.specs.FileNames.{image_name}
+use Rattle.pw_store_modules.specs.Modules.{Texts, module_map}
+use Rattle.pw_top_answer.specs.Effects.{after_puts}
+use Rattle.pw_law_build.specs.Whole.{HoldsFile, HoldsFullBuild}
+use Rattle.pw_session.specs.FromBuild.BuildFault.{BuildFault}
+use Rattle.pw_session.specs.FromBuildFiles.Building.{Outcome, puts_of}
+use Rattle.pw_session.specs.FromBuildFiles.Full.{BuildsImage, image_of}
+
+-- Behind a full build that comes to an image, its database and this image stand in their files; behind one that is refused, the
+-- store tells what it told.
+abbrev pub LeavesFull : Texts → ℕ → ℕ → Result (List ℕ) BuildFault → Told → Option Told → Type 0
+LeavesFull texts colours stack (Ok image) told new = IsSomeAnd new (λ now. HoldsFullBuild texts colours stack now.files × HoldsFile now.files image_name image)
+LeavesFull texts colours stack (Err fault) told new = new ≡ Some told
+
+-- What a build comes to is the image of the full build of the modules, byte for byte, or its refusal, and its puts leave that.
+abbrev pub IsBuiltInFull : Told → ℕ → ℕ → Result Outcome BuildFault → Type 0
+IsBuiltInFull told colours stack comes =
+    BuildsImage (module_map told.files) colours stack (image_of comes) × LeavesFull (module_map told.files) colours stack (image_of comes) told (Some (after_puts told (puts_of comes)))

@@ -1,0 +1,23 @@
+//! Laws of one build. A function here does nothing: its clause is a fact about all values.
+
+ghost use Rattle.std.specs.Prelude.{Result};
+ghost use Rattle.pw_io.specs.Files.{Told};
+ghost use Rattle.pw_session.specs.FromBuild.BuildFault.{BuildFault};
+ghost use Rattle.pw_session.specs.FromBuildFiles.Building.{BuildOutcome, Outcome};
+ghost use Rattle.pw_session.specs.FromBuildFiles.Genuine.{KeepsGenuine};
+ghost use Rattle.pw_session.specs.FromBuildFiles.Outcomes.{AreOpts};
+ghost use Rattle.pw_session.specs.FromBuildFiles.Opts.{Opts};
+ghost use Rattle.pw_law_session.specs.Whole.{IsBuiltInFull};
+
+use pw_law_build::a_build_leaves_the_whole_program;
+use pw_session::{genuine_objects_give_the_full_image, texts_have_one_image};
+
+/// Where the kept objects are genuine, a build over a store's files comes to the image of the full build of the modules, byte
+/// for byte, or to its refusal; and it leaves that build's database and that image in their files, as far as kept files count.
+pub fn builds_are_full()
+    ensures { (told : Told) (opts : Opts) (comes : Result Outcome BuildFault) → AreOpts opts → KeepsGenuine told.files → BuildOutcome told.files opts.colours opts.stack comes → IsBuiltInFull told opts.colours opts.stack comes }
+{
+    a_build_leaves_the_whole_program();
+    genuine_objects_give_the_full_image();
+    texts_have_one_image();
+}

@@ -1,0 +1,44 @@
+-- What a command that builds answers, puts out and leaves where the kept objects were genuine: what the full build of the
+-- modules comes to, in which nothing is kept.
+use Rattle.std.specs.Prelude.{◌≡◌, ℕ, List, [], Option, Result, Ok, Err}
+use Rattle.pw_io.specs.Files.{Told}
+use Rattle.pw_image.specs.declared.image.Image.{Image}
+use Rattle.pw_image.specs.Image.{Contents, IsImageFile}
+use Rattle.pw_store_modules.specs.Modules.{module_map}
+use Rattle.pw_top_answer.specs.declared.answer.Answer.{Answer}
+use Rattle.pw_top_answer.specs.declared.answer.Answer.TheVariants.{Done, StoreFault, NoMemory}
+use Rattle.pw_top_answer.specs.Outcomes.{Answers, LeavesInput, PutsOut}
+use Rattle.pw_session.specs.FromBuild.BuildFault.{BuildFault}
+use Rattle.pw_session.specs.FromBuildFiles.Building.{Outcome}
+use Rattle.pw_session.specs.FromBuildFiles.Full.{BuildsImage}
+use Rattle.pw_session.specs.FromBuildFiles.Outcomes.{fault_answer}
+use Rattle.pw_commands.specs.MachineRun.{run_answer, run_output, run_rest}
+use Rattle.pw_session.specs.FromBuildFiles.Driving.{outcome_lines}
+use Rattle.pw_go.specs.Going.{run_from}
+use Rattle.pw_law_session.specs.Whole.{LeavesFull}
+
+-- what holds of each answer but a fault of the store and want of memory
+abbrev pub IfMade : Answer → Type 0 → Type 0
+IfMade StoreFault P = Unit {0}
+IfMade NoMemory P = Unit {0}
+IfMade _ P = P
+
+-- the refusal of the full build is told, and nothing is put out
+abbrev pub TellsRefusal : BuildFault → Answer → (taken taken' : Option (List ℕ)) → Type 0
+TellsRefusal fault answer taken taken' = Answers (fault_answer fault) answer × PutsOut [] answer taken taken'
+
+-- The lines of the report are of the full build's image; a fault of the output may come in the place of the answer.
+abbrev pub ReportsFull : Result (List ℕ) BuildFault → Answer → (taken taken' : Option (List ℕ)) → Type 0
+ReportsFull (Ok image) answer taken taken' = (outcome : Outcome) × (outcome.image ≡ image) × Answers Done answer × PutsOut (outcome_lines outcome) answer taken taken'
+ReportsFull (Err fault) answer taken taken' = TellsRefusal fault answer taken taken'
+
+-- The answer, what is put out and what is left of the input are those of the run of the full build's image.
+abbrev pub RunsFull : ℕ → List ℕ → Result (List ℕ) BuildFault → Answer → (input' taken taken' : Option (List ℕ)) → Type 0
+RunsFull budget input (Ok image) answer input' taken taken' =
+    (c : Contents Image) × IsImageFile image c × Answers (run_answer (run_from budget input c)) answer × PutsOut (run_output (run_from budget input c)) answer taken taken' × LeavesInput (run_rest (run_from budget input c)) input answer input'
+RunsFull budget input (Err fault) answer input' taken taken' = TellsRefusal fault answer taken taken'
+
+-- The full build of the modules comes to an image, or to a fault, of which this holds, and the files are left so.
+abbrev pub ComesInFull : ℕ → ℕ → Told → Option Told → (Result (List ℕ) BuildFault → Type 0) → Type 0
+ComesInFull colours stack told new P =
+    (full : Result (List ℕ) BuildFault) × BuildsImage (module_map told.files) colours stack full × P full × LeavesFull (module_map told.files) colours stack full told new
