@@ -164,6 +164,35 @@ slot_placed s end short (slot.Hidden k) there words =
     subst (λ o. All (IsPlacedObject (module_in s)) (option_map_or (λ h. hidden_global k h ∷ []) o [])) (sym there.1)
     (All-cons (IsPlacedObject (module_in s)) (hidden_global k there.0) [] (hidden_placed s k there.0 end short there.1 word) (All-nil (IsPlacedObject (module_in s))))
 
+-- each has a type that objects can have, whatever its items are
+abbrev IsSizedObject : ModuleValue → GlobalValue → Type 0
+IsSizedObject m g = IsObjectType m.records (type_of g.ty)
+
+named_sized : (s : State) (n : ℕ) (l : LinkedName) → Ended s → slice_get s.types.linked n ≡ Some l → IsStored l → IsSizedObject (module_in s) (named_global s l)
+named_sized s n l x at stored = named_objects s x.lawful x.sound x.within x.tentatives x.outer (λ k y f e object. is_final s k y e (settled_name s k y x f object)) n l at stored
+
+hidden_sized : (s : State) (k : ℕ) (h : HiddenObject) → Ended s → AreShortStrings (module_in s) → slice_get s.made.hidden k ≡ Some h → IsSizedObject (module_in s) (hidden_global k h)
+hidden_sized s k h x short at = by (x.settled.hidden k h at)
+  where
+    by : (None ≡ Some (slot.Hidden k)) ⊎ IsMade s h → IsSizedObject (module_in s) (hidden_global k h)
+    by (inl e) = never_some e
+    by (inr m) = sort_object s k h short (hidden_there s k h x.sound at) m.sort
+
+slot_sized : (s : State) → Ended s → AreShortStrings (module_in s) → (x : Slot) → IsThere s.types.linked s.made.hidden x → All (IsSizedObject (module_in s)) (global_in s x)
+slot_sized s end short (slot.Named n) there =
+    let is : linked_at s n ≡ Some there.0 = there.1 in
+    subst (λ o. All (IsSizedObject (module_in s)) (option_map_or (λ l. named_global s l ∷ []) o [])) (sym is)
+    (All-cons (IsSizedObject (module_in s)) (named_global s there.0) [] (named_sized s n there.0 end there.1 there.2) (All-nil (IsSizedObject (module_in s))))
+slot_sized s end short (slot.Hidden k) there =
+    subst (λ o. All (IsSizedObject (module_in s)) (option_map_or (λ h. hidden_global k h ∷ []) o [])) (sym there.1)
+    (All-cons (IsSizedObject (module_in s)) (hidden_global k there.0) [] (hidden_sized s k there.0 end short there.1) (All-nil (IsSizedObject (module_in s))))
+
+slots_sized : (s : State) → Ended s → AreShortStrings (module_in s) → (xs : List Slot) → ((i : ℕ) (x : Slot) → slice_get xs i ≡ Some x → IsThere s.types.linked s.made.hidden x)
+    → All (IsSizedObject (module_in s)) (flat_map (global_in s) xs)
+slots_sized s end short [] there = All-nil (IsSizedObject (module_in s))
+slots_sized s end short (x ∷ xs) there =
+    All-append (IsSizedObject (module_in s)) (global_in s x) (flat_map (global_in s) xs) (slot_sized s end short x (there 0 x refl)) (slots_sized s end short xs (λ i y e. there (suc i) y e))
+
 -- what holds of all of a list's parts holds of each
 all_front : {X : Type 0} (P : X → Type 0) (xs ys : List X) → All P (xs ++ ys) → All P xs × All P ys
 all_front P [] ys h = (All-nil P, h)
@@ -180,11 +209,15 @@ slots_placed s end short (x ∷ xs) there words =
 
 -- ---- the law
 
-abbrev pub HasObjects : ModuleValue → Type 0
-HasObjects m = AreWordsInModule m → AreShortStrings m → All (IsPlacedObject m) m.globals
+pub record HasObjects (m : ModuleValue) : Type 0 where
+  pub sized : AreShortStrings m → All (IsSizedObject m) m.globals
+  pub placed : AreWordsInModule m → AreShortStrings m → All (IsPlacedObject m) m.globals
 
 ended_objects : (s : State) → Ended s → HasObjects (module_in s)
-ended_objects s end words short = slots_placed s end short s.made.slots (λ i x e. end.sound.slots.there i x e) words.objects
+ended_objects s end = record {
+  sized = λ short. slots_sized s end short s.made.slots (λ i x e. end.sound.slots.there i x e);
+  placed = λ words short. slots_placed s end short s.made.slots (λ i x e. end.sound.slots.there i x e) words.objects;
+}
 
 pub checking_objects : (m : Module) → IsLawful start → Post (bind (module_rule m start) (λ r. Done r.0)) HasObjects
 checking_objects m l =

@@ -8,7 +8,7 @@ use Rattle.pw_tree.specs.Trees.{Module}
 use Rattle.pw_types.specs.declared.record.Layout.{Layout}
 use Rattle.pw_types.specs.Layouts.{layout_of, size_of}
 use Rattle.pw_types.specs.TypeTrees.{CType, Void, Int, Pointer, Array, Function, Record, QType, type_of, RecordValue}
-use Rattle.pw_types.specs.TypedTrees.{Symbol, External, Internal, Hidden, ItemValue, ItemBytes, ItemAddress, PlacedItem, GlobalValue, ModuleValue}
+use Rattle.pw_types.specs.TypedTrees.{Symbol, External, Internal, Hidden, ItemValue, ItemBytes, ItemAddress, GlobalValue, ModuleValue}
 use Rattle.pw_types.specs.WellTyped.{IsComplete}
 use Rattle.pw_check_walk.specs.Walks.{Done, bind}
 use Rattle.pw_check_rules.specs.Checks.{Checks, checking}
@@ -20,7 +20,7 @@ use Rattle.pw_check_rules.specs.States.{State, LinkedName, HiddenObject, linked_
 use Rattle.pw_check_rules.specs.declared.names.Slot.{Slot}
 use Rattle.pw_check_rules.specs.declared.names.Slot.TheVariants as slot
 use Rattle.pw_law_checked.specs.Lawful.{IsLawful}
-use Rattle.pw_law_checked.specs.Leading.{IsInside, LeadsIntoOwn, Leads, ItemLeads, ItemsLead, HasDeclaredSize, IsDeclaredWhole}
+use Rattle.pw_law_checked.specs.Leading.{IsInside, Leads, ItemLeads, ItemsLead, IsDeclaredWhole}
 use Rattle.pw_law_checked.proofs.Walking.{Post, post_bind, post_end}
 use Rattle.pw_law_checked.proofs.Lists.{never_some}
 use Rattle.pw_law_checked.proofs.Types.{no}

@@ -3,7 +3,7 @@ use Rattle.pw_law_checked.proofs.Settled.{IsString}
 use Rattle.pw_law_checked.proofs.ItemBytes.{string_small}
 use Rattle.std.proofs.lemmas.Bool.{eqb-true}
 use Rattle.pw_law_checked.proofs.Sound.{IsPlain}
-use Rattle.std.specs.Prelude.{ℕ, ◌≡◌, ◌<◌, ◌⊎◌, ◌==◌, Bool, true, false, not, ◌&&◌, ◌||◌, Option, None, Some, unwrap_or, option_map, option_and_then, List, [], ◌∷◌, ◌++◌, length, filter, find, slice_get, cond, if◌then◌else◌, refl, is_none, ◌≤◌, ◌+◌}
+use Rattle.std.specs.Prelude.{ℕ, ◌≡◌, ◌<◌, ◌⊎◌, ◌==◌, Bool, true, false, not, ◌&&◌, ◌||◌, Option, None, Some, unwrap_or, option_and_then, List, [], ◌∷◌, ◌++◌, length, filter, find, slice_get, cond, if◌then◌else◌, refl, is_none, ◌≤◌, ◌+◌}
 use Rattle.std.proofs.Common.{arith, ap, sym, subst, ◌∙◌, inl, inr}
 use Rattle.pw_check_literals.specs.Characters.{string_bytes_of, characters_of_strings, fits_bytes}
 use Rattle.pw_check_literals.specs.Integers.{integer_type, integer_value}

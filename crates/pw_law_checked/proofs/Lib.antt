@@ -63,6 +63,7 @@ pub mod FitStatements
 pub mod Spelled
 pub mod Literals
 pub mod Sizes
+pub mod Constants
 pub mod Small
 pub mod SmallLeaves
 pub mod SmallPhrases
@@ -75,6 +76,7 @@ pub mod SmallGlobals
 pub mod SmallNames
 pub mod SmallDecls
 pub mod SmallModules
+pub mod Bounded
 mod DesignatorNodes
 mod DesignatorPhrases
 mod DesignatorInitialisers

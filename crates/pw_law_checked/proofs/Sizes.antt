@@ -1,9 +1,10 @@
 -- Types that keep the limits on sizes and on parameters (ISO C90 5.2.4.1), wherever more is known of the records that they name.
-use Rattle.std.specs.Prelude.{ℕ, ◌≡◌, ◌≤◌, ◌*◌, Bool, true, false, nat_lt, if◌then◌else◌, Option, None, Some, option_map, List, refl}
+use Rattle.std.specs.Prelude.{ℕ, ◌≡◌, ◌<◌, ◌≤◌, ◌*◌, ◌^◌, Bool, true, false, nat_lt, if◌then◌else◌, Option, None, Some, option_map, unwrap_or, List, refl}
 use Rattle.std.specs.Option.{option_or}
 use Rattle.std.proofs.Common.{arith, ap, sym, subst, ◌∙◌}
 use Rattle.std.proofs.lemmas.Bool.Decides.{nat_tests}
 use Rattle.pw_value.specs.Limits.{size_limit, parameter_limit}
+use Rattle.pw_types.specs.Conversions.{size_of_kind}
 use Rattle.pw_types.specs.declared.kind.IntKind.{IntKind}
 use Rattle.pw_types.specs.declared.kind.IntKind.TheVariants as K
 use Rattle.pw_types.specs.declared.record.Layout.{Layout}
@@ -90,6 +91,30 @@ mutual
   first_later a b x laid (OneType (Qualified ty c v) ps) h e =
       let y = either_none (oversize_of a ty) (first_oversize a ps) e in
       both_none (oversize_of b ty) (first_oversize b ps) (oversize_later a b x laid ty h.0 y.0) (first_later a b x laid ps h.2 y.1)
+
+size_small : (o : Option ℕ) → passing o ≡ None → unwrap_or o 0 < 2 ^ 32
+size_small None e = omega arith
+size_small (Some n) e = let h = passed_small n e in omega (arith, h)
+
+kind_small : (kind : IntKind) → size_of_kind kind < 2 ^ 32
+kind_small K.Char = omega arith
+kind_small K.SChar = omega arith
+kind_small K.UChar = omega arith
+kind_small K.Short = omega arith
+kind_small K.UShort = omega arith
+kind_small K.Int = omega arith
+kind_small K.UInt = omega arith
+kind_small K.Long = omega arith
+kind_small K.ULong = omega arith
+
+-- the size of a type that keeps the limit is a word
+pub sized_word : (r : List RecordValue) (ty : CType) → IsLaid r → oversize_of r ty ≡ None → unwrap_or (size_of r ty) 0 < 2 ^ 32
+sized_word r Void laid e = omega arith
+sized_word r (Int kind) laid e = kind_small kind
+sized_word r (Pointer q) laid e = omega arith
+sized_word r (Array (Qualified ty c v) n) laid e = size_small (size_of r (Array (Qualified ty c v) n)) (either_none (oversize_of r ty) (passing (size_of r (Array (Qualified ty c v) n))) e).1
+sized_word r (Function q ps) laid e = omega arith
+sized_word r (Record n) laid e = size_small (size_of r (Record n)) (record_sized r laid n)
 
 unpassed : (o : Option ℕ) → Rattle.std.specs.Prelude.is_some o ≡ false → o ≡ None
 unpassed None e = refl

@@ -3,7 +3,6 @@ use Rattle.std.specs.Prelude.{ℕ, suc, ◌≡◌, ◌≤◌, ◌⊎◌, ◌==�
 use Rattle.std.proofs.Common.{arith, ap, sym, subst, ◌∙◌, inl, inr}
 use Rattle.std.proofs.lemmas.Bool.{eqb-true}
 use Rattle.pw_value.specs.Limits.{parameter_limit}
-use Rattle.pw_tree.specs.declared.operator.AssignOperator.TheVariants as A
 use Rattle.pw_tree.specs.declared.operator.BinaryOperator.{BinaryOperator}
 use Rattle.pw_tree.specs.declared.operator.BinaryOperator.TheVariants as O
 use Rattle.pw_tree.specs.declared.operator.UnaryOperator.{UnaryOperator}
@@ -14,18 +13,19 @@ use Rattle.pw_types.specs.declared.tree.BinaryOperator.TheVariants as B
 use Rattle.pw_types.specs.declared.tree.UnaryOperator.TheVariants as U
 use Rattle.pw_types.specs.Conversions.{promoted}
 use Rattle.pw_types.specs.Sizes.{oversize_of, first_oversize}
-use Rattle.pw_types.specs.TypeTrees.{CType, Void, Int, Pointer, Array, Function, Record, QType, Qualified, QTypes, NoType, OneType, type_of, is_constant, is_volatile, RecordValue}
+use Rattle.pw_types.specs.TypeTrees.{CType, Void, Int, Pointer, Array, Function, Record, QType, Qualified, QTypes, NoType, OneType, type_of, RecordValue}
 use Rattle.pw_types.specs.TypedTrees.{Expression, Expressions, Node, Form, token_of, type_at, form_of}
 use Rattle.pw_types.specs.TypedTrees as T
 use Rattle.pw_types.specs.WellTyped.{type_in}
-use Rattle.pw_law_lower.specs.Within.{IsSized, IsSmall, HasSmall, AreSmall, count_of}
+use Rattle.pw_law_lower.specs.Within.{IsSized, count_of}
+use Rattle.pw_law_checked.specs.Bounded.{IsBounded, HasBounded, AreBounded}
 use Rattle.pw_check_rules.specs.Compatible.{compatible_types, composite_type}
 use Rattle.pw_check_rules.specs.Constants.{is_null_constant}
-use Rattle.pw_check_rules.specs.Kinds.{plain, unqualified, int_type, is_integral, is_pointer, is_void, pointee, same_type, points_to_void, points_to_function, parameters_of, result_of, count_of_types}
+use Rattle.pw_check_rules.specs.Kinds.{plain, unqualified, int_type, is_pointer, is_void, pointee, same_type, points_to_void, points_to_function, parameters_of, result_of, count_of_types}
 use Rattle.pw_check_rules.specs.Operands.{Operand, cast_to, promote, promoted_type, common_type, value_of, value_by}
-use Rattle.pw_check_rules.specs.Operators.{typed_unary, unary_node, deref, both_integral, pointers_agree, pointer_and_void, pointer_and_null, pointers_meet, fits_order, fits_binary, typed_binary, in_common, arithmetic_node, shift_node, pointer_with_both, chosen_pointer, comparison_node, sum_node, difference_node, binary_node, comma_node, same_record, fits_choice, choice_type, compound_node, arguments_cast, callee_type, call_node}
+use Rattle.pw_check_rules.specs.Operators.{typed_unary, unary_node, deref, both_integral, pointers_agree, pointer_and_void, pointer_and_null, pointers_meet, fits_order, fits_binary, typed_binary, in_common, arithmetic_node, shift_node, pointer_with_both, chosen_pointer, comparison_node, sum_node, difference_node, binary_node, same_record, fits_choice, choice_type, compound_node, arguments_cast, callee_type, call_node}
 use Rattle.pw_law_checked.proofs.Types.{no, left, right, one_of}
-use Rattle.pw_law_checked.proofs.Sizes.{IsKept, kept_target, kept_pointer, kept_element, kept_int, kept_void, kept_pointee, IsKeptCallee, kept_callee, kept_composite}
+use Rattle.pw_law_checked.proofs.Sizes.{IsKept, kept_pointer, kept_element, kept_int, kept_void, kept_pointee, kept_callee, kept_composite}
 
 -- ---- expressions
 
@@ -36,14 +36,14 @@ HasInner r _ = Unit {0}
 
 -- its types, and those that it is made of, keep the limits
 pub record Keeps (r : List RecordValue) (e : Expression) : Type 0 where
-  pub small : IsSmall r e
+  pub small : IsBounded r e
   pub kept : IsKept r (type_in e)
   pub inner : HasInner r (form_of e)
 
-pub node_keeps : (r : List RecordValue) (t : ℕ) (q : QType) (form : Form) → IsKept r (type_of q) → HasSmall r form → HasInner r form → Keeps r (Node t q form)
+pub node_keeps : (r : List RecordValue) (t : ℕ) (q : QType) (form : Form) → IsKept r (type_of q) → HasBounded r form → HasInner r form → Keeps r (Node t q form)
 node_keeps r t q form k h i = record { small = (k.sized, h); kept = k; inner = i }
 
-pub int_keeps : (r : List RecordValue) (t : ℕ) (form : Form) → HasSmall r form → HasInner r form → Keeps r (Node t int_type form)
+pub int_keeps : (r : List RecordValue) (t : ℕ) (form : Form) → HasBounded r form → HasInner r form → Keeps r (Node t int_type form)
 int_keeps r t form h i = node_keeps r t int_type form (kept_int r K.Int) h i
 
 pub cast_keeps : (r : List RecordValue) (ty : CType) (e : Expression) → IsKept r ty → Keeps r e → Keeps r (cast_to ty e)
@@ -53,10 +53,10 @@ cast_keeps r ty e k h = by (same_type ty (type_in e))
     by true = h
     by false = node_keeps r (token_of e) (plain ty) (T.Cast e) k h.small tt
 
-cast_small : (r : List RecordValue) (ty : CType) (e : Expression) → IsSized r ty → IsSmall r e → IsSmall r (cast_to ty e)
+cast_small : (r : List RecordValue) (ty : CType) (e : Expression) → IsSized r ty → IsBounded r e → IsBounded r (cast_to ty e)
 cast_small r ty e k h = by (same_type ty (type_in e))
   where
-    by : (b : Bool) → IsSmall r (if b then e else Node (token_of e) (plain ty) (T.Cast e))
+    by : (b : Bool) → IsBounded r (if b then e else Node (token_of e) (plain ty) (T.Cast e))
     by true = h
     by false = (k, h)
 
@@ -294,7 +294,7 @@ none_first : (a b : Option ℕ) → Rattle.std.specs.Option.option_or a b ≡ No
 none_first None b e = (refl, e)
 none_first (Some n) b e = Rattle.pw_law_checked.proofs.Lists.never_some (sym e)
 
-arguments_small : (r : List RecordValue) (ps : QTypes) (es : List Expression) → first_oversize r ps ≡ None → AllKeep r es → AreSmall r (arguments_cast ps es)
+arguments_small : (r : List RecordValue) (ps : QTypes) (es : List Expression) → first_oversize r ps ≡ None → AllKeep r es → AreBounded r (arguments_cast ps es)
 arguments_small r NoType [] h all = tt
 arguments_small r NoType (e ∷ es) h all = (all.0.small, arguments_small r NoType es h all.1)
 arguments_small r (OneType q ps) [] h all = tt

@@ -10,7 +10,7 @@ use Rattle.pw_types.specs.declared.record.RecordKind.{RecordKind}
 use Rattle.pw_types.specs.TypeTrees.{type_of, RecordValue}
 use Rattle.pw_types.specs.TypedTrees.{Initialiser}
 use Rattle.pw_flow.proofs.Lists.{all_append}
-use Rattle.pw_law_lower.specs.Within.{IsSmallIn}
+use Rattle.pw_law_checked.specs.Bounded.{IsBoundedIn}
 use Rattle.pw_check_walk.specs.Causes.{needs, DeclaresSomething}
 use Rattle.pw_check_walk.specs.Walks.{Walk, Done, bind, meets}
 use Rattle.pw_check_rules.specs.Declarations.{sort_of, name_of, init_declarator_rule, init_declarators_rule, storage_rule, declares_something, specified_rule, bare_rule, declarators_rule, decl_rule, decls_rule}
@@ -89,7 +89,7 @@ then_declared s w next h x y j k =
     post_bind w (λ r. bind (next r.1) (λ u. Done (r.0 ++ u.0, u.1))) (λ r. Declaring s r × Declared r) Declared (post_both w (Declaring s) Declared x y) (λ r g.
     let here : Holds r.1 = holds_declared {s = s} r g.0 g.1 h in
     post_bind (next r.1) (λ u. Done (r.0 ++ u.0, u.1)) (λ u. Declaring r.1 u × Declared u) Declared (post_both (next r.1) (Declaring r.1) Declared (j r.1 here g.0.1) (k r.1 here g.0.1))
-    (λ u f. (f.1.0, λ z c. all_append (IsSmallIn z) r.0 u.0 (g.1.1 z (reaches_on {s = r.1} {t = u.1} (onward_adds f.0.1 f.0.2.0) c)) (f.1.1 z c))))
+    (λ u f. (f.1.0, λ z c. all_append (IsBoundedIn z) r.0 u.0 (g.1.1 z (reaches_on {s = r.1} {t = u.1} (onward_adds f.0.1 f.0.2.0) c)) (f.1.1 z c))))
 
 init_declarators_declared : (lead : Bool) (ds : List InitDeclarator) (z : List Symbol) → AreShort (spell_init_declarators lead ds z) → (b : Specified) (s : State) → Holds s → GoodSpecified s b → Post (init_declarators_rule b ds s) Declared
 unfolding init_declarators_rule
@@ -139,7 +139,7 @@ bare_declared : (specifiers : Specifiers) (z : List Symbol) (sh : AreShort (spel
 bare_declared specifiers z sh s h =
     post_weaken (bare_rule specifiers s) (λ r. (IsLawful r.1 × Grows s r.1 × (r.0 ≡ [])) × Keeping r.1) Declared
     (post_both (bare_rule specifiers s) (λ r. IsLawful r.1 × Grows s r.1 × (r.0 ≡ [])) (λ r. Keeping r.1) (bare_runs s specifiers h.0.0) (bare_keeping specifiers z sh s h.0))
-    (λ r g. ((g.1, narrowed_grows {s = s} {t = r.1} (places_so s h.1.0) g.0.1 h.1.1), λ x c. subst (AllByRecursion (IsSmallIn x)) (sym g.0.2) tt))
+    (λ r g. ((g.1, narrowed_grows {s = s} {t = r.1} (places_so s h.1.0) g.0.1 h.1.1), λ x c. subst (AllByRecursion (IsBoundedIn x)) (sym g.0.2) tt))
 
 -- ---- declarations
 

@@ -1,23 +1,26 @@
 -- The rules that read no phrase any more: what they make keeps the limits on sizes and arguments (ISO C90 5.2.4.1), and of the
 -- state the types of names and members.
-use Rattle.std.specs.Prelude.{ℕ, ◌⊎◌, ◌++◌, suc, ◌≡◌, ◌≤◌, Bool, true, false, if◌then◌else◌, Option, Some, option_and_then, cond, find, zip, List, [], ◌∷◌, length, slice_get, refl}
-use Rattle.std.proofs.Common.{inl, inr, ap, sym, subst, ◌∙◌}
+use Rattle.std.specs.Prelude.{ℕ, ◌⊎◌, ◌++◌, suc, ◌≡◌, ◌<◌, ◌≤◌, ◌+◌, ◌-◌, ◌^◌, Bool, true, false, not, ◌||◌, nat_lt, nat_le, if◌then◌else◌, Option, Some, is_some, option_and_then, cond, find, zip, List, [], ◌∷◌, length, slice_get, refl}
+use Rattle.std.proofs.Common.{arith, inl, inr, ap, sym, subst, ◌∙◌}
+use Rattle.std.proofs.lemmas.Bool.Decides.{nat_tests}
 use Rattle.pw_value.specs.Limits.{size_limit}
-use Rattle.pw_check_literals.specs.Characters.{string_bytes_of}
+use Rattle.pw_check_literals.specs.Characters.{characters_of, fits_bytes, character_value, character_constant, string_bytes_of}
+use Rattle.pw_check_literals.specs.Integers.{greatest_of_kind, integer_type, integer_value}
 use Rattle.pw_tree.specs.declared.operator.BinaryOperator.{BinaryOperator}
 use Rattle.pw_tree.specs.declared.operator.BinaryOperator.TheVariants as O
 use Rattle.pw_tree.specs.declared.operator.AssignOperator.{AssignOperator}
 use Rattle.pw_tree.specs.declared.operator.AssignOperator.TheVariants as A
 use Rattle.pw_tree.specs.declared.operator.UnaryOperator.{UnaryOperator}
 use Rattle.pw_tree.specs.Trees.{Word}
+use Rattle.pw_types.specs.declared.kind.IntKind.{IntKind}
 use Rattle.pw_types.specs.declared.kind.IntKind.TheVariants as K
 use Rattle.pw_types.specs.declared.tree.LogicOperator.{LogicOperator}
 use Rattle.pw_types.specs.declared.tree.StepOperator.{StepOperator}
 use Rattle.pw_types.specs.Layouts.{content_at}
 use Rattle.pw_types.specs.Records.{IsLaid}
 use Rattle.pw_types.specs.TypeTrees.{CType, Void, Int, Pointer, Array, Function, Record, QType, type_of, is_constant, is_volatile, MemberValue, ContentValue, RecordValue}
-use Rattle.std.specs.List.{AllByRecursion}
-use Rattle.pw_law_lower.specs.Within.{IsSmallIn}
+use Rattle.std.specs.List.{AllByRecursion, list_any}
+use Rattle.pw_law_checked.specs.Bounded.{IsBoundedIn}
 use Rattle.pw_types.specs.TypedTrees.{Expression, Node, type_at, Initialiser}
 use Rattle.pw_types.specs.TypedTrees as T
 use Rattle.pw_types.specs.WellTyped.{type_in}
@@ -30,16 +33,16 @@ use Rattle.pw_check_rules.specs.States.{put_at, State, Entity, TypeName, Enumera
 use Rattle.pw_law_checked.specs.Lawful.{IsLawful, Extends}
 use Rattle.pw_law_checked.proofs.Walking.{Post, post_bind, post_weaken, post_granted, truth}
 use Rattle.pw_law_checked.proofs.Lists.{some_same, never_some, and_then_some, get_more, put_either}
-use Rattle.pw_law_checked.proofs.Types.{right, extends_trans}
+use Rattle.pw_law_checked.proofs.Types.{no, right, extends_trans, extends_same}
 use Rattle.pw_law_checked.proofs.States.{Grows}
-use Rattle.pw_law_checked.proofs.Sizes.{IsKept, IsKeptFrom, kept_int, kept_qualify, kept_string}
+use Rattle.pw_law_checked.proofs.Sizes.{IsKept, IsKeptFrom, kept_int, kept_qualify, kept_string, sized_word}
 use Rattle.pw_law_checked.proofs.Small.{Keeps, AllKeep, node_keeps, int_keeps, value_keeps, unary_keeps, deref_keeps, address_keeps, sum_keeps, binary_keeps, choice_keeps, assign_keeps, compound_keeps, call_keeps}
 
 -- ---- states
 
 abbrev pub IsKeptEntity : List RecordValue → Entity → Type 0
 IsKeptEntity r (TypeName q) = Unit {0}
-IsKeptEntity r (EnumerationConstant n) = Unit {0}
+IsKeptEntity r (EnumerationConstant n) = n < 2 ^ 32
 IsKeptEntity r (LocalObject k q register) = IsKeptFrom r (type_of q)
 IsKeptEntity r (StaticObject k q) = IsKeptFrom r (type_of q)
 IsKeptEntity r (Linked place q) = IsKeptFrom r (type_of q)
@@ -71,7 +74,7 @@ put_short place h hs all short k x e = by (put_either place h hs k)
     by (inl f) = subst (λ (y : HiddenObject). IsShortType y.ty) (some_same (sym f.1 ∙ e)) short
     by (inr f) = all k x (sym f ∙ e)
 
--- the types of names, members and strings keep the limits
+-- the types of names, members and strings keep the limits, and the values of enumeration constants are words
 pub record Keeping (s : State) : Type 0 where
   pub entities : (k : ℕ) (x : Entity) → slice_get s.scopes.entities k ≡ Some x → IsKeptEntity s.types.records x
   pub members : HaveKeptMembers s.types.records
@@ -103,7 +106,7 @@ kept_later {s} {t} {e} g h = λ r c. h r (reaches_back {s = s} {t = t} g c)
 
 -- initialisers of locals, in a module in the end
 abbrev pub AreSmallFrom : State → List Initialiser → Type 0
-AreSmallFrom s is = (r : List RecordValue) → Reaches s r → AllByRecursion (IsSmallIn r) is
+AreSmallFrom s is = (r : List RecordValue) → Reaches s r → AllByRecursion (IsBoundedIn r) is
 
 -- a rule that asks alone, and makes an operand
 abbrev pub Leaf : State → Operand × State → Type 0
@@ -137,7 +140,7 @@ linked_kept s t place q h = λ r c. by r (h r c.0 c.1) (is_function (type_of q))
 
 entity_kept : (s : State) (t : ℕ) (x : Entity) (a : Operand) → IsKeptEntity s.types.records x → entity_operand s t x ≡ Some a → KeptOperand s a
 entity_kept s t (TypeName q) a h e = never_some e
-entity_kept s t (EnumerationConstant n) a h e = subst (KeptOperand s) (some_same e) (λ r c. int_keeps r t (T.Number n) tt tt)
+entity_kept s t (EnumerationConstant n) a h e = subst (KeptOperand s) (some_same e) (λ r c. int_keeps r t (T.Number n) h tt)
 entity_kept s t (LocalObject k q register) a h e = subst (KeptOperand s) (some_same e) (λ r c. node_keeps r t q (T.Local k) (h r c.0 c.1) tt tt)
 entity_kept s t (StaticObject k q) a h e = subst (KeptOperand s) (some_same e) (λ r c. node_keeps r t q (T.Global (T.Hidden k)) (h r c.0 c.1) tt tt)
 entity_kept s t (Linked place q) a h e = subst (KeptOperand s) (some_same e) (linked_kept s t place q h)
@@ -150,13 +153,55 @@ identifier_leaf w s k =
     let y = and_then_some (entity_at s) (entry_of s w.text) x.0 x.1 in
     (refl, entity_kept s w.token x.0 a (k.entities y.0.place x.0 y.2) x.2))
 
+greatest_word : (kind : IntKind) → greatest_of_kind kind < 2 ^ 32
+greatest_word K.Char = omega arith
+greatest_word K.SChar = omega arith
+greatest_word K.UChar = omega arith
+greatest_word K.Short = omega arith
+greatest_word K.UShort = omega arith
+greatest_word K.Int = omega arith
+greatest_word K.UInt = omega arith
+greatest_word K.Long = omega arith
+greatest_word K.ULong = omega arith
+
+one_holds : (n : ℕ) (kinds : List IntKind) → is_some (find (λ kind. nat_le n (greatest_of_kind kind)) kinds) ≡ true → n < 2 ^ 32
+one_holds n [] e = no e
+one_holds n (kind ∷ kinds) e = by (nat_le n (greatest_of_kind kind)) refl e (one_holds n kinds)
+  where
+    below : nat_le n (greatest_of_kind kind) ≡ true → n < 2 ^ 32
+    below f = let k = greatest_word kind in let l : n ≤ greatest_of_kind kind = grind (arith, nat_tests, f) in omega (arith, k, l)
+
+    by : (b : Bool) → nat_le n (greatest_of_kind kind) ≡ b → is_some (cond b (Some kind) (find (λ kind. nat_le n (greatest_of_kind kind)) kinds)) ≡ true
+        → (is_some (find (λ kind. nat_le n (greatest_of_kind kind)) kinds) ≡ true → n < 2 ^ 32) → n < 2 ^ 32
+    by true f g rest = below f
+    by false f g rest = rest g
+
+-- the value of a constant that has a type
+integer_word : (text : List ℕ) → is_some (integer_type text) ≡ true → integer_value text < 2 ^ 32
+integer_word text e = one_holds (integer_value text) _ e
+
+value_word : (c : ℕ) → nat_lt 255 c ≡ false → character_value c < 2 ^ 32
+value_word c e = by (nat_lt c 128)
+  where
+    by : (b : Bool) → (if b then c else 2 ^ 32 - 256 + c) < 2 ^ 32
+    by true = let l : c ≤ 255 = grind (arith, nat_tests, e) in omega (arith, l)
+    by false = let l : c ≤ 255 = grind (arith, nat_tests, e) in omega (arith, l)
+
+character_word : (cs : List ℕ) → fits_bytes cs ≡ true → character_constant cs < 2 ^ 32
+character_word [] e = omega arith
+character_word (c ∷ rest) e = value_word c (by (nat_lt 255 c) (list_any (λ c. nat_lt 255 c) rest) e)
+  where
+    by : (x y : Bool) → not (x || y) ≡ true → x ≡ false
+    by true y f = no f
+    by false y f = refl
+
 pub number_leaf : (w : Word) (s : State) → Post (number_rule w s) (Leaf s)
 unfolding number_rule bind
-number_leaf w s = λ met. (refl, λ r c. node_keeps r w.token (plain (Int _)) (T.Number _) (kept_int r _) tt tt)
+number_leaf w s = λ met. (refl, λ r c. node_keeps r w.token (plain (Int _)) (T.Number _) (kept_int r _) (integer_word w.text (truth _ met.0)) tt)
 
 pub character_leaf : (w : Word) (s : State) → Post (character_rule w s) (Leaf s)
 unfolding character_rule bind
-character_leaf w s = λ met. (refl, λ r c. int_keeps r w.token (T.Number _) tt tt)
+character_leaf w s = λ met. (refl, λ r c. int_keeps r w.token (T.Number _) (character_word (characters_of w.text) (truth _ met.1.0)) tt)
 
 abbrev string_object : List ℕ → HiddenObject
 string_object bytes = record { ty = string_type bytes; writable = false; items = bytes_at_start bytes }
@@ -194,9 +239,10 @@ pub step_leaf : (t : ℕ) (op : StepOperator) (a : Operand) (s : State) → Kept
 unfolding step_rule bind
 step_leaf t op a s h = λ met. (refl, λ r c. node_keeps r t (unqualified (type_at a.node)) (T.Step op a.node) (h r c).kept (h r c).small tt)
 
-pub size_leaf : (t : ℕ) (a : Operand) (s : State) → Post (size_rule t a s) (Leaf s)
+pub size_leaf : (t : ℕ) (a : Operand) (s : State) → IsLaid s.types.records → KeptOperand s a → Post (size_rule t a s) (Leaf s)
 unfolding size_rule bind
-size_leaf t a s = λ met. (refl, λ r c. node_keeps r t (plain (Int K.UInt)) (T.Number _) (kept_int r K.UInt) tt tt)
+size_leaf t a s laid h = λ met.
+    (refl, λ r c. node_keeps r t (plain (Int K.UInt)) (T.Number _) (kept_int r K.UInt) (sized_word s.types.records (type_in a.node) laid (h s.types.records (laid, extends_same s.types.records)).kept.sized) tt)
 
 pub cast_leaf : (t : ℕ) (q : QType) (e : Expression) (s : State) → IsKeptFrom s.types.records (type_of q) → KeptValue s e → Post (cast_rule t q e s) (Leaf s)
 unfolding cast_rule bind

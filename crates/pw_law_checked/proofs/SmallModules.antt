@@ -11,9 +11,9 @@ use Rattle.pw_tree.specs.Trees as S
 use Rattle.pw_tree.specs.Spelling.{symbols, spell_block, spell_external, spell_externals}
 use Rattle.pw_tree.specs.Symbols.{Symbol}
 use Rattle.pw_types.specs.TypeTrees.{QType, type_of, RecordValue}
-use Rattle.pw_types.specs.TypedTrees.{External as Shared, Internal, Hidden, FunctionValue, GlobalValue, ModuleValue}
+use Rattle.pw_types.specs.TypedTrees.{External as Shared, Internal, Hidden, Statement, FunctionValue, GlobalValue, ModuleValue}
 use Rattle.pw_flow.proofs.Lists.{all_flat}
-use Rattle.pw_law_lower.specs.Within.{KeepsLimits}
+use Rattle.pw_law_checked.specs.Bounded.{IsBoundedStatement}
 use Rattle.pw_check_walk.specs.Walks.{Walk, Done, bind}
 use Rattle.pw_check_rules.specs.Checks.{Checks, checking}
 use Rattle.pw_check_rules.specs.Declarations.{name_of, decl_rule}
@@ -30,7 +30,9 @@ use Rattle.pw_check_rules.specs.declared.names.Entry.{Entry}
 use Rattle.pw_check_rules.specs.declared.names.Slot.{Slot}
 use Rattle.pw_check_rules.specs.declared.names.Slot.TheVariants as slot
 use Rattle.pw_law_checked.specs.Lawful.{IsLawful, IsLawfulType}
-use Rattle.pw_law_checked.specs.Words.{AreShortStrings}
+use Rattle.pw_law_checked.specs.Words.{AreShortStrings, WordsInStatement}
+use Rattle.pw_law_lower.specs.Within.{KeepsLimits}
+use Rattle.pw_law_checked.proofs.Bounded.{statement_limits, statement_words}
 use Rattle.pw_law_checked.proofs.Walking.{Post, AreMet, post_end, post_bind, post_weaken, post_both}
 use Rattle.pw_law_checked.proofs.Lists.{get_either, get_map, get_more, never_some, some_same}
 use Rattle.pw_law_checked.proofs.Types.{no, extends_same}
@@ -135,9 +137,9 @@ body_small v s w place q b block z sh h =
     ))
   where
     by : (t : State) (f : FunctionValue) → t.made.functions ≡ s.made.functions → Backs s t → AreSmallBodies s → SmallStatement t f.body → (i : ℕ) (g : FunctionValue) (x : List RecordValue) → Reaches t x
-        → (slice_get t.made.functions i ≡ Some g) ⊎ ((i ≡ length t.made.functions) × (f ≡ g)) → KeepsLimits x g.body
+        → (slice_get t.made.functions i ≡ Some g) ⊎ ((i ≡ length t.made.functions) × (f ≡ g)) → IsBoundedStatement x g.body
     by t f same back all new i g x d (inl k) = bodies_on s t back same all i g k x d
-    by t f same back all new i g x d (inr k) = subst (λ (y : FunctionValue). KeepsLimits x y.body) k.1 (new x d)
+    by t f same back all new i g x d (inr k) = subst (λ (y : FunctionValue). IsBoundedStatement x y.body) k.1 (new x d)
 
 -- ---- definitions
 
@@ -236,7 +238,7 @@ module_kept m short =
 -- ---- the laws
 
 record IsKeptModule (m : ModuleValue) : Type 0 where
-  bodies : All (λ f. KeepsLimits m.records f.body) m.functions
+  bodies : All (λ f. IsBoundedStatement m.records f.body) m.functions
   strings : AreShortStrings m
 
 -- an object without a name is one of the state's
@@ -286,8 +288,14 @@ kept_module : (tree : Module) (m : ModuleValue) → HasShortStrings tree → Che
 unfolding checking
 kept_module tree m short h = post_end (checking tree) m IsKeptModule h (checking_kept tree short)
 
+of_bodies : (P Q : Statement → Type 0) (fs : List FunctionValue) → ((s : Statement) → P s → Q s) → All (λ f. P f.body) fs → All (λ f. Q f.body) fs
+of_bodies P Q fs step h = λ k d below. step _ (h k d below)
+
 pub module_small : (tree : Module) (m : ModuleValue) → HasShortStrings tree → Checks tree (Ok m) → All (λ f. KeepsLimits m.records f.body) m.functions
-module_small tree m short h = (kept_module tree m short h).bodies
+module_small tree m short h = of_bodies (IsBoundedStatement m.records) (KeepsLimits m.records) m.functions (statement_limits m.records) (kept_module tree m short h).bodies
+
+pub module_words : (tree : Module) (m : ModuleValue) → HasShortStrings tree → Checks tree (Ok m) → All (λ f. WordsInStatement f.body) m.functions
+module_words tree m short h = of_bodies (IsBoundedStatement m.records) WordsInStatement m.functions (statement_words m.records) (kept_module tree m short h).bodies
 
 pub module_strings : (tree : Module) (m : ModuleValue) → HasShortStrings tree → Checks tree (Ok m) → AreShortStrings m
 module_strings tree m short h = (kept_module tree m short h).strings

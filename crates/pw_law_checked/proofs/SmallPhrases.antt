@@ -1,6 +1,6 @@
 -- Expressions, specifiers and declarators: the types of expressions keep the limit on sizes, and calls that on arguments
 -- (ISO C90 5.2.4.1), and of the state the types of names and members.
-use Rattle.std.specs.Prelude.{ℕ, ◌≡◌, ◌⊎◌, Bool, true, false, Option, None, Some, option_and_then, List, [], ◌∷◌, ◌++◌, length, slice_get}
+use Rattle.std.specs.Prelude.{ℕ, ◌≡◌, ◌<◌, ◌^◌, ◌==◌, ◌⊎◌, Bool, true, false, if◌then◌else◌, Option, None, Some, option_and_then, unwrap_or, List, [], ◌∷◌, ◌++◌, length, slice_get, refl}
 use Rattle.std.proofs.Common.{arith, ap, sym, subst, ◌∙◌, inl, inr}
 use Rattle.pw_tree.specs.declared.expr.BasicType.TheVariants as W
 use Rattle.pw_tree.specs.declared.operator.Access.TheVariants.{Dot, Arrow}
@@ -17,10 +17,12 @@ use Rattle.pw_types.specs.Layouts.{content_at}
 use Rattle.pw_types.specs.Records.{declared, defined}
 use Rattle.pw_types.specs.TypeTrees.{Void, Int, Pointer, Array, Function, Record, QType, Qualified, type_of, MemberValue, ContentValue, RecordValue}
 use Rattle.pw_types.specs.TypedTrees.{Expression}
+use Rattle.pw_types.specs.TypedTrees as T
+use Rattle.pw_value.specs.Words.{int_max, unsigned_sum}
 use Rattle.pw_check_walk.specs.Walks.{Walk, bind}
 use Rattle.pw_check_rules.specs.Derivations.{Declared, ParameterValue, built, spot_of}
 use Rattle.pw_check_rules.specs.Kinds.{int_type}
-use Rattle.pw_check_rules.specs.Leaves.{new_record, new_tag, reference_by, reference_rule, opening_by, opening_rule, member_rule, content_by, closing_rule, enumerating_rule, enumerator_name, enumerator_rule, named_type, named_point, parameter_rule, enter_parameter, record_kind, record_spot, adjusted, is_last, first_of_list, first_of_declaration, name_text}
+use Rattle.pw_check_rules.specs.Leaves.{new_record, new_tag, reference_by, reference_rule, opening_by, opening_rule, member_rule, content_by, closing_rule, enumerating_rule, enumerator_name, enumerator_value, enumerator_rule, value_after, named_type, named_point, parameter_rule, enter_parameter, record_kind, record_spot, adjusted, is_last, first_of_list, first_of_declaration, name_text}
 use Rattle.pw_check_rules.specs.Operands.{Operand}
 use Rattle.pw_check_rules.specs.Operators.{value_rule}
 use Rattle.pw_check_rules.specs.Phrases.{expr_rule, postfixes_rule, arguments_rule, operations_rule, specifiers_rule, members_rule, member_declarators_rule, enumerators_rule, declarator_rule, core_rule, suffixes_rule, parameters_rule}
@@ -28,7 +30,7 @@ use Rattle.pw_check_rules.specs.SpecifierLists.{Gathered, nothing_gathered, gath
 use Rattle.pw_check_rules.specs.States.{State, Rule, Entity, TypeName, EnumerationConstant, LocalObject, StaticObject, Linked, enter, put_at, scoped, uncounted, one_deeper, tag_of, tag_here, with_made}
 use Rattle.pw_check_rules.specs.declared.names.Tag.{Tag}
 use Rattle.pw_check_rules.specs.declared.names.Tag.TheVariants as G
-use Rattle.pw_law_checked.specs.Lawful.{IsLawful, IsLawfulType, Extends}
+use Rattle.pw_law_checked.specs.Lawful.{IsLawful, IsLawfulType, Extends, AreWords}
 use Rattle.pw_law_checked.proofs.Walking.{Post, post_bind, post_weaken, post_both, met_right}
 use Rattle.pw_law_checked.proofs.Lists.{some_same, never_some, get_more, get_either, get_one, put_either, length_put}
 use Rattle.pw_law_checked.proofs.States.{Runs, Grows, grows_trans, grows_same, Fine, Widens}
@@ -38,10 +40,13 @@ use Rattle.pw_law_checked.proofs.Phrases.{expr_post, arguments_post, specifiers_
 use Rattle.pw_law_checked.proofs.Operations.{AreFine}
 use Rattle.pw_law_checked.proofs.Spelled.{AreShort, separated_rest, tag_rest, pointers_rest, expr_rest, arguments_rest, specifiers_rest, members_rest, member_declarators_rest, enumerators_rest, declarator_rest, core_rest, parameters_rest}
 use Rattle.pw_law_checked.proofs.Literals.{strings_short}
-use Rattle.pw_law_checked.proofs.Sizes.{IsKeptFrom, kept_from, within_kept}
+use Rattle.pw_law_checked.proofs.Types.{extends_same}
+use Rattle.pw_law_checked.proofs.Constants.{value_or}
+use Rattle.pw_law_checked.proofs.Bounded.{bounded_words}
+use Rattle.pw_law_checked.proofs.Sizes.{IsKeptFrom, kept_from, sized_word, within_kept}
 use Rattle.pw_law_checked.proofs.SmallLeaves.{IsKeptEntity, AreKeptMembers, HaveKeptMembers, Keeping, IsReady, KeptValue, KeptOperand, AreKeptValues, kept_later, Made, leaf_made, then_leaf, from_value, identifier_leaf, number_leaf, character_leaf, string_made, sign_leaf, deref_leaf, address_leaf, step_leaf, size_leaf, cast_leaf, operation_leaf, conditional_leaf, assignment_leaf, index_leaf, call_leaf, dot_leaf, arrow_leaf}
 use Rattle.pw_law_checked.proofs.FitPhrases.{content_of, content_by_record}
-use Rattle.pw_law_checked.proofs.Still.{Still, length_still, typedef_still, enumeration_still, enumerator_name_still, enumerator_value_still, specified_still, built_still, named_still, storage_still, bindings_still}
+use Rattle.pw_law_checked.proofs.Still.{Still, length_still, typedef_still, enumeration_still, enumerator_name_still, specified_still, built_still, storage_still, bindings_still}
 
 -- ---- states
 
@@ -60,7 +65,7 @@ both_set {A} s w Good h k =
 
 entity_from : (a b : List RecordValue) → Extends a b → (x : Entity) → IsKeptEntity a x → IsKeptEntity b x
 entity_from a b e (TypeName q) h = tt
-entity_from a b e (EnumerationConstant n) h = tt
+entity_from a b e (EnumerationConstant n) h = h
 entity_from a b e (LocalObject k q register) h = kept_from a b (type_of q) e h
 entity_from a b e (StaticObject k q) h = kept_from a b (type_of q) e h
 entity_from a b e (Linked place q) h = kept_from a b (type_of q) e h
@@ -153,15 +158,41 @@ unfolding enumerating_rule bind
 enumerating_keeping None s k = k
 enumerating_keeping (Some w) s k = λ met. record { entities = k.entities; members = k.members; strings = k.strings }
 
-enumerator_keeping : (w : Word) (value : Option ℕ) (s : State) → Keeping s → Post (enumerator_rule w value s) (λ r. Keeping r.1)
+-- the value of an enumerator, where there is one
+abbrev IsWordIfAny : Option ℕ → Type 0
+IsWordIfAny None = Unit {0}
+IsWordIfAny (Some n) = n < 2 ^ 32
+
+word_or : (o : Option ℕ) → IsWordIfAny o → unwrap_or o 0 < 2 ^ 32
+word_or None h = omega arith
+word_or (Some n) h = h
+
+word_after : (n : ℕ) → IsWordIfAny (value_after n)
+word_after n = by (n == int_max)
+  where
+    by : (b : Bool) → IsWordIfAny (if b then None else Some (unsigned_sum n 1))
+    by true = tt
+    by false = omega arith
+
+enumerator_keeping : (w : Word) (value : Option ℕ) (s : State) → Keeping s → IsWordIfAny value → Post (enumerator_rule w value s) (λ r. Keeping r.1)
 unfolding enumerator_rule enumerator_name bind
-enumerator_keeping w value s k = λ met counted. entered_keeping s w.text (EnumerationConstant _) k tt
+enumerator_keeping w value s k h = λ met counted. entered_keeping s w.text (EnumerationConstant (unwrap_or value 0)) k (word_or value h)
+
+enumerator_next : (w : Word) (value : Option ℕ) (s : State) → Post (enumerator_rule w value s) (λ r. IsWordIfAny r.0)
+unfolding enumerator_rule enumerator_name bind
+enumerator_next w value s = λ met counted. word_after (unwrap_or value 0)
+
+-- the value that an enumerator is given
+enumerator_word : (first : ℕ) (e : Expression) (s : State) → AreWords e → Post (enumerator_value first e s) (λ r. Still s r × (r.0 < 2 ^ 32))
+unfolding enumerator_value bind
+enumerator_word first e s h = λ met. (refl, value_or e h)
 
 enumerating_set : (o : Option Word) (s : State) → IsReady s → Post (enumerating_rule o s) Set
 enumerating_set o s l = both_set s (enumerating_rule o s) Nothing (enumerating_runs s o l.0) (enumerating_keeping o s l.1)
 
-enumerator_set : (w : Word) (value : Option ℕ) (s : State) → IsReady s → Post (enumerator_rule w value s) Set
-enumerator_set w value s l = both_set s (enumerator_rule w value s) Nothing (enumerator_runs s w value l.0) (enumerator_keeping w value s l.1)
+enumerator_set : (w : Word) (value : Option ℕ) (s : State) → IsReady s → IsWordIfAny value → Post (enumerator_rule w value s) (λ r. Set r × IsWordIfAny r.0)
+enumerator_set w value s l h =
+    post_both (enumerator_rule w value s) Set (λ r. IsWordIfAny r.0) (both_set s (enumerator_rule w value s) Nothing (enumerator_runs s w value l.0) (enumerator_keeping w value s l.1 h)) (enumerator_next w value s)
 
 -- the type that a declarator builds, where nothing else is changed
 pub built_here : (s : State) (b : Specified) (d : Declared) (spot : Rattle.pw_check_rules.specs.Limits.Spot) → IsLawful s → GoodSpecified s b → GoodDeclared s d → Post (built spot d.derivations b.ty s) (λ r. (r.1 ≡ s) × IsLawfulType s.types.records (type_of r.0))
@@ -231,9 +262,13 @@ counted s b h = (
   record { entities = h.1.entities; members = h.1.members; strings = h.1.strings },
 )
 
-uncounted_set : {A : Type 0} (s : State) (inside : Rule A) → IsReady s → ((t : State) → IsReady t → Post (inside t) Set) → Post (uncounted inside s) Set
+-- an operand that is read
+abbrev Read : Operand × State → Type 0
+Read r = IsReady r.1 × KeptOperand r.1 r.0
+
+uncounted_read : (s : State) (inside : Rule Operand) → IsReady s → ((t : State) → IsReady t → Post (inside t) Read) → Post (uncounted inside s) Read
 unfolding uncounted bind
-uncounted_set s inside l h = then_set (inside _) _ (h _ (counted s false l)) (λ r k. counted r.1 s.made.counting k)
+uncounted_read s inside l h = post_bind (inside _) _ Read Read (h _ (counted s false l)) (λ r k. (counted r.1 s.made.counting k.0, λ x c. k.1 x c))
 
 -- ---- phrases
 
@@ -280,17 +315,25 @@ MembersRead s r = (IsLawful r.1 × Grows s r.1 × GoodMembers r.1 r.0) × (Keepi
 read_later : {s t : State} (r : List MemberValue × State) → Grows s t → MembersRead t r → MembersRead s r
 read_later {s} {t} r g h = ((h.0.0, grows_trans g h.0.1, h.0.2), h.1)
 
--- an expression whose operand is not asked for
-expr_set : (e : Expr) (s : State) → IsReady s → Post (expr_rule e s) Made → Post (expr_rule e s) Set
-expr_set e s l h = post_weaken (expr_rule e s) (λ r. (IsLawful r.1 × Grows s r.1 × Fine r.1 r.0) × Made r) Set (post_both (expr_rule e s) (λ r. IsLawful r.1 × Grows s r.1 × Fine r.1 r.0) Made (expr_post e s l.0) h) (λ r g. (g.0.0, g.1.0))
+-- an expression whose operand is asked for its type alone
+expr_read : (e : Expr) (s : State) → IsReady s → Post (expr_rule e s) Made → Post (expr_rule e s) Read
+expr_read e s l h = post_weaken (expr_rule e s) (λ r. (IsLawful r.1 × Grows s r.1 × Fine r.1 r.0) × Made r) Read (post_both (expr_rule e s) (λ r. IsLawful r.1 × Grows s r.1 × Fine r.1 r.0) Made (expr_post e s l.0) h) (λ r g. ((g.0.0, g.1.0), g.1.1))
+
+-- the numbers of a value
+value_words : (s : State) (e : Expression) → IsReady s → KeptValue s e → AreWords e
+value_words s e l v = bounded_words s.types.records e (v s.types.records (l.0.laid, extends_same s.types.records)).small
 
 -- the size of a type, which keeps the limits wherever it is
 abbrev Sized : Operand × State → Type 0
 Sized r = IsReady r.1 × ((t : State) → KeptOperand t r.0)
 
-size_made : (t : ℕ) (spot : Rattle.pw_check_rules.specs.Limits.Spot) (q : QType) (s : State) → IsReady s → Post (Rattle.pw_check_rules.specs.Operators.type_size_rule t spot q s) Sized
+size_made : (t : ℕ) (spot : Rattle.pw_check_rules.specs.Limits.Spot) (q : QType) (s : State) → IsReady s → IsKeptFrom s.types.records (type_of q) → Post (Rattle.pw_check_rules.specs.Operators.type_size_rule t spot q s) Sized
 unfolding Rattle.pw_check_rules.specs.Operators.type_size_rule bind
-size_made t spot q s l = λ met. (l, λ u r c. Rattle.pw_law_checked.proofs.Small.node_keeps r t (Rattle.pw_check_rules.specs.Kinds.plain (Int K.UInt)) _ (Rattle.pw_law_checked.proofs.Sizes.kept_int r K.UInt) tt tt)
+size_made t spot q s l kept = λ met. (
+  l,
+  λ u r c. Rattle.pw_law_checked.proofs.Small.node_keeps r t (Rattle.pw_check_rules.specs.Kinds.plain (Int K.UInt)) (T.Number _) (Rattle.pw_law_checked.proofs.Sizes.kept_int r K.UInt)
+      (sized_word s.types.records (type_of q) l.0.laid (kept s.types.records l.0.laid (extends_same s.types.records)).sized) tt,
+)
 
 sized_made : (s : State) (inside : Rule Operand) → IsReady s → ((t : State) → IsReady t → Post (inside t) Sized) → Post (uncounted inside s) Made
 unfolding uncounted bind
@@ -309,7 +352,7 @@ mutual
   expr_made (S.Paren t e) z sh s l = expr_made e _ sh.1 s l
   expr_made (S.Postfix e rest) z sh s l = from_expr e s _ Made l.0 (expr_made e _ sh s l) (λ r m g a. postfixes_made rest _ (expr_rest e _ sh) r.0 r.1 m a)
   expr_made (S.Unary t P.Sizeof e) z sh s l =
-      post_bind _ _ Set Made (uncounted_set s (expr_rule e) l (λ u k. expr_set e u k (expr_made e _ sh.1 u k))) (λ r m. leaf_made r.1 _ m.1 (size_leaf t r.0 r.1))
+      post_bind _ _ Read Made (uncounted_read s (expr_rule e) l (λ u k. expr_read e u k (expr_made e _ sh.1 u k))) (λ r m. leaf_made r.1 _ m.0.1 (size_leaf t r.0 r.1 m.0.0.laid m.1))
   expr_made (S.Unary t P.Address e) z sh s l = from_expr e s _ Made l.0 (expr_made e _ sh.1 s l) (λ r m g a. leaf_made r.1 _ m.1 (address_leaf t r.0 r.1 a))
   expr_made (S.Unary t P.Increment e) z sh s l = from_expr e s _ Made l.0 (expr_made e _ sh.1 s l) (λ r m g a. leaf_made r.1 _ m.1 (step_leaf t _ r.0 r.1 a))
   expr_made (S.Unary t P.Decrement e) z sh s l = from_expr e s _ Made l.0 (expr_made e _ sh.1 s l) (λ r m g a. leaf_made r.1 _ m.1 (step_leaf t _ r.0 r.1 a))
@@ -322,7 +365,8 @@ mutual
       sized_made s _ l
       (λ u k. from_specifiers specifiers (first_of_declaration specifiers d) u _ Sized k.0 (specifiers_set specifiers _ sh.1.1 (first_of_declaration specifiers d) nothing_gathered u k) (λ r1 m1 g1 b.
       from_declarator d r1.1 _ Sized m1.0 (declarator_set d _ (specifiers_rest specifiers _ sh.1.1) r1.1 m1) (λ r2 m2 g2 c.
-      post_bind _ _ (Still r2.1) Sized (named_still r1.0 r2.0 r2.1) (λ r3 e. size_made t _ r3.0 r3.1 (subst IsReady (sym e) m2)))))
+      post_bind _ _ (Named r2.1) Sized (named_here r2.1 r1.0 r2.0 m2.0 (later_type r1.0.ty g2 b) c) (λ r3 k3.
+      size_made t _ r3.0 r3.1 (subst IsReady (sym k3.0) m2) (subst (λ u. IsKeptFrom u.types.records (type_of r3.0)) (sym k3.0) k3.1)))))
   expr_made (S.Cast t specifiers d e) z sh s l =
       from_specifiers specifiers (first_of_declaration specifiers d) s _ Made l.0 (specifiers_set specifiers _ sh.1 (first_of_declaration specifiers d) nothing_gathered s l) (λ r1 m1 g1 b.
       from_declarator d r1.1 _ Made m1.0 (declarator_set d _ (specifiers_rest specifiers _ sh.1) r1.1 m1) (λ r2 m2 g2 c.
@@ -397,7 +441,7 @@ mutual
       specifiers_set rest _ (members_rest members _ (tag_rest w _ sh.1).1).1 first (gather_type r3.0 None g) r3.1 (k3.0.0, k3.1))))
   specifiers_set (S.EnumTag t w rest) z sh first g s l = then_set _ _ (set_still s _ l (enumeration_still w s)) (λ r k. specifiers_set rest _ sh.1.1 first (gather_type r.0 None g) r.1 k)
   specifiers_set (S.Enum t w enumerators rest) z sh first g s l =
-      then_set _ _ (then_set _ _ (enumerating_set w s l) (λ r k. enumerators_set true enumerators _ (tag_rest w _ sh.1).1 (Some 0) r.1 k)) (λ r k. specifiers_set rest _ (enumerators_rest true enumerators _ (tag_rest w _ sh.1).1).1 first (gather_type int_type None g) r.1 k)
+      then_set _ _ (then_set _ _ (enumerating_set w s l) (λ r k. enumerators_set true enumerators _ (tag_rest w _ sh.1).1 (Some 0) (omega arith) r.1 k)) (λ r k. specifiers_set rest _ (enumerators_rest true enumerators _ (tag_rest w _ sh.1).1).1 first (gather_type int_type None g) r.1 k)
 
   members_read : (members : Members) (z : List Symbol) → AreShort (spell_members members z) → (ms : List MemberValue) (s : State) → IsReady s → GoodMembers s ms → AreKeptMembers s.types.records ms → Post (members_rule members ms s) (MembersRead s)
   members_read S.NoMember z sh ms s l good fit = ((l.0, grows_same s, good), (l.1, fit))
@@ -422,13 +466,16 @@ mutual
   member_declarators_read lead (S.BitField d t e rest) z sh b ms s l known good fit = from_declarator d s _ (MembersRead s) l.0 (declarator_set d _ (separated_rest lead _ sh) s l) (λ r m g c. tt)
   member_declarators_read lead (S.Padding t e rest) z sh b ms s l known good fit = tt
 
-  enumerators_set : (lead : Bool) (enumerators : Enumerators) (z : List Symbol) → AreShort (spell_enumerators lead enumerators z) → (value : Option ℕ) (s : State) → IsReady s → Post (enumerators_rule enumerators value s) Set
-  enumerators_set lead S.NoEnumerator z sh value s l = l
-  enumerators_set lead (S.PlainEnumerator w rest) z sh value s l = then_set _ _ (enumerator_set w value s l) (λ r k. enumerators_set false rest _ (separated_rest lead _ sh).1 r.0 r.1 k)
-  enumerators_set lead (S.ValuedEnumerator w e rest) z sh value s l =
+  enumerators_set : (lead : Bool) (enumerators : Enumerators) (z : List Symbol) → AreShort (spell_enumerators lead enumerators z) → (value : Option ℕ) → IsWordIfAny value → (s : State) → IsReady s → Post (enumerators_rule enumerators value s) Set
+  enumerators_set lead S.NoEnumerator z sh value h s l = l
+  enumerators_set lead (S.PlainEnumerator w rest) z sh value h s l =
+      post_bind _ _ (λ r. Set r × IsWordIfAny r.0) Set (enumerator_set w value s l h) (λ r k. enumerators_set false rest _ (separated_rest lead _ sh).1 r.0 k.1 r.1 k.0)
+  enumerators_set lead (S.ValuedEnumerator w e rest) z sh value h s l =
       then_set _ _ (set_still s _ l (enumerator_name_still w s)) (λ r0 k0.
       from_valued e r0.1 _ Set k0.0 (expr_made e _ (separated_rest lead _ sh).1.1 r0.1 k0) (λ r1 m1 g1 v.
-      then_set _ _ (set_still r1.1 _ m1 (enumerator_value_still (first_of_expr e) r1.0 r1.1)) (λ r2 k2. then_set _ _ (enumerator_set w (Some r2.0) r2.1 k2) (λ r3 k3. enumerators_set false rest _ (expr_rest e _ (separated_rest lead _ sh).1.1) r3.0 r3.1 k3))))
+      post_bind _ _ (λ r. Still r1.1 r × (r.0 < 2 ^ 32)) Set (enumerator_word (first_of_expr e) r1.0 r1.1 (value_words r1.1 r1.0 m1 v)) (λ r2 k2.
+      post_bind _ _ (λ r. Set r × IsWordIfAny r.0) Set (enumerator_set w (Some r2.0) r2.1 (subst IsReady (sym k2.0) m1) k2.1) (λ r3 k3.
+      enumerators_set false rest _ (expr_rest e _ (separated_rest lead _ sh).1.1) r3.0 k3.1 r3.1 k3.0))))
 
   pub declarator_set : (d : Declarator) (z : List Symbol) → AreShort (spell_declarator d z) → (s : State) → IsReady s → Post (declarator_rule d s) Set
   declarator_set (S.Declaring pointers core suffixes) z sh s l = then_set _ _ (core_set core _ (pointers_rest pointers _ sh) s l) (λ r1 k1. then_set _ _ (suffixes_set suffixes _ (core_rest core _ (pointers_rest pointers _ sh)) r1.1 k1) (λ r2 k2. k2))

@@ -7,7 +7,7 @@ use Rattle.pw_tree.specs.Spelling.{spell_expr, spell_optional, spell_decls, spel
 use Rattle.pw_tree.specs.Symbols.{Symbol}
 use Rattle.pw_types.specs.TypeTrees.{type_of, RecordValue}
 use Rattle.pw_types.specs.TypedTrees.{Expression, Statement, Statements}
-use Rattle.pw_law_lower.specs.Within.{IsSmall, IsSmallOrAbsent, KeepsLimits, KeepLimits, ArmsKeepLimits, ElseKeepsLimits}
+use Rattle.pw_law_checked.specs.Bounded.{IsBounded, IsBoundedOrAbsent, IsBoundedStatement, AreBoundedStatements, AreBoundedArms, IsBoundedElse}
 use Rattle.pw_check_walk.specs.Walks.{Walk, bind}
 use Rattle.pw_check_rules.specs.Declarations.{decls_rule}
 use Rattle.pw_check_rules.specs.Operators.{value_rule}
@@ -63,19 +63,19 @@ abbrev Nothing : {A : Type 0} → State → A → Type 0
 Nothing s a = Unit {0}
 
 abbrev SmallValue : State → Expression → Type 0
-SmallValue s e = Ever (λ r. IsSmall r e) s
+SmallValue s e = Ever (λ r. IsBounded r e) s
 
 abbrev SmallIfAny : State → Option Expression → Type 0
-SmallIfAny s o = Ever (λ r. IsSmallOrAbsent r o) s
+SmallIfAny s o = Ever (λ r. IsBoundedOrAbsent r o) s
 
 abbrev pub SmallStatement : State → Statement → Type 0
-SmallStatement s x = Ever (λ r. KeepsLimits r x) s
+SmallStatement s x = Ever (λ r. IsBoundedStatement r x) s
 
 abbrev SmallStatements : State → Statements → Type 0
-SmallStatements s xs = Ever (λ r. KeepLimits r xs) s
+SmallStatements s xs = Ever (λ r. AreBoundedStatements r xs) s
 
 abbrev SmallBehind : State → Behind → Type 0
-SmallBehind s b = Ever (λ r. ArmsKeepLimits r b.arms × ElseKeepsLimits r b.otherwise) s
+SmallBehind s b = Ever (λ r. AreBoundedArms r b.arms × IsBoundedElse r b.otherwise) s
 
 abbrev SmallSwitch : State → Statement × SwitchState → Type 0
 SmallSwitch s x = SmallStatement s x.0

@@ -1,6 +1,8 @@
 -- The parts of what checking promises together: an accepted module is well typed.
 use Rattle.std.specs.Prelude.{All, Ok}
 use Rattle.pw_tree.specs.Trees.{Module}
+use Rattle.pw_types.specs.Records.{IsObjectType}
+use Rattle.pw_types.specs.TypeTrees.{type_of}
 use Rattle.pw_types.specs.TypedModules.{IsFunction, IsGlobal, WellTyped}
 use Rattle.pw_types.specs.TypedTrees.{ModuleValue}
 use Rattle.pw_check_rules.specs.Checks.{Checks, checking}
@@ -25,9 +27,12 @@ has_objects : (tree : Module) (m : ModuleValue) → Checks tree (Ok m) → HasOb
 unfolding checking
 has_objects tree m h = post_end (checking tree) m HasObjects h (checking_objects tree start_lawful)
 
+pub sizes : (tree : Module) (m : ModuleValue) → Checks tree (Ok m) → AreShortStrings m → All (λ g. IsObjectType m.records (type_of g.ty)) m.globals
+sizes tree m h short = (has_objects tree m h).sized short
+
 pub globals : (tree : Module) (m : ModuleValue) → Checks tree (Ok m) → AreWordsInModule m → AreShortStrings m → All (IsGlobal m) m.globals
 globals tree m h words short = λ k d below.
-    let x = has_objects tree m h words short k d below in
+    let x = (has_objects tree m h).placed words short k d below in
     record { object = x.0; known = x.1; items = x.2; declared = module_objects_declared tree m h k d below }
 
 pub whole : (tree : Module) (m : ModuleValue) → WellFormedModule tree → Checks tree (Ok m) → AreWordsInModule m → AreShortStrings m → WellTyped m

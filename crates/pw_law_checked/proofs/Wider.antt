@@ -1,11 +1,11 @@
 -- Of two types one is wider: whatever is compatible with the other is compatible with it. Composites narrow (ISO C90 6.1.2.6).
-use Rattle.std.specs.Prelude.{ℕ, ◌≡◌, ◌==◌, Bool, true, false, ◌&&◌, Option, None, Some, refl}
+use Rattle.std.specs.Prelude.{ℕ, ◌≡◌, Bool, true, false, ◌&&◌, Option, None, Some, refl}
 use Rattle.std.specs.Option.{option_or}
-use Rattle.std.proofs.Common.{ap, sym, subst, ◌∙◌}
-use Rattle.std.proofs.lemmas.Bool.{eqb-true, eq-eqb}
+use Rattle.std.proofs.Common.{subst}
+use Rattle.std.proofs.lemmas.Bool.{eqb-true}
 use Rattle.pw_types.specs.TypeTrees.{CType, Void, Int, Pointer, Array, Function, Record, QType, Qualified, QTypes, NoType, OneType}
 use Rattle.pw_value.specs.ProgramNames.{same_truth}
-use Rattle.pw_check_rules.specs.Compatible.{compatible, compatible_types, compatible_parameters, compatible_plainly, lengths_agree, composite, composite_type, composite_parameters}
+use Rattle.pw_check_rules.specs.Compatible.{compatible, compatible_types, compatible_parameters, lengths_agree, composite, composite_type, composite_parameters}
 use Rattle.pw_law_checked.proofs.Types.{no, left, right, kinds_same}
 
 abbrev pub Wider : QType → QType → Type 0

@@ -90,6 +90,12 @@ pub fn accepted_objects_are_well_typed()
     ensures { (tree : Module) (m : ModuleValue) → Checks tree (Ok m) → AreWordsInModule m → AreShortStrings m → All (IsGlobal m) m.globals }
 {}
 
+/// Each object of a module that checking accepts has a type that is complete and keeps the limit on sizes (ISO C90 6.5, 6.7.2), if no
+/// string literal is longer than an object can be.
+pub fn accepted_objects_have_sizes()
+    ensures { (tree : Module) (m : ModuleValue) → Checks tree (Ok m) → AreShortStrings m → All (λ g. IsObjectType m.records (type_of g.ty)) m.globals }
+{}
+
 /// Each address in the first bytes of an object of a module that checking accepts leads into what it names, or directly behind it, as
 /// far as the module knows its size; to that of a function nothing is added (ISO C90 6.4). And an object that all modules share has the
 /// size of the type with which its own module declares it.

@@ -1,5 +1,5 @@
 -- What blocks the code of an expression begins: those whose numbers were given out since, each once.
-use Rattle.std.proofs.Common.{◌≡◌, ℕ, ◌+◌, ◌≤◌, ◌==◌, Bool, true, false, if◌then◌else◌, Option, Some, None, List, [], ◌∷◌, ◌++◌, refl, ap, arith}
+use Rattle.std.proofs.Common.{◌≡◌, ℕ, ◌+◌, ◌≤◌, ◌==◌, Bool, true, false, if◌then◌else◌, Option, Some, None, List, [], ◌∷◌, ◌++◌, refl, ap, ◌∙◌, arith}
 use Rattle.pw_value.specs.declared.value.Kind.{Kind}
 use Rattle.pw_types.specs.Kinds.{is_record}
 use Rattle.pw_types.specs.TypeTrees.{CType, Void, type_of, RecordValue}
@@ -54,39 +54,43 @@ pub record Spread (c d : Code) (saved spent : ℕ → ℕ) : Type 0 where
   pub blocks : (b : ℕ) → begun b d + given b c.blocks + saved b ≤ begun b c + given b d.blocks + spent b
   pub counts : c.blocks ≤ d.blocks
   pub temps : c.temps ≤ d.temps
+  pub labels : d.labels ≡ c.labels
 
 pub joins : {c d e : Code} {s n s' n' : ℕ → ℕ} → Spread c d s n → Spread d e s' n' → Spread c e (λ b. s b + s' b) (λ b. n b + n' b)
 joins f g = record {
   blocks = λ b. omega (arith, f.blocks b, g.blocks b);
   counts = omega (arith, f.counts, g.counts);
   temps = omega (arith, f.temps, g.temps);
+  labels = g.labels ∙ f.labels;
 }
 
 pub within : {c d : Code} {s n k m : ℕ → ℕ} → Spread c d s n → ((b : ℕ) → n b + k b ≤ s b + m b) → Spread c d k m
-within f h = record { blocks = λ b. omega (arith, f.blocks b, h b); counts = f.counts; temps = f.temps }
+within f h = record { blocks = λ b. omega (arith, f.blocks b, h b); counts = f.counts; temps = f.temps; labels = f.labels }
 
 -- operations and temporaries more
-pub stays : (c d : Code) → d.closed ≡ c.closed → d.cur ≡ c.cur → d.blocks ≡ c.blocks → c.temps ≤ d.temps → Spread c d none none
-stays c d closed cur blocks temps = record {
+pub stays : (c d : Code) → d.closed ≡ c.closed → d.cur ≡ c.cur → d.blocks ≡ c.blocks → c.temps ≤ d.temps → d.labels ≡ c.labels → Spread c d none none
+stays c d closed cur blocks temps labels = record {
   blocks = λ b. omega (arith, ap (λ (n : ℕ). same n b) cur, ap (λ (l : List Numbered). times_closed b l) closed, ap (λ (n : ℕ). given b n) blocks);
   counts = omega (arith, blocks);
   temps = temps;
+  labels = labels;
 }
 
 pub same_code : (c : Code) → Spread c c none none
-same_code c = stays c c refl refl refl (omega arith)
+same_code c = stays c c refl refl refl (omega arith) refl
 
 pub emits : (o : Op) (c : Code) → Spread c (emit o c) none none
-emits o c = stays c (emit o c) refl refl refl (omega arith)
+emits o c = stays c (emit o c) refl refl refl (omega arith) refl
 
 pub adds : (o : ℕ → Op) (c : Code) → Spread c (fresh o c).code none none
-adds o c = stays c (fresh o c).code refl refl refl (omega arith)
+adds o c = stays c (fresh o c).code refl refl refl (omega arith) refl
 
 pub cuts : (end : End) (number depth : ℕ) (c : Code) → Spread c (cut end number depth c) none (λ b. same number b)
 cuts end number depth c = record {
   blocks = λ b. omega (arith, times_closed-append b c.closed (record { number = c.cur; block = record { depth = c.depth; ops = c.ops; end = end } } ∷ []));
   counts = omega arith;
   temps = omega arith;
+  labels = refl;
 }
 
 pub turns : (end : End) (number : ℕ) (c : Code) → Spread c (cut_here end number c) none (λ b. same number b)
@@ -216,6 +220,7 @@ fork-spreads n x = record {
   blocks = λ b. omega (arith, given-three b x.code.blocks, times_closed-append b x.code.closed (record { number = x.code.cur; block = record { depth = x.code.depth; ops = x.code.ops; end = Branch (temp_of x) x.code.blocks (x.code.blocks + 1) } } ∷ []));
   counts = omega arith;
   temps = omega arith;
+  labels = refl;
 }
 
 called-adds : (v : Bool) (o : Option ℕ → Op) (c : Code) → Spread c (if v then lowered_as None (emit (o None) c) else fresh (λ t. o (Some t)) c).code none none
@@ -342,3 +347,6 @@ pub expression-spreads : (h : Home) (e : Expression) (c : Code) → Spreads c (l
 expression-spreads h e c =
     let s = lower-spreads h e c in
     record { blocks = λ b. omega (arith, s.blocks b); counts = s.counts; temps = s.temps }
+
+pub expression-labels : (h : Home) (e : Expression) (c : Code) → (lower h e c).code.labels ≡ c.labels
+expression-labels h e c = let s = lower-spreads h e c in s.labels

@@ -66,9 +66,10 @@ pub fn locals_come_first()
     ensures assigned { AssignsToLocals }
 {}
 
-/// The code of an expression begins only blocks whose numbers were given out since, each once.
+/// The code of an expression begins only blocks whose numbers were given out since, each once, and labels keep their blocks.
 pub fn expressions_spread()
-    ensures { (h : Home) (a : Expression) (c : Code) → Spreads c (lower h a c).code [] }
+    ensures blocks { (h : Home) (a : Expression) (c : Code) → Spreads c (lower h a c).code [] }
+    ensures labels { (h : Home) (a : Expression) (c : Code) → (lower h a c).code.labels ≡ c.labels }
 {}
 
 /// The result of a well-typed expression that is not void stands in a temporary that its code gave out.

@@ -1,10 +1,15 @@
 -- Constant expressions: each operation on words makes a word.
-use Rattle.std.specs.Prelude.{ℕ, ◌≡◌, ◌<◌, ◌≤◌, ◌+◌, ◌-◌, ◌*◌, ◌/◌, ◌%◌, ◌^◌, ◌==◌, ◌&&◌, Bool, true, false, not, nat_le, if◌then◌else◌, Option, Some, Result, Ok, Err, bit_and, bit_or, bit_xor, refl}
-use Rattle.std.proofs.Common.{arith, subst, sym}
+use Rattle.std.specs.Prelude.{ℕ, ℤ, pos, negsuc, neg_ℤ, ◌+ℤ◌, ◌-ℤ◌, ◌*ℤ◌, int_div, int_rem, ◌≡◌, ◌<◌, ◌≤◌, ◌+◌, ◌-◌, ◌*◌, ◌/◌, ◌%◌, ◌^◌, ◌==◌, ◌&&◌, Bool, true, false, not, nat_le, if◌then◌else◌, Option, None, Some, unwrap_or, Result, Ok, Err, bit_and, bit_or, bit_xor, refl}
+use Rattle.std.proofs.Common.{arith, subst}
+use Rattle.std.specs.Int.{int_shr}
+use Rattle.std.specs.Int.RustNames.{unsigned_abs}
+use Rattle.std.proofs.lemmas.Bool.{leb-true}
+use Rattle.std.proofs.lemmas.Int.{ints, rem_below}
 use Rattle.std.proofs.lemmas.Nat.{and_le_l, or_lt, xor_lt}
 use Rattle.std.proofs.Math.Nat.{div-le_self}
 use Rattle.pw_value.specs.Words as w
 use Rattle.pw_value.specs.declared.words.WordFault.{WordFault}
+use Rattle.pw_value.specs.declared.words.WordFault.TheVariants as F
 use Rattle.pw_types.specs.Conversions.{is_signed_kind}
 use Rattle.pw_types.specs.declared.kind.IntKind.{IntKind}
 use Rattle.pw_types.specs.declared.kind.IntKind.TheVariants as K
@@ -38,17 +43,17 @@ ok_word n h s e = let same : n ≡ s = cc in subst (λ k. k < 2 ^ 32) same h
 err_word : (f : WordFault) → MakesWords (Err f)
 err_word f s e = absurd cc
 
-divided_word : (b n : ℕ) → n < 2 ^ 32 → MakesWords (w.divided b (Ok n))
-divided_word b n h = by (b == 0)
+divided_word : (b : ℕ) (answer : Result ℕ WordFault) → MakesWords answer → MakesWords (w.divided b answer)
+divided_word b answer h = by (b == 0)
   where
-    by : (x : Bool) → MakesWords (if x then Err Rattle.pw_value.specs.declared.words.WordFault.TheVariants.ZeroDivisor else Ok n)
+    by : (x : Bool) → MakesWords (if x then Err F.ZeroDivisor else answer)
     by true = err_word _
-    by false = ok_word n h
+    by false = h
 
 shifted_word : (count n : ℕ) → n < 2 ^ 32 → MakesWords (w.shifted count n)
 shifted_word count n h = by (Rattle.std.specs.Prelude.nat_lt count 32)
   where
-    by : (x : Bool) → MakesWords (if x then Ok n else Err Rattle.pw_value.specs.declared.words.WordFault.TheVariants.ShiftCount)
+    by : (x : Bool) → MakesWords (if x then Ok n else Err F.ShiftCount)
     by true = ok_word n h
     by false = err_word _
 
@@ -74,7 +79,7 @@ remainder_word a b h = by (b == 0) refl
     below : (b == 0) ≡ false → a % b < 2 ^ 32
     below e = let k : Rattle.std.specs.Prelude.zero < b = grind arith in let m = Rattle.std.proofs.Math.Nat.mod-lt a k in omega arith
 
-    by : (x : Bool) → (b == 0) ≡ x → MakesWords (if x then Err Rattle.pw_value.specs.declared.words.WordFault.TheVariants.ZeroDivisor else Ok (a % b))
+    by : (x : Bool) → (b == 0) ≡ x → MakesWords (if x then Err F.ZeroDivisor else Ok (a % b))
     by true e = err_word _
     by false e = ok_word (a % b) (below e)
 
@@ -152,71 +157,114 @@ choice_known c a b h k = by (c == 0)
     by true = formed_then a b k
     by false = formed_then b a h
 
--- what pw_value says of operations on ints
-pub record Facts : Type 0 where
-  pub sum : (a b s : ℕ) → a < 2 ^ 32 → b < 2 ^ 32 → w.signed_sum a b ≡ Ok s → s ≡ w.unsigned_sum a b
-  pub difference : (a b s : ℕ) → a < 2 ^ 32 → b < 2 ^ 32 → w.signed_difference a b ≡ Ok s → s ≡ w.unsigned_difference a b
-  pub product : (a b s : ℕ) → a < 2 ^ 32 → b < 2 ^ 32 → w.signed_product a b ≡ Ok s → s ≡ w.unsigned_product a b
-  pub negation : (a s : ℕ) → a < 2 ^ 32 → w.signed_negation a ≡ Ok s → s ≡ w.unsigned_negation a
-  pub quotient : (a b s : ℕ) → a < 2 ^ 32 → b < 2 ^ 32 → w.signed_quotient a b ≡ Ok s → s < 2 ^ 32
-  pub remainder : (a b s : ℕ) → a < 2 ^ 32 → b < 2 ^ 32 → w.signed_remainder a b ≡ Ok s → s < 2 ^ 32
-  pub shift : (a count s : ℕ) → a < 2 ^ 32 → w.signed_shift_right a count ≡ Ok s → s < 2 ^ 32
+-- ---- int
 
-same_word : (s n : ℕ) → n < 2 ^ 32 → s ≡ n → s < 2 ^ 32
-same_word s n h e = subst (λ k. k < 2 ^ 32) (sym e) h
+word_small : (z : ℤ) → unsigned_abs z < 2 ^ 32 → w.word z < 2 ^ 32
+word_small (pos n) h = omega (arith, h)
+word_small (negsuc n) h = omega arith
+
+exact_word : (z : ℤ) → MakesWords (w.exact z)
+exact_word (pos n) = by (nat_le n w.int_max) refl
+  where
+    by : (x : Bool) → nat_le n w.int_max ≡ x → MakesWords (if x then Ok (w.word (pos n)) else Err F.Overflow)
+    by true e = ok_word (w.word (pos n)) (let h : n ≤ w.int_max = leb-true n w.int_max e in omega (arith, h))
+    by false e = err_word _
+exact_word (negsuc n) = by (nat_le n w.int_max)
+  where
+    by : (x : Bool) → MakesWords (if x then Ok (w.word (negsuc n)) else Err F.Overflow)
+    by true = ok_word (w.word (negsuc n)) (omega arith)
+    by false = err_word _
+
+-- how far an int is from 0
+signed_near : (a : ℕ) → a < 2 ^ 32 → unsigned_abs (w.signed a) < 2 ^ 32
+signed_near a h = grind (arith, ints, h)
+
+signed_away : (a : ℕ) → a < 2 ^ 32 → (a == 0) ≡ false → 0 < unsigned_abs (w.signed a)
+signed_away a h e = let k : 0 < a = grind arith in grind (arith, ints, h, k)
+
+-- the remainder is nearer to 0 than the divisor
+left_word : (a b : ℕ) → b < 2 ^ 32 → MakesWords (w.signed_remainder a b)
+left_word a b h = by (b == 0) refl
+  where
+    near : (b == 0) ≡ false → unsigned_abs (int_rem (w.signed a) (w.signed b)) < 2 ^ 32
+    near e =
+        let below = rem_below (w.signed a) (w.signed b) (signed_away b h e) in
+        let own = signed_near b h in
+        omega (arith, below, own)
+
+    answer : (b == 0) ≡ false → (x : Bool) → MakesWords (if x then Ok (w.word (int_rem (w.signed a) (w.signed b))) else Err F.Overflow)
+    answer e true = ok_word _ (word_small (int_rem (w.signed a) (w.signed b)) (near e))
+    answer e false = err_word _
+
+    by : (x : Bool) → (b == 0) ≡ x → MakesWords (if x then Err F.ZeroDivisor else (if w.fits (int_div (w.signed a) (w.signed b)) then Ok (w.word (int_rem (w.signed a) (w.signed b))) else Err F.Overflow))
+    by true e = err_word _
+    by false e = answer e (w.fits (int_div (w.signed a) (w.signed b)))
+
+-- and what is shifted to the right nearer than what it was
+right_word : (z : ℤ) (k : ℕ) → unsigned_abs z < 2 ^ 32 → w.word (int_shr z k) < 2 ^ 32
+right_word (pos n) k h = let less = div-le_self n (2 ^ k) in omega (arith, h, less)
+right_word (negsuc n) k h = omega arith
 
 reduced : (n : ℕ) → n % 2 ^ 32 < 2 ^ 32
 reduced n = omega arith
 
-unary_known : Facts → (op : UnaryOperator) (kind : IntKind) (n : ℕ) → n < 2 ^ 32 → IsWord (unary_word op kind n)
-unary_known f U.Plus kind n h = h
-unary_known f U.Minus kind n h = by (is_signed_kind kind)
+unary_known : (op : UnaryOperator) (kind : IntKind) (n : ℕ) → n < 2 ^ 32 → IsWord (unary_word op kind n)
+unary_known U.Plus kind n h = h
+unary_known U.Minus kind n h = by (is_signed_kind kind)
   where
     by : (x : Bool) → IsWord (if x then by_result (w.signed_negation n) else Known (w.unsigned_negation n))
-    by true = result_word (w.signed_negation n) (λ s e. same_word s (w.unsigned_negation n) (reduced _) (f.negation n s h e))
+    by true = result_word (w.signed_negation n) (exact_word (neg_ℤ (w.signed n)))
     by false = reduced _
-unary_known f U.Complement kind n h = omega arith
-unary_known f U.Not kind n h = truth_word (n == 0)
+unary_known U.Complement kind n h = omega arith
+unary_known U.Not kind n h = truth_word (n == 0)
 
-binary_known : Facts → (op : BinaryOperator) (x : Bool) (a b : ℕ) → a < 2 ^ 32 → b < 2 ^ 32 → IsWord (binary_word op x a b)
-binary_known f B.Add x a b h k = either_word x _ _ (λ s e. same_word s (w.unsigned_sum a b) (reduced _) (f.sum a b s h k e)) (ok_word _ (reduced _))
-binary_known f B.Subtract x a b h k = either_word x _ _ (λ s e. same_word s (w.unsigned_difference a b) (reduced _) (f.difference a b s h k e)) (ok_word _ (reduced _))
-binary_known f B.Multiply x a b h k = either_word x _ _ (λ s e. same_word s (w.unsigned_product a b) (reduced _) (f.product a b s h k e)) (ok_word _ (reduced _))
-binary_known f B.Divide x a b h k = either_word x _ _ (λ s e. f.quotient a b s h k e) (divided_word b (a / b) (quotient_word a b h))
-binary_known f B.Remainder x a b h k = either_word x _ _ (λ s e. f.remainder a b s h k e) (remainder_word a b k)
-binary_known f B.ShiftLeft x a b h k = result_word _ (shifted_word b (a * 2 ^ b % 2 ^ 32) (reduced _))
-binary_known f B.ShiftRight x a b h k = either_word x _ _ (λ s e. f.shift a b s h e) (shifted_word b (a / 2 ^ b) (quotient_word a (2 ^ b) h))
-binary_known f B.Less x a b h k = truth_word _
-binary_known f B.Greater x a b h k = truth_word _
-binary_known f B.LessEqual x a b h k = truth_word _
-binary_known f B.GreaterEqual x a b h k = truth_word _
-binary_known f B.Equal x a b h k = truth_word _
-binary_known f B.NotEqual x a b h k = truth_word _
-binary_known f B.And x a b h k = let l = and_le_l a b in omega arith
-binary_known f B.ExclusiveOr x a b h k = xor_lt 32 a b h k
-binary_known f B.Or x a b h k = or_lt 32 a b h k
+binary_known : (op : BinaryOperator) (x : Bool) (a b : ℕ) → a < 2 ^ 32 → b < 2 ^ 32 → IsWord (binary_word op x a b)
+binary_known B.Add x a b h k = either_word x _ _ (exact_word (w.signed a +ℤ w.signed b)) (ok_word (w.unsigned_sum a b) (reduced (a + b)))
+binary_known B.Subtract x a b h k = either_word x _ _ (exact_word (w.signed a -ℤ w.signed b)) (ok_word (w.unsigned_difference a b) (reduced (a + (2 ^ 32 - b))))
+binary_known B.Multiply x a b h k = either_word x _ _ (exact_word (w.signed a *ℤ w.signed b)) (ok_word (w.unsigned_product a b) (reduced (a * b)))
+binary_known B.Divide x a b h k = either_word x _ _ (divided_word b _ (exact_word (int_div (w.signed a) (w.signed b)))) (divided_word b _ (ok_word (a / b) (quotient_word a b h)))
+binary_known B.Remainder x a b h k = either_word x _ _ (left_word a b k) (remainder_word a b k)
+binary_known B.ShiftLeft x a b h k = result_word _ (shifted_word b (a * 2 ^ b % 2 ^ 32) (reduced _))
+binary_known B.ShiftRight x a b h k = either_word x _ _ (shifted_word b _ (right_word (w.signed a) b (signed_near a h))) (shifted_word b (a / 2 ^ b) (quotient_word a (2 ^ b) h))
+binary_known B.Less x a b h k = truth_word _
+binary_known B.Greater x a b h k = truth_word _
+binary_known B.LessEqual x a b h k = truth_word _
+binary_known B.GreaterEqual x a b h k = truth_word _
+binary_known B.Equal x a b h k = truth_word _
+binary_known B.NotEqual x a b h k = truth_word _
+binary_known B.And x a b h k = let l = and_le_l a b in omega arith
+binary_known B.ExclusiveOr x a b h k = xor_lt 32 a b h k
+binary_known B.Or x a b h k = or_lt 32 a b h k
 
-constant_words : Facts → (e : Expression) → AreWords e → IsWord (constant_of e)
+constant_words : (e : Expression) → AreWords e → IsWord (constant_of e)
 unfolding constant_of
-constant_words f (Node t (Qualified (Int kind) c v) (T.Number n)) h = h
-constant_words f (Node t (Qualified (Int kind) c v) (T.Unary op a)) h =
-    known_word (constant_of a) _ (constant_words f a h) (λ n k. integral_word (type_in a) _ (unary_known f op (kind_in (type_in a)) n k))
-constant_words f (Node t (Qualified (Int kind) c v) (T.Binary op a b)) h =
+constant_words (Node t (Qualified (Int kind) c v) (T.Number n)) h = h
+constant_words (Node t (Qualified (Int kind) c v) (T.Unary op a)) h =
+    known_word (constant_of a) _ (constant_words a h) (λ n k. integral_word (type_in a) _ (unary_known op (kind_in (type_in a)) n k))
+constant_words (Node t (Qualified (Int kind) c v) (T.Binary op a b)) h =
     integral_word (type_in a) _ (integral_word (type_in b) _
-    (both_word (constant_of a) (constant_of b) _ (constant_words f a h.0) (constant_words f b h.1) (λ n m k j. binary_known f op _ n m k j)))
-constant_words f (Node t (Qualified (Int kind) c v) (T.Logic op a b)) h =
-    formed_word (constant_of b) _ (known_word (constant_of a) _ (constant_words f a h.0) (λ n k. logic_known op n (constant_of b)))
-constant_words f (Node t (Qualified (Int kind) c v) (T.Cond a b d)) h =
+    (both_word (constant_of a) (constant_of b) _ (constant_words a h.0) (constant_words b h.1) (λ n m k j. binary_known op _ n m k j)))
+constant_words (Node t (Qualified (Int kind) c v) (T.Logic op a b)) h =
+    formed_word (constant_of b) _ (known_word (constant_of a) _ (constant_words a h.0) (λ n k. logic_known op n (constant_of b)))
+constant_words (Node t (Qualified (Int kind) c v) (T.Cond a b d)) h =
     formed_word (constant_of b) _ (formed_word (constant_of d) _
-    (known_word (constant_of a) _ (constant_words f a h.0) (λ n k. choice_known n (constant_of b) (constant_of d) (constant_words f b h.1) (constant_words f d h.2))))
-constant_words f (Node t (Qualified (Int kind) c v) (T.Cast a)) h =
-    integral_word (type_in a) _ (known_word (constant_of a) _ (constant_words f a h) (λ n k. converted_word kind n))
-constant_words f e h = tt
+    (known_word (constant_of a) _ (constant_words a h.0) (λ n k. choice_known n (constant_of b) (constant_of d) (constant_words b h.1) (constant_words d h.2))))
+constant_words (Node t (Qualified (Int kind) c v) (T.Cast a)) h =
+    integral_word (type_in a) _ (known_word (constant_of a) _ (constant_words a h) (λ n k. converted_word kind n))
+constant_words e h = tt
 
 value_word : (c : Constancy) (n : ℕ) → IsWord c → value_known c ≡ Some n → n < 2 ^ 32
 value_word (Known m) n h e = subst (λ k. k < 2 ^ 32) (some_same e) h
 value_word NoConstant n h e = never_some e
 value_word NoValue n h e = never_some e
 
-pub constants_words : Facts → (e : Expression) (n : ℕ) → AreWords e → constant_value e ≡ Some n → n < 2 ^ 32
-constants_words f e n h is = value_word (constant_of e) n (constant_words f e h) is
+pub constants_words : (e : Expression) (n : ℕ) → AreWords e → constant_value e ≡ Some n → n < 2 ^ 32
+constants_words e n h is = value_word (constant_of e) n (constant_words e h) is
+
+-- where there is no value, another word stands for it
+pub value_or : (e : Expression) → AreWords e → unwrap_or (constant_value e) 0 < 2 ^ 32
+value_or e h = by (constant_value e) refl
+  where
+    by : (o : Option ℕ) → constant_value e ≡ o → unwrap_or o 0 < 2 ^ 32
+    by None is = omega arith
+    by (Some n) is = constants_words e n h is

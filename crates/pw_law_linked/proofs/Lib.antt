@@ -1,0 +1,16 @@
+pub mod Behind
+pub mod Pieces
+pub mod Names
+pub mod Text
+pub mod Addresses
+pub mod Known
+pub mod Sizes
+pub mod Stands
+pub mod Linked
+pub mod Framed
+pub mod Whole
+pub mod Apart
+pub mod Served
+pub mod Relocated
+pub mod Own
+pub mod Words

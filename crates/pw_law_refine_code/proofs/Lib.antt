@@ -1,0 +1,13 @@
+mod Spreads
+mod Totals
+mod Opening
+mod StatementsSpread
+mod FunctionCode
+mod Ending
+mod Slots
+mod Addressed
+mod Labelling
+mod Switching
+mod Body
+mod Setting
+mod Arms
