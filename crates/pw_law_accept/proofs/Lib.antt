@@ -18,6 +18,4 @@ mod Rules
 pub mod Suiting
 pub mod Order
 pub mod Bodies
-mod Expressions
-mod Statements
-mod Functions
+mod Right

@@ -1,5 +1,5 @@
-use Rattle.pw_law_accept.proofs.Functions.{function_good}
+use Rattle.pw_law_accept.proofs.Right.{function_right}
 use Rattle.pw_law_accept.proofs.operations.lowered_functions_refer_rightly.Goals as goal
 
 pub returns : goal.returns
-returns c home m f = function_good m home f
+returns c home m f = function_right m f home
