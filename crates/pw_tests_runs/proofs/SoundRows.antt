@@ -1,6 +1,6 @@
 -- Lawful, sound databases with webs exist: bump and main have one web, which main enters. The root of both is `$start`,
 -- which saves nothing for them, so that no register may be free; and main saves what bump may change.
-use Rattle.std.specs.Prelude.{ℕ, ◌≡◌, ◌≢◌, ◌⊎◌, List, [], ◌∷◌, map, codes, Contains}
+use Rattle.std.specs.Prelude.{ℕ, ◌≡◌, ◌≢◌, ◌⊎◌, true, false, List, [], ◌∷◌, map, codes, Contains}
 use Rattle.std.specs.List.{AllByRecursion}
 use Rattle.std.proofs.Common.{arith, subst, sym, ap, refl, ◌∙◌, inl, inr}
 use Rattle.pw_files.proofs.Standing.{Has, has_by, has_each}
@@ -10,14 +10,14 @@ use Rattle.pw_db.specs.declared.database.Role.{Role}
 use Rattle.pw_db.specs.declared.database.Role.TheVariants.{Entry, Member}
 use Rattle.pw_db.specs.declared.database.Directives.{Directives}
 use Rattle.pw_db.specs.Database.{IsDirectives, IsDatabase}
-use Rattle.pw_db_sound.specs.CallGraphs.{Node, Graph, Calls, Path, call, on, References, IsMovable, IsInner, RootOf, outer, of_callers}
+use Rattle.pw_db_sound.specs.CallGraphs.{Node, Graph, Calls, Path, call, on, References, SayTheSame, IsMovable, IsInner, RootOf, outer, of_callers}
 use Rattle.pw_db_sound.specs.Sound.{In, Needs, refers, keeps, IsFree, Sound}
 use Rattle.pw_db_sound.specs.Sound as sound
 use Rattle.pw_webflow.specs.Direction.{directed}
 use Rattle.pw_alloc.specs.declared.located.Located.{Located}
 use Rattle.pw_alloc.specs.Allocation.{allocated, entered_from}
-use Rattle.pw_run_languages.specs.Traces.{MayChange, member, free}
-use Rattle.pw_run_languages.specs.Calls.{Saves, AreGuarded}
+use Rattle.pw_run_languages.specs.Traces.{Called, MayChange, member, free}
+use Rattle.pw_run_languages.specs.Calls.{FollowsCalls, Saves, AreGuarded}
 use Rattle.pw_run_languages.specs.LawfulPrograms.{node_of, graph_of}
 use Rattle.pw_run_languages.specs.Direction.{directed_by, directed_functions}
 use Rattle.pw_tests_runs.proofs.Programs.{bumping, bump, bump_main, start, bump_directives, web, only}
@@ -307,3 +307,31 @@ unguarded g =
       | inl m ↦ main_keeps 3 m
       | inr s ↦ has_by s.function [] s.there
     ]
+
+-- ---- calls of a trace
+
+main_called : FollowsCalls {B = ℕ} {V = ℕ} graph (Called main_name [] [] ∷ Called start_name [] [] ∷ [])
+main_called = (start_calls_main, (refl, tt))
+
+-- `$start` does not call bump
+bump_called : FollowsCalls {B = ℕ} {V = ℕ} graph (Called bump_name [] [] ∷ Called start_name [] [] ∷ []) → ⊥
+bump_called f = differ start_name main_name refl (calls_bump start_name bump_name refl f.0)
+
+-- ---- functions that may be moved
+
+-- bump, were its address taken
+abbrev taken_node : Node
+taken_node = record { name = bump_name; calls = []; reads = []; writes = []; defined = true; taken = true }
+
+abbrev taken_graph : Graph
+taken_graph = record { eligible = []; nodes = taken_node ∷ [] }
+
+taken_stays : IsMovable taken_graph bump_name → ⊥
+taken_stays m =
+    let same : taken_node ≡ m.node = one taken_node m.node (has_by m.node (taken_node ∷ []) m.there) in
+    let taken : true ≡ false = ap (λ (n : Node). n.taken) same ∙ m.taken in
+    absurd cc
+
+-- so no graph in which it may be moved says the same
+taken_differs : SayTheSame graph taken_graph → ⊥
+taken_differs s = taken_stays ((s.movable bump_name).0 bump_moves)
