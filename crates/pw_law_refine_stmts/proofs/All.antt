@@ -1,11 +1,11 @@
 -- All statements keep their promise: by the tree, each part at every bound up to one.
-use Rattle.std.proofs.Common.{◌≡◌, ℕ, ◌+◌, ◌≤◌, Option, Some, None, List, [], ◌∷◌, ◌++◌, Bool, arith}
-use Rattle.pw_types.specs.TypedTrees.{Expression, Initialiser, Statement, Empty, Evaluate, Block, If, While, Do, For, Switch, Label, Goto, Break, Continue, Return, Arms, NoArm, Arm, Otherwise, NoElse, Else, Statements, NoStatement, OneStatement}
+use Rattle.std.proofs.Common.{ℕ, arith}
+use Rattle.pw_types.specs.TypedTrees.{Initialiser, Statement, Empty, Evaluate, Block, If, While, Do, For, Switch, Label, Goto, Break, Continue, Return, Arms, NoArm, Arm, Otherwise, NoElse, Else, Statements, NoStatement, OneStatement}
 use Rattle.pw_lower.specs.Statements.{lower_statement}
 use Rattle.pw_cmean.specs.Execution.{meaning}
 use Rattle.pw_law_refine.specs.Expressions.{ExpressionsKeep, ConditionsKeep}
 use Rattle.pw_law_refine.specs.Statements.{StatementKeeps}
-use Rattle.pw_law_refine.specs.StatementParts.{ListKeeps, ListTakesUp, ArmsKeep, ArmsTakeUp, LocalsKeep, InitialiserKeeps}
+use Rattle.pw_law_refine.specs.StatementParts.{ListKeeps, ArmsKeep, ArmsTakeUp, LocalsKeep, InitialiserKeeps}
 use Rattle.pw_law_refine_stmts.specs.Bounds.{UpTo}
 use Rattle.pw_law_refine_stmts.proofs.Laws.{Laws}
 use Rattle.pw_law_refine_stmts.proofs.Simple.{empty-keeps, evaluate-keeps, goto-keeps, break-keeps, continue-keeps, return-keeps}

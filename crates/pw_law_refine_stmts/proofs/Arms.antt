@@ -1,5 +1,5 @@
 -- The arms of an `if`: by its condition the machine goes to the arm or to what stands behind it, and from both to one block.
-use Rattle.std.proofs.Common.{◌≡◌, ℕ, ◌+◌, ◌<◌, ◌≤◌, Bool, true, false, if◌then◌else◌, List, [], ◌∷◌, ◌++◌, Contains, ◌⊎◌, inl, inr, length, refl, sym, ◌∙◌, subst, arith, append_assoc}
+use Rattle.std.proofs.Common.{◌≡◌, ℕ, ◌+◌, ◌<◌, ◌≤◌, Bool, true, false, if◌then◌else◌, List, [], ◌++◌, Contains, ◌⊎◌, inl, inr, length, refl, sym, ◌∙◌, subst, arith, append_assoc}
 use Rattle.std.proofs.lemmas.List.Elements.{Contains-append_left, Contains-append_right, Contains-append_cases}
 use Rattle.std.proofs.lemmas.Option.{slice_get_within}
 use Rattle.pw_types.specs.Labels.{labels_in, labels_of_arms, labels_behind, cases_in, cases_of_arms, cases_behind}
@@ -14,9 +14,8 @@ use Rattle.pw_lower.specs.declared.place.Ways.{Ways}
 use Rattle.pw_lower.specs.Codes.{temp_of, block_of_label, reserve, cut, cut_here}
 use Rattle.pw_lower.specs.Places.{addressed_in, addressed_in_statement, addressed_in_arms, addressed_in_otherwise}
 use Rattle.pw_lower.specs.Expressions.{lower}
-use Rattle.pw_lower.specs.Statements.{lower_statement, lower_arms, lower_otherwise}
+use Rattle.pw_lower.specs.Statements.{lower_statement}
 use Rattle.pw_cmean.specs.Acts.{State, Act, give, branch, ◌>>=◌}
-use Rattle.pw_cmean.specs.Evaluation.{Calls, Env}
 use Rattle.pw_cmean.specs.Execution.{Entry, Front, At_label, Flow, Normal, Breaks, Continues, Returns, Goes, holds, go_forward, condition, meaning}
 use Rattle.pw_cmean.specs.SourceRun.{calls}
 use Rattle.pw_run_languages.specs.FlowRun.{Machine, steps}

@@ -1,30 +1,28 @@
 -- Blocks: their locals come into scope, the initialisers are run where the block is met at its front, and then the list.
-use Rattle.std.proofs.Common.{◌≡◌, ℕ, ◌+◌, ◌<◌, ◌≤◌, Bool, Some, List, [], ◌∷◌, ◌++◌, Contains, length, refl, sym, subst, arith}
-use Rattle.std.specs.Prelude.{All}
+use Rattle.std.proofs.Common.{◌≡◌, ℕ, ◌+◌, ◌<◌, ◌≤◌, Bool, Some, List, [], ◌∷◌, ◌++◌, length, sym, subst, arith}
 use Rattle.std.specs.List.{AllByRecursion, flat_map, IsDistinct}
 use Rattle.std.proofs.lemmas.List.Elements.{recursion_from_All, All-from_recursion, Contains-append_left, Contains-append_right}
 use Rattle.pw_types.specs.Labels.{labels_among, cases_among}
 use Rattle.pw_types.specs.TypedModules.{IsStatement, Initialises}
-use Rattle.pw_types.specs.TypedTrees.{Initialiser, Statement, Block, Statements, NoStatement}
+use Rattle.pw_types.specs.TypedTrees.{Initialiser, Block, Statements, NoStatement}
 use Rattle.pw_lower.specs.declared.code.Code.{Code}
 use Rattle.pw_lower.specs.declared.place.Ways.{Ways}
 use Rattle.pw_lower.specs.Codes.{block_of_label}
 use Rattle.pw_lower.specs.Places.{addressed_in_initialiser, addressed_in_statements}
-use Rattle.pw_lower.specs.Statements.{initialised, initialised_all, lower_statement, lower_statements}
+use Rattle.pw_lower.specs.Statements.{initialised_all, lower_statement, lower_statements}
 use Rattle.pw_cmean.specs.Acts.{State, give, ◌>>=◌}
-use Rattle.pw_cmean.specs.Evaluation.{Env}
-use Rattle.pw_cmean.specs.Execution.{Entry, Front, At_label, Flow, taking_up, initialise, initialise_all, items, meaning, with_locals}
+use Rattle.pw_cmean.specs.Execution.{Entry, Front, At_label, taking_up, initialise, initialise_all, items, meaning}
 use Rattle.pw_cmean.specs.SourceRun.{calls}
 use Rattle.pw_run_languages.specs.FlowRun.{Machine}
 use Rattle.pw_law_layers.specs.Accepting.{SuitsLocal, initialisers_among}
 use Rattle.pw_law_refine.specs.Standing.{Spot}
-use Rattle.pw_law_refine.specs.Activations.{Activation, IsActivation, Numbers, graph_of, home_of, env_of, lowering_of, local_temps, HaveSlots, number_of}
+use Rattle.pw_law_refine.specs.Activations.{Activation, IsActivation, Numbers, graph_of, home_of, env_of, lowering_of, HaveSlots, number_of}
 use Rattle.pw_law_refine.specs.Matching.{Related, Later}
-use Rattle.pw_law_refine.specs.Containing.{ContainsCode, IsAt, IsBehind}
+use Rattle.pw_law_refine.specs.Containing.{ContainsCode, IsAt}
 use Rattle.pw_law_refine.specs.Meeting.{Meets}
 use Rattle.pw_law_refine.specs.Expressions.{IsReady}
 use Rattle.pw_law_refine.specs.Statements.{IsSet, IsMet, GoesOut, HasLeft, PartKeeps, StatementKeeps}
-use Rattle.pw_law_refine.specs.StatementParts.{AreSet, ListTakesUp, HaveBegun, LocalsKeep, InitialiserKeeps, HasInitialised, code_of_initialiser}
+use Rattle.pw_law_refine.specs.StatementParts.{ListTakesUp, HaveBegun, LocalsKeep, InitialiserKeeps, HasInitialised, code_of_initialiser}
 use Rattle.pw_law_refine_code.specs.Ending.{KeepLabels}
 use Rattle.pw_law_refine_stmts.proofs.Laws.{Laws}
 use Rattle.pw_law_refine_stmts.proofs.Simulation.{meets-then, meets-less, meets-here}

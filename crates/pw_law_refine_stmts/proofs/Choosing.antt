@@ -1,7 +1,6 @@
 -- The comparisons of a `switch`: the machine goes to the block of the first case that has the value, else to the default's,
 -- else behind the `switch`.
-use Rattle.std.proofs.Common.{◌≡◌, ◌≢◌, ℕ, ◌+◌, ◌<◌, ◌≤◌, ◌==◌, Bool, true, false, true≢false, if◌then◌else◌, Option, Some, None, List, [], ◌∷◌, Contains, length, slice_index_or, refl, ap, sym, ◌∙◌, subst, arith, append_assoc}
-use Rattle.std.specs.List.{AllByRecursion}
+use Rattle.std.proofs.Common.{◌≡◌, ℕ, ◌+◌, ◌<◌, ◌==◌, Bool, true, false, if◌then◌else◌, Option, Some, None, List, [], ◌∷◌, length, slice_index_or, refl, ap, sym, ◌∙◌, subst, arith, append_assoc}
 use Rattle.std.proofs.lemmas.Option.{slice_get_within, get_or_from_slice_get}
 use Rattle.std.proofs.lemmas.List.Elements.{All-from_recursion, All-contains}
 use Rattle.pw_value.specs.declared.value.Value.{Value}
@@ -16,7 +15,6 @@ use Rattle.pw_types.specs.WellTyped.{IsPromoted}
 use Rattle.pw_flow.specs.declared.flow.Op.{Op}
 use Rattle.pw_flow.specs.declared.flow.Op.TheVariants as op
 use Rattle.pw_flow.specs.declared.flow.BinKind.TheVariants.{Eq}
-use Rattle.pw_flow.specs.declared.flow.End.{End}
 use Rattle.pw_flow.specs.declared.flow.End.TheVariants.{Jump, Branch}
 use Rattle.pw_flow.specs.declared.flow.Block.{Block}
 use Rattle.pw_flow.specs.declared.flow.FlowFn.{FlowFn}
@@ -32,7 +30,7 @@ use Rattle.pw_cmean.specs.Execution.{label_for}
 use Rattle.pw_cmean.specs.Typed.{IsValueOf}
 use Rattle.pw_run_languages.specs.Commands.{command}
 use Rattle.pw_run_languages.specs.Values as flow
-use Rattle.pw_run_languages.specs.Programs.{Program, block_at}
+use Rattle.pw_run_languages.specs.Programs.{block_at}
 use Rattle.pw_run_languages.specs.FlowRun as run
 use Rattle.pw_run_languages.specs.FlowRun.{Machine, On, value_in, branches, steps}
 use Rattle.pw_law_refine.specs.Standing.{Spot, Stands}

@@ -1,11 +1,11 @@
 -- A graph that contains the code behind a list, arms or initialisers contains the code before it.
-use Rattle.std.proofs.Common.{◌≡◌, ℕ, ◌≤◌, Option, Some, None, List, [], ◌∷◌, arith}
-use Rattle.pw_types.specs.TypedTrees.{Expression, Initialiser, LocalValue, Statement, Block, If, Arms, Otherwise, Statements, NoStatement}
+use Rattle.std.proofs.Common.{ℕ, Option, Some, None, List, [], ◌∷◌, arith}
+use Rattle.pw_types.specs.TypedTrees.{Expression, Initialiser, Block, If, Arms, Otherwise, Statements, NoStatement}
 use Rattle.pw_flow.specs.declared.flow.FlowFn.{FlowFn}
 use Rattle.pw_lower.specs.declared.code.Code.{Code}
 use Rattle.pw_lower.specs.declared.place.Ways.{Ways}
 use Rattle.pw_lower.specs.Codes.{reserve}
-use Rattle.pw_lower.specs.Statements.{effects, initialised, initialised_all, lower_statement, lower_statements}
+use Rattle.pw_lower.specs.Statements.{effects, initialised_all, lower_statement, lower_statements}
 use Rattle.pw_law_lower.specs.Kept.{Keeps}
 use Rattle.pw_law_refine.specs.Activations.{Activation, graph_of, home_of, lowering_of}
 use Rattle.pw_law_refine.specs.Containing.{ContainsCode}

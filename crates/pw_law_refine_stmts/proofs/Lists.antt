@@ -1,5 +1,5 @@
 -- Lists: a member behind another, met at the front of the list or at a label.
-use Rattle.std.proofs.Common.{◌≡◌, ℕ, ◌+◌, ◌<◌, ◌≤◌, Bool, true, false, List, [], ◌∷◌, ◌++◌, Contains, ◌⊎◌, inl, inr, length, refl, sym, subst, arith}
+use Rattle.std.proofs.Common.{◌≡◌, ℕ, ◌+◌, ◌<◌, Bool, false, List, [], ◌++◌, Contains, inl, inr, length, sym, subst, arith}
 use Rattle.std.proofs.lemmas.List.Elements.{Contains-append_left, Contains-append_right, Contains-append_cases}
 use Rattle.pw_types.specs.Labels.{labels_in, labels_among, cases_in, cases_among}
 use Rattle.pw_types.specs.TypedTrees.{Statement, Statements, NoStatement, OneStatement}
@@ -7,14 +7,14 @@ use Rattle.pw_lower.specs.declared.code.Code.{Code}
 use Rattle.pw_lower.specs.declared.place.Ways.{Ways}
 use Rattle.pw_lower.specs.Codes.{block_of_label}
 use Rattle.pw_lower.specs.Statements.{lower_statement, lower_statements}
-use Rattle.pw_cmean.specs.Acts.{State, Act, Outcome, give, branch, ◌>>=◌}
-use Rattle.pw_cmean.specs.Execution.{Entry, Front, At_label, Flow, Normal, holds, go_forward, meaning, items}
+use Rattle.pw_cmean.specs.Acts.{State, give, branch, ◌>>=◌}
+use Rattle.pw_cmean.specs.Execution.{Entry, Front, At_label, Normal, holds, go_forward, meaning, items}
 use Rattle.pw_cmean.specs.SourceRun.{calls}
 use Rattle.pw_run_languages.specs.FlowRun.{Machine}
 use Rattle.pw_law_refine.specs.Standing.{Spot}
 use Rattle.pw_law_refine.specs.Activations.{Activation, IsActivation, Numbers, graph_of, env_of, lowering_of}
 use Rattle.pw_law_refine.specs.Matching.{Related}
-use Rattle.pw_law_refine.specs.Containing.{IsAt, IsBehind}
+use Rattle.pw_law_refine.specs.Containing.{IsAt}
 use Rattle.pw_law_refine.specs.Meeting.{Meets}
 use Rattle.pw_law_refine.specs.Statements.{IsOpen, IsSet, IsMet, GoesOut, HasLeft, StatementKeeps, code_behind}
 use Rattle.pw_law_refine.specs.StatementParts.{GoesOn, AreSet, ListKeeps}

@@ -1,19 +1,18 @@
 -- Statements without parts: the empty one, expressions, jumps and returns.
-use Rattle.std.proofs.Common.{◌≡◌, ◌≢◌, ℕ, ◌+◌, ◌≤◌, Bool, Option, Some, None, List, [], ◌∷◌, Contains, refl, arith}
+use Rattle.std.proofs.Common.{ℕ, Option, Some, None, List, [], arith}
 use Rattle.pw_types.specs.TypedModules.{IsStatement}
 use Rattle.pw_types.specs.WellTyped.{IsTyped, type_in}
-use Rattle.pw_types.specs.TypedTrees.{Expression, Statement, Empty, Evaluate, Goto, Break, Continue, Return, token_of}
+use Rattle.pw_types.specs.TypedTrees.{Expression, Empty, Evaluate, Goto, Break, Continue, Return, token_of}
 use Rattle.pw_flow.specs.declared.flow.End.TheVariants.{Jump, Return as Returning}
 use Rattle.pw_flow.specs.declared.flow.FlowFn.{FlowFn}
 use Rattle.pw_value.specs.declared.value.Value.{Value}
 use Rattle.pw_lower.specs.declared.code.Code.{Code}
-use Rattle.pw_lower.specs.declared.place.Ways.{Ways}
 use Rattle.pw_lower.specs.Codes.{block_of_label, reserve, leave}
 use Rattle.pw_lower.specs.Expressions.{lower}
 use Rattle.pw_lower.specs.Statements.{lower_statement}
-use Rattle.pw_cmean.specs.Acts.{State, Act, Site, give, undefined, stop, ◌>>=◌}
+use Rattle.pw_cmean.specs.Acts.{State, give, undefined, stop, ◌>>=◌}
 use Rattle.pw_cmean.specs.Evaluation.{site, used, answer_of}
-use Rattle.pw_cmean.specs.Execution.{Entry, Front, At_label, Flow, Normal, Breaks, Continues, Returns, Goes, value_of, meaning}
+use Rattle.pw_cmean.specs.Execution.{Entry, Front, At_label, Normal, Breaks, Continues, Returns, Goes, value_of, meaning}
 use Rattle.pw_cmean.specs.SourceRun.{calls}
 use Rattle.pw_cmean.specs.Typed.{IsValueOf, IsResultOf, HoldsBytes}
 use Rattle.pw_run_languages.specs.FlowRun.{Machine, steps}

@@ -1,6 +1,6 @@
 -- How promises are put together: what is met from a machine is met from each that comes to it, and where an event was
 -- counted on the way, at a bound that is one greater.
-use Rattle.std.proofs.Common.{◌≡◌, ℕ, suc, ◌+◌, ◌<◌, ◌≤◌, ◌⊎◌, inl, inr, ap, ◌∙◌, refl, arith}
+use Rattle.std.proofs.Common.{◌≡◌, ℕ, suc, ◌+◌, ◌<◌, ◌⊎◌, inl, inr, ap, ◌∙◌, refl, arith}
 use Rattle.pw_cmean.specs.Worlds.{World}
 use Rattle.pw_cmean.specs.Acts as source
 use Rattle.pw_cmean.specs.Acts.{State, Outcome, Gives, Ends, Act, go_on}

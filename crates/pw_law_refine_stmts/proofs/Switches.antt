@@ -1,5 +1,5 @@
 -- `switch`: met at its front it goes to a case of its body, and entered at a label into the body.
-use Rattle.std.proofs.Common.{◌≡◌, ◌≢◌, ℕ, ◌+◌, ◌<◌, ◌≤◌, ◌==◌, Bool, true, false, true≢false, if◌then◌else◌, Option, Some, None, unwrap_or, List, [], ◌∷◌, ◌++◌, map, Contains, ◌⊎◌, inl, inr, length, refl, ap, sym, ◌∙◌, subst, arith, append_assoc, nat_eq}
+use Rattle.std.proofs.Common.{◌≡◌, ◌≢◌, ℕ, ◌+◌, ◌<◌, ◌==◌, Bool, true, false, if◌then◌else◌, Option, Some, None, unwrap_or, List, [], ◌∷◌, ◌++◌, map, Contains, length, refl, ap, sym, ◌∙◌, subst, arith, append_assoc, nat_eq}
 use Rattle.std.specs.Prelude.{option_to_list}
 use Rattle.std.specs.List.{AllByRecursion, IsDistinct}
 use Rattle.std.proofs.lemmas.List.Elements.{recursion_from_All, Contains-append_left, Contains-append_right}
@@ -17,19 +17,19 @@ use Rattle.pw_lower.specs.declared.place.Ways.{Ways}
 use Rattle.pw_lower.specs.Codes.{temp_of, block_of_label, reserve, cut, named_from}
 use Rattle.pw_lower.specs.Places.{addressed_in, addressed_in_statement}
 use Rattle.pw_lower.specs.Expressions.{lower}
-use Rattle.pw_lower.specs.Statements.{labels_of, choose, chosen, default_or, lower_statement}
-use Rattle.pw_cmean.specs.Acts.{State, Act, give, ◌>>=◌}
-use Rattle.pw_cmean.specs.Execution.{Entry, Front, At_label, Flow, Normal, Breaks, Continues, Returns, Goes, value_of, label_for, switch_to, after_switch, meaning}
+use Rattle.pw_lower.specs.Statements.{labels_of, choose, lower_statement}
+use Rattle.pw_cmean.specs.Acts.{State, give, ◌>>=◌}
+use Rattle.pw_cmean.specs.Execution.{Front, At_label, Flow, Normal, Breaks, Continues, Returns, Goes, value_of, label_for, switch_to, after_switch, meaning}
 use Rattle.pw_cmean.specs.SourceRun.{calls}
-use Rattle.pw_cmean.specs.Typed.{IsValueOf, IsResultOf}
+use Rattle.pw_cmean.specs.Typed.{IsValueOf}
 use Rattle.pw_run_languages.specs.FlowRun.{Machine, value_in}
 use Rattle.pw_law_refine.specs.Standing.{Spot, Stands}
-use Rattle.pw_law_refine.specs.Activations.{Activation, IsActivation, Numbers, graph_of, home_of, env_of, lowering_of, local_temps, HaveSlots}
+use Rattle.pw_law_refine.specs.Activations.{Activation, IsActivation, Numbers, graph_of, home_of, env_of, lowering_of, HaveSlots}
 use Rattle.pw_law_refine.specs.Matching.{Related, Later}
 use Rattle.pw_law_refine.specs.Containing.{ContainsCode, IsAt, IsBehind}
 use Rattle.pw_law_refine.specs.Meeting.{Meets}
 use Rattle.pw_law_refine.specs.Expressions.{HasResult, ResultStands, ExpressionsKeep}
-use Rattle.pw_law_refine.specs.Statements.{IsOpen, IsSet, IsMet, GoesOut, HasLeft, PartKeeps, StatementKeeps, code_behind}
+use Rattle.pw_law_refine.specs.Statements.{IsOpen, IsSet, GoesOut, HasLeft, PartKeeps, StatementKeeps, code_behind}
 use Rattle.pw_law_refine.specs.StatementParts.{HasSwitched}
 use Rattle.pw_law_refine_code.specs.Ending.{KeepLabels}
 use Rattle.pw_law_refine_code.specs.Setting.{code_of_switch}

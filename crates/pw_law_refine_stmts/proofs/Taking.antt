@@ -1,6 +1,6 @@
 -- Gotos: to a label that stands later a list goes on at once; to one of its own that stands before it goes back, at a bound
 -- that is one less.
-use Rattle.std.proofs.Common.{◌≡◌, ◌≢◌, ℕ, zero, suc, ◌+◌, ◌<◌, ◌≤◌, Bool, true, false, List, [], ◌∷◌, ◌++◌, Contains, length, refl, arith}
+use Rattle.std.proofs.Common.{◌≡◌, ◌≢◌, ℕ, zero, suc, ◌+◌, ◌<◌, Bool, true, false, List, [], ◌++◌, Contains, length, refl, arith}
 use Rattle.pw_types.specs.TypedTrees.{Statements, Arms, Otherwise}
 use Rattle.pw_types.specs.Labels.{labels_among, cases_among}
 use Rattle.pw_flow.specs.declared.flow.End.TheVariants.{Jump}
@@ -9,22 +9,22 @@ use Rattle.pw_lower.specs.declared.place.Ways.{Ways}
 use Rattle.pw_lower.specs.Codes.{block_of_label}
 use Rattle.pw_lower.specs.Statements.{lower_statements}
 use Rattle.pw_cmean.specs.Acts as source
-use Rattle.pw_cmean.specs.Acts.{State, Act, Gives, Ends, give, stop, branch, ◌>>=◌}
+use Rattle.pw_cmean.specs.Acts.{State, Act, give, stop, branch, ◌>>=◌}
 use Rattle.pw_cmean.specs.Evaluation.{Calls}
 use Rattle.pw_cmean.specs.Execution.{Entry, Front, At_label, Flow, Normal, Breaks, Continues, Returns, Goes, holds, go_forward, caught, taking_up, items}
 use Rattle.pw_cmean.specs.SourceRun.{calls}
 use Rattle.pw_run_languages.specs.FlowRun.{Machine, steps}
 use Rattle.pw_law_refine.specs.Standing.{Spot}
-use Rattle.pw_law_refine.specs.Activations.{Activation, IsActivation, Numbers, graph_of, env_of, lowering_of}
+use Rattle.pw_law_refine.specs.Activations.{Activation, Numbers, graph_of, env_of, lowering_of}
 use Rattle.pw_law_refine.specs.Matching.{Related}
 use Rattle.pw_law_refine.specs.Containing.{IsAt, IsBehind}
 use Rattle.pw_law_refine.specs.Meeting.{Meets}
-use Rattle.pw_law_refine.specs.Statements.{IsOpen, IsLeaving, GoesOut, HasLeft, PartKeeps}
+use Rattle.pw_law_refine.specs.Statements.{IsOpen, GoesOut, HasLeft, PartKeeps}
 use Rattle.pw_law_refine.specs.StatementParts.{GoesOn, ListKeeps, ListTakesUp, ArmsKeep, ArmsTakeUp, labels_of_if, cases_of_if, code_of_if, does_arms}
 use Rattle.pw_law_refine_stmts.specs.Bounds.{UpTo}
 use Rattle.pw_law_refine_stmts.proofs.Laws.{Laws}
 use Rattle.pw_law_refine_stmts.proofs.Simulation.{meets-then, meets-less, meets-here}
-use Rattle.pw_law_refine_stmts.proofs.Jumps.{IsAtEnd, HasJumped, meets-jump, meets-back, later-jump, later-then}
+use Rattle.pw_law_refine_stmts.proofs.Jumps.{IsAtEnd, meets-jump, meets-back, later-jump}
 use Rattle.pw_law_refine_stmts.proofs.Leaving.{leaving-end, left-then}
 use Rattle.pw_law_refine_stmts.proofs.CodeBefore.{before-list, before-arms}
 use Rattle.pw_law_refine_stmts.proofs.Names.{contained-held, not-contained, named-free, goes-out-before, room-for}

@@ -19,7 +19,7 @@ use Rattle.pw_run_languages.specs.FlowRun.{Machine}
 use Rattle.pw_law_refine.specs.Standing.{Spot}
 use Rattle.pw_law_refine.specs.Activations.{Activation, IsActivation, Numbers, graphs, graph_of, home_of, env_of, lowering_of, local_temps}
 use Rattle.pw_law_refine.specs.Matching.{Related, Later}
-use Rattle.pw_law_refine.specs.Containing.{ContainsCode, IsAt, IsBehind}
+use Rattle.pw_law_refine.specs.Containing.{ContainsCode, IsAt}
 use Rattle.pw_law_refine.specs.Meeting.{Meets}
 use Rattle.pw_law_refine.specs.Expressions.{HasChosen, ConditionsKeep}
 use Rattle.pw_law_refine.specs.Statements.{IsOpen, AreLabelled, LieBehind, IsSet, IsLeaving, GoesOut, HasLeft, PartKeeps, StatementKeeps, code_behind}
