@@ -14,7 +14,7 @@ use Rattle.pw_run_languages.specs.Values.{binary, is_somewhere}
 use Rattle.pw_run_languages.specs.Memory.{look, poke, copy}
 use Rattle.pw_run_languages.specs.Programs.{Program, Library, GetChar, PutChar, Exit, library_at, function_named, block_at}
 use Rattle.pw_run_languages.specs.Commands.{Command, Give, Combine, Look, Poke, Copied, GetGlobal, PutGlobal, Enter, Fail, command}
-use Rattle.pw_run_languages.specs.FlowRun.{Frame, Machine, Step, On, Stopped, Astray, value_in, with_temp, gives, changes, counted, get_global, put_global, depth, takes_result, calls_library, entered, calls_defined, calls, jumps, branches, returns, ends, obeys, step, goes_on, steps}
+use Rattle.pw_run_languages.specs.FlowRun.{Frame, Machine, Step, On, Stopped, Astray, value_in, with_temp, gives, changes, counted, get_global, put_global, depth, takes_result, calls_library, entered, calls_defined, jumps, branches, returns, ends, obeys, step, goes_on, steps}
 
 -- ---- what a stretch does
 

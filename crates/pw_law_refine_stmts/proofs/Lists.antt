@@ -1,5 +1,5 @@
 -- Lists: a member behind another, met at the front of the list or at a label.
-use Rattle.std.proofs.Common.{◌≡◌, ℕ, ◌+◌, ◌<◌, Bool, false, List, [], ◌++◌, Contains, inl, inr, length, sym, subst, arith}
+use Rattle.std.proofs.Common.{◌≡◌, ℕ, ◌<◌, Bool, false, List, [], ◌++◌, Contains, inl, inr, length, sym, subst, arith}
 use Rattle.std.proofs.lemmas.List.Elements.{Contains-append_left, Contains-append_right, Contains-append_cases}
 use Rattle.pw_types.specs.Labels.{labels_in, labels_among, cases_in, cases_among}
 use Rattle.pw_types.specs.TypedTrees.{Statement, Statements, NoStatement, OneStatement}
