@@ -5,4 +5,3 @@ mod Entering
 mod Returning
 mod Library
 mod Calling
-mod Staying

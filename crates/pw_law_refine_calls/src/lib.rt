@@ -13,10 +13,9 @@ ghost use Rattle.pw_law_refine.specs.Activations.{graphs};
 ghost use Rattle.pw_law_refine.specs.Matching.{Matches};
 ghost use Rattle.pw_law_refine.specs.Calls.{FitShape, CallsKeep, FunctionsKeep};
 ghost use Rattle.pw_law_refine_start.specs.Named.{IsDefinedAs};
-ghost use Rattle.pw_law_refine_calls.specs.Staying.{CallsStayRelated};
 
 use pw_law_refine_start::functions_are_found;
-use pw_law_refine_steps::{locals_come_first, machines_step_on, stretches_last};
+use pw_law_refine_steps::machines_step_on;
 
 /// Where states match, each global has the same value on both sides, byte by byte and as a scalar of its kind.
 pub fn moments_keep()
@@ -37,12 +36,4 @@ pub fn calls_keep()
 {
     functions_are_found();
     machines_step_on();
-}
-
-/// The states of a caller stay related over a call: the result stands in its temporary, and all others hold what they held.
-pub fn calls_stay_related()
-    ensures { CallsStayRelated }
-{
-    locals_come_first();
-    stretches_last();
 }
