@@ -29,8 +29,8 @@ use Rattle.pw_law_refine.specs.Matching.{Matches}
 use Rattle.pw_law_refine.specs.Meeting.{Reaches, Stops, Counts, Meets}
 use Rattle.pw_law_refine.specs.Calls.{FitShape, EachStands, HasReturned, CallsKeep, HasRun, runs_body, FunctionsKeep}
 use Rattle.pw_law_refine_start.specs.Named.{IsOfLibrary, IsDefinedAs, IsFoundAs, flow_library}
-use Rattle.pw_law_refine_start.proofs.Lists.{found}
-use Rattle.pw_law_refine_calls.proofs.Rooms.{room-same, named-so}
+use Rattle.pw_law_refine_calls.proofs.Finding.{found, named-so}
+use Rattle.pw_law_refine_calls.proofs.Rooms.{room-same}
 use Rattle.pw_law_refine_calls.proofs.Counting.{parameters-counted}
 use Rattle.pw_law_refine_calls.proofs.Entering.{same-count, activated, entering, graph-named, graph-takes, enters-related, enters-with, enters-at}
 use Rattle.pw_law_refine_calls.proofs.Returning.{back_in, returned_value, behind_call, comes-back, has-returned}

@@ -1,4 +1,5 @@
 mod Moments
+mod Finding
 mod Rooms
 mod Counting
 mod Entering

@@ -13,7 +13,7 @@ ghost use Rattle.pw_types.specs.declared.tree.BinaryOperator.TheVariants.{Add, S
 ghost use Rattle.pw_types.specs.declared.tree.LogicOperator.TheVariants.{And, Or};
 ghost use Rattle.pw_types.specs.declared.tree.UnaryOperator.TheVariants.{Not};
 ghost use Rattle.pw_law_refine.specs.Expressions.{ExpressionKeeps, ExpressionsKeep, ArgumentsKeep, ConditionsKeep};
-ghost use Rattle.pw_law_refine_forms.specs.Accesses.{AddressKeeps, AdvancesKeep, IsComparison, LvalueKeeps, ReadsKeep, TargetsSuit, WritesKeep};
+ghost use Rattle.pw_law_refine_forms.specs.Accesses.{AddressKeeps, AdvancesKeep, IsComparison, LvalueKeeps, ReadsKeep, TargetsSuit, WritesKeep, WritesThroughKeep, WritesStay};
 ghost use Rattle.pw_law_refine_forms.specs.Operands.{Applies};
 ghost use Rattle.pw_law_refine_forms.specs.Plain.{IsPlain};
 
@@ -27,10 +27,13 @@ use pw_law_refine_steps::{
 use pw_value::laws::{decoding_gives_back, pointers_give_back, ranges_of_bytes};
 
 /// Memory: what the meaning of C reads where the place of a scalar lvalue is, the code that reads there gives; and
-/// what it writes there, the code writes.
+/// what it writes there, the code writes; through an address from any temporary, and for a local whose temporary has the
+/// value already, nothing is done.
 pub fn accesses_keep()
     ensures reads { ReadsKeep }
     ensures writes { WritesKeep }
+    ensures through { WritesThroughKeep }
+    ensures kept { WritesStay }
 {
     machines_step_on();
     operations_step();
