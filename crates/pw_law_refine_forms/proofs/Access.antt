@@ -315,7 +315,7 @@ kept-stays laws bound x numbers spots purpose ty k at t j o s m v e related suit
     let bytes = (object_at s.objects o).bytes in
     let w = value_in m.frame t in
     let new = encoding v (source_access.width_of ty) in
-    let is : type_of own.local.ty ≡ ty = suits j own.local own.is place in
+    let is : type_of own.local.ty ≡ ty = suits own.local own.is in
     let size : length bytes ≡ source_access.width_of ty =
     own.size ∙ ap (λ (u : CType). bytes_of x.home.tree.records u) is ∙ scalar-size x.home.tree.records ty k e in
     let back : source_access.value_in (type_of own.local.ty) (with_bytes new 0 bytes) ≡ v =

@@ -78,8 +78,8 @@ pub record HasStayed (x : Activation) (numbers : Numbers) (spots : List Spot) (s
 abbrev pub WritesStay : Type 0
 WritesStay =
     (bound : ℕ) (x : Activation) (numbers : Numbers) (spots : List Spot) (purpose : Purpose) (ty : CType) (k : Kind) (at : Site) (t j o : ℕ) (s : State) (m : Machine) (v : Value) →
-    kind_of ty ≡ Some k → Related x numbers spots s m → SuitsType x ty (Kept t) → number_of numbers j ≡ Some o → place_in x j ≡ Temp t →
-    t < (graph_of x).temps → IsValueOf ty v → Stands spots v (value_in m.frame t) →
+    kind_of ty ≡ Some k → Related x numbers spots s m → ((l : LocalValue) → slice_get x.function.locals j ≡ Some l → type_of l.ty ≡ ty) →
+    number_of numbers j ≡ Some o → place_in x j ≡ Temp t → t < (graph_of x).temps → IsValueOf ty v → Stands spots v (value_in m.frame t) →
     Meets x.world bound m (store purpose at ty (V.At (P.Object o 0)) v s) (HasStayed x numbers spots s m)
 
 -- the operators that compare (C90 6.3.8, 6.3.9)
