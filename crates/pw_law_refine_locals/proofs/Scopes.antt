@@ -123,21 +123,30 @@ module _ {A : Type 0} (laws : SlotLaws) (bound : ℕ) (x : Activation) (active :
       inside deep more t (one-more first count o numbers deep put have) (spot ∷ grown.0, grown.1 ∙ append_assoc spots (spot ∷ []) grown.0) related))
       (λ a t n left. record { later = finishes x numbers spots s m r first free new spot put t n left.later; exit = left.exit })
 
-  several-keep : (count : ℕ) → Kept count
-  unfolding with_locals need give stop wrong go_on ◌>>=◌
-  several-keep zero first numbers spots s scope r inside = inside numbers spots s (none-begun first numbers scope) ([], sym (append-nil spots)) r
-  several-keep (suc count) first numbers spots s scope r inside = by_local (slice_get x.function.locals first) refl
-    where
-      by_layout : (l : LocalValue) (o : Option Layout) → slice_get x.function.locals first ≡ Some l → layout_of x.home.tree.records (type_of l.ty) ≡ o
-          → Meets x.world bound m ((need o >>= λ (layout : Layout). with_object layout.size l.writable (λ (number : ℕ). with_locals count (suc first) act (with_number first number (env_of x numbers)))) s) (Leaves x numbers spots E s m)
-      by_layout l None is laid = tt
-      by_layout l (Some layout) is laid = one-keeps count (several-keep count) first numbers spots s scope r inside l layout is laid
+  -- the next local and its layout are there, or the meaning has none
+  with-layout :
+      (count : ℕ) → Kept count → (first : ℕ) (numbers : Numbers) (spots : List Spot) (s : State) → ((k : ℕ) → first ≤ k → number_of numbers k ≡ None) → Related x numbers spots s m
+      → Inside bound x E act first (suc count) numbers spots m
+      → (l : LocalValue) (o : Option Layout) → slice_get x.function.locals first ≡ Some l → layout_of x.home.tree.records (type_of l.ty) ≡ o
+      → Meets x.world bound m ((need o >>= λ (layout : Layout). with_object layout.size l.writable (λ (number : ℕ). with_locals count (suc first) act (with_number first number (env_of x numbers)))) s) (Leaves x numbers spots E s m)
+  unfolding need give stop wrong go_on ◌>>=◌
+  with-layout count rest first numbers spots s scope r inside l None is laid = tt
+  with-layout count rest first numbers spots s scope r inside l (Some layout) is laid = one-keeps count rest first numbers spots s scope r inside l layout is laid
 
-      by_local : (o : Option LocalValue) → slice_get x.function.locals first ≡ o
-          → Meets x.world bound m ((need o >>= λ (l : LocalValue). (need (layout_of x.home.tree.records (type_of l.ty)) >>= λ (layout : Layout).
-          with_object layout.size l.writable (λ (number : ℕ). with_locals count (suc first) act (with_number first number (env_of x numbers))))) s) (Leaves x numbers spots E s m)
-      by_local None is = tt
-      by_local (Some l) is = by_layout l (layout_of x.home.tree.records (type_of l.ty)) is refl
+  with-local :
+      (count : ℕ) → Kept count → (first : ℕ) (numbers : Numbers) (spots : List Spot) (s : State) → ((k : ℕ) → first ≤ k → number_of numbers k ≡ None) → Related x numbers spots s m
+      → Inside bound x E act first (suc count) numbers spots m
+      → (o : Option LocalValue) → slice_get x.function.locals first ≡ o
+      → Meets x.world bound m ((need o >>= λ (l : LocalValue). (need (layout_of x.home.tree.records (type_of l.ty)) >>= λ (layout : Layout).
+      with_object layout.size l.writable (λ (number : ℕ). with_locals count (suc first) act (with_number first number (env_of x numbers))))) s) (Leaves x numbers spots E s m)
+  unfolding need give stop wrong go_on ◌>>=◌
+  with-local count rest first numbers spots s scope r inside None is = tt
+  with-local count rest first numbers spots s scope r inside (Some l) is = with-layout count rest first numbers spots s scope r inside l (layout_of x.home.tree.records (type_of l.ty)) is refl
+
+  several-keep : (count : ℕ) → Kept count
+  unfolding with_locals
+  several-keep zero first numbers spots s scope r inside = inside numbers spots s (none-begun first numbers scope) ([], sym (append-nil spots)) r
+  several-keep (suc count) first numbers spots s scope r inside = with-local count (several-keep count) first numbers spots s scope r inside (slice_get x.function.locals first) refl
 
 -- ---- of blocks, and of functions
 

@@ -93,8 +93,8 @@ places-count addressed params k temp slot (l ∷ ls) =
 pub temps-least : (n : ℕ) (places : List LocalPlace) → n ≤ temps_from n places
 temps-least n [] = omega arith
 temps-least n (Slot s ∷ rest) = temps-least n rest
-temps-least n (Temp t ∷ rest) = by_test (nat_lt t n) refl
+temps-least n (Temp t ∷ rest) = by_test (nat_lt t n) refl (temps-least n rest) (temps-least (t + 1) rest)
   where
-    by_test : (b : Bool) → nat_lt t n ≡ b → n ≤ temps_from (if b then n else t + 1) rest
-    by_test true e = temps-least n rest
-    by_test false e = omega (arith, ltb-false t n e, temps-least (t + 1) rest)
+    by_test : (b : Bool) → nat_lt t n ≡ b → n ≤ temps_from n rest → t + 1 ≤ temps_from (t + 1) rest → n ≤ temps_from (if b then n else t + 1) rest
+    by_test true e h g = h
+    by_test false e h g = omega (arith, ltb-false t n e, g)

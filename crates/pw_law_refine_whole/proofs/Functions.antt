@@ -17,7 +17,7 @@ use Rattle.pw_cmean.specs.Execution.{Front, Flow, Normal, Breaks, Continues, Ret
 use Rattle.pw_cmean.specs.SourceRun.{calls, set_parameters, result_of}
 use Rattle.pw_run_languages.specs.FlowRun.{Machine}
 use Rattle.pw_law_refine.specs.Standing.{Spot}
-use Rattle.pw_law_refine.specs.Activations.{Activation, IsActivation, Numbers, number_of, graph_of, env_of, local_temps}
+use Rattle.pw_law_refine.specs.Activations.{Activation, IsActivation, Numbers, number_of, graph_of, lowering_of, env_of, local_temps}
 use Rattle.pw_law_refine.specs.Matching.{Related, Later}
 use Rattle.pw_law_refine.specs.Containing.{ContainsCode, IsAt, IsBehind}
 use Rattle.pw_law_refine.specs.Meeting.{Meets}
@@ -87,7 +87,7 @@ module _ (laws : Laws) (bound : ℕ) (statements : StatementsKeep bound) (x : Ac
       let typed = is-function x active in
       let scope : (k : ℕ) → f.params ≤ k → number_of inner k ≡ None = λ k least. have.behind k (omega (arith, least)) in
       let set : IsSet x inner false false f.params [] nowhere f.body (entered f) = laws.bodies x inner active scope in
-      let holds : ContainsCode (graph_of x) (entered f) = laws.contain (graph_of x) _ nowhere f.body (entered f) set.placed.code in
+      let holds : ContainsCode (graph_of x) (entered f) = laws.contain (graph_of x) (lowering_of x) nowhere f.body (entered f) set.placed.code in
       let e = env_of x inner in
       let first : FirstStand more 0 args m = first-later laws.stands spots more 0 (length args) args m m grown (omega arith) (λ i less. refl) stand in
       meets-then laws x.world bound m (set_parameters (site e f.token) 0 args e t) (λ (done : Unit {0}). (meaning f.body Front (calls x.world bound) e >>= result_of))

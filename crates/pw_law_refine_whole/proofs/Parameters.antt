@@ -179,8 +179,8 @@ module _ (laws : Laws) (bound : ℕ) (x : Activation) (at : Site) (numbers : Num
   abbrev Begun : ℕ → Type 0
   Begun k = (i : ℕ) → k ≤ i → i < params → (o : ℕ) × (number_of numbers i ≡ Some o)
 
-  abbrev Stored : List Value → Type 0
-  Stored vs =
+  abbrev Keep : List Value → Type 0
+  Keep vs =
       (k : ℕ) (locals : List LocalValue) (places : List LocalPlace) (left : ℕ) (c : Code) (spots : List Spot) (s : State) (m : Machine)
       → IsAlong x k locals places → k + left ≡ params → length vs ≡ left → Fit vs locals → Begun k → FirstStand spots k vs m
       → ContainsCode (graph_of x) (parameters_stored locals places k left c) → IsReady x numbers spots c s m
@@ -192,7 +192,7 @@ module _ (laws : Laws) (bound : ℕ) (x : Activation) (at : Site) (numbers : Num
   -- behind one parameter, the others
   others :
       (v : Value) (vs : List Value) (k : ℕ) (l : LocalValue) (ls : List LocalValue) (ps : List LocalPlace) (left : ℕ) (c d : Code) (spots : List Spot) (s u : State) (m n : Machine)
-      → Stored vs → IsAlong x (k + 1) ls ps → k + suc left ≡ params → length vs ≡ left → Fit vs ls → Begun k → FirstStand spots (suc k) vs m
+      → Keep vs → IsAlong x (k + 1) ls ps → k + suc left ≡ params → length vs ≡ left → Fit vs ls → Begun k → FirstStand spots (suc k) vs m
       → ContainsCode (graph_of x) (parameters_stored ls ps (k + 1) left d) → IsReady x numbers spots c s m
       → (a : Later x numbers spots s m u n) → IsBehind (graph_of x) d n → local_temps x ≤ d.temps → ((i : ℕ) → i < c.temps → value_in n.frame i ≡ value_in m.frame i)
       → Meets x.world bound n (set_parameters at (suc k) vs (env_of x numbers) u) (HasInitialised x numbers spots (parameters_stored ls ps (k + 1) left d) s m)
@@ -209,7 +209,7 @@ module _ (laws : Laws) (bound : ℕ) (x : Activation) (at : Site) (numbers : Num
 
   -- a parameter that is kept in a temporary, and one that has a slot
   kept :
-      (v : Value) (vs : List Value) → Stored vs → (k : ℕ) (l : LocalValue) (ls : List LocalValue) (t : ℕ) (ps : List LocalPlace) (left : ℕ) (c : Code) (spots : List Spot) (s : State) (m : Machine)
+      (v : Value) (vs : List Value) → Keep vs → (k : ℕ) (l : LocalValue) (ls : List LocalValue) (t : ℕ) (ps : List LocalPlace) (left : ℕ) (c : Code) (spots : List Spot) (s : State) (m : Machine)
       → IsAlong x k (l ∷ ls) (Temp t ∷ ps) → k + suc left ≡ params → length vs ≡ left → Fit (v ∷ vs) (l ∷ ls) → Begun k → FirstStand spots k (v ∷ vs) m
       → ContainsCode (graph_of x) (parameters_stored ls ps (k + 1) left c) → IsReady x numbers spots c s m
       → Meets x.world bound m (set_parameters at k (v ∷ vs) (env_of x numbers) s) (HasInitialised x numbers spots (parameters_stored ls ps (k + 1) left c) s m)
@@ -232,7 +232,7 @@ module _ (laws : Laws) (bound : ℕ) (x : Activation) (at : Site) (numbers : Num
       (subst (λ (r : Machine). IsBehind (graph_of x) c r) (sym h.same) ready.behind) ready.temps (λ i less. ap (λ (r : Machine). value_in r.frame i) h.same))
 
   in-slot :
-      (v : Value) (vs : List Value) → Stored vs → (k : ℕ) (l : LocalValue) (ls : List LocalValue) (j : ℕ) (ps : List LocalPlace) (left : ℕ) (c : Code) (spots : List Spot) (s : State) (m : Machine)
+      (v : Value) (vs : List Value) → Keep vs → (k : ℕ) (l : LocalValue) (ls : List LocalValue) (j : ℕ) (ps : List LocalPlace) (left : ℕ) (c : Code) (spots : List Spot) (s : State) (m : Machine)
       → IsAlong x k (l ∷ ls) (Slot j ∷ ps) → k + suc left ≡ params → length vs ≡ left → Fit (v ∷ vs) (l ∷ ls) → Begun k → FirstStand spots k (v ∷ vs) m
       → ContainsCode (graph_of x) (parameters_stored ls ps (k + 1) left (emit (op.Store (scalar_kind (type_of l.ty)) c.temps k) (fresh (λ t. op.AddrSlot t j) c).code)) → IsReady x numbers spots c s m
       → Meets x.world bound m (set_parameters at k (v ∷ vs) (env_of x numbers) s)
@@ -270,7 +270,7 @@ module _ (laws : Laws) (bound : ℕ) (x : Activation) (at : Site) (numbers : Num
       (later-then laws x numbers spots s s u m n r ready.related here g.done.later) g.behind (omega (arith, ready.temps))
       (λ i less. g.done.temps i (omega (arith, less)) (λ q e. absurd (omega (arith, e.1))) ∙ held i less)))
 
-  pub stored : (vs : List Value) → Stored vs
+  pub stored : (vs : List Value) → Keep vs
   unfolding set_parameters give
   stored [] k locals places zero c spots s m along sum count fit begun stand holds ready =
       subst (λ (d : Code). Meets x.world bound m (Gives tt s) (HasInitialised x numbers spots d s m)) (sym (stored-none locals places k c))
