@@ -31,3 +31,4 @@ mod Members
 mod Moves
 mod Distances
 mod Plain
+mod Initialisers
