@@ -137,7 +137,7 @@ module _
   abbrev later : List Spot
   later = run.later.spots
 
-  comes-back : step (graphs world) n ≡ On back
+  pub comes-back : step (graphs world) n ≡ On back
   comes-back =
       let own = run.later.related.frame in
       steps-back world n run.returning.temp r (length m.objects) (graph_of x) caller m.callers run.returning.ops run.returning.end own.callers own.result own.base own.function
@@ -175,7 +175,7 @@ module _
   among : (k : ℕ) → k < length m.objects → k < length (entering x b r rest ws m).objects
   among k less = let slots = slots-count (graph_of x).slots m.objects in omega (arith, less, slots)
 
-  has-returned : HasReturned world spots r rest s m result (behind_call (full_name home.name f.name) s t) back
+  pub has-returned : HasReturned world spots r rest s m result (behind_call (full_name home.name f.name) s t) back
   unfolding called
   has-returned =
       let own = run.later.related.matches in

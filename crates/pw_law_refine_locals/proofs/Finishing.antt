@@ -193,5 +193,5 @@ module _
     sizes = after.lasts.sizes;
   }
 
-  pub finishes : Later x numbers spots s m u n
+  unfoldable pub finishes : Later x numbers spots s m u n
   finishes = record { spots = later; related = related; lasts = lasts }

@@ -104,7 +104,7 @@ module _ {A : Type 0} (laws : SlotLaws) (bound : ℕ) (x : Activation) (active :
       → Inside bound x E act first (suc count) numbers spots m
       → (l : LocalValue) (layout : Layout) → slice_get x.function.locals first ≡ Some l → layout_of x.home.tree.records (type_of l.ty) ≡ Some layout
       → Meets x.world bound m (with_object layout.size l.writable (λ (number : ℕ). with_locals count (suc first) act (with_number first number (env_of x numbers))) s) (Leaves x numbers spots E s m)
-  unfolding with_object make go_on ◌>>=◌
+  unfolding with_object make go_on ◌>>=◌ finishes
   one-keeps count rest first numbers spots s scope r inside l layout is laid =
       let o = length s.objects in
       let free : number_of numbers first ≡ None = scope first (omega arith) in

@@ -64,7 +64,7 @@ module _ (laws : Laws) (bound : ℕ) (statements : StatementsKeep bound) (x : Ac
       (inner : Numbers) (spots more : List Spot) (s t : State) (m n : Machine) → Related x inner more s m → (a : Later x inner more s m t n)
       → (flow : Flow) (u : State) (r : Machine) → HasLeft x inner a.spots [] nowhere (GoesOut x [] (labels_in x.function.body) (entered x.function)) whole t n flow u r
       → Meets x.world bound r (result_of flow u) (IsLeaving x inner more s m)
-  unfolding result_of give wrong stop
+  unfolding result_of give wrong stop later-then
   result-leaves inner spots more s t m n related a Normal u r left =
       meets-here x.world bound r None u (IsLeaving x inner more s m) (record { later = later-then laws x inner more s t u m n r related a left.later; returning = falls-off x r left.later.spots active laws left.exit })
   result-leaves inner spots more s t m n related a (Returns v) u r left =

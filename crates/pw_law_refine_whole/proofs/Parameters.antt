@@ -125,7 +125,7 @@ stays-here x numbers spots s m r = record {
   };
 }
 
-pub later-then :
+unfoldable pub later-then :
     Laws → (x : Activation) (numbers : Numbers) (spots : List Spot) (s t u : State) (m n r : Machine) → Related x numbers spots s m
     → (a : Later x numbers spots s m t n) → Later x numbers a.spots t n u r → Later x numbers spots s m u r
 later-then laws x numbers spots s t u m n r start a b = record {
@@ -270,7 +270,7 @@ module _ (laws : Laws) (bound : ℕ) (x : Activation) (at : Site) (numbers : Num
       (later-then laws x numbers spots s s u m n r ready.related here g.done.later) g.behind (omega (arith, ready.temps))
       (λ i less. g.done.temps i (omega (arith, less)) (λ q e. absurd (omega (arith, e.1))) ∙ held i less)))
 
-  pub stored : (vs : List Value) → Keep vs
+  stored : (vs : List Value) → Keep vs
   unfolding set_parameters give
   stored [] k locals places zero c spots s m along sum count fit begun stand holds ready =
       subst (λ (d : Code). Meets x.world bound m (Gives tt s) (HasInitialised x numbers spots d s m)) (sym (stored-none locals places k c))
