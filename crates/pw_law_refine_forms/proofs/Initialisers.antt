@@ -1,6 +1,6 @@
 -- Initialisers of locals (C90 6.5.7): a scalar gets a value, a structure or union a copy of one, and a local of another type
 -- the bytes of a hidden object.
-use Rattle.std.proofs.Common.{◌≡◌, ◌≢◌, ℕ, suc, zero, ◌+◌, ◌%◌, ◌<◌, ◌≤◌, ◌==◌, ◌&&◌, ◌||◌, not, nat_le, Bool, true, false, true≢false, if◌then◌else◌, Option, Some, None, option_map, unwrap_or, List, [], ◌∷◌, length, map, get_or, slice_get, slice_index_or, All, Contains, refl, ap, sym, ◌∙◌, subst, arith, le-leb, eq-eqb}
+use Rattle.std.proofs.Common.{◌≡◌, ◌≢◌, ℕ, suc, zero, ◌+◌, ◌%◌, ◌<◌, ◌≤◌, ◌==◌, ◌&&◌, ◌||◌, not, nat_le, Bool, true, false, true≢false, if◌then◌else◌, Option, Some, None, option_map, unwrap_or, List, [], ◌∷◌, ◌++◌, length, map, get_or, slice_get, slice_index_or, All, Contains, refl, ap, sym, ◌∙◌, subst, arith, le-leb, eq-eqb}
 use Rattle.std.specs.Prelude.{bytes_eq}
 use Rattle.std.proofs.lemmas.Bool.{and_from, or_right}
 use Rattle.std.proofs.lemmas.Option.{same_Some, slice_get_within, get_or_from_slice_get}

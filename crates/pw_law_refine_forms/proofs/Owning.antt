@@ -190,7 +190,7 @@ found-at false n o e = absurd (no-number o e)
     no-number : (k : ℕ) → None ≡ Some k → ⊥
     no-number k e = true≢false (sym (ap is_there e))
 
-pub no-global : FlowGlobal
+abbrev pub no-global : FlowGlobal
 no-global = record { name = []; size = 0; shape = []; kind = None; volatile = false; items = [] }
 
 abbrev own-kind : Kind → Option Kind → Bool

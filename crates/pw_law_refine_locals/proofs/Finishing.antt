@@ -146,7 +146,7 @@ module _
       let ne : q.0 ≢ k = λ e. lives-other t.objects o p live (same_Some p o (sym q.1 ∙ ap (λ (j : ℕ). number_of inner j) e ∙ begun)) in
       (q.0, sym (other-number numbers k q.0 (Some o) ne) ∙ q.1, q.2)
 
-  related : Related x numbers later u n
+  pub related : Related x numbers later u n
   related = record {
     matches = matches;
     frame = record {
@@ -175,7 +175,7 @@ module _
       ])
       ∙ object-old s.objects new p less
 
-  lasts : Lasts numbers spots later s u m n
+  pub lasts : Lasts numbers spots later s u m n
   lasts = record {
     more = (spot ∷ after.lasts.more.0, after.lasts.more.1 ∙ append_assoc spots (spot ∷ []) after.lasts.more.0);
     unnamed = unnamed;
