@@ -1,6 +1,6 @@
 -- Calls keep their promise: of the library at each bound, of a module's functions at a bound where functions keep theirs at
 -- the bound below.
-use Rattle.std.proofs.Common.{◌≡◌, ◌⊎◌, ℕ, zero, suc, ◌+◌, ◌<◌, ◌≤◌, ◌==◌, Bool, true, false, nat_lt, if◌then◌else◌, Option, Some, None, List, [], ◌∷◌, length, slice_get, inl, inr, refl, ap, sym, ◌∙◌, subst, arith, eq-eqb}
+use Rattle.std.proofs.Common.{◌≡◌, ℕ, suc, ◌+◌, ◌<◌, ◌≤◌, ◌==◌, Bool, true, false, nat_lt, if◌then◌else◌, Option, Some, None, List, [], ◌∷◌, length, slice_get, inl, inr, refl, ap, sym, ◌∙◌, subst, arith, eq-eqb}
 use Rattle.std.specs.Str.{bytes_eq}
 use Rattle.pw_value.specs.declared.value.Value.{Value}
 use Rattle.pw_types.specs.TypedTrees.{FunctionValue}
@@ -10,7 +10,7 @@ use Rattle.pw_flow.specs.declared.flow.FlowFn.{FlowFn}
 use Rattle.pw_flow.specs.declared.flow.FlowModule.{FlowModule}
 use Rattle.pw_flow.specs.ValidFlow.{IsValid, IsFunction}
 use Rattle.pw_lower.specs.Modules.{lowered_function}
-use Rattle.pw_cmean.specs.Worlds.{ProgramModule, World, LibraryFunction, Callable, library_callable, callable, full_name, function_named, depth}
+use Rattle.pw_cmean.specs.Worlds.{ProgramModule, World, Callable, library_callable, full_name, function_named, depth}
 use Rattle.pw_cmean.specs.Acts as source
 use Rattle.pw_cmean.specs.Acts.{State, Act, Outcome, Gives, Ends, give, stop, branch, look, go_on, ◌>>=◌, called, returned, during}
 use Rattle.pw_cmean.specs.Evaluation.{bounded_call, take_room, library_call, call_body, call}
@@ -24,16 +24,16 @@ use Rattle.pw_run_languages.specs.FlowRun.{Machine, Step, On, Stopped, Astray, c
 use Rattle.pw_files.proofs.Standing.{has_each, has_flat_back}
 use Rattle.pw_law_refine.specs.Lowerable.{IsLowerableWorld}
 use Rattle.pw_law_refine.specs.Standing.{Spot}
-use Rattle.pw_law_refine.specs.Activations.{Activation, IsActivation, graphs, graph_of}
+use Rattle.pw_law_refine.specs.Activations.{Activation, graphs, graph_of}
 use Rattle.pw_law_refine.specs.Matching.{Matches}
-use Rattle.pw_law_refine.specs.Meeting.{Reaches, Stops, Counts, Meets}
+use Rattle.pw_law_refine.specs.Meeting.{Stops, Meets}
 use Rattle.pw_law_refine.specs.Calls.{FitShape, EachStands, HasReturned, CallsKeep, HasRun, runs_body, FunctionsKeep}
 use Rattle.pw_law_refine_start.specs.Named.{IsOfLibrary, IsDefinedAs, IsFoundAs, flow_library}
 use Rattle.pw_law_refine_calls.proofs.Finding.{found, named-so}
 use Rattle.pw_law_refine_calls.proofs.Rooms.{room-same}
 use Rattle.pw_law_refine_calls.proofs.Counting.{parameters-counted}
 use Rattle.pw_law_refine_calls.proofs.Entering.{same-count, activated, entering, graph-named, graph-takes, enters-related, enters-with, enters-at}
-use Rattle.pw_law_refine_calls.proofs.Returning.{back_in, returned_value, behind_call, comes-back, has-returned}
+use Rattle.pw_law_refine_calls.proofs.Returning.{back_in, returned_value, comes-back, has-returned}
 use Rattle.pw_law_refine_calls.proofs.Library.{library-is, library-meets}
 
 -- what the laws below say of names, and of steps
@@ -128,46 +128,46 @@ module _
     (laws : CallLaws) (n : ℕ) (world : World) (home : ProgramModule) (f : FunctionValue) (spots : List Spot) (b : Block) (r : Option ℕ) (rest : List Op) (ws : List Value) (s : State) (m : Machine)
     (h : Matches world spots s m) (enters : step (graphs world) m ≡ On (entering (activated world home f r rest m) b r rest ws m))
   where
-  abbrev x : Activation
-  x = activated world home f r rest m
+    abbrev x : Activation
+    x = activated world home f r rest m
 
-  abbrev name : List ℕ
-  name = full_name home.name f.name
+    abbrev name : List ℕ
+    name = full_name home.name f.name
 
-  abbrev first : Machine
-  first = entering x b r rest ws m
+    abbrev first : Machine
+    first = entering x b r rest ws m
 
-  -- what the function comes to, the call comes to with one event more
-  comes-so : (k : ℕ) (a : Step) → steps (graphs world) k (On first) ≡ a → steps (graphs world) (suc k) (On m) ≡ a
-  unfolding steps
-  comes-so k a e = ap (λ (z : Step). steps (graphs world) k z) enters ∙ e
+    -- what the function comes to, the call comes to with one event more
+    comes-so : (k : ℕ) (a : Step) → steps (graphs world) k (On first) ≡ a → steps (graphs world) (suc k) (On m) ≡ a
+    unfolding steps
+    comes-so k a e = ap (λ (z : Step). steps (graphs world) k z) enters ∙ e
 
-  stops-so : (end : run.End) (t : State) → Stops world end first t → Stops world end m t
-  stops-so end t q = record { count = suc q.count; machine = q.machine; comes = comes-so q.count _ q.comes; shows = q.shows }
+    stops-so : (end : run.End) (t : State) → Stops world end first t → Stops world end m t
+    stops-so end t q = record { count = suc q.count; machine = q.machine; comes = comes-so q.count _ q.comes; shows = q.shows }
 
-  pub wrapped : (o : Outcome (Option Value)) → Meets world n first o (HasRun x spots (called name s) first) → Meets world (suc n) m (returned name s.active o) (HasReturned world spots r rest s m)
-  unfolding returned steps
-  wrapped (Gives result t) q =
-      let back = back_in (record m.frame { ops = rest }) m.callers r (length m.objects) (graph_of x).name (returned_value q.holds.returning.temp q.machine) q.machine in
-      record {
-        count = suc (q.count + 1);
-        machine = back;
-        comes = comes-so (q.count + 1) (On back)
-            (laws.more (graphs world) q.count 1 (On first) ∙ ap (λ (z : Step). steps (graphs world) 1 z) q.comes
-            ∙ comes-back world home f spots b r rest ws s m h result t q.machine q.holds);
-        holds = has-returned world home f spots b r rest ws s m h result t q.machine q.holds;
-      }
-  wrapped (Ends source.Bound t) q = record {
-    count = suc q.count;
-    machine = q.machine;
-    comes = comes-so q.count _ q.comes;
-    counted = omega (arith, q.counted);
-    shows = q.shows;
-  }
-  wrapped (Ends source.StackFull t) q = stops-so run.StackFull t q
-  wrapped (Ends (source.Exit status) t) q = stops-so (run.Ended status) t q
-  wrapped (Ends (source.Undefined operation at token) t) q = tt
-  wrapped (Ends source.Wrong t) q = tt
+    pub wrapped : (o : Outcome (Option Value)) → Meets world n first o (HasRun x spots (called name s) first) → Meets world (suc n) m (returned name s.active o) (HasReturned world spots r rest s m)
+    unfolding returned steps
+    wrapped (Gives result t) q =
+        let back = back_in (record m.frame { ops = rest }) m.callers r (length m.objects) (graph_of x).name (returned_value q.holds.returning.temp q.machine) q.machine in
+        record {
+          count = suc (q.count + 1);
+          machine = back;
+          comes = comes-so (q.count + 1) (On back)
+              (laws.more (graphs world) q.count 1 (On first) ∙ ap (λ (z : Step). steps (graphs world) 1 z) q.comes
+              ∙ comes-back world home f spots b r rest ws s m h result t q.machine q.holds);
+          holds = has-returned world home f spots b r rest ws s m h result t q.machine q.holds;
+        }
+    wrapped (Ends source.Bound t) q = record {
+      count = suc q.count;
+      machine = q.machine;
+      comes = comes-so q.count _ q.comes;
+      counted = omega (arith, q.counted);
+      shows = q.shows;
+    }
+    wrapped (Ends source.StackFull t) q = stops-so run.StackFull t q
+    wrapped (Ends (source.Exit status) t) q = stops-so (run.Ended status) t q
+    wrapped (Ends (source.Undefined operation at token) t) q = tt
+    wrapped (Ends source.Wrong t) q = tt
 
 defined-keeps :
     (laws : CallLaws) (n : ℕ) (world : World) (spots : List Spot) (called_by : List ℕ) (f : Callable) (vs ws : List Value) (r : Option ℕ) (rest : List Op) (s : State) (m : Machine)

@@ -1,8 +1,8 @@
 -- The count of parameters: values that fit a function's shape are as many as its flow graph takes.
-use Rattle.std.proofs.Common.{◌≡◌, ℕ, suc, ◌≤◌, Bool, false, Some, List, [], ◌∷◌, length, take, ap, sym, ◌∙◌, subst, refl, arith, All, Contains, length-take-le}
+use Rattle.std.proofs.Common.{◌≡◌, ℕ, suc, false, List, [], ◌∷◌, length, take, ap, ◌∙◌, subst, refl, Contains, length-take-le}
 use Rattle.std.proofs.lemmas.List.Elements.{All-contains}
 use Rattle.pw_value.specs.declared.value.Value.{Value}
-use Rattle.pw_types.specs.TypeTrees.{CType, QType, QTypes, NoType, OneType, RecordValue, type_of}
+use Rattle.pw_types.specs.TypeTrees.{CType, QTypes, NoType, OneType}
 use Rattle.pw_types.specs.TypedTrees.{LocalValue, FunctionValue}
 use Rattle.pw_types.specs.TypedModules.{AreParameters, IsFunction, WellTyped}
 use Rattle.pw_types.specs.Shapes.{letters_of, signature_shape, shape_of}

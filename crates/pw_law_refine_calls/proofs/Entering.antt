@@ -1,6 +1,6 @@
 -- A function that becomes active: its slots are new objects, its arguments stand in its first temporaries, and no local is
 -- in scope.
-use Rattle.std.proofs.Common.{◌≡◌, ℕ, zero, suc, ◌+◌, ◌-◌, ◌<◌, ◌≤◌, true, false, true≢false, Option, Some, None, List, [], ◌∷◌, ◌++◌, length, map, replicate, slice_get, slice_index_or, inl, inr, refl, ap, ap₂, sym, ◌∙◌, subst, arith, length-append}
+use Rattle.std.proofs.Common.{◌≡◌, ℕ, zero, suc, ◌+◌, ◌-◌, ◌<◌, ◌≤◌, true, false, true≢false, Option, Some, None, List, [], ◌∷◌, ◌++◌, length, replicate, slice_index_or, inl, inr, refl, ap, ap₂, sym, ◌∙◌, subst, arith, length-append}
 use Rattle.std.proofs.lemmas.Bool.{cases_lt}
 use Rattle.std.proofs.lemmas.List.{get_or_append_left, get_or-append-add, get_or_past, length-replicate}
 use Rattle.pw_value.specs.declared.value.Value.{Value}
@@ -15,10 +15,9 @@ use Rattle.pw_cmean.specs.Worlds.{ProgramModule, World, full_name}
 use Rattle.pw_cmean.specs.Acts.{State, called}
 use Rattle.pw_run.specs.Runs.{also}
 use Rattle.pw_run_languages.specs.Programs.{block_at}
-use Rattle.pw_run_languages.specs.FlowRun as flow
-use Rattle.pw_run_languages.specs.FlowRun.{Frame, Machine, value_in, with_slots, counted, entered}
-use Rattle.pw_law_refine.specs.Standing.{Spot, In, spot_of, Stands, Holds, MemoryStands}
-use Rattle.pw_law_refine.specs.Activations.{Activation, Numbers, number_of, graphs, graph_of}
+use Rattle.pw_run_languages.specs.FlowRun.{Machine, value_in, with_slots, counted, entered}
+use Rattle.pw_law_refine.specs.Standing.{Spot, Stands, Holds, MemoryStands}
+use Rattle.pw_law_refine.specs.Activations.{Activation, number_of, graph_of}
 use Rattle.pw_law_refine.specs.Matching.{Matches, IsFrameOf, IsSlotAt, Related}
 use Rattle.pw_law_refine.specs.Containing.{IsAt}
 use Rattle.pw_law_refine.specs.Calls.{EachStands, FirstStand, none_in_scope}
@@ -91,7 +90,7 @@ first-stand spots t (v ∷ vs) (w ∷ ws) m h same =
       subst (λ (u : Value). Stands spots v u) (sym (ap (λ (k : ℕ). value_in m.frame k) here ∙ same 0 (omega arith))) h.0,
       first-stand spots (suc t) vs ws m h.1 (λ i lt.
           (let next : suc t + i ≡ t + suc i = omega arith in
-              ap (λ (k : ℕ). value_in m.frame k) next ∙ same (suc i) (omega (arith, lt)))),
+          ap (λ (k : ℕ). value_in m.frame k) next ∙ same (suc i) (omega (arith, lt)))),
     )
 
 -- ---- locals
@@ -172,7 +171,7 @@ module _ (world : World) (home : ProgramModule) (f : FunctionValue) (spots : Lis
     callers = refl;
     temps = length-append ws (replicate ((graph_of x).temps - length ws) V.Undefined)
         ∙ (let rest = length-replicate ((graph_of x).temps - length ws) V.Undefined in
-            let e : length ws + length (replicate ((graph_of x).temps - length ws) V.Undefined) ≡ (graph_of x).temps = omega (arith, few, rest) in e);
+        let e : length ws + length (replicate ((graph_of x).temps - length ws) V.Undefined) ≡ (graph_of x).temps = omega (arith, few, rest) in e);
     scope = length-replicate (length f.locals) None;
     locals = λ k o e. absurd (none-scoped x k o e);
     apart = λ j k o e g. absurd (none-scoped x j o e);
@@ -188,7 +187,7 @@ module _ (world : World) (home : ProgramModule) (f : FunctionValue) (spots : Lis
   pub enters-with : EachStands spots vs ws → FirstStand spots 0 vs n
   enters-with stand = first-stand spots 0 vs ws n stand (λ i lt.
       (let at : 0 + i ≡ i = omega arith in
-          ap (λ (k : ℕ). value_in n.frame k) at ∙ get_or_append_left ws (replicate ((graph_of x).temps - length ws) V.Undefined) V.Undefined i lt))
+      ap (λ (k : ℕ). value_in n.frame k) at ∙ get_or_append_left ws (replicate ((graph_of x).temps - length ws) V.Undefined) V.Undefined i lt))
 
   pub enters-at : block_at (graph_of x) 0 ≡ Some b → IsAt (graph_of x) 0 [] n
   enters-at there = record { block = b; there = there; here = refl; ops = refl; end = refl }

@@ -1,23 +1,21 @@
 -- The library's functions: what they read, write and return is the same in both runs.
-use Rattle.std.proofs.Common.{◌≡◌, ℕ, ◌+◌, ◌%◌, ◌<◌, Option, Some, None, List, [], ◌∷◌, ◌++◌, map, All, refl, ap, ap₂, sym, ◌∙◌, subst, arith, append-nil}
+use Rattle.std.proofs.Common.{◌≡◌, ℕ, ◌+◌, ◌%◌, ◌<◌, Option, Some, List, [], ◌∷◌, ◌++◌, All, refl, ap, sym, ◌∙◌, subst, arith, append-nil}
 use Rattle.std.proofs.lemmas.List.Elements.{All-tail}
 use Rattle.pw_value.specs.declared.value.Value.{Value}
 use Rattle.pw_value.specs.declared.value.Value.TheVariants as V
 use Rattle.pw_value.specs.Words.{end_of_input}
 use Rattle.pw_flow.specs.declared.flow.Op.{Op}
-use Rattle.pw_cmean.specs.Worlds.{World, LibraryFunction, GetChar, PutChar, ExitRun, Callable, library_callable}
-use Rattle.pw_cmean.specs.Acts.{State, Outcome, give, stop, go_on, ◌>>=◌, next_byte, get_char, put_char, wrong}
+use Rattle.pw_cmean.specs.Worlds.{World, LibraryFunction, GetChar, PutChar, ExitRun, library_callable}
+use Rattle.pw_cmean.specs.Acts.{State, give, stop, go_on, ◌>>=◌, next_byte, get_char, put_char, wrong}
 use Rattle.pw_cmean.specs.Evaluation.{Calls, take_room, library_call, call_body, call}
-use Rattle.pw_run.specs.Runs as run
 use Rattle.pw_run_languages.specs.Programs as flows
-use Rattle.pw_run_languages.specs.FlowRun.{Frame, Machine, Step, On, Stopped, counted, takes_result, calls_library, step, steps}
+use Rattle.pw_run_languages.specs.FlowRun.{Machine, Step, On, counted, takes_result, calls_library, step, steps}
 use Rattle.pw_law_refine.specs.Standing.{Spot, Stands}
 use Rattle.pw_law_refine.specs.Activations.{graphs}
-use Rattle.pw_law_refine.specs.Matching.{Matches, Lasts}
-use Rattle.pw_law_refine.specs.Meeting.{Reaches, Stops, Meets}
+use Rattle.pw_law_refine.specs.Matching.{Matches}
+use Rattle.pw_law_refine.specs.Meeting.{Reaches, Meets}
 use Rattle.pw_law_refine.specs.Calls.{EachStands, with_result, HasReturned}
 use Rattle.pw_law_refine_start.specs.Named.{flow_library}
-use Rattle.pw_law_refine_calls.proofs.Rooms.{name_of}
 use Rattle.pw_law_refine_calls.proofs.Entering.{not-past}
 use Rattle.pw_law_refine_calls.proofs.Returning.{takes-is}
 

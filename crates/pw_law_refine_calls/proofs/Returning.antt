@@ -1,5 +1,5 @@
 -- A function that returns: the objects that were made since its call end, and those that live stand below them.
-use Rattle.std.proofs.Common.{◌≡◌, ℕ, zero, suc, ◌+◌, ◌-◌, ◌<◌, ◌≤◌, true, false, true≢false, Option, Some, None, List, [], ◌∷◌, ◌++◌, length, map, inl, inr, refl, ap, sym, ◌∙◌, subst, arith, length-set}
+use Rattle.std.proofs.Common.{◌≡◌, ℕ, zero, suc, ◌-◌, ◌<◌, ◌≤◌, true, false, true≢false, Option, Some, None, List, [], ◌∷◌, length, inl, inr, refl, ap, sym, ◌∙◌, subst, arith, length-set}
 use Rattle.std.proofs.lemmas.Bool.{cases_lt}
 use Rattle.std.proofs.lemmas.List.{get_or_append_left, get_or-set_other}
 use Rattle.pw_value.specs.declared.value.Value.{Value}
@@ -18,12 +18,11 @@ use Rattle.pw_run.specs.Runs.{also}
 use Rattle.pw_run_languages.specs.FlowRun as flow
 use Rattle.pw_run_languages.specs.FlowRun.{Frame, Machine, Step, On, value_in, takes_result, end_from, returns, ends, step}
 use Rattle.pw_law_refine.specs.Standing.{Spot, Nowhere, In, spot_of, Holds, MemoryStands}
-use Rattle.pw_law_refine.specs.Activations.{Activation, graphs, graph_of, number_of}
-use Rattle.pw_law_refine.specs.Matching.{Matches, Lasts}
+use Rattle.pw_law_refine.specs.Activations.{Activation, graphs, graph_of}
+use Rattle.pw_law_refine.specs.Matching.{Matches}
 use Rattle.pw_law_refine.specs.Expressions.{ResultStands}
-use Rattle.pw_law_refine.specs.Calls.{IfReturned, with_result, none_in_scope, HasReturned, HasRun}
+use Rattle.pw_law_refine.specs.Calls.{IfReturned, with_result, HasReturned, HasRun}
 use Rattle.pw_law_refine_calls.proofs.Moments.{moment-kept}
-use Rattle.pw_law_refine_calls.proofs.Rooms.{name_of}
 use Rattle.pw_law_refine_calls.proofs.Entering.{is-there, slots-count, slots-leave, none-scoped, activated, entering, graph-named}
 
 -- ---- objects that end
@@ -122,94 +121,94 @@ module _
     (h : Matches world spots s m) (result : Option Value) (t : State) (n : Machine)
     (run : HasRun (activated world home f r rest m) spots (called (full_name home.name f.name) s) (entering (activated world home f r rest m) b r rest ws m) result t n)
   where
-  abbrev x : Activation
-  x = activated world home f r rest m
+    abbrev x : Activation
+    x = activated world home f r rest m
 
-  abbrev caller : Frame
-  caller = record m.frame { ops = rest }
+    abbrev caller : Frame
+    caller = record m.frame { ops = rest }
 
-  abbrev w : Value
-  w = returned_value run.returning.temp n
+    abbrev w : Value
+    w = returned_value run.returning.temp n
 
-  abbrev back : Machine
-  back = back_in caller m.callers r (length m.objects) (graph_of x).name w n
+    abbrev back : Machine
+    back = back_in caller m.callers r (length m.objects) (graph_of x).name w n
 
-  abbrev later : List Spot
-  later = run.later.spots
+    abbrev later : List Spot
+    later = run.later.spots
 
-  pub comes-back : step (graphs world) n ≡ On back
-  comes-back =
-      let own = run.later.related.frame in
-      steps-back world n run.returning.temp r (length m.objects) (graph_of x) caller m.callers run.returning.ops run.returning.end own.callers own.result own.base own.function
+    pub comes-back : step (graphs world) n ≡ On back
+    comes-back =
+        let own = run.later.related.frame in
+        steps-back world n run.returning.temp r (length m.objects) (graph_of x) caller m.callers run.returning.ops run.returning.end own.callers own.result own.base own.function
 
-  -- an object that lives was there before the call, so what it stands in was, too
-  lived : (o : ℕ) → (object_at t.objects o).live ≡ true → o < length s.objects
-  unfolding called
-  lived o live = elim (cases_lt o (length s.objects)) [
-    | inl less ↦ less
-    | inr more ↦ absurd (true≢false (sym live ∙ run.later.lasts.ended o more))
-  ]
+    -- an object that lives was there before the call, so what it stands in was, too
+    lived : (o : ℕ) → (object_at t.objects o).live ≡ true → o < length s.objects
+    unfolding called
+    lived o live = elim (cases_lt o (length s.objects)) [
+      | inl less ↦ less
+      | inr more ↦ absurd (true≢false (sym live ∙ run.later.lasts.ended o more))
+    ]
 
-  spot-before : (o : ℕ) → o < length s.objects → spot_of later o ≡ spot_of spots o
-  spot-before o less =
-      ap (λ (l : List Spot). spot_of l o) run.later.lasts.more.1
-      ∙ get_or_append_left spots run.later.lasts.more.0 Nowhere o (omega (arith, less, h.memory.count))
+    spot-before : (o : ℕ) → o < length s.objects → spot_of later o ≡ spot_of spots o
+    spot-before o less =
+        ap (λ (l : List Spot). spot_of l o) run.later.lasts.more.1
+        ∙ get_or_append_left spots run.later.lasts.more.0 Nowhere o (omega (arith, less, h.memory.count))
 
-  below : (o k size : ℕ) → (object_at t.objects o).live ≡ true → spot_of later o ≡ In k size → k < length m.objects
-  unfolding called
-  below o k size live there =
-      let less = lived o live in
-      let held = h.memory.holds o k size (sym (run.later.lasts.lives o less) ∙ live) (sym (spot-before o less) ∙ there) in
-      is-there m.objects k held.live
+    below : (o k size : ℕ) → (object_at t.objects o).live ≡ true → spot_of later o ≡ In k size → k < length m.objects
+    unfolding called
+    below o k size live there =
+        let less = lived o live in
+        let held = h.memory.holds o k size (sym (run.later.lasts.lives o less) ∙ live) (sym (spot-before o less) ∙ there) in
+        is-there m.objects k held.live
 
-  memory : MemoryStands later t.objects back.objects
-  memory = memory-left later t.objects n.objects (length n.objects - length m.objects) (length m.objects) run.later.related.matches.memory below
+    memory : MemoryStands later t.objects back.objects
+    memory = memory-left later t.objects n.objects (length n.objects - length m.objects) (length m.objects) run.later.related.matches.memory below
 
-  -- the objects of before the call are there behind it
-  count : length m.objects ≤ length n.objects
-  count =
-      let more = run.later.lasts.count in
-      let slots = slots-count (graph_of x).slots m.objects in
-      omega (arith, more, slots)
+    -- the objects of before the call are there behind it
+    count : length m.objects ≤ length n.objects
+    count =
+        let more = run.later.lasts.count in
+        let slots = slots-count (graph_of x).slots m.objects in
+        omega (arith, more, slots)
 
-  among : (k : ℕ) → k < length m.objects → k < length (entering x b r rest ws m).objects
-  among k less = let slots = slots-count (graph_of x).slots m.objects in omega (arith, less, slots)
+    among : (k : ℕ) → k < length m.objects → k < length (entering x b r rest ws m).objects
+    among k less = let slots = slots-count (graph_of x).slots m.objects in omega (arith, less, slots)
 
-  pub has-returned : HasReturned world spots r rest s m result (behind_call (full_name home.name f.name) s t) back
-  unfolding called
-  has-returned =
-      let own = run.later.related.matches in
-      let last = run.later.lasts in
-      record {
-        later = later;
-        matches = record {
-          memory = memory;
-          globals = own.globals;
-          input = own.input;
-          shows = record {
-            output = own.shows.output;
-            read = own.shows.read;
-            log = also _ _ _ _ (graph-named home f, moment-kept world later t.objects back.objects memory own.globals) own.shows.log;
+    pub has-returned : HasReturned world spots r rest s m result (behind_call (full_name home.name f.name) s t) back
+    unfolding called
+    has-returned =
+        let own = run.later.related.matches in
+        let last = run.later.lasts in
+        record {
+          later = later;
+          matches = record {
+            memory = memory;
+            globals = own.globals;
+            input = own.input;
+            shows = record {
+              output = own.shows.output;
+              read = own.shows.read;
+              log = also _ _ _ _ (graph-named home f, moment-kept world later t.objects back.objects memory own.globals) own.shows.log;
+            };
+            active = h.active;
+            bytes = record { objects = own.bytes.objects; input = own.bytes.input };
+            small = own.small;
           };
-          active = h.active;
-          bytes = record { objects = own.bytes.objects; input = own.bytes.input };
-          small = own.small;
-        };
-        lasts = record {
-          more = last.more;
-          unnamed = λ o less there not. last.unnamed o less there (λ k e. none-scoped x k o e);
-          lives = last.lives;
-          ended = last.ended;
-          count = let same = ends-count (length n.objects - length m.objects) (length m.objects) n.objects in omega (arith, count, same);
-          living = λ k less.
-              ap (λ (y : Object). y.live) (ends-leave (length n.objects - length m.objects) (length m.objects) n.objects k less)
-              ∙ last.living k (among k less) ∙ ap (λ (y : Object). y.live) (slots-leave (graph_of x).slots m.objects k less);
-          sizes = λ k less.
-              ap (λ (y : Object). length y.bytes) (ends-leave (length n.objects - length m.objects) (length m.objects) n.objects k less)
-              ∙ last.sizes k (among k less) ∙ ap (λ (y : Object). length y.bytes) (slots-leave (graph_of x).slots m.objects k less);
-        };
-        value = w;
-        stands = result-stands later result run.returning.temp n run.returning.stands;
-        frame = refl;
-        callers = refl;
-      }
+          lasts = record {
+            more = last.more;
+            unnamed = λ o less there not. last.unnamed o less there (λ k e. none-scoped x k o e);
+            lives = last.lives;
+            ended = last.ended;
+            count = let same = ends-count (length n.objects - length m.objects) (length m.objects) n.objects in omega (arith, count, same);
+            living = λ k less.
+                ap (λ (y : Object). y.live) (ends-leave (length n.objects - length m.objects) (length m.objects) n.objects k less)
+                ∙ last.living k (among k less) ∙ ap (λ (y : Object). y.live) (slots-leave (graph_of x).slots m.objects k less);
+            sizes = λ k less.
+                ap (λ (y : Object). length y.bytes) (ends-leave (length n.objects - length m.objects) (length m.objects) n.objects k less)
+                ∙ last.sizes k (among k less) ∙ ap (λ (y : Object). length y.bytes) (slots-leave (graph_of x).slots m.objects k less);
+          };
+          value = w;
+          stands = result-stands later result run.returning.temp n run.returning.stands;
+          frame = refl;
+          callers = refl;
+        }

@@ -1,10 +1,10 @@
 -- Initialisers of locals (C90 6.5.7): a scalar gets a value, a structure or union a copy of one, and a local of another type
 -- the bytes of a hidden object.
-use Rattle.std.proofs.Common.{◌≡◌, ◌≢◌, ℕ, suc, zero, ◌+◌, ◌%◌, ◌<◌, ◌≤◌, ◌==◌, ◌&&◌, ◌||◌, not, nat_le, Bool, true, false, true≢false, if◌then◌else◌, Option, Some, None, option_map, unwrap_or, List, [], ◌∷◌, ◌++◌, length, map, get_or, slice_get, slice_index_or, All, Contains, refl, ap, sym, ◌∙◌, subst, arith, le-leb, eq-eqb}
+use Rattle.std.proofs.Common.{◌≡◌, ℕ, suc, zero, ◌+◌, ◌%◌, ◌≤◌, ◌==◌, ◌&&◌, ◌||◌, not, nat_le, Bool, true, if◌then◌else◌, Option, Some, None, option_map, unwrap_or, List, [], ◌∷◌, ◌++◌, length, map, get_or, slice_get, slice_index_or, Contains, refl, ap, sym, ◌∙◌, subst, arith, le-leb, eq-eqb}
 use Rattle.std.specs.Prelude.{bytes_eq}
 use Rattle.std.proofs.lemmas.Bool.{and_from, or_right}
-use Rattle.std.proofs.lemmas.Option.{same_Some, slice_get_within, get_or_from_slice_get}
-use Rattle.std.proofs.lemmas.List.Elements.{All-contains, Contains-get_or}
+use Rattle.std.proofs.lemmas.Option.{same_Some}
+use Rattle.std.proofs.lemmas.List.Elements.{Contains-get_or}
 use Rattle.std.proofs.lemmas.List.Quantifiers.{position-Some}
 use Rattle.std.proofs.lemmas.Slice.Eq.{bytes_eq-Decides}
 use Rattle.pw_value.specs.declared.value.Kind.{Kind}
@@ -14,12 +14,9 @@ use Rattle.pw_value.specs.declared.value.Value.TheVariants as V
 use Rattle.pw_value.specs.declared.value.Pointer.{Pointer}
 use Rattle.pw_value.specs.declared.value.Pointer.TheVariants as P
 use Rattle.pw_value.specs.Objects.{Object, object_at, bytes_from, written}
-use Rattle.pw_types.specs.TypeTrees.{CType, Void, Int, Pointer as PointerTo, Array, Function, Record, QType, RecordValue, type_of}
+use Rattle.pw_types.specs.TypeTrees.{CType, Void, Int, Pointer as PointerTo, Array, Function, Record, RecordValue, type_of}
 use Rattle.pw_types.specs.FullNames.{full_name}
-use Rattle.pw_types.specs.Layouts.{layout_of}
-use Rattle.pw_types.specs.Records.{IsObjectType}
-use Rattle.pw_types.specs.TypedTrees.{Symbol, Hidden, Expression, token_of, LocalValue, GlobalValue, Initialiser, Value as ByValue, Bytes as ByBytes}
-use Rattle.pw_types.specs.TypedModules.{IsFunction, Initialises}
+use Rattle.pw_types.specs.TypedTrees.{Symbol, Hidden, Expression, token_of, LocalValue, GlobalValue, Value as ByValue, Bytes as ByBytes}
 use Rattle.pw_types.specs.WellTyped.{IsTyped, IsScalar, type_in}
 use Rattle.pw_flow.specs.declared.flow.Op.TheVariants as op
 use Rattle.pw_flow.specs.declared.flow.FlowGlobal.{FlowGlobal}
@@ -29,32 +26,32 @@ use Rattle.pw_lower.specs.declared.place.LocalPlace.TheVariants.{Temp, Slot}
 use Rattle.pw_lower.specs.declared.place.Target.TheVariants.{Kept, Led}
 use Rattle.pw_lower.specs.Codes.{Lowered, lowered_as, temp_of}
 use Rattle.pw_lower.specs.Operators.{kind_of, bytes_of, unit_of}
-use Rattle.pw_lower.specs.Places.{addressed_in, is_kept}
-use Rattle.pw_lower.specs.Expressions.{Placed, lower, write, stored, copied, scalar_kind, address_of_local, address_of_global, target_of_local}
+use Rattle.pw_lower.specs.Places.{addressed_in}
+use Rattle.pw_lower.specs.Expressions.{Placed, lower, write, copied, scalar_kind, address_of_local, address_of_global}
 use Rattle.pw_lower.specs.Modules.{lowered_global}
 use Rattle.pw_lower.specs.Statements.{local_type, initialised_by, copied_from}
 use Rattle.pw_cmean.specs.Worlds as source
 use Rattle.pw_cmean.specs.Acts.{State, Site, Outcome, Gives, give, stop, wrong, need, look, go_on, ◌>>=◌}
 use Rattle.pw_cmean.specs.Acts as acts
 use Rattle.pw_cmean.specs.Access.{Initialising, put, store, within}
-use Rattle.pw_cmean.specs.Evaluation.{Env, site, used, local_place, symbol_place, answer_of}
+use Rattle.pw_cmean.specs.Evaluation.{site, used, local_place, symbol_place, answer_of}
 use Rattle.pw_cmean.specs.Execution.{value_of, set_local, initialise}
 use Rattle.pw_cmean.specs.SourceRun.{calls}
-use Rattle.pw_cmean.specs.Typed.{IsByte, IsValueOf}
+use Rattle.pw_cmean.specs.Typed.{IsValueOf}
 use Rattle.pw_run_languages.specs.Commands.{command}
 use Rattle.pw_run_languages.specs.Memory as flow
 use Rattle.pw_run_languages.specs.Programs.{globals_of, names_of, global_number}
 use Rattle.pw_run_languages.specs.FlowRun as run
 use Rattle.pw_run_languages.specs.FlowRun.{Machine, value_in}
-use Rattle.pw_law_refine.specs.Standing.{Spot, In, spot_of, Stands}
-use Rattle.pw_law_refine.specs.Activations.{Activation, IsActivation, Numbers, number_of, graphs, graph_of, home_of, env_of, place_in, local_temps, HaveSlots}
-use Rattle.pw_law_refine.specs.Matching.{IsLocalAt, Related, Later, global_size}
-use Rattle.pw_law_refine.specs.Containing.{ContainsCode, IsBehind}
+use Rattle.pw_law_refine.specs.Standing.{Spot, Stands}
+use Rattle.pw_law_refine.specs.Activations.{Activation, IsActivation, Numbers, number_of, graphs, graph_of, home_of, env_of, place_in, HaveSlots}
+use Rattle.pw_law_refine.specs.Matching.{Related, Later, global_size}
+use Rattle.pw_law_refine.specs.Containing.{ContainsCode}
 use Rattle.pw_law_refine.specs.Meeting.{Meets}
-use Rattle.pw_law_refine.specs.Expressions.{assigned_in, IsReady, IsDone, HasValue, HasResult, TargetStands, ExpressionKeeps, ExpressionsKeep}
-use Rattle.pw_law_refine.specs.StatementParts.{code_of_initialiser, HasInitialised, InitialiserKeeps}
+use Rattle.pw_law_refine.specs.Expressions.{IsReady, HasValue, TargetStands, ExpressionKeeps}
+use Rattle.pw_law_refine.specs.StatementParts.{HasInitialised, InitialiserKeeps}
 use Rattle.pw_law_refine_forms.proofs.Laws.{Laws}
-use Rattle.pw_law_refine_forms.proofs.Simulation.{meets-later, meets-then, meets-less, meets-here}
+use Rattle.pw_law_refine_forms.proofs.Simulation.{meets-later, meets-then, meets-less}
 use Rattle.pw_law_refine_forms.specs.Accesses.{SuitsType, Covers}
 use Rattle.pw_law_refine_forms.proofs.Kit.{before-emit, before-fresh, comes-by, none-in, HasOperand, operand, operand-stands, stays}
 use Rattle.pw_law_refine_forms.proofs.Bytes.{BytesStand, same-object, from-stand, whole-read}
@@ -64,9 +61,9 @@ use Rattle.pw_law_refine_forms.proofs.Access.{global-at, writes}
 use Rattle.pw_law_refine_forms.proofs.Assign.{scalar-of, puts-scalar, before-write}
 use Rattle.pw_law_refine_forms.proofs.Copies.{puts-record}
 use Rattle.pw_law_refine_forms.proofs.Loads.{local-suits, slot-reaches}
-use Rattle.pw_law_refine_forms.proofs.Owning.{to-globals, typed-at, no-global, distinct-right, one-global}
+use Rattle.pw_law_refine_forms.proofs.Owning.{to-globals, no-global, distinct-right, one-global}
 use Rattle.pw_law_refine_forms.proofs.Places.{kept-scalar}
-use Rattle.pw_law_refine_forms.proofs.Strings.{IsNumbered, numbered, address-reaches}
+use Rattle.pw_law_refine_forms.proofs.Strings.{numbered, address-reaches}
 use Rattle.pw_law_refine_forms.proofs.Truths.{scalar-not-void}
 
 -- ---- stretches
@@ -134,117 +131,117 @@ module _ (laws : Laws) (bound k : ℕ) (a : Expression) (keeps : ExpressionKeeps
     (typed : IsTyped x.home.tree x.function.locals a) (slots : HaveSlots x (addressed_in a)) (o : ℕ) (named : number_of numbers k ≡ Some o)
     (l : LocalValue) (is : slice_get x.function.locals k ≡ Some l) (same : type_in a ≡ type_of l.ty)
   where
-  abbrev ty : CType
-  ty = type_of l.ty
+    abbrev ty : CType
+    ty = type_of l.ty
 
-  abbrev at : Site
-  at = site (env_of x numbers) (token_of a)
+    abbrev at : Site
+    at = site (env_of x numbers) (token_of a)
 
-  abbrev code : LocalPlace → Code → Code
-  code place c = initialised_by (home_of x) (kind_of ty) ty place a c
+    abbrev code : LocalPlace → Code → Code
+    code place c = initialised_by (home_of x) (kind_of ty) ty place a c
 
-  abbrev Done : List Spot → Code → State → Machine → Unit {0} → State → Machine → Type 0
-  Done spots d s m = HasInitialised x numbers spots d s m
+    abbrev Done : List Spot → Code → State → Machine → Unit {0} → State → Machine → Type 0
+    Done spots d s m = HasInitialised x numbers spots d s m
 
-  -- the value, and what comes behind it
-  valued :
-      (spots : List Spot) (c d : Code) (s : State) (m : Machine) → IsReady x numbers spots c s m → ContainsCode (graph_of x) (lower (home_of x) a c).code
-      → ((v : Value) (u : State) (n : Machine) → HasOperand x numbers spots a c s m v u n → Meets x.world bound n (put Initialising at x.home.tree.records ty (V.At (P.Object o 0)) v u) (Done spots d s m))
-      → Meets x.world bound m (initialise (ByValue k a) (calls x.world bound) (env_of x numbers) s) (Done spots d s m)
-  unfolding initialise value_of ◌>>=◌
-  valued spots c d s m ready holds behind =
-      meets-then laws x.world bound m ((answer_of a (calls x.world bound) (env_of x numbers) >>= used at) s) (λ (v : Value). set_local at k v (env_of x numbers)) (HasOperand x numbers spots a c s m) (Done spots d s m)
-      (operand laws bound x numbers spots a c s m at active typed ready.related.matches.bytes (keeps x numbers spots c s m active typed slots holds ready))
-      (λ v u n q. subst (λ (r : Outcome (Unit {0})). Meets x.world bound n r (Done spots d s m)) (sym (sets x numbers at k o l v u is named)) (behind v u n q))
+    -- the value, and what comes behind it
+    valued :
+        (spots : List Spot) (c d : Code) (s : State) (m : Machine) → IsReady x numbers spots c s m → ContainsCode (graph_of x) (lower (home_of x) a c).code
+        → ((v : Value) (u : State) (n : Machine) → HasOperand x numbers spots a c s m v u n → Meets x.world bound n (put Initialising at x.home.tree.records ty (V.At (P.Object o 0)) v u) (Done spots d s m))
+        → Meets x.world bound m (initialise (ByValue k a) (calls x.world bound) (env_of x numbers) s) (Done spots d s m)
+    unfolding initialise value_of ◌>>=◌
+    valued spots c d s m ready holds behind =
+        meets-then laws x.world bound m ((answer_of a (calls x.world bound) (env_of x numbers) >>= used at) s) (λ (v : Value). set_local at k v (env_of x numbers)) (HasOperand x numbers spots a c s m) (Done spots d s m)
+        (operand laws bound x numbers spots a c s m at active typed ready.related.matches.bytes (keeps x numbers spots c s m active typed slots holds ready))
+        (λ v u n q. subst (λ (r : Outcome (Unit {0})). Meets x.world bound n r (Done spots d s m)) (sym (sets x numbers at k o l v u is named)) (behind v u n q))
 
-  -- a scalar is written to its target
-  scalar-behind :
-      (scalar : IsScalar ty) (spots : List Spot) (p : Placed) (s : State) (m : Machine) (v : Value) (u : State) (n : Machine)
-      → IsReady x numbers spots p.code s m → ContainsCode (graph_of x) (write (scalar_kind ty) p.target (temp_of (lower (home_of x) a p.code)) (lower (home_of x) a p.code).code)
-      → SuitsType x ty p.target → Covers x (k ∷ []) p.target → (q : HasOperand x numbers spots a p.code s m v u n) → TargetStands x numbers q.0.done.later.spots (V.At (P.Object o 0)) p.target n
-      → Meets x.world bound n (put Initialising at x.home.tree.records ty (V.At (P.Object o 0)) v u) (Done spots (write (scalar_kind ty) p.target (temp_of (lower (home_of x) a p.code)) (lower (home_of x) a p.code).code) s m)
-  scalar-behind scalar spots p s m v u n ready holds suits covers q stands =
-      let y = lower (home_of x) a p.code in
-      let d = write (scalar_kind ty) p.target (temp_of y) y.code in
-      let new = laws.results x a p.code typed slots (scalar-not-void (type_in a) (subst IsScalar (sym same) scalar)) in
-      let temp : temp_of y ≡ new.result = ap (λ (r : Option ℕ). unwrap_or r 0) new.is in
-      let later = q.0.done.later in
-      subst (λ (act : acts.Act (Unit {0})). Meets x.world bound n (act u) (Done spots d s m)) (sym (puts-scalar Initialising at x.home.tree.records ty (V.At (P.Object o 0)) v scalar))
-      (meets-less x.world bound n (store Initialising at ty (V.At (P.Object o 0)) v u) (λ done. HasValue x numbers later.spots (k ∷ []) (lowered_as (Some (temp_of y)) d) y.code u n (Some v)) (Done spots d s m)
-      (writes laws bound x numbers later.spots (k ∷ []) Initialising ty (scalar_kind ty) at p.target (temp_of y) y.code u n (V.At (P.Object o 0)) v (scalar-of ty scalar)
-      (record { related = later.related; behind = q.0.behind; temps = omega (arith, ready.temps, (laws.later (home_of x) a p.code).temps) })
-      holds suits covers (omega (arith, temp, new.since, ready.temps)) (subst (λ (T : CType). IsValueOf T v) same q.1) (operand-stands later.spots v y.temp n q.0.stands) stands)
-      (λ done w r h. record { later = later-both laws x numbers spots s u w m n r ready.related later h.done.later; behind = h.behind }))
+    -- a scalar is written to its target
+    scalar-behind :
+        (scalar : IsScalar ty) (spots : List Spot) (p : Placed) (s : State) (m : Machine) (v : Value) (u : State) (n : Machine)
+        → IsReady x numbers spots p.code s m → ContainsCode (graph_of x) (write (scalar_kind ty) p.target (temp_of (lower (home_of x) a p.code)) (lower (home_of x) a p.code).code)
+        → SuitsType x ty p.target → Covers x (k ∷ []) p.target → (q : HasOperand x numbers spots a p.code s m v u n) → TargetStands x numbers q.0.done.later.spots (V.At (P.Object o 0)) p.target n
+        → Meets x.world bound n (put Initialising at x.home.tree.records ty (V.At (P.Object o 0)) v u) (Done spots (write (scalar_kind ty) p.target (temp_of (lower (home_of x) a p.code)) (lower (home_of x) a p.code).code) s m)
+    scalar-behind scalar spots p s m v u n ready holds suits covers q stands =
+        let y = lower (home_of x) a p.code in
+        let d = write (scalar_kind ty) p.target (temp_of y) y.code in
+        let new = laws.results x a p.code typed slots (scalar-not-void (type_in a) (subst IsScalar (sym same) scalar)) in
+        let temp : temp_of y ≡ new.result = ap (λ (r : Option ℕ). unwrap_or r 0) new.is in
+        let later = q.0.done.later in
+        subst (λ (act : acts.Act (Unit {0})). Meets x.world bound n (act u) (Done spots d s m)) (sym (puts-scalar Initialising at x.home.tree.records ty (V.At (P.Object o 0)) v scalar))
+        (meets-less x.world bound n (store Initialising at ty (V.At (P.Object o 0)) v u) (λ done. HasValue x numbers later.spots (k ∷ []) (lowered_as (Some (temp_of y)) d) y.code u n (Some v)) (Done spots d s m)
+        (writes laws bound x numbers later.spots (k ∷ []) Initialising ty (scalar_kind ty) at p.target (temp_of y) y.code u n (V.At (P.Object o 0)) v (scalar-of ty scalar)
+        (record { related = later.related; behind = q.0.behind; temps = omega (arith, ready.temps, (laws.later (home_of x) a p.code).temps) })
+        holds suits covers (omega (arith, temp, new.since, ready.temps)) (subst (λ (T : CType). IsValueOf T v) same q.1) (operand-stands later.spots v y.temp n q.0.stands) stands)
+        (λ done w r h. record { later = later-both laws x numbers spots s u w m n r ready.related later h.done.later; behind = h.behind }))
 
-  -- behind the code of an address the value is made
-  addressed :
-      (j : ℕ) (spots : List Spot) (c d : Code) (s : State) (m : Machine) → place_in x k ≡ Slot j → IsReady x numbers spots c s m
-      → ContainsCode (graph_of x) (lower (home_of x) a (address_of_local (Slot j) c).code).code
-      → ((first : List Spot) (n : Machine) → IsReady x numbers first (address_of_local (Slot j) c).code s n → Stands first (V.At (P.Object o 0)) (value_in n.frame c.temps)
-      → Meets x.world bound n (initialise (ByValue k a) (calls x.world bound) (env_of x numbers) s) (Done first d s n))
-      → Meets x.world bound m (initialise (ByValue k a) (calls x.world bound) (env_of x numbers) s) (Done spots d s m)
-  addressed j spots c d s m place ready holds behind =
-      let b = laws.contain (graph_of x) (home_of x) a (address_of_local (Slot j) c).code holds in
-      let r = slot-reaches laws bound x numbers spots c s m k o j ready b named place in
-      let h = r.holds in
-      meets-later laws x.world bound m r.machine r.count (initialise (ByValue k a) (calls x.world bound) (env_of x numbers) s) (Done spots d s m) r.comes
-      (meets-less x.world bound r.machine (initialise (ByValue k a) (calls x.world bound) (env_of x numbers) s) (Done h.done.later.spots d s r.machine) (Done spots d s m)
-      (behind h.done.later.spots r.machine (record { related = h.done.later.related; behind = h.behind; temps = omega (arith, ready.temps) }) h.stands)
-      (λ done w z g. record { later = later-both laws x numbers spots s s w m r.machine z ready.related h.done.later g.later; behind = g.behind }))
+    -- behind the code of an address the value is made
+    addressed :
+        (j : ℕ) (spots : List Spot) (c d : Code) (s : State) (m : Machine) → place_in x k ≡ Slot j → IsReady x numbers spots c s m
+        → ContainsCode (graph_of x) (lower (home_of x) a (address_of_local (Slot j) c).code).code
+        → ((first : List Spot) (n : Machine) → IsReady x numbers first (address_of_local (Slot j) c).code s n → Stands first (V.At (P.Object o 0)) (value_in n.frame c.temps)
+        → Meets x.world bound n (initialise (ByValue k a) (calls x.world bound) (env_of x numbers) s) (Done first d s n))
+        → Meets x.world bound m (initialise (ByValue k a) (calls x.world bound) (env_of x numbers) s) (Done spots d s m)
+    addressed j spots c d s m place ready holds behind =
+        let b = laws.contain (graph_of x) (home_of x) a (address_of_local (Slot j) c).code holds in
+        let r = slot-reaches laws bound x numbers spots c s m k o j ready b named place in
+        let h = r.holds in
+        meets-later laws x.world bound m r.machine r.count (initialise (ByValue k a) (calls x.world bound) (env_of x numbers) s) (Done spots d s m) r.comes
+        (meets-less x.world bound r.machine (initialise (ByValue k a) (calls x.world bound) (env_of x numbers) s) (Done h.done.later.spots d s r.machine) (Done spots d s m)
+        (behind h.done.later.spots r.machine (record { related = h.done.later.related; behind = h.behind; temps = omega (arith, ready.temps) }) h.stands)
+        (λ done w z g. record { later = later-both laws x numbers spots s s w m r.machine z ready.related h.done.later g.later; behind = g.behind }))
 
-  scalar-initialises :
-      (scalar : IsScalar ty) (place : LocalPlace) (spots : List Spot) (c : Code) (s : State) (m : Machine) → place_in x k ≡ place → IsReady x numbers spots c s m
-      → ContainsCode (graph_of x) (initialised_by (home_of x) (Some (scalar_kind ty)) ty place a c)
-      → Meets x.world bound m (initialise (ByValue k a) (calls x.world bound) (env_of x numbers) s) (Done spots (initialised_by (home_of x) (Some (scalar_kind ty)) ty place a c) s m)
-  scalar-initialises scalar (Temp t) spots c s m place ready holds =
-      let y = lower (home_of x) a c in
-      let d = write (scalar_kind ty) (Kept t) (temp_of y) y.code in
-      valued spots c d s m ready (before-write (graph_of x) (scalar_kind ty) (Kept t) (temp_of y) y.code holds)
-      (λ v u n q. scalar-behind scalar spots (record { code = c; target = Kept t }) s m v u n ready holds (local-suits x k t l ty is refl place) (k, (0, omega arith, refl), place) q (k, o, named, place, refl))
-  scalar-initialises scalar (Slot j) spots c s m place ready holds =
-      let address = address_of_local (Slot j) c in
-      let y = lower (home_of x) a address.code in
-      let d = write (scalar_kind ty) (Led c.temps) (temp_of y) y.code in
-      let inside = before-write (graph_of x) (scalar_kind ty) (Led c.temps) (temp_of y) y.code holds in
-      addressed j spots c d s m place ready inside (λ first n again stand.
-      valued first address.code d s n again inside
-      (λ v u r q. scalar-behind scalar first (record { code = address.code; target = Led c.temps }) s n v u r again holds tt tt q
-      (let kept = stays laws x numbers first a address.code c.temps s u n r typed ready.temps (omega arith) q.0.done in
-          subst (λ (w : Value). Stands q.0.done.later.spots (V.At (P.Object o 0)) w) (sym kept) (laws.stands first q.0.done.later.spots (V.At (P.Object o 0)) (value_in n.frame c.temps) q.0.done.later.lasts.more stand))))
+    scalar-initialises :
+        (scalar : IsScalar ty) (place : LocalPlace) (spots : List Spot) (c : Code) (s : State) (m : Machine) → place_in x k ≡ place → IsReady x numbers spots c s m
+        → ContainsCode (graph_of x) (initialised_by (home_of x) (Some (scalar_kind ty)) ty place a c)
+        → Meets x.world bound m (initialise (ByValue k a) (calls x.world bound) (env_of x numbers) s) (Done spots (initialised_by (home_of x) (Some (scalar_kind ty)) ty place a c) s m)
+    scalar-initialises scalar (Temp t) spots c s m place ready holds =
+        let y = lower (home_of x) a c in
+        let d = write (scalar_kind ty) (Kept t) (temp_of y) y.code in
+        valued spots c d s m ready (before-write (graph_of x) (scalar_kind ty) (Kept t) (temp_of y) y.code holds)
+        (λ v u n q. scalar-behind scalar spots (record { code = c; target = Kept t }) s m v u n ready holds (local-suits x k t l ty is refl place) (k, (0, omega arith, refl), place) q (k, o, named, place, refl))
+    scalar-initialises scalar (Slot j) spots c s m place ready holds =
+        let address = address_of_local (Slot j) c in
+        let y = lower (home_of x) a address.code in
+        let d = write (scalar_kind ty) (Led c.temps) (temp_of y) y.code in
+        let inside = before-write (graph_of x) (scalar_kind ty) (Led c.temps) (temp_of y) y.code holds in
+        addressed j spots c d s m place ready inside (λ first n again stand.
+        valued first address.code d s n again inside
+        (λ v u r q. scalar-behind scalar first (record { code = address.code; target = Led c.temps }) s n v u r again holds tt tt q
+        (let kept = stays laws x numbers first a address.code c.temps s u n r typed ready.temps (omega arith) q.0.done in
+        subst (λ (w : Value). Stands q.0.done.later.spots (V.At (P.Object o 0)) w) (sym kept) (laws.stands first q.0.done.later.spots (V.At (P.Object o 0)) (value_in n.frame c.temps) q.0.done.later.lasts.more stand))))
 
-  other-initialises :
-      (none : kind_of ty ≡ None) (place : LocalPlace) (spots : List Spot) (c : Code) (s : State) (m : Machine) → place_in x k ≡ place → IsReady x numbers spots c s m
-      → ContainsCode (graph_of x) (initialised_by (home_of x) None ty place a c)
-      → Meets x.world bound m (initialise (ByValue k a) (calls x.world bound) (env_of x numbers) s) (Done spots (initialised_by (home_of x) None ty place a c) s m)
-  other-initialises none (Temp t) spots c s m place ready holds = absurd (no-scalar ty none (kept-scalar x k t l is place))
-  other-initialises none (Slot j) spots c s m place ready holds =
-      let address = address_of_local (Slot j) c in
-      let y = lower (home_of x) a address.code in
-      let records = x.home.tree.records in
-      let z = copied records ty c.temps y in
-      let inside = before-emit (graph_of x) (op.Move c.temps (temp_of y) (bytes_of records ty) (unit_of records ty)) y.code holds in
-      addressed j spots c z.code s m place ready inside (λ first n again stand.
-      valued first address.code z.code s n again inside
-      (λ v u r q.
-      let later = q.0.done.later in
-      let kept = stays laws x numbers first a address.code c.temps s u n r typed ready.temps (omega arith) q.0.done in
-      meets-less x.world bound r (put Initialising at records ty (V.At (P.Object o 0)) v u) (λ done. HasValue x numbers later.spots [] z y.code u r (Some (V.At (P.Object o 0)))) (Done first z.code s n)
-      (puts-other laws bound x numbers later.spots at ty c.temps y u r (V.At (P.Object o 0)) v none
-      (record { related = later.related; behind = q.0.behind; temps = omega (arith, again.temps, (laws.later (home_of x) a address.code).temps) }) holds
-      (subst (λ (w : Value). Stands later.spots (V.At (P.Object o 0)) w) (sym kept) (laws.stands first later.spots (V.At (P.Object o 0)) (value_in n.frame c.temps) later.lasts.more stand))
-      (operand-stands later.spots v y.temp r q.0.stands))
-      (λ done w g h. record { later = later-both laws x numbers first s u w n r g again.related later h.done.later; behind = h.behind })))
+    other-initialises :
+        (none : kind_of ty ≡ None) (place : LocalPlace) (spots : List Spot) (c : Code) (s : State) (m : Machine) → place_in x k ≡ place → IsReady x numbers spots c s m
+        → ContainsCode (graph_of x) (initialised_by (home_of x) None ty place a c)
+        → Meets x.world bound m (initialise (ByValue k a) (calls x.world bound) (env_of x numbers) s) (Done spots (initialised_by (home_of x) None ty place a c) s m)
+    other-initialises none (Temp t) spots c s m place ready holds = absurd (no-scalar ty none (kept-scalar x k t l is place))
+    other-initialises none (Slot j) spots c s m place ready holds =
+        let address = address_of_local (Slot j) c in
+        let y = lower (home_of x) a address.code in
+        let records = x.home.tree.records in
+        let z = copied records ty c.temps y in
+        let inside = before-emit (graph_of x) (op.Move c.temps (temp_of y) (bytes_of records ty) (unit_of records ty)) y.code holds in
+        addressed j spots c z.code s m place ready inside (λ first n again stand.
+        valued first address.code z.code s n again inside
+        (λ v u r q.
+        let later = q.0.done.later in
+        let kept = stays laws x numbers first a address.code c.temps s u n r typed ready.temps (omega arith) q.0.done in
+        meets-less x.world bound r (put Initialising at records ty (V.At (P.Object o 0)) v u) (λ done. HasValue x numbers later.spots [] z y.code u r (Some (V.At (P.Object o 0)))) (Done first z.code s n)
+        (puts-other laws bound x numbers later.spots at ty c.temps y u r (V.At (P.Object o 0)) v none
+        (record { related = later.related; behind = q.0.behind; temps = omega (arith, again.temps, (laws.later (home_of x) a address.code).temps) }) holds
+        (subst (λ (w : Value). Stands later.spots (V.At (P.Object o 0)) w) (sym kept) (laws.stands first later.spots (V.At (P.Object o 0)) (value_in n.frame c.temps) later.lasts.more stand))
+        (operand-stands later.spots v y.temp r q.0.stands))
+        (λ done w g h. record { later = later-both laws x numbers first s u w n r g again.related later h.done.later; behind = h.behind })))
 
-  by-kind :
-      (kind : Option Kind) (place : LocalPlace) (spots : List Spot) (c : Code) (s : State) (m : Machine) → kind_of ty ≡ kind → place_in x k ≡ place → IsReady x numbers spots c s m
-      → ContainsCode (graph_of x) (initialised_by (home_of x) kind ty place a c)
-      → Meets x.world bound m (initialise (ByValue k a) (calls x.world bound) (env_of x numbers) s) (Done spots (initialised_by (home_of x) kind ty place a c) s m)
-  by-kind None place spots c s m e there ready holds = other-initialises e place spots c s m there ready holds
-  by-kind (Some kind) place spots c s m e there ready holds =
-      let scalar = has-scalar ty kind e in
-      let same-kind : kind ≡ scalar_kind ty = same_Some kind (scalar_kind ty) (sym e ∙ scalar-of ty scalar) in
-      subst (λ (i : Kind). Meets x.world bound m (initialise (ByValue k a) (calls x.world bound) (env_of x numbers) s) (Done spots (initialised_by (home_of x) (Some i) ty place a c) s m)) (sym same-kind)
-      (scalar-initialises scalar place spots c s m there ready (subst (λ (i : Kind). ContainsCode (graph_of x) (initialised_by (home_of x) (Some i) ty place a c)) same-kind holds))
+    by-kind :
+        (kind : Option Kind) (place : LocalPlace) (spots : List Spot) (c : Code) (s : State) (m : Machine) → kind_of ty ≡ kind → place_in x k ≡ place → IsReady x numbers spots c s m
+        → ContainsCode (graph_of x) (initialised_by (home_of x) kind ty place a c)
+        → Meets x.world bound m (initialise (ByValue k a) (calls x.world bound) (env_of x numbers) s) (Done spots (initialised_by (home_of x) kind ty place a c) s m)
+    by-kind None place spots c s m e there ready holds = other-initialises e place spots c s m there ready holds
+    by-kind (Some kind) place spots c s m e there ready holds =
+        let scalar = has-scalar ty kind e in
+        let same-kind : kind ≡ scalar_kind ty = same_Some kind (scalar_kind ty) (sym e ∙ scalar-of ty scalar) in
+        subst (λ (i : Kind). Meets x.world bound m (initialise (ByValue k a) (calls x.world bound) (env_of x numbers) s) (Done spots (initialised_by (home_of x) (Some i) ty place a c) s m)) (sym same-kind)
+        (scalar-initialises scalar place spots c s m there ready (subst (λ (i : Kind). ContainsCode (graph_of x) (initialised_by (home_of x) (Some i) ty place a c)) same-kind holds))
 
 local-type : (x : Activation) (k : ℕ) (l : LocalValue) → slice_get x.function.locals k ≡ Some l → local_type x.function.locals k ≡ type_of l.ty
 local-type x k l is = ap (λ (o : Option LocalValue). unwrap_or (option_map (λ (a : LocalValue). type_of a.ty) o) Void) is
@@ -304,98 +301,98 @@ opens-first objects f size unit live same =
 module _ (laws : Laws) (bound k hidden : ℕ) (x : Activation) (numbers : Numbers) (active : IsActivation x) (o j : ℕ) (named : number_of numbers k ≡ Some o)
     (l : LocalValue) (is : slice_get x.function.locals k ≡ Some l) (g : GlobalValue) (there : Contains x.home.tree.globals g) (name : g.name ≡ Hidden hidden) (same : type_of g.ty ≡ type_of l.ty) (place : place_in x k ≡ Slot j)
   where
-  abbrev records : List RecordValue
-  records = x.home.tree.records
+    abbrev records : List RecordValue
+    records = x.home.tree.records
 
-  abbrev size : ℕ
-  size = bytes_of records (type_of l.ty)
+    abbrev size : ℕ
+    size = bytes_of records (type_of l.ty)
 
-  abbrev unit : ℕ
-  unit = unit_of records (type_of l.ty)
+    abbrev unit : ℕ
+    unit = unit_of records (type_of l.ty)
 
-  abbrev full : List ℕ
-  full = full_name x.home.name (Hidden hidden)
+    abbrev full : List ℕ
+    full = full_name x.home.name (Hidden hidden)
 
-  -- the bytes are moved
-  moves :
-      (spots : List Spot) (d : Code) (to from n : ℕ) (s : State) (m : Machine) → IsReady x numbers spots d s m → ContainsCode (graph_of x) (record d { ops = d.ops ++ op.Move to from size unit ∷ [] })
-      → global_number (graphs x.world) full ≡ Some n → Stands spots (V.At (P.Object o 0)) (value_in m.frame to) → Stands spots (V.At (P.Object n 0)) (value_in m.frame from)
-      → Meets x.world bound m (Gives tt (record s { objects = written o 0 (object_at s.objects n).bytes s.objects })) (HasInitialised x numbers spots (record d { ops = d.ops ++ op.Move to from size unit ∷ [] }) s m)
-  unfolding command
-  moves spots d to from n s m ready holds number st so =
-      let memory = ready.related.matches.memory in
-      let local = ready.related.frame.locals k o named in
-      let own : local.local ≡ l = same_Some local.local l (sym local.is ∙ is) in
-      let f = st.1.object in
-      let target = memory.holds o f st.1.size local.live st.1.there in
-      let q = global-at x numbers spots d s m full n ready number in
-      let origin = memory.holds n n (global_size x.world n) q.live q.there in
-      let h = so.1.object in
-      let from-is : n ≡ h = same-object n (global_size x.world n) h so.1.size (sym q.there ∙ so.1.there) in
-      let bytes-size : global_size x.world n ≡ size = hidden-size x hidden n g active there name number ∙ ap (λ (T : CType). bytes_of records T) same in
-      let local-size : length (object_at s.objects o).bytes ≡ size = local.size ∙ ap (λ (a : LocalValue). bytes_of records (type_of a.ty)) own in
-      let new = (object_at s.objects n).bytes in
-      let now = bytes_from size 0 (object_at m.objects h).bytes in
-      let nx = laws.next (graph_of x) d (op.Move to from size unit) m holds.filled ready.behind in
-      let e = nx.behind 0 V.Undefined in
-      let after : Machine = with_objects nx.rest (written f 0 now m.objects) m in
-      let opens : (flow.is_open m.objects f 0 size unit && (flow.is_open m.objects h 0 size unit && (not (f == h) || flow.is_apart 0 0 size))) ≡ true =
-      and_from (flow.is_open m.objects f 0 size unit) (flow.is_open m.objects h 0 size unit && (not (f == h) || flow.is_apart 0 0 size))
-      (opens-first m.objects f size unit target.live (target.same_size ∙ sym target.own_size ∙ local-size))
-      (and_from (flow.is_open m.objects h 0 size unit) (not (f == h) || flow.is_apart 0 0 size)
-      (subst (λ (i : ℕ). flow.is_open m.objects i 0 size unit ≡ true) from-is (opens-first m.objects n size unit origin.live (origin.same_size ∙ bytes-size)))
-      (or_right (not (f == h)) (flow.is_apart 0 0 size) refl)) in
-      let stand : BytesStand spots new now =
-      subst (λ (bytes : List Byte). BytesStand spots bytes now) (whole-read size new laws.back (origin.own_size ∙ bytes-size))
-      (subst (λ (i : ℕ). BytesStand spots (bytes_from size 0 new) (bytes_from size 0 (object_at m.objects i).bytes)) from-is (from-stand spots size 0 new (object_at m.objects n).bytes origin.bytes)) in
-      record {
-        count = 1;
-        machine = after;
-        comes = comes-by laws x d (op.Move to from size unit) m after nx
-            (ap (λ (objects : Option (List Object)). run.changes objects (record m { frame = record m.frame { ops = nx.rest } }))
-            (ap (λ (u : Value). flow.copy u (value_in m.frame from) size unit m.objects) (st.2 ∙ ap V.At st.1.is) ∙ ap (λ (u : Value). flow.copy (V.At (P.Object f 0)) u size unit m.objects) (so.2 ∙ ap V.At so.1.is)
-            ∙ ap (λ (t : Bool). if t then Some (written f 0 now m.objects) else None) opens));
-        holds = record {
-          later = record {
-            spots = spots;
-            related = related-written x numbers spots s m nx.rest o f st.1.size 0 new now ready.related local.live st.1.there stand (bytes-of s.objects n ready.related.matches.bytes.objects);
-            lasts = lasts-written numbers spots s m nx.rest o f st.1.size 0 new now st.1.there;
+    -- the bytes are moved
+    moves :
+        (spots : List Spot) (d : Code) (to from n : ℕ) (s : State) (m : Machine) → IsReady x numbers spots d s m → ContainsCode (graph_of x) (record d { ops = d.ops ++ op.Move to from size unit ∷ [] })
+        → global_number (graphs x.world) full ≡ Some n → Stands spots (V.At (P.Object o 0)) (value_in m.frame to) → Stands spots (V.At (P.Object n 0)) (value_in m.frame from)
+        → Meets x.world bound m (Gives tt (record s { objects = written o 0 (object_at s.objects n).bytes s.objects })) (HasInitialised x numbers spots (record d { ops = d.ops ++ op.Move to from size unit ∷ [] }) s m)
+    unfolding command
+    moves spots d to from n s m ready holds number st so =
+        let memory = ready.related.matches.memory in
+        let local = ready.related.frame.locals k o named in
+        let own : local.local ≡ l = same_Some local.local l (sym local.is ∙ is) in
+        let f = st.1.object in
+        let target = memory.holds o f st.1.size local.live st.1.there in
+        let q = global-at x numbers spots d s m full n ready number in
+        let origin = memory.holds n n (global_size x.world n) q.live q.there in
+        let h = so.1.object in
+        let from-is : n ≡ h = same-object n (global_size x.world n) h so.1.size (sym q.there ∙ so.1.there) in
+        let bytes-size : global_size x.world n ≡ size = hidden-size x hidden n g active there name number ∙ ap (λ (T : CType). bytes_of records T) same in
+        let local-size : length (object_at s.objects o).bytes ≡ size = local.size ∙ ap (λ (a : LocalValue). bytes_of records (type_of a.ty)) own in
+        let new = (object_at s.objects n).bytes in
+        let now = bytes_from size 0 (object_at m.objects h).bytes in
+        let nx = laws.next (graph_of x) d (op.Move to from size unit) m holds.filled ready.behind in
+        let e = nx.behind 0 V.Undefined in
+        let after : Machine = with_objects nx.rest (written f 0 now m.objects) m in
+        let opens : (flow.is_open m.objects f 0 size unit && (flow.is_open m.objects h 0 size unit && (not (f == h) || flow.is_apart 0 0 size))) ≡ true =
+        and_from (flow.is_open m.objects f 0 size unit) (flow.is_open m.objects h 0 size unit && (not (f == h) || flow.is_apart 0 0 size))
+        (opens-first m.objects f size unit target.live (target.same_size ∙ sym target.own_size ∙ local-size))
+        (and_from (flow.is_open m.objects h 0 size unit) (not (f == h) || flow.is_apart 0 0 size)
+        (subst (λ (i : ℕ). flow.is_open m.objects i 0 size unit ≡ true) from-is (opens-first m.objects n size unit origin.live (origin.same_size ∙ bytes-size)))
+        (or_right (not (f == h)) (flow.is_apart 0 0 size) refl)) in
+        let stand : BytesStand spots new now =
+        subst (λ (bytes : List Byte). BytesStand spots bytes now) (whole-read size new laws.back (origin.own_size ∙ bytes-size))
+        (subst (λ (i : ℕ). BytesStand spots (bytes_from size 0 new) (bytes_from size 0 (object_at m.objects i).bytes)) from-is (from-stand spots size 0 new (object_at m.objects n).bytes origin.bytes)) in
+        record {
+          count = 1;
+          machine = after;
+          comes = comes-by laws x d (op.Move to from size unit) m after nx
+              (ap (λ (objects : Option (List Object)). run.changes objects (record m { frame = record m.frame { ops = nx.rest } }))
+              (ap (λ (u : Value). flow.copy u (value_in m.frame from) size unit m.objects) (st.2 ∙ ap V.At st.1.is) ∙ ap (λ (u : Value). flow.copy (V.At (P.Object f 0)) u size unit m.objects) (so.2 ∙ ap V.At so.1.is)
+              ∙ ap (λ (t : Bool). if t then Some (written f 0 now m.objects) else None) opens));
+          holds = record {
+            later = record {
+              spots = spots;
+              related = related-written x numbers spots s m nx.rest o f st.1.size 0 new now ready.related local.live st.1.there stand (bytes-of s.objects n ready.related.matches.bytes.objects);
+              lasts = lasts-written numbers spots s m nx.rest o f st.1.size 0 new now st.1.there;
+            };
+            behind = record { block = e.block; there = e.there; here = e.here; ops = e.ops; end = e.end };
           };
-          behind = record { block = e.block; there = e.there; here = e.here; ops = e.ops; end = e.end };
-        };
-      }
+        }
 
-  slot-initialises :
-      (spots : List Spot) (c : Code) (parts : List Expression) (s : State) (m : Machine) → IsReady x numbers spots c s m → ContainsCode (graph_of x) (copied_from (home_of x) (type_of l.ty) (Slot j) hidden c)
-      → Meets x.world bound m (initialise (ByBytes k hidden parts) (calls x.world bound) (env_of x numbers) s) (HasInitialised x numbers spots (copied_from (home_of x) (type_of l.ty) (Slot j) hidden c) s m)
-  slot-initialises spots c parts s m ready holds =
-      let a = address_of_local (Slot j) c in
-      let b = address_of_global full a.code in
-      let d = copied_from (home_of x) (type_of l.ty) (Slot j) hidden c in
-      let in-b : ContainsCode (graph_of x) b.code = before-emit (graph_of x) (op.Move c.temps a.code.temps size unit) b.code holds in
-      let in-a : ContainsCode (graph_of x) a.code = before-fresh (graph_of x) (λ t. op.AddrGlobal t full 0) a.code in-b in
-      let n = numbered x full a.code active in-b in
-      let r = slot-reaches laws bound x numbers spots c s m k o j ready in-a named place in
-      let one = r.holds in
-      let ready-a : IsReady x numbers one.done.later.spots a.code s r.machine = record { related = one.done.later.related; behind = one.behind; temps = omega (arith, ready.temps) } in
-      let z = address-reaches laws bound x numbers one.done.later.spots a.code s r.machine full ready-a in-b n in
-      let two = z.holds in
-      let ready-b : IsReady x numbers two.done.later.spots b.code s z.machine = record { related = two.done.later.related; behind = two.behind; temps = omega (arith, ready.temps) } in
-      let kept : value_in z.machine.frame c.temps ≡ value_in r.machine.frame c.temps = two.done.temps c.temps (omega arith) (λ i e. none-in i _ e) in
-      let target : Stands two.done.later.spots (V.At (P.Object o 0)) (value_in z.machine.frame c.temps) =
-      subst (λ (w : Value). Stands two.done.later.spots (V.At (P.Object o 0)) w) (sym kept)
-      (laws.stands one.done.later.spots two.done.later.spots (V.At (P.Object o 0)) (value_in r.machine.frame c.temps) two.done.later.lasts.more one.stands) in
-      let u : State = record s { objects = written o 0 (object_at s.objects n.number).bytes s.objects } in
-      subst (λ (outcome : Outcome (Unit {0})). Meets x.world bound m outcome (HasInitialised x numbers spots d s m)) (sym (copies-bytes x numbers bound k hidden o n.number parts s named n.means))
-      (meets-later laws x.world bound m r.machine r.count (Gives tt u) (HasInitialised x numbers spots d s m) r.comes
-      (meets-later laws x.world bound r.machine z.machine z.count (Gives tt u) (HasInitialised x numbers spots d s m) z.comes
-      (meets-less x.world bound z.machine (Gives tt u) (HasInitialised x numbers two.done.later.spots d s z.machine) (HasInitialised x numbers spots d s m)
-      (moves two.done.later.spots b.code c.temps a.code.temps n.number s z.machine ready-b holds n.flows target two.stands)
-      (λ done w v h. record {
-        later = later-both laws x numbers spots s s w m r.machine v ready.related one.done.later
-            (later-both laws x numbers one.done.later.spots s s w r.machine z.machine v one.done.later.related two.done.later h.later);
-        behind = h.behind;
-      }))))
+    slot-initialises :
+        (spots : List Spot) (c : Code) (parts : List Expression) (s : State) (m : Machine) → IsReady x numbers spots c s m → ContainsCode (graph_of x) (copied_from (home_of x) (type_of l.ty) (Slot j) hidden c)
+        → Meets x.world bound m (initialise (ByBytes k hidden parts) (calls x.world bound) (env_of x numbers) s) (HasInitialised x numbers spots (copied_from (home_of x) (type_of l.ty) (Slot j) hidden c) s m)
+    slot-initialises spots c parts s m ready holds =
+        let a = address_of_local (Slot j) c in
+        let b = address_of_global full a.code in
+        let d = copied_from (home_of x) (type_of l.ty) (Slot j) hidden c in
+        let in-b : ContainsCode (graph_of x) b.code = before-emit (graph_of x) (op.Move c.temps a.code.temps size unit) b.code holds in
+        let in-a : ContainsCode (graph_of x) a.code = before-fresh (graph_of x) (λ t. op.AddrGlobal t full 0) a.code in-b in
+        let n = numbered x full a.code active in-b in
+        let r = slot-reaches laws bound x numbers spots c s m k o j ready in-a named place in
+        let one = r.holds in
+        let ready-a : IsReady x numbers one.done.later.spots a.code s r.machine = record { related = one.done.later.related; behind = one.behind; temps = omega (arith, ready.temps) } in
+        let z = address-reaches laws bound x numbers one.done.later.spots a.code s r.machine full ready-a in-b n in
+        let two = z.holds in
+        let ready-b : IsReady x numbers two.done.later.spots b.code s z.machine = record { related = two.done.later.related; behind = two.behind; temps = omega (arith, ready.temps) } in
+        let kept : value_in z.machine.frame c.temps ≡ value_in r.machine.frame c.temps = two.done.temps c.temps (omega arith) (λ i e. none-in i _ e) in
+        let target : Stands two.done.later.spots (V.At (P.Object o 0)) (value_in z.machine.frame c.temps) =
+        subst (λ (w : Value). Stands two.done.later.spots (V.At (P.Object o 0)) w) (sym kept)
+        (laws.stands one.done.later.spots two.done.later.spots (V.At (P.Object o 0)) (value_in r.machine.frame c.temps) two.done.later.lasts.more one.stands) in
+        let u : State = record s { objects = written o 0 (object_at s.objects n.number).bytes s.objects } in
+        subst (λ (outcome : Outcome (Unit {0})). Meets x.world bound m outcome (HasInitialised x numbers spots d s m)) (sym (copies-bytes x numbers bound k hidden o n.number parts s named n.means))
+        (meets-later laws x.world bound m r.machine r.count (Gives tt u) (HasInitialised x numbers spots d s m) r.comes
+        (meets-later laws x.world bound r.machine z.machine z.count (Gives tt u) (HasInitialised x numbers spots d s m) z.comes
+        (meets-less x.world bound z.machine (Gives tt u) (HasInitialised x numbers two.done.later.spots d s z.machine) (HasInitialised x numbers spots d s m)
+        (moves two.done.later.spots b.code c.temps a.code.temps n.number s z.machine ready-b holds n.flows target two.stands)
+        (λ done w v h. record {
+          later = later-both laws x numbers spots s s w m r.machine v ready.related one.done.later
+              (later-both laws x numbers one.done.later.spots s s w r.machine z.machine v one.done.later.related two.done.later h.later);
+          behind = h.behind;
+        }))))
 
 pub bytes-initialise : Laws → (bound k hidden : ℕ) (parts : List Expression) → InitialiserKeeps bound (ByBytes k hidden parts)
 bytes-initialise laws bound k hidden parts x numbers spots first count c s m active typed suits slots begun holds ready =

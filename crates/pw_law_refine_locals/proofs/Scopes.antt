@@ -1,6 +1,6 @@
 -- Locals come into scope one by one, and end in the other order: what an act leaves where they are in scope, it leaves behind
 -- their end.
-use Rattle.std.proofs.Common.{◌≡◌, ◌≢◌, ℕ, zero, suc, ◌+◌, ◌^◌, ◌<◌, ◌≤◌, Option, Some, None, List, [], ◌∷◌, ◌++◌, length, slice_get, slice_set, All, Contains, inl, inr, refl, ap, sym, ◌∙◌, subst, arith, append_assoc, append-nil}
+use Rattle.std.proofs.Common.{◌≡◌, ℕ, zero, suc, ◌^◌, ◌<◌, ◌≤◌, Option, Some, None, List, [], ◌∷◌, ◌++◌, length, slice_get, slice_set, inl, inr, refl, ap, sym, ◌∙◌, subst, arith, append_assoc, append-nil}
 use Rattle.std.specs.Prelude.{IsSomeAnd}
 use Rattle.std.proofs.lemmas.Bool.{cases_eq}
 use Rattle.std.proofs.lemmas.Option.{slice_get_within, get_or_from_slice_get}
@@ -14,13 +14,10 @@ use Rattle.pw_types.specs.Records.{IsObjectType}
 use Rattle.pw_types.specs.TypeTrees.{type_of}
 use Rattle.pw_types.specs.TypedTrees.{LocalValue}
 use Rattle.pw_types.specs.TypedModules.{WellTyped, IsFunction}
-use Rattle.pw_types.specs.WellTyped.{IsKnownType}
-use Rattle.pw_lower.specs.declared.code.Code.{Code}
-use Rattle.pw_lower.specs.declared.place.Ways.{Ways}
 use Rattle.pw_cmean.specs.Worlds.{ProgramModule}
 use Rattle.pw_cmean.specs.Acts as source
 use Rattle.pw_cmean.specs.Acts.{State, Act, Outcome, Gives, Ends, give, stop, go_on, ◌>>=◌, ◌>>◌, make, end_object, with_object, need, wrong}
-use Rattle.pw_cmean.specs.Evaluation.{Env, records_of}
+use Rattle.pw_cmean.specs.Evaluation.{Env}
 use Rattle.pw_cmean.specs.Execution.{Flow, with_locals, with_number}
 use Rattle.pw_run_languages.specs.FlowRun.{Machine}
 use Rattle.pw_law_refine.specs.Standing.{Spot}
@@ -30,7 +27,7 @@ use Rattle.pw_law_refine.specs.Meeting.{Meets}
 use Rattle.pw_law_refine.specs.Statements.{IsReturning, Exits, GoesOut, HasLeft}
 use Rattle.pw_law_refine.specs.StatementParts.{HaveBegun, LocalsKeep}
 use Rattle.pw_law_refine_locals.specs.Scopes.{IsLeaving, LocalsLeave}
-use Rattle.pw_law_refine_locals.proofs.Beginning.{SlotLaws, undefined_object, spot_for, other-number, put-number, begins, begun-number}
+use Rattle.pw_law_refine_locals.proofs.Beginning.{SlotLaws, undefined_object, spot_for, other-number, begins, begun-number}
 use Rattle.pw_law_refine_locals.proofs.Finishing.{finishes}
 
 -- ---- sizes of locals

@@ -1,5 +1,5 @@
 -- Locals that are in scope while a function runs: the statements of laws.
-use Rattle.std.specs.Prelude.{ℕ, ◌≡◌, ◌≤◌, Option, None, List, ◌++◌, length}
+use Rattle.std.specs.Prelude.{ℕ, ◌≡◌, ◌≤◌, Option, None, List, ◌++◌}
 use Rattle.pw_value.specs.declared.value.Value.{Value}
 use Rattle.pw_cmean.specs.Acts.{State, Act}
 use Rattle.pw_cmean.specs.Evaluation.{Env}

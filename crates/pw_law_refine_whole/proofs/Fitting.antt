@@ -1,11 +1,11 @@
 -- Arguments fit the parameters: each is a value of the parameter's type, and the parameters are the first locals.
-use Rattle.std.proofs.Common.{◌≡◌, ℕ, zero, suc, ◌+◌, ◌≤◌, Bool, true, false, nat_lt, if◌then◌else◌, Some, List, [], ◌∷◌, length, take, refl, ap, sym, ◌∙◌, subst, arith, All, ltb-false}
+use Rattle.std.proofs.Common.{◌≡◌, ℕ, zero, suc, ◌+◌, ◌≤◌, Bool, true, false, nat_lt, if◌then◌else◌, Some, List, [], ◌∷◌, length, take, refl, ap, sym, subst, arith, ltb-false}
 use Rattle.std.proofs.lemmas.List.Elements.{All-contains}
 use Rattle.pw_value.specs.declared.value.Value.{Value}
-use Rattle.pw_types.specs.TypeTrees.{CType, QType, QTypes, NoType, OneType, RecordValue, type_of, is_volatile}
+use Rattle.pw_types.specs.TypeTrees.{CType, QTypes, NoType, OneType, type_of, is_volatile}
 use Rattle.pw_types.specs.TypedTrees.{LocalValue}
 use Rattle.pw_types.specs.TypedModules.{AreParameters, IsFunction, WellTyped}
-use Rattle.pw_types.specs.Shapes.{letter_of, letters_of, signature_shape, shape_of}
+use Rattle.pw_types.specs.Shapes.{letter_of, letters_of, shape_of}
 use Rattle.pw_types.specs.WellTyped.{IsScalar}
 use Rattle.pw_lower.specs.declared.place.LocalPlace.{LocalPlace}
 use Rattle.pw_lower.specs.declared.place.LocalPlace.TheVariants.{Temp, Slot}

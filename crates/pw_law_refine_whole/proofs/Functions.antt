@@ -1,17 +1,16 @@
 -- A function keeps its promise: its parameters begin, get the arguments, and its body runs; behind its end nothing is left of
 -- its locals.
-use Rattle.std.proofs.Common.{◌≡◌, ℕ, zero, suc, ◌+◌, ◌<◌, ◌≤◌, false, Option, Some, None, List, [], ◌∷◌, ◌++◌, length, take, replicate, refl, ap, sym, ◌∙◌, subst, arith, append-nil, length-take-le}
+use Rattle.std.proofs.Common.{◌≡◌, ℕ, zero, suc, ◌≤◌, false, Option, None, List, [], ◌++◌, length, replicate, refl, ap, sym, ◌∙◌, arith, append-nil, length-take-le}
 use Rattle.std.proofs.lemmas.Option.{same_Some}
 use Rattle.std.proofs.lemmas.List.{append_cancel_left}
 use Rattle.pw_value.specs.declared.value.Value.{Value}
 use Rattle.pw_types.specs.Labels.{labels_in}
 use Rattle.pw_flow.specs.declared.flow.Block.{Block}
-use Rattle.pw_flow.specs.declared.flow.Op.{Op}
 use Rattle.pw_lower.specs.declared.code.Code.{Code}
 use Rattle.pw_lower.specs.declared.place.Ways.{Ways}
-use Rattle.pw_lower.specs.Places.{places_of, addressed_in_statement}
+use Rattle.pw_lower.specs.Places.{addressed_in_statement}
 use Rattle.pw_lower.specs.Modules.{start_code, entered}
-use Rattle.pw_cmean.specs.Acts.{State, Act, Gives, give, stop, wrong, go_on, ◌>>=◌, ◌>>◌}
+use Rattle.pw_cmean.specs.Acts.{State, Act, give, stop, wrong, go_on, ◌>>=◌}
 use Rattle.pw_cmean.specs.Evaluation.{Env, site}
 use Rattle.pw_cmean.specs.Execution.{Front, Flow, Normal, Breaks, Continues, Returns, Goes, meaning}
 use Rattle.pw_cmean.specs.SourceRun.{calls, set_parameters, result_of}
@@ -21,7 +20,7 @@ use Rattle.pw_law_refine.specs.Activations.{Activation, IsActivation, Numbers, n
 use Rattle.pw_law_refine.specs.Matching.{Related, Later}
 use Rattle.pw_law_refine.specs.Containing.{ContainsCode, IsAt, IsBehind}
 use Rattle.pw_law_refine.specs.Meeting.{Meets}
-use Rattle.pw_law_refine.specs.Statements.{IsSet, IsReturning, GoesOut, HasLeft, StatementsKeep, code_behind}
+use Rattle.pw_law_refine.specs.Statements.{IsSet, IsReturning, GoesOut, HasLeft, StatementsKeep}
 use Rattle.pw_law_refine.specs.StatementParts.{HasInitialised, HaveBegun}
 use Rattle.pw_law_refine.specs.Calls.{FitShape, FirstStand, HasRun, none_in_scope, runs_body, FunctionsKeep}
 use Rattle.pw_law_refine_code.specs.Functions.{code_of_body, last_block}

@@ -1,11 +1,11 @@
 -- The arguments become the parameters: those that have slots are stored there, the others stand in their temporaries already.
-use Rattle.std.proofs.Common.{◌≡◌, ◌≢◌, ℕ, zero, suc, ◌+◌, ◌<◌, ◌≤◌, Option, Some, None, option_map, unwrap_or, List, [], ◌∷◌, ◌++◌, length, slice_get, Contains, refl, ap, sym, ◌∙◌, subst, arith, append_assoc, append-nil}
+use Rattle.std.proofs.Common.{◌≡◌, ℕ, zero, suc, ◌+◌, ◌<◌, ◌≤◌, Option, Some, option_map, unwrap_or, List, [], ◌∷◌, ◌++◌, length, slice_get, refl, ap, sym, ◌∙◌, subst, arith, append_assoc, append-nil}
 use Rattle.std.proofs.lemmas.Option.{slice_get_within, same_Some}
 use Rattle.std.proofs.lemmas.List.{get_or_past}
 use Rattle.pw_value.specs.declared.value.Value.{Value}
 use Rattle.pw_value.specs.declared.value.Value.TheVariants as V
 use Rattle.pw_value.specs.declared.value.Pointer.TheVariants as P
-use Rattle.pw_value.specs.Objects.{Object, no_object, object_at}
+use Rattle.pw_value.specs.Objects.{Object, no_object}
 use Rattle.pw_types.specs.TypeTrees.{CType, Void, Int, Pointer, Array, Function, Record, RecordValue, type_of}
 use Rattle.pw_types.specs.TypedTrees.{LocalValue}
 use Rattle.pw_types.specs.WellTyped.{IsScalar}
@@ -20,16 +20,16 @@ use Rattle.pw_lower.specs.Operators.{kind_of}
 use Rattle.pw_lower.specs.Expressions.{scalar_kind}
 use Rattle.pw_lower.specs.Places.{places_of}
 use Rattle.pw_lower.specs.Modules.{parameters_stored}
-use Rattle.pw_cmean.specs.Acts.{State, Site, Outcome, Gives, give, need, go_on, ◌>>=◌, ◌>>◌}
-use Rattle.pw_cmean.specs.Access.{Purpose, Initialising, store, put}
+use Rattle.pw_cmean.specs.Acts.{State, Site, Outcome, Gives, give, need, go_on, ◌>>=◌}
+use Rattle.pw_cmean.specs.Access.{Initialising, store, put}
 use Rattle.pw_cmean.specs.Evaluation.{local_place}
 use Rattle.pw_cmean.specs.Execution.{set_local}
 use Rattle.pw_cmean.specs.SourceRun.{set_parameters}
 use Rattle.pw_run_languages.specs.Commands.{command}
 use Rattle.pw_run_languages.specs.FlowRun.{Machine, On, value_in}
-use Rattle.pw_law_refine.specs.Standing.{Spot, In, spot_of, Stands}
-use Rattle.pw_law_refine.specs.Activations.{Activation, IsActivation, Numbers, number_of, graphs, graph_of, env_of, place_in, local_temps}
-use Rattle.pw_law_refine.specs.Matching.{StandsAt, Related, Lasts, Later}
+use Rattle.pw_law_refine.specs.Standing.{Spot, Stands}
+use Rattle.pw_law_refine.specs.Activations.{Activation, Numbers, number_of, graph_of, env_of, place_in, local_temps}
+use Rattle.pw_law_refine.specs.Matching.{StandsAt, Related, Later}
 use Rattle.pw_law_refine.specs.Containing.{ContainsCode, IsBehind}
 use Rattle.pw_law_refine.specs.Meeting.{Meets}
 use Rattle.pw_law_refine.specs.Expressions.{IsReady, HasValue}
