@@ -1,0 +1,5 @@
+mod Laws
+mod Simulation
+mod Fitting
+mod Parameters
+mod Functions
