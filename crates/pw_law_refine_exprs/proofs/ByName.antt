@@ -1,5 +1,5 @@
 -- Calls of functions by their names (C90 6.3.2.2).
-use Rattle.std.proofs.Common.{◌≡◌, ◌≢◌, ℕ, inl, inr, true, false, Option, Some, None, List, [], ◌∷◌, Contains, map, refl, ap, sym, ◌∙◌, subst, arith}
+use Rattle.std.proofs.Common.{◌≡◌, ℕ, inl, inr, true, false, Option, Some, None, List, [], ◌∷◌, Contains, map, refl, ap, subst, arith}
 use Rattle.pw_value.specs.declared.value.Value.{Value}
 use Rattle.pw_value.specs.Shapes.{Agree}
 use Rattle.pw_types.specs.TypeTrees.{CType, Function, QType, QTypes, Qualified, type_of}
@@ -20,7 +20,7 @@ use Rattle.pw_cmean.specs.Typed.{IsResultOf}
 use Rattle.pw_run_languages.specs.Commands.{command}
 use Rattle.pw_run_languages.specs.FlowRun.{Machine, value_in}
 use Rattle.pw_law_refine.specs.Standing.{Spot}
-use Rattle.pw_law_refine.specs.Activations.{Activation, IsActivation, Numbers, graph_of, home_of, env_of, local_temps}
+use Rattle.pw_law_refine.specs.Activations.{Activation, IsActivation, Numbers, graph_of, home_of, env_of}
 use Rattle.pw_law_refine.specs.Containing.{ContainsCode}
 use Rattle.pw_law_refine.specs.Meeting.{Meets}
 use Rattle.pw_law_refine.specs.Expressions.{assigned_in_all, IsReady, HasArguments, HasValue, HasResult, ExpressionKeeps}

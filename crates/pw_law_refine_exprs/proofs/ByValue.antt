@@ -1,5 +1,5 @@
 -- Calls of functions through pointers (C90 6.3.2.2).
-use Rattle.std.proofs.Common.{◌≡◌, ◌≢◌, ℕ, ◌≤◌, ◌<◌, inl, inr, Bool, true, false, not, if◌then◌else◌, Option, Some, None, is_none, option_map, unwrap_or, List, [], ◌∷◌, ◌++◌, Contains, map, refl, ap, sym, ◌∙◌, subst, arith}
+use Rattle.std.proofs.Common.{◌≡◌, ℕ, inl, inr, Bool, true, false, not, if◌then◌else◌, Option, Some, None, is_none, option_map, unwrap_or, List, [], ◌∷◌, ◌++◌, Contains, map, refl, ap, sym, ◌∙◌, subst, arith}
 use Rattle.std.specs.Option.{option_map_or}
 use Rattle.std.specs.Str.{bytes_eq}
 use Rattle.std.proofs.lemmas.Bool.{not-false}
@@ -23,7 +23,7 @@ use Rattle.pw_cmean.specs.declared.undefined.Undef.TheVariants as U
 use Rattle.pw_cmean.specs.Undefined.{◌when◌}
 use Rattle.pw_cmean.specs.Worlds as source
 use Rattle.pw_cmean.specs.Worlds.{World, Callable, LibraryFunction, ExitRun, GetChar, PutChar, library_callable}
-use Rattle.pw_cmean.specs.Acts.{State, Site, give, stop, wrong, need, judge, ◌>>=◌, go_on}
+use Rattle.pw_cmean.specs.Acts.{State, give, stop, wrong, need, ◌>>=◌, go_on}
 use Rattle.pw_cmean.specs.Evaluation as meaning
 use Rattle.pw_cmean.specs.Evaluation.{site, used, callee_of, pointed, call_value, answer_of, values_of}
 use Rattle.pw_cmean.specs.SourceRun.{calls}
@@ -31,14 +31,13 @@ use Rattle.pw_cmean.specs.Typed.{IsResultOf}
 use Rattle.pw_run_languages.specs.Programs as flows
 use Rattle.pw_run_languages.specs.Programs.{Program, Library, library_at, library_shape}
 use Rattle.pw_run_languages.specs.Commands.{Command, Enter, Fail, command, enter_as, enter_at, enter_value}
-use Rattle.pw_run_languages.specs.FlowRun as flow
 use Rattle.pw_run_languages.specs.FlowRun.{Machine, value_in, obeys}
 use Rattle.pw_law_refine.specs.Lowerable.{IsLowerableWorld}
 use Rattle.pw_law_refine.specs.Standing.{Spot, Stands}
 use Rattle.pw_law_refine.specs.Activations.{Activation, IsActivation, Numbers, graphs, graph_of, home_of, env_of, HaveSlots}
 use Rattle.pw_law_refine.specs.Containing.{ContainsCode}
 use Rattle.pw_law_refine.specs.Meeting.{Meets}
-use Rattle.pw_law_refine.specs.Expressions.{assigned_in, assigned_in_all, AreTyped, IsReady, IsDone, HasArguments, HasValue, HasResult, ExpressionKeeps}
+use Rattle.pw_law_refine.specs.Expressions.{assigned_in, assigned_in_all, AreTyped, IsReady, HasArguments, HasValue, HasResult, ExpressionKeeps}
 use Rattle.pw_law_refine.specs.Calls.{EachStands, FitLetters, FitShape, CallsKeep}
 use Rattle.pw_law_refine_start.specs.Named.{flow_library, IsFoundAs}
 use Rattle.pw_law_refine_forms.specs.Calling.{EachKeeps}
@@ -50,7 +49,7 @@ use Rattle.pw_law_refine_forms.proofs.Truths.{scalar-not-void}
 use Rattle.pw_law_refine_forms.proofs.Arguments.{arguments-keep, arguments-contain, arguments-later, assigned-all}
 use Rattle.pw_law_refine_exprs.proofs.Laws.{NameLaws}
 use Rattle.pw_law_refine_exprs.proofs.Passing.{are-typed, arguments-fit, each-stands}
-use Rattle.pw_law_refine_exprs.proofs.Called.{void-result, before-called, Asks, call-behind}
+use Rattle.pw_law_refine_exprs.proofs.Called.{void-result, before-called, call-behind}
 
 -- ---- the shape of a call
 

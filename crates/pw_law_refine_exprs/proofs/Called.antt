@@ -1,5 +1,5 @@
 -- A call that comes next: by what it promises, its result stands in a new temporary, unless its type is void.
-use Rattle.std.proofs.Common.{◌≡◌, ◌≢◌, ℕ, ◌≤◌, Bool, true, false, true≢false, if◌then◌else◌, Option, Some, None, List, [], ◌++◌, refl, ap, sym, ◌∙◌, subst, arith, length-set}
+use Rattle.std.proofs.Common.{◌≡◌, ℕ, Bool, true, false, true≢false, if◌then◌else◌, Option, Some, None, List, [], refl, ap, sym, ◌∙◌, subst, arith}
 use Rattle.std.proofs.lemmas.List.{get_or-set_same}
 use Rattle.std.proofs.lemmas.Option.{same_Some}
 use Rattle.pw_value.specs.declared.value.Value.{Value}
@@ -8,7 +8,7 @@ use Rattle.pw_types.specs.TypeTrees.{CType, Void, Int, Pointer, Array, Function,
 use Rattle.pw_flow.specs.declared.flow.Op.{Op}
 use Rattle.pw_flow.specs.declared.flow.FlowFn.{FlowFn}
 use Rattle.pw_lower.specs.declared.code.Code.{Code}
-use Rattle.pw_lower.specs.Codes.{Lowered, lowered_as, emit, fresh, reserve_temps}
+use Rattle.pw_lower.specs.Codes.{lowered_as, emit, fresh, reserve_temps}
 use Rattle.pw_lower.specs.Expressions.{is_void, called}
 use Rattle.pw_cmean.specs.Worlds.{Callable, function_named}
 use Rattle.pw_cmean.specs.Acts.{State}

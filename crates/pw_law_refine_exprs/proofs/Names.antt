@@ -1,7 +1,6 @@
 -- Names of functions, as values, as places and behind `&`: a function has one number in both runs.
-use Rattle.std.proofs.Common.{◌≡◌, ◌≢◌, ℕ, ◌+◌, inl, inr, Option, Some, None, option_map, List, [], ◌∷◌, ◌++◌, map, get_or, Contains, refl, ap, sym, ◌∙◌, subst, arith, false}
+use Rattle.std.proofs.Common.{◌≡◌, ◌≢◌, ℕ, ◌+◌, Option, Some, None, option_map, List, [], ◌∷◌, ◌++◌, map, get_or, Contains, refl, ap, sym, ◌∙◌, subst, arith, false}
 use Rattle.std.specs.Prelude.{bytes_eq}
-use Rattle.std.specs.List.{AllByRecursion}
 use Rattle.std.proofs.lemmas.Option.{same_Some}
 use Rattle.std.proofs.lemmas.List.Elements.{Contains-append_right, Contains-get_or, All-contains, All-from_recursion}
 use Rattle.std.proofs.lemmas.List.Quantifiers.{position-Some}
@@ -10,10 +9,10 @@ use Rattle.pw_value.specs.declared.value.Value.{Value}
 use Rattle.pw_value.specs.declared.value.Value.TheVariants as V
 use Rattle.pw_value.specs.declared.value.Pointer.{Pointer}
 use Rattle.pw_value.specs.declared.value.Pointer.TheVariants as P
-use Rattle.pw_types.specs.TypeTrees.{CType, QType, type_of}
+use Rattle.pw_types.specs.TypeTrees.{QType, type_of}
 use Rattle.pw_types.specs.FullNames.{full_name}
 use Rattle.pw_types.specs.TypedTrees.{Symbol, Node, Function, Address}
-use Rattle.pw_types.specs.WellTyped.{IsTyped, HasForm, IsFunctionType}
+use Rattle.pw_types.specs.WellTyped.{IsTyped, HasForm}
 use Rattle.pw_flow.specs.declared.flow.Op.TheVariants as op
 use Rattle.pw_flow.specs.declared.flow.FlowGlobal.{FlowGlobal}
 use Rattle.pw_flow.specs.ValidFlow.{AreDistinct}
@@ -21,7 +20,7 @@ use Rattle.pw_lower.specs.declared.code.Code.{Code}
 use Rattle.pw_lower.specs.Expressions.{lower, address_of_function}
 use Rattle.pw_cmean.specs.Worlds as source
 use Rattle.pw_cmean.specs.Worlds.{Callable}
-use Rattle.pw_cmean.specs.Acts.{State, Outcome, give, stop, wrong, need, ◌>>=◌, go_on}
+use Rattle.pw_cmean.specs.Acts.{State, Outcome, give, stop, wrong, need, ◌>>=◌}
 use Rattle.pw_cmean.specs.Evaluation as meaning
 use Rattle.pw_cmean.specs.Evaluation.{site, symbol_place, answer_of, place_of}
 use Rattle.pw_run_languages.specs.Commands.{command}

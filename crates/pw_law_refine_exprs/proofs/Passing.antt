@@ -1,9 +1,9 @@
 -- Arguments as a call takes them: their values are of the types of the parameters, and stand for those in temporaries.
-use Rattle.std.proofs.Common.{◌≡◌, ◌≢◌, ℕ, Option, Some, None, List, [], ◌∷◌, map, refl, subst}
+use Rattle.std.proofs.Common.{ℕ, Option, Some, None, List, [], ◌∷◌, map, refl, subst}
 use Rattle.pw_value.specs.declared.value.Value.{Value}
 use Rattle.pw_types.specs.TypeTrees.{CType, QTypes, NoType, OneType, type_of}
 use Rattle.pw_types.specs.Shapes.{letter_of, letters_of}
-use Rattle.pw_types.specs.TypedTrees.{Expression, Expressions, NoExpression, OneExpression}
+use Rattle.pw_types.specs.TypedTrees.{Expressions, NoExpression, OneExpression}
 use Rattle.pw_types.specs.WellTyped.{AreArguments}
 use Rattle.pw_cmean.specs.Acts.{State, Site, Act, Outcome, Gives, Ends, give, stop, undefined, ◌>>=◌, go_on}
 use Rattle.pw_cmean.specs.Evaluation.{site, used, answer_of, values_of}

@@ -1,5 +1,5 @@
 -- Behind a call the states of the caller are related again, and of its temporaries the result's alone has changed.
-use Rattle.std.proofs.Common.{◌≡◌, ◌≢◌, ℕ, ◌+◌, ◌<◌, ◌≤◌, inl, inr, Bool, true, false, true≢false, Option, Some, None, List, [], ◌++◌, length, slice_get, refl, ap, sym, ◌∙◌, subst, arith, length-set}
+use Rattle.std.proofs.Common.{◌≡◌, ℕ, ◌+◌, ◌<◌, ◌≤◌, inl, inr, true, true≢false, Option, Some, None, List, [], ◌++◌, length, slice_get, refl, ap, sym, ◌∙◌, subst, arith, length-set}
 use Rattle.std.proofs.lemmas.Bool.{cases_lt}
 use Rattle.std.proofs.lemmas.List.{get_or_past, get_or_append_left, get_or-set_other}
 use Rattle.pw_value.specs.declared.value.Value.{Value}
@@ -15,11 +15,11 @@ use Rattle.pw_lower.specs.Codes.{emit}
 use Rattle.pw_cmean.specs.Acts.{State}
 use Rattle.pw_cmean.specs.Access as source
 use Rattle.pw_run_languages.specs.FlowRun.{Frame, Machine, value_in}
-use Rattle.pw_law_refine.specs.Standing.{Spot, Nowhere, In, spot_of, Stands}
+use Rattle.pw_law_refine.specs.Standing.{Spot, Nowhere, spot_of, Stands}
 use Rattle.pw_law_refine.specs.Activations.{Activation, Numbers, graph_of, place_in, local_temps}
 use Rattle.pw_law_refine.specs.Matching.{StandsAt, Related, Later}
 use Rattle.pw_law_refine.specs.Containing.{IsBehind}
-use Rattle.pw_law_refine.specs.Expressions.{IsReady, IsDone}
+use Rattle.pw_law_refine.specs.Expressions.{IsDone}
 use Rattle.pw_law_refine.specs.Calls.{with_result, HasReturned}
 use Rattle.pw_law_refine_steps.specs.Stretches.{Next}
 use Rattle.pw_law_refine_forms.proofs.Laws.{Laws}
