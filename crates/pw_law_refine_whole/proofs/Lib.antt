@@ -3,3 +3,4 @@ mod Simulation
 mod Fitting
 mod Parameters
 mod Functions
+mod Parts
