@@ -2,12 +2,10 @@
 #![tactic(auto)]
 
 ghost use Rattle.std.specs.Prelude.{ℕ};
-ghost use Rattle.pw_law_layers.specs.Lowering.{LoweringKeepsRuns};
 ghost use Rattle.pw_law_refine.specs.Statements.{StatementsKeep};
 ghost use Rattle.pw_law_refine.specs.Calls.{FunctionsKeep};
 ghost use Rattle.pw_law_refine.specs.Whole.{AllPartsKeep, ProgramsKeepRuns};
 
-use pw_law_accept::lowering_rests_on_programs;
 use pw_law_refine::graphs_contain_the_parts;
 use pw_law_refine_calls::calls_keep;
 use pw_law_refine_code::{functions_end, parts_are_set, slots_stand};
@@ -51,13 +49,4 @@ pub fn programs_keep_runs()
 {
     all_parts_keep();
     parts_make_programs();
-}
-
-/// The flow graphs of each accepted program of checked texts do what the program means, with any frames that the library does
-/// not need, any stack that may be asked for, and any input.
-pub fn lowering_keeps_runs()
-    ensures { LoweringKeepsRuns }
-{
-    programs_keep_runs();
-    lowering_rests_on_programs();
 }
