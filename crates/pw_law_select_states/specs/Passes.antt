@@ -14,7 +14,8 @@ use Rattle.pw_run_languages.specs.Programs.{Program}
 use Rattle.pw_run_languages.specs.Addresses.{Addresses}
 use Rattle.pw_run_languages.specs.Acts.{Core, register}
 use Rattle.pw_run_languages.specs.Standing.{EventInWords}
-use Rattle.pw_run_languages.specs.LineRun.{LineProgram, Frame, Machine, On, steps}
+use Rattle.pw_run_languages.specs.LineRun.{LineProgram, Frame, Machine, On}
+use Rattle.pw_run_languages.specs.LineRun as run
 use Rattle.pw_run_languages.specs.Links.{IsFunctionCall}
 use Rattle.pw_run_languages.specs.PlacedRun as placed
 use Rattle.pw_law_select_states.specs.Laid.{Lives, size_of}
@@ -42,14 +43,14 @@ further rest core more log m = record m {
 pub record Passes (p : LineProgram) (w : Addresses) (scratch : ℕ → (ℕ → ℕ) → ℕ → ℕ) (m : Machine) (rest : List Item) (core : Core) (log : List (Event ℕ ℕ)) : Type 0 where
   pub count : ℕ
   pub more : ℕ
-  pub steps : steps p w scratch count (On m) ≡ On (further rest core more log m)
-  pub amid : (k : ℕ) (n : Machine) → 0 < k → k ≤ count → steps p w scratch k (On m) ≡ On n → IsAmid n.frame
+  pub steps : run.steps p w scratch count (On m) ≡ On (further rest core more log m)
+  pub amid : (k : ℕ) (n : Machine) → 0 < k → k ≤ count → run.steps p w scratch k (On m) ≡ On n → IsAmid n.frame
 
 -- ---- what stays
 
 -- a byte that is of no live object and of no temporary of the function
-pub record IsElsewhere (site : ℕ → ℕ) (objects : List Object) (f : Located) (top a : ℕ) : Type 0 where
-  pub objects : (o : ℕ) → Lives objects o → (a < site o) ⊎ (site o + size_of objects o ≤ a)
+pub record IsElsewhere (site : ℕ → ℕ) (all : List Object) (f : Located) (top a : ℕ) : Type 0 where
+  pub objects : (o : ℕ) → Lives all o → (a < site o) ⊎ (site o + size_of all o ≤ a)
   pub temps : (offset : ℤ) → Contains f.places (Slot offset) → (a < offset_by top offset) ⊎ (offset_by top offset + 4 ≤ a)
 
 -- a register that a callee keeps, and that no temporary and no web of the function has

@@ -13,12 +13,12 @@ use Rattle.pw_law_select_memory.specs.Numbers.{HoldsBytes}
 use Rattle.pw_law_select_states.specs.Laid.{address, AreLaid, BytesAreThere}
 use Rattle.pw_law_select_states.specs.Frames.{HasFrame, FrameHolds}
 
--- registers hold words, and memory bytes
+-- registers of webs and temporaries hold words, and memory bytes
 pub record IsOfWords (c : Core) : Type 0 where
-  pub registers : (r : ℕ) → c.registers r < 2 ^ 32
+  pub registers : (r : ℕ) → IsTempRegister r → register c r < 2 ^ 32
   pub memory : HoldsBytes c.memory
 
--- of webs and temporaries
+-- what those registers hold stands there
 abbrev pub RegistersHold : (Pointer → ℕ) → (ℕ → Value) → Core → Type 0
 RegistersHold address registers c = (r : ℕ) → IsTempRegister r → ValueStands address (registers r) (register c r)
 
