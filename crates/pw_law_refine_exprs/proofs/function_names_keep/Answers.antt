@@ -1,7 +1,7 @@
 use Rattle.pw_law_refine_forms.proofs.Laws.{Laws}
-use Rattle.pw_law_refine_forms.proofs.Numbers.{NumberLaws}
-use Rattle.pw_law_refine_forms.proofs.Plain.{FormLaws, plain, plain-place, plain-address}
-use Rattle.pw_law_refine_forms.proofs.plain_expressions_keep.Goals as goal
+use Rattle.pw_law_refine_exprs.proofs.Laws.{NameLaws}
+use Rattle.pw_law_refine_exprs.proofs.Names.{name-keeps, name-address, address-of-name}
+use Rattle.pw_law_refine_exprs.proofs.function_names_keep.Goals as goal
 
 all : goal.After-ranges_of_bytes → Laws
 all c = record {
@@ -28,25 +28,20 @@ all c = record {
   places = c.values_have_types.ensures.places;
 }
 
-nums : goal.After-ranges_of_bytes → NumberLaws
-nums c = record { binary = c.operators_agree.ensures.binary; conversions = c.conversions_agree.ensures }
-
-forms : goal.After-ranges_of_bytes → FormLaws
-forms c = record {
-  numbers = c.forms_keep.ensures.numbers;
-  commas = c.forms_keep.ensures.commas;
-  plus = c.forms_keep.ensures.plus;
-  minus = c.forms_keep.ensures.minus;
-  complement = c.forms_keep.ensures.complement;
-  casts = c.forms_keep.ensures.casts;
-  binary = c.forms_keep.ensures.binary;
+names : goal.After-ranges_of_bytes → NameLaws
+names c = record {
+  number = c.names_have_one_number.ensures.functions;
+  object = c.names_have_one_number.ensures.objects;
+  found = c.functions_are_found.ensures.names;
+  numbered = c.functions_are_found.ensures.numbers;
+  own = c.functions_are_found.ensures.own;
 }
 
 pub returns-clause-values : goal.returns-clause-values
-returns-clause-values c = plain (all c) (nums c) (forms c)
+returns-clause-values c = name-keeps (all c) (names c)
 
 pub returns-clause-places : goal.returns-clause-places
-returns-clause-places c = plain-place (all c) (nums c) (forms c)
+returns-clause-places c = name-address (all c) (names c)
 
 pub returns-clause-addresses : goal.returns-clause-addresses
-returns-clause-addresses c = plain-address (all c) (nums c) (forms c)
+returns-clause-addresses c = address-of-name (all c) (names c)
