@@ -14,3 +14,8 @@ mod WordRows
 mod SourceRows
 mod AcceptedRows
 mod BuiltRows
+mod WrittenLists
+mod RunEnds
+mod PremiseRows
+mod WrongRows
+mod LoweringRows
