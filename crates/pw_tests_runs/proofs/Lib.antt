@@ -18,4 +18,3 @@ mod WrittenLists
 mod RunEnds
 mod PremiseRows
 mod WrongRows
-mod LoweringRows
