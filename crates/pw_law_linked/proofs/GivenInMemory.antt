@@ -1,5 +1,5 @@
 -- What the law of linking is given is in memory as it should be.
-use Rattle.std.specs.Prelude.{ℕ, ◌≡◌, ◌+◌, ◌^◌, ◌<◌, ◌≤◌, List}
+use Rattle.std.specs.Prelude.{ℕ, ◌+◌, ◌^◌, ◌<◌, ◌≤◌, List}
 use Rattle.std.specs.List.{AllByRecursion}
 use Rattle.std.proofs.Common.{arith, subst, sym, ◌∙◌}
 use Rattle.pw_value.specs.Limits.{memory_size}
@@ -14,7 +14,7 @@ use Rattle.pw_link.specs.Linking.{linked}
 use Rattle.pw_law_link.specs.Parts.{AreLawfulParts}
 use Rattle.pw_run_languages.specs.Programs.{Program, AreBytes}
 use Rattle.pw_law_linked.specs.Given.{IsGiven}
-use Rattle.pw_law_linked.specs.InMemory.{HasKnownFixes, IsInMemory}
+use Rattle.pw_law_linked.specs.InMemory.{IsInMemory}
 use Rattle.pw_law_linked.proofs.Text.{OrderStays}
 use Rattle.pw_law_linked.proofs.Spans.{names_served, GivesLawfulAddresses, addresses_lawful}
 use Rattle.pw_law_linked.proofs.Globals.{globals_are, globals_addressed}

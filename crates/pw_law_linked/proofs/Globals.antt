@@ -21,7 +21,7 @@ use Rattle.pw_law_linked.proofs.Entries.{names_in, IsEntry, entries_found}
 use Rattle.pw_law_linked.proofs.Pieces.{names_of, site_names}
 use Rattle.pw_law_linked.proofs.Text.{OrderStays, text_is}
 use Rattle.pw_law_linked.proofs.Addresses.{sites_of, address_is}
-use Rattle.pw_law_linked.proofs.Own.{left_distinct, right_distinct, right_all, both_all, Differ, joined_distinct, names_are, text_distinct}
+use Rattle.pw_law_linked.proofs.Own.{right_distinct, right_all, both_all, Differ, joined_distinct, names_are, text_distinct}
 
 abbrev pub global_names : List FlowGlobal → List (List ℕ)
 global_names gs = map (λ g. g.name) gs

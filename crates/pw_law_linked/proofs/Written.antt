@@ -84,10 +84,10 @@ bytes_agree low a bytes f memory fits agree place le = elim (cases_lt place a) [
   | inl before ↦ before_bytes a bytes f place before ∙ (agree place le ∙ sym (before_written memory a bytes place (omega (arith, fits)) before))
   | inr above ↦ elim (cases_lt place (a + length bytes)) [
     | inl within ↦
-      let k = place - a in
-      let at : place ≡ a + k = omega (arith, above) in
-      let lt : k < length bytes = omega (arith, above, within) in
-      among_bytes a bytes f k place at lt ∙ sym (among_written memory a bytes k place (omega (arith, fits)) at lt)
+        let k = place - a in
+        let at : place ≡ a + k = omega (arith, above) in
+        let lt : k < length bytes = omega (arith, above, within) in
+        among_bytes a bytes f k place at lt ∙ sym (among_written memory a bytes k place (omega (arith, fits)) at lt)
     | inr behind ↦ behind_bytes a bytes f place behind ∙ (agree place le ∙ sym (behind_written memory a bytes place (omega (arith, fits)) behind))
   ]
 ]
