@@ -60,6 +60,6 @@ pub record IsWholeWith (p : Program) (parts : Parts) (colours stack : ℕ) : Typ
   pub analysed : LoweringKeepsRuns → IsAnalysed p (flows_in p parts stack) summaries colours parts.database (functions_under p parts stack) parts.objects
 
 -- What holds of a built program and of its image's traffic, on an input, over some summaries whose database is that of the build.
-pub record HoldWith (p : Program) (parts : Parts) (colours stack : ℕ) (input : List ℕ) : Type 0 where
+pub record HoldsWith (p : Program) (parts : Parts) (colours stack : ℕ) (input : List ℕ) : Type 0 where
   pub summaries : List Summary
   pub holds : HoldsOver p (flows_in p parts stack) summaries colours parts.database (functions_under p parts stack) parts.objects input

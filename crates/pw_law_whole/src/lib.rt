@@ -14,7 +14,7 @@ ghost use Rattle.pw_run_languages.specs.Programs.{AreBytes};
 ghost use Rattle.pw_run_languages.specs.SelectionLaws.{SelectionKeepsRuns};
 ghost use Rattle.pw_law_layers.specs.Lowering.{LoweringKeepsRuns};
 ghost use Rattle.pw_law_layers.specs.Whole.{FramesFit, image_of};
-ghost use Rattle.pw_law_whole.specs.Programs.{HavePlainNames, HoldWith, IsProgramOf, IsWholeWith};
+ghost use Rattle.pw_law_whole.specs.Programs.{HavePlainNames, HoldsWith, IsProgramOf, IsWholeWith};
 
 use pw_check_rules::checks_is_exact;
 use pw_colour::laws::databases_are_lawful;
@@ -75,7 +75,7 @@ pub fn frames_of_full_builds_fit()
 /// the program is defined, each return keeps the registers, and the law of traffic holds.
 pub fn full_builds_hold()
     ensures { LoweringKeepsRuns → SelectionKeepsRuns → (texts : Texts) (opts : Opts) (parts : Parts) (p : Program) (input : List ℕ) → FullBuild texts opts (Ok parts) → IsProgramOf texts p →
-        HavePlainNames texts → opts.colours ≤ colour_limit → stack_least ≤ opts.stack → opts.stack ≤ stack_limit → AreBytes input → HoldWith p parts opts.colours opts.stack input }
+        HavePlainNames texts → opts.colours ≤ colour_limit → stack_least ≤ opts.stack → opts.stack ≤ stack_limit → AreBytes input → HoldsWith p parts opts.colours opts.stack input }
 {
     full_builds_are_whole();
     layers_give_all();
