@@ -115,4 +115,3 @@ starts_at_by q input f (Some b) = enters_webs q (entered_webs f) (begun_at q inp
 abbrev pub starts_by : PlacedProgram → List ℕ → Option Located → Step
 starts_by q input (Some f) = starts_at_by q input f (first_block f)
 starts_by q input None = Astray
-
