@@ -72,7 +72,7 @@ fn built_of<S: Store, L: Ledger>(
     no_refusal_is_want_of_memory();
     let flows = first_phases(alloc, modules)?;
     let kept = read_kept(alloc, store, modules)?;
-    match complete(alloc, &flows, kept, opts, steps) {
+    match complete(alloc, flows, kept, opts, steps) {
         Ok(built) => Ok(built),
         Err(LinkFault::NoMemory) => Err(Unbuilt {
             fault: BuildFault::NoMemory,

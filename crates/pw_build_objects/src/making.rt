@@ -63,25 +63,25 @@ fn linked(alloc: Global, database: Database, made: Objects, stack: u32) -> Resul
 /// are refused then.
 pub fn complete<L: Ledger>(
     alloc: Global,
-    flows: &[FlowModule],
+    flows: Vec<FlowModule>,
     kept: VecDeque<Option<Object>>,
     opts: &Opts,
     steps: &mut Steps<L>,
 ) -> Result<Built, LinkFault>
-    requires lawful { AllByRecursion IsValid flows.now }
+    requires lawful { AllByRecursion IsValid flows.items }
     requires kept { AllByRecursion (λ old. IfSome old IsObject) kept.items }
     requires few { opts.now.colours ≤ colour_limit }
-    ensures built { IfOk result (λ built. Completes flows.now kept.items opts.now (Ok (parts_of built))) }
-    ensures refused { IfErr result (λ fault. (fault ≡ LinkFault.NoMemory) ⊎ Completes flows.now kept.items opts.now (Err fault)) }
+    ensures built { IfOk result (λ built. Completes flows.items kept.items opts.now (Ok (parts_of built))) }
+    ensures refused { IfErr result (λ fault. (fault ≡ LinkFault.NoMemory) ⊎ Completes flows.items kept.items opts.now (Err fault)) }
     ensures image { IfOk result (λ built. built.image ≡ linked built.objects.items opts.now.stack) }
     ensures lawful_database { IfOk result (λ built. IsDatabase built.database.functions) }
     ensures lawful_objects { IfOk result (λ built. AllByRecursion IsObject built.objects.items) }
     ensures lawful_image { IfOk result (λ built. IsImage built.image) }
     ensures counted { IfOk result (λ built. steps.new ≡ steps.old + count_by (λ fresh. fresh) built.fresh.items) }
-    ensures counted_fault { IfErr result (λ fault. (fault ≡ LinkFault.NoMemory) ⊎ CountsAnew flows.now kept.items opts.now.colours steps.old steps.new) }
-    ensures bound { CountsUpTo (length flows.now) steps.old steps.new }
+    ensures counted_fault { IfErr result (λ fault. (fault ≡ LinkFault.NoMemory) ⊎ CountsAnew flows.items kept.items opts.now.colours steps.old steps.new) }
+    ensures bound { CountsUpTo (length flows.items) steps.old steps.new }
 {
-    let database = database_of(alloc, flows, opts.colours)?;
+    let database = database_of(alloc, &flows, opts.colours)?;
     let made = all_objects(alloc, flows, kept, &database, steps)?;
     linked(alloc, database, made, opts.stack)
 }

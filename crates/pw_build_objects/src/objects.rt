@@ -39,20 +39,20 @@ fn next_kept(kept: &mut VecDeque<Option<Object>>) -> Option<Object>
 /// The object of a module under its directives in a database.
 fn object_under<L: Ledger>(
     alloc: Global,
-    flow: &FlowModule,
+    flow: FlowModule,
     db: &Database,
     old: Option<Object>,
     steps: &mut Steps<L>,
 ) -> Result<Remade, AllocError>
-    requires lawful { IsValid flow.now }
+    requires lawful { IsValid flow }
     requires database { IsDatabase db.now.functions }
     requires kept { IfSome old IsObject }
-    ensures object { IfOk result (λ made. IsModuleFrom db.now.functions flow.now old made.object made.fresh) }
+    ensures object { IfOk result (λ made. IsModuleFrom db.now.functions flow old made.object made.fresh) }
     ensures lawful { IfOk result (λ made. IsObject made.object) }
     ensures counted { IfOk result (λ made. steps.new ≡ steps.old + (if made.fresh then 1 else 0)) }
     ensures uncounted { OnErr result (steps.new ≡ steps.old) }
 {
-    let directives = directives_for(alloc, flow, db)?;
+    let directives = directives_for(alloc, &flow, db)?;
     object_from(alloc, flow, &directives, old, steps)
 }
 
@@ -68,21 +68,21 @@ fn add_object(objects: &mut Objects, made: Remade) -> Result<(), AllocError>
 }
 
 /// The objects of modules under the directives of their database. What was kept of a module stands at its place in
-/// `kept`, which may end early.
+/// `kept`, which may end early. Each flow graph goes when its object is made.
 pub fn all_objects<L: Ledger>(
     alloc: Global,
-    flows: &[FlowModule],
+    flows: Vec<FlowModule>,
     kept: VecDeque<Option<Object>>,
     db: &Database,
     steps: &mut Steps<L>,
 ) -> Result<Objects, AllocError>
-    requires lawful { AllByRecursion IsValid flows.now }
+    requires lawful { AllByRecursion IsValid flows.items }
     requires database { IsDatabase db.now.functions }
     requires kept { AllByRecursion (λ old. IfSome old IsObject) kept.items }
-    ensures objects { IfOk result (λ made. AreObjectsFrom db.now.functions flows.now kept.items made.objects.items made.fresh.items) }
+    ensures objects { IfOk result (λ made. AreObjectsFrom db.now.functions flows.items kept.items made.objects.items made.fresh.items) }
     ensures lawful { IfOk result (λ made. AllByRecursion IsObject made.objects.items) }
     ensures counted { IfOk result (λ made. steps.new ≡ steps.old + count_by (λ fresh. fresh) made.fresh.items) }
-    ensures bound { CountsUpTo (length flows.now) steps.old steps.new }
+    ensures bound { CountsUpTo (length flows.items) steps.old steps.new }
 {
     let mut made = Objects {
         objects: Vec::new(alloc),

@@ -8,9 +8,9 @@ use Rattle.pw_build_objects.proofs.objects.all_objects.Given as goal
 -- what was made of the modules so far, with what is to be made of those that are left, is what is to be made of all
 abbrev pub invariant-loop-flow : goal.invariant-loop-flow
 invariant-loop-flow g l = record {
-  so_far : MadeSoFar l.db.functions l.flows l.fn.kept.items (drop l.flow-index l.flows) l.kept.items l.made.objects.items l.made.fresh.items;
+  so_far : MadeSoFar l.db.functions l.fn.flows.items l.fn.kept.items (drop (length l.yielded) l.fn.flows.items) l.kept.items l.made.objects.items l.made.fresh.items;
   kept_lawful : AllByRecursion (λ old. IfSome old IsObject) l.kept.items;
   lawful : AllByRecursion IsObject l.made.objects.items;
   counted : l.steps ≡ l.fn.steps + count_by (λ fresh. fresh) l.made.fresh.items;
-  marks : length l.made.fresh.items ≡ l.flow-index;
+  marks : length l.made.fresh.items ≡ length l.yielded;
 }
