@@ -22,6 +22,22 @@ fn check_objects(alloc: Global, objects: &[Object]) -> Result<(), LinkFault>
     check_program(alloc, &shown)
 }
 
+/// The image of the program that modules' objects make, which are known to make one; only room may be wanting. Its order is
+/// that of `link`.
+///
+/// # Errors
+///
+/// `TextTooLarge` with the bytes of the text, or else `MemoryTooLarge` with the end of the stack. `NoMemory` may come at any
+/// point.
+pub fn link_checked(alloc: Global, objects: &[Object], stack: u32) -> Result<Image, LinkFault>
+    requires { Links (map interface objects.now) }
+    ensures image { IfOk result (λ image. image ≡ linked objects.now stack) }
+    ensures accepted { OnOk result (AreLinked objects.now stack) }
+    ensures refused { IfErr result (λ fault. (fault ≡ LinkFault.NoMemory) ⊎ IsRefusal objects.now stack fault) }
+{
+    laid_out(alloc, objects, stack)
+}
+
 /// The image of the program that modules' objects make, with so many bytes of stack.
 ///
 /// The text has the functions of the modules in byte order of the modules' names, each module's in its own
@@ -40,5 +56,5 @@ pub fn link(alloc: Global, objects: &[Object], stack: u32) -> Result<Image, Link
     ensures refused { IfErr result (λ fault. (fault ≡ LinkFault.NoMemory) ⊎ IsRefusal objects.now stack fault) }
 {
     check_objects(alloc, objects)?;
-    laid_out(alloc, objects, stack)
+    link_checked(alloc, objects, stack)
 }
