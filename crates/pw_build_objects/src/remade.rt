@@ -21,7 +21,7 @@ use std::sync::ledger::Ledger;
 
 /// The object of a lawful module under the directives of its functions, with its origin; an object that is made counts as one
 /// step.
-fn made<L: Ledger>(
+fn new_object<L: Ledger>(
     alloc: Global,
     flow: FlowModule,
     directives: &[(Name, Directives)],
@@ -92,7 +92,7 @@ fn taken(origin: &Origin, old: Option<Object>) -> Option<Object>
 
 /// The object of a module, and whether it is made anew.
 #[derive(Drop)]
-pub struct Remade {
+pub struct Made {
     pub object: Object,
     pub fresh: bool,
 }
@@ -105,7 +105,7 @@ pub fn object_from<L: Ledger>(
     directives: &[(Name, Directives)],
     old: Option<Object>,
     steps: &mut Steps<L>,
-) -> Result<Remade, AllocError>
+) -> Result<Made, AllocError>
     requires lawful { IsValid flow }
     requires directives { AreDirectivesOf flow directives.now }
     requires kept { IfSome old IsObject }
@@ -118,12 +118,12 @@ pub fn object_from<L: Ledger>(
     one_list_is_stored();
     let origin = origin_of(alloc, &flow, directives)?;
     match taken(&origin, old) {
-        Some(object) => Ok(Remade {
+        Some(object) => Ok(Made {
             object,
             fresh: false,
         }),
-        None => Ok(Remade {
-            object: made(alloc, flow, directives, origin, steps)?,
+        None => Ok(Made {
+            object: new_object(alloc, flow, directives, origin, steps)?,
             fresh: true,
         }),
     }
