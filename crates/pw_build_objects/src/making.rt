@@ -59,7 +59,12 @@ fn image_of(alloc: Global, made: &[Made], stack: u32) -> Result<Image, LinkFault
 }
 
 /// Links the objects of a database.
-fn linked(alloc: Global, database: Database, made: Vec<Made>, stack: u32) -> Result<Built, LinkFault>
+fn linked(
+    alloc: Global,
+    database: Database,
+    made: Vec<Made>,
+    stack: u32,
+) -> Result<Built, LinkFault>
     requires { AllByRecursion IsObject (objects_of made.items) }
     ensures built { IfOk result (λ built. (built.database.functions ≡ database.functions) × (built.made.items ≡ made.items)) }
     ensures image { IfOk result (λ built. built.image ≡ linked (objects_of made.items) stack) }

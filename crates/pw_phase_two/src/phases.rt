@@ -50,9 +50,9 @@ fn parts_of(
 }
 
 /// The object of a module of this name with these global objects.
-fn object_with(module: Name, globals: Items<FlowGlobal>, parts: Parts, origin: Origin) -> Object
+fn object_with(name: Name, globals: Items<FlowGlobal>, parts: Parts, origin: Origin) -> Object
     ensures version { result.version ≡ object_version }
-    ensures of_module { result.module ≡ module }
+    ensures of_module { result.module ≡ name }
     ensures flow { result.flow ≡ origin.flow.items }
     ensures directives { result.directives ≡ origin.directives.items }
     ensures declared { result.declared ≡ parts.interface.declared }
@@ -63,7 +63,7 @@ fn object_with(module: Name, globals: Items<FlowGlobal>, parts: Parts, origin: O
     let Interface { declared, used } = parts.interface;
     Object {
         version: VERSION,
-        module,
+        module: name,
         flow: Items::from_vec(origin.flow),
         directives: Items::from_vec(origin.directives),
         declared,

@@ -59,11 +59,7 @@ fn add_file(
 }
 
 /// The files of the objects of modules that were made anew, in the order of the modules.
-fn fresh_files(
-    alloc: Global,
-    modules: &[Module],
-    made: &[Made],
-) -> Result<FreshFiles, AllocError>
+fn fresh_files(alloc: Global, modules: &[Module], made: &[Made]) -> Result<FreshFiles, AllocError>
     requires { AllByRecursion IsObject (objects_of made.now) }
     ensures names { IfOk result (λ files. files.names.items ≡ map (λ m. m.0) (made_anew (map (λ m. m.name) modules.now) (objects_of made.now) (marks_of made.now))) }
     ensures files { IfOk result (λ files. AreObjectFiles (made_anew (map (λ m. m.name) modules.now) (objects_of made.now) (marks_of made.now)) (map file_view files.files.items)) }
