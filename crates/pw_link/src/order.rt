@@ -40,7 +40,7 @@ pub(crate) fn in_order<'a>(
 {
     let mut order = Vec::new(alloc);
     for object in objects {
-        put(&mut order, object)?;
+        put(&mut order, *object)?;
     }
     Ok(order)
 }
