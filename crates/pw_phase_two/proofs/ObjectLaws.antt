@@ -48,7 +48,7 @@ object_lawful m ds o is directives of functions =
 
 -- ---- the object, from what was made and what is taken over
 
-pub record IsMadeOf (m : FlowModule) (ds : List (List ℕ × Directives)) (origin : Origin) (o : Object) : Type 0 where
+pub record HasParts (m : FlowModule) (ds : List (List ℕ × Directives)) (origin : Origin) (o : Object) : Type 0 where
   pub version : o.version ≡ object_version
   pub of_module : o.module ≡ m.name
   pub flow : o.flow ≡ origin.flow.items
@@ -58,7 +58,7 @@ pub record IsMadeOf (m : FlowModule) (ds : List (List ℕ × Directives)) (origi
   pub globals : o.globals ≡ m.globals
   pub functions : o.functions ≡ all_compiled m.functions ds
 
-pub made_object : (m : FlowModule) (ds : List (List ℕ × Directives)) (origin : Origin) (o : Object) → IsOriginOf m ds origin → IsMadeOf m ds origin o → IsObjectOf m ds o
+pub made_object : (m : FlowModule) (ds : List (List ℕ × Directives)) (origin : Origin) (o : Object) → IsOriginOf m ds origin → HasParts m ds origin o → IsObjectOf m ds o
 made_object m ds origin o of made = record {
   version = made.version;
   of_module = made.of_module;

@@ -12,8 +12,8 @@ pub returns : goal.returns
 returns c =
     let m = c.args.flow.now in
     let ds = c.args.directives.now in
-    let o = c.object_w.result in
-    let w = c.object_w.ensures in
+    let o = c.object_with.result in
+    let w = c.object_with.ensures in
     let parts = c.in_ok-parts.ensures in
     let is : IsObjectOf m ds o = made_object m ds c.in_ok-origin.origin o c.in_ok-origin.ensures (record {
       version = w.version;
