@@ -56,7 +56,7 @@ in-flat f (z ∷ xs) x y h k =
     (λ t. Contains-append_right (f z) (flat_map f xs) y (in-flat f xs x y t k)) h
 
 -- the function's graph is one of the program's
-graph-there : (x : Activation) → IsActivation x → Contains (functions_of (graphs x.world)) (graph_of x)
+pub graph-there : (x : Activation) → IsActivation x → Contains (functions_of (graphs x.world)) (graph_of x)
 unfolding lowered
 graph-there x active =
     in-flat (λ (m : FlowModule). m.functions) (map (λ (m : ProgramModule). lowered m.name m.tree) x.world.program.modules) (lowered x.home.name x.home.tree) (graph_of x)
@@ -65,7 +65,7 @@ graph-there x active =
     (in-map (lowered_function x.home.name x.home.tree.records) x.home.tree.functions x.function active.function))
 
 -- an operation of code that a graph contains is one of the graph's
-op-there : (g : FlowFn) (c : Code) (o : Op) → ContainsCode g (emit o c) → Contains (flat_map (λ (b : Block). b.ops) g.blocks) o
+pub op-there : (g : FlowFn) (c : Code) (o : Op) → ContainsCode g (emit o c) → Contains (flat_map (λ (b : Block). b.ops) g.blocks) o
 op-there g c o w =
     let b = w.filled.block in
     let within = slice_get_within g.blocks c.cur b w.filled.there in

@@ -74,6 +74,12 @@ IsMove Add left right = (IsPointer left × IsArithmetic right) ⊎ (IsArithmetic
 IsMove Subtract left right = (IsPointer left × IsArithmetic right) ⊎ (IsPointer left × IsPointer right)
 IsMove _ left right = ⊥
 
+-- `+` and `-` (6.3.6)
+abbrev pub IsAdditive : BinaryOperator → Type 0
+IsAdditive Add = Unit {0}
+IsAdditive Subtract = Unit {0}
+IsAdditive _ = ⊥
+
 -- ---- lvalues
 
 -- the promise of the place of one scalar lvalue

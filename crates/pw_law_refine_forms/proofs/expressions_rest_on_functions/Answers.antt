@@ -1,7 +1,7 @@
 use Rattle.pw_law_refine_forms.proofs.Laws.{Laws}
 use Rattle.pw_law_refine_forms.proofs.Numbers.{NumberLaws}
-use Rattle.pw_law_refine_forms.proofs.Plain.{FormLaws, plain, plain-place, plain-address}
-use Rattle.pw_law_refine_forms.proofs.plain_expressions_keep.Goals as goal
+use Rattle.pw_law_refine_forms.proofs.AllForms.{FormLaws, every, every-place, every-address}
+use Rattle.pw_law_refine_forms.proofs.expressions_rest_on_functions.Goals as goal
 
 all : goal.After-ranges_of_bytes → Laws
 all c = record {
@@ -43,10 +43,10 @@ forms c = record {
 }
 
 pub returns-clause-values : goal.returns-clause-values
-returns-clause-values c = plain (all c) (nums c) (forms c)
+returns-clause-values c = every (all c) (nums c) (forms c)
 
 pub returns-clause-places : goal.returns-clause-places
-returns-clause-places c = plain-place (all c) (nums c) (forms c)
+returns-clause-places c = λ bound fs x numbers spots a. every-place (all c) (nums c) (forms c) bound fs a x numbers spots
 
 pub returns-clause-addresses : goal.returns-clause-addresses
-returns-clause-addresses c = plain-address (all c) (nums c) (forms c)
+returns-clause-addresses c = λ bound fs x numbers spots a. every-address (all c) (nums c) (forms c) bound fs a x numbers spots
