@@ -110,11 +110,5 @@ pub fn program_of<S: Store, L: Ledger>(
     ensures count { FaultCount (S.faults store.old) (S.faults store.new) result }
 {
     let built = built_of(alloc, store, modules, opts, steps)?;
-    Ok(files_of(
-        alloc,
-        modules,
-        &built.database,
-        &built.made,
-        &built.image,
-    )?)
+    Ok(files_of(alloc, modules, &built.database, &built.made, &built.image)?)
 }
