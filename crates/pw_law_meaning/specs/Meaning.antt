@@ -1,17 +1,19 @@
 -- What an image has to do with the C program that its texts are.
-use Rattle.std.specs.Prelude.{ℕ, List, Result, Ok, Err}
+use Rattle.std.specs.Prelude.{ℕ, ◌<◌, List, Result, Ok, Err}
 use Rattle.pw_summary.specs.declared.summary.Summary.{Summary}
 use Rattle.pw_image.specs.declared.image.Image.{Image}
 use Rattle.pw_image.specs.Image.{Contents, IsImageFile}
+use Rattle.pw_machine.specs.Run.{run_of, start_state}
 use Rattle.pw_machine.specs.Start.{image_start}
 use Rattle.pw_store_modules.specs.Modules.{Texts}
 use Rattle.pw_build_opts.specs.declared.opts.Opts.{Opts}
 use Rattle.pw_build.specs.declared.fault.BuildFault.{BuildFault}
 use Rattle.pw_build_files.specs.Full.{BuildsImage}
 use Rattle.pw_cmean.specs.Worlds.{Program}
-use Rattle.pw_run_agreement.specs.Agreement.{Agree, IsDefined, SourceRun}
+use Rattle.pw_run_agreement.specs.Agreement.{Agree, IsDefined, IsMeaningful, SourceRun}
 use Rattle.pw_run_languages.specs.Programs.{AreBytes}
 use Rattle.pw_run_languages.specs.LinkingLaws.{frame_in}
+use Rattle.pw_law_stops.specs.Stops.{Tells}
 use Rattle.pw_law_source.specs.Source.{source_runs}
 use Rattle.pw_law_layers.specs.Whole.{FramesFit}
 use Rattle.pw_law_analysis.specs.ImageTraffic.{Traffic}
@@ -30,6 +32,9 @@ pub record Means (texts : Texts) (opts : Opts) (bytes : List ℕ) : Type 0 where
   pub file : IsImageFile bytes contents
   -- on every input the machine does what the program does, until that does what C does not define
   pub agree : (input : List ℕ) → AreBytes input → Agree (runs_of program contents.value opts.stack input) (image_start contents.value.memory) input
+  -- so a run of the machine within a budget tells what the program does, where that is defined
+  pub tells : (input : List ℕ) → AreBytes input → (budget bound : ℕ) → budget < bound → IsMeaningful (runs_of program contents.value opts.stack input bound).end →
+      Tells input (run_of budget (start_state (image_start contents.value.memory) input)) (runs_of program contents.value opts.stack input bound)
   -- no function's frame is larger than its declarations say
   pub fit : FramesFit program contents.value
   -- of the globals that have registers in all their webs, only entries of these load and store them

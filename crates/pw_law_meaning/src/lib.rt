@@ -11,6 +11,7 @@ ghost use Rattle.pw_build_files.specs.Outcomes.{AreOpts};
 ghost use Rattle.pw_run_languages.specs.SelectionLaws.{SelectionKeepsRuns};
 ghost use Rattle.pw_law_meaning.specs.Meaning.{MeansSo};
 
+use pw_law_stops::stops_are_those_of_the_source;
 use pw_law_whole::{
     frames_of_full_builds_fit, full_builds_have_a_program, full_builds_hold,
     modules_of_files_have_plain_names,
@@ -24,4 +25,5 @@ pub fn images_mean_their_texts()
     full_builds_hold();
     frames_of_full_builds_fit();
     modules_of_files_have_plain_names();
+    stops_are_those_of_the_source();
 }
