@@ -6,12 +6,12 @@ use Rattle.pw_law_meaning.specs.Meaning.{runs_of}
 use Rattle.pw_law_meaning.proofs.images_mean_their_texts.Goals as goal
 
 pub returns : goal.returns
-returns c selection files opts (Err fault) are builds = tt
-returns c selection files opts (Ok image) are (parts, (full, (names, file))) =
+returns c files opts (Err fault) are builds = tt
+returns c files opts (Ok image) are (parts, (full, (names, file))) =
     let texts = module_map files in
     let plain = c.modules_of_files_have_plain_names.ensures files in
     let program = c.full_builds_have_a_program.ensures.program texts opts parts full in
-    let holds = c.full_builds_hold.ensures selection texts opts parts program.0 full program.1 plain are.colours are.least are.most in
+    let holds = c.full_builds_hold.ensures texts opts parts program.0 full program.1 plain are.colours are.least are.most in
     record {
       program = program.0;
       of_texts = program.1;
