@@ -1,0 +1,7 @@
+pub mod NotWrong
+pub mod Operators
+pub mod Constants
+pub mod Calling
+pub mod Trees
+pub mod Runs
+pub mod Programs
