@@ -203,9 +203,8 @@ tested : (at : Site) (m : Act (Option Value)) (x : ℕ) → JustGives m (Some (V
 tested at m x h = after (m >>= used at) (truth at) (V.Num x) (not (x == 0)) (operand at m (V.Num x) h) (truth-of at x)
 
 module _ (e : Env) (cs : CallList) where
-  unfolding answer_of constant_of IsTyped HasForm
-
   pub constant-gives : (a : Expression) (m : ℕ) → IsTyped e.home.tree e.locals a → constant_of a ≡ Known m → JustGives (answer_of a cs e) (Some (V.Num m))
+  unfolding answer_of constant_of IsTyped HasForm
   constant-gives (Node t (Qualified (Int k) c v) (Number n)) m h known = subst (λ x. JustGives (give (Some (V.Num n))) (Some (V.Num x))) (known-one n m known) (gives (Some (V.Num n)))
   constant-gives (Node t (Qualified (Int k) c v) (Unary op a)) m h known =
       let p : (x : ℕ) × (constant_of a ≡ Known x) × (if_integral (type_in a) (unary_word op (kind_in (type_in a)) x) ≡ Known m) = known-then (constant_of a) _ m known in
