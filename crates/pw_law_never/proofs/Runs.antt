@@ -13,7 +13,7 @@ use Rattle.pw_types.specs.Layouts.{layout_of}
 use Rattle.pw_types.specs.Records.{IsObjectType}
 use Rattle.pw_types.specs.Shapes.{letters_of, shape_of}
 use Rattle.pw_types.specs.Labels.{labels_in, labels_among, labels_of_arms, labels_behind}
-use Rattle.pw_types.specs.TypedTrees.{Hidden, Expression, token_of, CaseValue, Initialiser, Value as ByValue, Bytes as ByBytes, Statement, Empty, Evaluate, Block, If, While, Do, For, Switch, Label, Goto, Break, Continue, Return, Arms, NoArm, Arm, Otherwise, NoElse, Else, Statements, NoStatement, OneStatement, LocalValue, FunctionValue}
+use Rattle.pw_types.specs.TypedTrees.{Hidden, Expression, token_of, CaseValue, Initialiser, Value as ByValue, Bytes as ByBytes, Statement, Empty, Evaluate, Block, If, While, Do, For, Switch, Label, Goto, Break, Continue, Return, Arms, NoArm, Arm, Otherwise, NoElse, Else, Statements, NoStatement, OneStatement, LocalValue, FunctionValue, GlobalValue}
 use Rattle.pw_types.specs.WellTyped as W
 use Rattle.pw_types.specs.WellTyped.{type_in, IsTyped}
 use Rattle.pw_types.specs.TypedModules as M
@@ -28,9 +28,10 @@ use Rattle.pw_cmean.specs.SourceRun.{calls, callee}
 use Rattle.pw_cmean.specs.Typed.{IsPointer, IsValueOf, IsWellTyped, IsByte}
 use Rattle.pw_cmean.proofs.SoundActs.{Sound, Any, bind-s, give-s, stop-s, branch-s, look-s, write-s, with_object-s, object-bytes}
 use Rattle.pw_cmean.proofs.SoundOperators.{weaker, put-s, within-s}
-use Rattle.pw_law_never.specs.Resolved.{IsObjectThere, IsResolved, IsResolvedIfAny, with_range, IsResolvedInitialiser, AreResolvedInitialisers, IsResolvedStatement, AreResolvedStatements, AreResolvedArms, IsResolvedElse}
+use Rattle.pw_law_never.specs.Resolved.{IsResolved, IsResolvedIfAny, with_range, IsResolvedInitialiser, AreResolvedInitialisers, IsResolvedStatement, AreResolvedStatements, AreResolvedArms, IsResolvedElse}
 use Rattle.pw_law_never.proofs.NotWrong.{Right, Good, HasOne, bind-r, bind-g, give-r, give-g, stop-r, branch-r, need-r, need-g, look-r, write-r, with_object-r}
 use Rattle.pw_law_never.proofs.Operators.{CanPut, put-r, tested, truth-g, layout-one}
+use Rattle.pw_law_never.proofs.Symbols.{object-numbered, object-placed}
 use Rattle.pw_law_never.proofs.Calling.{AreRight, Level}
 use Rattle.pw_law_never.proofs.Trees.{Types, Stands, local-g, symbol-g, operand-g, answer-t, answer-r}
 
@@ -295,13 +296,10 @@ within-r (V.Piece q i) h p = absurd h
 within-g : {A : Type 0} {P : A → Type 0} (v : Value) {f : ℕ → ℕ → Act A} → IsAtObject v → ((n i : ℕ) → Good P (f n i)) → Good P (within v f)
 within-g v h p = record { sound = within-s v λ n i. (p n i).sound; right = within-r v h (λ n i. (p n i).right) }
 
-object-there : (p : Program) (name : List ℕ) (n : ℕ) → global_number p name ≡ Some n → pointer_to p name 0 ≡ Some (Ptr.Object n 0)
-object-there p name n e = rw e refl
-
-hidden-g : (e : Env) (k : ℕ) → IsObjectThere e.world.program e.home.name (Hidden k) → Good IsAtObject (symbol_place e (Hidden k))
+hidden-g : (e : Env) (k : ℕ) → (number : ℕ) × (global_number e.world.program (full_name e.home.name (Hidden k)) ≡ Some number) → Good IsAtObject (symbol_place e (Hidden k))
 unfolding symbol_place
 hidden-g e k h =
-    let there : pointer_to e.world.program (full_name e.home.name (Hidden k)) 0 ≡ Some (Ptr.Object h.0 0) = object-there e.world.program _ h.0 h.1 in
+    let there : pointer_to e.world.program (full_name e.home.name (Hidden k)) 0 ≡ Some (Ptr.Object h.0 0) = object-placed e.world.program _ h.0 h.1 in
     weaker-g (need-g _ (V.At (Ptr.Object h.0 0), ap (option_map V.At) there)) λ v same. at-object v (sym same ∙ ap (option_map V.At) there)
   where
     at-object : (v : Value) → Some v ≡ option_map V.At (Some (Ptr.Object h.0 0)) → IsAtObject v
@@ -410,6 +408,10 @@ module _ (types : Types) (w : World) (home : ProgramModule) (f : FunctionValue) 
       by-type (FunctionType q ps) (inl s) c h = absurd s
       by-type (FunctionType q ps) (inr s) c h = absurd (let e : FunctionType q ps ≡ Record s.0 = s.1 in cc)
 
+  hidden-there : (k : ℕ) (g : GlobalValue) → Contains home.tree.globals g → g.name ≡ Hidden k → (number : ℕ) × (global_number w.program (full_name home.name (Hidden k)) ≡ Some number)
+  hidden-there k g there same =
+      subst (λ symbol. (number : ℕ) × (global_number w.program (full_name home.name symbol) ≡ Some number)) same (object-numbered w.program home g inside there)
+
   initialise-g : (i : Initialiser) (first count : ℕ) (numbers : List (Option ℕ)) (scope : ℕ → Type 0) (cs : CallList) → Numbered f.locals numbers (with_range first count scope) → Level w cs
       → M.Initialises home.tree f.locals first count i → IsResolvedInitialiser w.program home.name (with_range first count scope) i → Good Any (initialise i cs (env numbers))
   unfolding initialise
@@ -417,7 +419,7 @@ module _ (types : Types) (w : World) (home : ProgramModule) (f : FunctionValue) 
       bind-g (value-g a numbers (with_range first count scope) cs n l t.2 r.0) λ v i.
       set_local-g _ k v numbers (with_range first count scope) t.3.0 n (inr (t.0, t.1)) t.3.1 (local-takes k t.3.0 (type_in a) v t.3.1 t.3.2 r.1 i)
   initialise-g (ByBytes k hidden parts) first count numbers scope cs n l t r =
-      bind-g (hidden-g (env numbers) hidden r) λ source h. bind-g (local-at-g (env numbers) k (n.has k (inr (t.0, t.1)))) λ place j.
+      bind-g (hidden-g (env numbers) hidden (hidden-there hidden t.2.1 t.2.3 t.2.4)) λ source h. bind-g (local-at-g (env numbers) k (n.has k (inr (t.0, t.1)))) λ place j.
       within-g source h λ from x. within-g place j λ to y.
       bind-g (record { sound = look-s (All IsByte) (λ s. (object_at s.objects from).bytes) (λ s held. object-bytes s.objects from held.objects); right = look-r _ })
       λ bytes are. record { sound = write-s to y bytes are; right = write-r to y bytes }

@@ -22,7 +22,7 @@ use Rattle.pw_types.specs.TypedTrees.{Symbol, Hidden, Expression, Node, Number, 
 use Rattle.pw_types.specs.WellTyped as W
 use Rattle.pw_types.specs.WellTyped.{type_in, IsTyped, HasForm, AreArguments}
 use Rattle.pw_check_rules.specs.Constants.{is_zero_constant}
-use Rattle.pw_cmean.specs.Worlds.{Program, ProgramModule, World, Callable, full_name, pointer_to, function_named}
+use Rattle.pw_cmean.specs.Worlds.{Program, ProgramModule, World, Callable, full_name, pointer_to, global_number, function_named}
 use Rattle.pw_cmean.specs.Acts.{Act, State, Site, Outcome, Gives, Ends, give, ◌>>=◌}
 use Rattle.pw_cmean.specs.Access.{Assigning, load, fetch, put}
 use Rattle.pw_cmean.specs.Operators.{number_for, truth, unary, binary, convert, on_numbers, pointer_and_number}
@@ -36,6 +36,7 @@ use Rattle.pw_law_never.specs.Resolved.{IsThere, IsFunctionThere, IsNullIn, IsRe
 use Rattle.pw_law_never.proofs.NotWrong.{Right, Good, HasOne, bind-r, bind-g, give-r, map-r, need-r, need-g, undefined-r, judge-g, branch-r, one-of}
 use Rattle.pw_law_never.proofs.Operators.{load-r, CanPut, put-r, fetch-r, IsNum, num-of, tested, truth-g, unary-r, advance-r, Moves, pointer_and_number-r, on_numbers-r, layout-one, binary-r, Points, points, to-number-r, to-pointer-r}
 use Rattle.pw_law_never.proofs.Constants.{JustGives, null-gives}
+use Rattle.pw_law_never.proofs.Symbols.{object-numbered, object-placed}
 use Rattle.pw_law_never.proofs.Calling.{Fits, AreValues, agreed, shape-same, named-own, numbered-own, call-r, Level}
 
 -- ---- the types of values, as the law of the meaning has them
@@ -67,6 +68,13 @@ symbol-r e x h = need-r _ (V.At h.0, ap (option_map V.At) h.1)
 
 pub symbol-g : (e : Env) (x : Symbol) → IsThere e.world.program e.home.name x → Good IsPointer (symbol_place e x)
 symbol-g e x h = record { sound = symbol_place-s e x; right = symbol-r e x h }
+
+-- the object of a string literal is there
+string-there : (e : Env) → Contains e.world.program.modules e.home → (k : ℕ) (ty : QType) → W.IsDefined e.home.tree (Hidden k) ty → IsThere e.world.program e.home.name (Hidden k)
+string-there e inside k ty d =
+    let n : (number : ℕ) × (global_number e.world.program (full_name e.home.name d.object.name) ≡ Some number) = object-numbered e.world.program e.home d.object inside d.there in
+    (Ptr.Object n.0 0, object-placed e.world.program (full_name e.home.name (Hidden k)) n.0
+    (subst (λ symbol. global_number e.world.program (full_name e.home.name symbol) ≡ Some n.0) d.name_is n.1))
 
 value_by-r : (at : Site) (ty : CType) (p : Value) → IsPointer p → Right (value_by at ty p)
 unfolding value_by
@@ -469,7 +477,7 @@ module _ (types : Types) (e : Env) (cs : CallList) (scope : ℕ → Type 0) (w :
 
     pub answer-r : (a : Expression) → IsTyped e.home.tree e.locals a → IsResolved e.world.program e.home.name scope a → Right (answer_of a cs e)
     answer-r (Node t ty (Number n)) h r = give-r _
-    answer-r (Node t ty (Str k)) h r = bind-r (symbol-g e (Hidden k) r) λ p i. value_at-r e t ty p i
+    answer-r (Node t ty (Str k)) h r = bind-r (symbol-g e (Hidden k) (string-there e w.inside k ty h.1.0)) λ p i. value_at-r e t ty p i
     answer-r (Node t ty (Local k)) h r = bind-r (local-g e k (w.has k r)) λ p i. value_at-r e t ty p i
     answer-r (Node t ty (Global x)) h r = bind-r (symbol-g e x r) λ p i. value_at-r e t ty p i
     answer-r (Node t ty (Function x)) h r = bind-r (symbol-g e x r) λ p i. value_at-r e t ty p i
@@ -523,7 +531,7 @@ module _ (types : Types) (e : Env) (cs : CallList) (scope : ℕ → Type 0) (w :
         call_value-r e cs t (type_in a) h.1.1.0 h.1.1.1 h.1.1.2 h.1.1.3 p vs h.1.1.4 j l
 
     pub place-r : (a : Expression) → IsTyped e.home.tree e.locals a → IsResolved e.world.program e.home.name scope a → HasPlace a → Right (place_of a cs e)
-    place-r (Node t ty (Str k)) h r p = (symbol-g e (Hidden k) r).right
+    place-r (Node t ty (Str k)) h r p = (symbol-g e (Hidden k) (string-there e w.inside k ty h.1.0)).right
     place-r (Node t ty (Local k)) h r p = (local-g e k (w.has k r)).right
     place-r (Node t ty (Global x)) h r p = (symbol-g e x r).right
     place-r (Node t ty (Function x)) h r p = (symbol-g e x r).right

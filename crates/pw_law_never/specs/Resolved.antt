@@ -6,18 +6,15 @@ use Rattle.pw_value.specs.ProgramNames.{main_name, main_shape}
 use Rattle.pw_types.specs.TypeTrees.{CType, Int, Pointer, Record, QType, type_of}
 use Rattle.pw_types.specs.WellTyped.{type_in, IsScalar}
 use Rattle.pw_types.specs.declared.kind.IntKind.{IntKind}
-use Rattle.pw_types.specs.TypedTrees.{Symbol, Hidden, Expression, Node, Number, Str, Local, Global, Function, Unary, Binary, Logic, Cond, Comma, Assign, Compound, Step, Cast, Decay, Member, Deref, Address, Call, CallValue, Expressions, NoExpression, OneExpression, Initialiser, Value as ByValue, Bytes as ByBytes, Statement, Empty, Evaluate, Block, If, While, Do, For, Switch, Label, Goto, Break, Continue, Return, Arms, NoArm, Arm, Otherwise, NoElse, Else, Statements, NoStatement, OneStatement, FunctionValue}
+use Rattle.pw_types.specs.TypedTrees.{Symbol, Expression, Node, Number, Str, Local, Global, Function, Unary, Binary, Logic, Cond, Comma, Assign, Compound, Step, Cast, Decay, Member, Deref, Address, Call, CallValue, Expressions, NoExpression, OneExpression, Initialiser, Value as ByValue, Bytes as ByBytes, Statement, Empty, Evaluate, Block, If, While, Do, For, Switch, Label, Goto, Break, Continue, Return, Arms, NoArm, Arm, Otherwise, NoElse, Else, Statements, NoStatement, OneStatement, FunctionValue}
 use Rattle.pw_check_rules.specs.Constants.{is_zero_constant}
-use Rattle.pw_cmean.specs.Worlds.{Program, ProgramModule, Callable, full_name, pointer_to, global_number, function_named}
+use Rattle.pw_cmean.specs.Worlds.{Program, ProgramModule, Callable, full_name, pointer_to, function_named}
 
 -- ---- symbols of a module of a program, by the module's name
 
 -- an object or a function
 abbrev pub IsThere : Program → List ℕ → Symbol → Type 0
 IsThere p home symbol = (q : AnyPointer) × (pointer_to p (full_name home symbol) 0 ≡ Some q)
-
-abbrev pub IsObjectThere : Program → List ℕ → Symbol → Type 0
-IsObjectThere p home symbol = (number : ℕ) × (global_number p (full_name home symbol) ≡ Some number)
 
 abbrev pub IsFunctionThere : Program → List ℕ → Symbol → Type 0
 IsFunctionThere p home symbol = (f : Callable) × (function_named p (full_name home symbol) ≡ Some f)
@@ -31,7 +28,7 @@ IsNullIn to a = (q : QType) (kind : IntKind) → to ≡ Pointer q → type_in a 
 abbrev mutual
   pub IsResolved : Program → List ℕ → (ℕ → Type 0) → Expression → Type 0
   IsResolved p home scope (Node t ty (Number n)) = Unit {0}
-  IsResolved p home scope (Node t ty (Str k)) = IsThere p home (Hidden k)
+  IsResolved p home scope (Node t ty (Str k)) = Unit {0}
   IsResolved p home scope (Node t ty (Local k)) = scope k
   IsResolved p home scope (Node t ty (Global symbol)) = IsThere p home symbol
   IsResolved p home scope (Node t ty (Function symbol)) = IsThere p home symbol
@@ -65,11 +62,11 @@ IsResolvedIfAny p home scope (Some a) = IsResolved p home scope a
 abbrev pub with_range : ℕ → ℕ → (ℕ → Type 0) → ℕ → Type 0
 with_range first count scope k = scope k ⊎ ((first ≤ k) × (k < first + count))
 
--- what a local is initialised with: a scalar, a structure or a union (6.5.7); the object with its bytes is there
+-- what a local is initialised with: a scalar, a structure or a union (6.5.7), or the bytes of a hidden object
 abbrev pub IsResolvedInitialiser : Program → List ℕ → (ℕ → Type 0) → Initialiser → Type 0
 IsResolvedInitialiser p home scope (ByValue k a) =
     IsResolved p home scope a × (IsScalar (type_in a) ⊎ ((number : ℕ) × (type_in a ≡ Record number)))
-IsResolvedInitialiser p home scope (ByBytes k hidden parts) = IsObjectThere p home (Hidden hidden)
+IsResolvedInitialiser p home scope (ByBytes k hidden parts) = Unit {0}
 
 abbrev pub AreResolvedInitialisers : Program → List ℕ → (ℕ → Type 0) → List Initialiser → Type 0
 AreResolvedInitialisers p home scope [] = Unit {0}

@@ -2,7 +2,7 @@
 #![tactic(auto)]
 
 ghost use Rattle.std.specs.Prelude.{◌≡◌, ◌≢◌, ◌<◌, ℕ, true, All, List, Some};
-ghost use Rattle.pw_value.specs.declared.value.Value.TheVariants as V;
+ghost use Rattle.pw_value.specs.declared.value.Value.TheVariants.{Num};
 ghost use Rattle.pw_types.specs.TypedTrees.{Expression};
 ghost use Rattle.pw_types.specs.WellTyped.{IsTyped};
 ghost use Rattle.pw_check_rules.specs.Constants.{Known, constant_of, is_zero_constant};
@@ -18,7 +18,7 @@ use pw_cmean::laws::values_have_types;
 /// A constant expression that is well typed gives the value that the rules tell of it, and does nothing else (ISO C90 6.4).
 pub fn constants_give_their_value()
     ensures { (e : Env) (cs : Calls) (a : Expression) (n : ℕ) (s : State) →
-        IsTyped e.home.tree e.locals a → constant_of a ≡ Known n → answer_of a cs e s ≡ Gives (Some (V.Num n)) s }
+        IsTyped e.home.tree e.locals a → constant_of a ≡ Known n → answer_of a cs e s ≡ Gives (Some (Num n)) s }
 {}
 
 /// The run of a well-typed program comes to no end that the meaning does not have, within any bound, on any stack and input: if
