@@ -1,4 +1,4 @@
--- A constant expression gives its value, and does nothing else (ISO C90 6.4).
+-- A constant expression just its value, and does nothing else (ISO C90 6.4).
 use Rattle.std.proofs.Common.{ℕ, zero, suc, ◌%◌, ◌^◌, ◌≡◌, ◌≢◌, refl, sym, ap, subst, ◌∙◌, Bool, true, false, not, List, [], ◌∷◌, Option, Some, None, Result, Ok, Err}
 use Rattle.std.specs.Prelude.{◌==◌, if◌then◌else◌}
 use Rattle.std.proofs.lemmas.Bool.Decides.{nat_tests}
@@ -25,7 +25,7 @@ use Rattle.pw_cmean.specs.Access.{objects_now}
 use Rattle.pw_cmean.specs.Operators.{number_for, truth, outcome_of, arithmetic, on_numbers, negation, unary_number, unary, binary, convert}
 use Rattle.pw_cmean.specs.Evaluation.{Env, Calls as CallList, site, records_of, used, cast, decides, answer_of}
 
--- an act that gives a value and leaves the state as it was
+-- an act that just a value and leaves the state as it was
 abbrev pub JustGives : {A : Type 0} → Act A → A → Type 0
 JustGives m a = (s : State) → m s ≡ Gives a s
 
@@ -33,16 +33,16 @@ after : {A B : Type 0} (m : Act A) (k : A → Act B) (a : A) (b : B) → JustGiv
 unfolding ◌>>=◌ go_on
 after m k a b h g = λ s. ap (λ o. go_on o k) (h s) ∙ g s
 
-gives : {A : Type 0} (a : A) → JustGives (give a) a
+just : {A : Type 0} (a : A) → JustGives (give a) a
 unfolding give
-gives a = λ s. refl
+just a = λ s. refl
 
 known-one : (n m : ℕ) → Known n ≡ Known m → n ≡ m
 known-one n m e = cc
 
 operand : (at : Site) (m : Act (Option Value)) (v : Value) → JustGives m (Some v) → JustGives (m >>= used at) v
 unfolding used
-operand at m v h = after m (used at) (Some v) v h (gives v)
+operand at m v h = after m (used at) (Some v) v h (just v)
 
 -- ---- operators on words
 
@@ -100,7 +100,7 @@ arithmetic-ok O.Or false a b n e = ap Ok (known-one _ n e)
 
 outcome-ok : (at : Site) (r : Result ℕ WordFault) (n : ℕ) → r ≡ Ok n → JustGives (outcome_of at r) (V.Num n)
 unfolding outcome_of
-outcome-ok at r n e = subst (λ r. JustGives (outcome_of at r) (V.Num n)) (sym e) (gives (V.Num n))
+outcome-ok at r n e = subst (λ r. JustGives (outcome_of at r) (V.Num n)) (sym e) (just (V.Num n))
 
 binary-gives : (e : Env) (at : Site) (op : BinaryOperator) (k l : IntKind) (a b n : ℕ) → binary_word op (is_signed_kind k) a b ≡ Known n
     → JustGives (binary at (records_of e) op (Int k) (Int l) (V.Num a) (V.Num b)) (V.Num n)
@@ -116,17 +116,17 @@ unary-gives : (at : Site) (op : UnaryOperator) (k : IntKind) (result : CType) (a
 unfolding unary unary_number
 unary-gives at Not k result a n h e =
     after (truth at (V.Num a)) _ (not (a == 0)) (V.Num n) (truth-of at a)
-    (subst (λ m. JustGives (give (V.Num (number_for (not (not (a == 0)))))) (V.Num m)) (twice (a == 0) ∙ known-one _ n e) (gives _))
+    (subst (λ m. JustGives (give (V.Num (number_for (not (not (a == 0)))))) (V.Num m)) (twice (a == 0) ∙ known-one _ n e) (just _))
   where
     twice : (b : Bool) → number_for (not (not b)) ≡ word_of b
     twice true = refl
     twice false = refl
 unary-gives at Plus k result a n h e =
-    subst (λ ty. JustGives (unary_number at Plus ty (V.Num a)) (V.Num n)) (sym h.1) (subst (λ m. JustGives (give (V.Num a)) (V.Num m)) (known-one a n e) (gives (V.Num a)))
+    subst (λ ty. JustGives (unary_number at Plus ty (V.Num a)) (V.Num n)) (sym h.1) (subst (λ m. JustGives (give (V.Num a)) (V.Num m)) (known-one a n e) (just (V.Num a)))
 unary-gives at Minus k result a n h e =
     subst (λ ty. JustGives (unary_number at Minus ty (V.Num a)) (V.Num n)) (sym h.1) (outcome-ok at _ n (minus-ok (is_signed_kind k) a n e))
 unary-gives at Complement k result a n h e =
-    subst (λ ty. JustGives (unary_number at Complement ty (V.Num a)) (V.Num n)) (sym h.1) (subst (λ m. JustGives (give (V.Num (complement a))) (V.Num m)) (known-one _ n e) (gives _))
+    subst (λ ty. JustGives (unary_number at Complement ty (V.Num a)) (V.Num n)) (sym h.1) (subst (λ m. JustGives (give (V.Num (complement a))) (V.Num m)) (known-one _ n e) (just _))
 
 -- ---- expressions
 
@@ -165,7 +165,7 @@ and-gives : (z : Bool) (c : Constancy) (m : ℕ) (second : Act (Option Value))
     → JustGives (branch (decides L.And (not z)) (give (Some (V.Num (number_for (not z))))) second) (Some (V.Num m))
 unfolding branch
 and-gives true c m second e g =
-    subst (λ n. JustGives (give (Some (V.Num 0))) (Some (V.Num n))) (known-one 0 m (known-then (unevaluated c) (λ n. Known 0) m e).2) (gives (Some (V.Num 0)))
+    subst (λ n. JustGives (give (Some (V.Num 0))) (Some (V.Num n))) (known-one 0 m (known-then (unevaluated c) (λ n. Known 0) m e).2) (just (Some (V.Num 0)))
 and-gives false c m second e g =
     let p : (y : ℕ) × (c ≡ Known y) × (Known (word_of (not (y == 0))) ≡ Known m) = known-then c (λ n. Known (word_of (not (n == 0)))) m e in
     subst (λ n. JustGives second (Some (V.Num n))) (number_for-word (not (p.0 == 0)) ∙ known-one _ m p.2) (g p.0 p.1)
@@ -176,7 +176,7 @@ or-gives : (z : Bool) (c : Constancy) (m : ℕ) (second : Act (Option Value))
     → JustGives (branch (decides L.Or (not z)) (give (Some (V.Num (number_for (not z))))) second) (Some (V.Num m))
 unfolding branch
 or-gives false c m second e g =
-    subst (λ n. JustGives (give (Some (V.Num 1))) (Some (V.Num n))) (known-one 1 m (known-then (unevaluated c) (λ n. Known 1) m e).2) (gives (Some (V.Num 1)))
+    subst (λ n. JustGives (give (Some (V.Num 1))) (Some (V.Num n))) (known-one 1 m (known-then (unevaluated c) (λ n. Known 1) m e).2) (just (Some (V.Num 1)))
 or-gives true c m second e g =
     let p : (y : ℕ) × (c ≡ Known y) × (Known (word_of (not (y == 0))) ≡ Known m) = known-then c (λ n. Known (word_of (not (n == 0)))) m e in
     subst (λ n. JustGives second (Some (V.Num n))) (number_for-word (not (p.0 == 0)) ∙ known-one _ m p.2) (g p.0 p.1)
@@ -205,14 +205,14 @@ tested at m x h = after (m >>= used at) (truth at) (V.Num x) (not (x == 0)) (ope
 module _ (e : Env) (cs : CallList) where
   pub constant-gives : (a : Expression) (m : ℕ) → IsTyped e.home.tree e.locals a → constant_of a ≡ Known m → JustGives (answer_of a cs e) (Some (V.Num m))
   unfolding answer_of constant_of IsTyped HasForm
-  constant-gives (Node t (Qualified (Int k) c v) (Number n)) m h known = subst (λ x. JustGives (give (Some (V.Num n))) (Some (V.Num x))) (known-one n m known) (gives (Some (V.Num n)))
+  constant-gives (Node t (Qualified (Int k) c v) (Number n)) m h known = subst (λ x. JustGives (give (Some (V.Num n))) (Some (V.Num x))) (known-one n m known) (just (Some (V.Num n)))
   constant-gives (Node t (Qualified (Int k) c v) (Unary op a)) m h known =
       let p : (x : ℕ) × (constant_of a ≡ Known x) × (if_integral (type_in a) (unary_word op (kind_in (type_in a)) x) ≡ Known m) = known-then (constant_of a) _ m known in
       let q : (l : IntKind) × (type_in a ≡ Int l) × (unary_word op (kind_in (type_in a)) p.0 ≡ Known m) = known-integral (type_in a) _ m p.2 in
       after _ _ (V.Num p.0) (Some (V.Num m)) (operand (site e t) (answer_of a cs e) (V.Num p.0) (constant-gives a p.0 h.1.0 p.1))
       (after _ _ (V.Num m) (Some (V.Num m))
       (unary-gives (site e t) op q.0 (Int k) p.0 m (subst (λ ty. W.FitsUnary op ty (Int k)) q.1 h.1.1) (subst (λ ty. unary_word op (kind_in ty) p.0 ≡ Known m) q.1 q.2))
-      (gives (Some (V.Num m))))
+      (just (Some (V.Num m))))
   constant-gives (Node t (Qualified (Int k) c v) (Binary op a b)) m h known =
       let p : (l : IntKind) × (type_in a ≡ Int l) × (if_integral (type_in b) (both_known (constant_of a) (constant_of b) (λ n m. binary_word op (is_signed_kind (kind_in (type_in a))) n m)) ≡ Known m) = known-integral (type_in a) _ m known in
       let q : (l : IntKind) × (type_in b ≡ Int l) × (both_known (constant_of a) (constant_of b) (λ n m. binary_word op (is_signed_kind (kind_in (type_in a))) n m) ≡ Known m) = known-integral (type_in b) _ m p.2 in
@@ -223,12 +223,12 @@ module _ (e : Env) (cs : CallList) where
       (subst (λ x. JustGives (binary (site e t) (records_of e) op x (type_in b) (V.Num r.0) (V.Num r.1)) (V.Num m)) (sym p.1)
       (subst (λ y. JustGives (binary (site e t) (records_of e) op (Int p.0) y (V.Num r.0) (V.Num r.1)) (V.Num m)) (sym q.1)
       (binary-gives e (site e t) op p.0 q.0 r.0 r.1 m (subst (λ ty. binary_word op (is_signed_kind (kind_in ty)) r.0 r.1 ≡ Known m) p.1 r.4))))
-      (gives (Some (V.Num m)))))
+      (just (Some (V.Num m)))))
   constant-gives (Node t (Qualified (Int k) c v) (Logic op a b)) m h known =
       let p : (x : ℕ) × (constant_of a ≡ Known x) × (logic_word op x (constant_of b) ≡ Known m) = known-then (constant_of a) _ m (known-formed (constant_of b) _ m known) in
       after _ _ (not (p.0 == 0)) (Some (V.Num m)) (tested (site e t) (answer_of a cs e) p.0 (constant-gives a p.0 h.1.0 p.1))
       (logic-gives op p.0 (constant_of b) m _ p.2 λ y same.
-      after _ _ (not (y == 0)) (Some (V.Num (number_for (not (y == 0))))) (tested (site e t) (answer_of b cs e) y (constant-gives b y h.1.1 same)) (gives _))
+      after _ _ (not (y == 0)) (Some (V.Num (number_for (not (y == 0))))) (tested (site e t) (answer_of b cs e) y (constant-gives b y h.1.1 same)) (just _))
   constant-gives (Node t (Qualified (Int k) c v) (Cond a b d)) m h known =
       let p : (x : ℕ) × (constant_of a ≡ Known x) × (choice_word x (constant_of b) (constant_of d) ≡ Known m) =
           known-then (constant_of a) _ m (known-formed (constant_of d) _ m (known-formed (constant_of b) _ m known)) in
@@ -264,6 +264,6 @@ zero-known (Known (suc n)) h = cc
 zero-known NoConstant h = cc
 zero-known NoValue h = cc
 
--- the constant 0 gives 0
+-- the constant 0 just 0
 pub null-gives : (e : Env) (cs : CallList) (a : Expression) → IsTyped e.home.tree e.locals a → is_zero_constant a ≡ true → JustGives (answer_of a cs e) (Some (V.Num 0))
 null-gives e cs a h z = constant-gives e cs a 0 h (zero-known (constant_of a) z)

@@ -293,7 +293,7 @@ pointer_and_number-r at rs q O.And p k v m h = absurd m
 pointer_and_number-r at rs q O.ExclusiveOr p k v m h = absurd m
 pointer_and_number-r at rs q O.Or p k v m h = absurd m
 
--- what points to an object, by its type
+-- what points-of to an object, by its type
 pub layout-one : {A : Type 0} (o : Option A) → IsSome o → HasOne o
 layout-one (Some a) h = (a, refl)
 layout-one None h = cc
@@ -401,12 +401,12 @@ Points V.Null = Unit {0}
 Points (V.At p) = Unit {0}
 Points _ = ⊥
 
-pub points : (v : Value) → IsPointer v → Points v
-points V.Null h = tt
-points (V.At p) h = tt
-points V.Undefined h = absurd h
-points (V.Num n) h = absurd h
-points (V.Piece p i) h = absurd h
+pub points-of : (v : Value) → IsPointer v → Points v
+points-of V.Null h = tt
+points-of (V.At p) h = tt
+points-of V.Undefined h = absurd h
+points-of (V.Num n) h = absurd h
+points-of (V.Piece p i) h = absurd h
 
 pointer-one : (v : Value) → Points v → HasOne (as_pointer v)
 pointer-one (V.Num zero) h = (V.Null, refl)

@@ -141,13 +141,13 @@ module _ (types : Types) (w : World) (well : IsWellTyped w.program) (resolved : 
           let fn : IsFunction m.tree d = contained (IsFunction m.tree) m.tree.functions d tree.functions own.1 in
           body-r types w m d well own.0 fn cs name vs l (count-arguments types w m d well own.0 fn shape vs own.2 h) (resolved.bodies m d own.0 own.1)
 
-  pub level : (n : ℕ) → Level w (calls w n)
+  pub level-of : (n : ℕ) → Level w (calls w n)
   unfolding calls callee
-  level zero = record { bound = zero; is = refl; right = tt }
-  level (suc n) = record {
+  level-of zero = record { bound = zero; is = refl; right = tt }
+  level-of (suc n) = record {
     bound = suc n;
     is = refl;
-    right = (λ f vs m d e o h. called-r (calls w n) f.name f.shape f.body m d vs e o h (level n), (level n).right);
+    right = (λ f vs m d e o h. called-r (calls w n) f.name f.shape f.body m d vs e o h (level-of n), (level-of n).right);
   }
 
 -- ---- the start
@@ -231,7 +231,7 @@ run_main-r law w n well resolved =
     let shape : f.shape ≡ main_shape = subst (λ (g : Callable). g.shape ≡ main_shape) one resolved.main.2 in
     bind-r (record {
       sound = record { run = λ s h. law.calls_give w n main_name f [] s well same h };
-      right = call-r w (calls w n) f [] (named-own w.program main_name f same) (105, NoType, shape, tt) (level law.types w well resolved n).right;
+      right = call-r w (calls w n) f [] (named-own w.program main_name f same) (105, NoType, shape, tt) (level-of law.types w well resolved n).right;
     }) λ r h.
     finish-r f.body r (main-defined w.program f same) (letter-result (result_letter f.shape) (Int K.Int) r (sym (ap result_letter shape)) h)
 

@@ -77,11 +77,11 @@ wider breaks continues to other h g = weaker-g g (leaves-to breaks continues to 
 
 holds-append : (xs ys : List ℕ) (l : ℕ) → holds xs l ≡ false → holds ys l ≡ false → holds (xs ++ ys) l ≡ false
 holds-append [] ys l h k = k
-holds-append (x ∷ xs) ys l h k = first (x == l) h
+holds-append (x ∷ xs) ys l h k = first (λ e. holds-append xs ys l e k) (x == l) h
   where
-    first : (b : Bool) → (b || holds xs l) ≡ false → (b || holds (xs ++ ys) l) ≡ false
-    first true e = e
-    first false e = holds-append xs ys l e k
+    first : (holds xs l ≡ false → holds (xs ++ ys) l ≡ false) → (b : Bool) → (b || holds xs l) ≡ false → (b || holds (xs ++ ys) l) ≡ false
+    first rest true e = e
+    first rest false e = rest e
 
 pub holds-contained : (xs : List ℕ) (l : ℕ) → Contains xs l → holds xs l ≡ true
 holds-contained [] l c = absurd (omega arith)
@@ -330,8 +330,8 @@ module _ (types : Types) (w : World) (home : ProgramModule) (f : FunctionValue) 
   abbrev env : List (Option ℕ) → Env
   env numbers = record { world = w; home = home; locals = f.locals; numbers = numbers }
 
-  stands : (numbers : List (Option ℕ)) (scope : ℕ → Type 0) → Numbered f.locals numbers scope → Stands (env numbers) scope
-  stands numbers scope h = record { well = well; inside = inside; has = h.has }
+  stands-at : (numbers : List (Option ℕ)) (scope : ℕ → Type 0) → Numbered f.locals numbers scope → Stands (env numbers) scope
+  stands-at numbers scope h = record { well = well; inside = inside; has = h.has }
 
   with_locals-g : {A : Type 0} {P : A → Type 0} (count first : ℕ) (act : Env → Act A) (numbers : List (Option ℕ)) (scope : ℕ → Type 0) → first + count ≤ length f.locals
       → Numbered f.locals numbers scope → ((behind : List (Option ℕ)) → Numbered f.locals behind (with_range first count scope) → Good P (act (env behind)))
@@ -350,15 +350,15 @@ module _ (types : Types) (w : World) (home : ProgramModule) (f : FunctionValue) 
   expression-g : (a : Expression) (numbers : List (Option ℕ)) (scope : ℕ → Type 0) (cs : CallList) → Numbered f.locals numbers scope → Level w cs
       → IsTyped home.tree f.locals a → IsResolved w.program home.name scope a → Good Any (answer_of a cs (env numbers))
   expression-g a numbers scope cs n l t r = record {
-    sound = weaker (answer-t types (env numbers) cs scope (stands numbers scope n) l a t) λ o i. tt;
-    right = answer-r types (env numbers) cs scope (stands numbers scope n) l a t r;
+    sound = weaker (answer-t types (env numbers) cs scope (stands-at numbers scope n) l a t) λ o i. tt;
+    right = answer-r types (env numbers) cs scope (stands-at numbers scope n) l a t r;
   }
 
   value-g : (a : Expression) (numbers : List (Option ℕ)) (scope : ℕ → Type 0) (cs : CallList) → Numbered f.locals numbers scope → Level w cs
       → IsTyped home.tree f.locals a → IsResolved w.program home.name scope a → Good (IsValueOf (type_in a)) (value_of a cs (env numbers))
   unfolding value_of
   value-g a numbers scope cs n l t r =
-      operand-g _ (type_in a) (answer-t types (env numbers) cs scope (stands numbers scope n) l a t) (answer-r types (env numbers) cs scope (stands numbers scope n) l a t r)
+      operand-g _ (type_in a) (answer-t types (env numbers) cs scope (stands-at numbers scope n) l a t) (answer-r types (env numbers) cs scope (stands-at numbers scope n) l a t r)
 
   condition-g : (a : Expression) (numbers : List (Option ℕ)) (scope : ℕ → Type 0) (cs : CallList) → Numbered f.locals numbers scope → Level w cs
       → IsTyped home.tree f.locals a → IsResolved w.program home.name scope a → Good Any (condition a cs (env numbers))
@@ -434,12 +434,12 @@ module _ (types : Types) (w : World) (home : ProgramModule) (f : FunctionValue) 
       initialise_all-g rest first count Front numbers scope cs n l (All-tail (M.Initialises home.tree f.locals first count) i rest t) r.1
   initialise_all-g (i ∷ rest) first count (At_label m) numbers scope cs n l t r = give-g Any tt tt
 
-  named : (labels : List ℕ) (l : ℕ) → Out f labels l → Named f l
-  named labels l h = h.0
+  out-named : (labels : List ℕ) (l : ℕ) → Out f labels l → Named f l
+  out-named labels l h = h.0
 
   -- what one part of a list or of an `if` leaves, the whole may leave
   part : (breaks continues : Bool) (labels : List ℕ) {m : Act Flow} → Good (Leaves breaks continues (Out f labels)) m → Good (Leaves breaks continues (Named f)) m
-  part breaks continues labels g = wider breaks continues (Out f labels) (Named f) (named labels) g
+  part breaks continues labels g = wider breaks continues (Out f labels) (Named f) (out-named labels) g
 
   mutual
     unfolding meaning items arms behind_arms IsStatement AreStatements AreArms IsElse
@@ -502,11 +502,11 @@ module _ (types : Types) (w : World) (home : ProgramModule) (f : FunctionValue) 
     items-g NoStatement breaks continues from at numbers scope cs n l h r = give-g _ Normal tt
     items-g (OneStatement s rest) breaks continues from Front numbers scope cs n l h r =
         bind-g (meaning-g s breaks continues from Front numbers scope cs n l h.0 r.0) λ flow i.
-        go_forward-g breaks continues (Out f (labels_in s)) (Named f) (labels_among rest) flow i (named (labels_in s)) (λ at'. items-g rest breaks continues from at' numbers scope cs n l h.1 r.1)
+        go_forward-g breaks continues (Out f (labels_in s)) (Named f) (labels_among rest) flow i (out-named (labels_in s)) (λ at'. items-g rest breaks continues from at' numbers scope cs n l h.1 r.1)
         (items-g rest breaks continues from Front numbers scope cs n l h.1 r.1)
     items-g (OneStatement s rest) breaks continues from (At_label m) numbers scope cs n l h r = branch-g _
         (bind-g (meaning-g s breaks continues from (At_label m) numbers scope cs n l h.0 r.0) λ flow i.
-        go_forward-g breaks continues (Out f (labels_in s)) (Named f) (labels_among rest) flow i (named (labels_in s)) (λ at'. items-g rest breaks continues from at' numbers scope cs n l h.1 r.1)
+        go_forward-g breaks continues (Out f (labels_in s)) (Named f) (labels_among rest) flow i (out-named (labels_in s)) (λ at'. items-g rest breaks continues from at' numbers scope cs n l h.1 r.1)
         (items-g rest breaks continues from Front numbers scope cs n l h.1 r.1))
         (items-g rest breaks continues from (At_label m) numbers scope cs n l h.1 r.1)
 
@@ -517,12 +517,12 @@ module _ (types : Types) (w : World) (home : ProgramModule) (f : FunctionValue) 
     arms-g (Arm t c s rest) breaks continues from labels Front numbers scope cs n l h r p =
         bind-g (condition-g c numbers scope cs n l h.0.0 r.0) λ x u. branch-g x
         (bind-g (meaning-g s breaks continues from Front numbers scope cs n l h.1 r.1) λ flow i.
-        go_forward-g breaks continues (Out f (labels_in s)) (Named f) (labels_of_arms rest ++ labels) flow i (named (labels_in s)) (λ at'. arms-g rest breaks continues from labels at' numbers scope cs n l h.2 r.2 p)
+        go_forward-g breaks continues (Out f (labels_in s)) (Named f) (labels_of_arms rest ++ labels) flow i (out-named (labels_in s)) (λ at'. arms-g rest breaks continues from labels at' numbers scope cs n l h.2 r.2 p)
         (give-g (Leaves breaks continues (Named f)) Normal tt))
         (arms-g rest breaks continues from labels Front numbers scope cs n l h.2 r.2 p)
     arms-g (Arm t c s rest) breaks continues from labels (At_label m) numbers scope cs n l h r p = branch-g _
         (bind-g (meaning-g s breaks continues from (At_label m) numbers scope cs n l h.1 r.1) λ flow i.
-        go_forward-g breaks continues (Out f (labels_in s)) (Named f) (labels_of_arms rest ++ labels) flow i (named (labels_in s)) (λ at'. arms-g rest breaks continues from labels at' numbers scope cs n l h.2 r.2 p)
+        go_forward-g breaks continues (Out f (labels_in s)) (Named f) (labels_of_arms rest ++ labels) flow i (out-named (labels_in s)) (λ at'. arms-g rest breaks continues from labels at' numbers scope cs n l h.2 r.2 p)
         (give-g (Leaves breaks continues (Named f)) Normal tt))
         (arms-g rest breaks continues from labels (At_label m) numbers scope cs n l h.2 r.2 p)
 

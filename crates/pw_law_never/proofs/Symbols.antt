@@ -41,20 +41,20 @@ in-map f (y ∷ ys) x (inr h) = inr (in-map f ys x h)
 
 in-flat : {X Y : Type 0} (g : X → List Y) (xs : List X) (x : X) (y : Y) → In x xs → In y (g x) → In y (flat_map g xs)
 in-flat g [] x y h k = absurd h
-in-flat g (z ∷ zs) x y h k = subst (In y) (sym (flat_map-cons g z zs)) (by-first h)
+in-flat g (z ∷ zs) x y h k = subst (In y) (sym (flat_map-cons g z zs)) (by-first (λ h. in-flat g zs x y h k) h)
   where
-    by-first : In x (z ∷ zs) → In y (g z ++ flat_map g zs)
-    by-first (inl e) = in-left (g z) (flat_map g zs) y (subst (λ x. In y (g x)) (sym e) k)
-    by-first (inr h) = in-right (g z) (flat_map g zs) y (in-flat g zs x y h k)
+    by-first : (In x zs → In y (flat_map g zs)) → In x (z ∷ zs) → In y (g z ++ flat_map g zs)
+    by-first rest (inl e) = in-left (g z) (flat_map g zs) y (subst (λ x. In y (g x)) (sym e) k)
+    by-first rest (inr h) = in-right (g z) (flat_map g zs) y (rest h)
 
 found-below : {X : Type 0} (test : X → Bool) (xs : List X) (y : X) → In y xs → test y ≡ true → position_or_len test xs < length xs
 found-below test [] y h t = absurd h
-found-below test (x ∷ xs) y h t = by-test (test x) refl h
+found-below test (x ∷ xs) y h t = by-test (λ h. found-below test xs y h t) (test x) refl h
   where
-    by-test : (b : Bool) → test x ≡ b → In y (x ∷ xs) → cond (not b) (1 + position_or_len test xs) 0 < suc (length xs)
-    by-test true e h = omega arith
-    by-test false e (inl s) = absurd (true≢false (sym t ∙ ap test (sym s) ∙ e))
-    by-test false e (inr h) = (let below : position_or_len test xs < length xs = found-below test xs y h t in omega arith)
+    by-test : (In y xs → position_or_len test xs < length xs) → (b : Bool) → test x ≡ b → In y (x ∷ xs) → cond (not b) (1 + position_or_len test xs) 0 < suc (length xs)
+    by-test rest true e h = omega arith
+    by-test rest false e (inl s) = absurd (true≢false (sym t ∙ ap test (sym s) ∙ e))
+    by-test rest false e (inr h) = (let below : position_or_len test xs < length xs = rest h in omega arith)
 
 found-at : {X : Type 0} (test : X → Bool) (xs : List X) → position_or_len test xs < length xs → HasOne (position test xs)
 found-at test xs below = by-test (nat_lt (position_or_len test xs) (length xs)) (is-below (position_or_len test xs) (length xs) below)

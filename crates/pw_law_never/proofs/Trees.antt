@@ -34,7 +34,7 @@ use Rattle.pw_cmean.proofs.SoundOperators.{weaker, load-s, put-s, advance-s, on_
 use Rattle.pw_cmean.proofs.SoundTrees.{operand-s, symbol_place-s, local_place-s}
 use Rattle.pw_law_never.specs.Resolved.{IsThere, IsFunctionThere, IsNullIn, IsResolved, AreResolved}
 use Rattle.pw_law_never.proofs.NotWrong.{Right, Good, HasOne, bind-r, bind-g, give-r, map-r, need-r, need-g, undefined-r, judge-g, branch-r, one-of}
-use Rattle.pw_law_never.proofs.Operators.{load-r, CanPut, put-r, fetch-r, IsNum, num-of, tested, truth-g, unary-r, advance-r, Moves, pointer_and_number-r, on_numbers-r, layout-one, binary-r, Points, points, to-number-r, to-pointer-r}
+use Rattle.pw_law_never.proofs.Operators.{load-r, CanPut, put-r, fetch-r, IsNum, num-of, tested, truth-g, unary-r, advance-r, Moves, pointer_and_number-r, on_numbers-r, layout-one, binary-r, Points, points-of, to-number-r, to-pointer-r}
 use Rattle.pw_law_never.proofs.Constants.{JustGives, null-gives}
 use Rattle.pw_law_never.proofs.Symbols.{object-numbered, object-placed}
 use Rattle.pw_law_never.proofs.Calling.{Fits, AreValues, agreed, shape-same, named-own, numbered-own, call-r, Level}
@@ -138,7 +138,7 @@ cast-r at (Int k) (Pointer q) o f h z = pointer-cast at q o λ v e. subst Points
   where
     zero-value : (v : Value) → Some v ≡ Some (V.Num 0) → V.Num 0 ≡ v
     zero-value v e = cc
-cast-r at (Pointer p) (Pointer q) o f h z = pointer-cast at q o λ v e. points v (some-value (Pointer p) o v h e)
+cast-r at (Pointer p) (Pointer q) o f h z = pointer-cast at q o λ v e. points-of v (some-value (Pointer p) o v h e)
 cast-r at Void (Pointer q) o f h z = absurd f
 cast-r at (Array p n) (Pointer q) o f h z = absurd f
 cast-r at (FunctionType p ps) (Pointer q) o f h z = absurd f
@@ -281,7 +281,7 @@ scalar-left rs op _ _ _ c = absurd c
 convert-g : (at : Site) (rs : List RecordValue) (op : BinaryOperator) (working left right : CType) (v : Value) → CanWork rs op working left right → IsValueOf left v
     → Good (IsValueOf working) (convert at working v)
 convert-g at rs op (Int w) (Int k) (Int r) v c i = convert-number-g at w v (integer k v i)
-convert-g at rs op (Pointer w) (Pointer q) (Int r) v c i = convert-pointer-g at w v (points v i)
+convert-g at rs op (Pointer w) (Pointer q) (Int r) v c i = convert-pointer-g at w v (points-of v i)
 convert-g at rs op _ _ _ v c i = absurd c
 
 old-g : (e : Env) (t : ℕ) (op : BinaryOperator) (ty working right : CType) (p : Value) → CanWork (records_of e) op working ty right → IsPointer p
@@ -298,7 +298,7 @@ update-r e t (Int k) (Int a) p op (Int r) old w c h i j =
     λ new x. bind-r (convert-number-g _ k new (word-integer new x)) λ v y. bind-r (put-g _ _ (Int k) p v tt h) λ u z. give-r v
 update-r e t (Pointer q) (Pointer a) p op (Int r) old w c h i j =
     bind-r (record { sound = pointer_and_number-s _ _ a op old r w; right = pointer_and_number-r _ _ a op old r w c.0 c.1 })
-    λ new x. bind-r (convert-pointer-g _ q new (points new x)) λ v y. bind-r (put-g _ _ (Pointer q) p v tt h) λ u z. give-r v
+    λ new x. bind-r (convert-pointer-g _ q new (points-of new x)) λ v y. bind-r (put-g _ _ (Pointer q) p v tt h) λ u z. give-r v
 update-r e t _ _ p op _ old w c h i j = absurd c
 
 stepped : (rs : List RecordValue) (op : StepOperator) (ty : CType) → W.IsArithmetic ty ⊎ W.PointsToObject rs ty → CanWork rs (step_operator op) (promoted_type ty) ty (Int K.Int)
