@@ -1,4 +1,4 @@
--- A constant expression just its value, and does nothing else (ISO C90 6.4).
+-- A constant expression gives its value, and does nothing else (ISO C90 6.4).
 use Rattle.std.proofs.Common.{ℕ, zero, suc, ◌%◌, ◌^◌, ◌≡◌, ◌≢◌, refl, sym, ap, subst, ◌∙◌, Bool, true, false, not, List, [], ◌∷◌, Option, Some, None, Result, Ok, Err}
 use Rattle.std.specs.Prelude.{◌==◌, if◌then◌else◌}
 use Rattle.std.proofs.lemmas.Bool.Decides.{nat_tests}
@@ -25,7 +25,7 @@ use Rattle.pw_cmean.specs.Access.{objects_now}
 use Rattle.pw_cmean.specs.Operators.{number_for, truth, outcome_of, arithmetic, on_numbers, negation, unary_number, unary, binary, convert}
 use Rattle.pw_cmean.specs.Evaluation.{Env, Calls as CallList, site, records_of, used, cast, decides, answer_of}
 
--- an act that just a value and leaves the state as it was
+-- an act that gives a value and leaves the state as it was
 abbrev pub JustGives : {A : Type 0} → Act A → A → Type 0
 JustGives m a = (s : State) → m s ≡ Gives a s
 
@@ -264,6 +264,6 @@ zero-known (Known (suc n)) h = cc
 zero-known NoConstant h = cc
 zero-known NoValue h = cc
 
--- the constant 0 just 0
+-- the constant 0 gives 0
 pub null-gives : (e : Env) (cs : CallList) (a : Expression) → IsTyped e.home.tree e.locals a → is_zero_constant a ≡ true → JustGives (answer_of a cs e) (Some (V.Num 0))
 null-gives e cs a h z = constant-gives e cs a 0 h (zero-known (constant_of a) z)

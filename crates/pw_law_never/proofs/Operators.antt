@@ -293,7 +293,7 @@ pointer_and_number-r at rs q O.And p k v m h = absurd m
 pointer_and_number-r at rs q O.ExclusiveOr p k v m h = absurd m
 pointer_and_number-r at rs q O.Or p k v m h = absurd m
 
--- what points-of to an object, by its type
+-- what points to an object, by its type
 pub layout-one : {A : Type 0} (o : Option A) → IsSome o → HasOne o
 layout-one (Some a) h = (a, refl)
 layout-one None h = cc

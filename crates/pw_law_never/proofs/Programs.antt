@@ -122,9 +122,9 @@ module _ (types : Types) (w : World) (home : ProgramModule) (f : FunctionValue) 
   unfolding run_body
   body-r cs name vs l count r =
       bind-r (take_room-g w name) λ u x. during-r name (with_locals-g types w home f well inside fn {P = Any} f.params 0 _ (replicate (length f.locals) None) Nowhere
-      fn.typed.count outermost-numbered λ numbers n.
-      let n' : Numbered f.locals numbers (λ k. k < f.params) = record { count = n.count; has = λ k below. n.has k (inr (omega arith, below)) } in
-      bind-g (set_parameters-g _ 0 vs numbers (λ k. k < f.params) (subst (λ m. m ≤ f.params) (sym count) (omega arith)) n' (λ j below. below)) λ u x.
+      (let c : f.params ≤ length f.locals = fn.typed.count in omega arith) outermost-numbered λ numbers n.
+      let n' : Numbered f.locals numbers (λ k. k < f.params) = record { count = n.count; has = λ k below. n.has k (inr (omega arith, omega arith)) } in
+      bind-g (set_parameters-g _ 0 vs numbers (λ k. k < f.params) (subst (λ m. 0 + m ≤ f.params) (sym count) (omega arith)) n' (λ j below. below)) λ u x.
       bind-g (meaning-g types w home f well inside fn f.body false false f.params Front numbers (λ k. k < f.params) cs n' l fn.body r) λ flow i. result_of-g flow i).right
 
 -- ---- calls
