@@ -1,6 +1,7 @@
 -- A constant expression gives its value, and does nothing else (ISO C90 6.4).
-use Rattle.std.proofs.Common.{ℕ, zero, suc, ◌%◌, ◌^◌, ◌≡◌, ◌≢◌, refl, sym, ap, subst, ◌∙◌, Bool, true, false, not, List, [], ◌∷◌, Option, Some, None, Result, Ok, Err}
+use Rattle.std.proofs.Common.{ℕ, zero, suc, ◌%◌, ◌^◌, ◌≡◌, ◌≢◌, refl, sym, ap, subst, ◌∙◌, arith, Bool, true, false, not, List, [], ◌∷◌, Option, Some, None, Result, Ok, Err}
 use Rattle.std.specs.Prelude.{◌==◌, if◌then◌else◌}
+use Rattle.std.proofs.lemmas.Bool.{true≢false}
 use Rattle.std.proofs.lemmas.Bool.Decides.{nat_tests}
 use Rattle.pw_value.specs.declared.value.Value.{Value}
 use Rattle.pw_value.specs.declared.value.Value.TheVariants as V
@@ -259,10 +260,12 @@ module _ (e : Env) (cs : CallList) where
   constant-gives (Node t (Qualified (Record n) c v) form) m h known = cc
 
 zero-known : (c : Constancy) → is_zero (value_known c) ≡ true → c ≡ Known 0
-zero-known (Known zero) h = refl
-zero-known (Known (suc n)) h = cc
-zero-known NoConstant h = cc
-zero-known NoValue h = cc
+zero-known (Known n) h = ap Known (zero-of n h)
+  where
+    zero-of : (n : ℕ) → (n == 0) ≡ true → n ≡ 0
+    zero-of n h = grind (arith, nat_tests)
+zero-known NoConstant h = absurd (true≢false (sym h))
+zero-known NoValue h = absurd (true≢false (sym h))
 
 -- the constant 0 gives 0
 pub null-gives : (e : Env) (cs : CallList) (a : Expression) → IsTyped e.home.tree e.locals a → is_zero_constant a ≡ true → JustGives (answer_of a cs e) (Some (V.Num 0))

@@ -157,9 +157,13 @@ with_bytes-are [] i bytes h k = k
 with_bytes-are (b ∷ new) i bytes h k =
     with_bytes-are new (suc i) (set bytes i b) (All-tail IsByte b new h) (All-set IsByte bytes i b (All-head IsByte b new h) k)
 
+piece-first : (q : AnyPointer) (i : ℕ) (rest : List Byte) → All IsByte rest → All IsByte (B.Piece q i ∷ rest)
+piece-first q i rest h = All-cons IsByte (B.Piece q i) rest tt h
+
 pieces-are : (q : AnyPointer) → All IsByte (pieces_of q)
 pieces-are q =
-    All-cons IsByte (B.Piece q 0) _ tt (All-cons IsByte (B.Piece q 1) _ tt (All-cons IsByte (B.Piece q 2) _ tt (All-cons IsByte (B.Piece q 3) [] tt (All-nil IsByte))))
+    piece-first q 0 (B.Piece q 1 ∷ B.Piece q 2 ∷ B.Piece q 3 ∷ []) (piece-first q 1 (B.Piece q 2 ∷ B.Piece q 3 ∷ [])
+    (piece-first q 2 (B.Piece q 3 ∷ []) (piece-first q 3 [] (All-nil IsByte))))
 
 address-bytes : (o : Option AnyPointer) → All IsByte (unwrap_or (option_map pieces_of o) [])
 address-bytes None = All-nil IsByte

@@ -333,15 +333,15 @@ module _ (types : Types) (w : World) (home : ProgramModule) (f : FunctionValue) 
   stands-at : (numbers : List (Option ℕ)) (scope : ℕ → Type 0) → Numbered f.locals numbers scope → Stands (env numbers) scope
   stands-at numbers scope h = record { well = well; inside = inside; has = h.has }
 
-  with_locals-g : {A : Type 0} {P : A → Type 0} (count first : ℕ) (act : Env → Act A) (numbers : List (Option ℕ)) (scope : ℕ → Type 0) → first + count ≤ length f.locals
+  pub with_locals-g : {A : Type 0} {P : A → Type 0} (count first : ℕ) (act : Env → Act A) (numbers : List (Option ℕ)) (scope : ℕ → Type 0) → first + count ≤ length f.locals
       → Numbered f.locals numbers scope → ((behind : List (Option ℕ)) → Numbered f.locals behind (with_range first count scope) → Good P (act (env behind)))
       → Good P (with_locals count first act (env numbers))
   unfolding with_locals
   with_locals-g zero first act numbers scope room h p = p numbers (numbered-none f.locals numbers scope first h)
-  with_locals-g {A} {P} (suc count) first act numbers scope room h p =
+  with_locals-g (suc count) first act numbers scope room h p =
       bind-g (need-g _ (get-one f.locals first (omega arith))) λ l found.
       bind-g (need-g _ (layout-some (type_of l.ty) (get-all (λ l. IsObjectType home.tree.records (type_of l.ty) × W.IsKnownType home.tree.records (type_of l.ty)) f.locals first l fn.locals found).0)) λ layout there.
-      with_object-g _ _ λ n. with_locals-g {A} {P} count (suc first) act (slice_set numbers first (Some n)) (with_one first scope) (omega arith)
+      with_object-g _ _ λ n. with_locals-g count (suc first) act (slice_set numbers first (Some n)) (with_one first scope) (omega arith)
       (numbered-one f.locals numbers scope first n (omega arith) h) λ behind k. p behind (numbered-range f.locals behind scope first count k)
     where
       layout-some : (ty : CType) → IsObjectType home.tree.records ty → HasOne (layout_of home.tree.records ty)
@@ -377,7 +377,7 @@ module _ (types : Types) (w : World) (home : ProgramModule) (f : FunctionValue) 
   drop_value-g None numbers scope cs n l t r = give-g Any tt tt
   drop_value-g (Some a) numbers scope cs n l t r = bind-g (expression-g a numbers scope cs n l t r) λ o i. give-g Any tt tt
 
-  set_local-g : (at : Site) (k : ℕ) (v : Value) (numbers : List (Option ℕ)) (scope : ℕ → Type 0) (l : LocalValue) → Numbered f.locals numbers scope → scope k
+  pub set_local-g : (at : Site) (k : ℕ) (v : Value) (numbers : List (Option ℕ)) (scope : ℕ → Type 0) (l : LocalValue) → Numbered f.locals numbers scope → scope k
       → slice_get f.locals k ≡ Some l → CanPut home.tree.records (type_of l.ty) v → Good Any (set_local at k v (env numbers))
   unfolding set_local
   set_local-g at k v numbers scope l n s found c =

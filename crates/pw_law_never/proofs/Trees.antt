@@ -290,13 +290,13 @@ unfolding old_value
 old-g e t op ty working right p c h =
     bind-g (load-g _ ty p (scalar-left (records_of e) op working ty right c) h) λ v i. convert-g _ (records_of e) op working ty right v c i
 
-update-r : (e : Env) (t : ℕ) (ty working : CType) (p : Value) (op : BinaryOperator) (right : CType) (old w : Value) → CanWork (records_of e) op working ty right
+update-r : (e : Env) (t : ℕ) (working ty : CType) (p : Value) (op : BinaryOperator) (right : CType) (old w : Value) → CanWork (records_of e) op working ty right
     → IsPointer p → IsValueOf working old → IsValueOf right w → Right (update e t ty working p op right old w)
 unfolding update binary
-update-r e t (Int k) (Int a) p op (Int r) old w c h i j =
+update-r e t (Int a) (Int k) p op (Int r) old w c h i j =
     bind-r (record { sound = on_numbers-s _ op a old w (small-value (Int a) old i) (small-value (Int r) w j); right = on_numbers-r _ op a old w (num-of a old c.0 i) (num-of r w c.1 j) })
     λ new x. bind-r (convert-number-g _ k new (word-integer new x)) λ v y. bind-r (put-g _ _ (Int k) p v tt h) λ u z. give-r v
-update-r e t (Pointer q) (Pointer a) p op (Int r) old w c h i j =
+update-r e t (Pointer a) (Pointer q) p op (Int r) old w c h i j =
     bind-r (record { sound = pointer_and_number-s _ _ a op old r w; right = pointer_and_number-r _ _ a op old r w c.0 c.1 })
     λ new x. bind-r (convert-pointer-g _ q new (points-of new x)) λ v y. bind-r (put-g _ _ (Pointer q) p v tt h) λ u z. give-r v
 update-r e t _ _ p op _ old w c h i j = absurd c
@@ -326,7 +326,7 @@ step-r e t op ty p s h =
     let c : CanWork (records_of e) (step_operator op) (promoted_type ty) ty (Int K.Int) = stepped (records_of e) op ty s in
     bind-r (load-g _ ty p (scalar-left (records_of e) (step_operator op) (promoted_type ty) ty (Int K.Int) c) h) λ old i.
     bind-r (convert-g _ (records_of e) (step_operator op) (promoted_type ty) ty (Int K.Int) old c i) λ v j.
-    map-r (step_result op old) (update-r e t ty (promoted_type ty) p (step_operator op) (Int K.Int) v (V.Num 1) c h j refl)
+    map-r (step_result op old) (update-r e t (promoted_type ty) ty p (step_operator op) (Int K.Int) v (V.Num 1) c h j refl)
 
 -- ---- which expressions have a place
 
@@ -503,7 +503,7 @@ module _ (types : Types) (e : Env) (cs : CallList) (scope : ℕ → Type 0) (w :
         bind-r (record { sound = place-t a h.1.0; right = place-r a h.1.0 r.0 (lvalue-place a h.1.2.lvalue) }) λ p i.
         bind-r (old-g e t op (type_in a) working (type_in b) p c i) λ old j.
         bind-r (operand-g _ (type_in b) (answer-t b h.1.1) (answer-r b h.1.1 r.1)) λ x k.
-        map-r Some (update-r e t (type_in a) working p op (type_in b) old x c i j k)
+        map-r Some (update-r e t working (type_in a) p op (type_in b) old x c i j k)
     answer-r (Node t ty (Step op a)) h r =
         bind-r (record { sound = place-t a h.1.0; right = place-r a h.1.0 r (lvalue-place a h.1.1.lvalue) }) λ p i.
         map-r Some (step-r e t op (type_in a) p h.1.3 i)
