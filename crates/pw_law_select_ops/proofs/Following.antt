@@ -114,20 +114,35 @@ module _ (laws : Laws) (p : Program) (functions : List Located) (w : Addresses) 
   program = line_program p functions
 
   -- straight lines behind which another state stands
+  pub record StraightFollows (m n : placed.Machine) (l : Machine) (rest : List Item) (e : Core) : Type 0 where
+    pub follows : Follows p program w scratch site m n l rest
+    pub core : follows.core ≡ e
+
+  pub straight_reaches : (m n : placed.Machine) (l : Machine) (before : List Item) (xs more : List Line) (e : Core) (log : List (Event ℕ ℕ)) → AreStraight xs
+      → l.frame.left ≡ slotted (xs ++ more) → l.frame.function.items ≡ before ++ l.frame.left → GoThrough program w (words_of xs) l.core e log
+      → StandsThen program w site m n l.core e → OnlyValues m n
+      → (AreAlike (EventInWords p w.named) m.trace l.trace → AreAlike (EventInWords p w.named) n.trace (log ++ l.trace))
+      → StraightFollows m n l (slotted more) e
+  straight_reaches m n l before xs more e log straight left items g reached values logs = record {
+    follows = record {
+      values = values;
+      core = e;
+      log = log;
+      passes = laws.straight program w scratch (words_of xs) before (slotted more) e log l (left ∙ laws.lines xs more straight) items g;
+      stands = reached.stands;
+      leaves = reached.leaves;
+      logs = logs;
+    };
+    core = refl;
+  }
+
   pub straight_follow : (m n : placed.Machine) (l : Machine) (before : List Item) (xs more : List Line) (e : Core) (log : List (Event ℕ ℕ)) → AreStraight xs
       → l.frame.left ≡ slotted (xs ++ more) → l.frame.function.items ≡ before ++ l.frame.left → GoThrough program w (words_of xs) l.core e log
       → StandsThen program w site m n l.core e → OnlyValues m n
       → (AreAlike (EventInWords p w.named) m.trace l.trace → AreAlike (EventInWords p w.named) n.trace (log ++ l.trace))
       → Follows p program w scratch site m n l (slotted more)
-  straight_follow m n l before xs more e log straight left items g reached values logs = record {
-    values = values;
-    core = e;
-    log = log;
-    passes = laws.straight program w scratch (words_of xs) before (slotted more) e log l (left ∙ laws.lines xs more straight) items g;
-    stands = reached.stands;
-    leaves = reached.leaves;
-    logs = logs;
-  }
+  straight_follow m n l before xs more e log straight left items g reached values logs =
+      (straight_reaches m n l before xs more e log straight left items g reached values logs).follows
 
   -- and lines that put a word for a value into the place of a temporary, and note nothing
   pub result_follows : (o : WebOp) (m n : placed.Machine) (l : Machine) (before : List Item) (more : List Line) (t x : ℕ) (v : Value) → StandAt p functions w site o m l before more
