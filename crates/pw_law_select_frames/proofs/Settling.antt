@@ -113,7 +113,7 @@ module _ (known : Known) (lines : StraightLinesAreWords) (results : ResultsStand
       may.amid.inside.1 ∙ (ap (λ (is : List Item). may.amid.inside.0 ++ is) is ∙ sym (append_assoc may.amid.inside.0 (map Plain words) middle)) in
       let two : Passes lp w scratch mid (slotted rest) taken.core [] =
       item_passes lp w scratch (Mark 0) (may.amid.inside.0 ++ map Plain words) (slotted rest) taken.core 0 mid (λ h. h) whole
-          (mark_step lp w scratch 0 (slotted rest) mid ∙ stays_on lp w scratch (slotted rest) mid) in
+      (mark_step lp w scratch 0 (slotted rest) mid ∙ stays_on lp w scratch (slotted rest) mid) in
       let all = passes_then lp w scratch l middle (slotted rest) taken.core taken.core [] [] one two in
       let only = parameters_only 0 args m in
       let n = with_parameters 0 args m in
