@@ -1,5 +1,5 @@
 -- From the end of a function that returns to where its saved registers come back.
-use Rattle.std.proofs.Common.{ℕ, ◌≡◌, ◌+◌, arith, refl, ap, sym, subst, ◌∙◌, Option, Some, None, List, [], ◌∷◌, ◌++◌, map, append_assoc}
+use Rattle.std.proofs.Common.{ℕ, ◌≡◌, arith, refl, ap, sym, subst, ◌∙◌, Option, Some, None, List, [], ◌∷◌, ◌++◌, map, append_assoc}
 use Rattle.std.specs.List.{AllByRecursion, flat_map}
 use Rattle.pw_flow.specs.declared.flow.End.{End}
 use Rattle.pw_flow.specs.declared.flow.End.TheVariants.{Return}

@@ -1,5 +1,5 @@
 -- The webs that a function enters are webs of its own.
-use Rattle.std.proofs.Common.{ℕ, suc, ◌≡◌, ◌+◌, ◌<◌, arith, refl, Bool, true, false, if◌then◌else◌, ◌==◌, ◌&&◌, List, [], ◌∷◌, ◌++◌, map, Contains}
+use Rattle.std.proofs.Common.{ℕ, suc, ◌≡◌, ◌<◌, arith, refl, Bool, true, false, if◌then◌else◌, ◌==◌, ◌&&◌, List, [], ◌∷◌, ◌++◌, map, Contains}
 use Rattle.std.specs.List.{AllByRecursion, flat_map}
 use Rattle.pw_db.specs.Limits.{kept_registers}
 use Rattle.pw_db.specs.Database.{IsWeb, IsDirectives}

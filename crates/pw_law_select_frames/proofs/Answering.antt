@@ -1,5 +1,5 @@
 -- The caller takes an answer.
-use Rattle.std.proofs.Common.{ℕ, ◌≡◌, ◌+◌, ◌-◌, arith, refl, sym, subst, ◌∙◌, Option, Some, None, List, [], ◌∷◌, ◌++◌, map, length, append_assoc}
+use Rattle.std.proofs.Common.{ℕ, ◌≡◌, arith, refl, sym, subst, ◌∙◌, Option, Some, None, List, [], ◌∷◌, ◌++◌, map, length, append_assoc}
 use Rattle.std.specs.List.{AllByRecursion}
 use Rattle.pw_value.specs.declared.value.Value.{Value}
 use Rattle.pw_inst.specs.Registers.{answer, result}

@@ -28,7 +28,7 @@ use Rattle.pw_run_languages.specs.Acts.{Core, register, number_at}
 use Rattle.pw_run_languages.specs.Standing.{GlobalsAreNamed, ValueStands}
 use Rattle.pw_run_languages.specs.LineRun.{LineProgram}
 use Rattle.pw_run_languages.specs.FlowRun.{with_slots}
-use Rattle.pw_run_languages.specs.PlacedRun.{Machine, entered, without_places, with_register}
+use Rattle.pw_run_languages.specs.PlacedRun.{Machine, without_places, with_register}
 use Rattle.pw_run_languages.specs.Serving.{IsTempRegister, Serves, Changes}
 use Rattle.pw_law_select_memory.specs.Stand.{BytesStand, OldBytesStand}
 use Rattle.pw_law_select_states.specs.Laid.{address, Lives, size_of, AreLaid}

@@ -1,5 +1,5 @@
 -- The words and slots of a frame, by the sizes of its parts.
-use Rattle.std.proofs.Common.{ℕ, ℤ, negsuc, zero, suc, ◌≡◌, ◌+◌, ◌-◌, ◌*◌, ◌%◌, ◌<◌, ◌≤◌, arith, refl, ap, sym, subst, ◌∙◌, Option, Some, None, option_map, List, [], ◌∷◌, map, length, slice_get, slice_index_or, Contains}
+use Rattle.std.proofs.Common.{ℕ, ℤ, negsuc, zero, suc, ◌≡◌, ◌+◌, ◌*◌, ◌%◌, ◌<◌, ◌≤◌, arith, refl, ap, sym, subst, ◌∙◌, Option, Some, None, option_map, List, [], ◌∷◌, map, length, slice_get, slice_index_or, Contains}
 use Rattle.std.proofs.lemmas.Option.{slice_get-map, slice_get_within, same_Some}
 use Rattle.pw_value.specs.Objects.{Object}
 use Rattle.pw_value.specs.Rounding.{slot_room}

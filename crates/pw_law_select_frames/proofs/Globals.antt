@@ -1,5 +1,5 @@
 -- Where globals stand in words at calls and returns.
-use Rattle.std.proofs.Common.{ℕ, zero, suc, ◌≡◌, ◌+◌, ◌-◌, ◌*◌, arith, refl, ap, sym, subst, Bool, true, false, if◌then◌else◌, ◌==◌, Option, Some, None, option_map, List, [], ◌∷◌, map, slice_get, bytes_eq}
+use Rattle.std.proofs.Common.{ℕ, suc, ◌≡◌, ◌+◌, ◌-◌, ◌*◌, arith, refl, ap, sym, subst, Bool, true, false, if◌then◌else◌, ◌==◌, Option, Some, None, option_map, List, [], ◌∷◌, map, slice_get, bytes_eq}
 use Rattle.std.specs.List.{AllByRecursion}
 use Rattle.std.specs.Option.{option_or}
 use Rattle.std.proofs.lemmas.Bool.{ne_eqb}

@@ -1,5 +1,5 @@
 -- Ends of blocks that do not return, in both runs.
-use Rattle.std.proofs.Common.{ℕ, cond, zero, suc, ◌≡◌, ◌≢◌, ◌+◌, ◌-◌, ◌^◌, ◌<◌, ◌≤◌, ◌⊎◌, inl, inr, arith, refl, ap, sym, subst, ◌∙◌, Bool, true, false, if◌then◌else◌, nat_le, ◌==◌, Option, Some, None, option_map, unwrap_or, find, List, [], ◌∷◌, ◌++◌, length, get_or, slice_get, append_assoc, Contains}
+use Rattle.std.proofs.Common.{ℕ, cond, zero, suc, ◌≡◌, ◌≢◌, ◌+◌, ◌^◌, ◌<◌, ◌≤◌, ◌⊎◌, inl, inr, arith, refl, ap, sym, subst, ◌∙◌, Bool, true, false, if◌then◌else◌, nat_le, ◌==◌, Option, Some, None, option_map, unwrap_or, find, List, [], ◌∷◌, ◌++◌, length, get_or, slice_get, append_assoc, Contains}
 use Rattle.std.proofs.lemmas.Bool.{cases_eq, and_parts, leb-true}
 use Rattle.std.proofs.lemmas.Option.{slice_get-get_or}
 use Rattle.pw_value.specs.declared.value.Value.{Value}

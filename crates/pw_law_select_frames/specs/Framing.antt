@@ -1,5 +1,5 @@
 -- Where a function's words and slots stand in its frame.
-use Rattle.std.specs.Prelude.{ℕ, ◌≡◌, ◌+◌, ◌-◌, ◌*◌, ◌%◌, ◌<◌, ◌≤◌, Some, List, length, slice_get}
+use Rattle.std.specs.Prelude.{ℕ, ◌≡◌, ◌+◌, ◌*◌, ◌%◌, ◌<◌, ◌≤◌, Some, List, length, slice_get}
 use Rattle.pw_value.specs.Objects.{Object}
 use Rattle.pw_value.specs.Rounding.{slot_room}
 use Rattle.pw_alloc.specs.declared.located.Place.{Place}

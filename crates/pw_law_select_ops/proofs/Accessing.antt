@@ -1,5 +1,5 @@
 -- Operations that load and store scalars: where a pointer leads, and of globals by their names.
-use Rattle.std.proofs.Common.{ℕ, zero, suc, ◌≡◌, ◌≢◌, ◌+◌, ◌%◌, ◌^◌, ◌<◌, ◌≤◌, ◌⊎◌, inl, inr, refl, ap, ap₂, sym, subst, ◌∙◌, arith, mod-eq_of_lt, Bool, true, false, true≢false, ◌&&◌, nat_le, if◌then◌else◌, Option, Some, None, List, [], ◌∷◌, ◌++◌, append-nil, length, replicate, slice_get}
+use Rattle.std.proofs.Common.{ℕ, zero, suc, ◌≡◌, ◌+◌, ◌%◌, ◌^◌, ◌<◌, ◌≤◌, ◌⊎◌, inl, inr, refl, ap, sym, subst, ◌∙◌, arith, Bool, true, false, true≢false, ◌&&◌, nat_le, if◌then◌else◌, Option, Some, None, List, [], ◌∷◌, ◌++◌, append-nil, length, replicate, slice_get}
 use Rattle.std.specs.Prelude.{◌==◌, pos}
 use Rattle.std.proofs.lemmas.Bool.{and_parts, and_from, eqb-true, eq-eqb, le-leb, leb-true}
 use Rattle.std.proofs.lemmas.Bool.Decides.{nat_tests}
@@ -10,11 +10,9 @@ use Rattle.pw_value.specs.declared.value.Value.{Value}
 use Rattle.pw_value.specs.declared.value.Value.TheVariants.{Undefined, Num, Null, At, Piece}
 use Rattle.pw_value.specs.declared.value.Byte.{Byte}
 use Rattle.pw_value.specs.declared.value.Byte.TheVariants as B
-use Rattle.pw_value.specs.declared.value.Pointer.{Pointer}
 use Rattle.pw_value.specs.declared.value.Pointer.TheVariants as P
 use Rattle.pw_value.specs.Objects.{Object, object_at, bytes_from, written}
 use Rattle.pw_value.specs.Values.{number_bytes, encoding}
-use Rattle.pw_flow.specs.declared.flow.FlowGlobal.{FlowGlobal}
 use Rattle.pw_flow.specs.declared.flow.Op.TheVariants as op
 use Rattle.pw_flow.specs.ValidFlow.{kind_size}
 use Rattle.pw_db.specs.declared.database.Web.{Web}
@@ -31,7 +29,7 @@ use Rattle.pw_webflow.specs.declared.web.WebOp.{WebOp}
 use Rattle.pw_webflow.specs.declared.web.WebOp.TheVariants.{Flow, Read, Write}
 use Rattle.pw_run.specs.Runs.{AreAlike}
 use Rattle.pw_run_languages.specs.Traces.{Event, Loaded, Stored, EventAlike}
-use Rattle.pw_run_languages.specs.Programs.{Program, globals_of, global_number}
+use Rattle.pw_run_languages.specs.Programs.{Program, global_number}
 use Rattle.pw_run_languages.specs.Memory.{is_open, look_in, poke_in, look, poke, scalar_of, may_stand, is_of_kind}
 use Rattle.pw_run_languages.specs.FlowRun.{is_own_kind, get_global, put_global}
 use Rattle.pw_run_languages.specs.Commands.{command}
@@ -62,7 +60,7 @@ use Rattle.pw_law_select_ops.specs.Webs.{StandAtWeb, WebFollows, WebLoadsFollow,
 use Rattle.pw_law_select_ops.proofs.Naming.{IsGlobalAt, global_at, named_site}
 use Rattle.pw_law_select_ops.proofs.Values.{near_is}
 use Rattle.pw_law_select_ops.proofs.Noting.{eligible_in, eligible_same, pointer_load_notes, pointer_store_notes, named_load_notes, named_store_notes}
-use Rattle.pw_law_select_ops.proofs.Straightness.{AreStraight, joined_straight, none_straight, one_straight, operand_straight, spread_straight, scalar_load_straight, scalar_store_straight, read_straight, write_straight}
+use Rattle.pw_law_select_ops.proofs.Straightness.{joined_straight, none_straight, one_straight, operand_straight, spread_straight, scalar_load_straight, scalar_store_straight, read_straight, write_straight}
 use Rattle.pw_law_select_ops.proofs.Following.{Laws, register_of_place, put_at, values_put, trace_put, same_machine, given, target_of, source_of, straight_reaches, straight_follow, result_follows, place_at}
 use Rattle.pw_law_select_ops.proofs.Targets.{TargetsAre, words_keep, read_keeps, write_keeps}
 

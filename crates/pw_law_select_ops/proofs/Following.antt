@@ -1,13 +1,12 @@
 -- What is common to the operations: the laws that they rest on, and lines that follow the placed run.
-use Rattle.std.proofs.Common.{ℕ, ◌≡◌, ◌≢◌, ◌+◌, ◌^◌, ◌<◌, refl, ap, sym, subst, ◌∙◌, arith, false, Option, Some, None, List, [], ◌∷◌, ◌++◌, map, append_assoc, slice_get, slice_set}
+use Rattle.std.proofs.Common.{ℕ, ◌≡◌, ◌^◌, ◌<◌, refl, ap, sym, subst, ◌∙◌, arith, Option, Some, None, List, [], ◌++◌, map, append_assoc, slice_get, slice_set}
 use Rattle.pw_value.specs.declared.value.Value.{Value}
 use Rattle.pw_value.specs.declared.value.Byte.{Byte}
 use Rattle.pw_alloc.specs.declared.located.Place.{Place}
 use Rattle.pw_alloc.specs.declared.located.Place.TheVariants.{Slot, Reg}
 use Rattle.pw_alloc.specs.declared.located.Located.{Located}
-use Rattle.pw_inst.specs.Registers.{help, first, second, result}
+use Rattle.pw_inst.specs.Registers.{first}
 use Rattle.pw_inst.specs.declared.line.Line.{Line}
-use Rattle.pw_delay.specs.declared.items.Word.{Word}
 use Rattle.pw_delay.specs.declared.items.Item.{Item}
 use Rattle.pw_delay.specs.declared.items.Item.TheVariants.{Plain}
 use Rattle.pw_delay.specs.Items.{slotted}
@@ -24,10 +23,9 @@ use Rattle.pw_run_languages.specs.SelectionLaws.{line_program}
 use Rattle.pw_select_lines.specs.Registers.{place_of, operand_register, result_register}
 use Rattle.pw_select_lines.specs.Operations.{web_op_lines}
 use Rattle.pw_law_select_rows.specs.Straight.{words_of, StraightLinesAreWords}
-use Rattle.pw_law_select_rows.specs.Results.{GoThrough, IsPlace, IsPlaced, PlacesWord, ResultsArePlaced, OneOperandIsTaken, TwoOperandsAreTaken}
+use Rattle.pw_law_select_rows.specs.Results.{GoThrough, IsPlace, PlacesWord, ResultsArePlaced, OneOperandIsTaken, TwoOperandsAreTaken}
 use Rattle.pw_law_select_rows.specs.Computing.{IsSource, IsTarget, UnariesAreComputed, ExtensionsAreComputed, BinariesAreComputed, CopiesAreMade, ConstantsAreGot, AddressesAreGot, FrameAddressesAreGot}
 use Rattle.pw_law_select_states.specs.Laid.{address}
-use Rattle.pw_law_select_states.specs.States.{Stands}
 use Rattle.pw_law_select_states.specs.Passes.{Passes, further, OnlyValues, Follows}
 use Rattle.pw_law_select_places.specs.Places.{HasPlace, StandsThen, TemporariesHavePlaces, ResultsStand, WebRegistersStand, PointersAreWords}
 use Rattle.pw_law_select_places.specs.Objects.{WrittenObjectsStand}
