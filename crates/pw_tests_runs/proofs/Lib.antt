@@ -14,3 +14,11 @@ mod WordRows
 mod SourceRows
 mod AcceptedRows
 mod BuiltRows
+mod WrittenLists
+mod SummaryRows
+mod WebRows
+mod AnalysedRows
+mod RunEnds
+mod PremiseRows
+mod WrongRows
+mod LoweringRows
