@@ -53,8 +53,8 @@ number k = B.Num 0 ∷ B.Num 0 ∷ B.Num 0 ∷ B.Num k ∷ []
 abbrev n_is : ℕ → List Object
 n_is k = record { bytes = number k; live = true; writable = true } ∷ []
 
-bytes_kept : (k : ℕ) (place : ℕ → ℕ) (objects : List Object) → AreAlike (ByteKept place objects) (number k) (number k)
-bytes_kept k place objects =
+bytes_kept : (k : ℕ) (place : ℕ → ℕ) (os : List Object) → AreAlike (ByteKept place os) (number k) (number k)
+bytes_kept k place os =
     also (B.Num 0) (B.Num 0) _ _ refl (also (B.Num 0) (B.Num 0) _ _ refl (also (B.Num 0) (B.Num 0) _ _ refl (also (B.Num k) (B.Num k) _ _ refl none)))
 
 same_at : (k : ℕ) → SameGlobals q (n_is k) (n_is k)
@@ -150,15 +150,15 @@ by_two o = o
 abbrev twice : FlowFn
 twice = record bump { blocks = map (λ (b : Block). record b { ops = map by_two b.ops }) bump.blocks }
 
-abbrev wrong : flows.Program
-wrong = record {
+abbrev doubling : flows.Program
+doubling = record {
   modules = record { name = codes "a"; globals = global (codes "n") ∷ []; functions = twice ∷ bump_main ∷ start ∷ []; declared = [] } ∷ [];
   frame_of = q.frame_of;
   stack = q.stack;
 }
 
-wrong_graphs : Refines (MomentKept wrong) (source_stages in_c q.frame_of q.stack []) (flow_run wrong []) → ⊥
+wrong_graphs : Refines (MomentKept doubling) (source_stages in_c q.frame_of q.stack []) (flow_run doubling []) → ⊥
 unfolding give stop go_on ◌>>=◌ branch wrong look make end_object write next_byte get_char put_char called returned during with_object need undefined told judge objects_now within load store copy fetch put truth outcome_of on_numbers unary_number unary advance advance_elements difference ordered compared on_pointers pointer_and_number number_and_pointer binary convert local_place symbol_place used value_by value_at cast bounded_call take_room library_call call_body call call_value old_value update step answer_of place_of values_of go_forward caught taking_up after_body turn loop meet_loop always value_of condition for_condition drop_value switch_to after_switch with_locals set_local initialise initialise_all meaning items arms behind_arms set_parameters result_of run_body callee calls finish run_main source_stages command flow.step flow.steps flow_run directed allocated entered_from selected entered_lines placed laid
 wrong_graphs keeps =
-    refuses (MomentKept wrong) (source_stages in_c q.frame_of q.stack []) (flow_run wrong []) (flow_rests wrong []) 2 20 refl refl
+    refuses (MomentKept doubling) (source_stages in_c q.frame_of q.stack []) (flow_run doubling []) (flow_rests doubling []) 2 20 refl refl
     (λ e. let no : 2 ≡ 4 = ap (λ (x : ℕ × List ℕ). x.0) e in omega (arith, no)) keeps

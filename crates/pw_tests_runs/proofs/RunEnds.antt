@@ -10,7 +10,7 @@ use Rattle.pw_run_languages.specs.FlowRun as flow
 use Rattle.pw_run_languages.specs.FlowRun.{flow_run}
 use Rattle.pw_run_languages.specs.PlacedRun as placed
 use Rattle.pw_run_languages.specs.PlacedRun.{PlacedProgram, placed_run}
-use Rattle.pw_run_languages.specs.Direction.{web_run}
+use Rattle.pw_run_languages.specs.Direction.{web_run, directed_functions, unplaced, with_functions}
 use Rattle.pw_run_languages.specs.Addresses.{Addresses}
 use Rattle.pw_run_languages.specs.LineRun as lines
 use Rattle.pw_run_languages.specs.LineRun.{LineProgram, line_run}
@@ -56,10 +56,11 @@ one_end run rests n m a b = elim (cases_lt n m) [
 
 -- ---- refinement
 
-record EndsAlike {M N : Type 0} (a : Stage M) (b : ℕ → Stage N) : Type 0 where
-  at : ℕ
-  over : is_over (b at) ≡ true
-  same : ends a ≡ ends (b at)
+-- a run ends as a stage does
+pub record EndsAlike {M N : Type 0} (a : Stage M) (b : ℕ → Stage N) : Type 0 where
+  pub at : ℕ
+  pub over : is_over (b at) ≡ true
+  pub same : ends a ≡ ends (b at)
 
 met_end : {M N : Type 0} (Alike : M → N → Type 0) (a : Stage M) (b : ℕ → Stage N) → is_over a ≡ true → Met Alike a b → EndsAlike a b
 met_end Alike (Going v) b e m = absurd cc
@@ -129,7 +130,7 @@ shown_rests run rests n k e = ap (shown_by calls_alone) (rests n k (sym (shown_o
 
 pub web_rests : (p : Program) (d : List (List ℕ × Directives)) (input : List ℕ) → Rests (web_run p d input)
 unfolding web_run
-web_rests p d input = placed_rests _ input
+web_rests p d input = placed_rests (with_functions p (map unplaced (directed_functions p d))) input
 
 -- ---- runs of lines
 

@@ -1,5 +1,5 @@
 -- The summary of bump and main, which makes a program by itself, and its call graph.
-use Rattle.std.specs.Prelude.{ℕ, ◌≡◌, ◌<◌, ◌↔◌, false, Option, Some, None, unwrap_or, if◌then◌else◌, List, [], ◌∷◌, map, codes, slice_get, Contains}
+use Rattle.std.specs.Prelude.{ℕ, ◌≡◌, ◌<◌, ◌↔◌, false, Bool, Option, Some, None, unwrap_or, if◌then◌else◌, List, [], ◌∷◌, map, codes, slice_get, Contains}
 use Rattle.std.specs.List.{flat_map, AllByRecursion}
 use Rattle.std.specs.Str.{bytes_eq}
 use Rattle.std.proofs.Common.{arith, subst, sym, refl, ◌∙◌, inl}
@@ -281,7 +281,7 @@ global_there v k e =
     each (λ (s : Summary). Contains s.globals (v, e.shape, Some k, false) → Contains graph.globals (v, k)) summaries (in_it, tt) e.summary e.stands e.defined
   where
     in_it : Contains summary.globals (v, e.shape, Some k, false) → Contains graph.globals (v, k)
-    in_it c = each (λ (g : _). Contains graph.globals (g.0, unwrap_or g.2 W32)) summary.globals ((0, omega arith, refl), tt) (v, e.shape, Some k, false) c
+    in_it c = each (λ (g : List ℕ × List ℕ × Option Kind × Bool). Contains graph.globals (g.0, unwrap_or g.2 W32)) summary.globals ((0, omega arith, refl), tt) (v, e.shape, Some k, false) c
 
 -- ---- references
 

@@ -104,7 +104,7 @@ stands_between f b leaf path = absurd (leaf_path f b leaf path)
 
 in_region : (f : ℕ) → Region graph 0 f → IsIn f
 in_region f (refers _ r) = referring f r
-in_region f (between a _ b ra there on rb) = stands_between f b (below a f (in_region a ra) there) on
+in_region f (between a _ b ra there away rb) = stands_between f b (below a f (in_region a ra) there) away
 in_region f (outside a m _ ra c rm d) = outer a m f (in_region a ra) c (in_region m rm) d
 
 bump_in : Region graph 0 1
@@ -172,7 +172,7 @@ abbrev coloured : List (RawWeb × Option ℕ)
 coloured = (web, Some 3) ∷ []
 
 three : IsColour 8 [] web (Some 3)
-three = (omega arith, (omega arith, omega arith), (λ u c. absurd (nowhere _ c)), (λ q low high free. omega (arith, low, high)))
+three = (record { lt = tt }, (omega arith, omega arith), (λ u c. absurd (nowhere (u, Some 3) c)), (λ q low high free. omega (arith, low, high)))
 
 given : (f : List ℕ) (d : Directives) → Contains bump_directives (f, d) → (place : ℕ) × (slice_get graph.functions place ≡ Some f) × (d ≡ directives_of graph (numbered 0 coloured) place) × (0 < length d.webs)
 given f d c =

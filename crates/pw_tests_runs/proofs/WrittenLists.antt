@@ -1,5 +1,5 @@
 -- Lists that are written out, item by item.
-use Rattle.std.specs.Prelude.{ℕ, zero, suc, ◌≡◌, ◌<◌, Option, Some, unwrap_or, List, [], ◌∷◌, length, slice_get, slice_index, Contains}
+use Rattle.std.specs.Prelude.{ℕ, zero, suc, ◌≡◌, ◌<◌, Some, unwrap_or, List, [], ◌∷◌, length, slice_get, slice_index, Contains}
 use Rattle.std.specs.List.{AllByRecursion}
 use Rattle.std.specs.List.Sorted.{IsStrictlyIncreasing}
 use Rattle.std.proofs.Common.{arith, subst, ap}
@@ -23,13 +23,13 @@ EachAt P (x ∷ xs) = P 0 x × EachAt (λ i. P (suc i)) xs
 
 pub each_at : {X : Type 0} (P : ℕ → X → Type 0) (xs : List X) → EachAt P xs → (i : ℕ) (x : X) → slice_get xs i ≡ Some x → P i x
 each_at P [] all i x e = absurd cc
-each_at P (y ∷ ys) all zero x e = subst (P 0) (ap (λ (o : Option _). unwrap_or o y) e) all.0
+each_at P (y ∷ ys) all zero x e = subst (P 0) (ap (λ o. unwrap_or o y) e) all.0
 each_at P (y ∷ ys) all (suc i) x e = each_at (λ i. P (suc i)) ys all.1 i x e
 
 -- what holds of two items that are given
 pub of_two : {X Y : Type 0} (P : X → Y → Type 0) (x : X) (y : Y) → P x y → (a : X) (b : Y) → Some x ≡ Some a → Some y ≡ Some b → P a b
 of_two P x y p a b e k =
-    subst (P a) (ap (λ (o : Option _). unwrap_or o y) k) (subst (λ a. P a y) (ap (λ (o : Option _). unwrap_or o x) e) p)
+    subst (P a) (ap (λ o. unwrap_or o y) k) (subst (λ a. P a y) (ap (λ o. unwrap_or o x) e) p)
 
 -- ---- numbers that rise
 

@@ -12,6 +12,7 @@ use Rattle.pw_alloc.specs.declared.located.Place.{Place}
 use Rattle.pw_alloc.specs.declared.located.Place.TheVariants.{Slot}
 use Rattle.pw_alloc.specs.Allocation.{allocated, entered_from}
 use Rattle.pw_select.specs.Selection.{selected, entered_lines}
+use Rattle.pw_delay.specs.Placement.{laid, placed as placed_words}
 use Rattle.pw_object.specs.declared.object.Object.{Object}
 use Rattle.pw_object.specs.Object.{whole_object}
 use Rattle.pw_link.specs.Linking.{linked}
@@ -121,7 +122,7 @@ unlike l m (also _ _ _ _ a rest) e k = absurd cc
 
 too_late : (l m : List (Event ℕ ℕ)) → Lately Same l m → l ≡ a_call ∷ [] → m ≡ [] → ⊥
 too_late l m (level _ _ a) e k = unlike l m a e k
-too_late l m (ahead f _ _ access rest) e k = let is : f ≡ a_call = ap (latest f) e in subst IsAccess is access
+too_late l m (ahead f _ _ access rest) e k = let is : f ≡ a_call = ap (latest f) e in subst (λ (x : Event ℕ ℕ). IsAccess x) is access
 
 abbrev log_of : Stage (Event ℕ ℕ) → List (Event ℕ ℕ)
 log_of (Going v) = v.log
@@ -136,6 +137,7 @@ abbrev without_n : List Object
 without_n = whole_object (codes "a") [] [] [] [] [] (map compiled places) ∷ []
 
 wrong_image : LinkKeeps bumping places (linked without_n 4096) [] → ⊥
+unfolding directed allocated entered_from selected entered_lines placed_words laid
 wrong_image keeps =
     let above = keeps.lawful.above (global (codes "n")) (0, omega arith, refl) in
     let nowhere : keeps.addresses.named (codes "n") ≡ 0 = ap (λ (named : List ℕ → ℕ). named (codes "n")) keeps.named in
