@@ -2,7 +2,6 @@
 -- or from a program of RegisterRows.
 use Rattle.std.specs.Prelude.{ℕ, ◌≡◌, ◌≤◌, List, [], ◌∷◌, map, codes}
 use Rattle.std.proofs.Common.{arith, ap, subst, sym, refl, ◌∙◌}
-use Rattle.pw_value.specs.Limits.{text_start}
 use Rattle.pw_db.specs.declared.database.Role.TheVariants.{Entry}
 use Rattle.pw_db.specs.declared.database.Directives.{Directives}
 use Rattle.pw_webflow.specs.Direction.{directed}
@@ -139,7 +138,7 @@ without_n = whole_object (codes "a") [] [] [] [] [] (map compiled places) ∷ []
 wrong_image : LinkKeeps bumping places (linked without_n 4096) [] → ⊥
 unfolding directed allocated entered_from selected entered_lines placed_words laid
 wrong_image keeps =
-    let above = keeps.lawful.above (global (codes "n")) (0, omega arith, refl) in
+    let above : keeps.addresses.data_start ≤ keeps.addresses.named (codes "n") = keeps.lawful.above (global (codes "n")) (0, omega arith, refl) in
     let nowhere : keeps.addresses.named (codes "n") ≡ 0 = ap (λ (named : List ℕ → ℕ). named (codes "n")) keeps.named in
-    let low : text_start ≤ keeps.addresses.data_start = keeps.lawful.data_above in
+    let low : 4096 ≤ keeps.addresses.data_start = keeps.lawful.data_above in
     omega (arith, above, nowhere, low)
