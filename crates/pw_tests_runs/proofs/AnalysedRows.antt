@@ -156,12 +156,12 @@ moves_down = (
   (
     (λ d t. record { node = node_of bumping bump; there = (0, omega arith, refl); name = refl; defined = refl; taken = refl }),
     (
-      (λ d t. let no : false ≡ true = d in absurd cc),
+      (λ d t. let wrong : false ≡ true = d in absurd cc),
       (
-        (λ d t. let no : false ≡ true = d in absurd cc),
+        (λ d t. let wrong : false ≡ true = d in absurd cc),
         (
           (λ d t. record { node = node_of bumping bump_main; there = (1, omega arith, refl); name = refl; defined = refl; taken = refl }),
-          ((λ d t. let no : false ≡ true = d in absurd cc), tt),
+          ((λ d t. let wrong : false ≡ true = d in absurd cc), tt),
         ),
       ),
     ),

@@ -161,4 +161,4 @@ wrong_graphs : Refines (MomentKept doubling) (source_stages in_c q.frame_of q.st
 unfolding give stop go_on ◌>>=◌ branch wrong look make end_object write next_byte get_char put_char called returned during with_object need undefined told judge objects_now within load store copy fetch put truth outcome_of on_numbers unary_number unary advance advance_elements difference ordered compared on_pointers pointer_and_number number_and_pointer binary convert local_place symbol_place used value_by value_at cast bounded_call take_room library_call call_body call call_value old_value update step answer_of place_of values_of go_forward caught taking_up after_body turn loop meet_loop always value_of condition for_condition drop_value switch_to after_switch with_locals set_local initialise initialise_all meaning items arms behind_arms set_parameters result_of run_body callee calls finish run_main source_stages command flow.step flow.steps flow_run directed allocated entered_from selected entered_lines placed laid
 wrong_graphs keeps =
     refuses (MomentKept doubling) (source_stages in_c q.frame_of q.stack []) (flow_run doubling []) (flow_rests doubling []) 2 20 refl refl
-    (λ e. let no : 2 ≡ 4 = ap (λ (x : ℕ × List ℕ). x.0) e in omega (arith, no)) keeps
+    (λ e. let apart : 2 ≡ 4 = ap (λ (x : ℕ × List ℕ). x.0) e in omega (arith, apart)) keeps

@@ -185,21 +185,21 @@ bump_use = record { summary = summary; stands = (0, omega arith, refl); place = 
 abbrev main_use : IsUseOf summaries (codes "main") of_main
 main_use = record { summary = summary; stands = (0, omega arith, refl); place = 2; shape = codes "fi"; at = refl; uses = refl }
 
--- each use is one of these
+-- each made is one of these
 each_use : (P : List ℕ → Uses → Type 0) → P (codes "$start") of_start → P (codes "bump") of_bump → P (codes "main") of_main
     → (f : List ℕ) (u : Uses) → IsUseOf summaries f u → P f u
-each_use P start bump main f u use =
-    each (λ (s : Summary). slice_get s.functions use.place ≡ Some (f, use.shape) → slice_get s.uses use.place ≡ Some u → P f u) summaries (in_it, tt)
-    use.summary use.stands use.at use.uses
+each_use P start bump main f u made =
+    each (λ (s : Summary). slice_get s.functions made.place ≡ Some (f, made.shape) → slice_get s.uses made.place ≡ Some u → P f u) summaries (in_it, tt)
+    made.summary made.stands made.at made.uses
   where
     given : (name : List ℕ) (v : Uses) → P name v → Some v ≡ Some u → P name u
     given name v p e = of_two (λ (w : Uses) (x : Uses). P name w) v v p u u e e
 
-    in_it : slice_get summary.functions use.place ≡ Some (f, use.shape) → slice_get summary.uses use.place ≡ Some u → P f u
+    in_it : slice_get summary.functions made.place ≡ Some (f, made.shape) → slice_get summary.uses made.place ≡ Some u → P f u
     in_it at uses =
         each_at (λ i (d : List ℕ × List ℕ). slice_get summary.uses i ≡ Some u → P d.0 u) summary.functions
         (given (codes "$start") of_start start, (given (codes "bump") of_bump bump, (given (codes "main") of_main main, tt)))
-        use.place (f, use.shape) at uses
+        made.place (f, made.shape) at uses
 
 -- ---- the places of names
 
@@ -254,8 +254,8 @@ no_shape : (f : List ℕ) (u : Uses) → IsUseOf summaries f u → (shape : List
 no_shape = each_use (λ (f : List ℕ) (u : Uses). (shape : List ℕ) → Contains u.shapes shape → ⊥) nowhere nowhere nowhere
 
 call_at : (f h : List ℕ) → IsCall summaries f h → Calls graph (place_of f) (place_of h)
-call_at f h (by_name u use c) = calls_from f u use h c
-call_at f h (through_value u shape use c there taken) = absurd (no_shape f u use shape c)
+call_at f h (by_name u made c) = calls_from f u made h c
+call_at f h (through_value u shape made c there taken) = absurd (no_shape f u made shape c)
 
 calls_back : (a b : ℕ) (f h : List ℕ) → slice_get graph.functions a ≡ Some f → slice_get graph.functions b ≡ Some h → IsCall summaries f h → Calls graph a b
 calls_back a b f h e k c =
@@ -315,11 +315,11 @@ all_weighed = each_ref IsWeighed (
   ),
 )
 
-abbrev Refers : List ℕ → Uses → Type 0
-Refers f u = (x : List ℕ × ℕ × ℕ) → Contains u.refs x → Weighs graph (place_of f) 0 x.1 x.2
+abbrev RefersSo : List ℕ → Uses → Type 0
+RefersSo f u = (x : List ℕ × ℕ × ℕ) → Contains u.refs x → Weighs graph (place_of f) 0 x.1 x.2
 
-refers : (f : List ℕ) (u : Uses) → IsUseOf summaries f u → Refers f u
-refers = each_use Refers
+refers : (f : List ℕ) (u : Uses) → IsUseOf summaries f u → RefersSo f u
+refers = each_use RefersSo
     (λ x c. absurd (nowhere x c))
     (each (λ (x : List ℕ × ℕ × ℕ). Weighs graph 1 0 x.1 x.2) of_bump.refs (bump_weighs, tt))
     (each (λ (x : List ℕ × ℕ × ℕ). Weighs graph 4 0 x.1 x.2) of_main.refs (main_weighs, tt))

@@ -46,7 +46,7 @@ unfolding flow_run flow.step flow.steps web_run placed_run placed.step placed.st
 wrong_directives keeps =
     refuses (MomentAlike bumping) (flow_run bumping []) (calls_of (web_run bumping main_alone []))
     (shown_rests (web_run bumping main_alone []) (web_rests bumping main_alone [])) 40 40 refl refl
-    (λ e. let no : 2 ≡ 0 = ap (λ (x : ℕ × List ℕ). x.0) e in omega (arith, no)) keeps.runs
+    (λ e. let apart : 2 ≡ 0 = ap (λ (x : ℕ × List ℕ). x.0) e in omega (arith, apart)) keeps.runs
 
 -- ---- places: bump does not save the register in which its caller has a number
 
@@ -58,7 +58,7 @@ unfolding web_run placed_run placed.step placed.steps command.command directed e
 wrong_places keeps =
     refuses (EventAlike Same Same) (web_run (holding bump) [] []) (placed_run (with_functions (holding bump) unsaved) [])
     (placed_rests (with_functions (holding bump) unsaved) []) 40 40 refl refl
-    (λ e. let no : 8 ≡ 1 = ap (λ (x : ℕ × List ℕ). x.0) e in omega (arith, no)) keeps.runs
+    (λ e. let apart : 8 ≡ 1 = ap (λ (x : ℕ × List ℕ). x.0) e in omega (arith, apart)) keeps.runs
 
 -- ---- selection: two numbers, the sum of which main writes, have one word of its frame
 
@@ -87,7 +87,7 @@ wrong_lines keeps =
     refuses (EventInWords bumping (addresses 4096).named) (placed_run (with_functions bumping overwritten) [])
     (line_run (line_program bumping overwritten) (addresses 4096) scratch [])
     (line_rests (line_program bumping overwritten) (addresses 4096) scratch []) 40 200 refl refl
-    (λ e. let no : 50 ≡ 96 = ap (λ (x : ℕ × List ℕ). first_or 0 x.1) e in omega (arith, no)) keeps.runs
+    (λ e. let apart : 50 ≡ 96 = ap (λ (x : ℕ × List ℕ). first_or 0 x.1) e in omega (arith, apart)) keeps.runs
 
 -- ---- placement: a store may be noted late, and a call may not. (Today no program has any other run of placed items.)
 
