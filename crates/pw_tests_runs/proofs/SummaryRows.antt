@@ -185,7 +185,7 @@ bump_use = record { summary = summary; stands = (0, omega arith, refl); place = 
 abbrev main_use : IsUseOf summaries (codes "main") of_main
 main_use = record { summary = summary; stands = (0, omega arith, refl); place = 2; shape = codes "fi"; at = refl; uses = refl }
 
--- each made is one of these
+-- each use is one of these
 each_use : (P : List ℕ → Uses → Type 0) → P (codes "$start") of_start → P (codes "bump") of_bump → P (codes "main") of_main
     → (f : List ℕ) (u : Uses) → IsUseOf summaries f u → P f u
 each_use P start bump main f u made =
