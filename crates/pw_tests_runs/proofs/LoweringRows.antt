@@ -1,5 +1,5 @@
 -- Bump and main in C are what their flow graphs do, with the frames of the image that is made of them: these implement the
--- program, which therefore is built. Where bump adds 2 in place of 1, they do not.
+-- program, which therefore is built, and analysed. Where bump adds 2 in place of 1, they do not.
 use Rattle.std.specs.Prelude.{ℕ, zero, suc, ◌≡◌, ◌≤◌, true, Some, None, List, [], ◌∷◌, map, codes, Contains}
 use Rattle.std.proofs.Common.{arith, ap, refl}
 use Rattle.pw_value.specs.declared.value.Byte.{Byte}
@@ -32,10 +32,13 @@ use Rattle.pw_run_languages.specs.FlowRun.{flow_run}
 use Rattle.pw_law_layers.specs.Source.{source_stages}
 use Rattle.pw_law_layers.specs.Lowering.{ByteKept, SameGlobals, MomentKept}
 use Rattle.pw_law_layers.specs.Whole.{HasRoom, HaveRooms, Implements, IsBuilt}
+use Rattle.pw_law_analysis.specs.OwedLaws.{IsAnalysed}
 use Rattle.pw_tests_runs.proofs.Programs.{bump, bump_main, start, bump_directives, global}
 use Rattle.pw_tests_runs.proofs.ProgramRows.{lawful_program}
 use Rattle.pw_tests_runs.proofs.SourceRows.{in_c, tree, bump_tree, main_tree}
 use Rattle.pw_tests_runs.proofs.BuiltRows.{graphs, places, objects, built}
+use Rattle.pw_tests_runs.proofs.SummaryRows.{summaries}
+use Rattle.pw_tests_runs.proofs.AnalysedRows.{analysed}
 use Rattle.pw_tests_runs.proofs.WrittenLists.{each}
 use Rattle.pw_tests_runs.proofs.RunEnds.{refuses, flow_rests}
 
@@ -134,6 +137,9 @@ implements = record { program = lawful; runs = λ input library bytes. meets inp
 
 built_whole : IsBuilt in_c q bump_directives places objects
 built_whole = built in_c implements
+
+analysed_whole : IsAnalysed in_c q summaries 8 bump_directives places objects
+analysed_whole = analysed in_c implements
 
 -- ---- wrong graphs
 
