@@ -1,7 +1,7 @@
 -- Bump and main in C are what their flow graphs do, with the frames of the image that is made of them: these implement the
 -- program, which therefore is built, and analysed. Where bump adds 2 in place of 1, they do not.
 use Rattle.std.specs.Prelude.{ℕ, zero, suc, ◌≡◌, ◌≤◌, true, Some, None, List, [], ◌∷◌, map, codes, Contains}
-use Rattle.std.proofs.Common.{arith, ap, refl}
+use Rattle.std.proofs.Common.{arith, ap, subst, sym, refl}
 use Rattle.pw_value.specs.declared.value.Byte.{Byte}
 use Rattle.pw_value.specs.declared.value.Byte.TheVariants as B
 use Rattle.pw_value.specs.Objects.{Object}
@@ -15,6 +15,7 @@ use Rattle.pw_webflow.specs.Direction.{directed}
 use Rattle.pw_alloc.specs.Allocation.{allocated, entered_from}
 use Rattle.pw_select.specs.Selection.{selected, entered_lines}
 use Rattle.pw_delay.specs.Placement.{laid, placed}
+use Rattle.pw_link.specs.Linking.{linked}
 use Rattle.pw_cmean.specs.Worlds.{Program, ProgramModule, full_name}
 use Rattle.pw_cmean.specs.Acts as source
 use Rattle.pw_cmean.specs.Acts.{give, stop, go_on, ◌>>=◌, branch, wrong, look, make, end_object, write, next_byte, get_char, put_char, called, returned, during, with_object, need, undefined, told, judge}
@@ -23,7 +24,7 @@ use Rattle.pw_cmean.specs.Operators.{truth, outcome_of, on_numbers, unary_number
 use Rattle.pw_cmean.specs.Evaluation.{local_place, symbol_place, used, value_by, value_at, cast, bounded_call, take_room, library_call, call_body, call, call_value, old_value, update, step, answer_of, place_of, values_of}
 use Rattle.pw_cmean.specs.Execution.{go_forward, caught, taking_up, after_body, turn, loop, meet_loop, always, value_of, condition, for_condition, drop_value, switch_to, after_switch, with_locals, set_local, initialise, initialise_all, meaning, items, arms, behind_arms}
 use Rattle.pw_cmean.specs.SourceRun.{set_parameters, result_of, run_body, callee, calls, finish, run_main}
-use Rattle.pw_run.specs.Runs.{AreAlike, none, also, Met, Refines}
+use Rattle.pw_run.specs.Runs.{View, Stage, Over, Ended, AreAlike, none, also, Met, Refines}
 use Rattle.pw_run_languages.specs.Commands.{command}
 use Rattle.pw_run_languages.specs.Programs as flows
 use Rattle.pw_run_languages.specs.LawfulPrograms.{IsProgram}
@@ -70,18 +71,38 @@ all_calls =
     flow.Returned (codes "main") (n_is 2) ∷ flow.Returned (codes "bump") (n_is 2) ∷ flow.Called (codes "bump") (n_is 1)
     ∷ flow.Returned (codes "bump") (n_is 1) ∷ flow.Called (codes "bump") (n_is 0) ∷ flow.Called (codes "main") (n_is 0) ∷ []
 
-alike : AreAlike (MomentKept q)
-    (source.Returned (codes "main") (n_is 2) ∷ source.Returned (codes "bump") (n_is 2) ∷ source.Called (codes "bump") (n_is 1)
-    ∷ source.Returned (codes "bump") (n_is 1) ∷ source.Called (codes "bump") (n_is 0) ∷ source.Called (codes "main") (n_is 0) ∷ [])
-    all_calls
+abbrev all_moments : List source.Moment
+all_moments =
+    source.Returned (codes "main") (n_is 2) ∷ source.Returned (codes "bump") (n_is 2) ∷ source.Called (codes "bump") (n_is 1)
+    ∷ source.Returned (codes "bump") (n_is 1) ∷ source.Called (codes "bump") (n_is 0) ∷ source.Called (codes "main") (n_is 0) ∷ []
+
+alike : AreAlike (MomentKept q) all_moments all_calls
 alike =
     also _ _ _ _ (refl, same_at 2) (also _ _ _ _ (refl, same_at 2) (also _ _ _ _ (refl, same_at 1)
     (also _ _ _ _ (refl, same_at 1) (also _ _ _ _ (refl, same_at 0) called_main))))
 
 -- ---- both runs, whatever the input: within no call, within one, and within more
 
+abbrev whole : View source.Moment
+whole = record { output = 50 ∷ []; read = 0; events = 0; log = all_moments }
+
+over : (input : List ℕ) (n : ℕ) → source_stages in_c q.frame_of q.stack input (suc (suc n)) ≡ Over (Ended 2) whole
+unfolding give stop go_on ◌>>=◌ branch wrong look make end_object write next_byte get_char put_char called returned during with_object need undefined told judge objects_now within load store copy fetch put truth outcome_of on_numbers unary_number unary advance advance_elements difference ordered compared on_pointers pointer_and_number number_and_pointer binary convert local_place symbol_place used value_by value_at cast bounded_call take_room library_call call_body call call_value old_value update step answer_of place_of values_of go_forward caught taking_up after_body turn loop meet_loop always value_of condition for_condition drop_value switch_to after_switch with_locals set_local initialise initialise_all meaning items arms behind_arms set_parameters result_of run_body callee calls finish run_main source_stages linked
+over input zero = refl
+over input (suc n) = refl
+
+over_too : (input : List ℕ) → Met (MomentKept q) (Over (Ended 2) whole) (flow_run q input)
+unfolding command flow.step flow.steps flow_run directed allocated entered_from selected entered_lines placed laid linked
+over_too input = record {
+  at = 20;
+  view = record { output = 50 ∷ []; read = 0; events = 4; log = all_calls };
+  is = refl;
+  same = record { output = refl; read = refl; log = alike };
+  counted = omega arith;
+}
+
 meets : (input : List ℕ) (n : ℕ) → Met (MomentKept q) (source_stages in_c q.frame_of q.stack input n) (flow_run q input)
-unfolding give stop go_on ◌>>=◌ branch wrong look make end_object write next_byte get_char put_char called returned during with_object need undefined told judge objects_now within load store copy fetch put truth outcome_of on_numbers unary_number unary advance advance_elements difference ordered compared on_pointers pointer_and_number number_and_pointer binary convert local_place symbol_place used value_by value_at cast bounded_call take_room library_call call_body call call_value old_value update step answer_of place_of values_of go_forward caught taking_up after_body turn loop meet_loop always value_of condition for_condition drop_value switch_to after_switch with_locals set_local initialise initialise_all meaning items arms behind_arms set_parameters result_of run_body callee calls finish run_main source_stages command flow.step flow.steps flow_run directed allocated entered_from selected entered_lines placed laid
+unfolding give stop go_on ◌>>=◌ branch wrong look make end_object write next_byte get_char put_char called returned during with_object need undefined told judge objects_now within load store copy fetch put truth outcome_of on_numbers unary_number unary advance advance_elements difference ordered compared on_pointers pointer_and_number number_and_pointer binary convert local_place symbol_place used value_by value_at cast bounded_call take_room library_call call_body call call_value old_value update step answer_of place_of values_of go_forward caught taking_up after_body turn loop meet_loop always value_of condition for_condition drop_value switch_to after_switch with_locals set_local initialise initialise_all meaning items arms behind_arms set_parameters result_of run_body callee calls finish run_main source_stages command flow.step flow.steps flow_run directed allocated entered_from selected entered_lines placed laid linked
 meets input zero = record {
   at = 0;
   view = record { output = []; read = 0; events = 0; log = [] };
@@ -96,13 +117,7 @@ meets input (suc zero) = record {
   same = record { output = refl; read = refl; log = called_main };
   counted = omega arith;
 }
-meets input (suc (suc n)) = record {
-  at = 20;
-  view = record { output = 50 ∷ []; read = 0; events = 4; log = all_calls };
-  is = refl;
-  same = record { output = refl; read = refl; log = alike };
-  counted = omega arith;
-}
+meets input (suc (suc n)) = subst (λ (s : Stage source.Moment). Met (MomentKept q) s (flow_run q input)) (sym (over input n)) (over_too input)
 
 -- ---- they implement the program
 
@@ -158,7 +173,7 @@ doubling = record {
 }
 
 wrong_graphs : Refines (MomentKept doubling) (source_stages in_c q.frame_of q.stack []) (flow_run doubling []) → ⊥
-unfolding give stop go_on ◌>>=◌ branch wrong look make end_object write next_byte get_char put_char called returned during with_object need undefined told judge objects_now within load store copy fetch put truth outcome_of on_numbers unary_number unary advance advance_elements difference ordered compared on_pointers pointer_and_number number_and_pointer binary convert local_place symbol_place used value_by value_at cast bounded_call take_room library_call call_body call call_value old_value update step answer_of place_of values_of go_forward caught taking_up after_body turn loop meet_loop always value_of condition for_condition drop_value switch_to after_switch with_locals set_local initialise initialise_all meaning items arms behind_arms set_parameters result_of run_body callee calls finish run_main source_stages command flow.step flow.steps flow_run directed allocated entered_from selected entered_lines placed laid
+unfolding give stop go_on ◌>>=◌ branch wrong look make end_object write next_byte get_char put_char called returned during with_object need undefined told judge objects_now within load store copy fetch put truth outcome_of on_numbers unary_number unary advance advance_elements difference ordered compared on_pointers pointer_and_number number_and_pointer binary convert local_place symbol_place used value_by value_at cast bounded_call take_room library_call call_body call call_value old_value update step answer_of place_of values_of go_forward caught taking_up after_body turn loop meet_loop always value_of condition for_condition drop_value switch_to after_switch with_locals set_local initialise initialise_all meaning items arms behind_arms set_parameters result_of run_body callee calls finish run_main source_stages command flow.step flow.steps flow_run directed allocated entered_from selected entered_lines placed laid linked
 wrong_graphs keeps =
     refuses (MomentKept doubling) (source_stages in_c q.frame_of q.stack []) (flow_run doubling []) (flow_rests doubling []) 2 20 refl refl
     (λ e. let apart : 2 ≡ 4 = ap (λ (x : ℕ × List ℕ). x.0) e in omega (arith, apart)) keeps

@@ -136,7 +136,7 @@ abbrev without_n : List Object
 without_n = whole_object (codes "a") [] [] [] [] [] (map compiled places) ∷ []
 
 wrong_image : LinkKeeps bumping places (linked without_n 4096) [] → ⊥
-unfolding directed allocated entered_from selected entered_lines placed_words laid
+unfolding directed allocated entered_from selected entered_lines placed_words laid linked
 wrong_image keeps =
     let above : keeps.addresses.data_start ≤ keeps.addresses.named (codes "n") = keeps.lawful.above (global (codes "n")) (0, omega arith, refl) in
     let nowhere : keeps.addresses.named (codes "n") ≡ 0 = ap (λ (named : List ℕ → ℕ). named (codes "n")) keeps.named in
