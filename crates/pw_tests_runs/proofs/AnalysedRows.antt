@@ -194,7 +194,7 @@ alike = record {
 -- ---- the program
 
 pub analysed : (p : source.Program) → Implements p (graphs 4096) → IsAnalysed p (graphs 4096) summaries 8 bump_directives places objects
-unfolding graph_of
+unfolding graph_of database
 analysed p implements = record {
   implements = implements;
   frames = refl;

@@ -203,7 +203,7 @@ stored = each_at IsStored graph.functions (
   ),
 )
 
-pub database : IsDatabaseOf summaries 8 bump_directives
+unfoldable pub database : IsDatabaseOf summaries 8 bump_directives
 database = record {
   graph = graph;
   graph_of = is_graph;
