@@ -30,8 +30,8 @@ use Rattle.pw_run_languages.specs.Programs as flows
 use Rattle.pw_run_languages.specs.LawfulPrograms.{IsProgram}
 use Rattle.pw_run_languages.specs.FlowRun as flow
 use Rattle.pw_run_languages.specs.FlowRun.{flow_run}
-use Rattle.pw_law_layers.specs.Source.{source_stages}
-use Rattle.pw_law_layers.specs.Lowering.{ByteKept, SameGlobals, MomentKept}
+use Rattle.pw_law_source.specs.Source.{source_stages}
+use Rattle.pw_law_source.specs.Lowering.{ByteKept, SameGlobals, MomentKept}
 use Rattle.pw_law_layers.specs.Whole.{HasRoom, HaveRooms, Implements, IsBuilt}
 use Rattle.pw_law_analysis.specs.OwedLaws.{IsAnalysed}
 use Rattle.pw_tests_runs.proofs.Programs.{bump, bump_main, start, bump_directives, global}
