@@ -33,7 +33,7 @@ word n = record {
   small = omega arith;
 }
 
-past : (n : ℕ) → n < 64 → (j k : ℕ) → 6 ≤ j * 64 + k → bit_at (slice_index (n ∷ []) j) k ≡ 1 → ⊥
+pub past : (n : ℕ) → n < 64 → (j k : ℕ) → 6 ≤ j * 64 + k → bit_at (slice_index (n ∷ []) j) k ≡ 1 → ⊥
 past n few zero k le h = let none : bit_at n k ≡ 0 = bit_at_above n 6 k (omega (arith, few)) (omega (arith, le)) in omega (arith, none, h)
 past n few (suc j) k le h = let none : bit_at 0 k ≡ 0 = bit_at-zero k in omega (arith, none, h)
 
@@ -158,7 +158,7 @@ all_in : (v f : ℕ) → v < 1 → Region graph v f → (w : RawWeb) × Contains
 all_in zero f lt r = (web, (0, omega arith, refl), refl, of_in (Holds web.members) refl refl f (in_region f r))
 all_in (suc v) f lt r = absurd (omega (arith, lt))
 
-are_webs : AreWebs graph (web ∷ [])
+pub are_webs : AreWebs graph (web ∷ [])
 are_webs = record {
   each = each_at (λ i w. IsRawWeb graph w) (web ∷ []) (raw, tt);
   order = λ i j w u lt first second.
@@ -171,10 +171,10 @@ are_webs = record {
 abbrev coloured : List (RawWeb × Option ℕ)
 coloured = (web, Some 3) ∷ []
 
-three : IsColour 8 [] web (Some 3)
+pub three : IsColour 8 [] web (Some 3)
 three = (record { lt = tt }, (omega arith, omega arith), (λ u c. absurd (nowhere (u, Some 3) c)), (λ q low high free. omega (arith, low, high)))
 
-given : (f : List ℕ) (d : Directives) → Contains bump_directives (f, d) → (place : ℕ) × (slice_get graph.functions place ≡ Some f) × (d ≡ directives_of graph (numbered 0 coloured) place) × (0 < length d.webs)
+pub given : (f : List ℕ) (d : Directives) → Contains bump_directives (f, d) → (place : ℕ) × (slice_get graph.functions place ≡ Some f) × (d ≡ directives_of graph (numbered 0 coloured) place) × (0 < length d.webs)
 given f d c =
     each (λ (x : List ℕ × Directives). (place : ℕ) × (slice_get graph.functions place ≡ Some x.0) × (x.1 ≡ directives_of graph (numbered 0 coloured) place) × (0 < length x.1.webs))
     bump_directives ((1, refl, refl, omega arith), ((4, refl, refl, omega arith), tt)) (f, d) c
@@ -185,7 +185,7 @@ webless f d e some = let none : 0 < 0 = subst (λ (d : Directives). 0 < length d
 abbrev IsStored : ℕ → List ℕ → Type 0
 IsStored place f = (d : Directives) → d ≡ directives_of graph (numbered 0 coloured) place → 0 < length d.webs → Contains bump_directives (f, d)
 
-stored : (place : ℕ) (f : List ℕ) → slice_get graph.functions place ≡ Some f → IsStored place f
+pub stored : (place : ℕ) (f : List ℕ) → slice_get graph.functions place ≡ Some f → IsStored place f
 stored = each_at IsStored graph.functions (
   webless (codes "$start"),
   (
