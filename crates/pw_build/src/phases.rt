@@ -49,13 +49,13 @@ fn limit_passed(modules: &[Module]) -> Option<LinkFault>
 /// The refusal of a module, with its line.
 fn refused(alloc: Global, which: &Module, refusal: Refusal) -> Result<Unbuilt, AllocError>
     ensures fault { IfOk result (λ unbuilt. unbuilt.fault ≡ BuildFault.Refused which.now.name refusal) }
-    ensures line { IfOk result (λ unbuilt. unbuilt.line ≡ refusal_line which.now.text.items refusal) }
+    ensures line { IfOk result (λ unbuilt. unbuilt.line ≡ Some (refusal_line which.now.text.items refusal)) }
 {
     let line = refusal_line(alloc, which.text.as_slice(), &refusal)?;
     let name = which.name.copy(alloc)?;
     Ok(Unbuilt {
         fault: BuildFault::Refused(name, refusal),
-        line,
+        line: Some(line),
     })
 }
 
@@ -64,14 +64,14 @@ fn flow_of(alloc: Global, which: &Module) -> Result<FlowModule, Unbuilt>
     ensures flow { IfOk result (λ flow. compiled which.now.name which.now.text.items ≡ Ok flow) }
     ensures lawful { IfOk result (λ flow. IsValid flow) }
     ensures fault { IfErr result (λ unbuilt. FaultsOfPhase which.now.name (compiled which.now.name which.now.text.items) unbuilt.fault) }
-    ensures line { IfErr result (λ unbuilt. IsLine (line_by which.now.text.items (compiled which.now.name which.now.text.items) 1) unbuilt.fault unbuilt.line) }
+    ensures line { IfErr result (λ unbuilt. IsLine (line_by which.now.text.items (compiled which.now.name which.now.text.items) None) unbuilt.fault unbuilt.line) }
 {
     match phase_one(alloc, &which.name, which.text.as_slice()) {
         Ok(flow) => Ok(flow),
         Err(FrontEndFault::Refused(refusal)) => Err(refused(alloc, which, refusal)?),
         Err(FrontEndFault::NoMemory) => Err(Unbuilt {
             fault: BuildFault::NoMemory,
-            line: 1,
+            line: None,
         }),
     }
 }
@@ -112,7 +112,7 @@ pub fn first_phases(alloc: Global, modules: &[Module]) -> Result<Vec<FlowModule>
     match limit_passed(modules) {
         Some(fault) => Err(Unbuilt {
             fault: BuildFault::LinkRefused(fault),
-            line: 1,
+            line: None,
         }),
         None => flows_of(alloc, modules),
     }
