@@ -3,7 +3,15 @@ use Rattle.std.proofs.lemmas.Result.{IfErr-weaker}
 use Rattle.pw_build_objects.specs.Choosing.{marks_of, objects_of}
 use Rattle.pw_build_objects.proofs.CountLemmas.{broken_counted, made_counted}
 use Rattle.pw_build_objects.proofs.LoopLemmas.{bound_none}
+use Rattle.pw_build_objects.proofs.RoomLaws.{new_objects_link}
 use Rattle.pw_build_objects.proofs.making.complete.Goals as goal
+
+pub linked-requires-clause-rules : goal.linked-requires-clause-rules
+linked-requires-clause-rules g c =
+    new_objects_link c.objects_are_refused_for_room_alone.ensures.links c.args.flows.items c.args.kept.items c.args.opts.now.colours
+    (record { database = c.in_ok-database.database.functions; objects = objects_of c.in_ok-made.made.items; fresh = marks_of c.in_ok-made.made.items })
+    c.requires.declares
+    (record { lawful = c.requires.lawful; database = rw c.deref.ensures.value at c.in_ok-database.ensures.database; objects = c.in_ok-made.ensures.objects })
 
 pub returns-clause-refused : goal.returns-clause-refused
 returns-clause-refused g c =
