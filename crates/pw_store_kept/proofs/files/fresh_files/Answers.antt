@@ -1,7 +1,7 @@
 use Rattle.std.proofs.Common.{rules, length}
 use Rattle.std.proofs.lemmas.List.{length_push}
 use Rattle.pw_object.specs.Object.{IsObject}
-use Rattle.pw_store_kept.proofs.FreshLemmas.{anew, fresh_files, fresh_next, fresh_names, fresh_skip, lawful_at, none_left, pair_at, pairs_ended}
+use Rattle.pw_store_kept.proofs.FreshLemmas.{fresh_files, fresh_next, fresh_names, fresh_skip, lawful_at, none_left, pair_at, pairs_ended}
 use Rattle.pw_store_kept.proofs.files.fresh_files.Goals as goal
 
 pub add_file-requires-clause-object : goal.add_file-requires-clause-object

@@ -1,5 +1,4 @@
 use Rattle.std.proofs.Common.{drop, length, map}
-use Rattle.pw_build_objects.specs.Choosing.{marks_of, objects_of}
 use Rattle.pw_store_kept.specs.Files.{file_view}
 use Rattle.pw_store_kept.proofs.FreshLemmas.{FreshSoFar, anew}
 use Rattle.pw_store_kept.proofs.files.fresh_files.Given as goal
