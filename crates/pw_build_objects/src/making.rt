@@ -15,7 +15,7 @@ ghost use Rattle.pw_build_objects.specs.Choosing.{marks_of, objects_of, parts_of
 ghost use Rattle.pw_build_objects.specs.Counting.{CountsAnew, CountsUpTo};
 ghost use Rattle.pw_db.specs.Limits.{colour_limit};
 
-use crate::analysing::database_of;
+use crate::analysing::analyse_flows;
 use crate::laws::objects_are_refused_for_room_alone;
 use crate::objects::all_objects;
 use crate::remade::Made;
@@ -130,7 +130,14 @@ pub fn complete<L: Ledger>(
     ensures bound { CountsUpTo (length flows.items) steps.old steps.new }
 {
     objects_are_refused_for_room_alone();
-    let database = database_of(alloc, &flows, opts.colours)?;
-    let made = all_objects(alloc, flows, kept, &database, steps)?;
-    linked(alloc, database, made, opts.stack)
+    let analysed = analyse_flows(alloc, &flows, opts.colours)?;
+    let made = all_objects(
+        alloc,
+        flows,
+        analysed.summaries,
+        kept,
+        &analysed.database,
+        steps,
+    )?;
+    linked(alloc, analysed.database, made, opts.stack)
 }
