@@ -141,6 +141,12 @@ one_more : (b : Bool) → count_by (λ f. f) (b ∷ []) ≡ cond b 1 0
 one_more true = refl
 one_more false = refl
 
+none_more : (n : ℕ) → n ≡ n + 0
+none_more n = omega arith
+
+pub count_start : (n : ℕ) (made : List Made) → made ≡ [] → n ≡ n + count_by (λ f. f) (marks_of made)
+count_start n made e = subst (λ (m : List Made). n ≡ n + count_by (λ f. f) (marks_of m)) (sym e) (none_more n)
+
 pub count_more : (before steps : ℕ) (xs new : List Bool) (b : Bool) → before ≡ steps + count_by (λ f. f) xs → new ≡ xs ++ b ∷ [] → before + cond b 1 0 ≡ steps + count_by (λ f. f) new
 count_more before steps xs new b inv e =
     let all : count_by (λ f. f) new ≡ count_by (λ f. f) xs + count_by (λ f. f) (b ∷ []) = ap (count_by (λ f. f)) e ∙ sum_by-append (λ f. cond {A = ℕ} f 1 0) xs (b ∷ []) in

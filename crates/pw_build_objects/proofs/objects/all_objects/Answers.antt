@@ -8,7 +8,7 @@ use Rattle.std.proofs.lemmas.Iterator.Consumers.{YieldsList-turn, YieldsList-end
 use Rattle.std.proofs.lemmas.Iterator.Adapters.{YieldsList-from_vec}
 use Rattle.pw_object.specs.Object.{IsObject}
 use Rattle.pw_build_objects.specs.Choosing.{marks_of, objects_of}
-use Rattle.pw_build_objects.proofs.LoopLemmas.{IsSummarised, all_summarised, as_long, behind_lawful, bound_by, bound_more, count_more, each_at, first_lawful, flows_in, marks_more, marks_of_more, more_lawful, next_at, nothing_at, object_end, object_start, object_turn, objects_more}
+use Rattle.pw_build_objects.proofs.LoopLemmas.{IsSummarised, all_summarised, as_long, behind_lawful, bound_by, bound_more, count_more, count_start, each_at, first_lawful, flows_in, marks_more, marks_of_more, more_lawful, next_at, nothing_at, object_end, object_start, object_turn, objects_more}
 use Rattle.pw_build_objects.proofs.objects.all_objects.Goals as goal
 
 pub loop-flow-init : goal.loop-flow-init
@@ -16,7 +16,7 @@ loop-flow-init g c = record {
   so_far = object_start c.args.db.now.functions c.args.flows.items c.args.summaries.items c.args.kept.items _ c.requires.summaries c.new-made.ensures.items;
   kept_lawful = c.requires.kept;
   lawful = rw c.new-made.ensures.items tt;
-  counted = rw c.new-made.ensures.items (omega arith);
+  counted = count_start _ _ c.new-made.ensures.items;
   marks = rw c.new-made.ensures.items refl;
 }
 
