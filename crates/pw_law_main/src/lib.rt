@@ -1,0 +1,6 @@
+//! Laws of the first phase: what a module's flow graph declares.
+#![tactic(auto)]
+
+mod declaring;
+
+pub use declaring::flow_graphs_declare_main;
