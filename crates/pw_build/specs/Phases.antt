@@ -1,7 +1,7 @@
 -- What the code answers for the first phases of modules.
 use Rattle.std.specs.Prelude.{◌≡◌, ℕ, List, [], ◌∷◌, Option, Some, None, Result, Ok, Err}
 use Rattle.pw_front_end.specs.Places.{refusal_line}
-use Rattle.pw_phase_one.specs.FirstPhase.{Phase, compiled}
+use Rattle.pw_law_main.specs.FromPhaseOne.FirstPhase.{Phase, compiled}
 use Rattle.pw_store_modules.specs.Modules.{Source}
 use Rattle.pw_build.specs.declared.fault.BuildFault.{BuildFault}
 use Rattle.pw_build.specs.declared.fault.BuildFault.TheVariants.{Refused, LinkRefused, StoreFault, NoMemory}

@@ -6,7 +6,7 @@ ghost use Rattle.pw_value.specs.Limits.{module_limit};
 ghost use Rattle.pw_flow.specs.ValidFlow.{IsValid};
 ghost use Rattle.pw_front_end.specs.Places.{refusal_line};
 ghost use Rattle.pw_law_shown.specs.Alike.{DeclaresMain};
-ghost use Rattle.pw_phase_one.specs.FirstPhase.{compiled};
+ghost use Rattle.pw_law_main.specs.FromPhaseOne.FirstPhase.{compiled};
 ghost use Rattle.pw_store_modules.specs.Views.{source};
 ghost use Rattle.pw_build.specs.Builds.{first_phases, flows_of, limit_passed, text_bytes};
 ghost use Rattle.pw_build.specs.Phases.{FaultsAs, FaultsOfPhase, IsLine, line_by, refused_line};
@@ -14,8 +14,7 @@ ghost use Rattle.pw_build.specs.Phases.{FaultsAs, FaultsOfPhase, IsLine, line_by
 use crate::fault::{BuildFault, Unbuilt};
 use pw_flow::FlowModule;
 use pw_front_end::{FrontEndFault, Refusal, refusal_line};
-use pw_law_main::flow_graphs_declare_main;
-use pw_phase_one::phase_one;
+use pw_law_main::{flow_graphs_declare_main, phase_one};
 use pw_store_modules::Module;
 use pw_value::limits::{MODULE_LIMIT, TEXTS_LIMIT};
 use pw_value::{LinkFault, What};

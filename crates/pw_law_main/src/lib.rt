@@ -4,3 +4,4 @@
 mod declaring;
 
 pub use declaring::flow_graphs_declare_main;
+pub use pw_phase_one::{laws::no_refusal_is_want_of_memory, phase_one};
