@@ -1,6 +1,6 @@
 //! The first phases of all modules, in order.
 
-ghost use Rattle.std.specs.Prelude.{◌≡◌, ◌+◌, ◌*◌, ◌≤◌, ◌++◌, ◌∷◌, [], Ok, Err, IfErr, IfOk, IfSome, IsErrAnd, OnErr, OnOk, length, map, sum_by};
+ghost use Rattle.std.specs.Prelude.{◌≡◌, ◌+◌, ◌*◌, ◌≤◌, ◌++◌, ◌∷◌, [], None, Ok, Err, IfErr, IfOk, IfSome, IsErrAnd, OnErr, OnOk, Some, length, map, sum_by};
 ghost use Rattle.std.specs.List.{AllByRecursion};
 ghost use Rattle.pw_value.specs.Limits.{module_limit};
 ghost use Rattle.pw_flow.specs.ValidFlow.{IsValid};

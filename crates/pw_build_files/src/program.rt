@@ -1,6 +1,6 @@
 //! The program of the modules of a store.
 
-ghost use Rattle.std.specs.Prelude.{◌≡◌, ◌≤◌, ◌+◌, ℕ, Ok, IfErr, IfOk, IfSome, OnOk, count_by, length, map};
+ghost use Rattle.std.specs.Prelude.{◌≡◌, ◌≤◌, ◌+◌, ℕ, Ok, Option, IfErr, IfOk, IfSome, OnOk, count_by, length, map};
 ghost use Rattle.std.specs.List.{AllByRecursion};
 ghost use Rattle.pw_io.specs.Files.{Keeps};
 ghost use Rattle.pw_store_modules.specs.Modules.{modules_of};

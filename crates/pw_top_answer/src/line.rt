@@ -319,8 +319,8 @@ impl Line {
     }
 }
 
-/// The line of an answer, where a refused module is refused on line `line` of its text, where that is known. Only the answers that name
-/// something need memory.
+/// The line of an answer; where a module is refused, it is on line `line` of its text, where that is known. Only the answers
+/// that name something need memory.
 pub fn line_of(alloc: Global, answer: &Answer, line: Option<usize>) -> Result<Line, AllocError>
     ensures text { IfOk result (λ made. line_bytes made ≡ line_text line answer.now) }
     ensures memory { OnErr result (NeedsMemory answer.now) }
