@@ -5,7 +5,7 @@ ghost use Rattle.std.specs.List.{AllByRecursion};
 ghost use Rattle.pw_value.specs.Limits.{module_limit};
 ghost use Rattle.pw_flow.specs.ValidFlow.{IsValid};
 ghost use Rattle.pw_front_end.specs.Places.{refusal_line};
-ghost use Rattle.pw_law_shown.specs.Alike.{DeclaresMain};
+ghost use Rattle.pw_build_objects.specs.Programs.{DeclaresMain};
 ghost use Rattle.pw_law_main.specs.FromPhaseOne.FirstPhase.{compiled};
 ghost use Rattle.pw_store_modules.specs.Views.{source};
 ghost use Rattle.pw_build.specs.Builds.{first_phases, flows_of, limit_passed, text_bytes};

@@ -7,7 +7,7 @@ use Rattle.pw_flow.specs.declared.flow.FlowModule.{FlowModule}
 use Rattle.pw_flow.specs.ValidFlow.{IsValid}
 use Rattle.pw_flowfile.specs.FlowFile.{IsFlowFile}
 use Rattle.pw_summary.specs.declared.summary.Summary.{Summary}
-pub use Rattle.pw_law_shown.specs.Alike.{AreSummariesOf}
+pub use Rattle.pw_law_shown.specs.Alike.{AreSummariesOf, DeclaresMain}
 use Rattle.pw_graph.specs.Program as graph
 use Rattle.pw_colour.specs.Colours.{IsDatabaseOf}
 use Rattle.pw_db.specs.declared.database.Directives.{Directives}

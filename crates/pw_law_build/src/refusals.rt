@@ -27,11 +27,10 @@ ghost use Rattle.pw_build_files.specs.Driving.{BuildEffect};
 ghost use Rattle.pw_law_shown.specs.Alike.{DeclaresMain};
 ghost use Rattle.pw_law_build.specs.Complete.{CanBeBuilt};
 
-use pw_build_files::genuine_objects_give_the_full_image;
+use pw_build_files::{flow_graphs_declare_main, genuine_objects_give_the_full_image};
 use pw_build_objects::laws::{
     flow_graphs_have_one_answer, genuine_objects_change_nothing, objects_are_refused_for_room_alone,
 };
-use pw_law_main::flow_graphs_declare_main;
 use pw_law_shown::flow_graphs_and_summaries_are_refused_alike;
 use pw_link_rules::laws::modules_have_one_answer;
 

@@ -1,7 +1,7 @@
 use Rattle.std.proofs.Common.{length, map}
 use Rattle.std.specs.List.{AllByRecursion}
 use Rattle.pw_flow.specs.ValidFlow.{IsValid}
-use Rattle.pw_law_shown.specs.Alike.{DeclaresMain}
+use Rattle.pw_build_objects.specs.Programs.{DeclaresMain}
 use Rattle.pw_store_modules.specs.Views.{source}
 use Rattle.pw_build.proofs.PhaseLemmas.{FlowsSoFar, LineSoFar}
 use Rattle.pw_build.proofs.phases.flows_of.Given as goal
