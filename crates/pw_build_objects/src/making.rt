@@ -1,6 +1,6 @@
 //! Programs, by the flow graphs of their modules and what was kept.
 
-ghost use Rattle.std.specs.Prelude.{◌≡◌, ◌+◌, ◌⊎◌, ◌≤◌, Ok, Err, IfErr, IfOk, IfSome, IsTrue, OnErr, OnOk, count_by, length, map};
+ghost use Rattle.std.specs.Prelude.{◌≡◌, ◌+◌, ◌⊎◌, ◌≤◌, Ok, Err, IfErr, IfOk, IfSome, IsTrue, OnOk, count_by, length, map};
 ghost use Rattle.std.specs.List.{AllByRecursion};
 ghost use Rattle.pw_flow.specs.ValidFlow.{IsValid};
 ghost use Rattle.pw_db.specs.Database.{IsDatabase};
