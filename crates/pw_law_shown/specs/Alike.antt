@@ -5,7 +5,8 @@ use Rattle.pw_value.specs.ProgramNames.{main_name}
 use Rattle.pw_flow.specs.declared.flow.FlowFn.{FlowFn}
 use Rattle.pw_flow.specs.declared.flow.FlowModule.{FlowModule}
 use Rattle.pw_flow.specs.FlowGraph.{function_names, global_names, named_in}
-use Rattle.pw_summarise.specs.Summarises.{function_entries}
+use Rattle.pw_summary.specs.declared.summary.Summary.{Summary}
+use Rattle.pw_summarise.specs.Summarises.{function_entries, Summarises}
 use Rattle.pw_link_rules.specs.declared.interface.Interface.{Interface}
 use Rattle.pw_graph.specs.Program.{main_in}
 use Rattle.pw_db.specs.declared.database.Directives.{Directives}
@@ -23,6 +24,13 @@ shown m = record { «module» = m.name; functions = function_names m; globals = 
 -- and an object that of the declaration.
 abbrev pub DeclaresMain : FlowModule → Type 0
 DeclaresMain m = (f : FlowFn) → Contains m.functions f → f.name ≡ main_name → Contains m.declared (main_name, f.shape)
+
+-- the summaries of flow graphs, in their order
+abbrev pub AreSummariesOf : List FlowModule → List Summary → Type 0
+AreSummariesOf [] [] = Unit {0}
+AreSummariesOf [] (s ∷ ss) = ⊥
+AreSummariesOf (f ∷ fs) [] = ⊥
+AreSummariesOf (f ∷ fs) (s ∷ ss) = Summarises f s × AreSummariesOf fs ss
 
 -- the global objects that the modules of a program define
 abbrev pub globals_of : List FlowModule → List (List ℕ)

@@ -20,8 +20,8 @@ use Rattle.pw_front_end.specs.Fronts.{front_end_of}
 use Rattle.pw_front_end.specs.declared.refusal.Refusal.{Refusal}
 use Rattle.pw_front_end.specs.declared.refusal.Refusal.TheVariants.{Check}
 use Rattle.pw_check_walk.specs.declared.constraints.CheckFault.{CheckFault}
-use Rattle.pw_build_files.specs.FromBuild.FirstPhase.{by_checking, by_front_end, compiled}
-use Rattle.pw_law_build.specs.Alike.{DeclaresMain}
+use Rattle.pw_phase_one.specs.FirstPhase.{by_checking, by_front_end, compiled}
+use Rattle.pw_law_shown.specs.Alike.{DeclaresMain}
 
 -- ---- names
 

@@ -28,7 +28,7 @@ use Rattle.pw_object.specs.Functions.{names_of_symbol}
 use Rattle.pw_link_interface.specs.Interface.{names_of_fixes}
 use Rattle.pw_phase_two.specs.Phases.{compiled}
 use Rattle.pw_files.proofs.Standing.{Has, has_split}
-use Rattle.pw_law_build.proofs.LineNames.{OfSymbol, AreNamed, lines_named}
+use Rattle.pw_law_shown.proofs.LineNames.{OfSymbol, AreNamed, lines_named}
 
 module _ (P : List ℕ → Type 0) where
   -- ---- items

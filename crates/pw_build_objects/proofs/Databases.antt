@@ -25,9 +25,9 @@ use Rattle.pw_colour.specs.Colours.{numbered, global_of, web_of, has_number, web
 use Rattle.pw_object.specs.declared.object.Object.{Object}
 use Rattle.pw_phase_two.specs.Phases.{IsObjectOf}
 use Rattle.pw_build_objects.specs.Programs.{DirectivesList, AreSummariesOf, HasDatabase, IsObjectFrom, IsModuleFrom, AreObjectsFrom, AreParts, Parts}
-use Rattle.pw_law_build.specs.Alike.{globals_of, IsObjectIn, AreObjectsIn}
-use Rattle.pw_law_build.proofs.Twice.{at_has}
-use Rattle.pw_law_build.proofs.Modules.{globals_forth}
+use Rattle.pw_law_shown.specs.Alike.{globals_of, IsObjectIn, AreObjectsIn}
+use Rattle.pw_law_shown.proofs.Twice.{at_has}
+use Rattle.pw_law_shown.proofs.Modules.{globals_forth}
 
 -- ---- the webs of a database are of eligible globals
 

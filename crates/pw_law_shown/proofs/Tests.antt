@@ -14,7 +14,7 @@ use Rattle.pw_flow.specs.ValidFlow.{AreDistinct}
 use Rattle.pw_files.proofs.Standing.{Has, has_by, contains_by, has_left, has_right, has_split, has_map, has_map_back, has_flat, has_flat_back}
 use Rattle.pw_link_rules.specs.declared.interface.Interface.{Interface}
 use Rattle.pw_link_rules.specs.Linking.{library, names_in, defined_in, declared_in, definitions, declarations, defined_names, used_names, function_count, global_count, IsUndefined, IsDefinedTwice, IsInConflict, HasMain, IsLeastName, IsLeastPair, Test, few_functions, few_globals, all_defined, defined_once, all_agree, has_main, Passes, Fails, Links, Refusal}
-use Rattle.pw_law_build.proofs.Twice.{Twice, twice_by, places, twice_left, twice_right, twice_across, twice_crossed, twice_split, beside, once_beside}
+use Rattle.pw_law_shown.proofs.Twice.{Twice, twice_by, places, twice_left, twice_right, twice_across, twice_crossed, twice_split, beside, once_beside}
 
 -- ---- what the tests look at is the same
 

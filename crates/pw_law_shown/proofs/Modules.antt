@@ -29,11 +29,11 @@ use Rattle.pw_phase_two.proofs.ObjectLaws.{compiled_names as names_compiled}
 use Rattle.pw_link_rules.specs.Linking.{names_in}
 use Rattle.pw_link_interface.specs.Interface.{names_of_fixes, main_of, interface}
 use Rattle.pw_graph.specs.Program.{main_in, interface_of}
-use Rattle.pw_law_build.specs.Alike.{shown, DeclaresMain, globals_of, IsObjectIn}
-use Rattle.pw_law_build.proofs.Names.{same_count, rising_distinct, both_distinct, across_distinct}
-use Rattle.pw_law_build.proofs.Mains.{main_found, main_lacks, lookup_found, any_found, any_lacks}
-use Rattle.pw_law_build.proofs.CodeNames.{compiled_names}
-use Rattle.pw_law_build.proofs.Tests.{Alike, UsesAlike}
+use Rattle.pw_law_shown.specs.Alike.{shown, DeclaresMain, globals_of, IsObjectIn}
+use Rattle.pw_law_shown.proofs.Names.{same_count, rising_distinct, both_distinct, across_distinct}
+use Rattle.pw_law_shown.proofs.Mains.{main_found, main_lacks, lookup_found, any_found, any_lacks}
+use Rattle.pw_law_shown.proofs.CodeNames.{compiled_names}
+use Rattle.pw_law_shown.proofs.Tests.{Alike, UsesAlike}
 
 -- ---- names in relocations
 

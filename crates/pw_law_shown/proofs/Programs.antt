@@ -12,10 +12,9 @@ use Rattle.pw_object.specs.declared.object.Object.{Object}
 use Rattle.pw_link_rules.specs.Linking.{library, names_in, Links, Refusal}
 use Rattle.pw_link_interface.specs.Interface.{interface}
 use Rattle.pw_graph.specs.Program.{interface_of}
-use Rattle.pw_build_objects.specs.Programs.{AreSummariesOf}
-use Rattle.pw_law_build.specs.Alike.{shown, DeclaresMain, globals_of, AreObjectsIn}
-use Rattle.pw_law_build.proofs.Modules.{alike, uses_alike, globals_back, shown_alike, shown_uses}
-use Rattle.pw_law_build.proofs.Tests.{Alike, UsesAlike, Each, Same, same, turned, links, refused}
+use Rattle.pw_law_shown.specs.Alike.{shown, AreSummariesOf, DeclaresMain, globals_of, AreObjectsIn}
+use Rattle.pw_law_shown.proofs.Modules.{alike, uses_alike, globals_back, shown_alike, shown_uses}
+use Rattle.pw_law_shown.proofs.Tests.{Alike, UsesAlike, Each, Same, same, turned, links, refused}
 
 -- ---- flow graphs and summaries, module by module
 

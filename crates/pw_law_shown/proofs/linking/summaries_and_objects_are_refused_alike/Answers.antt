@@ -1,5 +1,5 @@
-use Rattle.pw_law_build.proofs.Programs.{linked_alike, refused_alike}
-use Rattle.pw_law_build.proofs.linking.summaries_and_objects_are_refused_alike.Goals as goal
+use Rattle.pw_law_shown.proofs.Programs.{linked_alike, refused_alike}
+use Rattle.pw_law_shown.proofs.linking.summaries_and_objects_are_refused_alike.Goals as goal
 
 pub returns-clause-linked : goal.returns-clause-linked
 returns-clause-linked c = λ flows ss objects valid declares sums made. linked_alike flows ss objects valid declares sums made
