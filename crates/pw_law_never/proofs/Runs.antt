@@ -28,7 +28,8 @@ use Rattle.pw_cmean.specs.SourceRun.{calls, callee}
 use Rattle.pw_cmean.specs.Typed.{IsPointer, IsValueOf, IsWellTyped, IsByte}
 use Rattle.pw_cmean.proofs.SoundActs.{Sound, Any, bind-s, give-s, stop-s, branch-s, look-s, write-s, with_object-s, object-bytes}
 use Rattle.pw_cmean.proofs.SoundOperators.{weaker, put-s, within-s}
-use Rattle.pw_law_never.specs.Resolved.{IsResolved, IsResolvedIfAny, with_range, IsResolvedInitialiser, AreResolvedInitialisers, IsResolvedStatement, AreResolvedStatements, AreResolvedArms, IsResolvedElse}
+use Rattle.pw_law_never.specs.Scopes.{with_range}
+use Rattle.pw_law_never.specs.Resolved.{IsResolved, IsResolvedIfAny, IsResolvedInitialiser, AreResolvedInitialisers, IsResolvedStatement, AreResolvedStatements, AreResolvedArms, IsResolvedElse}
 use Rattle.pw_law_never.proofs.NotWrong.{Right, Good, HasOne, bind-r, bind-g, give-r, give-g, stop-r, branch-r, need-r, need-g, look-r, write-r, with_object-r}
 use Rattle.pw_law_never.proofs.Operators.{CanPut, put-r, tested, truth-g, layout-one}
 use Rattle.pw_law_never.proofs.Symbols.{object-numbered, object-placed}

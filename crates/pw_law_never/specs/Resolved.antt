@@ -1,14 +1,16 @@
 -- What the meaning of a program rests on beside types: each local that is named is in scope, each symbol is defined, and a
 -- number that becomes a pointer is the constant 0 (ISO C90 6.1.2.1, 6.3.4, 6.7).
-use Rattle.std.specs.Prelude.{ℕ, ◌≡◌, ◌+◌, ◌<◌, ◌≤◌, ◌⊎◌, true, Option, Some, None, List, [], ◌∷◌, Contains}
+use Rattle.std.specs.Prelude.{ℕ, ◌≡◌, ◌<◌, ◌⊎◌, true, Option, Some, List, Contains}
+use Rattle.std.specs.List.{AllByRecursion}
 use Rattle.pw_value.specs.declared.value.Pointer.{Pointer as AnyPointer}
 use Rattle.pw_value.specs.ProgramNames.{main_name, main_shape}
 use Rattle.pw_types.specs.TypeTrees.{CType, Int, Pointer, Record, QType, type_of}
 use Rattle.pw_types.specs.WellTyped.{type_in, IsScalar}
 use Rattle.pw_types.specs.declared.kind.IntKind.{IntKind}
-use Rattle.pw_types.specs.TypedTrees.{Symbol, Expression, Node, Number, Str, Local, Global, Function, Unary, Binary, Logic, Cond, Comma, Assign, Compound, Step, Cast, Decay, Member, Deref, Address, Call, CallValue, Expressions, NoExpression, OneExpression, Initialiser, Value as ByValue, Bytes as ByBytes, Statement, Empty, Evaluate, Block, If, While, Do, For, Switch, Label, Goto, Break, Continue, Return, Arms, NoArm, Arm, Otherwise, NoElse, Else, Statements, NoStatement, OneStatement, FunctionValue}
+use Rattle.pw_types.specs.TypedTrees.{Symbol, Expression, Node, Number, Str, Local, Global, Function, Unary, Binary, Logic, Cond, Comma, Assign, Compound, Step, Cast, Decay, Member, Deref, Address, Call, CallValue, Expressions, NoExpression, OneExpression, Initialiser, Value as ByValue, Bytes as ByBytes, Statement, Arms, Otherwise, Statements, FunctionValue}
 use Rattle.pw_check_rules.specs.Constants.{is_zero_constant}
 use Rattle.pw_cmean.specs.Worlds.{Program, ProgramModule, Callable, full_name, pointer_to, function_named}
+use Rattle.pw_law_never.specs.Scopes.{InScopeIfAny, InScopes, AllInScopes, ArmsInScopes, ElseInScopes}
 
 -- ---- symbols of a module of a program, by the module's name
 
@@ -52,59 +54,33 @@ abbrev mutual
   AreResolved p home scope NoExpression = Unit {0}
   AreResolved p home scope (OneExpression a rest) = IsResolved p home scope a × AreResolved p home scope rest
 
-abbrev pub IsResolvedIfAny : Program → List ℕ → (ℕ → Type 0) → Option Expression → Type 0
-IsResolvedIfAny p home scope None = Unit {0}
-IsResolvedIfAny p home scope (Some a) = IsResolved p home scope a
-
 -- ---- statements
 
--- with so many locals more, from a place on
-abbrev pub with_range : ℕ → ℕ → (ℕ → Type 0) → ℕ → Type 0
-with_range first count scope k = scope k ⊎ ((first ≤ k) × (k < first + count))
-
 -- what a local is initialised with: a scalar, a structure or a union (6.5.7), or the bytes of a hidden object
+abbrev pub IsInitialising : CType → Type 0
+IsInitialising ty = IsScalar ty ⊎ ((number : ℕ) × (ty ≡ Record number))
+
 abbrev pub IsResolvedInitialiser : Program → List ℕ → (ℕ → Type 0) → Initialiser → Type 0
-IsResolvedInitialiser p home scope (ByValue k a) =
-    IsResolved p home scope a × (IsScalar (type_in a) ⊎ ((number : ℕ) × (type_in a ≡ Record number)))
+IsResolvedInitialiser p home scope (ByValue k a) = IsResolved p home scope a × IsInitialising (type_in a)
 IsResolvedInitialiser p home scope (ByBytes k hidden parts) = Unit {0}
 
+abbrev pub IsResolvedIfAny : Program → List ℕ → (ℕ → Type 0) → Option Expression → Type 0
+IsResolvedIfAny p home scope a = InScopeIfAny (IsResolved p home) scope a
+
 abbrev pub AreResolvedInitialisers : Program → List ℕ → (ℕ → Type 0) → List Initialiser → Type 0
-AreResolvedInitialisers p home scope [] = Unit {0}
-AreResolvedInitialisers p home scope (i ∷ rest) = IsResolvedInitialiser p home scope i × AreResolvedInitialisers p home scope rest
+AreResolvedInitialisers p home scope all = AllByRecursion (IsResolvedInitialiser p home scope) all
 
--- the locals of a block are in scope in it, also where it is entered at a label
-abbrev mutual
-  pub IsResolvedStatement : Program → List ℕ → (ℕ → Type 0) → Statement → Type 0
-  IsResolvedStatement p home scope (Empty t) = Unit {0}
-  IsResolvedStatement p home scope (Evaluate t a) = IsResolved p home scope a
-  IsResolvedStatement p home scope (Block t first count initialisers items) =
-      AreResolvedInitialisers p home (with_range first count scope) initialisers
-      × AreResolvedStatements p home (with_range first count scope) items
-  IsResolvedStatement p home scope (If t arms otherwise) = AreResolvedArms p home scope arms × IsResolvedElse p home scope otherwise
-  IsResolvedStatement p home scope (While t c body) = IsResolved p home scope c × IsResolvedStatement p home scope body
-  IsResolvedStatement p home scope (Do t body c) = IsResolvedStatement p home scope body × IsResolved p home scope c
-  IsResolvedStatement p home scope (For t first c third body) =
-      IsResolvedIfAny p home scope first × IsResolvedIfAny p home scope c × IsResolvedIfAny p home scope third
-      × IsResolvedStatement p home scope body
-  IsResolvedStatement p home scope (Switch t a cases default body) = IsResolved p home scope a × IsResolvedStatement p home scope body
-  IsResolvedStatement p home scope (Label t labels body) = IsResolvedStatement p home scope body
-  IsResolvedStatement p home scope (Goto t l) = Unit {0}
-  IsResolvedStatement p home scope (Break t) = Unit {0}
-  IsResolvedStatement p home scope (Continue t) = Unit {0}
-  IsResolvedStatement p home scope (Return t result) = IsResolvedIfAny p home scope result
+abbrev pub IsResolvedStatement : Program → List ℕ → (ℕ → Type 0) → Statement → Type 0
+IsResolvedStatement p home scope s = InScopes (IsResolved p home) (IsResolvedInitialiser p home) scope s
 
-  pub AreResolvedStatements : Program → List ℕ → (ℕ → Type 0) → Statements → Type 0
-  AreResolvedStatements p home scope NoStatement = Unit {0}
-  AreResolvedStatements p home scope (OneStatement s rest) = IsResolvedStatement p home scope s × AreResolvedStatements p home scope rest
+abbrev pub AreResolvedStatements : Program → List ℕ → (ℕ → Type 0) → Statements → Type 0
+AreResolvedStatements p home scope all = AllInScopes (IsResolved p home) (IsResolvedInitialiser p home) scope all
 
-  pub AreResolvedArms : Program → List ℕ → (ℕ → Type 0) → Arms → Type 0
-  AreResolvedArms p home scope NoArm = Unit {0}
-  AreResolvedArms p home scope (Arm t c s rest) =
-      IsResolved p home scope c × IsResolvedStatement p home scope s × AreResolvedArms p home scope rest
+abbrev pub AreResolvedArms : Program → List ℕ → (ℕ → Type 0) → Arms → Type 0
+AreResolvedArms p home scope arms = ArmsInScopes (IsResolved p home) (IsResolvedInitialiser p home) scope arms
 
-  pub IsResolvedElse : Program → List ℕ → (ℕ → Type 0) → Otherwise → Type 0
-  IsResolvedElse p home scope NoElse = Unit {0}
-  IsResolvedElse p home scope (Else s) = IsResolvedStatement p home scope s
+abbrev pub IsResolvedElse : Program → List ℕ → (ℕ → Type 0) → Otherwise → Type 0
+IsResolvedElse p home scope o = ElseInScopes (IsResolved p home) (IsResolvedInitialiser p home) scope o
 
 -- ---- programs
 

@@ -1,0 +1,4 @@
+pub mod Symbols
+pub mod Trees
+pub mod Main
+pub mod Whole
