@@ -1,5 +1,5 @@
 -- What holds of all operations of code holds of those of the code before it, and of the one that was added.
-use Rattle.std.proofs.Common.{◌≡◌, ℕ, ◌+◌, ◌==◌, ◌⊎◌, inl, inr, Bool, true, false, if◌then◌else◌, Option, Some, None, List, [], ◌∷◌, ◌++◌, sym, subst}
+use Rattle.std.proofs.Common.{◌≡◌, ℕ, ◌+◌, ◌==◌, ◌⊎◌, inl, inr, Bool, true, false, if◌then◌else◌, Option, Some, None, List, [], ◌∷◌, ◌++◌, subst}
 use Rattle.std.specs.Prelude.{Contains}
 use Rattle.std.specs.List.{AllByRecursion}
 use Rattle.pw_value.specs.declared.value.Kind.{Kind}
@@ -35,10 +35,12 @@ module _ (objects functions : List (List ℕ)) where
   abbrev pub IsAmong : Op → Type 0
   IsAmong o = NamesAmong objects functions o
 
+  abbrev AreAmong : List Numbered → Type 0
+  AreAmong bs = AllByRecursion (λ (b : Numbered). AllByRecursion IsAmong b.block.ops) bs
+
   -- the names in all operations of code are among these
-  pub record Holds (c : Code) : Type 0 where
-    pub ops : AllByRecursion IsAmong c.ops
-    pub closed : AllByRecursion (λ (b : Numbered). AllByRecursion IsAmong b.block.ops) c.closed
+  abbrev pub Holds : Code → Type 0
+  Holds c = AllByRecursion IsAmong c.ops × AllByRecursion (λ (b : Numbered). AllByRecursion IsAmong b.block.ops) c.closed
 
   -- ---- code
 
@@ -46,31 +48,28 @@ module _ (objects functions : List (List ℕ)) where
   kept_back c d k h = by k.filled
     where
       by : IsStillFilled c d ⊎ IsClosedNext c d → Holds c
-      by (inl f) = record {
-        ops = (split IsAmong c.ops f.more (subst (AllByRecursion IsAmong) f.ops h.ops)).0;
-        closed = subst (AllByRecursion (λ (b : Numbered). AllByRecursion IsAmong b.block.ops)) f.closed h.closed;
-      }
+      by (inl f) = (
+        (split IsAmong c.ops f.more (subst (λ (o : List Op). AllByRecursion IsAmong o) f.ops h.0)).0,
+        subst (λ (bs : List Numbered). AreAmong bs) f.closed h.1,
+      )
       by (inr f) =
           let r = split (λ (b : Numbered). AllByRecursion IsAmong b.block.ops) c.closed (record { number = c.cur; block = record { depth = c.depth; ops = c.ops ++ f.more; end = f.end } } ∷ f.rest)
-          (subst (AllByRecursion (λ (b : Numbered). AllByRecursion IsAmong b.block.ops)) f.closed h.closed) in
-          record { ops = (split IsAmong c.ops f.more r.1.0).0; closed = r.0 }
+          (subst (λ (bs : List Numbered). AreAmong bs) f.closed h.1) in
+          ((split IsAmong c.ops f.more r.1.0).0, r.0)
 
   pub emitted : (o : Op) (c : Code) → Holds (emit o c) → Holds c × IsAmong o
-  emitted o c h = let r = split IsAmong c.ops (o ∷ []) h.ops in (record { ops = r.0; closed = h.closed }, r.1.0)
+  emitted o c h = let r = split IsAmong c.ops (o ∷ []) h.0 in ((r.0, h.1), r.1.0)
 
   pub fresh_back : (o : ℕ → Op) (c : Code) → Holds (fresh o c).code → Holds c × IsAmong (o c.temps)
-  fresh_back o c h = let r = emitted (o c.temps) (reserve_temps 1 c) h in (record { ops = r.0.ops; closed = r.0.closed }, r.1)
+  fresh_back o c h = emitted (o c.temps) (reserve_temps 1 c) h
 
   pub cut_back : (end : End) (number depth : ℕ) (c : Code) → Holds (cut end number depth c) → Holds c
   cut_back end number depth c h =
-      let r = split (λ (b : Numbered). AllByRecursion IsAmong b.block.ops) c.closed (record { number = c.cur; block = record { depth = c.depth; ops = c.ops; end = end } } ∷ []) h.closed in
-      record { ops = r.1.0; closed = r.0 }
-
-  pub reserve_back : (n : ℕ) (c : Code) → Holds (reserve n c) → Holds c
-  reserve_back n c h = record { ops = h.ops; closed = h.closed }
+      let r = split (λ (b : Numbered). AllByRecursion IsAmong b.block.ops) c.closed (record { number = c.cur; block = record { depth = c.depth; ops = c.ops; end = end } } ∷ []) h.1 in
+      (r.1.0, r.0)
 
   pub leave_back : (end : End) (c : Code) → Holds (leave end c) → Holds c
-  leave_back end c h = reserve_back 1 c (cut_back end c.blocks c.depth (reserve 1 c) h)
+  leave_back end c h = cut_back end c.blocks c.depth (reserve 1 c) h
 
   pub constant_back : (n : ℕ) (c : Code) → Holds (constant n c).code → Holds c
   constant_back n c h = (fresh_back (λ t. op.Const t n) c h).0
@@ -188,8 +187,7 @@ module _ (objects functions : List (List ℕ)) where
   step_back false old x h = h
 
   pub fork_back : (n : ℕ) (x : Lowered) → Holds (fork n x).code → Holds x.code
-  fork_back n x h =
-      let r = cut_back (Branch (temp_of x) x.code.blocks (x.code.blocks + 1)) x.code.blocks x.code.depth (reserve 3 (reserve_temps n x.code)) h in record { ops = r.ops; closed = r.closed }
+  fork_back n x h = cut_back (Branch (temp_of x) x.code.blocks (x.code.blocks + 1)) x.code.blocks x.code.depth (reserve 3 (reserve_temps n x.code)) h
 
   pub called_back : (b : Bool) (o : Option ℕ → Op) (c : Code) → Holds (if b then lowered_as None (emit (o None) c) else fresh (λ t. o (Some t)) c).code
       → Holds c × ((r : Option ℕ) × IsAmong (o r))

@@ -111,31 +111,31 @@ module _ (objects functions : List (List ℕ)) (h : Home) (m : ModuleValue) (loc
   mutual
     unfolding lower IsTyped HasForm
 
-    pub names : (e : Expression) → IsTyped m locals e → (c : Code) → Have (lower h e c).code → Names e
-    names (Node t y (Number n)) w c g = (tt, tt)
-    names (Node t y (Str k)) w c g = ((fresh_back objects functions (λ r. op.AddrGlobal r (full_name h.name (Hidden k)) 0) c g).1, tt)
-    names (Node t y (Local k)) w c g = (tt, tt)
-    names (Node t y (Global s)) w c g = (global_named objects functions (kind_of (type_of y)) (full_name h.name s) c g, tt)
-    names (Node t y (Function s)) w c g = ((fresh_back objects functions (λ r. op.AddrFn r (full_name h.name s)) c g).1, tt)
-    names (Node t y (Unary o a)) w c g = (tt, names a w.1.0 c (unary_back objects functions o (temp_of (lower h a c)) (lower h a c).code g))
-    names (Node t y (Binary o a b)) w c g =
+    pub expression_names : (e : Expression) → IsTyped m locals e → (c : Code) → Have (lower h e c).code → Names e
+    expression_names (Node t y (Number n)) w c g = (tt, tt)
+    expression_names (Node t y (Str k)) w c g = ((fresh_back objects functions (λ r. op.AddrGlobal r (full_name h.name (Hidden k)) 0) c g).1, tt)
+    expression_names (Node t y (Local k)) w c g = (tt, tt)
+    expression_names (Node t y (Global s)) w c g = (global_named objects functions (kind_of (type_of y)) (full_name h.name s) c g, tt)
+    expression_names (Node t y (Function s)) w c g = ((fresh_back objects functions (λ r. op.AddrFn r (full_name h.name s)) c g).1, tt)
+    expression_names (Node t y (Unary o a)) w c g = (tt, expression_names a w.1.0 c (unary_back objects functions o (temp_of (lower h a c)) (lower h a c).code g))
+    expression_names (Node t y (Binary o a b)) w c g =
         let x = lower h a c in
         let z = lower h b x.code in
         let other = combined_back objects functions h.records o (type_of (type_at a)) (type_of (type_at b)) (temp_of x) (temp_of z) z.code g in
-        (tt, (names a w.1.0 c (lowered_back b x.code other), names b w.1.1 x.code other))
-    names (Node t y (Logic logic.And a b)) w c g = (tt, and_names a b c (λ d. names a w.1.0 d) (λ d. names b w.1.1 d) g)
-    names (Node t y (Logic logic.Or a b)) w c g = (tt, or_names a b c (λ d. names a w.1.0 d) (λ d. names b w.1.1 d) g)
-    names (Node t y (Cond a b z)) w c g = (tt, cond_names (is_void (type_of y)) a b z c (λ d. names a w.1.0 d) (λ d. names b w.1.1 d) (λ d. names z w.1.2 d) g)
-    names (Node t y (Comma a b)) w c g = (tt, (names a w.1.0 c (lowered_back b (lower h a c).code g), names b w.1.1 (lower h a c).code g))
-    names (Node t y (Assign a b)) w c g =
-        (tt, assign_names (is_record (type_of y)) (type_of y) (scalar_kind (type_of y)) a b c (λ d. names a w.1.0 d) (λ d. place_names a w.1.0 w.1.2.lvalue w.1.2.assigned d) (λ d. names b w.1.1 d) g)
-    names (Node t y (Compound o work a b)) w c g =
+        (tt, (expression_names a w.1.0 c (lowered_back b x.code other), expression_names b w.1.1 x.code other))
+    expression_names (Node t y (Logic logic.And a b)) w c g = (tt, and_names a b c (λ d. expression_names a w.1.0 d) (λ d. expression_names b w.1.1 d) g)
+    expression_names (Node t y (Logic logic.Or a b)) w c g = (tt, or_names a b c (λ d. expression_names a w.1.0 d) (λ d. expression_names b w.1.1 d) g)
+    expression_names (Node t y (Cond a b z)) w c g = (tt, cond_names (is_void (type_of y)) a b z c (λ d. expression_names a w.1.0 d) (λ d. expression_names b w.1.1 d) (λ d. expression_names z w.1.2 d) g)
+    expression_names (Node t y (Comma a b)) w c g = (tt, (expression_names a w.1.0 c (lowered_back b (lower h a c).code g), expression_names b w.1.1 (lower h a c).code g))
+    expression_names (Node t y (Assign a b)) w c g =
+        (tt, assign_names (is_record (type_of y)) (type_of y) (scalar_kind (type_of y)) a b c (λ d. expression_names a w.1.0 d) (λ d. place_names a w.1.0 w.1.2.lvalue w.1.2.assigned d) (λ d. expression_names b w.1.1 d) g)
+    expression_names (Node t y (Compound o work a b)) w c g =
         let p = place h a c in
         let old = read (scalar_kind (type_of y)) p in
         let other = updated_back objects functions h.records o work (type_of (type_at b)) (scalar_kind (type_of y)) p.target (temp_of old) (lower h b old.code) g in
         let before = read_back objects functions (scalar_kind (type_of y)) p.target p.code (lowered_back b old.code other.0) in
-        (tt, (place_names a w.1.0 w.1.2.lvalue w.1.2.assigned c before.0 before.1, names b w.1.1 old.code other.0))
-    names (Node t y (Step o a)) w c g =
+        (tt, (place_names a w.1.0 w.1.2.lvalue w.1.2.assigned c before.0 before.1, expression_names b w.1.1 old.code other.0))
+    expression_names (Node t y (Step o a)) w c g =
         let p = place h a c in
         let old = read (scalar_kind (type_of y)) p in
         let one = constant 1 old.code in
@@ -143,38 +143,38 @@ module _ (objects functions : List (List ℕ)) (h : Home) (m : ModuleValue) (loc
         (step_back objects functions (is_behind o) (temp_of old) (updated h.records (step_operator o) (promoted_type (type_of y)) Void (scalar_kind (type_of y)) p.target (temp_of old) one) g) in
         let before = read_back objects functions (scalar_kind (type_of y)) p.target p.code (constant_back objects functions 1 old.code other.0) in
         (tt, place_names a w.1.0 w.1.1.lvalue w.1.1.assigned c before.0 before.1)
-    names (Node t y (Cast a)) w c g = (tt, names a w.1.0 c (cast_back objects functions (is_void (type_of y)) (kind_of (type_in a)) (kind_of (type_of y)) (lower h a c) g))
-    names (Node t y (Decay a)) w c g = (tt, names a w.1.0 c g)
-    names (Node t y (Member a offset)) w c g =
-        (tt, names a w.1.0 c (further_back objects functions offset (lower h a c) (value_at_back objects functions (kind_of (type_of y)) (further offset (lower h a c)) g)))
-    names (Node t y (Deref a)) w c g = (tt, names a w.1.0 c (value_at_back objects functions (kind_of (type_of y)) (lower h a c) g))
-    names (Node t y (Address (Node u own (Local k)))) w c g = (tt, (tt, tt))
-    names (Node t y (Address (Node u own (Global s)))) w c g = (tt, ((fresh_back objects functions (λ r. op.AddrGlobal r (full_name h.name s) 0) c g).1, tt))
-    names (Node t y (Address (Node u own (Deref a)))) w c g = (tt, (tt, names a w.1.0.1.0 c g))
-    names (Node t y (Address (Node u own (Member a offset)))) w c g = (tt, (tt, names a w.1.0.1.0 c (further_back objects functions offset (lower h a c) g)))
-    names (Node t y (Address (Node u own form))) w c g = (tt, names (Node u own form) w.1.0 c g)
-    names (Node t y (Call s args)) w c g =
+    expression_names (Node t y (Cast a)) w c g = (tt, expression_names a w.1.0 c (cast_back objects functions (is_void (type_of y)) (kind_of (type_in a)) (kind_of (type_of y)) (lower h a c) g))
+    expression_names (Node t y (Decay a)) w c g = (tt, expression_names a w.1.0 c g)
+    expression_names (Node t y (Member a offset)) w c g =
+        (tt, expression_names a w.1.0 c (further_back objects functions offset (lower h a c) (value_at_back objects functions (kind_of (type_of y)) (further offset (lower h a c)) g)))
+    expression_names (Node t y (Deref a)) w c g = (tt, expression_names a w.1.0 c (value_at_back objects functions (kind_of (type_of y)) (lower h a c) g))
+    expression_names (Node t y (Address (Node u own (Local k)))) w c g = (tt, (tt, tt))
+    expression_names (Node t y (Address (Node u own (Global s)))) w c g = (tt, ((fresh_back objects functions (λ r. op.AddrGlobal r (full_name h.name s) 0) c g).1, tt))
+    expression_names (Node t y (Address (Node u own (Deref a)))) w c g = (tt, (tt, expression_names a w.1.0.1.0 c g))
+    expression_names (Node t y (Address (Node u own (Member a offset)))) w c g = (tt, (tt, expression_names a w.1.0.1.0 c (further_back objects functions offset (lower h a c) g)))
+    expression_names (Node t y (Address (Node u own form))) w c g = (tt, expression_names (Node u own form) w.1.0 c g)
+    expression_names (Node t y (Call s args)) w c g =
         let xs = arguments h args c in
         let r = called_back objects functions (is_void (type_of y)) (λ r. op.Call r (full_name h.name s) xs.temps) xs.code g in
         (r.1.1, arguments_name args w.1.1 w.1.5 c r.0)
-    names (Node t y (CallValue a args)) w c g =
+    expression_names (Node t y (CallValue a args)) w c g =
         let x = lower h a c in
         let xs = arguments h args x.code in
         let r = called_back objects functions (is_void (type_of y)) (λ r. op.CallInd r (temp_of x) (shape_at h.records (type_at a)) xs.temps) xs.code g in
-        (tt, (names a w.1.0 c (arguments_back args x.code r.0), arguments_name args w.1.1.1 w.1.1.7 x.code r.0))
+        (tt, (expression_names a w.1.0 c (arguments_back args x.code r.0), arguments_name args w.1.1.1 w.1.1.7 x.code r.0))
 
     place_names : (e : Expression) → IsTyped m locals e → IsLvalue e → IsScalar (type_in e) ⊎ ((number : ℕ) × (type_in e ≡ Record number)) → (c : Code) → Have (place h e c).code
         → OfTarget objects functions (place h e c).target → Names e
     place_names (Node t y (Local k)) w l s c g r = (tt, tt)
     place_names (Node t y (Global symbol)) w l s c g r = (r, tt)
-    place_names (Node t y (Member a offset)) w l s c g r = (tt, names a w.1.0 c (further_back objects functions offset (lower h a c) g))
-    place_names (Node t y (Deref a)) w l s c g r = (tt, names a w.1.0 c g)
+    place_names (Node t y (Member a offset)) w l s c g r = (tt, expression_names a w.1.0 c (further_back objects functions offset (lower h a c) g))
+    place_names (Node t y (Deref a)) w l s c g r = (tt, expression_names a w.1.0 c g)
     place_names (Node t y (Str k)) w l s c g r = absurd (never_string (type_of y) _ _ w.1.1.3 s)
     place_names (Node t y form) w l s c g r = absurd l
 
     arguments_name : (args : Expressions) (params : QTypes) → AreArguments m locals args params → (c : Code) → Have (arguments h args c).code → EachNodeAmong (NodeAmong objects functions h.name) args
     arguments_name NoExpression params w c g = tt
-    arguments_name (OneExpression e rest) (OneType q more) w c g = (names e w.0 c (arguments_back rest (lower h e c).code g), arguments_name rest more w.3 (lower h e c).code g)
+    arguments_name (OneExpression e rest) (OneType q more) w c g = (expression_names e w.0 c (arguments_back rest (lower h e c).code g), arguments_name rest more w.3 (lower h e c).code g)
     arguments_name (OneExpression e rest) NoType w c g = absurd w
 
     arguments_back : (args : Expressions) (c : Code) → Have (arguments h args c).code → Have c

@@ -7,6 +7,7 @@ use Rattle.pw_types.specs.TypedTrees.{Expression, Statement, FunctionValue, Modu
 use Rattle.pw_types.specs.TypedModules.{IsFunction}
 use Rattle.pw_flow.specs.declared.flow.Block.{Block}
 use Rattle.pw_flow.specs.declared.flow.FlowFn.{FlowFn}
+use Rattle.pw_flow.specs.declared.flow.Op.{Op}
 use Rattle.pw_lower.specs.declared.code.Code.{Code}
 use Rattle.pw_lower.specs.declared.code.Numbered.{Numbered}
 use Rattle.pw_lower.specs.declared.place.Ways.{Ways}
@@ -32,12 +33,12 @@ each_of P (x ∷ xs) h = (h x (0, omega arith, refl), each_of P xs (λ y c. h y 
 module _ (objects functions : List (List ℕ)) where
   -- what holds of a graph holds of the code that it contains
   contained_holds : (g : FlowFn) (c : Code) → ContainsCode g c → AllByRecursion (λ (b : Block). AllByRecursion (IsAmong objects functions) b.ops) g.blocks → Holds objects functions c
-  contained_holds g c w h = record {
-    ops = (split (IsAmong objects functions) c.ops w.filled.rest (subst (AllByRecursion (IsAmong objects functions)) w.filled.ops
-        (one_of (λ (b : Block). AllByRecursion (IsAmong objects functions) b.ops) g.blocks c.cur w.filled.block h w.filled.there))).0;
-    closed = each_of (λ (b : Numbered). AllByRecursion (IsAmong objects functions) b.block.ops) c.closed
-        (λ b k. one_of (λ (b : Block). AllByRecursion (IsAmong objects functions) b.ops) g.blocks b.number b.block h (w.closed b k));
-  }
+  contained_holds g c w h = (
+    (split (IsAmong objects functions) c.ops w.filled.rest (subst (λ (o : List Op). AllByRecursion (IsAmong objects functions) o) w.filled.ops
+        (one_of (λ (b : Block). AllByRecursion (IsAmong objects functions) b.ops) g.blocks c.cur w.filled.block h w.filled.there))).0,
+    each_of (λ (b : Numbered). AllByRecursion (IsAmong objects functions) b.block.ops) c.closed
+        (λ b k. one_of (λ (b : Block). AllByRecursion (IsAmong objects functions) b.ops) g.blocks b.number b.block h (w.closed b k)),
+  )
 
   pub function_names : ((h : Home) (e : Expression) (c : Code) → Keeps c (lower h e c).code) → ((f : Frame) (ways : Ways) (s : Statement) (c : Code) → Keeps c (lower_statement f ways s c))
       → (home : List ℕ) (m : ModuleValue) (f : FunctionValue) → ContainsCode (lowered_function home m.records f) (code_of_body home m.records f) → IsFunction m f

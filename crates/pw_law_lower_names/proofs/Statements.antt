@@ -24,8 +24,8 @@ use Rattle.pw_law_lower.specs.Kept.{Keeps}
 use Rattle.pw_law_lower_walk.specs.Parts.{IfAny}
 use Rattle.pw_law_lower_walk.specs.Folds.{EachNode, InStatement, InStatements, InArms, InOtherwise}
 use Rattle.pw_law_lower_walk.specs.Named.{NodeAmong, InitialiserAmong}
-use Rattle.pw_law_lower_names.proofs.Backward.{Holds, kept_back, fresh_back, cut_back, reserve_back, leave_back, constant_back, with_back, stored_back, copied_back}
-use Rattle.pw_law_lower_names.proofs.Expressions.{names, lowered_back}
+use Rattle.pw_law_lower_names.proofs.Backward.{Holds, kept_back, fresh_back, cut_back, leave_back, constant_back, with_back, stored_back, copied_back}
+use Rattle.pw_law_lower_names.proofs.Expressions.{expression_names, lowered_back}
 
 module _ (objects functions : List (List ℕ)) (m : ModuleValue) (f : FunctionValue) (frame : Frame) (keep : (e : Expression) (c : Code) → Keeps c (lower frame.home e c).code) (keeps : (ways : Ways) (s : Statement) (c : Code) → Keeps c (lower_statement frame ways s c)) where
   abbrev Names : Expression → Type 0
@@ -38,7 +38,7 @@ module _ (objects functions : List (List ℕ)) (m : ModuleValue) (f : FunctionVa
   Have c = Holds objects functions c
 
   told : (e : Expression) → IsTyped m f.locals e → (c : Code) → Have (lower frame.home e c).code → Names e
-  told e w c g = names objects functions frame.home m f.locals keep e w c g
+  told e w c g = expression_names objects functions frame.home m f.locals keep e w c g
 
   before : (e : Expression) (c : Code) → Have (lower frame.home e c).code → Have c
   before e c g = lowered_back objects functions frame.home m f.locals keep e c g
@@ -102,8 +102,8 @@ module _ (objects functions : List (List ℕ)) (m : ModuleValue) (f : FunctionVa
   choose_back v (k ∷ rest) c g =
       let x = with Eq v (constant k.value c) in
       let d = cut_here (Branch (temp_of x) (block_of_label x.code k.label) x.code.blocks) x.code.blocks (reserve 1 x.code) in
-      constant_back objects functions k.value c (with_back objects functions Eq v (constant k.value c) (reserve_back objects functions 1 x.code
-      (cut_back objects functions (Branch (temp_of x) (block_of_label x.code k.label) x.code.blocks) x.code.blocks x.code.depth (reserve 1 x.code) (choose_back v rest d g))))
+      constant_back objects functions k.value c (with_back objects functions Eq v (constant k.value c)
+      (cut_back objects functions (Branch (temp_of x) (block_of_label x.code k.label) x.code.blocks) x.code.blocks x.code.depth (reserve 1 x.code) (choose_back v rest d g)))
 
   returning_names : (e : Option Expression) → Returns m f e → (c : Code) → Have (returning frame.home e c) → IfAny Names e
   returning_names None w c g = tt
@@ -211,7 +211,7 @@ module _ (objects functions : List (List ℕ)) (m : ModuleValue) (f : FunctionVa
         let join = x.code.blocks + 1 in
         let entered = cut_here (Branch (temp_of x) so join) so (reserve 2 x.code) in
         let k = cut_back objects functions (Jump join) join (lower_statement frame ways s entered).depth (lower_statement frame ways s entered) g in
-        let r = reserve_back objects functions 2 x.code (cut_back objects functions (Branch (temp_of x) so join) so x.code.depth (reserve 2 x.code) (earlier ways s entered k)) in
+        let r = cut_back objects functions (Branch (temp_of x) so join) so x.code.depth (reserve 2 x.code) (earlier ways s entered k) in
         ((told e w.0.0 c r, statement_names s breaks continues from w.1 ways entered k, tt), tells, before e c r)
     arms_name (Arm t e s NoArm) breaks continues from w B ways (Some last) tells c g =
         let x = lower frame.home e c in
@@ -222,7 +222,7 @@ module _ (objects functions : List (List ℕ)) (m : ModuleValue) (f : FunctionVa
         let behind = cut_here (Jump join) other (lower_statement frame ways s entered) in
         let z = tells behind (cut_back objects functions (Jump join) join (last behind).depth (last behind) g) in
         let k = cut_back objects functions (Jump join) other (lower_statement frame ways s entered).depth (lower_statement frame ways s entered) z.1 in
-        let r = reserve_back objects functions 3 x.code (cut_back objects functions (Branch (temp_of x) so other) so x.code.depth (reserve 3 x.code) (earlier ways s entered k)) in
+        let r = cut_back objects functions (Branch (temp_of x) so other) so x.code.depth (reserve 3 x.code) (earlier ways s entered k) in
         ((told e w.0.0 c r, statement_names s breaks continues from w.1 ways entered k, tt), z.0, before e c r)
     arms_name (Arm t e s (Arm u d b rest)) breaks continues from w B ways last tells c g =
         let x = lower frame.home e c in
@@ -234,7 +234,7 @@ module _ (objects functions : List (List ℕ)) (m : ModuleValue) (f : FunctionVa
         let z = arms_name (Arm u d b rest) breaks continues from w.2 B ways last tells behind
         (cut_back objects functions (Jump join) join (lower_arms frame ways (Arm u d b rest) last behind).depth (lower_arms frame ways (Arm u d b rest) last behind) g) in
         let k = cut_back objects functions (Jump join) other (lower_statement frame ways s entered).depth (lower_statement frame ways s entered) z.2 in
-        let r = reserve_back objects functions 3 x.code (cut_back objects functions (Branch (temp_of x) so other) so x.code.depth (reserve 3 x.code) (earlier ways s entered k)) in
+        let r = cut_back objects functions (Branch (temp_of x) so other) so x.code.depth (reserve 3 x.code) (earlier ways s entered k) in
         ((told e w.0.0 c r, statement_names s breaks continues from w.1 ways entered k, z.0), z.1, before e c r)
 
     otherwise_tells : (o : Otherwise) (breaks continues : Bool) (from : ℕ) → IsElse m f breaks continues from o → (ways : Ways) → LastTells (lower_otherwise frame ways o) (InOtherwise Names Initialise o)

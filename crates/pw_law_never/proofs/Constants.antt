@@ -232,7 +232,7 @@ module _ (e : Env) (cs : CallList) where
       after _ _ (not (y == 0)) (Some (V.Num (number_for (not (y == 0))))) (tested (site e t) (answer_of b cs e) y (constant-gives b y h.1.1 same)) (just _))
   constant-gives (Node t (Qualified (Int k) c v) (Cond a b d)) m h known =
       let p : (x : ℕ) × (constant_of a ≡ Known x) × (choice_word x (constant_of b) (constant_of d) ≡ Known m) =
-          known-then (constant_of a) _ m (known-formed (constant_of d) _ m (known-formed (constant_of b) _ m known)) in
+      known-then (constant_of a) _ m (known-formed (constant_of d) _ m (known-formed (constant_of b) _ m known)) in
       after _ _ (not (p.0 == 0)) (Some (V.Num m)) (tested (site e t) (answer_of a cs e) p.0 (constant-gives a p.0 h.1.0 p.1))
       (choice-gives (p.0 == 0) (constant_of b) (constant_of d) m _ _ p.2 (λ same. constant-gives b m h.1.1 same) (λ same. constant-gives d m h.1.2 same))
   constant-gives (Node t (Qualified (Int k) c v) (Cast a)) m h known =

@@ -90,6 +90,7 @@ holds-contained (x ∷ xs) l (zero, below, e) = first (x == l) (same x l e)
   where
     same : (x l : ℕ) → x ≡ l → (x == l) ≡ true
     same x l e = grind (arith, nat_tests)
+
     first : (b : Bool) → b ≡ true → (b || holds xs l) ≡ true
     first true e = refl
     first false e = cc
@@ -256,8 +257,11 @@ numbered-one locals numbers scope first n below h = record {
   where
     has-one : (k : ℕ) → with_one first scope k → (number : ℕ) × (slice_get (slice_set numbers first (Some n)) k ≡ Some (Some number))
     has-one k (inl s) = set-keeps numbers first n k (h.has k s).0 (h.has k s).1
-    has-one k (inr e) = (n, subst (λ k. slice_get (slice_set numbers first (Some n)) k ≡ Some (Some n)) (sym e)
-        (set-there numbers first n (subst (λ x. first < x) (sym h.count) below)))
+    has-one k (inr e) = (
+      n,
+      subst (λ k. slice_get (slice_set numbers first (Some n)) k ≡ Some (Some n)) (sym e)
+          (set-there numbers first n (subst (λ x. first < x) (sym h.count) below)),
+    )
 
 numbered-range : (locals : List LocalValue) (numbers : List (Option ℕ)) (scope : ℕ → Type 0) (first count : ℕ)
     → Numbered locals numbers (with_range (suc first) count (with_one first scope)) → Numbered locals numbers (with_range first (suc count) scope)
@@ -266,6 +270,7 @@ numbered-range locals numbers scope first count h = record { count = h.count; ha
     from-first : (k : ℕ) → k < first + suc count → (k ≡ first) ⊎ (suc first ≤ k) → (number : ℕ) × (slice_get numbers k ≡ Some (Some number))
     from-first k below (inl e) = h.has k (inl (inr e))
     from-first k below (inr over) = h.has k (inr (over, omega arith))
+
     has-range : (k : ℕ) → with_range first (suc count) scope k → (number : ℕ) × (slice_get numbers k ≡ Some (Some number))
     has-range k (inl s) = h.has k (inl (inl s))
     has-range k (inr r) = from-first k r.1 (split first k r.0)
@@ -275,6 +280,7 @@ numbered-none locals numbers scope first h = record { count = h.count; has = λ 
   where
     outside : (k : ℕ) → first ≤ k → k < first + zero → ⊥
     outside k low high = omega arith
+
     has-none : (k : ℕ) → with_range first zero scope k → (number : ℕ) × (slice_get numbers k ≡ Some (Some number))
     has-none k (inl s) = h.has k s
     has-none k (inr r) = absurd (outside k r.0 r.1)
@@ -310,7 +316,7 @@ local-at-g : (e : Env) (k : ℕ) → (number : ℕ) × (slice_get e.numbers k �
 unfolding local_place
 local-at-g e k h =
     let there : option_map (λ number. V.At (Ptr.Object number 0)) (option_and_then (λ n. n) (slice_get e.numbers k)) ≡ Some (V.At (Ptr.Object h.0 0)) =
-        ap (λ (o : Option (Option ℕ)). option_map (λ number. V.At (Ptr.Object number 0)) (option_and_then (λ n. n) o)) h.1 in
+    ap (λ (o : Option (Option ℕ)). option_map (λ number. V.At (Ptr.Object number 0)) (option_and_then (λ n. n) o)) h.1 in
     weaker-g (need-g _ (V.At (Ptr.Object h.0 0), there)) λ v same. at-object v (sym same ∙ there)
   where
     at-object : (v : Value) → Some v ≡ Some (V.At (Ptr.Object h.0 0)) → IsAtObject v

@@ -61,6 +61,7 @@ found-at test xs below = by-test (nat_lt (position_or_len test xs) (length xs)) 
   where
     is-below : (a b : ℕ) → a < b → nat_lt a b ≡ true
     is-below a b h = grind (arith, nat_tests)
+
     by-test : (b : Bool) → b ≡ true → HasOne (cond b (Some (position_or_len test xs)) None)
     by-test true e = (position_or_len test xs, refl)
     by-test false e = cc

@@ -72,9 +72,11 @@ symbol-g e x h = record { sound = symbol_place-s e x; right = symbol-r e x h }
 -- the object of a string literal is there
 string-there : (e : Env) → Contains e.world.program.modules e.home → (k : ℕ) (ty : QType) → W.IsDefined e.home.tree (Hidden k) ty → IsThere e.world.program e.home.name (Hidden k)
 string-there e inside k ty d =
-    let n : (number : ℕ) × (global_number e.world.program (full_name e.home.name d.object.name) ≡ Some number) = object-numbered e.world.program e.home d.object inside d.there in
-    (Ptr.Object n.0 0, object-placed e.world.program (full_name e.home.name (Hidden k)) n.0
-    (subst (λ symbol. global_number e.world.program (full_name e.home.name symbol) ≡ Some n.0) d.name_is n.1))
+    let n : (number : ℕ) × (global_number e.world.program (full_name e.home.name d.object.name) ≡ Some number) = object-numbered e.world.program e.home d.object inside d.there in (
+      Ptr.Object n.0 0,
+      object-placed e.world.program (full_name e.home.name (Hidden k)) n.0
+          (subst (λ symbol. global_number e.world.program (full_name e.home.name symbol) ≡ Some n.0) d.name_is n.1),
+    )
 
 value_by-r : (at : Site) (ty : CType) (p : Value) → IsPointer p → Right (value_by at ty p)
 unfolding value_by
@@ -523,8 +525,12 @@ module _ (types : Types) (e : Env) (cs : CallList) (scope : ℕ → Type 0) (w :
     answer-r (Node t ty (Call x args)) h r =
         bind-r (record { sound = values-t args h.1.1 t h.1.5; right = values-r args h.1.1 t h.1.5 r.1 }) λ vs i.
         bind-r (need-g _ r.0) λ f found.
-        call-r e.world cs f vs (named-own e.world.program _ f found) (letter_of (type_of h.1.0), h.1.1,
-        agreed e.home.tree.records h.1.0 h.1.1 f.shape (w.well.functions e.home w.inside x (Qualified (FunctionType h.1.0 h.1.1) false false) f h.1.2 found), i) l.right
+        call-r e.world cs f vs (named-own e.world.program _ f found) (
+          letter_of (type_of h.1.0),
+          h.1.1,
+          agreed e.home.tree.records h.1.0 h.1.1 f.shape (w.well.functions e.home w.inside x (Qualified (FunctionType h.1.0 h.1.1) false false) f h.1.2 found),
+          i,
+        ) l.right
     answer-r (Node t ty (CallValue a args)) h r =
         bind-r (operand-g _ (type_in a) (answer-t a h.1.0) (answer-r a h.1.0 r.0)) λ p i.
         bind-r (record { sound = values-t args h.1.1.1 t h.1.1.7; right = values-r args h.1.1.1 t h.1.1.7 r.1 }) λ vs j.

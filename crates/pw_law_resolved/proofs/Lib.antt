@@ -1,3 +1,4 @@
+pub mod Flows
 pub mod Symbols
 pub mod Trees
 pub mod Main

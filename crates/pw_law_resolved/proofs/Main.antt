@@ -15,7 +15,7 @@ use Rattle.pw_law_layers.specs.Lowering.{AreChecked, IsAccepted, flow_program}
 use Rattle.pw_law_refine.specs.Lowerable.{IsLowerable, IsLowerableWorld}
 use Rattle.pw_law_refine.specs.Whole.{CheckedIsLowerable}
 use Rattle.pw_law_refine_start.specs.Named.{flow_library, IsOfLibrary, IsDefinedAs, IsFoundAs}
-use Rattle.pw_law_accept.proofs.Modules.{function_by}
+use Rattle.pw_law_resolved.proofs.Flows.{function_by}
 use Rattle.pw_law_resolved.proofs.Symbols.{functions, module_valid, own_function, function_found}
 
 -- what is accepted with some frames is so with any

@@ -7,9 +7,7 @@ ghost use Rattle.pw_law_layers.specs.Lowering.{AreChecked, IsAccepted, SourceIsN
 ghost use Rattle.pw_law_never.specs.Resolved.{IsResolvedProgram};
 
 use pw_law_accept::accepted_is_lowerable;
-use pw_law_checked::{
-    accepted_bodies_are_bounded, accepted_bodies_have_words, strings_of_texts,
-};
+use pw_law_checked::{accepted_bodies_are_bounded, accepted_bodies_have_words, strings_of_texts};
 use pw_law_lower_names::operations_name_all;
 use pw_law_never::resolved_programs_are_never_wrong;
 use pw_law_refine_start::functions_are_found;

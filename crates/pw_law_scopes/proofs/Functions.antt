@@ -197,7 +197,7 @@ body_scoped v s w place q d block h =
     (λ r. (IsLawful r.1 × After (enter_body q (bindings_of d) (R.labels_in_block block) s) r.1 × Unit {0}) × BlockWalked (λ k. k < length (bindings_of d).parameters) (enter_body q (bindings_of d) (R.labels_in_block block) s) r) (Scopes s)
     (post_both _ (λ r. IsLawful r.1 × After (enter_body q (bindings_of d) (R.labels_in_block block) s) r.1 × Unit {0}) (BlockWalked (λ k. k < length (bindings_of d).parameters) (enter_body q (bindings_of d) (R.labels_in_block block) s))
     (block_goes block (enter_body q (bindings_of d) (R.labels_in_block block) s) entry.0)
-    (block_walked block (enter_body q (bindings_of d) (R.labels_in_block block) s) (λ k. k < length (bindings_of d).parameters) x (omega arith)))
+    (block_walked block (enter_body q (bindings_of d) (R.labels_in_block block) s) (λ k. k < length (bindings_of d).parameters) x (let inner : 0 < s.scopes.depth + 1 = omega arith in inner)))
     (λ r g met. (
       left_placed r.1 g.1.0.ready.placed,
       g.1.0.ready.counting,

@@ -122,9 +122,9 @@ initialising : (ty : CType) (e : Expression) → not (is_array ty) ≡ true → 
 initialising (Int k) e a h = inl tt
 initialising (Pointer q) e a h = inl tt
 initialising (Record n) e a h = inr (n, refl)
-initialising (Array q n) e a h = no (sym a)
-initialising Void e a h = no (sym h)
-initialising (Function q ps) e a h = no (sym h)
+initialising (Array q n) e a h = no a
+initialising Void e a h = no h
+initialising (Function q ps) e a h = no h
 
 object_kind : (s : State) (cx : Context) (q : QType) (i : Init) → Post (object_rule cx q i s) (λ r. is_by_bytes (type_of q) i ≡ false → IsInitialising (type_of q))
 unfolding object_rule object_by object_value value_filled bind

@@ -99,7 +99,7 @@ any_at {X} p (y ∷ xs) (suc i) x e h = by (p y) (any_at p xs i x e h)
     by false f = f
 
 at_any : {X : Type 0} (p : X → Bool) (xs : List X) → list_any p xs ≡ true → (i : ℕ) × (x : X) × (slice_get xs i ≡ Some x) × (p x ≡ true)
-at_any p [] h = no (sym h)
+at_any p [] h = no h
 at_any {X} p (y ∷ xs) h = by (p y) refl h (at_any p xs)
   where
     by : (b : Bool) → p y ≡ b → (b || list_any p xs) ≡ true → (list_any p xs ≡ true → (i : ℕ) × (x : X) × (slice_get xs i ≡ Some x) × (p x ≡ true))
@@ -136,11 +136,11 @@ so_seen s k h =
       deep = refl;
       stands = f ∙ ap (λ j. Some (LocalObject j q register)) (eqb-true n k g);
     }
-    by i e there (Some (TypeName q)) f g = no (sym g)
-    by i e there (Some (EnumerationConstant n)) f g = no (sym g)
-    by i e there (Some (StaticObject n q)) f g = no (sym g)
-    by i e there (Some (Linked n q)) f g = no (sym g)
-    by i e there None f g = no (sym g)
+    by i e there (Some (TypeName q)) f g = no g
+    by i e there (Some (EnumerationConstant n)) f g = no g
+    by i e there (Some (StaticObject n q)) f g = no g
+    by i e there (Some (Linked n q)) f g = no g
+    by i e there None f g = no g
 
 -- the locals of the function, of which those that can be seen are shown
 pub shown_locals : State → List LocalValue

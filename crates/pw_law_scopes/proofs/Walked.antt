@@ -260,7 +260,7 @@ deeper_stands scope s x = record {
 }
 
 deeper_inner : (s : State) → 0 < (one_deeper s).scopes.depth
-deeper_inner s = omega arith
+deeper_inner s = (let inner : 0 < s.scopes.depth + 1 = omega arith in inner)
 
 -- the initialisers of a block's locals
 sited_scoped : (scope : ℕ → Type 0) (s t : State) → ((d k : ℕ) → Seen s d k ⊎ IsNew s t d k → scope k) → (is : List Initialiser) → AreSited s t is → AllByRecursion HasWords is → AllByRecursion (IsScopedInitialiser scope) is
