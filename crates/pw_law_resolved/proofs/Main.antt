@@ -11,7 +11,7 @@ use Rattle.pw_lower.specs.Modules.{lowered}
 use Rattle.pw_cmean.specs.Worlds.{Program, ProgramModule, World, Callable, function_named}
 use Rattle.pw_run_languages.specs.Programs as flows
 use Rattle.pw_run_languages.specs.Programs.{Library, library_at}
-use Rattle.pw_law_layers.specs.Lowering.{AreChecked, IsAccepted, flow_program}
+use Rattle.pw_law_source.specs.Lowering.{AreChecked, IsAccepted, flow_program}
 use Rattle.pw_law_refine.specs.Lowerable.{IsLowerable, IsLowerableWorld}
 use Rattle.pw_law_refine.specs.Whole.{CheckedIsLowerable}
 use Rattle.pw_law_refine_start.specs.Named.{flow_library, IsOfLibrary, IsDefinedAs, IsFoundAs}

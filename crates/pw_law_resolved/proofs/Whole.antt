@@ -12,7 +12,7 @@ use Rattle.pw_files.proofs.Standing.{Has, has_by}
 use Rattle.pw_lower.specs.Modules.{lowered_function}
 use Rattle.pw_check_rules.specs.Checks.{Checks}
 use Rattle.pw_cmean.specs.Worlds.{Program, ProgramModule, World, Callable, function_named}
-use Rattle.pw_law_layers.specs.Lowering.{AreChecked, IsChecked, IsAccepted}
+use Rattle.pw_law_source.specs.Lowering.{AreChecked, IsChecked, IsAccepted}
 use Rattle.pw_law_lower_walk.specs.Named.{NamesAmong, StatementAmong}
 use Rattle.pw_law_checked.specs.Bounded.{IsBoundedStatement}
 use Rattle.pw_law_checked.specs.Names.{HasShortStrings}

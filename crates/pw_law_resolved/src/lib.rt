@@ -3,7 +3,7 @@
 
 ghost use Rattle.std.specs.Prelude.{ℕ, List};
 ghost use Rattle.pw_cmean.specs.Worlds.{Program};
-ghost use Rattle.pw_law_layers.specs.Lowering.{AreChecked, IsAccepted, SourceIsNeverWrong};
+ghost use Rattle.pw_law_source.specs.Lowering.{AreChecked, IsAccepted, SourceIsNeverWrong};
 ghost use Rattle.pw_law_never.specs.Resolved.{IsResolvedProgram};
 
 use pw_law_accept::accepted_is_lowerable;
