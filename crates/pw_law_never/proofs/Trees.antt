@@ -525,7 +525,7 @@ module _ (types : Types) (e : Env) (cs : CallList) (scope : ℕ → Type 0) (w :
     answer-r (Node t ty (Call x args)) h r =
         bind-r (record { sound = values-t args h.1.1 t h.1.5; right = values-r args h.1.1 t h.1.5 r.1 }) λ vs i.
         bind-r (need-g _ r.0) λ f found.
-        call-r e.world cs f vs (named-own e.world.program _ f found) (
+        call-r e.world cs f vs (named-own e.world.program (full_name e.home.name x) f found) (
           letter_of (type_of h.1.0),
           h.1.1,
           agreed e.home.tree.records h.1.0 h.1.1 f.shape (w.well.functions e.home w.inside x (Qualified (FunctionType h.1.0 h.1.1) false false) f h.1.2 found),
