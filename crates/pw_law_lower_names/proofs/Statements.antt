@@ -184,7 +184,7 @@ module _ (objects functions : List (List ℕ)) (m : ModuleValue) (f : FunctionVa
         let d = initialised_all frame.home frame.locals initialisers c in
         ((initialisers_name first count initialisers w.2 c (statements_back items ways d g)).0, statements_name items breaks continues (first + count) w.3 ways d g)
     statement_names (If t arms otherwise) breaks continues from w ways c g =
-        let r = arms_name arms breaks continues from w.1 (InOtherwise Names Initialise otherwise) ways (lower_otherwise frame ways otherwise) (otherwise_tells otherwise breaks continues from w.2 ways) c g in
+        let r = arms_name arms breaks continues from w.1 otherwise ways (lower_otherwise frame ways otherwise) (otherwise_tells otherwise breaks continues from w.2 ways) c g in
         (r.0, r.1)
     statement_names (While t e body) breaks continues from w ways c g =
         looping_names (InStatement Names Initialise body) e w.0.0 (λ own d. lower_statement frame own body d) (λ own d k. (statement_names body _ _ from w.1 own d k, earlier own body d k)) c g
@@ -201,11 +201,11 @@ module _ (objects functions : List (List ℕ)) (m : ModuleValue) (f : FunctionVa
     statement_names (Continue t) breaks continues from w ways c g = tt
     statement_names (Return t e) breaks continues from w ways c g = returning_names e w c g
 
-    arms_name : (arms : Arms) (breaks continues : Bool) (from : ℕ) → AreArms m f breaks continues from arms → (B : Type 0) (ways : Ways) (last : Option (Code → Code)) → LastTells last B → (c : Code)
-        → Have (lower_arms frame ways arms last c) → InArms Names Initialise arms × B × Have c
-    arms_name NoArm breaks continues from w B ways None tells c g = (tt, tells, g)
-    arms_name NoArm breaks continues from w B ways (Some last) tells c g = let r = tells c g in (tt, r.0, r.1)
-    arms_name (Arm t e s NoArm) breaks continues from w B ways None tells c g =
+    arms_name : (arms : Arms) (breaks continues : Bool) (from : ℕ) → AreArms m f breaks continues from arms → (o : Otherwise) (ways : Ways) (last : Option (Code → Code)) → LastTells last (InOtherwise Names Initialise o) → (c : Code)
+        → Have (lower_arms frame ways arms last c) → InArms Names Initialise arms × InOtherwise Names Initialise o × Have c
+    arms_name NoArm breaks continues from w o ways None tells c g = (tt, tells, g)
+    arms_name NoArm breaks continues from w o ways (Some last) tells c g = let r = tells c g in (tt, r.0, r.1)
+    arms_name (Arm t e s NoArm) breaks continues from w o ways None tells c g =
         let x = lower frame.home e c in
         let so = x.code.blocks in
         let join = x.code.blocks + 1 in
@@ -213,7 +213,7 @@ module _ (objects functions : List (List ℕ)) (m : ModuleValue) (f : FunctionVa
         let k = cut_back objects functions (Jump join) join (lower_statement frame ways s entered).depth (lower_statement frame ways s entered) g in
         let r = cut_back objects functions (Branch (temp_of x) so join) so x.code.depth (reserve 2 x.code) (earlier ways s entered k) in
         ((told e w.0.0 c r, statement_names s breaks continues from w.1 ways entered k, tt), tells, before e c r)
-    arms_name (Arm t e s NoArm) breaks continues from w B ways (Some last) tells c g =
+    arms_name (Arm t e s NoArm) breaks continues from w o ways (Some last) tells c g =
         let x = lower frame.home e c in
         let so = x.code.blocks in
         let other = x.code.blocks + 1 in
@@ -224,14 +224,14 @@ module _ (objects functions : List (List ℕ)) (m : ModuleValue) (f : FunctionVa
         let k = cut_back objects functions (Jump join) other (lower_statement frame ways s entered).depth (lower_statement frame ways s entered) z.1 in
         let r = cut_back objects functions (Branch (temp_of x) so other) so x.code.depth (reserve 3 x.code) (earlier ways s entered k) in
         ((told e w.0.0 c r, statement_names s breaks continues from w.1 ways entered k, tt), z.0, before e c r)
-    arms_name (Arm t e s (Arm u d b rest)) breaks continues from w B ways last tells c g =
+    arms_name (Arm t e s (Arm u d b rest)) breaks continues from w o ways last tells c g =
         let x = lower frame.home e c in
         let so = x.code.blocks in
         let other = x.code.blocks + 1 in
         let join = x.code.blocks + 2 in
         let entered = cut_here (Branch (temp_of x) so other) so (reserve 3 x.code) in
         let behind = cut_here (Jump join) other (lower_statement frame ways s entered) in
-        let z = arms_name (Arm u d b rest) breaks continues from w.2 B ways last tells behind
+        let z = arms_name (Arm u d b rest) breaks continues from w.2 o ways last tells behind
         (cut_back objects functions (Jump join) join (lower_arms frame ways (Arm u d b rest) last behind).depth (lower_arms frame ways (Arm u d b rest) last behind) g) in
         let k = cut_back objects functions (Jump join) other (lower_statement frame ways s entered).depth (lower_statement frame ways s entered) z.2 in
         let r = cut_back objects functions (Branch (temp_of x) so other) so x.code.depth (reserve 3 x.code) (earlier ways s entered k) in
