@@ -1,24 +1,21 @@
 -- What the code of an expression names the expression names, wherever its code stands.
-use Rattle.std.proofs.Common.{◌≡◌, ℕ, ◌+◌, ◌⊎◌, inl, inr, Bool, true, false, if◌then◌else◌, Option, Some, None, List, [], ◌∷◌, sym, ◌∙◌, subst}
-use Rattle.std.specs.Prelude.{Contains}
+use Rattle.std.proofs.Common.{◌≡◌, ℕ, ◌⊎◌, inl, inr, Bool, true, false, if◌then◌else◌, Option, None, List, sym, ◌∙◌, subst}
 use Rattle.pw_value.specs.declared.value.Kind.{Kind}
 use Rattle.pw_types.specs.Kinds.{is_record}
-use Rattle.pw_types.specs.TypeTrees.{CType, Void, Int, Pointer, Array, Function as FunctionType, Record, QType, QTypes, NoType, OneType, type_of, RecordValue}
-use Rattle.pw_types.specs.TypedTrees.{Expression, Form, Node, type_at, Number, Str, Local, Global, Function, Unary, Binary, Logic, Cond, Comma, Assign, Compound, Step, Cast, Decay, Member, Deref, Address, Call, CallValue, Expressions, NoExpression, OneExpression, Hidden, LocalValue, ModuleValue}
+use Rattle.pw_types.specs.TypeTrees.{CType, Void, Array, Record, QType, QTypes, NoType, OneType, type_of}
+use Rattle.pw_types.specs.TypedTrees.{Expression, Node, type_at, Number, Str, Local, Global, Function, Unary, Binary, Logic, Cond, Comma, Assign, Compound, Step, Cast, Decay, Member, Deref, Address, Call, CallValue, Expressions, NoExpression, OneExpression, Hidden, LocalValue, ModuleValue}
 use Rattle.pw_types.specs.declared.tree.LogicOperator.TheVariants as logic
-use Rattle.pw_types.specs.WellTyped.{promoted_type, type_in, IsScalar, IsLvalue, IsModifiable, IsTyped, HasForm, AreArguments}
-use Rattle.pw_flow.specs.declared.flow.Op.{Op}
+use Rattle.pw_types.specs.WellTyped.{promoted_type, type_in, IsScalar, IsLvalue, IsTyped, HasForm, AreArguments}
 use Rattle.pw_flow.specs.declared.flow.Op.TheVariants as op
 use Rattle.pw_flow.specs.declared.flow.End.TheVariants.{Jump}
 use Rattle.pw_lower.specs.declared.code.Code.{Code}
-use Rattle.pw_lower.specs.declared.place.Target.{Target}
-use Rattle.pw_lower.specs.Codes.{Lowered, lowered_as, temp_of, constant, cut_here, value_is, fresh}
-use Rattle.pw_lower.specs.Operators.{kind_of, combined, step_operator, is_behind, converted}
-use Rattle.pw_lower.specs.Expressions.{Home, Placed, full_name, shape_at, read, further, stored, copied, scalar_kind, updated, fork, decides, says, gives, is_void, lower, place, arguments}
+use Rattle.pw_lower.specs.Codes.{lowered_as, temp_of, constant, cut_here, value_is}
+use Rattle.pw_lower.specs.Operators.{kind_of, step_operator, is_behind}
+use Rattle.pw_lower.specs.Expressions.{Home, full_name, shape_at, read, further, stored, copied, scalar_kind, updated, fork, decides, says, gives, is_void, lower, place, arguments}
 use Rattle.pw_law_lower.specs.Kept.{Keeps}
-use Rattle.pw_law_lower_walk.specs.Folds.{EachNode, EachNodeIn, EachNodeAmong}
+use Rattle.pw_law_lower_walk.specs.Folds.{EachNode, EachNodeAmong}
 use Rattle.pw_law_lower_walk.specs.Named.{NodeAmong}
-use Rattle.pw_law_lower_names.proofs.Backward.{Holds, IsAmong, kept_back, emitted, fresh_back, cut_back, constant_back, combined_back, cast_back, truth_back, unary_back, OfTarget, read_back, further_back, value_at_back, global_named, stored_back, copied_back, updated_back, step_back, fork_back, called_back}
+use Rattle.pw_law_lower_names.proofs.Backward.{Holds, kept_back, emitted, fresh_back, cut_back, constant_back, combined_back, cast_back, truth_back, unary_back, OfTarget, read_back, further_back, value_at_back, global_named, stored_back, copied_back, updated_back, step_back, fork_back, called_back}
 
 module _ (objects functions : List (List ℕ)) (h : Home) (m : ModuleValue) (locals : List LocalValue) (keeps : (e : Expression) (c : Code) → Keeps c (lower h e c).code) where
   abbrev Names : Expression → Type 0

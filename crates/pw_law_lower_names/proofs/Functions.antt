@@ -1,8 +1,7 @@
 -- Functions: each operation of a function's code stands in its graph.
-use Rattle.std.proofs.Common.{◌≡◌, ℕ, zero, suc, ◌<◌, refl, sym, ap, subst, arith, Some, None, List, [], ◌∷◌, length, get_or}
+use Rattle.std.proofs.Common.{◌≡◌, ℕ, zero, suc, refl, subst, arith, Some, List, [], ◌∷◌}
 use Rattle.std.specs.Prelude.{Contains, slice_get}
 use Rattle.std.specs.List.{AllByRecursion}
-use Rattle.pw_types.specs.TypeTrees.{RecordValue}
 use Rattle.pw_types.specs.TypedTrees.{Expression, Statement, FunctionValue, ModuleValue}
 use Rattle.pw_types.specs.TypedModules.{IsFunction}
 use Rattle.pw_flow.specs.declared.flow.Block.{Block}

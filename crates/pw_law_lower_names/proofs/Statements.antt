@@ -1,5 +1,5 @@
 -- What the code of a statement names the statement names.
-use Rattle.std.proofs.Common.{◌≡◌, ℕ, ◌+◌, ◌==◌, Bool, Option, Some, None, List, [], ◌∷◌, length}
+use Rattle.std.proofs.Common.{ℕ, ◌+◌, Bool, Option, Some, None, List, [], ◌∷◌, length}
 use Rattle.std.specs.Prelude.{All}
 use Rattle.std.specs.List.{AllByRecursion}
 use Rattle.std.proofs.lemmas.List.Elements.{All-head, All-tail}
@@ -18,8 +18,8 @@ use Rattle.pw_lower.specs.declared.place.LocalPlace.TheVariants.{Temp, Slot}
 use Rattle.pw_lower.specs.Codes.{temp_of, constant, reserve, cut, cut_here, block_of_label, named_from}
 use Rattle.pw_lower.specs.Places.{place_at}
 use Rattle.pw_lower.specs.Operators.{with, kind_of}
-use Rattle.pw_lower.specs.Expressions.{Home, full_name, address_of_global, address_of_local, target_of_local, lower}
-use Rattle.pw_lower.specs.Statements.{labels_of, local_type, initialised_by, copied_from, initialised, initialised_all, effects, test, test_or_go, choose, default_or, chosen, begun, looping, repeating, counting, switching, returning, Frame, lower_statement, lower_arms, lower_otherwise, lower_statements}
+use Rattle.pw_lower.specs.Expressions.{full_name, address_of_global, address_of_local, target_of_local, lower}
+use Rattle.pw_lower.specs.Statements.{labels_of, local_type, initialised_by, initialised, initialised_all, effects, test, test_or_go, choose, default_or, chosen, begun, looping, repeating, counting, switching, returning, Frame, lower_statement, lower_arms, lower_otherwise, lower_statements}
 use Rattle.pw_law_lower.specs.Kept.{Keeps}
 use Rattle.pw_law_lower_walk.specs.Parts.{IfAny}
 use Rattle.pw_law_lower_walk.specs.Folds.{EachNode, InStatement, InStatements, InArms, InOtherwise}
