@@ -1,5 +1,5 @@
 -- There is a `main`, which takes nothing and gives an int.
-use Rattle.std.proofs.Common.{◌≡◌, ℕ, ◌⊎◌, inl, inr, refl, sym, ap, subst, ◌∙◌, Some, None, List, [], ◌∷◌, map}
+use Rattle.std.proofs.Common.{◌≡◌, ℕ, ◌⊎◌, inl, inr, refl, sym, ap, subst, ◌∙◌, arith, Some, None, List, [], ◌∷◌, map}
 use Rattle.std.specs.Prelude.{Contains}
 use Rattle.pw_value.specs.ProgramNames.{start_name, main_name, main_shape}
 use Rattle.pw_types.specs.FullNames.{full_name}
