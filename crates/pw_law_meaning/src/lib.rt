@@ -10,9 +10,10 @@ ghost use Rattle.pw_build_files.specs.Full.{BuildsImage};
 ghost use Rattle.pw_build_files.specs.Outcomes.{AreOpts};
 ghost use Rattle.pw_law_meaning.specs.Meaning.{MeansSo};
 
+use pw_law_resolved::source_is_never_wrong;
 use pw_law_stops::stops_are_those_of_the_source;
 use pw_law_whole::{
-    frames_of_full_builds_fit, full_builds_have_a_program, full_builds_hold,
+    frames_of_full_builds_fit, full_builds_are_whole, full_builds_have_a_program, full_builds_hold,
     modules_of_files_have_plain_names,
 };
 
@@ -21,8 +22,10 @@ pub fn images_mean_their_texts()
     ensures { (files : Files) (opts : Opts) (full : Result (List ℕ) BuildFault) → AreOpts opts → BuildsImage (module_map files) opts full → MeansSo (module_map files) opts full }
 {
     full_builds_have_a_program();
+    full_builds_are_whole();
     full_builds_hold();
     frames_of_full_builds_fit();
     modules_of_files_have_plain_names();
     stops_are_those_of_the_source();
+    source_is_never_wrong();
 }
