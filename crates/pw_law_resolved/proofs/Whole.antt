@@ -1,5 +1,5 @@
 -- Accepted programs of checked texts are resolved.
-use Rattle.std.proofs.Common.{◌≡◌, ℕ, ◌<◌, Some, List}
+use Rattle.std.proofs.Common.{ℕ, ◌<◌, List}
 use Rattle.std.specs.Prelude.{All, Contains, Ok}
 use Rattle.std.specs.List.{AllByRecursion}
 use Rattle.pw_token.specs.Tokenization.{IsLexed}
@@ -11,15 +11,12 @@ use Rattle.pw_types.specs.TypedTrees.{FunctionValue, ModuleValue}
 use Rattle.pw_files.proofs.Standing.{Has, has_by}
 use Rattle.pw_lower.specs.Modules.{lowered_function}
 use Rattle.pw_check_rules.specs.Checks.{Checks}
-use Rattle.pw_cmean.specs.Worlds.{Program, ProgramModule, World, Callable, function_named}
+use Rattle.pw_cmean.specs.Worlds.{Program, ProgramModule}
 use Rattle.pw_law_source.specs.Lowering.{AreChecked, IsChecked, IsAccepted}
 use Rattle.pw_law_lower_walk.specs.Named.{NamesAmong, StatementAmong}
 use Rattle.pw_law_checked.specs.Bounded.{IsBoundedStatement}
 use Rattle.pw_law_checked.specs.Names.{HasShortStrings}
 use Rattle.pw_law_checked.specs.Words.{WordsInStatement}
-use Rattle.pw_law_refine.specs.Lowerable.{IsLowerableWorld}
-use Rattle.pw_law_refine.specs.Whole.{CheckedIsLowerable}
-use Rattle.pw_law_refine_start.specs.Named.{IsFoundAs}
 use Rattle.pw_law_scopes.specs.Scoped.{IsScopedStatement}
 use Rattle.pw_law_never.specs.Resolved.{IsResolvedStatement, IsResolvedProgram}
 use Rattle.pw_law_never.proofs.Calling.{contained}
@@ -34,8 +31,6 @@ pub record Laws : Type 0 where
   pub bounded : (tree : Module) (m : ModuleValue) → HasShortStrings tree → Checks tree (Ok m) → All (λ f. IsBoundedStatement m.records f.body) m.functions
   pub named : (objects functions : List (List ℕ)) (home : List ℕ) (m : ModuleValue) (f : FunctionValue) → IsFunction m f
       → AllByRecursion (λ b. AllByRecursion (NamesAmong objects functions) b.ops) (lowered_function home m.records f).blocks → StatementAmong objects functions home f.body
-  pub lowerable : CheckedIsLowerable
-  pub found : (world : World) (name : List ℕ) (f : Callable) → IsLowerableWorld world → function_named world.program name ≡ Some f → IsFoundAs world name f
 
 -- a function's locals are in scope
 abbrev HasScope : FunctionValue → Type 0
@@ -45,7 +40,7 @@ pub resolved_program : Laws → ((tree : Module) (m : ModuleValue) → Checks tr
     → (p : Program) (frame_of : List ℕ → ℕ) (stack : ℕ) → AreChecked p → IsAccepted p frame_of stack → IsResolvedProgram p
 resolved_program laws scopes p frame_of stack checked accepted = record {
   bodies = λ m f inside there. body m f inside there (checked m inside);
-  main = main_known p frame_of stack accepted laws.lowerable laws.found checked;
+  main = main_known p frame_of stack accepted;
 }
   where
     body : (m : ProgramModule) (f : FunctionValue) → Contains p.modules m → Contains m.tree.functions f → IsChecked m → IsResolvedStatement p m.name (λ k. k < f.params) f.body

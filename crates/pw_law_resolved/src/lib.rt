@@ -6,11 +6,9 @@ ghost use Rattle.pw_cmean.specs.Worlds.{Program};
 ghost use Rattle.pw_law_source.specs.Lowering.{AreChecked, IsAccepted, SourceIsNeverWrong};
 ghost use Rattle.pw_law_never.specs.Resolved.{IsResolvedProgram};
 
-use pw_law_accept::accepted_is_lowerable;
 use pw_law_checked::{accepted_bodies_are_bounded, accepted_bodies_have_words, strings_of_texts};
 use pw_law_lower_names::operations_name_all;
 use pw_law_never::resolved_programs_are_never_wrong;
-use pw_law_refine_start::functions_are_found;
 use pw_law_scopes::accepted_locals_are_in_scope;
 
 /// An accepted program of checked texts is resolved: each local that is named is in scope, each symbol is defined, and a called one is
@@ -23,8 +21,6 @@ pub fn accepted_programs_are_resolved()
     accepted_bodies_are_bounded();
     accepted_locals_are_in_scope();
     operations_name_all();
-    accepted_is_lowerable();
-    functions_are_found();
 }
 
 /// So its run comes to no end that the meaning does not have, within any bound, with any frames, on any stack and any input of bytes.

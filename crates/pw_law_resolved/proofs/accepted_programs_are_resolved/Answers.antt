@@ -7,6 +7,4 @@ returns g = resolved_program (record {
   words = g.accepted_bodies_have_words.ensures;
   bounded = g.accepted_bodies_are_bounded.ensures;
   named = g.operations_name_all.ensures;
-  lowerable = g.accepted_is_lowerable.ensures;
-  found = g.functions_are_found.ensures.names;
 }) g.accepted_locals_are_in_scope.ensures
