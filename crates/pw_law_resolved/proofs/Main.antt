@@ -4,6 +4,7 @@ use Rattle.std.specs.Prelude.{Contains, find}
 use Rattle.std.specs.List.{AllByRecursion, flat_map}
 use Rattle.std.specs.Str.{bytes_eq}
 use Rattle.std.proofs.lemmas.List.Concat.{flat_map-cons}
+use Rattle.std.proofs.lemmas.List.Elements.{All-contains}
 use Rattle.pw_value.specs.ProgramNames.{start_name, main_name, main_shape}
 use Rattle.pw_types.specs.FullNames.{full_name}
 use Rattle.pw_types.specs.Shapes.{shape_of}
@@ -18,7 +19,6 @@ use Rattle.pw_lower.specs.Modules.{lowered, lowered_function, start_of, start_fu
 use Rattle.pw_cmean.specs.Worlds.{Program, ProgramModule, Callable, callable, function_named}
 use Rattle.pw_run_languages.specs.Programs as flows
 use Rattle.pw_law_source.specs.Lowering.{IsAccepted, flow_program}
-use Rattle.pw_law_never.proofs.Calling.{contained}
 use Rattle.pw_law_resolved.proofs.Flows.{function_by}
 use Rattle.pw_law_resolved.proofs.Symbols.{functions, module_valid, own_function, function_found}
 
@@ -82,8 +82,8 @@ module _ (p : Program) (frame_of : List ℕ → ℕ) (stack : ℕ) (accepted : I
   one_shape : (m : ProgramModule) → Has m p.modules → (f : FunctionValue) → Has f m.tree.functions → HasShape m f
   unfolding lowered_function
   one_shape m h f k =
-      let typed : WellTyped m.tree = contained (λ (m : ProgramModule). WellTyped m.tree) p.modules m accepted.typed.modules (contains_by m p.modules h) in
-      let is : IsFunction m.tree f = contained (IsFunction m.tree) m.tree.functions f typed.functions (contains_by f m.tree.functions k) in
+      let typed : WellTyped m.tree = All-contains (λ (m : ProgramModule). WellTyped m.tree) p.modules m accepted.typed.modules (contains_by m p.modules h) in
+      let is : IsFunction m.tree f = All-contains (IsFunction m.tree) m.tree.functions f typed.functions (contains_by f m.tree.functions k) in
       subst (λ (ty : CType). shape_of m.tree.records ty (is_volatile f.ty) ≡ shape_of m.tree.records ty false) (sym is.typed.type_is) refl
 
   both_alike : AreAlike (function_named p main_name) (flows.function_named (flow_program p frame_of stack) main_name)

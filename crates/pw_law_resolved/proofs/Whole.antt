@@ -2,6 +2,7 @@
 use Rattle.std.proofs.Common.{ℕ, ◌<◌, List}
 use Rattle.std.specs.Prelude.{All, Contains, Ok}
 use Rattle.std.specs.List.{AllByRecursion}
+use Rattle.std.proofs.lemmas.List.Elements.{All-contains}
 use Rattle.pw_token.specs.Tokenization.{IsLexed}
 use Rattle.pw_token.specs.declared.token.Token.{Token}
 use Rattle.pw_tree.specs.Grammar.{IsTreeOf, spelled_all}
@@ -19,7 +20,6 @@ use Rattle.pw_law_checked.specs.Names.{HasShortStrings}
 use Rattle.pw_law_checked.specs.Words.{WordsInStatement}
 use Rattle.pw_law_scopes.specs.Scoped.{IsScopedStatement}
 use Rattle.pw_law_never.specs.Resolved.{IsResolvedStatement, IsResolvedProgram}
-use Rattle.pw_law_never.proofs.Calling.{contained}
 use Rattle.pw_law_resolved.proofs.Symbols.{objects, functions, object_found, function_found, code_among}
 use Rattle.pw_law_resolved.proofs.Trees.{statement_resolved}
 use Rattle.pw_law_resolved.proofs.Main.{main_known}
@@ -46,11 +46,11 @@ resolved_program laws scopes p frame_of stack checked accepted = record {
     body : (m : ProgramModule) (f : FunctionValue) → Contains p.modules m → Contains m.tree.functions f → IsChecked m → IsResolvedStatement p m.name (λ k. k < f.params) f.body
     body m f inside there is =
         let short : HasShortStrings is.syntax = laws.strings is.text is.tokens is.syntax is.lexed is.parsed in
-        let words : WordsInStatement f.body = contained (λ (f : FunctionValue). WordsInStatement f.body) m.tree.functions f (laws.words is.syntax m.tree short is.is) there in
-        let scoped : IsScopedStatement (λ k. k < f.params) f.body = contained HasScope m.tree.functions f (scopes is.syntax m.tree is.is) there words in
-        let bounded : IsBoundedStatement m.tree.records f.body = contained (λ (f : FunctionValue). IsBoundedStatement m.tree.records f.body) m.tree.functions f (laws.bounded is.syntax m.tree short is.is) there in
-        let tree : WellTyped m.tree = contained (λ (m : ProgramModule). WellTyped m.tree) p.modules m accepted.typed.modules inside in
-        let fn : IsFunction m.tree f = contained (IsFunction m.tree) m.tree.functions f tree.functions there in
+        let words : WordsInStatement f.body = All-contains (λ (f : FunctionValue). WordsInStatement f.body) m.tree.functions f (laws.words is.syntax m.tree short is.is) there in
+        let scoped : IsScopedStatement (λ k. k < f.params) f.body = All-contains HasScope m.tree.functions f (scopes is.syntax m.tree is.is) there words in
+        let bounded : IsBoundedStatement m.tree.records f.body = All-contains (λ (f : FunctionValue). IsBoundedStatement m.tree.records f.body) m.tree.functions f (laws.bounded is.syntax m.tree short is.is) there in
+        let tree : WellTyped m.tree = All-contains (λ (m : ProgramModule). WellTyped m.tree) p.modules m accepted.typed.modules inside in
+        let fn : IsFunction m.tree f = All-contains (IsFunction m.tree) m.tree.functions f tree.functions there in
         let among : StatementAmong (objects p frame_of stack accepted) (functions p frame_of stack accepted) m.name f.body =
         laws.named (objects p frame_of stack accepted) (functions p frame_of stack accepted) m.name m.tree f fn (code_among p frame_of stack accepted m (has_by m p.modules inside) f (has_by f m.tree.functions there)) in
         statement_resolved p m.name m.tree.records (objects p frame_of stack accepted) (functions p frame_of stack accepted) (object_found p frame_of stack accepted)
