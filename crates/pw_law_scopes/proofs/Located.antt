@@ -1,26 +1,24 @@
 -- The declarations of a block: each local that can be seen behind them could be seen before or is one of theirs, and so it is where the
 -- value of a local is read, which is a scalar, a structure or a union.
-use Rattle.std.specs.Prelude.{ℕ, ◌≡◌, ◌<◌, ◌≤◌, ◌⊎◌, Bool, true, false, not, ◌&&◌, ◌||◌, Option, None, Some, is_some, List, [], ◌∷◌, ◌++◌, length, slice_get, refl}
+use Rattle.std.specs.Prelude.{ℕ, ◌≡◌, ◌<◌, ◌≤◌, ◌⊎◌, Bool, true, false, not, Option, None, Some, is_some, List, [], ◌∷◌, ◌++◌, length, slice_get, refl}
 use Rattle.std.specs.List.{AllByRecursion}
-use Rattle.std.proofs.Common.{arith, ap, sym, subst, ◌∙◌, inl, inr}
-use Rattle.pw_tree.specs.FirstTokens.{first_of_expr}
+use Rattle.std.proofs.Common.{arith, sym, subst, ◌∙◌, inl, inr}
 use Rattle.pw_tree.specs.Trees.{Word, Expr, Decl, InitDeclarator, Initializer, Init, Specifiers}
 use Rattle.pw_tree.specs.Trees as S
 use Rattle.pw_types.specs.TypeTrees.{CType, Void, Int, Pointer, Array, Function, Record, QType, type_of}
 use Rattle.pw_types.specs.TypedTrees.{Expression, Initialiser, LocalValue}
 use Rattle.pw_types.specs.TypedTrees as T
-use Rattle.pw_types.specs.WellTyped.{type_in}
 use Rattle.pw_check_walk.specs.Walks.{Walk, Done, bind}
 use Rattle.pw_check_rules.specs.Declarations.{Sort, ATypedef, AFunction, AGlobal, AnExtern, AStatic, ALocal, sort_of, asking_of, name_rule, hidden_of, local_of, completed_rule, context_of, static_rule, first_part, bytes_rule, single_rule, local_initialiser, local_rule, declare_rule, name_of, place_here, init_declarator_rule, init_declarators_rule, storage_rule, bare_rule, declarators_rule, decl_rule, decls_rule}
 use Rattle.pw_check_rules.specs.Derivations.{spot_of}
-use Rattle.pw_check_rules.specs.Initialisers.{Context, Initialised, target_at, nothing_filled, fills_characters, string_form, braced_string, words_in, value_filled, object_string, object_value, object_list, object_by, object_rule, is_by_bytes}
+use Rattle.pw_check_rules.specs.Initialisers.{Context, fills_characters, string_form, braced_string, words_in, value_filled, object_string, object_value, object_list, object_by, object_rule, is_by_bytes}
 use Rattle.pw_check_rules.specs.Kinds.{is_const_object, is_array, is_scalar}
 use Rattle.pw_check_rules.specs.Leaves.{first_of_list}
 use Rattle.pw_check_rules.specs.Limits.{Spot}
 use Rattle.pw_check_rules.specs.Linkage.{AsBefore, declare_linked}
 use Rattle.pw_check_rules.specs.Operators.{is_assignable}
 use Rattle.pw_check_rules.specs.SpecifierLists.{Specified, is_register}
-use Rattle.pw_check_rules.specs.States.{State, TypeName, LocalObject, StaticObject, is_file_scope, add_hidden, put_hidden, add_local, put_entity, put_at, enter, next_hidden, next_local}
+use Rattle.pw_check_rules.specs.States.{State, TypeName, LocalObject, StaticObject, is_file_scope, add_hidden, add_local, put_at, enter, next_hidden, next_local}
 use Rattle.pw_law_checked.specs.Lawful.{IsLawful, IsLawfulType, IsObjectLike}
 use Rattle.pw_law_checked.proofs.Walking.{Post, post_bind, post_weaken, post_both, post_any, after_any, truth}
 use Rattle.pw_law_checked.proofs.Lists.{get_last, get_within, length_put}
@@ -35,7 +33,7 @@ use Rattle.pw_law_checked.proofs.Locals.{ArePlaced, grows_placed, place_of_new, 
 use Rattle.pw_law_checked.proofs.Filling.{IsTypedAs, AreTypedAs, object_runs, runs_whatever}
 use Rattle.pw_law_checked.proofs.Keeping.{around}
 use Rattle.pw_law_checked.proofs.Declarations.{Fits, sort_fits, IsOuter, sort_outer}
-use Rattle.pw_law_checked.proofs.Adding.{IsReady, Adds, Declaring, ready_adds, longer_length, noted_state, specified_all, bare_runs, init_declarator_declares, init_declarators_declare, decl_declares, decls_declare}
+use Rattle.pw_law_checked.proofs.Adding.{IsReady, Adds, Declaring, ready_adds, longer_length, specified_all, bare_runs, init_declarator_declares, init_declarators_declare, decl_declares, decls_declare}
 use Rattle.pw_law_never.specs.Resolved.{IsInitialising}
 use Rattle.pw_law_scopes.proofs.Visible.{Seen, Sees, Reads, reads_grows, reads_seen, entered_seen, put_seen, noted_seen, OrNewest, local_seen, completed_seen}
 

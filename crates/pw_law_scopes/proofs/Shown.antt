@@ -4,7 +4,7 @@ use Rattle.std.specs.Prelude.{ℕ, zero, suc, ◌≡◌, ◌<◌, ◌⊎◌, ◌
 use Rattle.std.specs.List.{list_any}
 use Rattle.std.proofs.Common.{arith, ap, sym, subst, ◌∙◌, inl, inr}
 use Rattle.std.proofs.lemmas.Bool.{eqb-true}
-use Rattle.pw_types.specs.TypeTrees.{CType, Record, QType, QTypes, NoType, OneType, Qualified, type_of}
+use Rattle.pw_types.specs.TypeTrees.{Record, QType, QTypes, NoType, OneType, Qualified, type_of}
 use Rattle.pw_types.specs.TypedTrees.{Expression, Form, Node, Expressions, NoExpression, OneExpression, LocalValue, ModuleValue}
 use Rattle.pw_types.specs.TypedTrees as T
 use Rattle.pw_types.specs.WellTyped.{IsKnownType, IsTyped, HasForm, AreArguments}
@@ -19,7 +19,7 @@ use Rattle.pw_law_checked.proofs.Locals.{IsPlaced}
 use Rattle.pw_law_checked.proofs.Backward.{names_end, names_denote}
 use Rattle.pw_law_checked.proofs.Adding.{IsReady}
 use Rattle.pw_law_scopes.specs.Scoped.{IsScoped, HasScoped, AreScoped}
-use Rattle.pw_law_scopes.proofs.Visible.{Visible, Seen}
+use Rattle.pw_law_scopes.proofs.Visible.{Seen}
 
 -- ---- expressions
 

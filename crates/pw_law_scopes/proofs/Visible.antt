@@ -1,14 +1,14 @@
 -- The locals that names in scope stand for, and at what depth: expressions bring none, and a declaration brings its own.
-use Rattle.std.specs.Prelude.{ℕ, ◌≡◌, ◌<◌, ◌≤◌, ◌⊎◌, Bool, None, Some, unwrap_or, List, [], ◌∷◌, ◌++◌, length, slice_get, refl, Option, nat_lt}
+use Rattle.std.specs.Prelude.{ℕ, ◌≡◌, ◌<◌, ◌⊎◌, Bool, None, Some, unwrap_or, List, [], ◌∷◌, ◌++◌, length, slice_get, Option, nat_lt}
 use Rattle.std.specs.Option.{option_map_or}
 use Rattle.std.proofs.Common.{arith, ap, sym, subst, ◌∙◌, inl, inr}
 use Rattle.std.proofs.lemmas.Bool.{ltb-true}
 use Rattle.pw_types.specs.TypeTrees.{QType}
 use Rattle.pw_types.specs.TypedTrees.{LocalValue}
 use Rattle.pw_check_rules.specs.Linkage.{Asking, note_here, linked_before, place_for, linked_again, linked_anew, is_internal_by, type_here}
-use Rattle.pw_check_rules.specs.States.{State, Entity, TypeName, EnumerationConstant, LocalObject, StaticObject, Linked, LinkedName, HiddenObject, enter, put_entity, put_at, put_linked, add_linked, add_local, leave_scope, entry_here, entity_here}
+use Rattle.pw_check_rules.specs.States.{State, Entity, TypeName, LocalObject, Linked, LinkedName, HiddenObject, enter, put_entity, put_at, put_linked, add_linked, add_local, leave_scope, entry_here, entity_here}
 use Rattle.pw_check_rules.specs.declared.names.Entry.{Entry}
-use Rattle.pw_law_checked.proofs.Lists.{Longer, some_same, never_some, get_append, get_either, get_more, get_last, get_within, get_filter, put_either}
+use Rattle.pw_law_checked.proofs.Lists.{Longer, some_same, get_append, get_either, get_more, get_last, get_within, get_filter, put_either}
 use Rattle.pw_law_checked.proofs.States.{GrowsBy, IsConstant, HasEntity}
 use Rattle.pw_law_checked.proofs.Locals.{IsPlaced, ArePlaced, added_placed, local_entered, local_completed}
 use Rattle.pw_law_checked.proofs.Adding.{noted_state}

@@ -1,7 +1,7 @@
 -- Statements: a local that they name is in scope, and behind them what can be seen could be seen before.
 use Rattle.std.specs.Prelude.{ℕ, ◌≡◌, ◌<◌, ◌≤◌, ◌+◌, ◌-◌, ◌⊎◌, Bool, true, false, if◌then◌else◌, Option, None, Some, List, [], ◌∷◌, length, refl}
 use Rattle.std.specs.List.{AllByRecursion}
-use Rattle.std.proofs.Common.{arith, ap, sym, subst, ◌∙◌, inl, inr}
+use Rattle.std.proofs.Common.{arith, sym, subst, ◌∙◌, inl, inr}
 use Rattle.pw_tree.specs.FirstTokens.{first_of_expr}
 use Rattle.pw_tree.specs.Trees.{Word, Expr, Stmt, Alternative, Block, Stmts, Label, Decl}
 use Rattle.pw_tree.specs.Trees as S
@@ -12,11 +12,11 @@ use Rattle.pw_types.specs.WellTyped.{type_in}
 use Rattle.pw_check_walk.specs.Walks.{bind}
 use Rattle.pw_check_rules.specs.Kinds.{plain, same_type, kind_in}
 use Rattle.pw_check_rules.specs.Modules.{module_in}
-use Rattle.pw_check_rules.specs.Operands.{cast_to, promoted_type, promote}
-use Rattle.pw_check_rules.specs.States.{State, Rule, BodyState, one_deeper, leave_scope, scoped, next_local}
+use Rattle.pw_check_rules.specs.Operands.{cast_to, promoted_type}
+use Rattle.pw_check_rules.specs.States.{State, Rule, BodyState, one_deeper, leave_scope, scoped}
 use Rattle.pw_check_rules.specs.Statements as R
 use Rattle.pw_check_rules.specs.Statements.{case_rule, new_label, inside_switch, default_rule, name_label_rule, label_rule, labels_rule, whole_rule, optional_rule, condition_rule, optional_condition, switch_rule, in_switch, in_loop, goto_rule, continue_rule, break_rule, return_rule, stmt_rule, alternative_rule, block_rule, stmts_rule}
-use Rattle.pw_law_checked.specs.Lawful.{IsLawful, Denotes, AreWords}
+use Rattle.pw_law_checked.specs.Lawful.{IsLawful, AreWords}
 use Rattle.pw_law_checked.specs.Words.{HasWords, HasWordsIfAny, WordsInStatement, WordsInStatements, WordsInArms, WordsInElse}
 use Rattle.pw_law_checked.proofs.Walking.{Post, post_bind, post_weaken}
 use Rattle.pw_law_checked.proofs.Conversions.{cast_words}
@@ -24,7 +24,7 @@ use Rattle.pw_law_checked.proofs.States.{Fine, FineValue, Runs, goes_on, Grows, 
 use Rattle.pw_law_checked.proofs.Operations.{value_runs}
 use Rattle.pw_law_checked.proofs.Changes.{deeper_lawful, left_lawful_alone, left_sound_alone}
 use Rattle.pw_law_checked.proofs.Phrases.{expr_post}
-use Rattle.pw_law_checked.proofs.Locals.{IsPlaced, ArePlaced, grows_placed, left_placed}
+use Rattle.pw_law_checked.proofs.Locals.{IsPlaced, grows_placed, left_placed}
 use Rattle.pw_law_checked.proofs.Keeping.{around, deeper_sound}
 use Rattle.pw_law_checked.proofs.LabelLaws.{asked_post, with_loop}
 use Rattle.pw_law_checked.proofs.Adding.{IsReady, ready_adds, longer_length}
@@ -33,7 +33,7 @@ use Rattle.pw_law_never.specs.Resolved.{IsInitialising}
 use Rattle.pw_law_scopes.specs.Scoped.{IsScoped, IsScopedInitialiser, IsScopedStatement, AreScopedStatements, AreScopedArms, IsScopedElse}
 use Rattle.pw_law_scopes.proofs.Visible.{Seen, Sees, reads_grows, reads_seen, left_seen}
 use Rattle.pw_law_scopes.proofs.Shown.{shown_locals, shown_denotes, seen_scoped}
-use Rattle.pw_law_scopes.proofs.Located.{SitedIn, AreSited, Sited, IsNew, Comes, decls_come}
+use Rattle.pw_law_scopes.proofs.Located.{AreSited, Sited, IsNew, Comes, decls_come}
 
 -- ---- how statements move the state
 
