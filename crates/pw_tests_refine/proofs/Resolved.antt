@@ -6,6 +6,7 @@ use Rattle.pw_value.specs.declared.value.Pointer.TheVariants as P
 use Rattle.pw_types.specs.TypedTrees.{Expression, Node, Number, Local, Cast, Statement, Evaluate, Block, NoStatement, OneStatement, FunctionValue}
 use Rattle.pw_types.specs.TypeTrees.{Pointer, Qualified}
 use Rattle.pw_types.specs.declared.kind.IntKind.TheVariants as K
+use Rattle.pw_check_rules.specs.Constants.{constant_of}
 use Rattle.pw_cmean.specs.Worlds.{ProgramModule, callable}
 use Rattle.pw_cmean.specs.Typed.{IsWellTyped}
 use Rattle.pw_law_never.specs.Scopes.{with_range}
@@ -60,7 +61,9 @@ abbrev to_pointer : ℕ → Expression
 to_pointer k = Node 10 (Qualified (Pointer int_type) false false) (Cast (Node 11 int_type (Number k)))
 
 zero_is_null : IsResolved program (codes "a") (λ k. k < 0) (to_pointer 0)
+unfolding constant_of
 zero_is_null = ((λ q kind is from. refl), tt)
 
 one_is_none : IsResolved program (codes "a") (λ k. k < 0) (to_pointer 1) → ⊥
+unfolding constant_of
 one_is_none h = true≢false (sym (h.0 int_type K.Int refl refl))

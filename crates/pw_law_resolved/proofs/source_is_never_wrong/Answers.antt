@@ -1,3 +1,4 @@
+use Rattle.std.specs.Prelude.{◌<◌}
 use Rattle.std.proofs.lemmas.List.Elements.{All-from_recursion}
 use Rattle.pw_law_resolved.proofs.source_is_never_wrong.Goals as goal
 
