@@ -1,5 +1,5 @@
 -- There is a `main`, which takes nothing and gives an int: the first function of that name is found by both meanings alike.
-use Rattle.std.proofs.Common.{◌≡◌, ℕ, Bool, true, false, if◌then◌else◌, ◌⊎◌, inl, inr, refl, sym, ap, subst, ◌∙◌, arith, Option, Some, None, List, [], ◌∷◌, ◌++◌, map}
+use Rattle.std.proofs.Common.{◌≡◌, ℕ, Bool, true, false, if◌then◌else◌, inl, inr, refl, sym, subst, ◌∙◌, arith, Option, Some, None, List, [], ◌∷◌, ◌++◌, map}
 use Rattle.std.specs.Prelude.{Contains, find}
 use Rattle.std.specs.List.{AllByRecursion, flat_map}
 use Rattle.std.specs.Str.{bytes_eq}
@@ -8,7 +8,7 @@ use Rattle.std.proofs.lemmas.List.Elements.{All-contains}
 use Rattle.pw_value.specs.ProgramNames.{start_name, main_name, main_shape}
 use Rattle.pw_types.specs.FullNames.{full_name}
 use Rattle.pw_types.specs.Shapes.{shape_of}
-use Rattle.pw_types.specs.TypeTrees.{CType, type_of, is_volatile}
+use Rattle.pw_types.specs.TypeTrees.{CType, is_volatile}
 use Rattle.pw_types.specs.TypedModules.{WellTyped, IsFunction}
 use Rattle.pw_types.specs.TypedTrees.{FunctionValue}
 use Rattle.pw_flow.specs.declared.flow.FlowFn.{FlowFn}

@@ -1,5 +1,5 @@
 -- Names in the code of an accepted program are those of its objects and functions in the meaning of C.
-use Rattle.std.proofs.Common.{◌≡◌, ℕ, ◌+◌, ◌⊎◌, inl, inr, refl, sym, ap, subst, ◌∙◌, Bool, true, false, if◌then◌else◌, Option, Some, None, List, [], ◌∷◌, ◌++◌, map}
+use Rattle.std.proofs.Common.{◌≡◌, ℕ, inl, inr, refl, sym, ap, subst, ◌∙◌, Bool, true, false, if◌then◌else◌, Option, Some, None, List, [], ◌∷◌, map}
 use Rattle.std.specs.Prelude.{Contains, find}
 use Rattle.std.specs.List.{flat_map, AllByRecursion}
 use Rattle.std.specs.Str.{bytes_eq}
@@ -7,16 +7,16 @@ use Rattle.std.proofs.lemmas.Bool.{true≢false}
 use Rattle.std.proofs.lemmas.Slice.Eq.{bytes_eq-Decides}
 use Rattle.pw_value.specs.declared.value.Pointer.{Pointer as AnyPointer}
 use Rattle.pw_value.specs.declared.value.Pointer.TheVariants as Ptr
-use Rattle.pw_value.specs.ProgramNames.{start_name, library_functions, IsOrdinary}
+use Rattle.pw_value.specs.ProgramNames.{library_functions, IsOrdinary}
 use Rattle.pw_types.specs.FullNames.{full_name}
-use Rattle.pw_types.specs.TypedTrees.{FunctionValue, GlobalValue}
+use Rattle.pw_types.specs.TypedTrees.{FunctionValue}
 use Rattle.pw_flow.specs.declared.flow.Block.{Block}
 use Rattle.pw_flow.specs.declared.flow.FlowFn.{FlowFn}
 use Rattle.pw_flow.specs.declared.flow.FlowGlobal.{FlowGlobal}
 use Rattle.pw_flow.specs.declared.flow.FlowModule.{FlowModule}
 use Rattle.pw_flow.specs.declared.flow.Op.{Op}
 use Rattle.pw_flow.specs.declared.flow.Op.TheVariants as op
-use Rattle.pw_flow.specs.FlowGraph.{op_names, names_in_block, names_in_function, names_in_global, named_in, function_names, global_names}
+use Rattle.pw_flow.specs.FlowGraph.{op_names, names_in_block, names_in_function, names_in_global, named_in, global_names}
 use Rattle.pw_flow.specs.ValidFlow.{IsValid}
 use Rattle.pw_files.proofs.Standing.{Has, has_by, contains_by, has_each, each_by, has_left, has_right, has_split, has_map, has_map_back, has_flat, has_flat_back}
 use Rattle.pw_lower.specs.Modules.{lowered, lowered_function, start_of}

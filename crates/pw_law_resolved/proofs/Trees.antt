@@ -1,5 +1,5 @@
 -- Trees whose locals are in scope, whose names are there and whose numbers become pointers as 0 alone are resolved.
-use Rattle.std.proofs.Common.{◌≡◌, ℕ, ap, Bool, true, Option, Some, None, List, [], ◌∷◌}
+use Rattle.std.proofs.Common.{◌≡◌, ℕ, ap, Option, Some, None, List, [], ◌∷◌}
 use Rattle.std.specs.Prelude.{Contains}
 use Rattle.std.specs.List.{AllByRecursion}
 use Rattle.pw_value.specs.declared.value.Pointer.TheVariants as Ptr
@@ -15,7 +15,7 @@ use Rattle.pw_law_lower_walk.specs.Named.{NodeAmong, InitialiserAmong, Statement
 use Rattle.pw_law_checked.specs.Bounded.{IsBounded, AreBounded, IsBoundedIn, IsBoundedStatement, IsNullTo}
 use Rattle.pw_law_scopes.specs.Scoped.{IsScoped, AreScoped, IsScopedInitialiser, IsScopedStatement}
 use Rattle.pw_law_never.specs.Scopes.{with_range, InScopeIfAny, InScopes, AllInScopes, ArmsInScopes, ElseInScopes}
-use Rattle.pw_law_never.specs.Resolved.{IsThere, IsNullIn, IsResolved, AreResolved, IsResolvedInitialiser, IsResolvedStatement}
+use Rattle.pw_law_never.specs.Resolved.{IsNullIn, IsResolved, AreResolved, IsResolvedInitialiser, IsResolvedStatement}
 use Rattle.pw_law_never.proofs.Symbols.{object-placed}
 use Rattle.pw_law_resolved.proofs.Symbols.{function_placed}
 

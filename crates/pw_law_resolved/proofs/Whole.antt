@@ -9,7 +9,7 @@ use Rattle.pw_tree.specs.Grammar.{IsTreeOf, spelled_all}
 use Rattle.pw_tree.specs.Trees.{Module}
 use Rattle.pw_types.specs.TypedModules.{WellTyped, IsFunction}
 use Rattle.pw_types.specs.TypedTrees.{FunctionValue, ModuleValue}
-use Rattle.pw_files.proofs.Standing.{Has, has_by}
+use Rattle.pw_files.proofs.Standing.{has_by}
 use Rattle.pw_lower.specs.Modules.{lowered_function}
 use Rattle.pw_check_rules.specs.Checks.{Checks}
 use Rattle.pw_cmean.specs.Worlds.{Program, ProgramModule}
