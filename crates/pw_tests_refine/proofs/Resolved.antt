@@ -1,6 +1,6 @@
 -- The program of `Examples` is well typed and resolved, so what the law that no run goes wrong asks for is met by a program; and where
 -- locals are in scope. By computing the definitions.
-use Rattle.std.proofs.Common.{ℕ, ◌<◌, inl, inr, refl, sym, arith, true≢false, Contains, []}
+use Rattle.std.proofs.Common.{ℕ, ◌<◌, inl, inr, refl, sym, arith, false, true≢false, Contains, []}
 use Rattle.std.specs.Prelude.{codes}
 use Rattle.pw_value.specs.declared.value.Pointer.TheVariants as P
 use Rattle.pw_types.specs.TypedTrees.{Expression, Node, Number, Local, Cast, Statement, Evaluate, Block, NoStatement, OneStatement, FunctionValue}
