@@ -1,5 +1,5 @@
 -- Kinds of commands, and what each leaves alone.
-use Rattle.std.specs.Prelude.{ℕ, Bool, true, false, List, [], ◌∷◌, Option, Some, IfSome, IsSomeAnd, Result}
+use Rattle.std.specs.Prelude.{ℕ, Bool, true, false, List, [], ◌∷◌, Option, Some, None, IfSome, IsSomeAnd, Result}
 use Rattle.pw_io.specs.Files.{Files, Told}
 use Rattle.pw_store_modules.specs.FileNames.{database_name, image_name}
 use Rattle.pw_top_answer.specs.declared.answer.Answer.{Answer}
@@ -105,9 +105,9 @@ EndsScript (Some (Session opts)) script answer = IfSome script (λ bytes. EndsAs
 EndsScript _ script answer = Unit {0}
 
 -- the line on which a module is refused
-abbrev pub line_of : Option Command → Files → ℕ
+abbrev pub line_of : Option Command → Files → Option ℕ
 line_of (Some (Go opts)) files = phases.refused_line (modules_of files)
 line_of (Some (Build opts)) files = phases.refused_line (modules_of files)
 line_of (Some (Bench number opts)) files = phases.refused_line (modules_of (bench_files number))
 line_of (Some (PhaseOne name)) files = phase_line files name
-line_of _ files = 1
+line_of _ files = None

@@ -39,15 +39,15 @@ fn obey_phase<S: Store>(alloc: Global, command: &Command, store: &mut S) -> Repl
         Command::PhaseOne(name) => compile_text(alloc, store, name),
         Command::Analyse { colours } => Reply {
             answer: analyse_modules(alloc, store, *colours),
-            line: 1,
+            line: None,
         },
         Command::PhaseTwo(name) => Reply {
             answer: compile_flow(alloc, store, name),
-            line: 1,
+            line: None,
         },
         Command::Link { stack } => Reply {
             answer: link_modules(alloc, store, *stack),
-            line: 1,
+            line: None,
         },
         _ => unreachable!(),
     }
@@ -68,15 +68,15 @@ fn obey_reader<S: Store, I: Source, O: Sink>(
     match command {
         Command::Run { steps } => Reply {
             answer: run_image(alloc, store, input, out, *steps),
-            line: 1,
+            line: None,
         },
         Command::List => Reply {
             answer: list_image(alloc, store, out),
-            line: 1,
+            line: None,
         },
         Command::Db => Reply {
             answer: show_database(alloc, store, out),
-            line: 1,
+            line: None,
         },
         _ => unreachable!(),
     }
@@ -101,7 +101,7 @@ fn obey_builder<S: Store, I: Source, O: Sink>(
         Command::Build(opts) => build_modules(alloc, store, out, opts),
         Command::Session(opts) => Reply {
             answer: run_session(alloc, store, input, out, opts),
-            line: 1,
+            line: None,
         },
         Command::Bench { number, opts } => bench(alloc, *number, opts, out),
         _ => unreachable!(),
@@ -151,11 +151,11 @@ fn obey_words<S: Store, I: Source, O: Sink>(
         Ok(command) => obey(alloc, &command, store, input, out),
         Err(WordsFault::Usage) => Reply {
             answer: Answer::Usage,
-            line: 1,
+            line: None,
         },
         Err(WordsFault::NoMemory) => Reply {
             answer: Answer::NoMemory,
-            line: 1,
+            line: None,
         },
     }
 }
