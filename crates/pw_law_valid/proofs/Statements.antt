@@ -6,7 +6,8 @@ use Rattle.pw_tree.specs.Trees.{Word, Expr, Stmt, Alternative, Block, Stmts, Lab
 use Rattle.pw_tree.specs.Trees as S
 use Rattle.pw_tree.specs.Spelling.{spell_expr, spell_optional, spell_decls, spell_label, spell_labels, spell_stmt, spell_alternative, spell_block, spell_stmts}
 use Rattle.pw_token.specs.declared.symbol.Mark.TheVariants as m
-use Rattle.pw_tree.specs.Symbols.{Symbol, Sign}
+use Rattle.pw_token.specs.declared.symbol.Keyword.TheVariants as keyword
+use Rattle.pw_tree.specs.Symbols.{Symbol, Sign, Reserved}
 use Rattle.pw_types.specs.TypedTrees.{Expression, Statement}
 use Rattle.pw_check_walk.specs.Walks.{Walk, bind}
 use Rattle.pw_check_rules.specs.Kinds.{kind_in}
@@ -133,8 +134,10 @@ mutual
       token_before _ _ s _ (then_spends _ _ _ s _ _ (condition_spends t e _ s) (λ q.
       token_before _ _ q.1 _ (then_spends _ _ _ q.1 _ _ (in_loop_spends _ _ (stmt_rule st) q.1 (λ u. stmt_spends st z u)) (λ r. stays (next_hidden r.1) (length z)))))
   stmt_spends (S.Do t st e) z s =
-      token_before _ _ s _ (then_spends _ _ _ s _ _ (in_loop_spends _ _ (stmt_rule st) s (λ u. stmt_spends st _ u)) (λ q.
-      token_before _ _ q.1 _ (then_spends _ _ _ q.1 _ _ (condition_spends t e _ q.1) (λ r. two_less (next_hidden r.1) (length z)))))
+      let behind = Sign m.CloseParen ∷ Sign m.Semicolon ∷ z in
+      let condition = Reserved keyword.While ∷ Sign m.OpenParen ∷ spell_expr e behind in
+      token_before _ _ s _ (then_spends _ (length condition) _ s _ _ (in_loop_spends _ (length condition) (stmt_rule st) s (λ u. stmt_spends st condition u)) (λ q.
+      token_before _ _ q.1 _ (then_spends _ (length behind) _ q.1 _ _ (condition_spends t e behind q.1) (λ r. two_less (next_hidden r.1) (length z)))))
   stmt_spends (S.For t a b c st) z s =
       token_before _ _ s _ (token_before _ _ s _ (then_spends _ _ _ s _ _ (optional_spends a (Sign m.Semicolon) (spell_optional b (Sign m.Semicolon ∷ spell_optional c (Sign m.CloseParen ∷ spell_stmt st z))) s) (λ x1.
       then_spends _ _ _ x1.1 _ _ (optional_condition_spends t b (Sign m.Semicolon) (spell_optional c (Sign m.CloseParen ∷ spell_stmt st z)) x1.1) (λ x2.
