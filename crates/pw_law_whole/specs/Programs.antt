@@ -13,8 +13,8 @@ use Rattle.pw_run_languages.specs.Programs as flows
 use Rattle.pw_run_languages.specs.LinkingLaws.{frame_in}
 use Rattle.pw_cmean.specs.Worlds.{Program, ProgramModule}
 use Rattle.pw_law_direction.specs.Laws.{first_places}
-use Rattle.pw_law_layers.specs.Accepting.{HasNoColon, IsWhole}
-use Rattle.pw_law_layers.specs.Lowering.{flow_program, AreChecked, LoweringKeepsRuns}
+use Rattle.pw_law_source.specs.Accepting.{HasNoColon, IsWhole}
+use Rattle.pw_law_source.specs.Lowering.{flow_program, AreChecked, LoweringKeepsRuns}
 use Rattle.pw_law_layers.specs.Whole.{image_of, IsLaidOut}
 use Rattle.pw_law_analysis.specs.OwedLaws.{IsAnalysed, HoldsOver}
 
