@@ -14,7 +14,7 @@ use Rattle.pw_graph.proofs.Members.{in_members, held_within}
 use Rattle.pw_webs.specs.declared.web.RawWeb.{RawWeb}
 use Rattle.pw_webs.specs.Webs.{Region, Joined, self, HasCaller, IsWeb, IsRawWeb, IsWebAt, IsNextWeb, AreWebsAt, AreWebs, weight, entry_cost}
 use Rattle.pw_webs.proofs.Closed.{in_region}
-use Rattle.pw_webs.proofs.Gather.{IsGathered, none_gathered, gather_skip, gather_put, gather_end, AreFound, none_found, found_more, found_all}
+use Rattle.pw_webs.proofs.Gather.{IsGathered, none_gathered, gather_skip, gather_put, gather_end, AreFound, none_found, found_more, found_all, found_few}
 use Rattle.pw_law_answers.proofs.Telling.{Told, told_both, told_either, told_same, told_below, told_not}
 use Rattle.pw_law_answers.proofs.Rows.{RowOf, row_of}
 use Rattle.pw_law_answers.proofs.Reaching.{told_write, told_region, told_joined, told_caller, region_within}
@@ -155,5 +155,7 @@ module _ (g : CallGraph) (graph : IsGraph g) where
       let ws = webs_at_exist v (omega (arith, le)) in
       (old.0 ++ ws.0, subst (λ n. AreFound g n (old.0 ++ ws.0)) add-one (found_more g v old.0 ws.0 old.1 ws.1 ws.2))
 
-  pub webs_exist : (ws : List RawWeb) × AreWebs g ws
-  webs_exist = let f = found_to (length g.globals) (omega arith) in (f.0, found_all g (length g.globals) f.0 (omega arith) (omega arith) f.1)
+  pub webs_exist : (ws : List RawWeb) × AreWebs g ws × (length ws ≤ length g.globals * length g.functions)
+  webs_exist =
+      let f = found_to (length g.globals) (omega arith) in
+      (f.0, found_all g (length g.globals) f.0 (omega arith) (omega arith) f.1, found_few g (length g.globals) f.0 (omega arith) (omega arith) f.1)
