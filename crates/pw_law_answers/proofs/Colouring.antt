@@ -102,16 +102,16 @@ told_like a b f = by (held_cases a.words.items f) (held_cases b.words.items f)
     by (inr one) (inr other) = inl (λ x. absurd (one x), λ x. absurd (other x))
 
 told_alike : (a b : BitRow) → Told ((f : ℕ) → Holds a f ↔ Holds b f)
-told_alike a b = by (told_below (a.len + b.len) (λ f. Holds a f ↔ Holds b f → ⊥) (λ f. told_not (told_like a b f)))
+told_alike a b = by (told_below (a.len + b.len) (λ f. (Holds a f ↔ Holds b f) → ⊥) (λ f. told_not (told_like a b f)))
   where
-    here : (f : ℕ) → Told (Holds a f ↔ Holds b f) → (((k : ℕ) × (k < a.len + b.len) × (Holds a k ↔ Holds b k → ⊥)) → ⊥) → Holds a f ↔ Holds b f
+    here : (f : ℕ) → Told (Holds a f ↔ Holds b f) → (((k : ℕ) × (k < a.len + b.len) × ((Holds a k ↔ Holds b k) → ⊥)) → ⊥) → (Holds a f ↔ Holds b f)
     here f (inl same) none = same
     here f (inr differs) none = (
       λ h. absurd (none (f, (let lt = held_within a f h in omega (arith, lt)), differs)),
       λ h. absurd (none (f, (let lt = held_within b f h in omega (arith, lt)), differs)),
     )
 
-    by : Told ((k : ℕ) × (k < a.len + b.len) × (Holds a k ↔ Holds b k → ⊥)) → Told ((f : ℕ) → Holds a f ↔ Holds b f)
+    by : Told ((k : ℕ) × (k < a.len + b.len) × ((Holds a k ↔ Holds b k) → ⊥)) → Told ((f : ℕ) → Holds a f ↔ Holds b f)
     by (inl h) = inr (λ same. h.2 (same h.0))
     by (inr none) = inl (λ f. here f (told_like a b f) none)
 

@@ -73,7 +73,7 @@ module _ (g : CallGraph) (graph : IsGraph g) where
     of : (f : ℕ) → Holds web.members f ↔ Joined g v root f
 
   web_with : (v root : ℕ) (m : RowOf (length g.functions) (Joined g v root)) (e : RowOf (length g.functions) (IsEntry v root)) (writes : Bool) (saved : ℤ) → v < length g.globals → Region g v root
-      → IsTrue writes ↔ ((f : ℕ) × Holds m.row f × Writes g f v) → saved +ℤ pos (entry_cost writes * length (numbers e.row)) ≡ pos (sum_by (weight g v) (numbers m.row)) → WebOf v root
+      → (IsTrue writes ↔ ((f : ℕ) × Holds m.row f × Writes g f v)) → saved +ℤ pos (entry_cost writes * length (numbers e.row)) ≡ pos (sum_by (weight g v) (numbers m.row)) → WebOf v root
   web_with v root m e writes saved lt within written balance = record {
     web = record { global = v; members = m.row; entries = e.row; writes = writes; priority = saved };
     is = record {
@@ -106,7 +106,7 @@ module _ (g : CallGraph) (graph : IsGraph g) where
 
   none_done : (v : ℕ) → Done v 0
   none_done v =
-      let r = row_in (λ k. ⊥) (λ k. inr (λ h. h)) (λ k h. absurd h) in
+      let r = row_in (λ (k : ℕ). ⊥) (λ k. inr (λ h. h)) (λ k h. absurd h) in
       record { webs = []; done = r.row; long = r.long; gathered = none_gathered g v r.row (λ f h. (r.holds f).0 h) }
 
   skip : (v root : ℕ) (d : Done v root) → (Region g v root → Holds d.done root) → Done v (root + 1)
@@ -142,7 +142,7 @@ module _ (g : CallGraph) (graph : IsGraph g) where
   webs_at_exist : (v : ℕ) → v < length g.globals → (ws : List RawWeb) × AreWebsAt g v ws × (length ws ≤ length g.functions)
   webs_at_exist v lt =
       let d = done_to v lt (length g.functions) in
-      let r = row_in (Region g v) (told_region g graph v) (λ k. region_within g graph) in
+      let r = row_in (Region g v) (told_region g graph v) (λ k r. region_within g graph r) in
       let long = r.long in
       (d.webs, gather_end g v (length g.functions) d.webs d.done r.row r.holds (omega (arith, long)) d.gathered, d.gathered.count)
 
