@@ -85,7 +85,7 @@ module _ (g : CallGraph) (graph : IsGraph g) where
 
   told_written : (v : ℕ) (row : BitRow) → Told ((f : ℕ) × Holds row f × Writes g f v)
   told_written v row =
-      told_same (λ h. (h.0, h.2)) (λ h. (h.0, held_within row h.0 h.1, (h.1, h.2)))
+      told_same (λ h. (h.0, h.2.0, h.2.1)) (λ h. (h.0, held_within row h.0 h.1, (h.1, h.2)))
       (told_below row.len (λ f. Holds row f × Writes g f v) (λ f. told_both (held_cases row.words.items f) (told_write g f v)))
 
   web_exists : (v root : ℕ) → v < length g.globals → Region g v root → WebOf v root
