@@ -1,0 +1,11 @@
+mod Colouring
+mod Graphs
+mod Names
+mod Ordering
+mod Parts
+mod Payloads
+mod Reaching
+mod Rows
+mod Summaries
+mod Telling
+mod Webs
