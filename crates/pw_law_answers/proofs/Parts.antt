@@ -1,17 +1,15 @@
 -- Lawful flow graphs that make a program and that files can hold have parts: a database, and an object of each module.
-use Rattle.std.proofs.Common.{◌≡◌, ◌⊎◌, ℕ, ◌+◌, ◌^◌, ◌<◌, ◌≤◌, Bool, true, List, [], ◌∷◌, ◌++◌, length, map, refl, sym, ap, subst, ◌∙◌, arith, inl, inr, All}
-use Rattle.std.specs.Prelude.{Contains, Option, None}
+use Rattle.std.proofs.Common.{◌≡◌, ◌⊎◌, ℕ, ◌+◌, ◌^◌, ◌<◌, ◌≤◌, Bool, true, List, [], ◌∷◌, ◌++◌, length, map, refl, ap, subst, ◌∙◌, arith, inl, inr, All}
+use Rattle.std.specs.Prelude.{None}
 use Rattle.std.specs.List.{AllByRecursion}
 use Rattle.std.proofs.lemmas.List.Elements.{All-from_recursion}
 use Rattle.pw_value.specs.Names.{IsNameLength}
 use Rattle.pw_files.proofs.Standing.{Has, contains_by, has_by, has_each, each_by, has_map_back, stands_or_not}
 use Rattle.pw_flow.specs.FlowGraph.{function_names, named_in}
 use Rattle.pw_flow.specs.ValidFlow.{IsValid}
-use Rattle.pw_flow.specs.declared.flow.FlowFn.{FlowFn}
 use Rattle.pw_flow.specs.declared.flow.FlowModule.{FlowModule}
 use Rattle.pw_summary.specs.declared.summary.Summary.{Summary}
 use Rattle.pw_summary.specs.Summary.{IsSummary}
-use Rattle.pw_summarise.specs.Summarises.{Summarises}
 use Rattle.pw_summarise.proofs.LawfulLaws.{lawful}
 use Rattle.pw_db.specs.Database.{IsDatabase, HasDirectives, empty}
 use Rattle.pw_db.specs.Limits.{colour_limit, register_count}
