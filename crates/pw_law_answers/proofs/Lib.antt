@@ -1,5 +1,7 @@
+mod Agreeing
 mod Colouring
 mod Graphs
+mod Linking
 mod Names
 mod Ordering
 mod Parts

@@ -2,9 +2,7 @@
 use Rattle.std.proofs.Common.{◌≡◌, ◌⊎◌, ℕ, ◌+◌, ◌^◌, ◌<◌, ◌≤◌, Bool, true, false, List, [], ◌∷◌, ◌++◌, length, map, refl, sym, ap, subst, ◌∙◌, arith, inl, inr, All}
 use Rattle.std.specs.Prelude.{Option, Some, None}
 use Rattle.std.specs.List.{AllByRecursion}
-use Rattle.std.specs.Str.{bytes_eq}
 use Rattle.std.proofs.lemmas.List.Elements.{All-from_recursion}
-use Rattle.std.proofs.lemmas.Slice.Eq.{bytes_eq-Decides}
 use Rattle.pw_value.specs.Names.{IsNameLength}
 use Rattle.pw_files.proofs.Standing.{Has, contains_by, has_by, has_each, each_by, has_map_back, stands_or_not}
 use Rattle.pw_flow.specs.FlowGraph.{function_names, named_in}
@@ -29,7 +27,7 @@ use Rattle.pw_phase_two.proofs.Distinct.{functions_differ}
 use Rattle.pw_colour.specs.Colours.{IsDatabaseOf}
 use Rattle.pw_build_objects.specs.Programs.{DirectivesList, AreSummariesOf, HasDatabase, Stays, IsObjectFrom, IsModuleFrom, AreObjectsFrom, AreParts, Parts, first_kept, kept_behind}
 use Rattle.pw_law_answers.specs.Held.{HasFile}
-use Rattle.pw_law_answers.proofs.Telling.{Told, told_both, told_same}
+use Rattle.pw_law_answers.proofs.Telling.{Told, told_bytes, told_both, told_same}
 use Rattle.pw_law_answers.proofs.Ordering.{ordered, ordered_names}
 use Rattle.pw_law_answers.proofs.Summaries.{summary_exists, one_item}
 use Rattle.pw_law_answers.proofs.Graphs.{graph_exists, graph_named}
@@ -135,13 +133,6 @@ object_exists flow ds valid file payload =
     )
 
 -- ---- what was kept of a module
-
-told_bytes : (a b : List ℕ) → Told (a ≡ b)
-told_bytes a b = by (bytes_eq a b) refl
-  where
-    by : (t : Bool) → bytes_eq a b ≡ t → Told (a ≡ b)
-    by true e = inl ((bytes_eq-Decides a b).0 e)
-    by false e = inr (λ same. let on : bytes_eq a b ≡ true = (bytes_eq-Decides a b).1 same in cc)
 
 -- a flow graph has one file, and what is stored of directives one payload
 pub record FilesAreOne : Type 0 where

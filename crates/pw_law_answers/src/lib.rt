@@ -1,12 +1,15 @@
 //! Laws of answers, without code: what the definitions of the analyser and of the second phase ask for, there is.
 #![tactic(auto)]
 
-ghost use Rattle.std.specs.Prelude.{◌≤◌, ℕ, List, Option};
+ghost use Rattle.std.specs.Prelude.{◌≤◌, ◌⊎◌, ℕ, List, Option};
 ghost use Rattle.std.specs.List.{AllByRecursion};
+ghost use Rattle.pw_value.specs.declared.fault.LinkFault.{LinkFault};
 ghost use Rattle.pw_flow.specs.declared.flow.FlowModule.{FlowModule};
 ghost use Rattle.pw_flow.specs.ValidFlow.{IsValid};
 ghost use Rattle.pw_summary.specs.declared.summary.Summary.{Summary};
 ghost use Rattle.pw_summarise.specs.Summarises.{Summarises};
+ghost use Rattle.pw_link_rules.specs.Linking.{Links, Refusal};
+ghost use Rattle.pw_link_rules.specs.declared.interface.Interface.{Interface};
 ghost use Rattle.pw_graph.specs.declared.graph.CallGraph.{CallGraph};
 ghost use Rattle.pw_graph.specs.CallGraph.{IsGraph};
 ghost use Rattle.pw_graph.specs.Program.{AreLinked};
@@ -25,6 +28,11 @@ use pw_flowfile::laws::flow_graphs_and_files_are_one_to_one;
 pub fn modules_have_summaries()
     ensures one { (m : FlowModule) → IsValid m → (s : Summary) × Summarises m s }
     ensures all { (flows : List FlowModule) → AllByRecursion IsValid flows → (ss : List Summary) × AreSummariesOf flows ss }
+{}
+
+/// Modules make a program, or a rule of linking refuses them: which is true can be told of any.
+pub fn modules_link_or_are_refused()
+    ensures { (modules : List Interface) → Links modules ⊎ ((fault : LinkFault) × Refusal modules fault) }
 {}
 
 /// Each call graph has its webs.

@@ -1,19 +1,20 @@
-//! Laws of completeness, without code: modules that can be built have a build.
+//! Laws of completeness, without code: each build has an answer, and modules that can be built have a program.
 #![tactic(auto)]
 
-ghost use Rattle.std.specs.Prelude.{◌≡◌, ◌≤◌, List, [], Ok};
+ghost use Rattle.std.specs.Prelude.{◌≡◌, ◌≤◌, List, [], Result, Ok};
 ghost use Rattle.std.specs.List.{AllByRecursion};
 ghost use Rattle.pw_flow.specs.ValidFlow.{IsValid};
 ghost use Rattle.pw_flow.specs.declared.flow.FlowModule.{FlowModule};
 ghost use Rattle.pw_db.specs.Limits.{colour_limit};
 ghost use Rattle.pw_store_modules.specs.Modules.{Source};
 ghost use Rattle.pw_build_objects.specs.Programs.{AreParts, Parts};
+ghost use Rattle.pw_build_files.specs.FromBuild.BuildFault.{BuildFault};
 ghost use Rattle.pw_build_files.specs.FromBuild.Builds.{Builds, first_phases};
 ghost use Rattle.pw_build_opts.specs.declared.opts.Opts.{Opts};
 ghost use Rattle.pw_law_answers.specs.Held.{HasFile};
 ghost use Rattle.pw_law_build.specs.Complete.{CanBeBuilt};
 
-use pw_law_answers::{modules_have_summaries, programs_have_parts};
+use pw_law_answers::{modules_have_summaries, modules_link_or_are_refused, programs_have_parts};
 use pw_law_build::{
     first_phases_declare_main, flow_graphs_and_summaries_are_refused_alike,
     objects_are_refused_for_room_alone,
@@ -36,6 +37,21 @@ pub fn parts_of_accepted_modules_are_their_build()
 {
     first_phases_declare_main();
     objects_are_refused_for_room_alone();
+}
+
+/// The full build of modules has an answer, whatever they are, where files can hold their flow graphs: the program's parts, or why
+/// there are none.
+pub fn builds_have_an_answer()
+    ensures { (sources : List Source) (opts : Opts) → opts.colours ≤ colour_limit →
+        ((flows : List FlowModule) → first_phases sources ≡ Ok flows → AllByRecursion HasFile flows) →
+        (answer : Result Parts BuildFault) × Builds sources [] opts answer }
+{
+    first_phases_are_lawful();
+    first_phases_declare_main();
+    modules_have_summaries();
+    modules_link_or_are_refused();
+    objects_are_refused_for_room_alone();
+    programs_have_parts();
 }
 
 /// Modules that can be built, and whose flow graphs files can hold, have a build where nothing is kept. So the full build of modules
