@@ -3,8 +3,8 @@ mod Colouring
 mod Graphs
 mod Linking
 mod Names
+mod Objects
 mod Ordering
-mod Parts
 mod Payloads
 mod Reaching
 mod Rows

@@ -4,6 +4,7 @@ use Rattle.std.specs.List.{AllByRecursion}
 use Rattle.pw_value.specs.declared.fault.LinkFault.{LinkFault}
 use Rattle.pw_flow.specs.ValidFlow.{IsValid}
 use Rattle.pw_flow.specs.declared.flow.FlowModule.{FlowModule}
+use Rattle.pw_summary.specs.Summary.{IsSummary}
 use Rattle.pw_summary.specs.declared.summary.Summary.{Summary}
 use Rattle.pw_db.specs.Limits.{colour_limit}
 use Rattle.pw_object.specs.declared.object.Object.{Object}
@@ -37,10 +38,10 @@ parts_build declares links sources opts parts can are =
 pub record Laws : Type 0 where
   pub lawful : (sources : List Source) (flows : List FlowModule) → first_phases sources ≡ Ok flows → AllByRecursion IsValid flows
   pub declares : (sources : List Source) (flows : List FlowModule) → first_phases sources ≡ Ok flows → AllByRecursion DeclaresMain flows
-  pub summaries : (flows : List FlowModule) → AllByRecursion IsValid flows → (ss : List Summary) × AreSummariesOf flows ss
+  pub summaries : (flows : List FlowModule) → AllByRecursion IsValid flows → (ss : List Summary) × AreSummariesOf flows ss × AllByRecursion IsSummary ss
   pub link : (modules : List Interface) → Links modules ⊎ ((fault : LinkFault) × Refusal modules fault)
   pub links : (flows : List FlowModule) (colours : ℕ) (parts : Parts) → AllByRecursion DeclaresMain flows → AreParts flows [] colours parts → Links (map interface parts.objects)
-  pub parts : (flows : List FlowModule) (ss : List Summary) (kept : List (Option Object)) (colours : ℕ) → colours ≤ colour_limit → AllByRecursion IsValid flows → AllByRecursion HasFile flows → AreSummariesOf flows ss → AreLinked ss
+  pub parts : (flows : List FlowModule) (ss : List Summary) (kept : List (Option Object)) (colours : ℕ) → colours ≤ colour_limit → AllByRecursion IsValid flows → AllByRecursion HasFile flows → AreSummariesOf flows ss → AllByRecursion IsSummary ss → AreLinked ss
       → (parts : Parts) × AreParts flows kept colours parts
 
 -- flow graphs come to an answer
@@ -53,19 +54,19 @@ module _ (laws : Laws) where
   by_size flows opts parts declares are None e = (Ok parts, (are, record { program = laws.links flows opts.colours parts declares are; fits = e }))
   by_size flows opts parts declares are (Some fault) e = (Err (LinkRefused fault), inr (parts, are, too_large (laws.links flows opts.colours parts declares are) e))
 
-  by_rules : (flows : List FlowModule) (opts : Opts) → opts.colours ≤ colour_limit → AllByRecursion IsValid flows → AllByRecursion DeclaresMain flows → AllByRecursion HasFile flows → (ss : List Summary) → AreSummariesOf flows ss
+  by_rules : (flows : List FlowModule) (opts : Opts) → opts.colours ≤ colour_limit → AllByRecursion IsValid flows → AllByRecursion DeclaresMain flows → AllByRecursion HasFile flows → (ss : List Summary) → AreSummariesOf flows ss → AllByRecursion IsSummary ss
       → AreLinked ss ⊎ ((fault : LinkFault) × AreRefused ss fault) → Answered flows opts
-  by_rules flows opts few valid declares files ss of (inl linked) =
-      let p = laws.parts flows ss [] opts.colours few valid files of linked in
+  by_rules flows opts few valid declares files ss of lawful (inl linked) =
+      let p = laws.parts flows ss [] opts.colours few valid files of lawful linked in
       by_size flows opts p.0 declares p.1 (size_fault p.0.objects opts.stack) refl
-  by_rules flows opts few valid declares files ss of (inr refused) =
+  by_rules flows opts few valid declares files ss of lawful (inr refused) =
       (Err (LinkRefused refused.0), inl (valid, record { summaries = ss; of_flows = of; refused = refused.1 }))
 
   by_flows : (sources : List Source) (flows : List FlowModule) (opts : Opts) → opts.colours ≤ colour_limit → first_phases sources ≡ Ok flows → AllByRecursion HasFile flows → Answered flows opts
   by_flows sources flows opts few is files =
       let valid = laws.lawful sources flows is in
       let ss = laws.summaries flows valid in
-      by_rules flows opts few valid (laws.declares sources flows is) files ss.0 ss.1 (laws.link (map interface_of ss.0))
+      by_rules flows opts few valid (laws.declares sources flows is) files ss.0 ss.1 ss.2 (laws.link (map interface_of ss.0))
 
   by_phases : (sources : List Source) (opts : Opts) → opts.colours ≤ colour_limit → ((flows : List FlowModule) → first_phases sources ≡ Ok flows → AllByRecursion HasFile flows)
       → (phases : Result (List FlowModule) BuildFault) → first_phases sources ≡ phases → (answer : Result Parts BuildFault) × BuildsBy phases [] opts answer
