@@ -20,14 +20,14 @@ abbrev head : List ℕ → ℕ
 head [] = 0
 head (x ∷ xs) = x
 
-digit_first : (c : ℕ) (count : List ℕ) → IsTrue (list_all is_ascii_digit (c ∷ count)) → is_ascii_digit c ≡ true
+pub digit_first : (c : ℕ) (count : List ℕ) → IsTrue (list_all is_ascii_digit (c ∷ count)) → is_ascii_digit c ≡ true
 digit_first c count h = by (is_ascii_digit c) refl h
   where
     by : (b : Bool) → is_ascii_digit c ≡ b → IsTrue (list_all is_ascii_digit (c ∷ count)) → is_ascii_digit c ≡ true
     by true e h = e
     by false e h = grind arith
 
-digit_rest : (c : ℕ) (count : List ℕ) → IsTrue (list_all is_ascii_digit (c ∷ count)) → IsTrue (list_all is_ascii_digit count)
+pub digit_rest : (c : ℕ) (count : List ℕ) → IsTrue (list_all is_ascii_digit (c ∷ count)) → IsTrue (list_all is_ascii_digit count)
 digit_rest c count h = grind arith
 
 digit_more : (c : ℕ) (count : List ℕ) → is_ascii_digit c ≡ true → IsTrue (list_all is_ascii_digit count) → IsTrue (list_all is_ascii_digit (c ∷ count))

@@ -1,4 +1,4 @@
-mod Agreeing
+pub mod Agreeing
 mod Colouring
 mod Graphs
 mod Linking
@@ -9,5 +9,5 @@ mod Payloads
 mod Reaching
 mod Rows
 mod Summaries
-mod Telling
+pub mod Telling
 mod Webs
