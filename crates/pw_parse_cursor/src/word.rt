@@ -126,6 +126,7 @@ pub fn opens_parameters(tokens: &Tokens<'_>) -> bool
         || lexeme_begins_specifier(tokens, true, tokens.peek_second())
 }
 
+/// The type qualifier that a token is (C90 6.5.3), or none.
 pub fn qualifier_word(lexeme: Lexeme<'_>) -> Option<Qualifier>
     ensures { result ≡ test.qualifier_word (view_lexeme lexeme.entry) }
 {
