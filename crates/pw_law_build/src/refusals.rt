@@ -4,6 +4,7 @@ ghost use Rattle.std.specs.Prelude.{◌≡◌, ◌⊎◌, ◌↔◌, ◌≤◌, 
 ghost use Rattle.std.specs.List.{AllByRecursion};
 ghost use Rattle.pw_io.specs.Faults.{Rose};
 ghost use Rattle.pw_io.specs.Files.{Files, Told};
+ghost use Rattle.pw_flow.specs.ValidFlow.{IsValid};
 ghost use Rattle.pw_flow.specs.declared.flow.FlowModule.{FlowModule};
 ghost use Rattle.pw_db.specs.Limits.{colour_limit};
 ghost use Rattle.pw_object.specs.declared.object.Object.{Object};
@@ -35,6 +36,7 @@ use pw_build_objects::laws::{flow_graphs_have_one_answer, genuine_objects_change
 use pw_check_rules::checks_is_exact;
 use pw_law_checked::{accepted_functions_are_typed, accepted_names_are_declared};
 use pw_link_rules::laws::modules_have_one_answer;
+use pw_phase_one::laws::flow_graphs_are_lawful;
 
 /// The flow graphs of the modules of a build declare each `main` that they define, since a module that checking accepts
 /// declares what it defines under an external name.
@@ -44,6 +46,13 @@ pub fn first_phases_declare_main()
     checks_is_exact();
     accepted_functions_are_typed();
     accepted_names_are_declared();
+}
+
+/// The flow graphs of the modules of a build are lawful.
+pub fn first_phases_are_lawful()
+    ensures { (sources : List Source) (flows : List FlowModule) → first_phases sources ≡ Ok flows → AllByRecursion IsValid flows }
+{
+    flow_graphs_are_lawful();
 }
 
 /// Modules that are accepted one by one and together, and for which text and memory are large enough, are refused nothing
