@@ -85,6 +85,9 @@ changed_spends {B} {before} {behind} s t w e h = post_weaken w (Spends before be
 
 -- ---- objects
 
+one_left : (x n : ℕ) → x + n ≤ x + suc n
+one_left x n = omega arith
+
 level : (x y n : ℕ) → y ≡ x → y + n ≤ x + n
 level x y n e = omega (arith, e)
 
@@ -117,26 +120,32 @@ static_spends : (w : Word) (q : QType) (o : Option Initializer) (z : List Symbol
 unfolding static_rule completed_rule bind
 static_spends w q None z s = one_more s.made.hidden (hidden_of q [] (not (is_const_object q))) (length z)
 static_spends w q (Some i) z s =
-    made_spends {before = suc (length (spell_init i.init z))} {behind = length z} (hidden_of q [] (not (is_const_object q))) s _ _ refl
-    (then_spends {before = suc (length (spell_init i.init z))} {between = length z} {behind = length z} _ (object_rule _ q i.init _) _ (object_spends _ q i.init z _) (λ r met. put_spends (length z) _ _ r.1.made.hidden))
+    let n = suc (length (spell_init i.init z)) in
+    let x = hidden_of q [] (not (is_const_object q)) in
+    let t = enter w.text (StaticObject (next_hidden s) q) (add_hidden x s) in
+    made_spends {before = n} {behind = length z} x s t _ refl
+    (then_spends {before = n} {between = length z} {behind = length z} t (object_rule (context_of w true (next_hidden s)) q i.init t) _ (object_spends (context_of w true (next_hidden s)) q i.init z t) (λ r met. put_spends (length z) (next_hidden s) _ r.1.made.hidden))
 
 initialiser_spends : (b : Bool) (w : Word) (k : ℕ) (q : QType) (i : Init) (z : List Symbol) (s : State) → Post (local_initialiser b w k q i s) (Spends (suc (suc (length (spell_init i z)))) (length z) s)
 unfolding local_initialiser bytes_rule single_rule completed_rule bind
 initialiser_spends true w k q i z s =
-    made_spends {before = suc (length (spell_init i z))} {behind = length z} (hidden_of q [] false) s _ _ refl
-    (then_spends {before = suc (length (spell_init i z))} {between = length z} {behind = length z} _ (object_rule _ q i _) _ (object_spends _ q i z _) (λ r met. put_spends (length z) _ _ r.1.made.hidden))
+    let n = suc (length (spell_init i z)) in
+    let x = hidden_of q [] false in
+    let t = add_hidden x s in
+    made_spends {before = n} {behind = length z} x s t _ refl
+    (then_spends {before = n} {between = length z} {behind = length z} t (object_rule (context_of w true (next_hidden s)) q i t) _ (object_spends (context_of w true (next_hidden s)) q i z t) (λ r met. put_spends (length z) (next_hidden s) _ r.1.made.hidden))
 initialiser_spends false w k q i z s =
     token_before {before = suc (length (spell_init i z))} {behind = length z} s _
     (then_spends {before = suc (length (spell_init i z))} {between = length z} {behind = length z} s (object_rule (context_of w false 0) q i s) _ (object_spends (context_of w false 0) q i z s) (λ r. stays (next_hidden r.1) (length z)))
 
 local_spends : (w : Word) (b : Specified) (q : QType) (o : Option Initializer) (z : List Symbol) (s : State) → Post (local_rule w b q o s) (Spends (suc (length (spell_initializer o z))) (length z) s)
 unfolding local_rule bind
-local_spends w b q None z s = more (next_hidden s) (length z)
-  where
-    more : (x n : ℕ) → x + n ≤ x + suc n
-    more x n = omega arith
+local_spends w b q None z s = one_left (next_hidden s) (length z)
 local_spends w b q (Some i) z s =
-    then_spends {before = suc (suc (length (spell_init i.init z)))} {between = length z} {behind = length z} _ (local_initialiser (is_by_bytes (type_of q) i.init) w _ q i.init _) _ (initialiser_spends (is_by_bytes (type_of q) i.init) w _ q i.init z _) (λ r. stays (next_hidden r.1) (length z))
+    let n = suc (suc (length (spell_init i.init z))) in
+    let t = enter w.text (LocalObject (next_local s) q (is_register b.storage)) (add_local (local_of w q) s) in
+    then_spends {before = n} {between = length z} {behind = length z} t (local_initialiser (is_by_bytes (type_of q) i.init) w (next_local s) q i.init t) _
+    (initialiser_spends (is_by_bytes (type_of q) i.init) w (next_local s) q i.init z t) (λ r. stays (next_hidden r.1) (length z))
 
 -- ---- declarations
 
@@ -164,9 +173,6 @@ name_asks ALocal spot w initialised b q s = λ met. (refl, tt)
 
 never : true ≡ false → ⊥
 never e = cc
-
-one_left : (x n : ℕ) → x + n ≤ x + suc n
-one_left x n = omega arith
 
 linked_spends : (name : List ℕ) (token : ℕ) (tag : Option ℕ) (asking : Asking) (q : QType) (n : ℕ) (s : State)
     → Post {A = List Initialiser × State} (bind (declare_linked name token tag asking q s) (λ r. Done ([], r.1))) (Spends (suc n) n s)

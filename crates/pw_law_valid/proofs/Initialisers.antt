@@ -2,7 +2,7 @@
 use Rattle.std.specs.Prelude.{ℕ, suc, ◌≡◌, ◌+◌, ◌≤◌, Bool, true, false, List, [], ◌∷◌, length, refl}
 use Rattle.std.proofs.Common.{arith}
 use Rattle.pw_tree.specs.FirstTokens.{first_of_expr}
-use Rattle.pw_tree.specs.Spelling.{trailed, spell_expr, spell_init, spell_inits}
+use Rattle.pw_tree.specs.Spelling.{trailed, spell_strings, spell_expr, spell_init, spell_inits}
 use Rattle.pw_tree.specs.Symbols.{Symbol}
 use Rattle.pw_tree.specs.Trees.{Expr, Word, Init, Inits}
 use Rattle.pw_tree.specs.Trees as S
@@ -17,12 +17,15 @@ use Rattle.pw_law_valid.proofs.Phrases.{strings_longer, valued_spends, expr_spen
 
 -- ---- string literals that stand for the bytes of an array
 
-no_string : (ws : List Word) {P : Type 0} → IsOther ≡ IsString ws → P
-no_string ws e = absurd cc
+no_string : {P : Type 0} (ws : List Word) → IsOther ≡ IsString ws → P
+no_string ws e = absurd (none e)
+  where
+    none : IsOther ≡ IsString ws → ⊥
+    none f = cc
 
 string_longer : (e : Expr) (ws : List Word) (z : List Symbol) → string_form e ≡ IsString ws → length z ≤ suc (length (spell_expr e z))
 unfolding spell_expr
-string_longer (S.Strings vs) ws z e = let h : length z ≤ length (Rattle.pw_tree.specs.Spelling.spell_strings vs z) = strings_longer vs z in omega (arith, h)
+string_longer (S.Strings vs) ws z e = let h : length z ≤ length (spell_strings vs z) = strings_longer vs z in omega (arith, h)
 string_longer (S.Identifier w) ws z e = no_string ws e
 string_longer (S.Number w) ws z e = no_string ws e
 string_longer (S.Floating w) ws z e = no_string ws e
