@@ -7,6 +7,7 @@ use Rattle.pw_flow.specs.declared.flow.FlowModule.{FlowModule}
 use Rattle.pw_flow.specs.ValidFlow.{IsValid}
 use Rattle.pw_summary.specs.declared.summary.Summary.{Summary}
 use Rattle.pw_object.specs.declared.object.Object.{Object}
+use Rattle.pw_link_interface.specs.Interface.{interface}
 use Rattle.pw_link_rules.specs.declared.interface.Interface.{Interface}
 use Rattle.pw_link_rules.specs.Linking.{Links, Refusal}
 use Rattle.pw_graph.specs.Program.{AreRefused}
@@ -79,3 +80,14 @@ module _ (not_both : (modules : List Interface) (fault : LinkFault) → Links mo
     pub never_refused : (sources : List Source) (kept : List (Option Object)) (opts : Opts) (fault : BuildFault) → CanBeBuilt sources opts → AllByRecursion IsGenuineIfKept kept → Builds sources kept opts (Err fault) → ⊥
     never_refused sources kept opts fault can genuine h =
         by_fault sources kept opts fault can genuine (subst (λ (phases : Result (List FlowModule) BuildFault). BuildsBy phases kept opts (Err fault)) can.accepted.one_by_one h)
+
+-- ---- what accepted modules come to
+
+-- the parts of modules that can be built, where nothing is kept, are linked, so they are what the build comes to
+pub parts_build : ((sources : List Source) (flows : List FlowModule) → first_phases sources ≡ Ok flows → AllByRecursion DeclaresMain flows)
+    → ((flows : List FlowModule) (colours : ℕ) (parts : Parts) → AllByRecursion DeclaresMain flows → AreParts flows [] colours parts → Links (map interface parts.objects))
+    → (sources : List Source) (opts : Opts) (parts : Parts) → (can : CanBeBuilt sources opts) → AreParts can.accepted.flows [] opts.colours parts → Builds sources [] opts (Ok parts)
+parts_build declares links sources opts parts can are =
+    let a = can.accepted in
+    subst (λ (phases : Result (List FlowModule) BuildFault). BuildsBy phases [] opts (Ok parts)) (sym a.one_by_one)
+    (are, record { program = links a.flows opts.colours parts (declares sources a.flows a.one_by_one) are; fits = can.room parts are })

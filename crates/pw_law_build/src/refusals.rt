@@ -1,6 +1,6 @@
 //! Laws of what builds are refused for. A function here does nothing: its clauses are facts about all values.
 
-ghost use Rattle.std.specs.Prelude.{◌≡◌, ◌⊎◌, ◌↔◌, ◌≤◌, ℕ, List, Option, Result, Ok, Err, IfErr, IsOk};
+ghost use Rattle.std.specs.Prelude.{◌≡◌, ◌⊎◌, ◌↔◌, ◌≤◌, ℕ, List, [], Option, Result, Ok, Err, IfErr, IsOk};
 ghost use Rattle.std.specs.List.{AllByRecursion};
 ghost use Rattle.pw_io.specs.Faults.{Rose};
 ghost use Rattle.pw_io.specs.Files.{Files, Told};
@@ -10,7 +10,7 @@ ghost use Rattle.pw_db.specs.Limits.{colour_limit};
 ghost use Rattle.pw_object.specs.declared.object.Object.{Object};
 ghost use Rattle.pw_store_modules.specs.Modules.{Source, modules_of};
 ghost use Rattle.pw_build_objects.specs.Kept.{IsGenuineIfKept};
-ghost use Rattle.pw_build_objects.specs.Programs.{Parts};
+ghost use Rattle.pw_build_objects.specs.Programs.{AreParts, Parts};
 ghost use Rattle.pw_build_files.specs.FromBuild.BuildFault.{BuildFault};
 ghost use Rattle.pw_build_files.specs.FromBuild.BuildFault.TheVariants as build;
 ghost use Rattle.pw_build_files.specs.FromBuild.Unbuilt.{Unbuilt};
@@ -66,6 +66,15 @@ pub fn accepted_modules_are_built()
     flow_graphs_and_summaries_are_refused_alike();
     objects_are_refused_for_room_alone();
     genuine_objects_change_nothing();
+}
+
+/// What a build comes to where the modules can be built and nothing is kept: their parts, wherever there are some.
+pub fn parts_of_accepted_modules_are_their_build()
+    ensures { (sources : List Source) (opts : Opts) (parts : Parts) → (can : CanBeBuilt sources opts) →
+        AreParts can.accepted.flows [] opts.colours parts → Builds sources [] opts (Ok parts) }
+{
+    first_phases_declare_main();
+    objects_are_refused_for_room_alone();
 }
 
 /// A build over a store is refused nothing where the store's modules can be built and its kept objects are genuine.
