@@ -66,7 +66,7 @@ fn compile(alloc: Global, name: &Name, tree: &Module) -> Result<FlowModule, Phas
 ///
 /// # Errors
 ///
-/// `Refused` with what the first of these tests finds; or `NoMemory`, where the allocator gives none.
+/// `Refused` with what the first of these tests finds, or `NoMemory`.
 pub fn phase_one(alloc: Global, name: &Name, text: &[u8]) -> Result<FlowModule, PhaseError>
     // The answer as a function of the name and the text, unless memory ran out.
     ensures function { AnswersPhaseOne (λ flow. flow) (compiled name.now text.now) result }
