@@ -31,4 +31,5 @@ mod Members
 mod Moves
 mod Distances
 mod PointerUpdates
+mod Initialisers
 pub mod AllForms

@@ -78,12 +78,12 @@ pointer-or p name (Some n) = P.Object n 0
 pointer-or p name None = P.Function (flow.function_number p name)
 
 -- a global whose address code takes is there
-record IsNumbered (x : Activation) (name : List ℕ) : Type 0 where
-  number : ℕ
-  flows : flow.global_number (graphs x.world) name ≡ Some number
-  means : source.pointer_to x.world.program name 0 ≡ Some (P.Object number 0)
+pub record IsNumbered (x : Activation) (name : List ℕ) : Type 0 where
+  pub number : ℕ
+  pub flows : flow.global_number (graphs x.world) name ≡ Some number
+  pub means : source.pointer_to x.world.program name 0 ≡ Some (P.Object number 0)
 
-numbered : (x : Activation) (name : List ℕ) (c : Code) → IsActivation x → ContainsCode (graph_of x) (address_of_global name c).code → IsNumbered x name
+pub numbered : (x : Activation) (name : List ℕ) (c : Code) → IsActivation x → ContainsCode (graph_of x) (address_of_global name c).code → IsNumbered x name
 numbered x name c active holds =
     let o = op.AddrGlobal c.temps name 0 in
     let gs = globals_of (graphs x.world) in
@@ -96,7 +96,7 @@ numbered x name c active holds =
       means = ap (λ (n : Option ℕ). object-or x.world name n) (sym (same-number x.world name) ∙ r.1);
     }
 
-address-reaches :
+pub address-reaches :
     Laws → (bound : ℕ) (x : Activation) (numbers : Numbers) (spots : List Spot) (c : Code) (s : State) (m : Machine) (name : List ℕ)
     → IsReady x numbers spots c s m → ContainsCode (graph_of x) (address_of_global name c).code → (n : IsNumbered x name)
     → Meets x.world bound m (Gives (V.At (P.Object n.number 0)) s) (λ v. HasValue x numbers spots [] (address_of_global name c) c s m (Some v))

@@ -2,18 +2,19 @@
 //! branch.
 #![tactic(auto)]
 
-ghost use Rattle.std.specs.Prelude.{◌≡◌, ℕ};
+ghost use Rattle.std.specs.Prelude.{◌≡◌, ℕ, List};
 ghost use Rattle.pw_types.specs.TypeTrees.{CType, Int, Pointer, QType, Record, type_of};
 ghost use Rattle.pw_types.specs.declared.kind.IntKind.{IntKind};
 ghost use Rattle.pw_types.specs.declared.tree.StepOperator.{StepOperator};
-ghost use Rattle.pw_types.specs.TypedTrees.{Symbol, Expression, Expressions, Node, Str, Local, Global, Deref, Unary, Binary, Logic, Cond, Comma, Assign, Compound, Step, Decay, Address};
+ghost use Rattle.pw_types.specs.TypedTrees.{Symbol, Expression, Expressions, Node, Str, Local, Global, Deref, Unary, Binary, Logic, Cond, Comma, Assign, Compound, Step, Decay, Address, Value, Bytes};
 ghost use Rattle.pw_types.specs.WellTyped.{IsScalar, type_in};
 ghost use Rattle.pw_types.specs.declared.tree.BinaryOperator.{BinaryOperator};
 ghost use Rattle.pw_types.specs.declared.tree.BinaryOperator.TheVariants.{Add, Subtract};
 ghost use Rattle.pw_types.specs.declared.tree.LogicOperator.TheVariants.{And, Or};
 ghost use Rattle.pw_types.specs.declared.tree.UnaryOperator.TheVariants.{Not};
 ghost use Rattle.pw_law_refine.specs.Expressions.{ExpressionKeeps, ExpressionsKeep, LvaluesKeep, AddressesKeep, ConditionsKeep};
-ghost use Rattle.pw_law_refine_forms.specs.Accesses.{AddressKeeps, AdvancesKeep, IsAdditive, IsComparison, LvalueKeeps, ReadsKeep, TargetsSuit, WritesKeep};
+ghost use Rattle.pw_law_refine.specs.StatementParts.{InitialiserKeeps};
+ghost use Rattle.pw_law_refine_forms.specs.Accesses.{AddressKeeps, AdvancesKeep, IsAdditive, IsComparison, LvalueKeeps, ReadsKeep, TargetsSuit, WritesKeep, WritesThroughKeep, WritesStay};
 ghost use Rattle.pw_law_refine_forms.specs.Operands.{Applies};
 ghost use Rattle.pw_law_refine_forms.specs.Calling.{EachKeeps, ArgumentListKeeps, FunctionFormsKeep};
 
@@ -27,10 +28,13 @@ use pw_law_refine_steps::{
 use pw_value::laws::{decoding_gives_back, pointers_give_back, ranges_of_bytes};
 
 /// Memory: what the meaning of C reads where the place of a scalar lvalue is, the code that reads there gives; and
-/// what it writes there, the code writes.
+/// what it writes there, the code writes; through an address from any temporary, and for a local whose temporary has the
+/// value already, nothing is done.
 pub fn accesses_keep()
     ensures reads { ReadsKeep }
     ensures writes { WritesKeep }
+    ensures through { WritesThroughKeep }
+    ensures kept { WritesStay }
 {
     machines_step_on();
     operations_step();
@@ -165,6 +169,24 @@ pub fn updates_keep()
 {
     operators_agree();
     conversions_agree();
+    machines_step_on();
+    operations_step();
+    stretches_last();
+    locals_come_first();
+    results_are_new();
+    later_code_keeps();
+    graphs_contain_the_parts();
+    values_have_types();
+    decoding_gives_back();
+    pointers_give_back();
+    ranges_of_bytes();
+}
+
+/// Initialisers of locals keep their promise: by a value, where the expression does; and by the bytes of a hidden object.
+pub fn initialisers_keep()
+    ensures values { (bound k : ℕ) (a : Expression) → ExpressionKeeps bound a → InitialiserKeeps bound (Value k a) }
+    ensures bytes { (bound k hidden : ℕ) (parts : List Expression) → InitialiserKeeps bound (Bytes k hidden parts) }
+{
     machines_step_on();
     operations_step();
     stretches_last();
