@@ -77,8 +77,8 @@ tentative_same true place s = changed_same place (λ l. record l { tentative = t
 tentative_same false place s = refl
 
 -- a change of the state that leaves the objects without a name
-changed_spends : {B : Type 0} {before behind : ℕ} (s t : State) (w : Walk (B × State)) → t.made.hidden ≡ s.made.hidden → Post w (Spends before behind t) → Post w (Spends before behind s)
-changed_spends {B} {before} {behind} s t w e h = post_weaken w (Spends before behind t) (Spends before behind s) h (λ r k. from (next_hidden s) (next_hidden t) (next_hidden r.1) (ap (λ (xs : List HiddenObject). length xs) e) k)
+pub changed_spends : {B : Type 0} (before behind : ℕ) (s t : State) (w : Walk (B × State)) → t.made.hidden ≡ s.made.hidden → Post w (Spends before behind t) → Post w (Spends before behind s)
+changed_spends {B} before behind s t w e h = post_weaken w (Spends before behind t) (Spends before behind s) h (λ r k. from (next_hidden s) (next_hidden t) (next_hidden r.1) (ap (λ (xs : List HiddenObject). length xs) e) k)
   where
     from : (x y u : ℕ) → y ≡ x → u + behind ≤ y + before → u + behind ≤ x + before
     from x y u e k = omega (arith, e, k)
@@ -94,20 +94,20 @@ level x y n e = omega (arith, e)
 global_spends : (w : Word) (b : Specified) (spot : Spot) (q : QType) (o : Option Initializer) (z : List Symbol) (s : State) → Post (global_rule w b spot q o s) (Spends (length (spell_initializer o z)) (length z) s)
 unfolding global_rule fitting_rule bind
 global_spends w b spot q None z s =
-    then_spends {before = length z} {between = length z} {behind = length z} s (declare_linked w.text w.token b.tag (asking_of AGlobal b) q s) _ (same_spends {n = length z} s _ (declared_same w.text w.token b.tag (asking_of AGlobal b) q s)) (λ r.
+    then_spends (length z) (length z) (length z) s (declare_linked w.text w.token b.tag (asking_of AGlobal b) q s) _ (same_spends (length z) s _ (declared_same w.text w.token b.tag (asking_of AGlobal b) q s)) (λ r.
     level (next_hidden r.1) _ (length z) (ap (λ (xs : List HiddenObject). length xs) (tentative_same (is_tentative b) r.0 r.1)))
 global_spends w b spot q (Some i) z s =
     let n = suc (length (spell_init i.init z)) in
-    then_spends {before = n} {between = n} {behind = length z} s (declare_linked w.text w.token b.tag (asking_of AGlobal b) q s) _
-    (same_spends {n = n} s _ (declared_same w.text w.token b.tag (asking_of AGlobal b) q s)) (λ r.
+    then_spends n n (length z) s (declare_linked w.text w.token b.tag (asking_of AGlobal b) q s) _
+    (same_spends n s _ (declared_same w.text w.token b.tag (asking_of AGlobal b) q s)) (λ r.
     let t = define_object r.0 r.1 in
-    changed_spends {before = n} {behind = length z} r.1 t _ (defined_same r.0 r.1)
-    (then_spends {before = n} {between = length z} {behind = length z} t (object_rule (context_of w true 0) (named_type t w.text q) i.init t) _ (object_spends (context_of w true 0) (named_type t w.text q) i.init z t) (λ o met.
+    changed_spends n (length z) r.1 t _ (defined_same r.0 r.1)
+    (then_spends n (length z) (length z) t (object_rule (context_of w true 0) (named_type t w.text q) i.init t) _ (object_spends (context_of w true 0) (named_type t w.text q) i.init z t) (λ o met.
     level (next_hidden o.1) _ (length z) (ap (λ (xs : List HiddenObject). length xs) (here_same w.text r.0 o.0.ty (initialise_linked r.0 o.0.ty o.0.filled.items o.1) ∙ changed_same r.0 _ o.1)))))
 
 -- one object more, which is given its bytes later
-made_spends : {A : Type 0} {before behind : ℕ} (x : HiddenObject) (s t : State) (w : Walk (A × State)) → t.made.hidden ≡ s.made.hidden ++ x ∷ [] → Post w (Spends before behind t) → Post w (Spends (suc before) behind s)
-made_spends {A} {before} {behind} x s t w e h =
+made_spends : {A : Type 0} (before behind : ℕ) (x : HiddenObject) (s t : State) (w : Walk (A × State)) → t.made.hidden ≡ s.made.hidden ++ x ∷ [] → Post w (Spends before behind t) → Post w (Spends (suc before) behind s)
+made_spends {A} before behind x s t w e h =
     post_weaken w (Spends before behind t) (Spends (suc before) behind s) h (λ r k. from (next_hidden r.1) (next_hidden t) (ap (λ (xs : List HiddenObject). length xs) e) (one_more s.made.hidden x before) k)
   where
     from : (u y : ℕ) → y ≡ length (s.made.hidden ++ x ∷ []) → length (s.made.hidden ++ x ∷ []) + before ≤ length s.made.hidden + suc before → u + behind ≤ y + before → u + behind ≤ length s.made.hidden + suc before
@@ -123,8 +123,8 @@ static_spends w q (Some i) z s =
     let n = suc (length (spell_init i.init z)) in
     let x = hidden_of q [] (not (is_const_object q)) in
     let t = enter w.text (StaticObject (next_hidden s) q) (add_hidden x s) in
-    made_spends {before = n} {behind = length z} x s t _ refl
-    (then_spends {before = n} {between = length z} {behind = length z} t (object_rule (context_of w true (next_hidden s)) q i.init t) _ (object_spends (context_of w true (next_hidden s)) q i.init z t) (λ r met. put_spends (length z) (next_hidden s) _ r.1.made.hidden))
+    made_spends n (length z) x s t _ refl
+    (then_spends n (length z) (length z) t (object_rule (context_of w true (next_hidden s)) q i.init t) _ (object_spends (context_of w true (next_hidden s)) q i.init z t) (λ r met. put_spends (length z) (next_hidden s) _ r.1.made.hidden))
 
 initialiser_spends : (b : Bool) (w : Word) (k : ℕ) (q : QType) (i : Init) (z : List Symbol) (s : State) → Post (local_initialiser b w k q i s) (Spends (suc (suc (length (spell_init i z)))) (length z) s)
 unfolding local_initialiser bytes_rule single_rule completed_rule bind
@@ -132,11 +132,11 @@ initialiser_spends true w k q i z s =
     let n = suc (length (spell_init i z)) in
     let x = hidden_of q [] false in
     let t = add_hidden x s in
-    made_spends {before = n} {behind = length z} x s t _ refl
-    (then_spends {before = n} {between = length z} {behind = length z} t (object_rule (context_of w true (next_hidden s)) q i t) _ (object_spends (context_of w true (next_hidden s)) q i z t) (λ r met. put_spends (length z) (next_hidden s) _ r.1.made.hidden))
+    made_spends n (length z) x s t _ refl
+    (then_spends n (length z) (length z) t (object_rule (context_of w true (next_hidden s)) q i t) _ (object_spends (context_of w true (next_hidden s)) q i z t) (λ r met. put_spends (length z) (next_hidden s) _ r.1.made.hidden))
 initialiser_spends false w k q i z s =
-    token_before {before = suc (length (spell_init i z))} {behind = length z} s _
-    (then_spends {before = suc (length (spell_init i z))} {between = length z} {behind = length z} s (object_rule (context_of w false 0) q i s) _ (object_spends (context_of w false 0) q i z s) (λ r. stays (next_hidden r.1) (length z)))
+    token_before (suc (length (spell_init i z))) (length z) s _
+    (then_spends (suc (length (spell_init i z))) (length z) (length z) s (object_rule (context_of w false 0) q i s) _ (object_spends (context_of w false 0) q i z s) (λ r. stays (next_hidden r.1) (length z)))
 
 local_spends : (w : Word) (b : Specified) (q : QType) (o : Option Initializer) (z : List Symbol) (s : State) → Post (local_rule w b q o s) (Spends (suc (length (spell_initializer o z))) (length z) s)
 unfolding local_rule bind
@@ -144,7 +144,7 @@ local_spends w b q None z s = one_left (next_hidden s) (length z)
 local_spends w b q (Some i) z s =
     let n = suc (suc (length (spell_init i.init z))) in
     let t = enter w.text (LocalObject (next_local s) q (is_register b.storage)) (add_local (local_of w q) s) in
-    then_spends {before = n} {between = length z} {behind = length z} t (local_initialiser (is_by_bytes (type_of q) i.init) w (next_local s) q i.init t) _
+    then_spends n (length z) (length z) t (local_initialiser (is_by_bytes (type_of q) i.init) w (next_local s) q i.init t) _
     (initialiser_spends (is_by_bytes (type_of q) i.init) w (next_local s) q i.init z t) (λ r. stays (next_hidden r.1) (length z))
 
 -- ---- declarations
@@ -177,7 +177,7 @@ never e = cc
 linked_spends : (name : List ℕ) (token : ℕ) (tag : Option ℕ) (asking : Asking) (q : QType) (n : ℕ) (s : State)
     → Post {A = List Initialiser × State} (bind (declare_linked name token tag asking q s) (λ r. Done ([], r.1))) (Spends (suc n) n s)
 linked_spends name token tag asking q n s =
-    token_before {before = n} {behind = n} s _ (then_spends {before = n} {between = n} {behind = n} s (declare_linked name token tag asking q s) _ (same_spends {n = n} s _ (declared_same name token tag asking q s)) (λ r. stays (next_hidden r.1) n))
+    token_before n n s _ (then_spends n n n s (declare_linked name token tag asking q s) _ (same_spends n s _ (declared_same name token tag asking q s)) (λ r. stays (next_hidden r.1) n))
 
 declare_spends : (sort : Sort) (w : Word) (b : Specified) (spot : Spot) (q : QType) (o : Option Initializer) (z : List Symbol) (s : State) → MayHave sort (is_some o) → Post (declare_rule sort w b spot q o s) (Spends (suc (length (spell_initializer o z))) (length z) s)
 unfolding declare_rule bind
@@ -187,39 +187,39 @@ declare_spends AFunction w b spot q None z s h = linked_spends w.text w.token b.
 declare_spends AFunction w b spot q (Some i) z s h = absurd (never h)
 declare_spends AnExtern w b spot q None z s h = linked_spends w.text w.token b.tag AsBefore q (length z) s
 declare_spends AnExtern w b spot q (Some i) z s h = absurd (never h)
-declare_spends AGlobal w b spot q o z s h = token_before {before = length (spell_initializer o z)} {behind = length z} s _ (global_spends w b spot q o z s)
+declare_spends AGlobal w b spot q o z s h = token_before (length (spell_initializer o z)) (length z) s _ (global_spends w b spot q o z s)
 declare_spends AStatic w b spot q o z s h = static_spends w q o z s
 declare_spends ALocal w b spot q o z s h = local_spends w b q o z s
 
-both_more : {A : Type 0} {before behind : ℕ} (s : State) (w : Walk (A × State)) → Post w (Spends before behind s) → Post w (Spends (suc before) (suc behind) s)
-both_more {A} {before} {behind} s w h = wider_spends {before = before} {behind = behind} {more = suc before} {less = suc behind} s w (omega arith) h
+both_more : {A : Type 0} (before behind : ℕ) (s : State) (w : Walk (A × State)) → Post w (Spends before behind s) → Post w (Spends (suc before) (suc behind) s)
+both_more {A} before behind s w h = wider_spends before behind (suc before) (suc behind) s w (omega arith) h
 
-pub both_less : {A : Type 0} {before behind : ℕ} (s : State) (w : Walk (A × State)) → Post w (Spends (suc before) (suc behind) s) → Post w (Spends before behind s)
-both_less {A} {before} {behind} s w h = wider_spends {before = suc before} {behind = suc behind} {more = before} {less = behind} s w (omega arith) h
+pub both_less : {A : Type 0} (before behind : ℕ) (s : State) (w : Walk (A × State)) → Post w (Spends (suc before) (suc behind) s) → Post w (Spends before behind s)
+both_less {A} before behind s w h = wider_spends (suc before) (suc behind) before behind s w (omega arith) h
 
 init_declarator_spends : (b : Specified) (d : InitDeclarator) (z : List Symbol) (s : State) → Post (init_declarator_rule b d s) (Spends (suc (length (spell_declarator d.declarator (spell_initializer d.initializer z)))) (length z) s)
 unfolding init_declarator_rule
 init_declarator_spends b d z s =
     let n = suc (length (spell_initializer d.initializer z)) in
-    then_spends {before = suc (length (spell_declarator d.declarator (spell_initializer d.initializer z)))} {between = n} {behind = length z} s (declarator_rule d.declarator s) _
-    (both_more {before = length (spell_declarator d.declarator (spell_initializer d.initializer z))} {behind = length (spell_initializer d.initializer z)} s _ (declarator_spends d.declarator (spell_initializer d.initializer z) s)) (λ c.
-    then_spends {before = n} {between = n} {behind = length z} c.1 (built (spot_of c.0.name b.first b.tag) c.0.derivations b.ty c.1) _ (still_spends {n = n} c.1 _ (built_still (spot_of c.0.name b.first b.tag) c.0.derivations b.ty c.1)) (λ q.
+    then_spends (suc (length (spell_declarator d.declarator (spell_initializer d.initializer z)))) n (length z) s (declarator_rule d.declarator s) _
+    (both_more (length (spell_declarator d.declarator (spell_initializer d.initializer z))) (length (spell_initializer d.initializer z)) s _ (declarator_spends d.declarator (spell_initializer d.initializer z) s)) (λ c.
+    then_spends n n (length z) c.1 (built (spot_of c.0.name b.first b.tag) c.0.derivations b.ty c.1) _ (still_spends n c.1 _ (built_still (spot_of c.0.name b.first b.tag) c.0.derivations b.ty c.1)) (λ q.
     asked_post q.1 (sort_of (is_file_scope q.1) b q.0) _ (Spends n (length z) q.1)
     (post_bind (name_rule (sort_of (is_file_scope q.1) b q.0) (spot_of c.0.name b.first b.tag) (name_of c.0) (is_some d.initializer) b q.0 q.1) _
     (λ r. Still q.1 r × MayHave (sort_of (is_file_scope q.1) b q.0) (is_some d.initializer)) (Spends n (length z) q.1)
     (name_asks (sort_of (is_file_scope q.1) b q.0) (spot_of c.0.name b.first b.tag) (name_of c.0) (is_some d.initializer) b q.0 q.1) (λ r h.
-    changed_spends {before = n} {behind = length z} q.1 r.1 _ (ap (λ (t : State). t.made.hidden) h.0)
+    changed_spends n (length z) q.1 r.1 _ (ap (λ (t : State). t.made.hidden) h.0)
     (declare_spends (sort_of (is_file_scope q.1) b q.0) (name_of c.0) b (spot_of c.0.name b.first b.tag) q.0 d.initializer z r.1 h.1)))))
 
 init_declarators_spends : (first : Bool) (b : Specified) (ds : List InitDeclarator) (z : List Symbol) (s : State) → Post (init_declarators_rule b ds s) (Spends (with_lead first (length (spell_init_declarators first ds z))) (length z) s)
 unfolding init_declarators_rule
 init_declarators_spends first b [] z s = no_item first (next_hidden s) (length z)
 init_declarators_spends first b (d ∷ rest) z s =
-    item_before first _ s _ (then_spends s _ _ (init_declarator_spends b d (spell_init_declarators false rest z) s) (λ r. then_spends r.1 _ _ (init_declarators_spends false b rest z r.1) (λ u. stays (next_hidden u.1) (length z))))
+    item_before _ first _ s _ (then_spends _ _ _ s _ _ (init_declarator_spends b d (spell_init_declarators false rest z) s) (λ r. then_spends _ _ _ r.1 _ _ (init_declarators_spends false b rest z r.1) (λ u. stays (next_hidden u.1) (length z))))
 
 pub specified_spends : (specifiers : Specifiers) (z : List Symbol) (first : ℕ) (s : State) → Post (specified_rule specifiers first s) (Spends (length (spell_specifiers specifiers z)) (length z) s)
 unfolding specified_rule
-specified_spends specifiers z first s = then_spends s _ _ (specifiers_spends specifiers z first nothing_gathered s) (λ r. still_spends r.1 _ (specified_still first r.0 r.1))
+specified_spends specifiers z first s = then_spends _ _ _ s _ _ (specifiers_spends specifiers z first nothing_gathered s) (λ r. still_spends _ r.1 _ (specified_still first r.0 r.1))
 
 alone_by_same : (kind : RecordKind) (w : Word) (o : Option Tag) (s : State) → Post (alone_by kind w o s) (Same s)
 unfolding alone_by
@@ -234,24 +234,24 @@ bare_listed : (specifiers : Specifiers) (z : List Symbol) (s : State)
     → Post {A = List Initialiser × State} (bind (specified_rule specifiers (first_of_list specifiers) s) (λ t. bind (bind (storage_rule t.0 t.1) (λ u. meets (needs DeclaresSomething t.0.first (declares_something specifiers) ∷ []) u.1)) (λ u. Done ([], u.1)))) (Spends (length (spell_specifiers specifiers z)) (length z) s)
 unfolding storage_rule bind
 bare_listed specifiers z s =
-    then_spends {before = length (spell_specifiers specifiers z)} {between = length z} {behind = length z} s (specified_rule specifiers (first_of_list specifiers) s) _ (specified_spends specifiers z (first_of_list specifiers) s) (λ r met more. stays (next_hidden r.1) (length z))
+    then_spends (length (spell_specifiers specifiers z)) (length z) (length z) s (specified_rule specifiers (first_of_list specifiers) s) _ (specified_spends specifiers z (first_of_list specifiers) s) (λ r met more. stays (next_hidden r.1) (length z))
 
 bare_spends : (specifiers : Specifiers) (z : List Symbol) (s : State) → Post (bare_rule specifiers s) (Spends (length (spell_specifiers specifiers z)) (length z) s)
 unfolding bare_rule spell_specifiers
 bare_spends (S.RecordTag t kind w S.NoSpecifier) z s =
-    token_before {before = suc (length z)} {behind = length z} s _ (token_before {before = length z} {behind = length z} s _
-    (then_spends {before = length z} {between = length z} {behind = length z} s (alone_rule (record_kind kind) w s) _ (same_spends {n = length z} s _ (alone_same (record_kind kind) w s)) (λ r. stays (next_hidden r.1) (length z))))
+    token_before (suc (length z)) (length z) s _ (token_before (length z) (length z) s _
+    (then_spends (length z) (length z) (length z) s (alone_rule (record_kind kind) w s) _ (same_spends (length z) s _ (alone_same (record_kind kind) w s)) (λ r. stays (next_hidden r.1) (length z))))
 bare_spends specifiers z s = bare_listed specifiers z s
 
 declarators_spends : (specifiers : Specifiers) (ds : List InitDeclarator) (x : Symbol) (z : List Symbol) (s : State) → Post (declarators_rule specifiers ds s) (Spends (length (spell_specifiers specifiers (spell_init_declarators true ds (x ∷ z)))) (length z) s)
 unfolding declarators_rule
-declarators_spends specifiers [] x z s = token_behind {before = length (spell_specifiers specifiers (x ∷ z))} {behind = length z} s _ (bare_spends specifiers (x ∷ z) s)
+declarators_spends specifiers [] x z s = token_behind (length (spell_specifiers specifiers (x ∷ z))) (length z) s _ (bare_spends specifiers (x ∷ z) s)
 declarators_spends specifiers (d ∷ rest) x z s =
     let n = length (spell_init_declarators true (d ∷ rest) (x ∷ z)) in
-    then_spends {before = length (spell_specifiers specifiers (spell_init_declarators true (d ∷ rest) (x ∷ z)))} {between = n} {behind = length z} s (specified_rule specifiers (first_of_list specifiers) s) _
+    then_spends (length (spell_specifiers specifiers (spell_init_declarators true (d ∷ rest) (x ∷ z)))) n (length z) s (specified_rule specifiers (first_of_list specifiers) s) _
     (specified_spends specifiers (spell_init_declarators true (d ∷ rest) (x ∷ z)) (first_of_list specifiers) s) (λ r.
-    then_spends {before = n} {between = n} {behind = length z} r.1 (storage_rule r.0 r.1) _ (still_spends {n = n} r.1 _ (declared_storage_still r.0 r.1)) (λ u.
-    both_less {before = n} {behind = length z} u.1 _ (init_declarators_spends true r.0 (d ∷ rest) (x ∷ z) u.1)))
+    then_spends n n (length z) r.1 (storage_rule r.0 r.1) _ (still_spends n r.1 _ (declared_storage_still r.0 r.1)) (λ u.
+    both_less n (length z) u.1 _ (init_declarators_spends true r.0 (d ∷ rest) (x ∷ z) u.1)))
 
 pub decl_spends : (d : Decl) (z : List Symbol) (s : State) → Post (decl_rule d s) (Spends (length (spell_decl d z)) (length z) s)
 unfolding decl_rule
@@ -260,4 +260,4 @@ decl_spends d z s = declarators_spends d.specifiers d.declarators _ z s
 pub decls_spends : (ds : List Decl) (z : List Symbol) (s : State) → Post (decls_rule ds s) (Spends (length (spell_decls ds z)) (length z) s)
 unfolding decls_rule
 decls_spends [] z s = stays (next_hidden s) (length z)
-decls_spends (d ∷ rest) z s = then_spends s _ _ (decl_spends d (spell_decls rest z) s) (λ r. then_spends r.1 _ _ (decls_spends rest z r.1) (λ u. stays (next_hidden u.1) (length z)))
+decls_spends (d ∷ rest) z s = then_spends _ _ _ s _ _ (decl_spends d (spell_decls rest z) s) (λ r. then_spends _ _ _ r.1 _ _ (decls_spends rest z r.1) (λ u. stays (next_hidden u.1) (length z)))

@@ -41,7 +41,7 @@ use Rattle.pw_law_valid.proofs.Statements.{block_spends}
 body_spends : (w : Word) (place : ℕ) (q : QType) (b : Bindings) (block : Block) (z : List Symbol) (s : State) → Post (body_rule w place q b block s) (Spends (length (spell_block block z)) (length z) s)
 unfolding body_rule measured_rule bind
 body_spends w place q b block z s =
-    then_spends {before = length (spell_block block z)} {between = length z} {behind = length z} (enter_body q b (labels_in_block block) s) (block_rule block (enter_body q b (labels_in_block block) s)) _
+    then_spends (length (spell_block block z)) (length z) (length z) (enter_body q b (labels_in_block block) s) (block_rule block (enter_body q b (labels_in_block block) s)) _
     (block_spends block z (enter_body q b (labels_in_block block) s)) (λ r met. stays (next_hidden r.1) (length z))
 
 -- a definition has no declarations between its declarator and its body (ISO C90 6.7.1)
@@ -57,17 +57,17 @@ unfolding function_rule
 function_spends f z s =
     let body = spell_block f.body z in
     let n = length (spell_decls f.declarations body) in
-    then_spends {before = length (spell_external (S.Definition f) z)} {between = length (spell_declarator f.declarator (spell_decls f.declarations body))} {behind = length z} s _ _
+    then_spends (length (spell_external (S.Definition f) z)) (length (spell_declarator f.declarator (spell_decls f.declarations body))) (length z) s _ _
     (specified_spends f.specifiers (spell_declarator f.declarator (spell_decls f.declarations body)) (first_of_declaration f.specifiers f.declarator) s) (λ b.
-    then_spends {before = length (spell_declarator f.declarator (spell_decls f.declarations body))} {between = n} {behind = length z} b.1 _ _ (declarator_spends f.declarator (spell_decls f.declarations body) b.1) (λ d.
-    then_spends {before = n} {between = n} {behind = length z} d.1 _ _ (still_spends {n = n} d.1 _ (built_still (spot_of d.0.name b.0.first b.0.tag) d.0.derivations b.0.ty d.1)) (λ q.
+    then_spends (length (spell_declarator f.declarator (spell_decls f.declarations body))) n (length z) b.1 _ _ (declarator_spends f.declarator (spell_decls f.declarations body) b.1) (λ d.
+    then_spends n n (length z) d.1 _ _ (still_spends n d.1 _ (built_still (spot_of d.0.name b.0.first b.0.tag) d.0.derivations b.0.ty d.1)) (λ q.
     asked_post q.1 _ _ (Spends n (length z) q.1)
     (post_bind _ _ (λ e. (e.1.made.hidden ≡ q.1.made.hidden) × (is_nil f.declarations ≡ true)) (Spends n (length z) q.1)
     (met_post q.1 _ _ (λ e. (e.1.made.hidden ≡ q.1.made.hidden) × (is_nil f.declarations ≡ true)) (λ met.
     post_weaken _ (Same q.1) (λ e. (e.1.made.hidden ≡ q.1.made.hidden) × (is_nil f.declarations ≡ true)) (declared_same (name_of d.0).text (name_of d.0).token b.0.tag (definition_asking b.0) q.0 q.1)
     (λ e same. (same, definition_met q.1 b.0 d.0 f.declarations q.0 met)))) (λ e h.
     asked_post (define_function e.0 e.1) tt _ (Spends n (length z) q.1)
-    (changed_spends {before = n} {behind = length z} q.1 (define_function e.0 e.1) _ (changed_same e.0 _ e.1 ∙ h.0)
+    (changed_spends n (length z) q.1 (define_function e.0 e.1) _ (changed_same e.0 _ e.1 ∙ h.0)
     (subst (λ (k : ℕ). Post (body_rule (name_of d.0) e.0 q.0 (bindings_of d.0) f.body (define_function e.0 e.1)) (Spends k (length z) (define_function e.0 e.1))) (sym (none_between f.declarations body h.1))
     (body_spends (name_of d.0) e.0 q.0 (bindings_of d.0) f.body z (define_function e.0 e.1)))))))))
 
@@ -76,12 +76,12 @@ function_spends f z s =
 external_spends : (x : External) (z : List Symbol) (s : State) → Post (external_rule x s) (Spends (length (spell_external x z)) (length z) s)
 unfolding external_rule
 external_spends (S.Definition f) z s = function_spends f z s
-external_spends (S.Declaration d) z s = then_spends s _ _ (decl_spends d z s) (λ r. stays (next_hidden r.1) (length z))
+external_spends (S.Declaration d) z s = then_spends _ _ _ s _ _ (decl_spends d z s) (λ r. stays (next_hidden r.1) (length z))
 
 externals_spend : (xs : List External) (z : List Symbol) (s : State) → Post (externals_rule xs s) (Spends (length (spell_externals xs z)) (length z) s)
 unfolding externals_rule
 externals_spend [] z s = stays (next_hidden s) (length z)
-externals_spend (x ∷ rest) z s = then_spends s _ _ (external_spends x (spell_externals rest z) s) (λ r. externals_spend rest z r.1)
+externals_spend (x ∷ rest) z s = then_spends _ _ _ s _ _ (external_spends x (spell_externals rest z) s) (λ r. externals_spend rest z r.1)
 
 -- at a module's end
 abbrev IsMade : Module → ModuleValue × State → Type 0

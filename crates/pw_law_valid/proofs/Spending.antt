@@ -32,42 +32,42 @@ stays x n = omega arith
 
 -- ---- walks
 
-pub then_spends : {A B : Type 0} {before between behind : ℕ} (s : State) (w : Walk (A × State)) (next : A × State → Walk (B × State))
+pub then_spends : {A B : Type 0} (before between behind : ℕ) (s : State) (w : Walk (A × State)) (next : A × State → Walk (B × State))
     → Post w (Spends before between s) → ((r : A × State) → Post (next r) (Spends between behind r.1)) → Post (bind w next) (Spends before behind s)
-then_spends {A} {B} {before} {between} {behind} s w next h k =
+then_spends {A} {B} before between behind s w next h k =
     post_bind w next (Spends before between s) (Spends before behind s) h (λ r e.
     post_weaken (next r) (Spends between behind r.1) (Spends before behind s) (k r) (λ u f. chain (next_hidden s) (next_hidden r.1) (next_hidden u.1) before between behind e f))
 
-pub still_spends : {A : Type 0} {n : ℕ} (s : State) (w : Walk (A × State)) → Post w (Still s) → Post w (Spends n n s)
-still_spends {A} {n} s w h = post_weaken w (Still s) (Spends n n s) h (λ r e. level (next_hidden s) (next_hidden r.1) n (ap next_hidden e))
+pub still_spends : {A : Type 0} (n : ℕ) (s : State) (w : Walk (A × State)) → Post w (Still s) → Post w (Spends n n s)
+still_spends {A} n s w h = post_weaken w (Still s) (Spends n n s) h (λ r e. level (next_hidden s) (next_hidden r.1) n (ap next_hidden e))
 
-pub same_spends : {A : Type 0} {n : ℕ} (s : State) (w : Walk (A × State)) → Post w (Same s) → Post w (Spends n n s)
-same_spends {A} {n} s w h = post_weaken w (Same s) (Spends n n s) h (λ r e. level (next_hidden s) (next_hidden r.1) n (ap (λ (xs : List HiddenObject). length xs) e))
+pub same_spends : {A : Type 0} (n : ℕ) (s : State) (w : Walk (A × State)) → Post w (Same s) → Post w (Spends n n s)
+same_spends {A} n s w h = post_weaken w (Same s) (Spends n n s) h (λ r e. level (next_hidden s) (next_hidden r.1) n (ap (λ (xs : List HiddenObject). length xs) e))
 
-pub wider_spends : {A : Type 0} {before behind more less : ℕ} (s : State) (w : Walk (A × State)) → before + less ≤ more + behind → Post w (Spends before behind s) → Post w (Spends more less s)
-wider_spends {A} {before} {behind} {more} {less} s w h k = post_weaken w (Spends before behind s) (Spends more less s) k (λ r e. wider (next_hidden s) (next_hidden r.1) before behind more less h e)
+pub wider_spends : {A : Type 0} (before behind more less : ℕ) (s : State) (w : Walk (A × State)) → before + less ≤ more + behind → Post w (Spends before behind s) → Post w (Spends more less s)
+wider_spends {A} before behind more less s w h k = post_weaken w (Spends before behind s) (Spends more less s) k (λ r e. wider (next_hidden s) (next_hidden r.1) before behind more less h e)
 
 -- a token more before the phrase, or one behind it
-pub token_before : {A : Type 0} {before behind : ℕ} (s : State) (w : Walk (A × State)) → Post w (Spends before behind s) → Post w (Spends (suc before) behind s)
-token_before {A} {before} {behind} s w h = wider_spends {before = before} {behind = behind} {more = suc before} {less = behind} s w (omega arith) h
+pub token_before : {A : Type 0} (before behind : ℕ) (s : State) (w : Walk (A × State)) → Post w (Spends before behind s) → Post w (Spends (suc before) behind s)
+token_before {A} before behind s w h = wider_spends before behind (suc before) behind s w (omega arith) h
 
-pub token_behind : {A : Type 0} {before behind : ℕ} (s : State) (w : Walk (A × State)) → Post w (Spends before (suc behind) s) → Post w (Spends before behind s)
-token_behind {A} {before} {behind} s w h = wider_spends {before = before} {behind = suc behind} {more = before} {less = behind} s w (omega arith) h
+pub token_behind : {A : Type 0} (before behind : ℕ) (s : State) (w : Walk (A × State)) → Post w (Spends before (suc behind) s) → Post w (Spends before behind s)
+token_behind {A} before behind s w h = wider_spends before (suc behind) before behind s w (omega arith) h
 
 -- ---- lists with commas
 
-pub comma_before : {A : Type 0} {behind : ℕ} (first : Bool) (xs : List Symbol) (s : State) (w : Walk (A × State)) → Post w (Spends (length xs) behind s) → Post w (Spends (length (separated first xs)) behind s)
-comma_before true xs s w h = h
-comma_before {A} {behind} false xs s w h = token_before {before = length xs} {behind = behind} s w h
+pub comma_before : {A : Type 0} (behind : ℕ) (first : Bool) (xs : List Symbol) (s : State) (w : Walk (A × State)) → Post w (Spends (length xs) behind s) → Post w (Spends (length (separated first xs)) behind s)
+comma_before _ true xs s w h = h
+comma_before {A} behind false xs s w h = token_before (length xs) behind s w h
 
 -- The first item of a list may cost one more than it has tokens, for there is a token before the list; each other one has its comma.
 abbrev pub with_lead : Bool → ℕ → ℕ
 with_lead true n = suc n
 with_lead false n = n
 
-pub item_before : {A : Type 0} {behind : ℕ} (first : Bool) (xs : List Symbol) (s : State) (w : Walk (A × State)) → Post w (Spends (suc (length xs)) behind s) → Post w (Spends (with_lead first (length (separated first xs))) behind s)
-item_before true xs s w h = h
-item_before false xs s w h = h
+pub item_before : {A : Type 0} (behind : ℕ) (first : Bool) (xs : List Symbol) (s : State) (w : Walk (A × State)) → Post w (Spends (suc (length xs)) behind s) → Post w (Spends (with_lead first (length (separated first xs))) behind s)
+item_before _ true xs s w h = h
+item_before _ false xs s w h = h
 
 pub no_item : (first : Bool) (x n : ℕ) → x + n ≤ x + with_lead first n
 no_item true x n = omega arith

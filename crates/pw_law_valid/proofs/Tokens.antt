@@ -5,7 +5,8 @@ use Rattle.std.proofs.lemmas.List.{length-map}
 use Rattle.pw_token.specs.Limits.{token_limit}
 use Rattle.pw_token.specs.Tokenization.{IsLexed}
 use Rattle.pw_token.specs.declared.token.Token.{Token}
-use Rattle.pw_tree.specs.Grammar.{spelled_all, spelled_in, IsTreeOf}
+use Rattle.pw_tree.specs.Grammar.{spelled_all, IsTreeOf}
+use Rattle.pw_tree.specs.Lexemes.{spelled_in}
 use Rattle.pw_tree.specs.Spelling.{symbols}
 use Rattle.pw_tree.specs.Symbols.{Spelled, spelled}
 use Rattle.pw_tree.specs.Trees.{Module}
