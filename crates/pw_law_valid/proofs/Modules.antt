@@ -67,7 +67,7 @@ function_spends f z s =
     post_weaken _ (Same q.1) (λ e. (e.1.made.hidden ≡ q.1.made.hidden) × (is_nil f.declarations ≡ true)) (declared_same (name_of d.0).text (name_of d.0).token b.0.tag (definition_asking b.0) q.0 q.1)
     (λ e same. (same, definition_met q.1 b.0 d.0 f.declarations q.0 met)))) (λ e h.
     asked_post (define_function e.0 e.1) tt _ (Spends n (length z) q.1)
-    (changed_spends n (length z) q.1 (define_function e.0 e.1) _ (changed_same e.0 _ e.1 ∙ h.0)
+    (changed_spends n (length z) q.1 (define_function e.0 e.1) _ (changed_same e.0 (λ l. record l { defined = true }) e.1 ∙ h.0)
     (subst (λ (k : ℕ). Post (body_rule (name_of d.0) e.0 q.0 (bindings_of d.0) f.body (define_function e.0 e.1)) (Spends k (length z) (define_function e.0 e.1))) (sym (none_between f.declarations body h.1))
     (body_spends (name_of d.0) e.0 q.0 (bindings_of d.0) f.body z (define_function e.0 e.1)))))))))
 
@@ -116,7 +116,7 @@ slot_below t n (slot.Hidden k) few = by (slice_get t.made.hidden k) refl
   where
     by : (o : Option HiddenObject) → slice_get t.made.hidden k ≡ o → AllByRecursion (λ (g : GlobalValue). IsNumberedBelow n g.name) (option_map_or (λ h. hidden_global k h ∷ []) o [])
     by None e = tt
-    by (Some h) e = (let below : k < length t.made.hidden = get_within t.made.hidden k h e in omega (arith, below, few), tt)
+    by (Some h) e = (let below : k < length t.made.hidden = get_within t.made.hidden k h e in let all : length t.made.hidden ≤ n = few in omega (arith, below, all), tt)
 
 slots_below : (t : State) (n : ℕ) (xs : List Slot) → next_hidden t ≤ n → AllByRecursion (λ (x : Slot). AllByRecursion (λ (g : GlobalValue). IsNumberedBelow n g.name) (global_in t x)) xs
 slots_below t n [] few = tt
