@@ -25,6 +25,7 @@ ghost use Rattle.pw_build_opts.specs.declared.opts.Opts.{Opts};
 ghost use Rattle.pw_build_files.specs.declared.report.Report.{Report};
 ghost use Rattle.pw_commands.specs.Outcome.{IsFound};
 ghost use Rattle.pw_build_files.specs.Driving.{BuildEffect};
+ghost use Rattle.pw_law_answers.specs.Held.{FitFiles};
 ghost use Rattle.pw_law_build.specs.Alike.{DeclaresMain};
 ghost use Rattle.pw_law_build.specs.Complete.{CanBeBuilt};
 
@@ -34,6 +35,7 @@ use crate::linking::{
 use pw_build_files::genuine_objects_give_the_full_image;
 use pw_build_objects::laws::{flow_graphs_have_one_answer, genuine_objects_change_nothing};
 use pw_check_rules::checks_is_exact;
+use pw_law_answers::{modules_have_summaries, programs_have_parts};
 use pw_law_checked::{accepted_functions_are_typed, accepted_names_are_declared};
 use pw_link_rules::laws::modules_have_one_answer;
 use pw_phase_one::laws::flow_graphs_are_lawful;
@@ -75,6 +77,18 @@ pub fn parts_of_accepted_modules_are_their_build()
 {
     first_phases_declare_main();
     objects_are_refused_for_room_alone();
+}
+
+/// Modules that can be built, and whose flow graphs and directives files can hold, have a build where nothing is kept.
+pub fn accepted_modules_have_a_build()
+    ensures { (sources : List Source) (opts : Opts) → opts.colours ≤ colour_limit → (can : CanBeBuilt sources opts) →
+        FitFiles can.accepted.flows opts.colours → (parts : Parts) × Builds sources [] opts (Ok parts) }
+{
+    first_phases_are_lawful();
+    flow_graphs_and_summaries_are_refused_alike();
+    modules_have_summaries();
+    programs_have_parts();
+    parts_of_accepted_modules_are_their_build();
 }
 
 /// A build over a store is refused nothing where the store's modules can be built and its kept objects are genuine.

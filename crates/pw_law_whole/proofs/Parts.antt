@@ -22,8 +22,8 @@ use Rattle.pw_build_objects.specs.Programs.{DirectivesList, AreSummariesOf, Comp
 use Rattle.pw_law_direction.specs.Laws.{FirstPlacesServe}
 use Rattle.pw_run_languages.specs.LinkingLaws.{frame_in}
 use Rattle.pw_cmean.specs.Worlds.{Program, ProgramModule}
-use Rattle.pw_law_layers.specs.Lowering.{flow_program, AreChecked}
-use Rattle.pw_law_layers.specs.Accepting.{HasNoColon, AreNamedPlainly, CheckedIsAccepted, IsWhole}
+use Rattle.pw_law_source.specs.Lowering.{flow_program, AreChecked}
+use Rattle.pw_law_source.specs.Accepting.{HasNoColon, AreNamedPlainly, CheckedIsAccepted, IsWhole}
 use Rattle.pw_law_layers.specs.Whole.{image_of, IsLaidOut, LoweredHaveRooms, LoweredImplements}
 use Rattle.pw_law_analysis.specs.SummaryGraphs.{AllSummarise}
 use Rattle.pw_law_analysis.specs.SummaryLaws.{SummariesSayTheSame}

@@ -1,0 +1,14 @@
+//! The logical lines of a C text as the preprocessor reads them (ISO/IEC 9899:1990, 6.8): their tokens, what a line is, and
+//! lines that are passed over.
+#![tactic(auto)]
+
+mod bytes;
+mod head;
+mod laws;
+mod line;
+mod passing;
+
+pub use head::{Head, Span, head_of, header_name};
+pub use laws::{one_head, one_line};
+pub use line::{Line, LineFault, lex_line, pass_space};
+pub use passing::{pass_line, pass_rest};

@@ -1,0 +1,108 @@
+//! Lines as tokens.
+
+ghost use Rattle.std.specs.Prelude.{◌≡◌, ◌≤◌, ◌++◌, length, OnOk};
+ghost use Rattle.pw_token.specs.Tokenization.{token_in};
+ghost use Rattle.pw_cpp_lines.specs.Lines.{AnswersLine, PassesSpace, is_line_end, is_space, space_len};
+
+use crate::bytes::{behind_line, byte_at};
+use pw_items::Items;
+use pw_token::{PieceKind, Token, piece_at};
+use std::alloc::{AllocError, Global};
+
+/// The tokens of a logical line, and where the next line begins.
+#[derive(Drop)]
+pub struct Line {
+    pub tokens: Items<Token>,
+    pub next: usize,
+}
+
+/// Why a line has no tokens.
+#[derive(Clone, Copy, Debug, PartialEq, Eq)]
+pub enum LineFault {
+    /// The first byte at which no token, blank or comment starts.
+    Bad { at: usize },
+    /// There was no memory for the tokens.
+    NoMemory,
+}
+
+impl From<AllocError> for LineFault {
+    ghost use Rattle.pw_cpp_lines.specs.declared.line.LineFault.TheVariants.{NoMemory};
+
+    ghost from_gives = { λ _ fault. fault ≡ NoMemory };
+
+    fn from(_error: AllocError) -> Self {
+        LineFault::NoMemory
+    }
+}
+
+fn is_line_end(text: &[u8], at: usize) -> bool
+    ensures { result ≡ is_line_end text.now at }
+{
+    text.len() <= at || byte_at(text, at) == b'\n'
+}
+
+fn is_space(kind: PieceKind) -> bool
+    ensures { result ≡ is_space kind }
+{
+    matches!(kind, PieceKind::Blank | PieceKind::Comment)
+}
+
+/// The length of the blank or comment that was found, 0 where none was.
+fn space_len(found: Option<(PieceKind, usize)>) -> usize
+    ensures { result ≡ space_len found }
+{
+    match found {
+        Some((kind, len)) if is_space(kind) => len,
+        _ => 0,
+    }
+}
+
+/// Adds the token that a piece is, if it is one.
+fn keep(tokens: &mut Items<Token>, kind: PieceKind, at: usize, len: usize) -> Result<(), AllocError>
+    ensures { OnOk result (tokens.new ≡ tokens.old ++ token_in kind at len) }
+{
+    if let PieceKind::Token(kind) = kind {
+        tokens.push(Token { kind, at, len })?;
+    }
+    Ok(())
+}
+
+/// The tokens of the line that begins at a place, and where the next line begins. A `#` at the beginning of the line is a token
+/// as any other.
+///
+/// # Errors
+///
+/// `Bad` with the first place of the line at which no token, blank or comment starts.
+pub fn lex_line(alloc: Global, text: &[u8], at: usize) -> Result<Line, LineFault>
+    requires { at ≤ length text.now }
+    ensures { AnswersLine text.now at result }
+{
+    let mut tokens = Items::new(alloc);
+    let mut end = at;
+    while !is_line_end(text, end) {
+        let Some((kind, len)) = piece_at(false, &text[end..]) else {
+            return Err(LineFault::Bad { at: end });
+        };
+        keep(&mut tokens, kind, end, len)?;
+        end += len;
+    }
+    let next = behind_line(text, end);
+    Ok(Line { tokens, next })
+}
+
+/// Where the blanks and comments end that stand in a line from a place on.
+pub fn pass_space(text: &[u8], at: usize) -> usize
+    requires { at ≤ length text.now }
+    ensures passed { PassesSpace text.now at result }
+    ensures within { result ≤ length text.now }
+{
+    let mut end = at;
+    while !is_line_end(text, end) {
+        let len = space_len(piece_at(false, &text[end..]));
+        if len == 0 {
+            return end;
+        }
+        end += len;
+    }
+    end
+}

@@ -1,0 +1,10 @@
+mod Colouring
+mod Graphs
+mod Names
+mod Ordering
+mod Parts
+mod Reaching
+mod Rows
+mod Summaries
+mod Telling
+mod Webs
