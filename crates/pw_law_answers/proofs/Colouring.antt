@@ -1,12 +1,14 @@
 -- Webs have an order and registers, and so a program has a database.
-use Rattle.std.proofs.Common.{◌≡◌, ◌⊎◌, ℕ, zero, suc, ◌+◌, ◌<◌, ◌≤◌, List, [], ◌∷◌, length, map, refl, sym, ap, subst, ◌∙◌, arith, inl, inr}
+use Rattle.std.proofs.Common.{◌≡◌, ◌⊎◌, ℕ, zero, suc, ◌+◌, ◌-◌, ◌*◌, ◌<◌, ◌≤◌, List, [], ◌∷◌, length, map, refl, sym, ap, subst, ◌∙◌, arith, inl, inr}
 use Rattle.std.specs.Prelude.{Contains, Option, Some, None, slice_get, ◌↔◌, ℤ, pos, ◌<ℤ◌, ◌≤ℤ◌}
 use Rattle.std.specs.List.{AllByRecursion}
 use Rattle.std.specs.List.Sorted.{IsPermutation}
 use Rattle.std.proofs.lemmas.Bool.{cases_eq, cases_lt}
+use Rattle.std.specs.Ordering.{int_cmp}
+use Rattle.std.proofs.lemmas.Cmp.{by_ranked, int_ranked}
 use Rattle.std.proofs.lemmas.Int.{ints}
 use Rattle.std.proofs.lemmas.Option.{same_Some}
-use Rattle.std.proofs.lemmas.List.Sorted.{IsPermutation-refl, IsPermutation-trans, IsPermutation-cons, IsPermutation-swap}
+use Rattle.std.proofs.lemmas.List.Sorted.{length_permutation, IsPermutation-refl, IsPermutation-trans, IsPermutation-cons, IsPermutation-swap}
 use Rattle.pw_files.proofs.Standing.{Has, has_by, contains_by, each_by, has_each}
 use Rattle.pw_fix.specs.Row.{Holds}
 use Rattle.pw_fix.specs.declared.bit_row.BitRow.{BitRow}
@@ -18,21 +20,26 @@ use Rattle.pw_db.specs.declared.database.Directives.{Directives}
 use Rattle.pw_graph.specs.declared.graph.CallGraph.{CallGraph}
 use Rattle.pw_graph.specs.CallGraph.{IsGraph}
 use Rattle.pw_graph.specs.Program.{IsGraphOf}
+use Rattle.pw_graph.proofs.Lists.{at_has}
 use Rattle.pw_graph.proofs.Members.{held_within}
 use Rattle.pw_webs.specs.declared.web.RawWeb.{RawWeb}
 use Rattle.pw_webs.specs.Webs.{AreWebs, StandsBefore, IsSameWeb, Interfere}
 use Rattle.pw_colour.specs.Colours.{ComesFirst, IsRegister, IsFree, IsColour, AreColoured, numbered, IsDatabaseOf}
 use Rattle.pw_colour.specs.Giving.{paired, entries_from}
 use Rattle.pw_colour.proofs.Ranks.{two_at}
-use Rattle.pw_colour.proofs.Entries.{is_database}
+use Rattle.pw_colour.proofs.Given.{has_paired}
+use Rattle.pw_colour.proofs.Entries.{is_database, few_webs}
 use Rattle.pw_law_answers.proofs.Telling.{Told, told_both, told_either, told_same, told_some, told_below, told_not, Least, least_or_none}
 use Rattle.pw_law_answers.proofs.Webs.{webs_exist}
+use Rattle.pw_law_answers.proofs.Payloads.{IsSmall, entries_small}
 
 -- ---- the order of webs
 
 -- of two numbers the one is less, or it is not
 less_or_not : (x y : ℤ) → (x <ℤ y) ⊎ (y ≤ℤ x)
-less_or_not x y = omega (arith, ints)
+less_or_not x y =
+    by_ranked (x <ℤ y) (x ≡ y) (y <ℤ x) (int_cmp x y) (int_ranked x y (int_cmp x y) refl)
+    (λ e lt. inl lt) (λ e same. inr (omega (arith, ints, same))) (λ e lt. inr (omega (arith, ints, lt)))
 
 -- webs in order, with one more in its place
 record Placed (w : RawWeb) (ws : List RawWeb) : Type 0 where
@@ -95,16 +102,16 @@ told_like a b f = by (held_cases a.words.items f) (held_cases b.words.items f)
     by (inr one) (inr other) = inl (λ x. absurd (one x), λ x. absurd (other x))
 
 told_alike : (a b : BitRow) → Told ((f : ℕ) → Holds a f ↔ Holds b f)
-told_alike a b = by (told_below (a.len + b.len) (λ f. Holds a f ↔ Holds b f → ⊥) (λ f. told_not (told_like a b f)))
+told_alike a b = by (told_below (a.len + b.len) (λ f. (Holds a f ↔ Holds b f) → ⊥) (λ f. told_not (told_like a b f)))
   where
-    here : (f : ℕ) → Told (Holds a f ↔ Holds b f) → (((k : ℕ) × (k < a.len + b.len) × (Holds a k ↔ Holds b k → ⊥)) → ⊥) → Holds a f ↔ Holds b f
+    here : (f : ℕ) → Told (Holds a f ↔ Holds b f) → (((k : ℕ) × (k < a.len + b.len) × ((Holds a k ↔ Holds b k) → ⊥)) → ⊥) → (Holds a f ↔ Holds b f)
     here f (inl same) none = same
     here f (inr differs) none = (
       λ h. absurd (none (f, (let lt = held_within a f h in omega (arith, lt)), differs)),
       λ h. absurd (none (f, (let lt = held_within b f h in omega (arith, lt)), differs)),
     )
 
-    by : Told ((k : ℕ) × (k < a.len + b.len) × (Holds a k ↔ Holds b k → ⊥)) → Told ((f : ℕ) → Holds a f ↔ Holds b f)
+    by : Told ((k : ℕ) × (k < a.len + b.len) × ((Holds a k ↔ Holds b k) → ⊥)) → Told ((f : ℕ) → Holds a f ↔ Holds b f)
     by (inl h) = inr (λ same. h.2 (same h.0))
     by (inr none) = inl (λ f. here f (told_like a b f) none)
 
@@ -156,15 +163,28 @@ registers_exist colours earlier (w ∷ ws) =
 
 -- ---- the database
 
-database_with : (ss : List Summary) (colours : ℕ) (g : CallGraph) (ws us : List RawWeb) (rs : List (Option ℕ)) → IsGraphOf ss g → AreWebs g ws → IsPermutation ws us → EachTwo ComesFirst us → length rs ≡ length us → AreColoured colours [] (paired us rs)
-    → (db : List (List ℕ × Directives)) × IsDatabaseOf ss colours db
-database_with ss colours g ws us rs of webs moved order long coloured =
-    let db = entries_from g (numbered 0 (paired us rs)) 0 g.functions in
-    (db, is_database ss g colours ws us rs (numbered 0 (paired us rs)) db of webs moved order long coloured refl refl)
+pairs_few : (ws : List RawWeb) (rs : List (Option ℕ)) → length (paired ws rs) ≤ length ws
+pairs_few [] rs = omega arith
+pairs_few (w ∷ ws) [] = omega arith
+pairs_few (w ∷ ws) (r ∷ rs) = let rest = pairs_few ws rs in omega (arith, rest)
 
-pub database_of_graph : (ss : List Summary) (colours : ℕ) (g : CallGraph) → IsGraphOf ss g → IsGraph g → (db : List (List ℕ × Directives)) × IsDatabaseOf ss colours db
+global_within : (g : CallGraph) (ws us : List RawWeb) (rs : List (Option ℕ)) → AreWebs g ws → ((u : RawWeb) → Has u us → Has u ws) → (w : RawWeb) (o : Option ℕ) → Has (w, o) (paired us rs) → w.global < length g.globals
+global_within g ws us rs webs over w o h = let p = at_has ws w (over w (has_paired us rs w o h)) in (webs.each p.0 w p.1).global
+
+database_with : (ss : List Summary) (colours : ℕ) (g : CallGraph) (ws us : List RawWeb) (rs : List (Option ℕ)) → IsGraphOf ss g → IsGraph g → AreWebs g ws → length ws ≤ length g.globals * length g.functions
+    → IsPermutation ws us → EachTwo ComesFirst us → ((u : RawWeb) → Has u us → Has u ws) → length rs ≡ length us → AreColoured colours [] (paired us rs)
+    → (db : List (List ℕ × Directives)) × IsDatabaseOf ss colours db × ((f : List ℕ × Directives) → Has f db → IsSmall g f)
+database_with ss colours g ws us rs of graph webs count moved order over long coloured =
+    let db = entries_from g (numbered 0 (paired us rs)) 0 g.functions in
+    let few = few_webs (length ws) (length g.globals) (length g.functions) count graph.globals graph.functions in
+    let same : length us ≡ length ws = length_permutation ws us moved in
+    let fewer = pairs_few us rs in
+    (db, is_database ss g colours ws us rs (numbered 0 (paired us rs)) db of webs moved order long coloured refl refl,
+    entries_small g (paired us rs) (omega (arith, few, same, fewer)) (global_within g ws us rs webs over))
+
+pub database_of_graph : (ss : List Summary) (colours : ℕ) (g : CallGraph) → IsGraphOf ss g → IsGraph g → (db : List (List ℕ × Directives)) × IsDatabaseOf ss colours db × ((f : List ℕ × Directives) → Has f db → IsSmall g f)
 database_of_graph ss colours g of graph =
     let ws = webs_exist g graph in
     let us = ranked ws.0 (two_at StandsBefore ws.0 ws.1.order) in
     let rs = registers_exist colours [] us.0 in
-    database_with ss colours g ws.0 us.0 rs.0 of ws.1 us.1 us.2 rs.1 rs.2
+    database_with ss colours g ws.0 us.0 rs.0 of graph ws.1 ws.2 us.1 us.2 us.3 rs.1 rs.2

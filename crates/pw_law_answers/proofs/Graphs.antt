@@ -1,5 +1,5 @@
 -- Modules that make a program have a call graph.
-use Rattle.std.proofs.Common.{◌≡◌, ◌≢◌, ℕ, ◌≤◌, Bool, true, false, List, [], ◌∷◌, length, map, refl, sym, ap, subst, ◌∙◌, arith, inl, inr, All}
+use Rattle.std.proofs.Common.{◌≡◌, ◌≢◌, ℕ, ◌≤◌, Bool, true, false, List, [], ◌∷◌, ◌++◌, length, map, refl, sym, ap, subst, ◌∙◌, arith, inl, inr, All}
 use Rattle.std.specs.Prelude.{Contains, Option, Some, None}
 use Rattle.std.specs.List.{AllByRecursion, AllZip, IsDistinct, flat_map}
 use Rattle.std.specs.Str.{bytes_eq}
@@ -15,7 +15,7 @@ use Rattle.pw_summary.specs.Summary.{IsSummary}
 use Rattle.pw_link_rules.specs.Linking.{library_declarations}
 use Rattle.pw_graph.specs.declared.graph.CallGraph.{CallGraph}
 use Rattle.pw_graph.specs.CallGraph.{IsGraph}
-use Rattle.pw_graph.specs.Program.{AreLinked, IsEligible, IsGraphOf}
+use Rattle.pw_graph.specs.Program.{AreLinked, IsEligible, IsGraphOf, functions_of}
 use Rattle.pw_graph.specs.Making.{all_homes, all_taken, all_escaped, all_eligible, targets_from, callees, IsCallRow, ref_row}
 use Rattle.pw_graph.proofs.Counts.{few_homes, few_scalars}
 use Rattle.pw_graph.proofs.Once.{homes_apart, globals_apart}
@@ -40,13 +40,16 @@ library_named n (inr (inl e)) = subst (λ (m : List ℕ). IsNameLength (length m
 library_named n (inr (inr (inl e))) = subst (λ (m : List ℕ). IsNameLength (length m)) e (omega arith, omega arith)
 library_named n (inr (inr (inr h))) = absurd h
 
-home_named : (ss : List Summary) → HaveNames ss → (e : Entry) → Has e (all_homes ss) → IsNameLength (length e.0)
-home_named ss names e h = elim (has_split (e.0, e.1) library_declarations (flat_map (λ s. s.functions) ss) (functions_forth ss e h)) [
-  | inl k ↦ library_named e.0 (has_map (λ (f : List ℕ × List ℕ). f.0) (e.0, e.1) library_declarations k)
+function_named : (ss : List Summary) → HaveNames ss → (f : List ℕ × List ℕ) → Has f (functions_of ss) → IsNameLength (length f.0)
+function_named ss names f h = elim (has_split f library_declarations (flat_map (λ s. s.functions) ss) h) [
+  | inl k ↦ library_named f.0 (has_map (λ (x : List ℕ × List ℕ). x.0) f library_declarations k)
   | inr k ↦
-      let p = has_flat_back (λ (s : Summary). s.functions) (e.0, e.1) ss k in
-      names.functions p.0 e.0 p.1 (has_map (λ (f : List ℕ × List ℕ). f.0) (e.0, e.1) p.0.functions p.2)
+      let p = has_flat_back (λ (s : Summary). s.functions) f ss k in
+      names.functions p.0 f.0 p.1 (has_map (λ (x : List ℕ × List ℕ). x.0) f p.0.functions p.2)
 ]
+
+home_named : (ss : List Summary) → HaveNames ss → (e : Entry) → Has e (all_homes ss) → IsNameLength (length e.0)
+home_named ss names e h = function_named ss names (e.0, e.1) (functions_forth ss e h)
 
 -- names that are told apart differ
 apart_all : (name : List ℕ) (names : List (List ℕ)) → AllByRecursion (λ other. bytes_eq name other ≡ false) names → AllByRecursion (λ other. other ≢ name) names
@@ -122,3 +125,15 @@ module _ (ss : List Summary) (lawful : All IsSummary ss) (linked : AreLinked ss)
       let globals = globals_exist taken.0 escaped.0 scalars.0 taken.1 escaped.1 scalars.1 in
       let rows = call_rows names.0 (targets_from taken.0 0 homes.0) homes.0 in
       graph_of homes.0 names.0 taken.0 escaped.0 scalars.0 globals.0 rows.0 homes.1 homes.2 names.1 taken.1 escaped.1 scalars.1 scalars.2 globals.1 rows.1
+
+  -- its names are as long as names may be
+  pub graph_named : (g : CallGraph) → IsGraphOf ss g → (n : List ℕ) → Has n (g.functions ++ map (λ v. v.0) g.globals) → IsNameLength (length n)
+  graph_named g of n h = elim (has_split n g.functions (map (λ v. v.0) g.globals) h) [
+    | inl k ↦
+        let all = map (λ (f : List ℕ × List ℕ). f.0) (functions_of ss) in
+        let p = has_map_back (λ (f : List ℕ × List ℕ). f.0) n (functions_of ss) (has_by n all ((of.each_function n).0 (contains_by n g.functions k))) in
+        subst (λ (m : List ℕ). IsNameLength (length m)) p.2 (function_named ss named p.0 p.1)
+    | inr k ↦
+        let p = has_map_back (λ (v : List ℕ × Kind). v.0) n g.globals k in
+        subst (λ (m : List ℕ). IsNameLength (length m)) p.2 (eligible_named p.0.0 p.0.1 ((of.each_global p.0.0 p.0.1).0 (contains_by p.0 g.globals p.1)))
+  ]

@@ -3,6 +3,7 @@ mod Graphs
 mod Names
 mod Ordering
 mod Parts
+mod Payloads
 mod Reaching
 mod Rows
 mod Summaries

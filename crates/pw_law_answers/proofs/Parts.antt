@@ -1,8 +1,9 @@
 -- Lawful flow graphs that make a program and that files can hold have parts: a database, and an object of each module.
-use Rattle.std.proofs.Common.{◌≡◌, ◌⊎◌, ℕ, ◌≤◌, Bool, true, List, [], ◌∷◌, length, map, refl, sym, ap, subst, ◌∙◌, arith, inl, inr, All}
+use Rattle.std.proofs.Common.{◌≡◌, ◌⊎◌, ℕ, ◌+◌, ◌^◌, ◌<◌, ◌≤◌, Bool, true, List, [], ◌∷◌, ◌++◌, length, map, refl, sym, ap, subst, ◌∙◌, arith, inl, inr, All}
 use Rattle.std.specs.Prelude.{Contains, Option, None}
 use Rattle.std.specs.List.{AllByRecursion}
 use Rattle.std.proofs.lemmas.List.Elements.{All-from_recursion}
+use Rattle.pw_value.specs.Names.{IsNameLength}
 use Rattle.pw_files.proofs.Standing.{Has, contains_by, has_by, has_each, each_by, has_map_back, stands_or_not}
 use Rattle.pw_flow.specs.FlowGraph.{function_names, named_in}
 use Rattle.pw_flow.specs.ValidFlow.{IsValid}
@@ -17,6 +18,8 @@ use Rattle.pw_db.specs.Limits.{colour_limit, register_count}
 use Rattle.pw_db.specs.declared.database.Directives.{Directives}
 use Rattle.pw_db.proofs.ChoosingLaws.{has_found, has_none}
 use Rattle.pw_db.proofs.StoringLaws.{module_stored}
+use Rattle.pw_graph.specs.declared.graph.CallGraph.{CallGraph}
+use Rattle.pw_graph.specs.CallGraph.{IsGraph}
 use Rattle.pw_graph.specs.Program.{AreLinked}
 use Rattle.pw_object.specs.Object.{object_version}
 use Rattle.pw_object.specs.declared.object.Object.{Object}
@@ -24,12 +27,13 @@ use Rattle.pw_phase_two.specs.Phases.{AreDirectivesIn, IsObjectOf, IsPayloadOf, 
 use Rattle.pw_phase_two.proofs.Distinct.{functions_differ}
 use Rattle.pw_colour.specs.Colours.{IsDatabaseOf}
 use Rattle.pw_build_objects.specs.Programs.{DirectivesList, AreSummariesOf, HasDatabase, IsModuleFrom, AreObjectsFrom, AreParts, Parts}
-use Rattle.pw_law_answers.specs.Held.{HasFile, HasPayload, FitFiles}
+use Rattle.pw_law_answers.specs.Held.{HasFile}
 use Rattle.pw_law_answers.proofs.Ordering.{ordered, ordered_names}
 use Rattle.pw_law_answers.proofs.Summaries.{summary_exists, one_item}
-use Rattle.pw_law_answers.proofs.Graphs.{graph_exists}
+use Rattle.pw_law_answers.proofs.Graphs.{graph_exists, graph_named}
 use Rattle.pw_law_answers.proofs.Colouring.{database_of_graph}
 use Rattle.pw_law_answers.proofs.Names.{one_of, have_names}
+use Rattle.pw_law_answers.proofs.Payloads.{IsSmall, payload_exists}
 
 -- ---- summaries and the database
 
@@ -43,11 +47,32 @@ summaries_exist (m ∷ flows) valid =
 are_lawful : (flows : List FlowModule) (ss : List Summary) → AllByRecursion IsValid flows → AreSummariesOf flows ss → All IsSummary ss
 are_lawful flows ss valid all = All-from_recursion IsSummary ss (each_by IsSummary ss (λ s h. let o = one_of flows ss all s h in lawful o.flow s (has_each IsValid flows o.flow valid o.there) o.is))
 
-pub database_exists : (flows : List FlowModule) (ss : List Summary) (colours : ℕ) → AllByRecursion IsValid flows → AllByRecursion HasFile flows → AreSummariesOf flows ss → AreLinked ss → (db : DirectivesList) × HasDatabase flows colours db
-database_exists flows ss colours valid files all linked =
-    let g = graph_exists ss (are_lawful flows ss valid all) linked (have_names flows ss files all) in
+-- the database of a program, with its call graph
+record Analysed (flows : List FlowModule) (colours : ℕ) : Type 0 where
+  db : DirectivesList
+  has : HasDatabase flows colours db
+  graph : CallGraph
+  is_graph : IsGraph graph
+  named : (n : List ℕ) → Has n (graph.functions ++ map (λ v. v.0) graph.globals) → IsNameLength (length n)
+  small : (f : List ℕ × Directives) → Has f db → IsSmall graph f
+
+analysed : (flows : List FlowModule) (ss : List Summary) (colours : ℕ) → AllByRecursion IsValid flows → AllByRecursion HasFile flows → AreSummariesOf flows ss → AreLinked ss → Analysed flows colours
+analysed flows ss colours valid files all linked =
+    let laws = are_lawful flows ss valid all in
+    let names = have_names flows ss files all in
+    let g = graph_exists ss laws linked names in
     let d = database_of_graph ss colours g.0 g.1 g.2 in
-    (d.0, record { summaries = ss; of_flows = all; linked = linked; database = d.1 })
+    record {
+      db = d.0;
+      has = record { summaries = ss; of_flows = all; linked = linked; database = d.1 };
+      graph = g.0;
+      is_graph = g.2;
+      named = graph_named ss laws linked names g.0 g.1;
+      small = d.2;
+    }
+
+pub database_exists : (flows : List FlowModule) (ss : List Summary) (colours : ℕ) → AllByRecursion IsValid flows → AllByRecursion HasFile flows → AreSummariesOf flows ss → AreLinked ss → (db : DirectivesList) × HasDatabase flows colours db
+database_exists flows ss colours valid files all linked = let a = analysed flows ss colours valid files all linked in (a.db, a.has)
 
 -- ---- the directives of a module
 
@@ -103,18 +128,21 @@ object_exists flow ds valid file payload =
       functions = refl;
     })
 
-module _ (db : DirectivesList) (is : IsDatabase db) where
-  module_exists : (flow : FlowModule) → IsValid flow → HasFile flow → HasPayload db flow → (o : Object) × IsModuleFrom db flow None o true
-  module_exists flow valid file payload =
-      let d = directives_exist db flow valid is in
-      let o = object_exists flow d.0 valid file (payload d.0 d.1) in
+few_functions : (flow : FlowModule) → HasFile flow → length flow.functions < 2 ^ 32
+few_functions flow file = file.1.1.fits.fits.functions.0
+
+module _ (flows : List FlowModule) (colours : ℕ) (a : Analysed flows colours) (is : IsDatabase a.db) where
+  module_exists : (flow : FlowModule) → IsValid flow → HasFile flow → (o : Object) × IsModuleFrom a.db flow None o true
+  module_exists flow valid file =
+      let d = directives_exist a.db flow valid is in
+      let o = object_exists flow d.0 valid file (payload_exists a.graph a.is_graph a.named a.db a.small flow valid (few_functions flow file) d.0 d.1) in
       (o.0, record { directives = d.0; in_database = d.1; object = (λ stays. stays, o.1) })
 
-  objects_exist : (flows : List FlowModule) → AllByRecursion IsValid flows → AllByRecursion HasFile flows → AllByRecursion (HasPayload db) flows → (os : List Object) × (fresh : List Bool) × AreObjectsFrom db flows [] os fresh
-  objects_exist [] valid files payloads = ([], [], tt)
-  objects_exist (flow ∷ flows) valid files payloads =
-      let o = module_exists flow valid.0 files.0 payloads.0 in
-      let rest = objects_exist flows valid.1 files.1 payloads.1 in
+  objects_exist : (ms : List FlowModule) → AllByRecursion IsValid ms → AllByRecursion HasFile ms → (os : List Object) × (fresh : List Bool) × AreObjectsFrom a.db ms [] os fresh
+  objects_exist [] valid files = ([], [], tt)
+  objects_exist (flow ∷ ms) valid files =
+      let o = module_exists flow valid.0 files.0 in
+      let rest = objects_exist ms valid.1 files.1 in
       (o.0 ∷ rest.0, true ∷ rest.1, (o.1, rest.2))
 
 -- ---- the parts
@@ -123,12 +151,10 @@ few_colours : (colours : ℕ) → colours ≤ colour_limit → colours ≤ regis
 few_colours colours few = omega (arith, few)
 
 module _ (lawful_databases : (ss : List Summary) (colours : ℕ) (db : DirectivesList) → colours ≤ register_count → IsDatabaseOf ss colours db → IsDatabase db) where
-  parts_with : (flows : List FlowModule) (colours : ℕ) (db : DirectivesList) → colours ≤ colour_limit → AllByRecursion IsValid flows → FitFiles flows colours → HasDatabase flows colours db → (parts : Parts) × AreParts flows [] colours parts
-  parts_with flows colours db few valid fit has =
-      let os = objects_exist db (lawful_databases has.summaries colours db (few_colours colours few) has.database) flows valid fit.flow_graphs (fit.directives db has) in
-      (record { database = db; objects = os.0; fresh = os.1 }, record { lawful = valid; database = has; objects = os.2 })
+  parts_with : (flows : List FlowModule) (colours : ℕ) → colours ≤ colour_limit → AllByRecursion IsValid flows → AllByRecursion HasFile flows → Analysed flows colours → (parts : Parts) × AreParts flows [] colours parts
+  parts_with flows colours few valid files a =
+      let os = objects_exist flows colours a (lawful_databases a.has.summaries colours a.db (few_colours colours few) a.has.database) flows valid files in
+      (record { database = a.db; objects = os.0; fresh = os.1 }, record { lawful = valid; database = a.has; objects = os.2 })
 
-  pub parts_exist : (flows : List FlowModule) (ss : List Summary) (colours : ℕ) → colours ≤ colour_limit → AllByRecursion IsValid flows → FitFiles flows colours → AreSummariesOf flows ss → AreLinked ss → (parts : Parts) × AreParts flows [] colours parts
-  parts_exist flows ss colours few valid fit all linked =
-      let d = database_exists flows ss colours valid fit.flow_graphs all linked in
-      parts_with flows colours d.0 few valid fit d.1
+  pub parts_exist : (flows : List FlowModule) (ss : List Summary) (colours : ℕ) → colours ≤ colour_limit → AllByRecursion IsValid flows → AllByRecursion HasFile flows → AreSummariesOf flows ss → AreLinked ss → (parts : Parts) × AreParts flows [] colours parts
+  parts_exist flows ss colours few valid files all linked = parts_with flows colours few valid files (analysed flows ss colours valid files all linked)

@@ -14,7 +14,7 @@ use Rattle.pw_graph.proofs.Members.{in_members, held_within}
 use Rattle.pw_webs.specs.declared.web.RawWeb.{RawWeb}
 use Rattle.pw_webs.specs.Webs.{Region, Joined, self, HasCaller, IsWeb, IsRawWeb, IsWebAt, IsNextWeb, AreWebsAt, AreWebs, weight, entry_cost}
 use Rattle.pw_webs.proofs.Closed.{in_region}
-use Rattle.pw_webs.proofs.Gather.{IsGathered, none_gathered, gather_skip, gather_put, gather_end, AreFound, none_found, found_more, found_all}
+use Rattle.pw_webs.proofs.Gather.{IsGathered, none_gathered, gather_skip, gather_put, gather_end, AreFound, none_found, found_more, found_all, found_few}
 use Rattle.pw_law_answers.proofs.Telling.{Told, told_both, told_either, told_same, told_below, told_not}
 use Rattle.pw_law_answers.proofs.Rows.{RowOf, row_of}
 use Rattle.pw_law_answers.proofs.Reaching.{told_write, told_region, told_joined, told_caller, region_within}
@@ -73,7 +73,7 @@ module _ (g : CallGraph) (graph : IsGraph g) where
     of : (f : ℕ) → Holds web.members f ↔ Joined g v root f
 
   web_with : (v root : ℕ) (m : RowOf (length g.functions) (Joined g v root)) (e : RowOf (length g.functions) (IsEntry v root)) (writes : Bool) (saved : ℤ) → v < length g.globals → Region g v root
-      → IsTrue writes ↔ ((f : ℕ) × Holds m.row f × Writes g f v) → saved +ℤ pos (entry_cost writes * length (numbers e.row)) ≡ pos (sum_by (weight g v) (numbers m.row)) → WebOf v root
+      → (IsTrue writes ↔ ((f : ℕ) × Holds m.row f × Writes g f v)) → saved +ℤ pos (entry_cost writes * length (numbers e.row)) ≡ pos (sum_by (weight g v) (numbers m.row)) → WebOf v root
   web_with v root m e writes saved lt within written balance = record {
     web = record { global = v; members = m.row; entries = e.row; writes = writes; priority = saved };
     is = record {
@@ -106,7 +106,7 @@ module _ (g : CallGraph) (graph : IsGraph g) where
 
   none_done : (v : ℕ) → Done v 0
   none_done v =
-      let r = row_in (λ k. ⊥) (λ k. inr (λ h. h)) (λ k h. absurd h) in
+      let r = row_in (λ (k : ℕ). ⊥) (λ k. inr (λ h. h)) (λ k h. absurd h) in
       record { webs = []; done = r.row; long = r.long; gathered = none_gathered g v r.row (λ f h. (r.holds f).0 h) }
 
   skip : (v root : ℕ) (d : Done v root) → (Region g v root → Holds d.done root) → Done v (root + 1)
@@ -142,7 +142,7 @@ module _ (g : CallGraph) (graph : IsGraph g) where
   webs_at_exist : (v : ℕ) → v < length g.globals → (ws : List RawWeb) × AreWebsAt g v ws × (length ws ≤ length g.functions)
   webs_at_exist v lt =
       let d = done_to v lt (length g.functions) in
-      let r = row_in (Region g v) (told_region g graph v) (λ k. region_within g graph) in
+      let r = row_in (Region g v) (told_region g graph v) (λ k r. region_within g graph r) in
       let long = r.long in
       (d.webs, gather_end g v (length g.functions) d.webs d.done r.row r.holds (omega (arith, long)) d.gathered, d.gathered.count)
 
@@ -155,5 +155,7 @@ module _ (g : CallGraph) (graph : IsGraph g) where
       let ws = webs_at_exist v (omega (arith, le)) in
       (old.0 ++ ws.0, subst (λ n. AreFound g n (old.0 ++ ws.0)) add-one (found_more g v old.0 ws.0 old.1 ws.1 ws.2))
 
-  pub webs_exist : (ws : List RawWeb) × AreWebs g ws
-  webs_exist = let f = found_to (length g.globals) (omega arith) in (f.0, found_all g (length g.globals) f.0 (omega arith) (omega arith) f.1)
+  pub webs_exist : (ws : List RawWeb) × AreWebs g ws × (length ws ≤ length g.globals * length g.functions)
+  webs_exist =
+      let f = found_to (length g.globals) (omega arith) in
+      (f.0, found_all g (length g.globals) f.0 (omega arith) (omega arith) f.1, found_few g (length g.globals) f.0 (omega arith) (omega arith) f.1)

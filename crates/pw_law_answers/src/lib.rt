@@ -14,7 +14,7 @@ ghost use Rattle.pw_webs.specs.declared.web.RawWeb.{RawWeb};
 ghost use Rattle.pw_webs.specs.Webs.{AreWebs};
 ghost use Rattle.pw_db.specs.Limits.{colour_limit};
 ghost use Rattle.pw_build_objects.specs.Programs.{AreParts, AreSummariesOf, DirectivesList, HasDatabase, Parts};
-ghost use Rattle.pw_law_answers.specs.Held.{FitFiles, HasFile};
+ghost use Rattle.pw_law_answers.specs.Held.{HasFile};
 
 use pw_colour::laws::databases_are_lawful;
 
@@ -35,9 +35,9 @@ pub fn programs_have_databases()
         AreSummariesOf flows ss → AreLinked ss → (db : DirectivesList) × HasDatabase flows colours db }
 {}
 
-/// Modules that make a program and that files can hold have parts: a database, and an object of each.
+/// Modules that make a program, and whose flow graphs have files, have parts where nothing is kept: a database, and an object of each.
 pub fn programs_have_parts()
-    ensures { (flows : List FlowModule) (ss : List Summary) (colours : ℕ) → colours ≤ colour_limit → AllByRecursion IsValid flows → FitFiles flows colours →
+    ensures { (flows : List FlowModule) (ss : List Summary) (colours : ℕ) → colours ≤ colour_limit → AllByRecursion IsValid flows → AllByRecursion HasFile flows →
         AreSummariesOf flows ss → AreLinked ss → (parts : Parts) × AreParts flows [] colours parts }
 {
     databases_are_lawful();
