@@ -25,7 +25,7 @@ ghost use Rattle.pw_build_opts.specs.declared.opts.Opts.{Opts};
 ghost use Rattle.pw_build_files.specs.declared.report.Report.{Report};
 ghost use Rattle.pw_commands.specs.Outcome.{IsFound};
 ghost use Rattle.pw_build_files.specs.Driving.{BuildEffect};
-ghost use Rattle.pw_law_answers.specs.Held.{FitFiles};
+ghost use Rattle.pw_law_answers.specs.Held.{HasFile};
 ghost use Rattle.pw_law_build.specs.Alike.{DeclaresMain};
 ghost use Rattle.pw_law_build.specs.Complete.{CanBeBuilt};
 
@@ -79,10 +79,10 @@ pub fn parts_of_accepted_modules_are_their_build()
     objects_are_refused_for_room_alone();
 }
 
-/// Modules that can be built, and whose flow graphs and directives files can hold, have a build where nothing is kept.
+/// Modules that can be built, and whose flow graphs files can hold, have a build where nothing is kept.
 pub fn accepted_modules_have_a_build()
     ensures { (sources : List Source) (opts : Opts) → opts.colours ≤ colour_limit → (can : CanBeBuilt sources opts) →
-        FitFiles can.accepted.flows opts.colours → (parts : Parts) × Builds sources [] opts (Ok parts) }
+        AllByRecursion HasFile can.accepted.flows → (parts : Parts) × Builds sources [] opts (Ok parts) }
 {
     first_phases_are_lawful();
     flow_graphs_and_summaries_are_refused_alike();
