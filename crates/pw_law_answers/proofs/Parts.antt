@@ -104,7 +104,7 @@ module _ (db : DirectivesList) where
 
 -- ---- the object of a module
 
-object_exists : (flow : FlowModule) (ds : DirectivesList) → IsValid flow → HasFile flow → (bytes : List ℕ) × IsPayloadOf bytes ds → (o : Object) × IsObjectOf flow ds o
+object_exists : (flow : FlowModule) (ds : DirectivesList) → IsValid flow → HasFile flow → ((bytes : List ℕ) × IsPayloadOf bytes ds) → (o : Object) × IsObjectOf flow ds o
 object_exists flow ds valid file payload =
     let declared = ordered (λ (d : List ℕ × List ℕ). d.0) flow.declared (one_item (λ (d : List ℕ × List ℕ). d.0) flow.declared valid.names.distinct.declared) in
     let used = ordered_names (named_in flow) in

@@ -16,7 +16,7 @@ use Rattle.pw_flow.specs.FlowGraph.{global_names, function_names}
 use Rattle.pw_flow.specs.ValidFlow.{AreDistinct, IsValid}
 use Rattle.pw_flow.specs.declared.flow.FlowModule.{FlowModule}
 use Rattle.pw_flow.proofs.Once.{distinct_right}
-use Rattle.pw_db.specs.Database.{EachTwo, IsDirectives, Agree, IsDatabase, HasDirectives, IsStored, IsPayload, FitsFunction, FitsDatabase, all_webs, webs_of as webs_in, has_web, names_of, names_of_function, empty, spelling}
+use Rattle.pw_db.specs.Database.{EachTwo, IsDirectives, Agree, IsDatabase, HasDirectives, IsStored, IsPayload, FitsFunction, FitsDatabase, IsDatabaseContents, all_webs, webs_of as webs_in, has_web, names_of, names_of_function, empty, spelling}
 use Rattle.pw_db.specs.declared.database.Directives.{Directives}
 use Rattle.pw_db.specs.declared.database.Role.{Role}
 use Rattle.pw_db.specs.declared.database.Role.TheVariants.{Entry, Member}
@@ -283,12 +283,13 @@ module _ (g : CallGraph) (graph : IsGraph g) (named : (n : List ℕ) → Has n (
 
   payload_with : (stored : List (List ℕ × Directives)) (names : List (List ℕ)) → IsStored ds stored → Stored stored → length stored ≤ length ds → IsTableOf names (names_of stored) → (bytes : List ℕ) × IsPayloadOf bytes ds
   payload_with stored names is from le table =
-      (spelling (record { names = names; value = stored }), (stored, (is, (names, (record {
+      let contents : IsDatabaseContents (record { names = names; value = stored }) = record {
         lawful = database_of stored is from;
         fits = fits_of stored le from;
         name_count = few_names names (rising_apart names (table_rises names table.rising)) (λ n h. used_there stored from n (has_by n (names_of stored) ((table.of n).0 (contains_by n names h))));
         names = table;
-      }, refl)))))
+      } in
+      (spelling (record { names = names; value = stored }), (stored, is, (names, contents, refl)))
 
   stored_is : (stored : List (List ℕ × Directives)) → ((x : List ℕ × Directives) → Contains stored x → Contains (filter has_web ds) x) → Stored stored
   stored_is stored of f h = kept_back has_web ds f (has_by f (filter has_web ds) (of f (contains_by f stored h)))

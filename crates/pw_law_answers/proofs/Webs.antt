@@ -85,7 +85,7 @@ module _ (g : CallGraph) (graph : IsGraph g) where
 
   told_written : (v : ℕ) (row : BitRow) → Told ((f : ℕ) × Holds row f × Writes g f v)
   told_written v row =
-      told_same (λ h. (h.0, h.2)) (λ h. (h.0, held_within row h.0 h.1, (h.1, h.2)))
+      told_same (λ h. (h.0, h.2.0, h.2.1)) (λ h. (h.0, held_within row h.0 h.1, (h.1, h.2)))
       (told_below row.len (λ f. Holds row f × Writes g f v) (λ f. told_both (held_cases row.words.items f) (told_write g f v)))
 
   web_exists : (v root : ℕ) → v < length g.globals → Region g v root → WebOf v root
@@ -137,7 +137,7 @@ module _ (g : CallGraph) (graph : IsGraph g) where
   done_to v lt zero = none_done v
   done_to v lt (suc root) =
       let d = done_to v lt root in
-      subst (Done v) add-one (next_done v root d lt (told_region g graph v root) (held_cases d.done.words.items root))
+      subst (Done v) (add-one root) (next_done v root d lt (told_region g graph v root) (held_cases d.done.words.items root))
 
   webs_at_exist : (v : ℕ) → v < length g.globals → (ws : List RawWeb) × AreWebsAt g v ws × (length ws ≤ length g.functions)
   webs_at_exist v lt =
@@ -153,7 +153,7 @@ module _ (g : CallGraph) (graph : IsGraph g) where
   found_to (suc v) le =
       let old = found_to v (omega (arith, le)) in
       let ws = webs_at_exist v (omega (arith, le)) in
-      (old.0 ++ ws.0, subst (λ n. AreFound g n (old.0 ++ ws.0)) add-one (found_more g v old.0 ws.0 old.1 ws.1 ws.2))
+      (old.0 ++ ws.0, subst (λ n. AreFound g n (old.0 ++ ws.0)) (add-one v) (found_more g v old.0 ws.0 old.1 ws.1 ws.2))
 
   pub webs_exist : (ws : List RawWeb) × AreWebs g ws × (length ws ≤ length g.globals * length g.functions)
   webs_exist =

@@ -1,7 +1,7 @@
 //! Laws of full builds, without code: what a build makes of texts is what the layers between C and words speak of.
 #![tactic(auto)]
 
-ghost use Rattle.std.specs.Prelude.{◌≡◌, ℕ, ◌≤◌, List, Ok};
+ghost use Rattle.std.specs.Prelude.{◌≡◌, ◌≤◌, Ok};
 ghost use Rattle.pw_value.specs.Limits.{stack_least, stack_limit};
 ghost use Rattle.pw_db.specs.Limits.{colour_limit};
 ghost use Rattle.pw_io.specs.Files.{Files};
@@ -10,7 +10,6 @@ ghost use Rattle.pw_build_opts.specs.declared.opts.Opts.{Opts};
 ghost use Rattle.pw_build_objects.specs.Programs.{Parts};
 ghost use Rattle.pw_build.specs.Builds.{FullBuild};
 ghost use Rattle.pw_cmean.specs.Worlds.{Program};
-ghost use Rattle.pw_run_languages.specs.Programs.{AreBytes};
 ghost use Rattle.pw_run_languages.specs.SelectionLaws.{SelectionKeepsRuns};
 ghost use Rattle.pw_law_layers.specs.Whole.{FramesFit, image_of};
 ghost use Rattle.pw_law_whole.specs.Programs.{HavePlainNames, HoldsWith, IsProgramOf, IsWholeWith};
@@ -73,8 +72,8 @@ pub fn frames_of_full_builds_fit()
 /// its texts agrees with the machine that runs its image; each global has its value in its place at each call and return; and where
 /// the program is defined, each return keeps the registers, and the law of traffic holds.
 pub fn full_builds_hold()
-    ensures { SelectionKeepsRuns → (texts : Texts) (opts : Opts) (parts : Parts) (p : Program) (input : List ℕ) → FullBuild texts opts (Ok parts) → IsProgramOf texts p →
-        HavePlainNames texts → opts.colours ≤ colour_limit → stack_least ≤ opts.stack → opts.stack ≤ stack_limit → AreBytes input → HoldsWith p parts opts.colours opts.stack input }
+    ensures { SelectionKeepsRuns → (texts : Texts) (opts : Opts) (parts : Parts) (p : Program) → FullBuild texts opts (Ok parts) → IsProgramOf texts p →
+        HavePlainNames texts → opts.colours ≤ colour_limit → stack_least ≤ opts.stack → opts.stack ≤ stack_limit → HoldsWith p parts opts.colours opts.stack }
 {
     full_builds_are_whole();
     lowering_keeps_runs();
