@@ -78,8 +78,8 @@ module _ (ss : List Summary) (lawful : All IsSummary ss) (linked : AreLinked ss)
 
   names_exist : (H : List Entry) → IsOrdered (λ (h : Entry). h.0) (all_homes ss) H → (names : List (List ℕ)) × IsTableOf names (map (λ (h : Entry). h.0) H)
   names_exist H order = table_exists (map (λ (h : Entry). h.0) H) (λ n h.
-  let p = has_map_back (λ (e : Entry). e.0) n H h in
-  subst (λ (m : List ℕ). IsNameLength (length m)) p.2 (home_named ss named p.0 (has_by p.0 (all_homes ss) ((order.of p.0).0 (contains_by p.0 H p.1)))))
+      let p = has_map_back (λ (e : Entry). e.0) n H h in
+      subst (λ (m : List ℕ). IsNameLength (length m)) p.2 (home_named ss named p.0 (has_by p.0 (all_homes ss) ((order.of p.0).0 (contains_by p.0 H p.1)))))
 
   taken_exist : (names : List (List ℕ)) × IsTableOf names (all_taken ss)
   taken_exist = table_exists (all_taken ss) (λ n h. let p = has_flat_back (λ (s : Summary). map (λ f. f.0) s.taken) n ss h in named.taken p.0 n p.1 p.2)
@@ -100,9 +100,9 @@ module _ (ss : List Summary) (lawful : All IsSummary ss) (linked : AreLinked ss)
   globals_exist : (taken escaped : List (List ℕ)) (G : List (List ℕ × Kind)) → IsTableOf taken (all_taken ss) → IsTableOf escaped (all_escaped ss) → IsOrdered (λ (v : List ℕ × Kind). v.0) (all_eligible taken escaped ss) G
       → (globals : List (List ℕ)) × IsTableOf globals (map (λ (v : List ℕ × Kind). v.0) G)
   globals_exist taken escaped G of_taken of_escaped order = table_exists (map (λ (v : List ℕ × Kind). v.0) G) (λ n h.
-  let p = has_map_back (λ (v : List ℕ × Kind). v.0) n G h in
-  subst (λ (m : List ℕ). IsNameLength (length m)) p.2
-  (eligible_named p.0.0 p.0.1 (eligible_forth ss taken escaped of_taken of_escaped p.0.0 p.0.1 (has_by p.0 (all_eligible taken escaped ss) ((order.of p.0).0 (contains_by p.0 G p.1))))))
+      let p = has_map_back (λ (v : List ℕ × Kind). v.0) n G h in
+      subst (λ (m : List ℕ). IsNameLength (length m)) p.2
+      (eligible_named p.0.0 p.0.1 (eligible_forth ss taken escaped of_taken of_escaped p.0.0 p.0.1 (has_by p.0 (all_eligible taken escaped ss) ((order.of p.0).0 (contains_by p.0 G p.1))))))
 
   graph_of : (H : List Entry) (names taken escaped : List (List ℕ)) (G : List (List ℕ × Kind)) (globals : List (List ℕ)) (rows : List (List ℕ))
       → IsOrdered (λ (h : Entry). h.0) (all_homes ss) H → length H ≤ length (all_homes ss) → IsTableOf names (map (λ (h : Entry). h.0) H) → IsTableOf taken (all_taken ss) → IsTableOf escaped (all_escaped ss)

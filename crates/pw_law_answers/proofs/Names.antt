@@ -116,10 +116,10 @@ module _ (m : FlowModule) (s : Summary) (is : Summarises m s) where
 
 -- ---- of all modules
 
-record Of (flows : List FlowModule) (s : Summary) : Type 0 where
-  flow : FlowModule
-  there : Has flow flows
-  is : Summarises flow s
+pub record Of (flows : List FlowModule) (s : Summary) : Type 0 where
+  pub flow : FlowModule
+  pub there : Has flow flows
+  pub is : Summarises flow s
 
 pub one_of : (flows : List FlowModule) (ss : List Summary) → AreSummariesOf flows ss → (s : Summary) → Has s ss → Of flows s
 one_of [] [] all s h = absurd h

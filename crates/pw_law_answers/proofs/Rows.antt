@@ -31,11 +31,14 @@ pub record RowOf (n : ℕ) (P : ℕ → Type 0) : Type 0 where
   pub long : row.len ≡ n
   pub holds : (k : ℕ) → Holds row k ↔ P k
 
-no_bit : (m k : ℕ) → HasBit (replicate m 0) k → ⊥
+abbrev zeros : ℕ → List ℕ
+zeros m = replicate m 0
+
+no_bit : (m k : ℕ) → HasBit (zeros m) k → ⊥
 no_bit m k h =
-    let off : get_or (replicate m 0) (k / 64) 0 ≡ 0 = elim (cases_lt (k / 64) m) [
+    let off : get_or (zeros m) (k / 64) 0 ≡ 0 = elim (cases_lt (k / 64) m) [
       | inl lt ↦ get_or-replicate m (k / 64) 0 0 lt
-      | inr le ↦ get_or_past (replicate m 0) (k / 64) 0 (let long : length (replicate m 0) ≡ m = length-replicate m 0 in omega (arith, le, long))
+      | inr le ↦ get_or_past (zeros m) (k / 64) 0 (let long : length (zeros m) ≡ m = length-replicate m 0 in omega (arith, le, long))
     ] in
     let on : bit_at 0 (k % 64) ≡ 1 = subst (λ w. bit_at w (k % 64) ≡ 1) off h in
     let none : bit_at 0 (k % 64) ≡ 0 = bit_at-zero (k % 64) in
@@ -46,7 +49,7 @@ few_words n small = omega arith
 
 none_in_row : (n : ℕ) (P : ℕ → Type 0) → n < 2 ^ 63 → ((k : ℕ) → P k → ⊥) → RowOf n P
 none_in_row n P small none =
-    let items = replicate (div_ceil n 64) 0 in
+    let items = zeros (div_ceil n 64) in
     let long : length items ≡ div_ceil n 64 = length-replicate (div_ceil n 64) 0 in
     let fits : length items < 2 ^ 63 = let few = few_words n small in omega (arith, long, few) in
     let words = words_of items fits in

@@ -51,7 +51,7 @@ each_uses fs (e ∷ entries) there =
 
 -- ---- names whose address is taken
 
-taken_is : (name : List ℕ) (o : Option (List ℕ)) (x : List ℕ × List ℕ) → Has x (as_taken name o) → (name ≡ x.0) × (o ≡ Some x.1)
+pub taken_is : (name : List ℕ) (o : Option (List ℕ)) (x : List ℕ × List ℕ) → Has x (as_taken name o) → (name ≡ x.0) × (o ≡ Some x.1)
 taken_is name None x h = absurd h
 taken_is name (Some shape) x (inl e) = (ap (λ (f : List ℕ × List ℕ). f.0) e, ap (λ (f : List ℕ × List ℕ). Some f.1) e)
 taken_is name (Some shape) x (inr h) = absurd h

@@ -8,7 +8,6 @@ ghost use Rattle.pw_build_opts.specs.declared.opts.Opts.{Opts};
 ghost use Rattle.pw_build.specs.declared.fault.BuildFault.{BuildFault};
 ghost use Rattle.pw_build_files.specs.Full.{BuildsImage};
 ghost use Rattle.pw_build_files.specs.Outcomes.{AreOpts};
-ghost use Rattle.pw_run_languages.specs.SelectionLaws.{SelectionKeepsRuns};
 ghost use Rattle.pw_law_meaning.specs.Meaning.{MeansSo};
 
 use pw_law_stops::stops_are_those_of_the_source;
@@ -19,7 +18,7 @@ use pw_law_whole::{
 
 /// The image of the full build of a store's modules means what the modules mean in C.
 pub fn images_mean_their_texts()
-    ensures { SelectionKeepsRuns → (files : Files) (opts : Opts) (full : Result (List ℕ) BuildFault) → AreOpts opts → BuildsImage (module_map files) opts full → MeansSo (module_map files) opts full }
+    ensures { (files : Files) (opts : Opts) (full : Result (List ℕ) BuildFault) → AreOpts opts → BuildsImage (module_map files) opts full → MeansSo (module_map files) opts full }
 {
     full_builds_have_a_program();
     full_builds_hold();
