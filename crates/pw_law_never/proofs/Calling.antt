@@ -1,5 +1,5 @@
 -- Functions of a program, the arguments that fit them, and calls at each bound.
-use Rattle.std.proofs.Common.{ℕ, zero, suc, ◌≡◌, ◌%◌, ◌<◌, ◌⊎◌, inl, inr, refl, sym, ap, subst, ◌∙◌, arith, Decides, Bool, true, false, not, List, [], ◌∷◌, length, get_or, Option, Some, None, map}
+use Rattle.std.proofs.Common.{ℕ, zero, suc, ◌≡◌, ◌%◌, ◌<◌, inl, inr, refl, sym, ap, subst, ◌∙◌, arith, Decides, Bool, true, false, not, List, [], ◌∷◌, length, get_or, Option, Some, map}
 use Rattle.std.specs.Prelude.{All, Contains, find, ◌==◌, if◌then◌else◌}
 use Rattle.std.specs.List.{flat_map}
 use Rattle.std.specs.Option.{option_map_or}
@@ -12,19 +12,19 @@ use Rattle.pw_value.specs.declared.value.Value.{Value}
 use Rattle.pw_value.specs.declared.value.Value.TheVariants as V
 use Rattle.pw_value.specs.declared.value.Pointer.TheVariants as Ptr
 use Rattle.pw_value.specs.Shapes.{Agree}
-use Rattle.pw_types.specs.TypeTrees.{CType, Int, Function as FunctionType, QType, QTypes, NoType, OneType, Qualified, type_of, RecordValue}
+use Rattle.pw_types.specs.TypeTrees.{Int, Function as FunctionType, QType, QTypes, NoType, OneType, type_of, RecordValue}
 use Rattle.pw_types.specs.Shapes.{letter_of, letters_of, shape_of}
 use Rattle.pw_types.specs.declared.kind.IntKind.TheVariants as K
 use Rattle.pw_types.specs.TypedTrees.{FunctionValue}
 use Rattle.pw_cmean.specs.Worlds.{Program, ProgramModule, World, Callable, Body, Defined, Library, LibraryFunction, GetChar, PutChar, ExitRun, library_callable, library, callable, functions_of, function_named, function_number}
-use Rattle.pw_cmean.specs.Acts.{Act, StackFull, Bound, give, ◌>>=◌}
+use Rattle.pw_cmean.specs.Acts.{StackFull, Bound}
 use Rattle.pw_cmean.specs.Evaluation.{Calls as CallList, bounded_call, take_room, library_call, call_body, call, callee_of}
 use Rattle.pw_cmean.specs.SourceRun.{calls}
-use Rattle.pw_cmean.specs.Typed.{IsNumberOf, IsValueOf, IsResultOf}
-use Rattle.pw_cmean.proofs.SoundActs.{Sound, Any, look-s, put_char-s, get_char-s}
+use Rattle.pw_cmean.specs.Typed.{IsValueOf}
+use Rattle.pw_cmean.proofs.SoundActs.{Any, look-s}
 use Rattle.pw_cmean.proofs.SoundTrees.{take_room-s, letter-result}
 use Rattle.pw_law_never.proofs.NotWrong.{Right, Good, bind-r, give-r, map-r, stop-r, branch-r, look-r, get_char-r, put_char-r}
-use Rattle.pw_law_never.proofs.Operators.{IsNum, num-of}
+use Rattle.pw_law_never.proofs.Operators.{num-of}
 
 -- ---- functions of a program
 

@@ -1,14 +1,14 @@
 -- A constant expression gives its value, and does nothing else (ISO C90 6.4).
-use Rattle.std.proofs.Common.{ℕ, zero, suc, ◌%◌, ◌^◌, ◌≡◌, ◌≢◌, refl, sym, ap, subst, ◌∙◌, arith, Bool, true, false, not, List, [], ◌∷◌, Option, Some, None, Result, Ok, Err}
+use Rattle.std.proofs.Common.{ℕ, ◌≡◌, refl, sym, ap, subst, ◌∙◌, arith, Bool, true, false, not, Option, Some, Result, Ok, Err}
 use Rattle.std.specs.Prelude.{◌==◌, if◌then◌else◌}
 use Rattle.std.proofs.lemmas.Bool.{true≢false}
 use Rattle.std.proofs.lemmas.Bool.Decides.{nat_tests}
 use Rattle.pw_value.specs.declared.value.Value.{Value}
 use Rattle.pw_value.specs.declared.value.Value.TheVariants as V
 use Rattle.pw_value.specs.declared.words.WordFault.{WordFault}
-use Rattle.pw_types.specs.TypeTrees.{CType, Void, Int, Pointer, Array, Function as FunctionType, Record, QType, Qualified, type_of}
+use Rattle.pw_types.specs.TypeTrees.{CType, Void, Int, Pointer, Array, Function as FunctionType, Record, Qualified}
 use Rattle.pw_check_rules.specs.Kinds.{kind_in}
-use Rattle.pw_types.specs.Conversions.{is_signed_kind, size_of_kind, converted}
+use Rattle.pw_types.specs.Conversions.{is_signed_kind}
 use Rattle.pw_types.specs.declared.kind.IntKind.{IntKind}
 use Rattle.pw_types.specs.declared.tree.UnaryOperator.{UnaryOperator}
 use Rattle.pw_types.specs.declared.tree.UnaryOperator.TheVariants.{Plus, Minus, Complement, Not}
@@ -16,12 +16,12 @@ use Rattle.pw_types.specs.declared.tree.BinaryOperator.{BinaryOperator}
 use Rattle.pw_types.specs.declared.tree.BinaryOperator.TheVariants as O
 use Rattle.pw_types.specs.declared.tree.LogicOperator.{LogicOperator}
 use Rattle.pw_types.specs.declared.tree.LogicOperator.TheVariants as L
-use Rattle.pw_types.specs.TypedTrees.{Expression, Node, Number, Str, Local, Global, Function, Unary, Binary, Logic, Cond, Comma, Assign, Compound, Step, Cast, Decay, Member, Deref, Address, Call, CallValue, LocalValue, ModuleValue}
+use Rattle.pw_types.specs.TypedTrees.{Expression, Node, Number, Str, Local, Global, Function, Unary, Binary, Logic, Cond, Comma, Assign, Compound, Step, Cast, Decay, Member, Deref, Address, Call, CallValue}
 use Rattle.pw_types.specs.WellTyped as W
 use Rattle.pw_types.specs.WellTyped.{type_in, IsTyped, HasForm}
-use Rattle.pw_check_rules.specs.Constants.{Constancy, Known, NoConstant, NoValue, then_known, unevaluated, by_result, truth as word_of, convert_word, unary_word, either, decided, binary_word, logic_word, choice_word, then_formed, if_integral, both_known, constant_of, is_zero, value_known, is_zero_constant}
+use Rattle.pw_check_rules.specs.Constants.{Constancy, Known, NoConstant, NoValue, then_known, unevaluated, by_result, truth as word_of, convert_word, unary_word, either, binary_word, logic_word, choice_word, then_formed, if_integral, both_known, constant_of, is_zero, value_known, is_zero_constant}
 use Rattle.pw_value.specs.Words.{complement, unsigned_negation}
-use Rattle.pw_cmean.specs.Acts.{Act, State, Site, Outcome, Gives, give, go_on, ◌>>=◌, branch, look, need, told, judge}
+use Rattle.pw_cmean.specs.Acts.{Act, State, Site, Gives, give, go_on, ◌>>=◌, branch, look, need, told, judge}
 use Rattle.pw_cmean.specs.Access.{objects_now}
 use Rattle.pw_cmean.specs.Operators.{number_for, truth, outcome_of, arithmetic, on_numbers, negation, unary_number, unary, binary, convert}
 use Rattle.pw_cmean.specs.Evaluation.{Env, Calls as CallList, site, records_of, used, cast, decides, answer_of}

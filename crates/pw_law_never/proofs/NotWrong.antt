@@ -1,17 +1,16 @@
 -- Acts that end the run nowhere but where the meaning has an end, from states whose objects hold bytes.
-use Rattle.std.proofs.Common.{ℕ, ◌≡◌, ◌≢◌, refl, sym, subst, Bool, true, false, not, List, [], ◌∷◌, length, Option, Some, None}
+use Rattle.std.proofs.Common.{ℕ, ◌≡◌, ◌≢◌, refl, Bool, true, false, List, [], ◌∷◌, length, Option, Some, None}
 use Rattle.std.specs.Prelude.{All, is_none}
 use Rattle.std.proofs.lemmas.Bool.{true≢false}
 use Rattle.std.proofs.lemmas.List.Elements.{All-nil, All-cons, All-append, All-replicate}
 use Rattle.pw_value.specs.declared.value.Byte.{Byte}
 use Rattle.pw_value.specs.declared.value.Byte.TheVariants as B
-use Rattle.pw_value.specs.Objects.{Object}
 use Rattle.pw_cmean.specs.declared.undefined.Undef.{Undef}
 use Rattle.pw_cmean.specs.Undefined.{Finding, least}
 use Rattle.pw_cmean.specs.Acts.{Act, State, Outcome, Gives, Ends, Ending, Wrong, Site, give, stop, go_on, ◌>>=◌, branch, look, make, end_object, write, get_char, next_byte, put_char, called, returned, during, with_object, need, undefined, told, judge}
 use Rattle.pw_cmean.specs.Access.{objects_now}
 use Rattle.pw_cmean.specs.Typed.{IsByte, HoldsBytes, IfGives}
-use Rattle.pw_cmean.proofs.SoundActs.{Sound, Any, bind-s, give-s, NoneHold, judge-s, HoldBytes, objects_now-s, need-s}
+use Rattle.pw_cmean.proofs.SoundActs.{Sound, bind-s, give-s, NoneHold, judge-s, HoldBytes, objects_now-s, need-s}
 
 -- not Wrong, where the run ends
 abbrev pub IsRight : {A : Type 0} → Outcome A → Type 0

@@ -1,15 +1,13 @@
 -- Accesses, operators and conversions of values of their types come to no end that the meaning does not have.
-use Rattle.std.proofs.Common.{ℕ, zero, suc, ◌≡◌, ◌⊎◌, inl, inr, refl, sym, ap, subst, ◌∙◌, Bool, true, false, not, List, [], ◌∷◌, Option, Some, None, Result, Ok, Err}
-use Rattle.std.specs.Prelude.{ℤ, pos, neg_ℤ, int_div, is_none, IsSome}
+use Rattle.std.proofs.Common.{ℕ, zero, suc, ◌≡◌, ◌⊎◌, inl, inr, refl, sym, subst, Bool, true, false, List, Option, Some, None, Result, Ok, Err}
+use Rattle.std.specs.Prelude.{ℤ, IsSome}
 use Rattle.std.proofs.lemmas.Bool.{true≢false}
 use Rattle.pw_value.specs.declared.value.Value.{Value}
 use Rattle.pw_value.specs.declared.value.Value.TheVariants as V
-use Rattle.pw_value.specs.declared.value.Pointer.{Pointer as AnyPointer}
 use Rattle.pw_value.specs.declared.value.Pointer.TheVariants as Ptr
 use Rattle.pw_value.specs.declared.words.WordFault.{WordFault}
 use Rattle.pw_value.specs.declared.words.WordFault.TheVariants.{Overflow, ZeroDivisor, ShiftCount}
-use Rattle.pw_value.specs.Values.{encoding, same_pointer}
-use Rattle.pw_value.specs.Objects.{object_at, bytes_from}
+use Rattle.pw_value.specs.Values.{same_pointer}
 use Rattle.pw_types.specs.TypeTrees.{CType, Void, Int, Pointer, Array, Function as FunctionType, Record, QType, type_of, RecordValue}
 use Rattle.pw_types.specs.Conversions.{size_of_kind, promoted}
 use Rattle.pw_types.specs.Layouts.{layout_of}
@@ -21,13 +19,13 @@ use Rattle.pw_types.specs.declared.tree.UnaryOperator.TheVariants.{Plus, Minus, 
 use Rattle.pw_types.specs.declared.tree.BinaryOperator.{BinaryOperator}
 use Rattle.pw_types.specs.declared.tree.BinaryOperator.TheVariants as O
 use Rattle.pw_types.specs.WellTyped as W
-use Rattle.pw_cmean.specs.Acts.{Act, Site}
+use Rattle.pw_cmean.specs.Acts.{Site}
 use Rattle.pw_cmean.specs.Access.{Purpose, Assigning, Initialising, within, load, store, copy, fetch, put}
-use Rattle.pw_cmean.specs.Operators.{truth, number_for, unlike_zero, outcome_of, on_numbers, unary_number, unary, moved, advance, advance_elements, difference, ordered, same, compared, on_pointers, pointer_and_number, number_and_pointer, binary, as_pointer, convert}
-use Rattle.pw_cmean.specs.Typed.{IsNumberOf, IsPointer, IsValueOf}
-use Rattle.pw_cmean.proofs.SoundActs.{Sound, Any}
+use Rattle.pw_cmean.specs.Operators.{truth, outcome_of, on_numbers, unary_number, unary, advance, advance_elements, difference, ordered, same, compared, on_pointers, pointer_and_number, number_and_pointer, binary, as_pointer, convert}
+use Rattle.pw_cmean.specs.Typed.{IsPointer, IsValueOf}
+use Rattle.pw_cmean.proofs.SoundActs.{Any}
 use Rattle.pw_cmean.proofs.SoundOperators.{truth-s}
-use Rattle.pw_law_never.proofs.NotWrong.{Right, Good, HasOne, bind-r, give-r, map-r, need-r, need-g, undefined-r, judge-g, objects_now-g, write-r, one-of}
+use Rattle.pw_law_never.proofs.NotWrong.{Right, Good, HasOne, bind-r, give-r, need-r, need-g, undefined-r, judge-g, objects_now-g, write-r, one-of}
 
 -- ---- accesses
 

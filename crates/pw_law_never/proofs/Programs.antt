@@ -1,38 +1,38 @@
 -- Functions, calls at each bound, and the run of a program.
-use Rattle.std.proofs.Common.{ℕ, zero, suc, ◌+◌, ◌≡◌, ◌≢◌, ◌<◌, ◌≤◌, ◌⊎◌, inl, inr, refl, sym, ap, subst, ◌∙◌, arith, Bool, true, false, not, List, [], ◌∷◌, ◌++◌, length, get_or, set, take, replicate, Option, Some, None, map}
-use Rattle.std.specs.Prelude.{All, Contains, option_map, unwrap_or, slice_get, slice_set, find}
+use Rattle.std.proofs.Common.{ℕ, zero, suc, ◌+◌, ◌≡◌, ◌≢◌, ◌<◌, ◌≤◌, inr, refl, sym, ap, subst, ◌∙◌, arith, false, List, [], ◌∷◌, length, set, take, replicate, Option, Some, None, map}
+use Rattle.std.specs.Prelude.{All, Contains, option_map, unwrap_or, slice_get}
 use Rattle.std.specs.List.{flat_map}
 use Rattle.std.specs.Str.{bytes_eq}
 use Rattle.std.proofs.lemmas.Bool.{true≢false}
 use Rattle.std.proofs.lemmas.List.{length-take-le, length-replicate}
-use Rattle.std.proofs.lemmas.List.Elements.{All-head, All-tail, All-nil, All-cons, All-append, All-map, All-set, All-replicate}
+use Rattle.std.proofs.lemmas.List.Elements.{All-head, All-tail, All-nil, All-cons, All-map, All-set, All-replicate}
 use Rattle.pw_value.specs.declared.value.Value.{Value}
 use Rattle.pw_value.specs.declared.value.Value.TheVariants as V
 use Rattle.pw_value.specs.declared.value.Byte.{Byte}
 use Rattle.pw_value.specs.declared.value.Byte.TheVariants as B
 use Rattle.pw_value.specs.declared.value.Pointer.{Pointer as AnyPointer}
 use Rattle.pw_value.specs.Values.{pieces_of}
-use Rattle.pw_value.specs.Objects.{Object, with_bytes}
+use Rattle.pw_value.specs.Objects.{with_bytes}
 use Rattle.pw_value.specs.ProgramNames.{main_name, main_shape}
-use Rattle.pw_types.specs.TypeTrees.{CType, Int, Pointer, Function as FunctionType, QType, QTypes, NoType, OneType, type_of, RecordValue}
+use Rattle.pw_types.specs.TypeTrees.{CType, Int, Pointer, QTypes, NoType, OneType, type_of, RecordValue}
 use Rattle.pw_types.specs.Shapes.{letter_of, letters_of, shape_of}
 use Rattle.pw_types.specs.Labels.{labels_in}
 use Rattle.pw_types.specs.declared.kind.IntKind.TheVariants as K
 use Rattle.pw_types.specs.TypedTrees.{LocalValue, FunctionValue, GlobalValue, ItemValue, ItemBytes, ItemAddress, PlacedItem, ModuleValue}
 use Rattle.pw_types.specs.WellTyped as W
 use Rattle.pw_types.specs.TypedModules.{IsFunction, IsGlobal, WellTyped, AreParameters, AreItems, IsItem, item_size}
-use Rattle.pw_cmean.specs.Worlds.{Program, ProgramModule, World, Callable, Body, Defined, Library, LibraryFunction, functions_of, function_named, item_bytes, with_items, object_of, start_objects, callable, library}
-use Rattle.pw_cmean.specs.Acts.{Act, Site, State, Outcome, Gives, Ends, Ending, Wrong, Exit, give, ◌>>=◌, ◌>>◌, need, during}
-use Rattle.pw_cmean.specs.Evaluation.{Env, Calls as CallList, Calling, site, call, take_room}
-use Rattle.pw_cmean.specs.Execution.{Flow, Normal, Breaks, Continues, Returns, Goes, Front, holds, meaning, with_locals, set_local}
-use Rattle.pw_cmean.specs.SourceRun.{set_parameters, result_of, outermost, run_body, callee, calls, finish, run_main, start_state, Run, seen, source_run}
+use Rattle.pw_cmean.specs.Worlds.{Program, ProgramModule, World, Callable, Body, Defined, Library, function_named, item_bytes, with_items, object_of, callable}
+use Rattle.pw_cmean.specs.Acts.{Site, State, Outcome, Gives, Ends, Wrong}
+use Rattle.pw_cmean.specs.Evaluation.{Calls as CallList, call}
+use Rattle.pw_cmean.specs.Execution.{Flow, Normal, Breaks, Continues, Returns, Goes, Front}
+use Rattle.pw_cmean.specs.SourceRun.{set_parameters, result_of, run_body, callee, calls, finish, run_main, start_state, seen, source_run}
 use Rattle.pw_cmean.specs.Typed.{IsValueOf, IsLetterResult, IsResultOf, IsWellTyped, IsByte, HoldsBytes, IfGives, result_letter}
-use Rattle.pw_cmean.proofs.SoundActs.{Sound, Any, HoldBytes}
+use Rattle.pw_cmean.proofs.SoundActs.{Any, HoldBytes}
 use Rattle.pw_cmean.proofs.SoundTrees.{letter-result}
 use Rattle.pw_law_never.specs.Resolved.{IsResolvedStatement, IsResolvedProgram}
-use Rattle.pw_law_never.proofs.NotWrong.{IsRight, Right, Good, bind-r, bind-g, give-r, give-g, stop-r, need-r, need-g, undefined-r, during-r}
+use Rattle.pw_law_never.proofs.NotWrong.{IsRight, Right, Good, bind-r, bind-g, give-g, stop-r, need-g, undefined-r, during-r}
 use Rattle.pw_law_never.proofs.Operators.{CanPut, IsNum, num-of}
-use Rattle.pw_law_never.proofs.Calling.{IsOwnBody, IsOwn, named-own, AreValues, Fits, AreRight, take_room-g, call-r, Level, contained, all-with, all-flat, all-find}
+use Rattle.pw_law_never.proofs.Calling.{IsOwnBody, named-own, AreValues, Fits, take_room-g, call-r, Level, contained, all-with, all-flat, all-find}
 use Rattle.pw_law_never.proofs.Trees.{Types}
 use Rattle.pw_law_never.proofs.Runs.{Leaves, Out, Numbered, holds-contained, with_locals-g, set_local-g, meaning-g}
 

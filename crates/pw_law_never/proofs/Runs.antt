@@ -1,40 +1,38 @@
 -- Statements, met at their front or at a label, functions and calls end nowhere but where the meaning has an end.
-use Rattle.std.proofs.Common.{ℕ, zero, suc, ◌+◌, ◌≡◌, ◌≢◌, ◌<◌, ◌≤◌, ◌⊎◌, inl, inr, refl, sym, ap, subst, ◌∙◌, arith, Bool, true, false, not, List, [], ◌∷◌, ◌++◌, length, get_or, set, take, replicate, Option, Some, None}
+use Rattle.std.proofs.Common.{ℕ, zero, suc, ◌+◌, ◌≡◌, ◌≢◌, ◌<◌, ◌≤◌, ◌⊎◌, inl, inr, refl, sym, ap, subst, ◌∙◌, arith, Bool, true, false, List, [], ◌∷◌, ◌++◌, length, Option, Some, None}
 use Rattle.std.specs.Prelude.{All, Contains, option_map, option_and_then, slice_get, slice_set, IsSomeAnd, ◌==◌, ◌||◌}
 use Rattle.std.proofs.lemmas.Bool.Decides.{nat_tests}
-use Rattle.std.proofs.lemmas.List.{length-set, length-take-le}
+use Rattle.std.proofs.lemmas.List.{length-set}
 use Rattle.std.proofs.lemmas.List.Elements.{All-head, All-tail}
 use Rattle.pw_value.specs.declared.value.Value.{Value}
 use Rattle.pw_value.specs.declared.value.Value.TheVariants as V
 use Rattle.pw_value.specs.declared.value.Pointer.TheVariants as Ptr
 use Rattle.pw_value.specs.Objects.{object_at}
-use Rattle.pw_types.specs.TypeTrees.{CType, Void, Int, Pointer, Array, Function as FunctionType, Record, QType, QTypes, NoType, OneType, type_of, RecordValue}
+use Rattle.pw_types.specs.TypeTrees.{CType, Void, Int, Pointer, Array, Function as FunctionType, Record, type_of}
 use Rattle.pw_types.specs.Layouts.{layout_of}
 use Rattle.pw_types.specs.Records.{IsObjectType}
-use Rattle.pw_types.specs.Shapes.{letters_of, shape_of}
 use Rattle.pw_types.specs.Labels.{labels_in, labels_among, labels_of_arms, labels_behind}
-use Rattle.pw_types.specs.TypedTrees.{Hidden, Expression, token_of, CaseValue, Initialiser, Value as ByValue, Bytes as ByBytes, Statement, Empty, Evaluate, Block, If, While, Do, For, Switch, Label, Goto, Break, Continue, Return, Arms, NoArm, Arm, Otherwise, NoElse, Else, Statements, NoStatement, OneStatement, LocalValue, FunctionValue, GlobalValue}
+use Rattle.pw_types.specs.TypedTrees.{Hidden, Expression, Initialiser, Value as ByValue, Bytes as ByBytes, Statement, Empty, Evaluate, Block, If, While, Do, For, Switch, Label, Goto, Break, Continue, Return, Arms, NoArm, Arm, Otherwise, NoElse, Else, Statements, NoStatement, OneStatement, LocalValue, FunctionValue, GlobalValue}
 use Rattle.pw_types.specs.WellTyped as W
 use Rattle.pw_types.specs.WellTyped.{type_in, IsTyped}
 use Rattle.pw_types.specs.TypedModules as M
 use Rattle.pw_types.specs.TypedModules.{IsStatement, AreStatements, AreArms, IsElse, IsFunction}
-use Rattle.pw_cmean.specs.Worlds.{Program, ProgramModule, World, full_name, global_number, pointer_to}
-use Rattle.pw_cmean.specs.Acts.{Act, Site, Ending, Bound, Wrong, give, stop, branch, ◌>>=◌, ◌>>◌, need, look, write, with_object}
-use Rattle.pw_cmean.specs.Access.{Initialising, within, put}
-use Rattle.pw_cmean.specs.Operators.{truth}
-use Rattle.pw_cmean.specs.Evaluation.{Env, Calls as CallList, Calling, site, records_of, local_place, symbol_place, answer_of}
+use Rattle.pw_cmean.specs.Worlds.{ProgramModule, World, full_name, global_number, pointer_to}
+use Rattle.pw_cmean.specs.Acts.{Act, Site, Ending, Bound, Wrong, give, stop, branch, ◌>>◌, with_object}
+use Rattle.pw_cmean.specs.Access.{Initialising, within}
+use Rattle.pw_cmean.specs.Evaluation.{Env, Calls as CallList, Calling, local_place, symbol_place, answer_of}
 use Rattle.pw_cmean.specs.Execution.{Entry, Front, At_label, Flow, Normal, Breaks, Continues, Returns, Goes, holds, go_forward, caught, taking_up, after_body, turn, loop, meet_loop, always, value_of, condition, for_condition, drop_value, switch_to, after_switch, with_locals, set_local, initialise, initialise_all, meaning, items, arms, behind_arms}
-use Rattle.pw_cmean.specs.SourceRun.{calls, callee}
-use Rattle.pw_cmean.specs.Typed.{IsPointer, IsValueOf, IsWellTyped, IsByte}
-use Rattle.pw_cmean.proofs.SoundActs.{Sound, Any, bind-s, give-s, stop-s, branch-s, look-s, write-s, with_object-s, object-bytes}
+use Rattle.pw_cmean.specs.SourceRun.{calls}
+use Rattle.pw_cmean.specs.Typed.{IsValueOf, IsWellTyped, IsByte}
+use Rattle.pw_cmean.proofs.SoundActs.{Any, stop-s, branch-s, look-s, write-s, with_object-s, object-bytes}
 use Rattle.pw_cmean.proofs.SoundOperators.{weaker, put-s, within-s}
 use Rattle.pw_law_never.specs.Scopes.{with_range}
 use Rattle.pw_law_never.specs.Resolved.{IsResolved, IsResolvedIfAny, IsResolvedInitialiser, AreResolvedInitialisers, IsResolvedStatement, AreResolvedStatements, AreResolvedArms, IsResolvedElse}
-use Rattle.pw_law_never.proofs.NotWrong.{Right, Good, HasOne, bind-r, bind-g, give-r, give-g, stop-r, branch-r, need-r, need-g, look-r, write-r, with_object-r}
-use Rattle.pw_law_never.proofs.Operators.{CanPut, put-r, tested, truth-g, layout-one}
+use Rattle.pw_law_never.proofs.NotWrong.{Right, Good, HasOne, bind-g, give-g, stop-r, branch-r, need-g, look-r, write-r, with_object-r}
+use Rattle.pw_law_never.proofs.Operators.{CanPut, put-r, tested, truth-g}
 use Rattle.pw_law_never.proofs.Symbols.{object-numbered, object-placed}
 use Rattle.pw_law_never.proofs.Calling.{AreRight, Level}
-use Rattle.pw_law_never.proofs.Trees.{Types, Stands, local-g, symbol-g, operand-g, answer-t, answer-r}
+use Rattle.pw_law_never.proofs.Trees.{Types, Stands, local-g, operand-g, answer-t, answer-r}
 
 -- ---- acts
 

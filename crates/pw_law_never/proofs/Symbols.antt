@@ -1,5 +1,5 @@
 -- An object that a module of a program defines has a number in the program.
-use Rattle.std.proofs.Common.{ℕ, zero, suc, ◌+◌, ◌≡◌, ◌⊎◌, inl, inr, ◌<◌, refl, sym, ap, subst, ◌∙◌, arith, Bool, true, false, List, [], ◌∷◌, ◌++◌, length, get_or, Option, Some, None, map}
+use Rattle.std.proofs.Common.{ℕ, zero, suc, ◌+◌, ◌≡◌, ◌⊎◌, inl, inr, ◌<◌, refl, sym, ap, subst, ◌∙◌, arith, Bool, true, false, List, [], ◌∷◌, ◌++◌, length, Some, None, map}
 use Rattle.std.specs.Prelude.{Contains, cond, not, nat_lt, position}
 use Rattle.std.specs.List.{flat_map, position_or_len}
 use Rattle.std.proofs.lemmas.Bool.{true≢false}
@@ -8,7 +8,7 @@ use Rattle.std.specs.Str.{bytes_eq}
 use Rattle.std.proofs.lemmas.List.Concat.{flat_map-cons}
 use Rattle.std.proofs.lemmas.Slice.Eq.{bytes_eq-Decides}
 use Rattle.pw_value.specs.declared.value.Pointer.TheVariants as Ptr
-use Rattle.pw_types.specs.TypedTrees.{Symbol, GlobalValue}
+use Rattle.pw_types.specs.TypedTrees.{GlobalValue}
 use Rattle.pw_cmean.specs.Worlds.{Program, ProgramModule, full_name, global_names, global_number, pointer_to}
 use Rattle.pw_law_never.proofs.NotWrong.{HasOne}
 

@@ -1,6 +1,6 @@
 -- Expressions of a function, with the locals in scope, end nowhere but where the meaning has an end.
-use Rattle.std.proofs.Common.{ℕ, zero, suc, ◌≡◌, ◌⊎◌, inl, inr, refl, sym, ap, subst, ◌∙◌, arith, Bool, true, false, not, List, [], ◌∷◌, length, Option, Some, None}
-use Rattle.std.specs.Prelude.{pos, Contains, slice_get, option_map, option_and_then}
+use Rattle.std.proofs.Common.{ℕ, ◌≡◌, ◌⊎◌, inl, inr, refl, sym, ap, subst, ◌∙◌, Bool, false, List, [], ◌∷◌, Option, Some, None}
+use Rattle.std.specs.Prelude.{Contains, slice_get, option_map, option_and_then}
 use Rattle.pw_value.specs.declared.value.Value.{Value}
 use Rattle.pw_value.specs.declared.value.Value.TheVariants as V
 use Rattle.pw_value.specs.declared.value.Pointer.TheVariants as Ptr
@@ -18,26 +18,25 @@ use Rattle.pw_types.specs.declared.tree.BinaryOperator.{BinaryOperator}
 use Rattle.pw_types.specs.declared.tree.BinaryOperator.TheVariants as O
 use Rattle.pw_types.specs.declared.tree.StepOperator.{StepOperator}
 use Rattle.pw_types.specs.declared.tree.StepOperator.TheVariants.{IncrementBefore, DecrementBefore, IncrementBehind, DecrementBehind}
-use Rattle.pw_types.specs.TypedTrees.{Symbol, Hidden, Expression, Node, Number, Str, Local, Global, Function, Unary, Binary, Logic, Cond, Comma, Assign, Compound, Step, Cast, Decay, Member, Deref, Address, Call, CallValue, Expressions, NoExpression, OneExpression, type_at, form_of, LocalValue, ModuleValue}
+use Rattle.pw_types.specs.TypedTrees.{Symbol, Hidden, Expression, Node, Number, Str, Local, Global, Function, Unary, Binary, Logic, Cond, Comma, Assign, Compound, Step, Cast, Decay, Member, Deref, Address, Call, CallValue, Expressions, NoExpression, OneExpression, type_at, form_of}
 use Rattle.pw_types.specs.WellTyped as W
 use Rattle.pw_types.specs.WellTyped.{type_in, IsTyped, HasForm, AreArguments}
-use Rattle.pw_check_rules.specs.Constants.{is_zero_constant}
-use Rattle.pw_cmean.specs.Worlds.{Program, ProgramModule, World, Callable, full_name, pointer_to, global_number, function_named}
+use Rattle.pw_cmean.specs.Worlds.{full_name, global_number}
 use Rattle.pw_cmean.specs.Acts.{Act, State, Site, Outcome, Gives, Ends, give, ◌>>=◌}
-use Rattle.pw_cmean.specs.Access.{Assigning, load, fetch, put}
-use Rattle.pw_cmean.specs.Operators.{number_for, truth, unary, binary, convert, on_numbers, pointer_and_number}
-use Rattle.pw_cmean.specs.Evaluation.{Env, Calls as CallList, site, records_of, local_place, symbol_place, used, value_by, value_at, cast, call, callee_of, pointed, call_value, old_value, update, step_result, step, answer_of, place_of, values_of}
+use Rattle.pw_cmean.specs.Access.{Assigning, load, put}
+use Rattle.pw_cmean.specs.Operators.{truth, binary, convert}
+use Rattle.pw_cmean.specs.Evaluation.{Env, Calls as CallList, records_of, local_place, symbol_place, used, value_by, value_at, cast, pointed, call_value, old_value, update, step_result, step, answer_of, place_of, values_of}
 use Rattle.pw_cmean.specs.SourceRun.{calls}
 use Rattle.pw_cmean.specs.Typed.{IsPointer, IsValueOf, IsResultOf, IsWellTyped, HoldsBytes, IfGives}
 use Rattle.pw_cmean.proofs.SoundActs.{Sound, Any, bind-s, give-s, undefined-s}
-use Rattle.pw_cmean.proofs.SoundOperators.{weaker, load-s, put-s, advance-s, on_numbers-s, pointer_and_number-s, convert-s, small-value, IsSmall, IsWord, IsInteger}
+use Rattle.pw_cmean.proofs.SoundOperators.{weaker, load-s, put-s, advance-s, on_numbers-s, pointer_and_number-s, convert-s, small-value, IsWord, IsInteger}
 use Rattle.pw_cmean.proofs.SoundTrees.{operand-s, symbol_place-s, local_place-s}
-use Rattle.pw_law_never.specs.Resolved.{IsThere, IsFunctionThere, IsNullIn, IsResolved, AreResolved}
+use Rattle.pw_law_never.specs.Resolved.{IsThere, IsResolved, AreResolved}
 use Rattle.pw_law_never.proofs.NotWrong.{Right, Good, HasOne, bind-r, bind-g, give-r, map-r, need-r, need-g, undefined-r, judge-g, branch-r, one-of}
-use Rattle.pw_law_never.proofs.Operators.{load-r, CanPut, put-r, fetch-r, IsNum, num-of, tested, truth-g, unary-r, advance-r, Moves, pointer_and_number-r, on_numbers-r, layout-one, binary-r, Points, points-of, to-number-r, to-pointer-r}
+use Rattle.pw_law_never.proofs.Operators.{load-r, CanPut, put-r, fetch-r, num-of, tested, truth-g, unary-r, advance-r, Moves, pointer_and_number-r, on_numbers-r, layout-one, binary-r, Points, points-of, to-number-r, to-pointer-r}
 use Rattle.pw_law_never.proofs.Constants.{JustGives, null-gives}
 use Rattle.pw_law_never.proofs.Symbols.{object-numbered, object-placed}
-use Rattle.pw_law_never.proofs.Calling.{Fits, AreValues, agreed, shape-same, named-own, numbered-own, call-r, Level}
+use Rattle.pw_law_never.proofs.Calling.{AreValues, agreed, shape-same, named-own, numbered-own, call-r, Level}
 
 -- ---- the types of values, as the law of the meaning has them
 
