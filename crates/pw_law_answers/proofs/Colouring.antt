@@ -77,9 +77,12 @@ place w (x ∷ ws) before order = by (less_or_not w.priority x.priority) (place 
     by (inr le) p = record {
       list = w ∷ x ∷ ws;
       moved = IsPermutation-refl (w ∷ x ∷ ws);
-      order = (each_by (ComesFirst w) (x ∷ ws) (λ u h. before_it w u
-          (elim h [ inl e ↦ subst (λ (z : RawWeb). z.priority ≤ℤ w.priority) e le | inr k ↦ (let less = later_saves_less x u (has_each (ComesFirst x) ws u order.0 k) in omega (arith, ints, less, le)) ])
-          (has_each (StandsBefore w) (x ∷ ws) u before h)), order);
+      order = (
+        each_by (ComesFirst w) (x ∷ ws) (λ u h. before_it w u
+            (elim h [ inl e ↦ subst (λ (z : RawWeb). z.priority ≤ℤ w.priority) e le | inr k ↦ (let less = later_saves_less x u (has_each (ComesFirst x) ws u order.0 k) in omega (arith, ints, less, le)) ])
+            (has_each (StandsBefore w) (x ∷ ws) u before h)),
+        order,
+      );
       only = λ u h. h;
     }
 
@@ -143,16 +146,26 @@ colour_exists colours earlier w = by (less_or_not (pos 0) w.priority) (least_or_
 
     by : (pos 0 <ℤ w.priority) ⊎ (w.priority ≤ℤ pos 0) → Least colours (λ k. IsFree earlier w (first_register + k)) ⊎ ((k : ℕ) → k < colours → IsFree earlier w (first_register + k) → ⊥) → (o : Option ℕ) × IsColour colours earlier w o
     by (inr le) found = (None, inl le)
-    by (inl lt) (inr none) = (None, inr (λ r reg free.
-        let low = reg.0 in
-        let high = reg.1 in
-        let e : first_register + (r - first_register) ≡ r = omega (arith, low) in
-        none (r - first_register) (omega (arith, low, high)) (at (IsFree earlier w) r (r - first_register) e free)))
+    by (inl lt) (inr none) = (
+      None,
+      inr (λ r reg free.
+          let low = reg.0 in
+          let high = reg.1 in
+          let e : first_register + (r - first_register) ≡ r = omega (arith, low) in
+          none (r - first_register) (omega (arith, low, high)) (at (IsFree earlier w) r (r - first_register) e free)),
+    )
     by (inl lt) (inl l) =
-        let within = l.within in
-        (Some (first_register + l.number), (lt, (omega arith, omega (arith, within)), l.is, λ q low below free.
-        let e : first_register + (q - first_register) ≡ q = omega (arith, low) in
-        l.least (q - first_register) (omega (arith, low, below)) (at (IsFree earlier w) q (q - first_register) e free)))
+        let within = l.within in (
+          Some (first_register + l.number),
+          (
+            lt,
+            (omega arith, omega (arith, within)),
+            l.is,
+            λ q low below free.
+                let e : first_register + (q - first_register) ≡ q = omega (arith, low) in
+                l.least (q - first_register) (omega (arith, low, below)) (at (IsFree earlier w) q (q - first_register) e free),
+          ),
+        )
 
 registers_exist : (colours : ℕ) (earlier : List (RawWeb × Option ℕ)) (ws : List RawWeb) → (rs : List (Option ℕ)) × (length rs ≡ length ws) × AreColoured colours earlier (paired ws rs)
 registers_exist colours earlier [] = ([], refl, tt)
@@ -178,9 +191,11 @@ database_with ss colours g ws us rs of graph webs count moved order over long co
     let db = entries_from g (numbered 0 (paired us rs)) 0 g.functions in
     let few = few_webs (length ws) (length g.globals) (length g.functions) count graph.globals graph.functions in
     let same : length us ≡ length ws = length_permutation ws us moved in
-    let fewer = pairs_few us rs in
-    (db, is_database ss g colours ws us rs (numbered 0 (paired us rs)) db of webs moved order long coloured refl refl,
-    entries_small g (paired us rs) (omega (arith, few, same, fewer)) (global_within g ws us rs webs over))
+    let fewer = pairs_few us rs in (
+      db,
+      is_database ss g colours ws us rs (numbered 0 (paired us rs)) db of webs moved order long coloured refl refl,
+      entries_small g (paired us rs) (omega (arith, few, same, fewer)) (global_within g ws us rs webs over),
+    )
 
 pub database_of_graph : (ss : List Summary) (colours : ℕ) (g : CallGraph) → IsGraphOf ss g → IsGraph g → (db : List (List ℕ × Directives)) × IsDatabaseOf ss colours db × ((f : List ℕ × Directives) → Has f db → IsSmall g f)
 database_of_graph ss colours g of graph =

@@ -110,10 +110,11 @@ module _ (ss : List Summary) (lawful : All IsSummary ss) (linked : AreLinked ss)
       → AllZip (IsCallRow names (targets_from taken 0 H)) H rows → (g : CallGraph) × IsGraphOf ss g × IsGraph g
   graph_of H names taken escaped G globals rows homes short of_names of_taken of_escaped scalars short_g of_globals are_rows =
       let few = few_homes ss linked in
-      let few_g = few_scalars taken escaped ss linked in
-      (record { functions = names; globals = G; calls = rows; refs = map (λ h. ref_row globals h.2) H },
-      is_graph ss lawful H names taken escaped G globals (homes.rising, homes.of) of_names of_taken of_escaped (scalars.rising, scalars.of) of_globals rows are_rows,
-      well_made ss lawful H names taken escaped G globals (homes.rising, homes.of) of_names of_taken of_escaped (scalars.rising, scalars.of) of_globals rows are_rows (omega (arith, few, short)) (omega (arith, few_g, short_g)))
+      let few_g = few_scalars taken escaped ss linked in (
+        record { functions = names; globals = G; calls = rows; refs = map (λ h. ref_row globals h.2) H },
+        is_graph ss lawful H names taken escaped G globals (homes.rising, homes.of) of_names of_taken of_escaped (scalars.rising, scalars.of) of_globals rows are_rows,
+        well_made ss lawful H names taken escaped G globals (homes.rising, homes.of) of_names of_taken of_escaped (scalars.rising, scalars.of) of_globals rows are_rows (omega (arith, few, short)) (omega (arith, few_g, short_g)),
+      )
 
   pub graph_exists : (g : CallGraph) × IsGraphOf ss g × IsGraph g
   graph_exists =

@@ -100,11 +100,13 @@ table_from (name ∷ names) up long = (long name (inl refl), some_text name (lon
 
 pub table_exists : (used : List (List ℕ)) → ((name : List ℕ) → Has name used → IsNameLength (length name)) → (names : List (List ℕ)) × IsTableOf names used
 table_exists used long =
-    let o = ordered_names used in
-    (o.0, record {
-      rising = table_from o.0 (subst IsRising (map-id o.0) o.1.rising) (λ name h. long name (has_by name used ((o.1.of name).0 (contains_by name o.0 h))));
-      of = o.1.of;
-    })
+    let o = ordered_names used in (
+      o.0,
+      record {
+        rising = table_from o.0 (subst IsRising (map-id o.0) o.1.rising) (λ name h. long name (has_by name used ((o.1.of name).0 (contains_by name o.0 h))));
+        of = o.1.of;
+      },
+    )
 
 -- ---- numbers that rise
 

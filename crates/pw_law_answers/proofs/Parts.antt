@@ -96,37 +96,41 @@ module _ (db : DirectivesList) where
   pub directives_exist : (flow : FlowModule) → IsValid flow → IsDatabase db → (ds : DirectivesList) × AreDirectivesIn db flow ds
   directives_exist flow valid is =
       let d = all_directives (function_names flow) in
-      let each = All-from_recursion (HasDirectives db) d.0 d.2 in
-      (d.0, record {
-        of_module = record { functions = d.1; storable = module_stored db (function_names flow) d.0 is d.1 each (functions_differ flow valid) };
-        each = each;
-      })
+      let each = All-from_recursion (HasDirectives db) d.0 d.2 in (
+        d.0,
+        record {
+          of_module = record { functions = d.1; storable = module_stored db (function_names flow) d.0 is d.1 each (functions_differ flow valid) };
+          each = each;
+        },
+      )
 
 -- ---- the object of a module
 
 object_exists : (flow : FlowModule) (ds : DirectivesList) → IsValid flow → HasFile flow → ((bytes : List ℕ) × IsPayloadOf bytes ds) → (o : Object) × IsObjectOf flow ds o
 object_exists flow ds valid file payload =
     let declared = ordered (λ (d : List ℕ × List ℕ). d.0) flow.declared (one_item (λ (d : List ℕ × List ℕ). d.0) flow.declared valid.names.distinct.declared) in
-    let used = ordered_names (named_in flow) in
-    (record {
-      version = object_version;
-      «module» = flow.name;
-      flow = file.0;
-      directives = payload.0;
-      declared = declared.0;
-      used = used.0;
-      globals = flow.globals;
-      functions = all_compiled flow.functions ds;
-    }, record {
-      version = refl;
-      of_module = refl;
-      flow_file = file.1;
-      payload = payload.1;
-      declared = declared.1;
-      used = used.1;
-      globals = refl;
-      functions = refl;
-    })
+    let used = ordered_names (named_in flow) in (
+      record {
+        version = object_version;
+        «module» = flow.name;
+        flow = file.0;
+        directives = payload.0;
+        declared = declared.0;
+        used = used.0;
+        globals = flow.globals;
+        functions = all_compiled flow.functions ds;
+      },
+      record {
+        version = refl;
+        of_module = refl;
+        flow_file = file.1;
+        payload = payload.1;
+        declared = declared.1;
+        used = used.1;
+        globals = refl;
+        functions = refl;
+      },
+    )
 
 few_functions : (flow : FlowModule) → HasFile flow → length flow.functions < 2 ^ 32
 few_functions flow file = file.1.1.fits.fits.functions.0

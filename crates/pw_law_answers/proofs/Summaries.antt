@@ -84,23 +84,25 @@ summary_exists m valid =
     let names = in_module addressed m in
     let taken = ordered (λ (f : List ℕ × List ℕ). f.0) (taken_of (function_entries m) m.declared names) (one_taken (function_entries m) m.declared names) in
     let escaped = ordered_names (escaped_of (function_entries m) m.declared names) in
-    let uses = each_uses m.functions functions.0 (λ e h. has_by e (function_entries m) ((functions.1.of e).0 (contains_by e functions.0 h))) in
-    (record {
-      «module» = m.name;
-      globals = globals.0;
-      functions = functions.0;
-      declared = declared.0;
-      used = used.0;
-      taken = taken.0;
-      escaped = escaped.0;
-      uses = uses.0;
-    }, record {
-      of_module = refl;
-      globals = globals.1;
-      functions = functions.1;
-      declared = declared.1;
-      used = used.1;
-      taken = taken.1;
-      escaped = escaped.1;
-      uses = uses.1;
-    })
+    let uses = each_uses m.functions functions.0 (λ e h. has_by e (function_entries m) ((functions.1.of e).0 (contains_by e functions.0 h))) in (
+      record {
+        «module» = m.name;
+        globals = globals.0;
+        functions = functions.0;
+        declared = declared.0;
+        used = used.0;
+        taken = taken.0;
+        escaped = escaped.0;
+        uses = uses.0;
+      },
+      record {
+        of_module = refl;
+        globals = globals.1;
+        functions = functions.1;
+        declared = declared.1;
+        used = used.1;
+        taken = taken.1;
+        escaped = escaped.1;
+        uses = uses.1;
+      },
+    )
