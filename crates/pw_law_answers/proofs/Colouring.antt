@@ -1,9 +1,9 @@
 -- Webs have an order and registers, and so a program has a database.
-use Rattle.std.proofs.Common.{◌≡◌, ◌⊎◌, ℕ, zero, suc, ◌+◌, ◌-◌, ◌*◌, ◌<◌, ◌≤◌, List, [], ◌∷◌, length, map, refl, sym, ap, subst, ◌∙◌, arith, inl, inr}
-use Rattle.std.specs.Prelude.{Contains, Option, Some, None, slice_get, ◌↔◌, ℤ, pos, ◌<ℤ◌, ◌≤ℤ◌}
+use Rattle.std.proofs.Common.{◌≡◌, ◌⊎◌, ℕ, suc, ◌+◌, ◌-◌, ◌*◌, ◌<◌, ◌≤◌, List, [], ◌∷◌, length, refl, sym, ap, subst, ◌∙◌, arith, inl, inr}
+use Rattle.std.specs.Prelude.{Option, Some, None, ◌↔◌, ℤ, pos, ◌<ℤ◌, ◌≤ℤ◌}
 use Rattle.std.specs.List.{AllByRecursion}
 use Rattle.std.specs.List.Sorted.{IsPermutation}
-use Rattle.std.proofs.lemmas.Bool.{cases_eq, cases_lt}
+use Rattle.std.proofs.lemmas.Bool.{cases_eq}
 use Rattle.std.specs.Ordering.{int_cmp}
 use Rattle.std.proofs.lemmas.Cmp.{by_ranked, int_ranked}
 use Rattle.std.proofs.lemmas.Int.{ints}
@@ -23,13 +23,13 @@ use Rattle.pw_graph.specs.Program.{IsGraphOf}
 use Rattle.pw_graph.proofs.Lists.{at_has}
 use Rattle.pw_graph.proofs.Members.{held_within}
 use Rattle.pw_webs.specs.declared.web.RawWeb.{RawWeb}
-use Rattle.pw_webs.specs.Webs.{AreWebs, StandsBefore, IsSameWeb, Interfere}
-use Rattle.pw_colour.specs.Colours.{ComesFirst, IsRegister, IsFree, IsColour, AreColoured, numbered, IsDatabaseOf}
+use Rattle.pw_webs.specs.Webs.{AreWebs, StandsBefore, Interfere}
+use Rattle.pw_colour.specs.Colours.{ComesFirst, IsFree, IsColour, AreColoured, numbered, IsDatabaseOf}
 use Rattle.pw_colour.specs.Giving.{paired, entries_from}
 use Rattle.pw_colour.proofs.Ranks.{two_at}
 use Rattle.pw_colour.proofs.Given.{has_paired}
 use Rattle.pw_colour.proofs.Entries.{is_database, few_webs}
-use Rattle.pw_law_answers.proofs.Telling.{Told, told_both, told_either, told_same, told_some, told_below, told_not, Least, least_or_none}
+use Rattle.pw_law_answers.proofs.Telling.{Told, told_both, told_same, told_some, told_below, told_not, Least, least_or_none}
 use Rattle.pw_law_answers.proofs.Webs.{webs_exist}
 use Rattle.pw_law_answers.proofs.Payloads.{IsSmall, entries_small}
 

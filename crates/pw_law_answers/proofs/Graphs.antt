@@ -1,6 +1,6 @@
 -- Modules that make a program have a call graph.
-use Rattle.std.proofs.Common.{◌≡◌, ◌≢◌, ℕ, ◌≤◌, Bool, true, false, List, [], ◌∷◌, ◌++◌, length, map, refl, sym, ap, subst, ◌∙◌, arith, inl, inr, All}
-use Rattle.std.specs.Prelude.{Contains, Option, Some, None}
+use Rattle.std.proofs.Common.{◌≡◌, ◌≢◌, ℕ, ◌≤◌, Bool, true, false, List, [], ◌∷◌, ◌++◌, length, map, sym, subst, ◌∙◌, arith, inl, inr, All}
+use Rattle.std.specs.Prelude.{Option, Some}
 use Rattle.std.specs.List.{AllByRecursion, AllZip, IsDistinct, flat_map}
 use Rattle.std.specs.Str.{bytes_eq}
 use Rattle.std.proofs.lemmas.Slice.Eq.{bytes_eq-Decides}
@@ -8,7 +8,7 @@ use Rattle.pw_value.specs.declared.value.Kind.{Kind}
 use Rattle.pw_value.specs.Names.{IsNameLength}
 use Rattle.pw_value.specs.ProgramNames.{library_functions}
 use Rattle.pw_fields.specs.FieldNames.{IsTableOf}
-use Rattle.pw_files.proofs.Standing.{Has, contains_by, has_by, each_by, has_map, has_map_back, has_split, has_flat_back}
+use Rattle.pw_files.proofs.Standing.{Has, contains_by, has_by, has_map, has_map_back, has_split, has_flat_back}
 use Rattle.pw_flow.specs.ValidFlow.{AreDistinct}
 use Rattle.pw_summary.specs.declared.summary.Summary.{Summary}
 use Rattle.pw_summary.specs.Summary.{IsSummary}

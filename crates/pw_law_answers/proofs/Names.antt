@@ -1,10 +1,10 @@
 -- The names of flow graphs that have files are as long as names may be, and so are those of their summaries.
-use Rattle.std.proofs.Common.{◌≡◌, ℕ, List, [], ◌∷◌, ◌++◌, length, map, refl, sym, ap, subst, ◌∙◌, inl, inr}
-use Rattle.std.specs.Prelude.{Contains, Option, Some, None}
+use Rattle.std.proofs.Common.{◌≡◌, ℕ, List, [], ◌∷◌, ◌++◌, length, map, refl, subst, ◌∙◌, inl, inr}
+use Rattle.std.specs.Prelude.{Option, Some, None}
 use Rattle.std.specs.List.{AllByRecursion, flat_map}
 use Rattle.pw_value.specs.Names.{IsNameLength}
 use Rattle.pw_fields.specs.FieldNames.{IsRisingFrom}
-use Rattle.pw_files.proofs.Standing.{Has, contains_by, has_by, has_each, has_left, has_right, has_split, has_map, has_map_back, has_flat, has_flat_back}
+use Rattle.pw_files.proofs.Standing.{Has, contains_by, has_by, has_each, has_left, has_right, has_split, has_map_back, has_flat, has_flat_back}
 use Rattle.pw_files.proofs.Views.{seen}
 use Rattle.pw_flow.specs.Addressed.{addressed}
 use Rattle.pw_flow.specs.FlowGraph.{op_names, names_in_block, names_in_function, names_in_global, global_names, function_names, declared_names}
@@ -14,7 +14,7 @@ use Rattle.pw_flow.specs.declared.flow.FlowGlobal.{FlowGlobal}
 use Rattle.pw_flow.specs.declared.flow.FlowModule.{FlowModule}
 use Rattle.pw_flow.specs.declared.flow.Op.{Op}
 use Rattle.pw_flow.specs.declared.flow.Op.TheVariants.{AddrGlobal, AddrFn}
-use Rattle.pw_flowfile.specs.FlowFile.{IsFlowFile, all_in_global, all_in_function, names_of}
+use Rattle.pw_flowfile.specs.FlowFile.{all_in_global, all_in_function, names_of}
 use Rattle.pw_summary.specs.declared.summary.Summary.{Summary}
 use Rattle.pw_summarise.specs.Summarises.{in_function, in_module, function_shape, as_taken, as_escaped, taken_of, escaped_of, global_entry, function_entry, function_entries, Summarises}
 use Rattle.pw_summarise.proofs.Orders.{keys_over}

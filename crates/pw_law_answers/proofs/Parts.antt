@@ -1,19 +1,20 @@
 -- Lawful flow graphs that make a program and that files can hold have parts: a database, and an object of each module.
-use Rattle.std.proofs.Common.{◌≡◌, ◌⊎◌, ℕ, ◌+◌, ◌^◌, ◌<◌, ◌≤◌, Bool, true, List, [], ◌∷◌, ◌++◌, length, map, refl, sym, ap, subst, ◌∙◌, arith, inl, inr, All}
-use Rattle.std.specs.Prelude.{Contains, Option, None}
+use Rattle.std.proofs.Common.{◌≡◌, ◌⊎◌, ℕ, ◌+◌, ◌^◌, ◌<◌, ◌≤◌, Bool, true, false, List, [], ◌∷◌, ◌++◌, length, map, refl, sym, ap, subst, ◌∙◌, arith, inl, inr, All}
+use Rattle.std.specs.Prelude.{Option, Some, None}
 use Rattle.std.specs.List.{AllByRecursion}
+use Rattle.std.specs.Str.{bytes_eq}
 use Rattle.std.proofs.lemmas.List.Elements.{All-from_recursion}
+use Rattle.std.proofs.lemmas.Slice.Eq.{bytes_eq-Decides}
 use Rattle.pw_value.specs.Names.{IsNameLength}
 use Rattle.pw_files.proofs.Standing.{Has, contains_by, has_by, has_each, each_by, has_map_back, stands_or_not}
 use Rattle.pw_flow.specs.FlowGraph.{function_names, named_in}
 use Rattle.pw_flow.specs.ValidFlow.{IsValid}
-use Rattle.pw_flow.specs.declared.flow.FlowFn.{FlowFn}
 use Rattle.pw_flow.specs.declared.flow.FlowModule.{FlowModule}
+use Rattle.pw_flowfile.specs.FlowFile.{IsFlowFile}
 use Rattle.pw_summary.specs.declared.summary.Summary.{Summary}
 use Rattle.pw_summary.specs.Summary.{IsSummary}
-use Rattle.pw_summarise.specs.Summarises.{Summarises}
 use Rattle.pw_summarise.proofs.LawfulLaws.{lawful}
-use Rattle.pw_db.specs.Database.{IsDatabase, HasDirectives, empty}
+use Rattle.pw_db.specs.Database.{IsDatabase, HasDirectives, IsPayload, IsStored, empty}
 use Rattle.pw_db.specs.Limits.{colour_limit, register_count}
 use Rattle.pw_db.specs.declared.database.Directives.{Directives}
 use Rattle.pw_db.proofs.ChoosingLaws.{has_found, has_none}
@@ -26,8 +27,9 @@ use Rattle.pw_object.specs.declared.object.Object.{Object}
 use Rattle.pw_phase_two.specs.Phases.{AreDirectivesIn, IsObjectOf, IsPayloadOf, all_compiled}
 use Rattle.pw_phase_two.proofs.Distinct.{functions_differ}
 use Rattle.pw_colour.specs.Colours.{IsDatabaseOf}
-use Rattle.pw_build_objects.specs.Programs.{DirectivesList, AreSummariesOf, HasDatabase, IsModuleFrom, AreObjectsFrom, AreParts, Parts}
+use Rattle.pw_build_objects.specs.Programs.{DirectivesList, AreSummariesOf, HasDatabase, Stays, IsObjectFrom, IsModuleFrom, AreObjectsFrom, AreParts, Parts, first_kept, kept_behind}
 use Rattle.pw_law_answers.specs.Held.{HasFile}
+use Rattle.pw_law_answers.proofs.Telling.{Told, told_both, told_same}
 use Rattle.pw_law_answers.proofs.Ordering.{ordered, ordered_names}
 use Rattle.pw_law_answers.proofs.Summaries.{summary_exists, one_item}
 use Rattle.pw_law_answers.proofs.Graphs.{graph_exists, graph_named}
@@ -132,33 +134,68 @@ object_exists flow ds valid file payload =
       },
     )
 
+-- ---- what was kept of a module
+
+told_bytes : (a b : List ℕ) → Told (a ≡ b)
+told_bytes a b = by (bytes_eq a b) refl
+  where
+    by : (t : Bool) → bytes_eq a b ≡ t → Told (a ≡ b)
+    by true e = inl ((bytes_eq-Decides a b).0 e)
+    by false e = inr (λ same. let on : bytes_eq a b ≡ true = (bytes_eq-Decides a b).1 same in cc)
+
+-- a flow graph has one file, and what is stored of directives one payload
+pub record FilesAreOne : Type 0 where
+  pub files : (bytes others : List ℕ) (m : FlowModule) → IsFlowFile bytes m → IsFlowFile others m → bytes ≡ others
+  pub payloads : (fs s t : DirectivesList) (bytes others : List ℕ) → IsStored fs s → IsStored fs t → IsPayload bytes s → IsPayload others t → bytes ≡ others
+
+module _ (one : FilesAreOne) where
+  -- what was kept stays exactly where it has the file and the payload of what is made anew
+  told_stays : (flow : FlowModule) (ds : DirectivesList) (old : Option Object) (o : Object) → IsObjectOf flow ds o → Told (Stays flow ds old)
+  told_stays flow ds None o is = inr (λ h. h)
+  told_stays flow ds (Some k) o is =
+      told_same
+      (λ same. record { flow_file = subst (λ (bytes : List ℕ). IsFlowFile bytes flow) (sym same.0) is.flow_file; payload = subst (λ (bytes : List ℕ). IsPayloadOf bytes ds) (sym same.1) is.payload })
+      (λ made. (one.files k.flow o.flow flow made.flow_file is.flow_file, one.payloads ds made.payload.0 is.payload.0 k.directives o.directives made.payload.1 is.payload.1 made.payload.2 is.payload.2))
+      (told_both (told_bytes k.flow o.flow) (told_bytes k.directives o.directives))
+
+  kept_or_anew : (flow : FlowModule) (ds : DirectivesList) (old : Option Object) (o : Object) → IsObjectOf flow ds o → Told (Stays flow ds old) → (k : Object) × (fresh : Bool) × IsObjectFrom flow ds old k fresh
+  kept_or_anew flow ds None o is (inl stays) = absurd stays
+  kept_or_anew flow ds (Some k) o is (inl stays) = (k, false, (refl, stays))
+  kept_or_anew flow ds old o is (inr lacks) = (o, true, (lacks, is))
+
+  object_from : (flow : FlowModule) (ds : DirectivesList) (old : Option Object) → ((o : Object) × IsObjectOf flow ds o) → (k : Object) × (fresh : Bool) × IsObjectFrom flow ds old k fresh
+  object_from flow ds old o = kept_or_anew flow ds old o.0 o.1 (told_stays flow ds old o.0 o.1)
+
+-- ---- the objects of all modules
+
 few_functions : (flow : FlowModule) → HasFile flow → length flow.functions < 2 ^ 32
 few_functions flow file = file.1.1.fits.fits.functions.0
 
-module _ (flows : List FlowModule) (colours : ℕ) (a : Analysed flows colours) (is : IsDatabase a.db) where
-  module_exists : (flow : FlowModule) → IsValid flow → HasFile flow → (o : Object) × IsModuleFrom a.db flow None o true
-  module_exists flow valid file =
+module _ (flows : List FlowModule) (colours : ℕ) (a : Analysed flows colours) (is : IsDatabase a.db) (one : FilesAreOne) where
+  module_exists : (flow : FlowModule) (old : Option Object) → IsValid flow → HasFile flow → (o : Object) × (fresh : Bool) × IsModuleFrom a.db flow old o fresh
+  module_exists flow old valid file =
       let d = directives_exist a.db flow valid is in
-      let o = object_exists flow d.0 valid file (payload_exists a.graph a.is_graph a.named a.db a.small flow valid (few_functions flow file) d.0 d.1) in
-      (o.0, record { directives = d.0; in_database = d.1; object = (λ stays. stays, o.1) })
+      let o = object_from one flow d.0 old (object_exists flow d.0 valid file (payload_exists a.graph a.is_graph a.named a.db a.small flow valid (few_functions flow file) d.0 d.1)) in
+      (o.0, o.1, record { directives = d.0; in_database = d.1; object = o.2 })
 
-  objects_exist : (ms : List FlowModule) → AllByRecursion IsValid ms → AllByRecursion HasFile ms → (os : List Object) × (fresh : List Bool) × AreObjectsFrom a.db ms [] os fresh
-  objects_exist [] valid files = ([], [], tt)
-  objects_exist (flow ∷ ms) valid files =
-      let o = module_exists flow valid.0 files.0 in
-      let rest = objects_exist ms valid.1 files.1 in
-      (o.0 ∷ rest.0, true ∷ rest.1, (o.1, rest.2))
+  objects_exist : (ms : List FlowModule) (kept : List (Option Object)) → AllByRecursion IsValid ms → AllByRecursion HasFile ms → (os : List Object) × (fresh : List Bool) × AreObjectsFrom a.db ms kept os fresh
+  objects_exist [] kept valid files = ([], [], tt)
+  objects_exist (flow ∷ ms) kept valid files =
+      let o = module_exists flow (first_kept kept) valid.0 files.0 in
+      let rest = objects_exist ms (kept_behind kept) valid.1 files.1 in
+      (o.0 ∷ rest.0, o.1 ∷ rest.1, (o.2, rest.2))
 
 -- ---- the parts
 
 few_colours : (colours : ℕ) → colours ≤ colour_limit → colours ≤ register_count
 few_colours colours few = omega (arith, few)
 
-module _ (lawful_databases : (ss : List Summary) (colours : ℕ) (db : DirectivesList) → colours ≤ register_count → IsDatabaseOf ss colours db → IsDatabase db) where
-  parts_with : (flows : List FlowModule) (colours : ℕ) → colours ≤ colour_limit → AllByRecursion IsValid flows → AllByRecursion HasFile flows → Analysed flows colours → (parts : Parts) × AreParts flows [] colours parts
-  parts_with flows colours few valid files a =
-      let os = objects_exist flows colours a (lawful_databases a.has.summaries colours a.db (few_colours colours few) a.has.database) flows valid files in
+module _ (lawful_databases : (ss : List Summary) (colours : ℕ) (db : DirectivesList) → colours ≤ register_count → IsDatabaseOf ss colours db → IsDatabase db) (one : FilesAreOne) where
+  parts_with : (flows : List FlowModule) (kept : List (Option Object)) (colours : ℕ) → colours ≤ colour_limit → AllByRecursion IsValid flows → AllByRecursion HasFile flows → Analysed flows colours → (parts : Parts) × AreParts flows kept colours parts
+  parts_with flows kept colours few valid files a =
+      let os = objects_exist flows colours a (lawful_databases a.has.summaries colours a.db (few_colours colours few) a.has.database) one flows kept valid files in
       (record { database = a.db; objects = os.0; fresh = os.1 }, record { lawful = valid; database = a.has; objects = os.2 })
 
-  pub parts_exist : (flows : List FlowModule) (ss : List Summary) (colours : ℕ) → colours ≤ colour_limit → AllByRecursion IsValid flows → AllByRecursion HasFile flows → AreSummariesOf flows ss → AreLinked ss → (parts : Parts) × AreParts flows [] colours parts
-  parts_exist flows ss colours few valid files all linked = parts_with flows colours few valid files (analysed flows ss colours valid files all linked)
+  pub parts_exist : (flows : List FlowModule) (ss : List Summary) (kept : List (Option Object)) (colours : ℕ) → colours ≤ colour_limit → AllByRecursion IsValid flows → AllByRecursion HasFile flows → AreSummariesOf flows ss → AreLinked ss
+      → (parts : Parts) × AreParts flows kept colours parts
+  parts_exist flows ss kept colours few valid files all linked = parts_with flows kept colours few valid files (analysed flows ss colours valid files all linked)

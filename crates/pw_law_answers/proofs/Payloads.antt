@@ -1,14 +1,13 @@
 -- The directives of a module in the database of its program have a payload.
-use Rattle.std.proofs.Common.{◌≡◌, ◌≢◌, ◌⊎◌, ℕ, zero, suc, ◌+◌, ◌^◌, ◌<◌, ◌≤◌, Bool, true, false, List, [], ◌∷◌, ◌++◌, length, map, refl, sym, ap, subst, ◌∙◌, arith, inl, inr, All, length-append}
-use Rattle.std.specs.Prelude.{Contains, Option, Some, None, slice_get, slice_index_or, IsTrue, nat_lt, cond, if◌then◌else◌}
-use Rattle.std.specs.List.{AllByRecursion, flat_map, filter}
+use Rattle.std.proofs.Common.{◌≡◌, ◌≢◌, ◌⊎◌, ℕ, zero, suc, ◌+◌, ◌^◌, ◌<◌, ◌≤◌, Bool, true, false, List, [], ◌∷◌, ◌++◌, length, map, refl, sym, ap, subst, ◌∙◌, arith, inl, inr, length-append}
+use Rattle.std.specs.Prelude.{Contains, Option, Some, None, slice_index_or, nat_lt, cond, if◌then◌else◌}
+use Rattle.std.specs.List.{flat_map, filter}
 use Rattle.std.proofs.lemmas.List.{length-map}
 use Rattle.std.proofs.lemmas.List.Concat.{flat_map-cons}
 use Rattle.std.proofs.lemmas.List.Elements.{recursion_from_All}
 use Rattle.pw_value.specs.declared.value.Kind.{Kind}
 use Rattle.pw_value.specs.declared.value.Kind.TheVariants.{W32}
 use Rattle.pw_value.specs.Names.{IsNameLength}
-use Rattle.pw_value.specs.Limits.{function_limit, global_limit}
 use Rattle.pw_fields.specs.FieldNames.{IsTableOf}
 use Rattle.pw_files.proofs.Standing.{Has, contains_by, has_by, has_each, each_by, has_map, has_map_back, has_split, has_left, has_right, has_flat, has_flat_back, stands_or_not}
 use Rattle.pw_files.proofs.ByteOrder.{table_rises}
@@ -16,7 +15,7 @@ use Rattle.pw_flow.specs.FlowGraph.{global_names, function_names}
 use Rattle.pw_flow.specs.ValidFlow.{AreDistinct, IsValid}
 use Rattle.pw_flow.specs.declared.flow.FlowModule.{FlowModule}
 use Rattle.pw_flow.proofs.Once.{distinct_right}
-use Rattle.pw_db.specs.Database.{EachTwo, IsDirectives, Agree, IsDatabase, HasDirectives, IsStored, IsPayload, FitsFunction, FitsDatabase, IsDatabaseContents, all_webs, webs_of as webs_in, has_web, names_of, names_of_function, empty, spelling}
+use Rattle.pw_db.specs.Database.{EachTwo, IsDirectives, Agree, IsDatabase, HasDirectives, IsStored, FitsFunction, FitsDatabase, IsDatabaseContents, all_webs, webs_of as webs_in, has_web, names_of, names_of_function, empty, spelling}
 use Rattle.pw_db.specs.declared.database.Directives.{Directives}
 use Rattle.pw_db.specs.declared.database.Role.{Role}
 use Rattle.pw_db.specs.declared.database.Role.TheVariants.{Entry, Member}

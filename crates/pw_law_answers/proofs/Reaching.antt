@@ -1,14 +1,13 @@
 -- Of a call graph can be told who calls whom, which functions a path leads to, what the region of a global has, and what is joined there.
-use Rattle.std.proofs.Common.{◌≡◌, ◌⊎◌, ℕ, zero, suc, ◌<◌, ◌≤◌, List, [], ◌∷◌, length, refl, sym, ap, subst, ◌∙◌, arith, inl, inr}
+use Rattle.std.proofs.Common.{◌≡◌, ◌⊎◌, ℕ, ◌<◌, ◌≤◌, List, ◌∷◌, length, refl, sym, subst, ◌∙◌, arith, inl, inr}
 use Rattle.std.specs.Prelude.{Contains, Option, Some, None, slice_get}
-use Rattle.std.proofs.lemmas.Bool.{cases_eq, cases_lt}
+use Rattle.std.proofs.lemmas.Bool.{cases_eq}
 use Rattle.std.proofs.lemmas.Option.{same_Some, slice_get_within}
 use Rattle.pw_files.proofs.Standing.{Has, has_by, contains_by}
 use Rattle.pw_graph.specs.declared.graph.CallGraph.{CallGraph}
 use Rattle.pw_graph.specs.CallGraph.{Calls, Path, call, on, Weighs, References, Writes, IsGraph}
 use Rattle.pw_webs.specs.Webs.{Region, refers, between, outside, Joined, self, forth, back, HasCaller}
 use Rattle.pw_webs.proofs.RegionLaws.{join}
-use Rattle.pw_webs.proofs.Closed.{in_region}
 use Rattle.pw_law_answers.proofs.Telling.{Told, told_both, told_either, told_same, told_some, told_below, told_less, told_has, Closed, least_set}
 
 no_row : {X : Type 0} (x : X) → ◌≡◌ {A = Option X} None (Some x) → ⊥

@@ -1,19 +1,18 @@
 -- Each lawful flow graph has a summary.
 use Rattle.std.proofs.Common.{◌≡◌, ◌≢◌, ℕ, Bool, List, [], ◌∷◌, map, refl, sym, ap, subst, ◌∙◌, inl, inr}
-use Rattle.std.specs.Prelude.{Contains, Option, Some, None}
-use Rattle.std.specs.List.{AllByRecursion}
+use Rattle.std.specs.Prelude.{Option, Some, None}
 use Rattle.std.proofs.lemmas.Option.{same_Some}
 use Rattle.pw_value.specs.declared.value.Kind.{Kind}
 use Rattle.pw_flow.specs.declared.flow.FlowFn.{FlowFn}
 use Rattle.pw_flow.specs.declared.flow.FlowModule.{FlowModule}
-use Rattle.pw_flow.specs.FlowGraph.{named_in, global_names, function_names, declared_names}
+use Rattle.pw_flow.specs.FlowGraph.{named_in, global_names, function_names}
 use Rattle.pw_flow.specs.ValidFlow.{AreDistinct, IsValid}
 use Rattle.pw_flow.proofs.Once.{distinct_left, distinct_right}
 use Rattle.pw_summary.specs.declared.summary.Uses.{Uses}
 use Rattle.pw_summary.specs.declared.summary.Summary.{Summary}
 use Rattle.pw_files.proofs.Standing.{Has, contains_by, has_by, has_each, has_map, has_map_back, has_flat_back}
 use Rattle.pw_files.proofs.Views.{seen}
-use Rattle.pw_summarise.specs.Summarises.{IsOrdered, called, called_shape, referenced, addressed, in_function, in_module, reference, function_shape, as_taken, taken_of, escaped_of, global_entry, function_entry, function_entries, IsUsesOf, AreUsesOf, Summarises}
+use Rattle.pw_summarise.specs.Summarises.{called, called_shape, referenced, addressed, in_function, in_module, reference, function_shape, as_taken, taken_of, escaped_of, global_entry, function_entry, function_entries, IsUsesOf, AreUsesOf, Summarises}
 use Rattle.pw_law_answers.proofs.Ordering.{ordered, ordered_names}
 
 -- ---- items of one key are one

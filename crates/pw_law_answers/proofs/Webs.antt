@@ -1,10 +1,9 @@
 -- Each call graph has its webs.
-use Rattle.std.proofs.Common.{◌≡◌, ◌⊎◌, ℕ, zero, suc, ◌+◌, ◌*◌, ◌^◌, ◌<◌, ◌≤◌, Bool, true, false, List, [], ◌∷◌, ◌++◌, length, refl, sym, ap, subst, ◌∙◌, arith, inl, inr, add-one}
-use Rattle.std.specs.Prelude.{Contains, Some, slice_get, ◌↔◌, IsTrue, ℤ, pos, ◌+ℤ◌}
+use Rattle.std.proofs.Common.{◌≡◌, ◌⊎◌, ℕ, zero, suc, ◌+◌, ◌*◌, ◌^◌, ◌<◌, ◌≤◌, Bool, true, false, List, [], ◌∷◌, ◌++◌, length, refl, subst, ◌∙◌, arith, inl, inr, add-one}
+use Rattle.std.specs.Prelude.{◌↔◌, IsTrue, ℤ, pos, ◌+ℤ◌}
 use Rattle.std.specs.List.{sum_by}
 use Rattle.std.proofs.Math.IntN.{◌-ℤ◌}
 use Rattle.std.proofs.lemmas.Int.{ints}
-use Rattle.pw_value.specs.Limits.{function_limit}
 use Rattle.pw_fix.specs.Row.{Holds, members as numbers}
 use Rattle.pw_fix.specs.declared.bit_row.BitRow.{BitRow}
 use Rattle.pw_fix.proofs.Bits.{held_cases}
@@ -12,7 +11,7 @@ use Rattle.pw_graph.specs.declared.graph.CallGraph.{CallGraph}
 use Rattle.pw_graph.specs.CallGraph.{Writes, IsGraph}
 use Rattle.pw_graph.proofs.Members.{in_members, held_within}
 use Rattle.pw_webs.specs.declared.web.RawWeb.{RawWeb}
-use Rattle.pw_webs.specs.Webs.{Region, Joined, self, HasCaller, IsWeb, IsRawWeb, IsWebAt, IsNextWeb, AreWebsAt, AreWebs, weight, entry_cost}
+use Rattle.pw_webs.specs.Webs.{Region, Joined, HasCaller, IsWeb, IsWebAt, AreWebsAt, AreWebs, weight, entry_cost}
 use Rattle.pw_webs.proofs.Closed.{in_region}
 use Rattle.pw_webs.proofs.Gather.{IsGathered, none_gathered, gather_skip, gather_put, gather_end, AreFound, none_found, found_more, found_all, found_few}
 use Rattle.pw_law_answers.proofs.Telling.{Told, told_both, told_either, told_same, told_below, told_not}

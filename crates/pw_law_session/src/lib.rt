@@ -7,4 +7,5 @@ mod sessions;
 
 pub use builds::builds_are_full;
 pub use history::histories_build_in_full;
+pub use pw_law_build::a_store_is_built_exactly_where_it_can_be;
 pub use sessions::{bench_builds_in_full, sessions_build_in_full};

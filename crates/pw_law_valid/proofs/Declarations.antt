@@ -9,20 +9,20 @@ use Rattle.pw_tree.specs.Spelling.{spell_specifiers, spell_declarator, spell_ini
 use Rattle.pw_tree.specs.Symbols.{Symbol}
 use Rattle.pw_types.specs.declared.record.RecordKind.{RecordKind}
 use Rattle.pw_types.specs.TypeTrees.{QType, type_of}
-use Rattle.pw_types.specs.TypedTrees.{Initialiser, PlacedItem}
+use Rattle.pw_types.specs.TypedTrees.{Initialiser}
 use Rattle.pw_types.specs.TypedTrees as T
 use Rattle.pw_check_walk.specs.Causes.{needs, DeclaresSomething}
 use Rattle.pw_check_walk.specs.Walks.{Walk, Done, bind, meets}
-use Rattle.pw_check_rules.specs.Declarations.{Sort, ATypedef, AFunction, AGlobal, AnExtern, AStatic, ALocal, sort_of, asking_of, name_of, name_rule, hidden_of, local_of, is_tentative, completed_rule, fitting_rule, context_of, place_here, global_rule, static_rule, bytes_rule, single_rule, local_initialiser, local_rule, declare_rule, init_declarator_rule, init_declarators_rule, storage_rule, declares_something, specified_rule, bare_rule, declarators_rule, decl_rule, decls_rule, put_local}
+use Rattle.pw_check_rules.specs.Declarations.{Sort, ATypedef, AFunction, AGlobal, AnExtern, AStatic, ALocal, sort_of, asking_of, name_of, name_rule, hidden_of, local_of, is_tentative, completed_rule, fitting_rule, context_of, global_rule, static_rule, bytes_rule, single_rule, local_initialiser, local_rule, declare_rule, init_declarator_rule, init_declarators_rule, storage_rule, declares_something, specified_rule, bare_rule, declarators_rule, decl_rule, decls_rule}
 use Rattle.pw_check_rules.specs.Derivations.{built, spot_of}
-use Rattle.pw_check_rules.specs.Initialisers.{Context, Initialised, object_rule, is_by_bytes}
+use Rattle.pw_check_rules.specs.Initialisers.{object_rule, is_by_bytes}
 use Rattle.pw_check_rules.specs.Kinds.{is_const_object}
 use Rattle.pw_check_rules.specs.Leaves.{new_tag, reference_by, alone_by, alone_rule, record_kind, first_of_list}
 use Rattle.pw_check_rules.specs.Limits.{Spot}
-use Rattle.pw_check_rules.specs.Linkage.{Asking, AsBefore, declare_linked, note_linked, note_here, type_here, place_for, linked_before, linked_again, linked_anew, is_internal_by, change_linked, slot_for, has_slot, define_tentatively, define_object, define_function, initialise_linked, named_type}
+use Rattle.pw_check_rules.specs.Linkage.{Asking, AsBefore, declare_linked, note_linked, note_here, type_here, place_for, linked_before, linked_again, linked_anew, is_internal_by, change_linked, slot_for, has_slot, define_tentatively, define_object, initialise_linked, named_type}
 use Rattle.pw_check_rules.specs.Phrases.{declarator_rule}
-use Rattle.pw_check_rules.specs.SpecifierLists.{Specified, specified, nothing_gathered, is_register}
-use Rattle.pw_check_rules.specs.States.{State, Rule, Entity, TypeName, StaticObject, LocalObject, Linked, LinkedName, HiddenObject, is_file_scope, tag_here, linked_at, add_hidden, put_hidden, put_at, put_linked, add_linked, add_slot, put_entity, enter, entry_here, entity_here, next_hidden, add_local, next_local}
+use Rattle.pw_check_rules.specs.SpecifierLists.{Specified, nothing_gathered, is_register}
+use Rattle.pw_check_rules.specs.States.{State, TypeName, StaticObject, LocalObject, Linked, LinkedName, HiddenObject, is_file_scope, tag_here, linked_at, add_hidden, put_at, put_linked, add_linked, add_slot, put_entity, enter, entry_here, entity_here, next_hidden, add_local, next_local}
 use Rattle.pw_check_rules.specs.declared.names.Entry.{Entry}
 use Rattle.pw_check_rules.specs.declared.names.Slot.TheVariants as slot
 use Rattle.pw_check_rules.specs.declared.names.Tag.{Tag}

@@ -8,7 +8,7 @@ use Rattle.pw_tree.specs.Trees.{Expr, Word, Init, Inits}
 use Rattle.pw_tree.specs.Trees as S
 use Rattle.pw_types.specs.TypeTrees.{CType, QType, type_of}
 use Rattle.pw_check_walk.specs.Walks.{Walk, bind}
-use Rattle.pw_check_rules.specs.Initialisers.{Context, Filled, Cursor, Target, Initialised, StringForm, IsString, IsOther, string_form, braced_string, words_in, target_at, frame_of, nothing_filled, string_filled, listed_string, listed_expression, listed_by, listed_form, meets_characters, braced_by, inits_rule, init_rule, object_string, object_value, object_list, object_by, object_rule, fills_characters}
+use Rattle.pw_check_rules.specs.Initialisers.{Context, Filled, Cursor, Target, Initialised, StringForm, IsString, IsOther, string_form, braced_string, words_in, target_at, frame_of, nothing_filled, string_filled, listed_expression, listed_by, listed_form, meets_characters, braced_by, inits_rule, init_rule, object_string, object_value, object_list, object_by, object_rule, fills_characters}
 use Rattle.pw_check_rules.specs.States.{State, Rule, records_in, next_hidden}
 use Rattle.pw_law_checked.proofs.Walking.{Post}
 use Rattle.pw_law_checked.proofs.Still.{Still, braced_target_still, listed_string_still, listed_value_still, string_filled_still, value_filled_still}

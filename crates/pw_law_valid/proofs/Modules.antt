@@ -1,25 +1,24 @@
 -- Functions and modules: a module makes no more objects without a name than its text has tokens, and each has a number below that.
-use Rattle.std.specs.Prelude.{ℕ, zero, suc, ◌≡◌, ◌+◌, ◌<◌, ◌≤◌, Bool, true, false, not, if◌then◌else◌, Option, None, Some, is_some, List, [], ◌∷◌, length, map, flat_map, slice_get, All, Ok, refl}
+use Rattle.std.specs.Prelude.{ℕ, ◌≡◌, ◌+◌, ◌<◌, ◌≤◌, Bool, true, false, if◌then◌else◌, Option, None, Some, List, [], ◌∷◌, length, slice_get, All, Ok, refl}
 use Rattle.std.specs.List.{AllByRecursion}
 use Rattle.std.specs.Option.{option_map_or}
-use Rattle.std.proofs.Common.{arith, ap, sym, subst, ◌∙◌}
+use Rattle.std.proofs.Common.{arith, sym, subst, ◌∙◌}
 use Rattle.std.proofs.lemmas.List.Elements.{All-from_recursion}
 use Rattle.pw_tree.specs.Trees.{Word, Decl, Block, Function, External, Module}
 use Rattle.pw_tree.specs.Trees as S
-use Rattle.pw_tree.specs.Spelling.{symbols, spell_specifiers, spell_declarator, spell_decls, spell_block, spell_external, spell_externals}
+use Rattle.pw_tree.specs.Spelling.{symbols, spell_declarator, spell_decls, spell_block, spell_external, spell_externals}
 use Rattle.pw_tree.specs.Symbols.{Symbol}
 use Rattle.pw_types.specs.TypeTrees.{QType}
-use Rattle.pw_types.specs.TypedTrees.{External as Shared, Internal, Hidden, Statement, GlobalValue, ModuleValue}
+use Rattle.pw_types.specs.TypedTrees.{External as Shared, Internal, Hidden, GlobalValue, ModuleValue}
 use Rattle.pw_flow.proofs.Lists.{all_flat}
-use Rattle.pw_check_walk.specs.Walks.{Walk, Done, bind}
+use Rattle.pw_check_walk.specs.Walks.{Done, bind}
 use Rattle.pw_check_rules.specs.Checks.{Checks, checking}
-use Rattle.pw_check_rules.specs.Declarations.{name_of, specified_rule, decl_rule}
-use Rattle.pw_check_rules.specs.Derivations.{Bindings, Declared, built, spot_of}
+use Rattle.pw_check_rules.specs.Declarations.{name_of}
+use Rattle.pw_check_rules.specs.Derivations.{Bindings, Declared, spot_of}
 use Rattle.pw_check_rules.specs.Functions.{bindings_of, enter_body, definition_asking, definition_rules, measured_rule, body_rule, function_rule}
 use Rattle.pw_check_rules.specs.Leaves.{is_nil, first_of_declaration}
-use Rattle.pw_check_rules.specs.Linkage.{symbol_of_linked, declare_linked, define_function}
-use Rattle.pw_check_rules.specs.Modules.{external_rule, externals_rule, end_rule, module_rule, module_in, global_in, named_global, hidden_global}
-use Rattle.pw_check_rules.specs.Phrases.{declarator_rule}
+use Rattle.pw_check_rules.specs.Linkage.{symbol_of_linked, define_function}
+use Rattle.pw_check_rules.specs.Modules.{external_rule, externals_rule, module_rule, module_in, global_in, named_global, hidden_global}
 use Rattle.pw_check_rules.specs.SpecifierLists.{Specified}
 use Rattle.pw_check_rules.specs.States.{State, HiddenObject, LinkedName, linked_at, next_hidden, start}
 use Rattle.pw_check_rules.specs.Statements.{block_rule, labels_in_block}
@@ -28,10 +27,10 @@ use Rattle.pw_check_rules.specs.declared.names.Slot.TheVariants as slot
 use Rattle.pw_law_valid.specs.Numbered.{IsNumberedBelow}
 use Rattle.pw_law_checked.proofs.Walking.{Post, AreMet, post_end, post_bind, post_weaken, truth}
 use Rattle.pw_law_checked.proofs.Lists.{get_within}
-use Rattle.pw_law_checked.proofs.Still.{Still, built_still}
+use Rattle.pw_law_checked.proofs.Still.{built_still}
 use Rattle.pw_law_checked.proofs.FunctionLaws.{met_post, end_same}
 use Rattle.pw_law_checked.proofs.LabelLaws.{asked_post}
-use Rattle.pw_law_valid.proofs.Spending.{Spends, Same, stays, then_spends, still_spends, same_spends, token_before}
+use Rattle.pw_law_valid.proofs.Spending.{Spends, Same, stays, then_spends, still_spends}
 use Rattle.pw_law_valid.proofs.Phrases.{declarator_spends}
 use Rattle.pw_law_valid.proofs.Declarations.{declared_same, changed_same, changed_spends, specified_spends, decl_spends}
 use Rattle.pw_law_valid.proofs.Statements.{block_spends}

@@ -9,13 +9,13 @@ use Rattle.pw_tree.specs.declared.operator.StepOperator.TheVariants as J
 use Rattle.pw_tree.specs.declared.operator.UnaryOperator.TheVariants as P
 use Rattle.pw_tree.specs.declared.expr.Qualifier.{Qualifier}
 use Rattle.pw_tree.specs.FirstTokens.{first_of_expr}
-use Rattle.pw_tree.specs.Spelling.{trailed, spell_strings, spell_tag, spell_qualifiers, spell_pointers, spell_expr, spell_postfixes, spell_arguments, spell_operations, spell_specifiers, spell_members, spell_member_declarators, spell_enumerators, spell_declarator, spell_core, spell_suffixes, spell_parameters, spell_init, spell_inits}
+use Rattle.pw_tree.specs.Spelling.{spell_strings, spell_tag, spell_qualifiers, spell_pointers, spell_expr, spell_postfixes, spell_arguments, spell_operations, spell_specifiers, spell_members, spell_member_declarators, spell_enumerators, spell_declarator, spell_core, spell_suffixes, spell_parameters}
 use Rattle.pw_token.specs.declared.symbol.Mark.TheVariants as m
 use Rattle.pw_tree.specs.Symbols.{Symbol, Sign}
-use Rattle.pw_tree.specs.Trees.{Pointer, Expr, Postfixes, Arguments, Operations, Specifiers, Members, MemberDeclarators, Enumerators, Declarator, Core, Suffixes, Parameters, Word, Init, Inits}
+use Rattle.pw_tree.specs.Trees.{Pointer, Expr, Postfixes, Arguments, Operations, Specifiers, Members, MemberDeclarators, Enumerators, Declarator, Core, Suffixes, Parameters, Word}
 use Rattle.pw_tree.specs.Trees as S
 use Rattle.pw_types.specs.declared.record.RecordKind.{RecordKind}
-use Rattle.pw_types.specs.TypeTrees.{CType, QType, MemberValue, type_of}
+use Rattle.pw_types.specs.TypeTrees.{MemberValue}
 use Rattle.pw_types.specs.TypedTrees.{Expression}
 use Rattle.pw_check_literals.specs.Characters.{string_bytes_of}
 use Rattle.pw_check_walk.specs.Walks.{Walk, bind}
@@ -25,13 +25,12 @@ use Rattle.pw_check_rules.specs.Leaves.{string_rule, string_point, string_type, 
 use Rattle.pw_check_rules.specs.Phrases.{expr_rule, postfixes_rule, arguments_rule, operations_rule, specifiers_rule, members_rule, member_declarators_rule, enumerators_rule, declarator_rule, core_rule, suffixes_rule, parameters_rule}
 use Rattle.pw_check_rules.specs.SpecifierLists.{Gathered, nothing_gathered, gather_storage, gather_qualifier, gather_word, gather_type, Specified}
 use Rattle.pw_check_rules.specs.Derivations.{Declared, ParameterValue, built}
-use Rattle.pw_check_rules.specs.Initialisers.{Context, Filled, Cursor, Target, Initialised, StringForm, IsString, IsOther, string_form, braced_string, words_in, target_at, frame_of, nothing_filled, string_filled, listed_expression, listed_by, listed_form, meets_characters, braced_by, inits_rule, init_rule, object_string, object_value, object_list, object_by, object_rule, fills_characters}
 use Rattle.pw_check_rules.specs.Kinds.{int_type}
-use Rattle.pw_check_rules.specs.States.{State, Rule, Entity, HiddenObject, scoped, uncounted, one_deeper, records_in, tag_of, tag_here, with_made, add_hidden, next_hidden}
+use Rattle.pw_check_rules.specs.States.{State, Rule, Entity, HiddenObject, scoped, uncounted, one_deeper, tag_of, tag_here, with_made, add_hidden, next_hidden}
 use Rattle.pw_check_rules.specs.declared.names.Tag.{Tag}
 use Rattle.pw_check_rules.specs.declared.names.Tag.TheVariants as G
 use Rattle.pw_law_checked.proofs.Walking.{Post, post_bind, post_weaken, after_any}
-use Rattle.pw_law_checked.proofs.Still.{Still, address_still, arrow_still, assignment_still, bindings_still, braced_target_still, built_still, call_still, cast_still, character_still, conditional_still, deref_still, dot_still, enumeration_still, enumerator_name_still, enumerator_value_still, identifier_still, index_still, length_still, listed_string_still, listed_value_still, named_still, number_still, operation_still, sign_still, size_still, specified_still, step_still, storage_still, string_filled_still, type_size_still, typedef_still, value_filled_still, value_still}
+use Rattle.pw_law_checked.proofs.Still.{Still, address_still, arrow_still, assignment_still, bindings_still, built_still, call_still, cast_still, character_still, conditional_still, deref_still, dot_still, enumeration_still, enumerator_name_still, enumerator_value_still, identifier_still, index_still, length_still, named_still, number_still, operation_still, sign_still, size_still, specified_still, step_still, storage_still, type_size_still, typedef_still, value_still}
 use Rattle.pw_law_valid.proofs.Spending.{Spends, Same, stays, then_spends, still_spends, same_spends, wider_spends, token_before, token_behind, comma_before, with_lead, item_before, no_item}
 
 pub then_same : {A B : Type 0} (s : State) (w : Walk (A × State)) (next : A × State → Walk (B × State)) → Post w (Same s) → ((r : A × State) → Post (next r) (Same r.1)) → Post (bind w next) (Same s)

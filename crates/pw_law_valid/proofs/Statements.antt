@@ -4,23 +4,21 @@ use Rattle.std.specs.Prelude.{ℕ, suc, ◌+◌, ◌≤◌, Option, None, Some, 
 use Rattle.std.proofs.Common.{arith}
 use Rattle.pw_tree.specs.Trees.{Word, Expr, Stmt, Alternative, Block, Stmts, Label}
 use Rattle.pw_tree.specs.Trees as S
-use Rattle.pw_tree.specs.Spelling.{spell_expr, spell_optional, spell_decls, spell_label, spell_labels, spell_stmt, spell_alternative, spell_block, spell_stmts}
+use Rattle.pw_tree.specs.Spelling.{spell_expr, spell_optional, spell_label, spell_labels, spell_stmt, spell_alternative, spell_block, spell_stmts}
 use Rattle.pw_token.specs.declared.symbol.Mark.TheVariants as m
 use Rattle.pw_token.specs.declared.symbol.Keyword.TheVariants as keyword
 use Rattle.pw_tree.specs.Symbols.{Symbol, Sign, Reserved}
 use Rattle.pw_types.specs.TypedTrees.{Expression, Statement}
-use Rattle.pw_check_walk.specs.Walks.{Walk, bind}
+use Rattle.pw_check_walk.specs.Walks.{bind}
 use Rattle.pw_check_rules.specs.Kinds.{kind_in}
-use Rattle.pw_check_rules.specs.Operators.{value_rule}
 use Rattle.pw_types.specs.WellTyped.{type_in}
-use Rattle.pw_check_rules.specs.Phrases.{expr_rule}
 use Rattle.pw_check_rules.specs.States.{State, Rule, next_hidden, with_body}
 use Rattle.pw_check_rules.specs.Statements.{enter_switch, new_label, case_rule, inside_switch, default_rule, name_label_rule, label_rule, labels_rule, whole_rule, optional_rule, condition_rule, optional_condition, switch_rule, in_switch, in_loop, goto_rule, continue_rule, break_rule, return_rule, stmt_rule, alternative_rule, block_rule, stmts_rule}
 use Rattle.pw_law_checked.proofs.Walking.{Post}
 use Rattle.pw_law_checked.proofs.Still.{Still, value_still}
 use Rattle.pw_law_checked.proofs.LabelLaws.{asked_post}
 use Rattle.pw_law_valid.proofs.Spending.{Spends, Same, stays, then_spends, still_spends, same_spends, token_before, token_behind}
-use Rattle.pw_law_valid.proofs.Phrases.{then_same, expr_spends, valued_spends, scoped_spends}
+use Rattle.pw_law_valid.proofs.Phrases.{expr_spends, valued_spends, scoped_spends}
 use Rattle.pw_law_valid.proofs.Declarations.{both_less, decls_spends}
 
 less : (n m : ℕ) → n + m ≤ n + suc m

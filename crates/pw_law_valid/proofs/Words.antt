@@ -1,8 +1,8 @@
 -- Numbers below the limit on tokens are words.
-use Rattle.std.specs.Prelude.{ℕ, ◌<◌, ◌≤◌, ◌^◌, List, All}
+use Rattle.std.specs.Prelude.{ℕ, ◌<◌, ◌≤◌, ◌^◌, All}
 use Rattle.std.proofs.Common.{arith}
 use Rattle.pw_token.specs.Limits.{token_limit}
-use Rattle.pw_types.specs.TypedTrees.{Symbol, External, Internal, Hidden, GlobalValue, ModuleValue}
+use Rattle.pw_types.specs.TypedTrees.{Symbol, External, Internal, Hidden, ModuleValue}
 use Rattle.pw_law_checked.specs.Names.{HasWord, AreNumbered}
 use Rattle.pw_law_valid.specs.Numbered.{IsNumberedBelow}
 

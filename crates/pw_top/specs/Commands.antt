@@ -1,8 +1,9 @@
 -- Kinds of commands, and what each leaves alone.
-use Rattle.std.specs.Prelude.{ℕ, Bool, true, false, List, [], ◌∷◌, Option, Some, IfSome, IsSomeAnd, Result}
+use Rattle.std.specs.Prelude.{ℕ, Bool, true, false, List, [], ◌∷◌, Option, Some, IfSome, IsSomeAnd, Result, ◌↔◌}
 use Rattle.pw_io.specs.Files.{Files, Told}
 use Rattle.pw_store_modules.specs.FileNames.{database_name, image_name}
 use Rattle.pw_top_answer.specs.declared.answer.Answer.{Answer}
+use Rattle.pw_top_answer.specs.Outcomes.{IsNoRefusal}
 use Rattle.pw_store_modules.specs.Modules.{modules_of}
 use Rattle.pw_session.specs.FromBuild.Phases as phases
 use Rattle.pw_session.specs.FromBuild.BuildFault.{BuildFault}
@@ -15,6 +16,8 @@ use Rattle.pw_session.specs.Changes.{MakesSome}
 use Rattle.pw_session.specs.Outcomes.{EndsAs}
 use Rattle.pw_session.specs.Removals.{MayRemove}
 use Rattle.pw_session.specs.FromBuildFiles.Driving.{KeepsUnput}
+use Rattle.pw_build_opts.specs.declared.opts.Opts.{Opts}
+use Rattle.pw_law_session.specs.FromBuildLaws.Complete.{CanBeBuilt}
 use Rattle.pw_law_session.specs.Full.{SessionBuildsInFull}
 use Rattle.pw_top.specs.Rest.{LeavesRest}
 use Rattle.pw_top.specs.Whole.{BenchesFull, ComesInFull, IfMade, ReportsFull, RunsFull}
@@ -86,6 +89,18 @@ abbrev pub RefusesAsBuilt : Option Command → Files → Answer → Type 0
 RefusesAsBuilt (Some (Go opts)) files answer = (comes : Result Outcome BuildFault) → BuildOutcome files opts.build comes → AnswersOutcome comes answer
 RefusesAsBuilt (Some (Build opts)) files answer = (comes : Result Outcome BuildFault) → BuildOutcome files opts comes → AnswersOutcome comes answer
 RefusesAsBuilt _ files answer = Unit {0}
+
+-- Where the kept objects are genuine, nothing is refused exactly where the modules can be built: they are accepted one by one and
+-- together, and text and memory are large enough. So it is of every answer but a fault of the store and want of memory, which may
+-- come in the place of either.
+abbrev pub BuildsWhereItCan : Files → Opts → Answer → Type 0
+BuildsWhereItCan files opts answer = KeepsGenuine files → IfMade answer (IsNoRefusal answer ↔ CanBeBuilt (modules_of files) opts)
+
+-- `build` and `go` do so
+abbrev pub IsComplete : Option Command → Files → Answer → Type 0
+IsComplete (Some (Go opts)) files answer = BuildsWhereItCan files opts.build answer
+IsComplete (Some (Build opts)) files answer = BuildsWhereItCan files opts answer
+IsComplete _ files answer = Unit {0}
 
 -- Where the kept objects were genuine, `build` and `go` come to the report and to the run of the full build's image, or to its
 -- refusal, and leave its database and its image; and each build of a session, whatever ended it, is the full build of the

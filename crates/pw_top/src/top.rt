@@ -6,7 +6,7 @@ ghost use Rattle.pw_top_answer.specs.Answers.{line_text};
 ghost use Rattle.pw_top_answer.specs.Outcomes.{InputCount, LeavesStreams, OutputCount, StoreCount, Tells, TellsSome};
 ghost use Rattle.pw_session.specs.FromBuildFiles.Genuine.{KeepsGenuine};
 ghost use Rattle.pw_top.specs.Answers.{HoldsNoWantOfMemory, IsNoUsage};
-ghost use Rattle.pw_top.specs.Commands.{BuildsWhole, EndsScript, IsNoSession, KeepsTheRest, OnlyReads, RefusesAsBuilt, is_builder, is_phase, is_reader, line_of};
+ghost use Rattle.pw_top.specs.Commands.{BuildsWhole, EndsScript, IsComplete, IsNoSession, KeepsTheRest, OnlyReads, RefusesAsBuilt, is_builder, is_phase, is_reader, line_of};
 ghost use Rattle.pw_top.specs.Does.{DoesAs};
 ghost use Rattle.pw_top.specs.Obeying.{CarriesOut, outside_of};
 ghost use Rattle.pw_top_words.specs.CommandLine.{command_of};
@@ -18,7 +18,10 @@ use pw_go::go;
 use pw_go::laws::runs_leave_an_end;
 use pw_io::laws::other_files;
 use pw_io::{Sink, Source, Store};
-use pw_law_session::{bench_builds_in_full, builds_are_full, sessions_build_in_full};
+use pw_law_session::{
+    a_store_is_built_exactly_where_it_can_be, bench_builds_in_full, builds_are_full,
+    sessions_build_in_full,
+};
 use pw_session::{bench, build_modules, genuine_files_keep_genuine, run_session};
 use pw_top_answer::{Answer, Reply, tell};
 use pw_top_words::laws::commands_are_within;
@@ -183,6 +186,9 @@ pub fn pawc_top<S: Store, I: Source, O: Sink, E: Sink>(
     ensures ends_script { EndsScript (command_of (map string_bytes words.now)) (I.rest input.old) result }
     ensures builds_whole { IfSome (S.told store.old) (λ told. IfSome (I.rest input.old) (λ rest. BuildsWhole (command_of (map string_bytes words.now)) result told (S.told store.new) rest (I.rest input.new) (O.taken out.old) (O.taken out.new))) }
 
+    // where nothing is refused
+    ensures complete { IfSome (S.told store.old) (λ told. IfSome (I.rest input.old) (λ rest. IsComplete (command_of (map string_bytes words.now)) told.files result)) }
+
     // no refusal is one for want of memory
     ensures no_want_refused { HoldsNoWantOfMemory result }
 
@@ -204,6 +210,7 @@ pub fn pawc_top<S: Store, I: Source, O: Sink, E: Sink>(
     ensures line { IfSome (S.told store.old) (λ told. Tells (line_text (line_of (command_of (map string_bytes words.now)) told.files) result) (E.taken err.old) (E.taken err.new) (E.faults err.old) (E.faults err.new)) }
     ensures some_line { TellsSome result (E.taken err.old) (E.taken err.new) (E.faults err.old) (E.faults err.new) }
 {
+    a_store_is_built_exactly_where_it_can_be();
     bench_builds_in_full();
     builds_are_full();
     commands_are_within();
