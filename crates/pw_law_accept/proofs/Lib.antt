@@ -6,6 +6,7 @@ mod Modules
 mod Programs
 mod Given
 mod Checked
+mod Numbered
 mod Whole
 mod FunctionShapes
 mod References

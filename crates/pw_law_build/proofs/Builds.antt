@@ -7,7 +7,6 @@ use Rattle.pw_flow.specs.declared.flow.FlowModule.{FlowModule}
 use Rattle.pw_flow.specs.ValidFlow.{IsValid}
 use Rattle.pw_summary.specs.declared.summary.Summary.{Summary}
 use Rattle.pw_object.specs.declared.object.Object.{Object}
-use Rattle.pw_link_interface.specs.Interface.{interface}
 use Rattle.pw_link_rules.specs.declared.interface.Interface.{Interface}
 use Rattle.pw_link_rules.specs.Linking.{Links, Refusal}
 use Rattle.pw_graph.specs.Program.{AreRefused}
@@ -23,7 +22,7 @@ use Rattle.pw_law_build.specs.Alike.{shown, DeclaresMain}
 use Rattle.pw_law_build.specs.Complete.{HasRoom, CanBeBuilt}
 use Rattle.pw_build_opts.specs.declared.opts.Opts.{Opts}
 
--- ---- the flow graphs of a build
+-- ---- the flow graphs of a build declare their `main`
 
 no_flows : (fault : BuildFault) (flows : List FlowModule) → ◌≡◌ {A = Result (List FlowModule) BuildFault} (Err fault) (Ok flows) → ⊥
 no_flows fault flows e = absurd cc
@@ -31,24 +30,23 @@ no_flows fault flows e = absurd cc
 same_flows : (a b : List FlowModule) → ◌≡◌ {A = Result (List FlowModule) BuildFault} (Ok a) (Ok b) → a ≡ b
 same_flows a b e = cc
 
-module _ (P : FlowModule → Type 0) (each : (name text : List ℕ) (flow : FlowModule) → compiled name text ≡ Ok flow → P flow) where
-  each_by : (name text : List ℕ) (phase : Phase) (others : Result (List FlowModule) BuildFault) (flows : List FlowModule) → compiled name text ≡ phase
-      → ((rest : List FlowModule) → others ≡ Ok rest → AllByRecursion P rest) → before_others name phase others ≡ Ok flows → AllByRecursion P flows
-  each_by name text (Err refusal) others flows is later e = absurd (no_flows (Refused name refusal) flows e)
-  each_by name text (Ok flow) (Err fault) flows is later e = absurd (no_flows fault flows e)
-  each_by name text (Ok flow) (Ok rest) flows is later e = subst (AllByRecursion P) (same_flows (flow ∷ rest) flows e) (each name text flow is, later rest refl)
+module _ (declares : (name text : List ℕ) (flow : FlowModule) → compiled name text ≡ Ok flow → DeclaresMain flow) where
+  declared_by : (name text : List ℕ) (phase : Phase) (others : Result (List FlowModule) BuildFault) (flows : List FlowModule) → compiled name text ≡ phase
+      → ((rest : List FlowModule) → others ≡ Ok rest → AllByRecursion DeclaresMain rest) → before_others name phase others ≡ Ok flows → AllByRecursion DeclaresMain flows
+  declared_by name text (Err refusal) others flows is later e = absurd (no_flows (Refused name refusal) flows e)
+  declared_by name text (Ok flow) (Err fault) flows is later e = absurd (no_flows fault flows e)
+  declared_by name text (Ok flow) (Ok rest) flows is later e = subst (AllByRecursion DeclaresMain) (same_flows (flow ∷ rest) flows e) (declares name text flow is, later rest refl)
 
-  all_each : (sources : List Source) (flows : List FlowModule) → flows_of sources ≡ Ok flows → AllByRecursion P flows
-  all_each [] flows e = subst (AllByRecursion P) (same_flows [] flows e) tt
-  all_each (source ∷ sources) flows e = each_by source.0 source.1 (compiled source.0 source.1) (flows_of sources) flows refl (all_each sources) e
+  all_declare : (sources : List Source) (flows : List FlowModule) → flows_of sources ≡ Ok flows → AllByRecursion DeclaresMain flows
+  all_declare [] flows e = subst (AllByRecursion DeclaresMain) (same_flows [] flows e) tt
+  all_declare (source ∷ sources) flows e = declared_by source.0 source.1 (compiled source.0 source.1) (flows_of sources) flows refl (all_declare sources) e
 
   within_limit : (limit : Option LinkFault) (phases : Result (List FlowModule) BuildFault) (flows : List FlowModule) → within limit phases ≡ Ok flows → phases ≡ Ok flows
   within_limit (Some fault) phases flows e = absurd (no_flows (LinkRefused fault) flows e)
   within_limit None phases flows e = e
 
-  -- what holds of each flow graph that the first phase makes holds of those of a build
-  pub phases_each : (sources : List Source) (flows : List FlowModule) → first_phases sources ≡ Ok flows → AllByRecursion P flows
-  phases_each sources flows e = all_each sources flows (within_limit (limit_passed sources) (flows_of sources) flows e)
+  pub phases_declare : (sources : List Source) (flows : List FlowModule) → first_phases sources ≡ Ok flows → AllByRecursion DeclaresMain flows
+  phases_declare sources flows e = all_declare sources flows (within_limit (limit_passed sources) (flows_of sources) flows e)
 
 -- ---- what flow graphs that keep the rules are refused for
 
@@ -80,14 +78,3 @@ module _ (not_both : (modules : List Interface) (fault : LinkFault) → Links mo
     pub never_refused : (sources : List Source) (kept : List (Option Object)) (opts : Opts) (fault : BuildFault) → CanBeBuilt sources opts → AllByRecursion IsGenuineIfKept kept → Builds sources kept opts (Err fault) → ⊥
     never_refused sources kept opts fault can genuine h =
         by_fault sources kept opts fault can genuine (subst (λ (phases : Result (List FlowModule) BuildFault). BuildsBy phases kept opts (Err fault)) can.accepted.one_by_one h)
-
--- ---- what accepted modules come to
-
--- the parts of modules that can be built, where nothing is kept, are linked, so they are what the build comes to
-pub parts_build : ((sources : List Source) (flows : List FlowModule) → first_phases sources ≡ Ok flows → AllByRecursion DeclaresMain flows)
-    → ((flows : List FlowModule) (colours : ℕ) (parts : Parts) → AllByRecursion DeclaresMain flows → AreParts flows [] colours parts → Links (map interface parts.objects))
-    → (sources : List Source) (opts : Opts) (parts : Parts) → (can : CanBeBuilt sources opts) → AreParts can.accepted.flows [] opts.colours parts → Builds sources [] opts (Ok parts)
-parts_build declares links sources opts parts can are =
-    let a = can.accepted in
-    subst (λ (phases : Result (List FlowModule) BuildFault). BuildsBy phases [] opts (Ok parts)) (sym a.one_by_one)
-    (are, record { program = links a.flows opts.colours parts (declares sources a.flows a.one_by_one) are; fits = can.room parts are })

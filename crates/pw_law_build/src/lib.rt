@@ -16,7 +16,6 @@ pub use linking::{
 };
 pub use refusals::{
     a_store_is_built_exactly_where_it_can_be, a_store_that_can_be_built_is_built,
-    accepted_modules_are_built, accepted_modules_have_a_build, builds_are_complete,
-    first_phases_are_lawful, first_phases_declare_main, parts_of_accepted_modules_are_their_build, the_command_is_complete,
-    what_is_built_can_be_built,
+    accepted_modules_are_built, builds_are_complete, first_phases_declare_main,
+    the_command_is_complete, what_is_built_can_be_built,
 };

@@ -1,16 +1,15 @@
 //! Laws of what builds are refused for. A function here does nothing: its clauses are facts about all values.
 
-ghost use Rattle.std.specs.Prelude.{◌≡◌, ◌⊎◌, ◌↔◌, ◌≤◌, ℕ, List, [], Option, Result, Ok, Err, IfErr, IsOk};
+ghost use Rattle.std.specs.Prelude.{◌≡◌, ◌⊎◌, ◌↔◌, ◌≤◌, ℕ, List, Option, Result, Ok, Err, IfErr, IsOk};
 ghost use Rattle.std.specs.List.{AllByRecursion};
 ghost use Rattle.pw_io.specs.Faults.{Rose};
 ghost use Rattle.pw_io.specs.Files.{Files, Told};
-ghost use Rattle.pw_flow.specs.ValidFlow.{IsValid};
 ghost use Rattle.pw_flow.specs.declared.flow.FlowModule.{FlowModule};
 ghost use Rattle.pw_db.specs.Limits.{colour_limit};
 ghost use Rattle.pw_object.specs.declared.object.Object.{Object};
 ghost use Rattle.pw_store_modules.specs.Modules.{Source, modules_of};
 ghost use Rattle.pw_build_objects.specs.Kept.{IsGenuineIfKept};
-ghost use Rattle.pw_build_objects.specs.Programs.{AreParts, Parts};
+ghost use Rattle.pw_build_objects.specs.Programs.{Parts};
 ghost use Rattle.pw_build_files.specs.FromBuild.BuildFault.{BuildFault};
 ghost use Rattle.pw_build_files.specs.FromBuild.BuildFault.TheVariants as build;
 ghost use Rattle.pw_build_files.specs.FromBuild.Unbuilt.{Unbuilt};
@@ -25,7 +24,6 @@ ghost use Rattle.pw_build_opts.specs.declared.opts.Opts.{Opts};
 ghost use Rattle.pw_build_files.specs.declared.report.Report.{Report};
 ghost use Rattle.pw_commands.specs.Outcome.{IsFound};
 ghost use Rattle.pw_build_files.specs.Driving.{BuildEffect};
-ghost use Rattle.pw_law_answers.specs.Held.{HasFile};
 ghost use Rattle.pw_law_build.specs.Alike.{DeclaresMain};
 ghost use Rattle.pw_law_build.specs.Complete.{CanBeBuilt};
 
@@ -35,10 +33,8 @@ use crate::linking::{
 use pw_build_files::genuine_objects_give_the_full_image;
 use pw_build_objects::laws::{flow_graphs_have_one_answer, genuine_objects_change_nothing};
 use pw_check_rules::checks_is_exact;
-use pw_law_answers::{modules_have_summaries, programs_have_parts};
 use pw_law_checked::{accepted_functions_are_typed, accepted_names_are_declared};
 use pw_link_rules::laws::modules_have_one_answer;
-use pw_phase_one::laws::flow_graphs_are_lawful;
 
 /// The flow graphs of the modules of a build declare each `main` that they define, since a module that checking accepts
 /// declares what it defines under an external name.
@@ -48,13 +44,6 @@ pub fn first_phases_declare_main()
     checks_is_exact();
     accepted_functions_are_typed();
     accepted_names_are_declared();
-}
-
-/// The flow graphs of the modules of a build are lawful.
-pub fn first_phases_are_lawful()
-    ensures { (sources : List Source) (flows : List FlowModule) → first_phases sources ≡ Ok flows → AllByRecursion IsValid flows }
-{
-    flow_graphs_are_lawful();
 }
 
 /// Modules that are accepted one by one and together, and for which text and memory are large enough, are refused nothing
@@ -68,27 +57,6 @@ pub fn accepted_modules_are_built()
     flow_graphs_and_summaries_are_refused_alike();
     objects_are_refused_for_room_alone();
     genuine_objects_change_nothing();
-}
-
-/// What a build comes to where the modules can be built and nothing is kept: their parts, wherever there are some.
-pub fn parts_of_accepted_modules_are_their_build()
-    ensures { (sources : List Source) (opts : Opts) (parts : Parts) → (can : CanBeBuilt sources opts) →
-        AreParts can.accepted.flows [] opts.colours parts → Builds sources [] opts (Ok parts) }
-{
-    first_phases_declare_main();
-    objects_are_refused_for_room_alone();
-}
-
-/// Modules that can be built, and whose flow graphs files can hold, have a build where nothing is kept.
-pub fn accepted_modules_have_a_build()
-    ensures { (sources : List Source) (opts : Opts) → opts.colours ≤ colour_limit → (can : CanBeBuilt sources opts) →
-        AllByRecursion HasFile can.accepted.flows → (parts : Parts) × Builds sources [] opts (Ok parts) }
-{
-    first_phases_are_lawful();
-    flow_graphs_and_summaries_are_refused_alike();
-    modules_have_summaries();
-    programs_have_parts();
-    parts_of_accepted_modules_are_their_build();
 }
 
 /// A build over a store is refused nothing where the store's modules can be built and its kept objects are genuine.

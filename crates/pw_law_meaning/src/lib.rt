@@ -5,7 +5,7 @@ ghost use Rattle.std.specs.Prelude.{ℕ, List, Result};
 ghost use Rattle.pw_io.specs.Files.{Files};
 ghost use Rattle.pw_store_modules.specs.Modules.{module_map};
 ghost use Rattle.pw_build_opts.specs.declared.opts.Opts.{Opts};
-ghost use Rattle.pw_build.specs.declared.fault.BuildFault.{BuildFault};
+ghost use Rattle.pw_build_files.specs.FromBuild.BuildFault.{BuildFault};
 ghost use Rattle.pw_build_files.specs.Full.{BuildsImage};
 ghost use Rattle.pw_build_files.specs.Outcomes.{AreOpts};
 ghost use Rattle.pw_law_meaning.specs.Meaning.{MeansSo};

@@ -44,28 +44,28 @@ made_by answer P Q f p = f p
 -- ---- a refusal is told by an answer that refuses
 
 refuses_one : (fault : BuildFault) (answer : Answer) → fault_answer fault ≡ answer → IsNoRefusal answer → IfMade answer ⊥
-refuses_one (build.Refused name refusal) answer e no = absurd (subst IsNoRefusal (sym e) no)
-refuses_one (build.LinkRefused fault) answer e no = absurd (subst IsNoRefusal (sym e) no)
-refuses_one build.StoreFault answer e no = subst (λ (a : Answer). IfMade a ⊥) e tt
-refuses_one build.NoMemory answer e no = subst (λ (a : Answer). IfMade a ⊥) e tt
+refuses_one (build.Refused name refusal) answer e clear = absurd (subst IsNoRefusal (sym e) clear)
+refuses_one (build.LinkRefused fault) answer e clear = absurd (subst IsNoRefusal (sym e) clear)
+refuses_one build.StoreFault answer e clear = subst (λ (a : Answer). IfMade a ⊥) e tt
+refuses_one build.NoMemory answer e clear = subst (λ (a : Answer). IfMade a ⊥) e tt
 
 refuses : (fault : BuildFault) (answer : Answer) → RefusesAs (fault_answer fault) answer → IfMade answer (IsNoRefusal answer → ⊥)
-refuses fault ReadFault h = λ no. h
-refuses fault WriteFault h = λ no. h
+refuses fault ReadFault h = λ clear. h
+refuses fault WriteFault h = λ clear. h
 refuses fault StoreFault h = tt
 refuses fault NoMemory h = tt
-refuses fault (Refused name refusal) h = λ no. no
-refuses fault (LinkRefused other) h = λ no. no
-refuses fault (BadFile name at) h = λ no. no
-refuses fault (BadScript at) h = λ no. no
+refuses fault (Refused name refusal) h = λ clear. clear
+refuses fault (LinkRefused other) h = λ clear. clear
+refuses fault (BadFile name at) h = λ clear. clear
+refuses fault (BadScript at) h = λ clear. clear
 refuses fault answer h = refuses_one fault answer h
 
 not_ok : (fault : BuildFault) → IsOk {T = Outcome} {E = BuildFault} (Err fault) → ⊥
 not_ok fault e = cc
 
 exactly : (comes : Result Outcome BuildFault) (answer : Answer) (P : Type 0) → AnswersOutcome comes answer → (IsOk comes ↔ P) → IfMade answer (IsNoRefusal answer ↔ P)
-exactly (Ok outcome) answer P h same = made answer (IsNoRefusal answer ↔ P) (λ no. same.0 refl, λ p. h)
-exactly (Err fault) answer P h same = made_by answer (IsNoRefusal answer → ⊥) (IsNoRefusal answer ↔ P) (λ lacks. (λ no. absurd (lacks no), λ p. absurd (not_ok fault (same.1 p)))) (refuses fault answer h)
+exactly (Ok outcome) answer P h same = made answer (IsNoRefusal answer ↔ P) (λ clear. same.0 refl, λ p. h)
+exactly (Err fault) answer P h same = made_by answer (IsNoRefusal answer → ⊥) (IsNoRefusal answer ↔ P) (λ lacks. (λ clear. absurd (lacks clear), λ p. absurd (not_ok fault (same.1 p)))) (refuses fault answer h)
 
 -- ---- the commands
 

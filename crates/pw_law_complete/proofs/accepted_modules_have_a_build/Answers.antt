@@ -1,5 +1,5 @@
 use Rattle.std.proofs.Common.{[]}
-use Rattle.pw_law_build.proofs.refusals.accepted_modules_have_a_build.Goals as goal
+use Rattle.pw_law_complete.proofs.accepted_modules_have_a_build.Goals as goal
 
 pub returns : goal.returns
 returns c = λ sources opts few can files.
