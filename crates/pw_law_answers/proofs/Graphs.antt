@@ -8,7 +8,7 @@ use Rattle.pw_value.specs.declared.value.Kind.{Kind}
 use Rattle.pw_value.specs.Names.{IsNameLength}
 use Rattle.pw_value.specs.ProgramNames.{library_functions}
 use Rattle.pw_fields.specs.FieldNames.{IsTableOf}
-use Rattle.pw_files.proofs.Standing.{Has, contains_by, has_by, has_map, has_map_back, has_split, has_flat_back}
+use Rattle.pw_files.proofs.Standing.{Has, contains_by, has_by, has_each, has_map, has_map_back, has_split, has_flat_back}
 use Rattle.pw_flow.specs.ValidFlow.{AreDistinct}
 use Rattle.pw_summary.specs.declared.summary.Summary.{Summary}
 use Rattle.pw_summary.specs.Summary.{IsSummary}
@@ -22,17 +22,19 @@ use Rattle.pw_graph.proofs.Once.{homes_apart, globals_apart}
 use Rattle.pw_graph.proofs.IsGraph.{Entry, functions_forth, eligible_forth}
 use Rattle.pw_graph.proofs.Made.{is_graph, well_made}
 use Rattle.pw_summarise.specs.Summarises.{IsOrdered}
+use Rattle.pw_law_answers.specs.Held.{HasNames}
 use Rattle.pw_law_answers.proofs.Ordering.{ordered, table_exists, increasing_numbers}
 use Rattle.pw_law_answers.proofs.Summaries.{one_item}
 
 -- ---- names
 
--- the names of summaries are as long as names may be
-pub record HaveNames (ss : List Summary) : Type 0 where
-  pub functions : (s : Summary) (n : List ℕ) → Has s ss → Has n (map (λ f. f.0) s.functions) → IsNameLength (length n)
-  pub globals : (s : Summary) (n : List ℕ) → Has s ss → Has n (map (λ g. g.0) s.globals) → IsNameLength (length n)
-  pub taken : (s : Summary) (n : List ℕ) → Has s ss → Has n (map (λ f. f.0) s.taken) → IsNameLength (length n)
-  pub escaped : (s : Summary) (n : List ℕ) → Has s ss → Has n s.escaped → IsNameLength (length n)
+-- the names of several summaries
+abbrev pub HaveNames : List Summary → Type 0
+HaveNames ss = AllByRecursion HasNames ss
+
+key_named : {X : Type 0} (key : X → List ℕ) (xs : List X) (n : List ℕ) → AllByRecursion (λ x. IsNameLength (length (key x))) xs → Has n (map key xs) → IsNameLength (length n)
+key_named key xs n all h =
+    let p = has_map_back key n xs h in subst (λ (m : List ℕ). IsNameLength (length m)) p.2 (has_each (λ x. IsNameLength (length (key x))) xs p.0 all p.1)
 
 library_named : (n : List ℕ) → Has n library_functions → IsNameLength (length n)
 library_named n (inl e) = subst (λ (m : List ℕ). IsNameLength (length m)) e (omega arith, omega arith)
@@ -45,7 +47,7 @@ function_named ss names f h = elim (has_split f library_declarations (flat_map (
   | inl k ↦ library_named f.0 (has_map (λ (x : List ℕ × List ℕ). x.0) f library_declarations k)
   | inr k ↦
       let p = has_flat_back (λ (s : Summary). s.functions) f ss k in
-      names.functions p.0 f.0 p.1 (has_map (λ (x : List ℕ × List ℕ). x.0) f p.0.functions p.2)
+      has_each (λ (x : List ℕ × List ℕ). IsNameLength (length x.0)) p.0.functions f (has_each HasNames ss p.0 names p.1).functions p.2
 ]
 
 home_named : (ss : List Summary) → HaveNames ss → (e : Entry) → Has e (all_homes ss) → IsNameLength (length e.0)
@@ -82,10 +84,10 @@ module _ (ss : List Summary) (lawful : All IsSummary ss) (linked : AreLinked ss)
       subst (λ (m : List ℕ). IsNameLength (length m)) p.2 (home_named ss named p.0 (has_by p.0 (all_homes ss) ((order.of p.0).0 (contains_by p.0 H p.1)))))
 
   taken_exist : (names : List (List ℕ)) × IsTableOf names (all_taken ss)
-  taken_exist = table_exists (all_taken ss) (λ n h. let p = has_flat_back (λ (s : Summary). map (λ f. f.0) s.taken) n ss h in named.taken p.0 n p.1 p.2)
+  taken_exist = table_exists (all_taken ss) (λ n h. let p = has_flat_back (λ (s : Summary). map (λ f. f.0) s.taken) n ss h in key_named (λ f. f.0) p.0.taken n (has_each HasNames ss p.0 named p.1).taken p.2)
 
   escaped_exist : (names : List (List ℕ)) × IsTableOf names (all_escaped ss)
-  escaped_exist = table_exists (all_escaped ss) (λ n h. let p = has_flat_back (λ (s : Summary). s.escaped) n ss h in named.escaped p.0 n p.1 p.2)
+  escaped_exist = table_exists (all_escaped ss) (λ n h. let p = has_flat_back (λ (s : Summary). s.escaped) n ss h in has_each (λ (m : List ℕ). IsNameLength (length m)) p.0.escaped n (has_each HasNames ss p.0 named p.1).escaped p.2)
 
   scalars_exist : (taken escaped : List (List ℕ)) → (G : List (List ℕ × Kind)) × IsOrdered (λ (v : List ℕ × Kind). v.0) (all_eligible taken escaped ss) G × (length G ≤ length (all_eligible taken escaped ss))
   scalars_exist taken escaped =
@@ -95,7 +97,7 @@ module _ (ss : List Summary) (lawful : All IsSummary ss) (linked : AreLinked ss)
   eligible_named : (v : List ℕ) (kind : Kind) → IsEligible ss v kind → IsNameLength (length v)
   eligible_named v kind e =
       let whole : List ℕ × List ℕ × Option Kind × Bool = (v, e.shape, Some kind, false) in
-      named.globals e.summary v (has_by e.summary ss e.stands) (has_map (λ (g : List ℕ × List ℕ × Option Kind × Bool). g.0) whole e.summary.globals (has_by whole e.summary.globals e.defined))
+      has_each (λ (g : List ℕ × List ℕ × Option Kind × Bool). IsNameLength (length g.0)) e.summary.globals whole (has_each HasNames ss e.summary named (has_by e.summary ss e.stands)).globals (has_by whole e.summary.globals e.defined)
 
   globals_exist : (taken escaped : List (List ℕ)) (G : List (List ℕ × Kind)) → IsTableOf taken (all_taken ss) → IsTableOf escaped (all_escaped ss) → IsOrdered (λ (v : List ℕ × Kind). v.0) (all_eligible taken escaped ss) G
       → (globals : List (List ℕ)) × IsTableOf globals (map (λ (v : List ℕ × Kind). v.0) G)

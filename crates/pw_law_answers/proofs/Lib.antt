@@ -1,11 +1,13 @@
+pub mod Agreeing
 mod Colouring
 mod Graphs
+mod Linking
 mod Names
+mod Objects
 mod Ordering
-mod Parts
 mod Payloads
 mod Reaching
 mod Rows
 mod Summaries
-mod Telling
+pub mod Telling
 mod Webs

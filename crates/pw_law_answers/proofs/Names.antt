@@ -1,10 +1,11 @@
 -- The names of flow graphs that have files are as long as names may be, and so are those of their summaries.
-use Rattle.std.proofs.Common.{◌≡◌, ℕ, List, [], ◌∷◌, ◌++◌, length, map, refl, subst, ◌∙◌, inl, inr}
+use Rattle.std.proofs.Common.{◌≡◌, ℕ, Bool, List, [], ◌∷◌, ◌++◌, length, map, subst, ◌∙◌, inl, inr}
 use Rattle.std.specs.Prelude.{Option, Some, None}
-use Rattle.std.specs.List.{AllByRecursion, flat_map}
+use Rattle.std.specs.List.{flat_map}
+use Rattle.pw_value.specs.declared.value.Kind.{Kind}
 use Rattle.pw_value.specs.Names.{IsNameLength}
 use Rattle.pw_fields.specs.FieldNames.{IsRisingFrom}
-use Rattle.pw_files.proofs.Standing.{Has, contains_by, has_by, has_each, has_left, has_right, has_split, has_map_back, has_flat, has_flat_back}
+use Rattle.pw_files.proofs.Standing.{Has, contains_by, has_by, each_by, has_left, has_right, has_split, has_map, has_map_back, has_flat, has_flat_back}
 use Rattle.pw_files.proofs.Views.{seen}
 use Rattle.pw_flow.specs.Addressed.{addressed}
 use Rattle.pw_flow.specs.FlowGraph.{op_names, names_in_block, names_in_function, names_in_global, global_names, function_names, declared_names}
@@ -18,10 +19,8 @@ use Rattle.pw_flowfile.specs.FlowFile.{all_in_global, all_in_function, names_of}
 use Rattle.pw_summary.specs.declared.summary.Summary.{Summary}
 use Rattle.pw_summarise.specs.Summarises.{in_function, in_module, function_shape, as_taken, as_escaped, taken_of, escaped_of, global_entry, function_entry, function_entries, Summarises}
 use Rattle.pw_summarise.proofs.Orders.{keys_over}
-use Rattle.pw_build_objects.specs.Programs.{AreSummariesOf}
-use Rattle.pw_law_answers.specs.Held.{HasFile}
+use Rattle.pw_law_answers.specs.Held.{HasFile, HasNames}
 use Rattle.pw_law_answers.proofs.Summaries.{taken_is}
-use Rattle.pw_law_answers.proofs.Graphs.{HaveNames}
 
 -- ---- names of a file
 
@@ -114,27 +113,12 @@ module _ (m : FlowModule) (s : Summary) (is : Summarises m s) where
       let q = has_flat_back (λ (name : List ℕ). as_escaped name (function_shape (function_entries m) m.declared name)) n names (has_by n source ((is.escaped.of n).0 (contains_by n s.escaped h))) in
       in_module_there m n (subst (λ (x : List ℕ). Has x names) (escaped_is q.0 (function_shape (function_entries m) m.declared q.0) n q.2) q.1)
 
--- ---- of all modules
-
-pub record Of (flows : List FlowModule) (s : Summary) : Type 0 where
-  pub flow : FlowModule
-  pub there : Has flow flows
-  pub is : Summarises flow s
-
-pub one_of : (flows : List FlowModule) (ss : List Summary) → AreSummariesOf flows ss → (s : Summary) → Has s ss → Of flows s
-one_of [] [] all s h = absurd h
-one_of [] (x ∷ ss) all s h = absurd all
-one_of (m ∷ flows) [] all s h = absurd h
-one_of (m ∷ flows) (x ∷ ss) all s (inl e) = record { flow = m; there = inl refl; is = subst (Summarises m) e all.0 }
-one_of (m ∷ flows) (x ∷ ss) all s (inr h) = let o = one_of flows ss all.1 s h in record { flow = o.flow; there = inr o.there; is = o.is }
-
-pub have_names : (flows : List FlowModule) (ss : List Summary) → AllByRecursion HasFile flows → AreSummariesOf flows ss → HaveNames ss
-have_names flows ss files all =
-    let of : (s : Summary) → Has s ss → Of flows s = one_of flows ss all in
-    let named : (s : Summary) (h : Has s ss) → AreNames (of s h).flow = λ s h. filed (of s h).flow (has_each HasFile flows (of s h).flow files (of s h).there) in
+pub summary_named : (m : FlowModule) (s : Summary) → HasFile m → Summarises m s → HasNames s
+summary_named m s file is =
+    let named : AreNames m = filed m file in
     record {
-      functions = λ s n h k. named s h n (summary_function (of s h).flow s (of s h).is n k);
-      globals = λ s n h k. named s h n (summary_global (of s h).flow s (of s h).is n k);
-      taken = λ s n h k. named s h n (summary_taken (of s h).flow s (of s h).is n k);
-      escaped = λ s n h k. named s h n (summary_escaped (of s h).flow s (of s h).is n k);
+      functions = each_by (λ (f : List ℕ × List ℕ). IsNameLength (length f.0)) s.functions (λ f h. named f.0 (summary_function m s is f.0 (has_map (λ (x : List ℕ × List ℕ). x.0) f s.functions h)));
+      globals = each_by (λ (g : List ℕ × List ℕ × Option Kind × Bool). IsNameLength (length g.0)) s.globals (λ g h. named g.0 (summary_global m s is g.0 (has_map (λ (x : List ℕ × List ℕ × Option Kind × Bool). x.0) g s.globals h)));
+      taken = each_by (λ (f : List ℕ × List ℕ). IsNameLength (length f.0)) s.taken (λ f h. named f.0 (summary_taken m s is f.0 (has_map (λ (x : List ℕ × List ℕ). x.0) f s.taken h)));
+      escaped = each_by (λ (n : List ℕ). IsNameLength (length n)) s.escaped (λ n h. named n (summary_escaped m s is n h));
     }

@@ -1,6 +1,8 @@
 -- What can be told; and least sets of numbers below a bound, which are made step by step.
-use Rattle.std.proofs.Common.{◌≡◌, ◌⊎◌, ℕ, zero, suc, ◌+◌, ◌<◌, ◌≤◌, List, [], ◌∷◌, length, refl, sym, ap, subst, ◌∙◌, arith, inl, inr}
+use Rattle.std.proofs.Common.{◌≡◌, ◌⊎◌, ℕ, zero, suc, Bool, true, false, ◌+◌, ◌<◌, ◌≤◌, List, [], ◌∷◌, length, refl, sym, ap, subst, ◌∙◌, arith, inl, inr}
+use Rattle.std.specs.Str.{bytes_eq}
 use Rattle.std.proofs.lemmas.Bool.{cases_eq, cases_lt}
+use Rattle.std.proofs.lemmas.Slice.Eq.{bytes_eq-Decides}
 use Rattle.pw_files.proofs.Standing.{Has}
 
 -- it holds, or it does not
@@ -51,6 +53,13 @@ told_less a b = elim (cases_lt a b) [ inl lt ↦ inl lt | inr le ↦ inr (λ lt.
 pub told_has : (k : ℕ) (xs : List ℕ) → Told (Has k xs)
 told_has k [] = inr (λ h. h)
 told_has k (x ∷ xs) = told_either (cases_eq x k) (told_has k xs)
+
+pub told_bytes : (a b : List ℕ) → Told (a ≡ b)
+told_bytes a b = by (bytes_eq a b) refl
+  where
+    by : (t : Bool) → bytes_eq a b ≡ t → Told (a ≡ b)
+    by true e = inl ((bytes_eq-Decides a b).0 e)
+    by false e = inr (λ same. let on : bytes_eq a b ≡ true = (bytes_eq-Decides a b).1 same in cc)
 
 -- the least number below n that is so, or none
 pub record Least (n : ℕ) (P : ℕ → Type 0) : Type 0 where

@@ -1,2 +1,3 @@
-mod Phases
 mod Builds
+mod Parts
+mod Phases
