@@ -1,5 +1,5 @@
 -- Each set of numbers below a bound that can be told is a row of bits.
-use Rattle.std.proofs.Common.{replicate, ◌≡◌, ◌⊎◌, ℕ, zero, suc, ◌+◌, ◌*◌, ◌/◌, ◌%◌, ◌^◌, ◌<◌, ◌≤◌, List, length, refl, sym, ap, subst, ◌∙◌, arith, inl, inr, get_or, set}
+use Rattle.std.proofs.Common.{replicate, ◌≡◌, ◌⊎◌, ℕ, zero, suc, ◌*◌, ◌/◌, ◌%◌, ◌^◌, ◌<◌, ◌≤◌, List, length, refl, sym, ap, subst, ◌∙◌, arith, inl, inr, get_or, set}
 use Rattle.std.proofs.Math.ListN.{length-replicate, get_or-replicate, length-set}
 use Rattle.std.specs.Prelude.{◌↔◌, bit_or}
 use Rattle.std.specs.Int.{bit_at, div_ceil}

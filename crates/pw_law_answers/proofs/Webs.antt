@@ -1,5 +1,5 @@
 -- Each call graph has its webs.
-use Rattle.std.proofs.Common.{◌≡◌, ◌⊎◌, ℕ, zero, suc, ◌+◌, ◌*◌, ◌^◌, ◌<◌, ◌≤◌, Bool, true, false, List, [], ◌∷◌, ◌++◌, length, refl, subst, ◌∙◌, arith, inl, inr, add-one}
+use Rattle.std.proofs.Common.{◌≡◌, ◌⊎◌, ℕ, zero, suc, ◌+◌, ◌*◌, ◌^◌, ◌<◌, ◌≤◌, Bool, true, false, List, [], ◌∷◌, ◌++◌, length, refl, subst, arith, inl, inr, add-one}
 use Rattle.std.specs.Prelude.{◌↔◌, IsTrue, ℤ, pos, ◌+ℤ◌}
 use Rattle.std.specs.List.{sum_by}
 use Rattle.std.proofs.Math.IntN.{◌-ℤ◌}

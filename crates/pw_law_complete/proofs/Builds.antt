@@ -20,7 +20,7 @@ use Rattle.pw_build_files.specs.FromBuild.BuildFault.TheVariants.{LinkRefused}
 use Rattle.pw_build_files.specs.FromBuild.Builds.{Builds, BuildsBy, CompletesAs, first_phases}
 use Rattle.pw_build_opts.specs.declared.opts.Opts.{Opts}
 use Rattle.pw_law_answers.specs.Held.{HasFile}
-use Rattle.pw_law_build.specs.Alike.{DeclaresMain}
+use Rattle.pw_law_shown.specs.Alike.{DeclaresMain}
 use Rattle.pw_law_build.specs.Complete.{CanBeBuilt}
 
 -- the parts of modules that can be built, where nothing is kept, are linked, so they are what the build comes to

@@ -1,5 +1,5 @@
 -- Lawful flow graphs that make a program and that files can hold have parts, whatever is kept: a database, and an object of each module.
-use Rattle.std.proofs.Common.{◌≡◌, ◌⊎◌, ℕ, ◌+◌, ◌^◌, ◌<◌, ◌≤◌, Bool, true, false, List, [], ◌∷◌, ◌++◌, refl, sym, subst, ◌∙◌, inl, inr}
+use Rattle.std.proofs.Common.{◌≡◌, ℕ, ◌≤◌, Bool, true, false, List, [], ◌∷◌, refl, sym, subst, inl, inr}
 use Rattle.std.specs.Prelude.{Option, Some, None}
 use Rattle.std.specs.List.{AllByRecursion}
 use Rattle.pw_flow.specs.ValidFlow.{IsValid}
@@ -8,7 +8,6 @@ use Rattle.pw_flowfile.specs.FlowFile.{IsFlowFile}
 use Rattle.pw_summary.specs.declared.summary.Summary.{Summary}
 use Rattle.pw_summary.specs.Summary.{IsSummary}
 use Rattle.pw_summarise.specs.Summarises.{Summarises}
-use Rattle.pw_summarise.proofs.LawfulLaws.{lawful}
 use Rattle.pw_db.specs.Database.{IsPayload, IsStored}
 use Rattle.pw_db.specs.Limits.{colour_limit}
 use Rattle.pw_graph.specs.Program.{AreLinked}

@@ -1,40 +1,13 @@
--- What holds of each flow graph that the first phase makes holds of those of a build; and each is lawful.
-use Rattle.std.proofs.Common.{◌≡◌, ℕ, List, [], ◌∷◌, Option, None, Some, Result, Ok, Err, refl, sym, subst}
-use Rattle.std.specs.Prelude.{◌↔◌}
+-- What holds of each flow graph that the first phase makes holds of those of a build.
+use Rattle.std.proofs.Common.{◌≡◌, ℕ, List, [], ◌∷◌, Option, None, Some, Result, Ok, Err, refl, subst}
 use Rattle.std.specs.List.{AllByRecursion}
 use Rattle.pw_value.specs.declared.fault.LinkFault.{LinkFault}
-use Rattle.pw_token.specs.Tokenization.{IsLexed}
-use Rattle.pw_token.specs.declared.token.Token.{Token}
-use Rattle.pw_tree.specs.Grammar.{IsTreeOf, spelled_all}
-use Rattle.pw_tree.specs.Trees.{Module}
-use Rattle.pw_types.specs.TypedTrees.{ModuleValue}
-use Rattle.pw_check_rules.specs.Checks.{Checks}
-use Rattle.pw_flow.specs.ValidFlow.{IsValid}
 use Rattle.pw_flow.specs.declared.flow.FlowModule.{FlowModule}
-use Rattle.pw_lower.specs.Modules.{lowered}
 use Rattle.pw_store_modules.specs.Modules.{Source}
-use Rattle.pw_phase_one.specs.FirstPhase.{Compiles, Phase, compiled}
+use Rattle.pw_phase_one.specs.FirstPhase.{Phase, compiled}
 use Rattle.pw_build_files.specs.FromBuild.BuildFault.{BuildFault}
 use Rattle.pw_build_files.specs.FromBuild.BuildFault.TheVariants.{Refused, LinkRefused}
 use Rattle.pw_build_files.specs.FromBuild.Builds.{before_others, first_phases, flows_of, limit_passed, within}
-
--- ---- one module
-
--- what accepted texts come to is lawful
-abbrev pub AreLawful : Type 0
-AreLawful = (home text : List ℕ) (tokens : List Token) (tree : Module) (m : ModuleValue) → IsLexed text tokens → IsTreeOf (spelled_all text tokens) tree → Checks tree (Ok m) → IsValid (lowered home m)
-
--- a module has one answer, which is that of the function
-abbrev pub IsExact : Type 0
-IsExact = (name text : List ℕ) (answer : Phase) → Compiles name text answer ↔ (answer ≡ compiled name text)
-
-compiled_lawful : AreLawful → IsExact → (name text : List ℕ) (flow : FlowModule) → compiled name text ≡ Ok flow → IsValid flow
-compiled_lawful lawful exact name text flow e =
-    let h = (exact name text (Ok flow)).1 (sym e) in
-    let t = h.has_tree in
-    subst IsValid (sym h.is) (lawful name text t.tokens h.tree h.typed t.shallow.supported.lexed t.reads h.checks)
-
--- ---- all modules of a build
 
 no_flows : (fault : BuildFault) (flows : List FlowModule) → ◌≡◌ {A = Result (List FlowModule) BuildFault} (Err fault) (Ok flows) → ⊥
 no_flows fault flows e = absurd cc
@@ -57,8 +30,5 @@ module _ (P : FlowModule → Type 0) (each : (name text : List ℕ) (flow : Flow
   within_limit (Some fault) phases flows e = absurd (no_flows (LinkRefused fault) flows e)
   within_limit None phases flows e = e
 
-  phases_each : (sources : List Source) (flows : List FlowModule) → first_phases sources ≡ Ok flows → AllByRecursion P flows
+  pub phases_each : (sources : List Source) (flows : List FlowModule) → first_phases sources ≡ Ok flows → AllByRecursion P flows
   phases_each sources flows e = all_each sources flows (within_limit (limit_passed sources) (flows_of sources) flows e)
-
-pub phases_lawful : AreLawful → IsExact → (sources : List Source) (flows : List FlowModule) → first_phases sources ≡ Ok flows → AllByRecursion IsValid flows
-phases_lawful lawful exact = phases_each IsValid (compiled_lawful lawful exact)

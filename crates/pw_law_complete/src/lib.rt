@@ -18,20 +18,22 @@ ghost use Rattle.pw_build_opts.specs.declared.opts.Opts.{Opts};
 ghost use Rattle.pw_law_answers.specs.Held.{HasFile};
 ghost use Rattle.pw_law_build.specs.Complete.{CanBeBuilt};
 
-use pw_law_answers::{modules_have_summaries, modules_link_or_are_refused, programs_have_parts};
-use pw_law_build::{
-    first_phases_declare_main, flow_graphs_and_summaries_are_refused_alike,
-    objects_are_refused_for_room_alone,
+use pw_build_objects::laws::objects_are_refused_for_room_alone;
+use pw_db::laws::one_list_is_stored;
+use pw_flowfile::laws::flow_graphs_and_files_are_one_to_one;
+use pw_law_answers::{
+    modules_have_summaries, modules_link_or_are_refused, programs_have_databases,
+    programs_have_objects,
 };
-use pw_law_valid::accepted_texts_are_lawful;
-use pw_phase_one::laws::phase_one_is_exact;
+use pw_law_build::first_phases_declare_main;
+use pw_law_shown::flow_graphs_and_summaries_are_refused_alike;
+use pw_phase_one::laws::flow_graphs_are_lawful;
 
 /// The flow graphs of the modules of a build are lawful, since each is that of an accepted text.
 pub fn first_phases_are_lawful()
     ensures { (sources : List Source) (flows : List FlowModule) → first_phases sources ≡ Ok flows → AllByRecursion IsValid flows }
 {
-    accepted_texts_are_lawful();
-    phase_one_is_exact();
+    flow_graphs_are_lawful();
 }
 
 /// Lawful flow graphs that make a program, and that files can hold, have parts, whatever is kept of them: a database, and an object of

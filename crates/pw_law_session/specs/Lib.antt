@@ -3,3 +3,4 @@ pub mod FromBuildLaws
 pub mod Full
 pub mod Whole
 pub mod History
+pub mod FromSession

@@ -8,12 +8,12 @@ use Rattle.pw_top_answer.specs.declared.answer.Answer.TheVariants.{Refused, Link
 use Rattle.pw_top_answer.specs.Outcomes.{IsNoRefusal, RefusesAs}
 use Rattle.pw_commands.specs.Outcome.{IsFound}
 use Rattle.pw_db.specs.Limits.{colour_limit}
-use Rattle.pw_session.specs.FromBuild.BuildFault.{BuildFault}
-use Rattle.pw_session.specs.FromBuild.BuildFault.TheVariants as build
-use Rattle.pw_session.specs.FromBuildFiles.Building.{BuildOutcome, Outcome}
-use Rattle.pw_session.specs.FromBuildFiles.Driving.{BuildEffect}
-use Rattle.pw_session.specs.FromBuildFiles.Genuine.{KeepsGenuine}
-use Rattle.pw_session.specs.FromBuildFiles.Outcomes.{AnswersOutcome, fault_answer}
+use Rattle.pw_law_session.specs.FromSession.FromBuild.BuildFault.{BuildFault}
+use Rattle.pw_law_session.specs.FromSession.FromBuild.BuildFault.TheVariants as build
+use Rattle.pw_law_session.specs.FromSession.FromBuildFiles.Building.{BuildOutcome, Outcome}
+use Rattle.pw_law_session.specs.FromSession.FromBuildFiles.Driving.{BuildEffect}
+use Rattle.pw_law_session.specs.FromSession.FromBuildFiles.Genuine.{KeepsGenuine}
+use Rattle.pw_law_session.specs.FromSession.FromBuildFiles.Outcomes.{AnswersOutcome, fault_answer}
 use Rattle.pw_go.specs.Going.{GoEffect}
 use Rattle.pw_build_opts.specs.declared.opts.Opts.{Opts}
 use Rattle.pw_build_opts.specs.declared.opts.RunOpts.{RunOpts}

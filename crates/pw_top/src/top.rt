@@ -4,7 +4,7 @@ ghost use Rattle.std.specs.Prelude.{◌≡◌, ◌⊎◌, ℕ, IfSome, List, Non
 ghost use Rattle.pw_io.specs.Files.{Keeps};
 ghost use Rattle.pw_top_answer.specs.Answers.{line_text};
 ghost use Rattle.pw_top_answer.specs.Outcomes.{InputCount, LeavesStreams, OutputCount, StoreCount, Tells, TellsSome};
-ghost use Rattle.pw_session.specs.FromBuildFiles.Genuine.{KeepsGenuine};
+ghost use Rattle.pw_law_session.specs.FromSession.FromBuildFiles.Genuine.{KeepsGenuine};
 ghost use Rattle.pw_top.specs.Answers.{HoldsNoWantOfMemory, IsNoUsage};
 ghost use Rattle.pw_top.specs.Commands.{BuildsWhole, EndsScript, IsComplete, IsNoSession, KeepsTheRest, OnlyReads, RefusesAsBuilt, is_builder, is_phase, is_reader, line_of};
 ghost use Rattle.pw_top.specs.Does.{DoesAs};
@@ -19,10 +19,9 @@ use pw_go::laws::runs_leave_an_end;
 use pw_io::laws::other_files;
 use pw_io::{Sink, Source, Store};
 use pw_law_session::{
-    a_store_is_built_exactly_where_it_can_be, bench_builds_in_full, builds_are_full,
-    sessions_build_in_full,
+    a_store_is_built_exactly_where_it_can_be, bench, bench_builds_in_full, build_modules,
+    builds_are_full, genuine_files_keep_genuine, run_session, sessions_build_in_full,
 };
-use pw_session::{bench, build_modules, genuine_files_keep_genuine, run_session};
 use pw_top_answer::{Answer, Reply, tell};
 use pw_top_words::laws::commands_are_within;
 use pw_top_words::{Command, WordsFault, command};
@@ -40,15 +39,15 @@ fn obey_phase<S: Store>(alloc: Global, command: &Command, store: &mut S) -> Repl
         Command::PhaseOne(name) => compile_text(alloc, store, name),
         Command::Analyse { colours } => Reply {
             answer: analyse_modules(alloc, store, *colours),
-            line: 1,
+            line: None,
         },
         Command::PhaseTwo(name) => Reply {
             answer: compile_flow(alloc, store, name),
-            line: 1,
+            line: None,
         },
         Command::Link { stack } => Reply {
             answer: link_modules(alloc, store, *stack),
-            line: 1,
+            line: None,
         },
         _ => unreachable!(),
     }
@@ -69,15 +68,15 @@ fn obey_reader<S: Store, I: Source, O: Sink>(
     match command {
         Command::Run { steps } => Reply {
             answer: run_image(alloc, store, input, out, *steps),
-            line: 1,
+            line: None,
         },
         Command::List => Reply {
             answer: list_image(alloc, store, out),
-            line: 1,
+            line: None,
         },
         Command::Db => Reply {
             answer: show_database(alloc, store, out),
-            line: 1,
+            line: None,
         },
         _ => unreachable!(),
     }
@@ -102,7 +101,7 @@ fn obey_builder<S: Store, I: Source, O: Sink>(
         Command::Build(opts) => build_modules(alloc, store, out, opts),
         Command::Session(opts) => Reply {
             answer: run_session(alloc, store, input, out, opts),
-            line: 1,
+            line: None,
         },
         Command::Bench { number, opts } => bench(alloc, *number, opts, out),
         _ => unreachable!(),
@@ -152,11 +151,11 @@ fn obey_words<S: Store, I: Source, O: Sink>(
         Ok(command) => obey(alloc, &command, store, input, out),
         Err(WordsFault::Usage) => Reply {
             answer: Answer::Usage,
-            line: 1,
+            line: None,
         },
         Err(WordsFault::NoMemory) => Reply {
             answer: Answer::NoMemory,
-            line: 1,
+            line: None,
         },
     }
 }
