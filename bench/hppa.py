@@ -121,7 +121,7 @@ class Machine:
     def __init__(self, folder):
         self.folder, self.monitor = folder, assembled(folder)
 
-    def run(self, file, given, seconds=60):
+    def run(self, file, given, seconds=300):
         """What a run of an image's file over an input comes to: the status, `StackStop`, or the signal that ended it; the
         output; and how many bytes of the input were read."""
         with tempfile.TemporaryDirectory(dir=self.folder) as folder:
