@@ -46,7 +46,7 @@ use Rattle.pw_top_words.specs.Limits.{IsWithin}
 use Rattle.pw_top.specs.Commands.{BuildsWhole, IsNoSession}
 use Rattle.pw_top.specs.Whole.{ComesInFull, IfMade, RunsFull}
 use Rattle.pw_hello.specs.Hello.{hello, hello_main, hello_module, hello_name, hello_output, hello_run, hello_syntax, hello_text, hello_tree}
-use Rattle.pw_client.specs.Saying.{HoldsHello, PutsPart, SaysHi}
+use Rattle.pw_client.specs.Saying.{HoldsHello, PutsPrefix, SaysHi}
 
 -- ---- the program of the texts
 
@@ -149,12 +149,12 @@ says_run input (Stopped (end.Halted halt at) last) taken taken' tells puts = abs
 -- ---- a prefix of it
 
 -- of a prefix
-part_put : (wanted rest : List ℕ) (answer : Answer) (taken taken' : Option (List ℕ)) → hello_output ≡ wanted ++ rest → PutsOut wanted answer taken taken' → PutsPart taken taken'
+part_put : (wanted rest : List ℕ) (answer : Answer) (taken taken' : Option (List ℕ)) → hello_output ≡ wanted ++ rest → PutsOut wanted answer taken taken' → PutsPrefix taken taken'
 part_put wanted rest answer taken taken' e puts =
     (puts.output, puts.more ++ rest, e ∙ (ap (λ l. l ++ rest) puts.front ∙ append_assoc puts.output puts.more rest), puts.taken)
 
 part_run : (input : List ℕ) (progress : Progress) (answer : Answer) (taken taken' : Option (List ℕ)) → Tells input progress hello_source
-    → PutsOut (run_output progress) answer taken taken' → PutsPart taken taken'
+    → PutsOut (run_output progress) answer taken taken' → PutsPrefix taken taken'
 part_run input (Running last) answer taken taken' tells puts = part_put last.output tells.more answer taken taken' tells.output puts
 part_run input (Stopped (end.Ended status) last) answer taken taken' tells puts =
     part_put last.output [] answer taken taken' (tells.output ∙ sym (append-nil last.output)) puts
@@ -170,14 +170,14 @@ nothing_put (Some before) (Some after) e = let same : after ≡ before = cc in s
 -- ---- what is answered in its place
 
 says_fault : (texts : Texts) (opts : Opts) → NotRefused texts opts → (fault : BuildFault) → BuildsImage texts opts (Err fault)
-    → (taken taken' : Option (List ℕ)) → PutsPart taken taken' → SaysHi (fault_answer fault) taken taken'
+    → (taken taken' : Option (List ℕ)) → PutsPrefix taken taken' → SaysHi (fault_answer fault) taken taken'
 says_fault texts opts accepted (build.Refused name refusal) built taken taken' part = accepted name refusal built
 says_fault texts opts accepted (build.LinkRefused fault) built taken taken' part = part
 says_fault texts opts accepted build.StoreFault built taken taken' part = part
 says_fault texts opts accepted build.NoMemory built taken taken' part = tt
 
 -- what is answered is what is wanted, or a fault
-by_answer : (wanted answer : Answer) (taken taken' : Option (List ℕ)) → Answers wanted answer → PutsPart taken taken' → (wanted ≡ answer → SaysHi answer taken taken') → SaysHi answer taken taken'
+by_answer : (wanted answer : Answer) (taken taken' : Option (List ℕ)) → Answers wanted answer → PutsPrefix taken taken' → (wanted ≡ answer → SaysHi answer taken taken') → SaysHi answer taken taken'
 by_answer wanted Done taken taken' e part says = says e
 by_answer wanted (Ended status) taken taken' e part says = says e
 by_answer wanted Usage taken taken' e part says = says e

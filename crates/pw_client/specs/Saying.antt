@@ -12,8 +12,8 @@ abbrev pub HoldsHello : Files → Type 0
 HoldsHello files = modules_of files ≡ (hello_name, hello_text) ∷ []
 
 -- a prefix of "Hi" was put out
-abbrev pub PutsPart : Option (List ℕ) → Option (List ℕ) → Type 0
-PutsPart taken taken' = (first more : List ℕ) × (hello_output ≡ first ++ more) × Appends taken taken' first
+abbrev pub PutsPrefix : Option (List ℕ) → Option (List ℕ) → Type 0
+PutsPrefix taken taken' = (first more : List ℕ) × (hello_output ≡ first ++ more) × Appends taken taken' first
 
 -- The image ran: it put out "Hi" and ended with the status 0; or the budget was spent, and it put out a prefix of that. It did
 -- not halt, it did not stop for want of stack, and the module was not refused. After a fault, or where linking refused, a prefix
@@ -28,4 +28,4 @@ SaysHi StackStop taken taken' = ⊥
 SaysHi (Halted halt at) taken taken' = ⊥
 SaysHi (BadFile name at) taken taken' = ⊥
 SaysHi (BadScript at) taken taken' = ⊥
-SaysHi _ taken taken' = PutsPart taken taken'
+SaysHi _ taken taken' = PutsPrefix taken taken'

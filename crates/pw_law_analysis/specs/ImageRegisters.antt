@@ -12,27 +12,27 @@ use Rattle.pw_run_languages.specs.Traces.{IsMembers}
 use Rattle.pw_run_languages.specs.ImageTrace.{Call, function_at, has_returned, start_state, symbols_of}
 
 -- the image's run on an input, after so many steps
-abbrev pub after : Image → List ℕ → ℕ → Progress
-after v input n = run_of n (start_state (image_start v.memory) input)
+abbrev pub run_after : Image → List ℕ → ℕ → Progress
+run_after v input n = run_of n (start_state (image_start v.memory) input)
 
 -- the call of a function, where the machine arrives at its address
-abbrev pub call_of : List ℕ → Core → Call
-call_of f c = record { function = f; link = register c 2; stack = register c 30 }
+abbrev pub call_at : List ℕ → Core → Call
+call_at f c = record { function = f; link = register c 2; stack = register c 30 }
 
 -- A function is called after n steps, and that call returns after m: at the first state behind the call that stands at its
 -- return address with the stack pointer as it was. Which function stands at an address the map tells; globals are no matter here.
-pub record Returns (v : Image) (input : List ℕ) (f : List ℕ) (n m : ℕ) (called returned : State) : Type 0 where
-  pub called_after : after v input n ≡ Running called
+pub record CallReturns (v : Image) (input : List ℕ) (f : List ℕ) (n m : ℕ) (called returned : State) : Type 0 where
+  pub called_after : run_after v input n ≡ Running called
   pub stands_at : function_at (symbols_of v []) called.core.front ≡ Some f
   pub goes : called.core.nullify ≡ false
   pub later : n < m
-  pub returned_after : after v input m ≡ Running returned
-  pub back : has_returned returned.core (call_of f called.core) ≡ true
-  pub first : (k : ℕ) (between : State) → n < k → k < m → after v input k ≡ Running between → has_returned between.core (call_of f called.core) ≡ false
+  pub returned_after : run_after v input m ≡ Running returned
+  pub back : has_returned returned.core (call_at f called.core) ≡ true
+  pub first : (k : ℕ) (between : State) → n < k → k < m → run_after v input k ≡ Running between → has_returned between.core (call_at f called.core) ≡ false
 
 -- Over each call of a function each register that a callee keeps stays as it was, but that of a web in which the function is
 -- a member.
 abbrev pub CallsKeepRegisters : List (List ℕ × Directives) → Image → List ℕ → Type 0
 CallsKeepRegisters d v input =
-    (f : List ℕ) (n m : ℕ) (called returned : State) → Returns v input f n m called returned →
+    (f : List ℕ) (n m : ℕ) (called returned : State) → CallReturns v input f n m called returned →
     (r : ℕ) → first_register ≤ r → r ≤ last_register → ¬ IsMembers d f r → register returned.core r ≡ register called.core r
