@@ -1,0 +1,6 @@
+//! Laws of delay slots, without code: a word that moves into the slot of a branch does there what it does before it.
+#![tactic(auto)]
+
+mod words;
+
+pub use words::{settled_words_move_alike, words_keep_registers, words_pass_registers};
