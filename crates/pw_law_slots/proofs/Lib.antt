@@ -1,2 +1,5 @@
 pub mod Passing
 pub mod Settling
+pub mod Doing
+pub mod Turning
+pub mod Leading

@@ -1,5 +1,5 @@
 -- A word that is no turn does the same whatever a register holds that it does not name.
-use Rattle.std.proofs.Common.{ℕ, ◌≡◌, ◌<◌, Bool, true, false, if◌then◌else◌, Some, List, [], ◌∷◌, ◌++◌, length, get_or, arith, refl, ap, sym, subst, ◌∙◌, absurd}
+use Rattle.std.proofs.Common.{ℕ, ◌≡◌, ◌<◌, Bool, true, false, if◌then◌else◌, Some, List, [], ◌∷◌, ◌++◌, length, get_or, arith, refl, ap, sym, subst, ◌∙◌}
 use Rattle.std.specs.Prelude.{◌==◌, Contains}
 use Rattle.std.specs.List.{list_any}
 use Rattle.std.proofs.lemmas.List.Folds.{list_any_at, list_any-append}
@@ -119,15 +119,25 @@ action_past w (Stores width a word) r v c goes apart = by (is_open w a (bytes_of
 action_past w (Shifts n) r v c goes apart = refl
 action_past w a r v c goes apart = absurd cc
 
+action_same : BySources → (i : Inst) (r v : ℕ) (c : Core) → have_common (source_registers i ++ target_registers i) (r ∷ []) ≡ false
+    → action_of i (put_in r v c) ≡ action_of i c
+action_same sources i r v c none =
+    let read = first_part (λ a. list_any (λ b. a == b) (r ∷ [])) (source_registers i) (target_registers i) none in
+    sources i (λ s. register (put_in r v c) s) (λ s. register c s) c.shift (λ s there. reads_past (s == 0) r v s c (named (source_registers i) r s read there))
+
+pub actions_past : BySources → (i : Inst) (r v : ℕ) (c : Core) → have_common (source_registers i ++ target_registers i) (but_zero (r ∷ [])) ≡ false
+    → action_of i (with_register r v c) ≡ action_of i c
+actions_past sources i r v c none = by (r == 0) none
+  where
+    by : (zero : Bool) → have_common (source_registers i ++ target_registers i) (if zero then [] else r ∷ []) ≡ false → action_of i (put_by zero r v c) ≡ action_of i c
+    by true h = refl
+    by false h = action_same sources i r v c h
+
 executed_past : BySources → ByTargets → (w : Addresses) (i : Inst) (r v : ℕ) (c : Core) → does_not_turn i ≡ true → have_common (source_registers i ++ target_registers i) (r ∷ []) ≡ false
     → executed w i (put_in r v c) ≡ past (put_in r v) (executed w i c)
 executed_past sources targets w i r v c goes none =
-    let shares : ℕ → Bool = λ a. list_any (λ b. a == b) (r ∷ []) in
-    let read = first_part shares (source_registers i) (target_registers i) none in
-    let written = second_part shares (source_registers i) (target_registers i) none in
-    let same : action_of i (put_in r v c) ≡ action_of i c =
-        sources i (λ s. register (put_in r v c) s) (λ s. register c s) c.shift (λ s there. reads_past (s == 0) r v s c (named (source_registers i) r s read there)) in
-    ap (λ a. act_of w a (put_in r v c)) same
+    let written = second_part (λ a. list_any (λ b. a == b) (r ∷ [])) (source_registers i) (target_registers i) none in
+    ap (λ a. act_of w a (put_in r v c)) (action_same sources i r v c none)
     ∙ action_past w (action_of i c) r v c (goes_alike i (λ s. register c s) (λ s. 0) c.shift 0 ∙ goes)
         (λ s there. named (target_registers i) r s written (subst (λ ts. Contains ts s) (targets i (λ q. register c q) c.shift) there))
 
@@ -198,3 +208,24 @@ words_keep targets w i r c d goes run none does =
     let stays = action_keeps w (action_of i c) r c d (goes_alike i (λ s. register c s) (λ s. 0) c.shift 0 ∙ goes)
         (λ s there. named (target_registers i) r s none (subst (λ ts. Contains ts s) (targets i (λ q. register c q) c.shift) there)) (sym (runs w i c run) ∙ does) in
     (stays.0, stays.1 ∙ run)
+
+-- ---- it never stops the run
+
+never_full : (w : Addresses) (a : Action) (c : Core) → goes_on a ≡ true → act_of w a c ≡ Full → ⊥
+never_full w (Puts q word) c goes e = cc
+never_full w (Loads width a q) c goes e = by (is_open w a (bytes_of_width width)) e
+  where
+    by : (o : Bool) → (if o then Acts (with_register q (number_at (bytes_of_width width) c.memory a) c) else Fails) ≡ Full → ⊥
+    by true e = cc
+    by false e = cc
+never_full w (Stores width a word) c goes e = by (is_open w a (bytes_of_width width)) e
+  where
+    by : (o : Bool) → (if o then Acts (record c { memory = with_number (bytes_of_width width) word a c.memory }) else Fails) ≡ Full → ⊥
+    by true e = cc
+    by false e = cc
+never_full w (Shifts n) c goes e = cc
+never_full w a c goes e = absurd cc
+
+pub words_never_stop : (w : Addresses) (i : Inst) (c : Core) → does_not_turn i ≡ true → c.skip ≡ false → acts w (Some i) c ≡ Full → ⊥
+words_never_stop w i c goes run e =
+    never_full w (action_of i c) c (goes_alike i (λ s. register c s) (λ s. 0) c.shift 0 ∙ goes) (sym (runs w i c run) ∙ e)
