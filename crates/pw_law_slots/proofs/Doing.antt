@@ -1,6 +1,6 @@
 -- A word that may move, as a step of the run: it does the same whatever is left, whatever was counted, and before and after
 -- a register takes a word that it does not name.
-use Rattle.std.proofs.Common.{ℕ, ◌≡◌, ◌+◌, Bool, true, false, if◌then◌else◌, Option, None, Some, List, [], ◌∷◌, ◌++◌, refl, ap, ◌∙◌}
+use Rattle.std.proofs.Common.{ℕ, ◌≡◌, Bool, true, false, if◌then◌else◌, Option, None, Some, List, [], ◌∷◌, ◌++◌, refl, ap, ◌∙◌}
 use Rattle.std.specs.Prelude.{◌==◌, ◌&&◌, nat_lt, count_by}
 use Rattle.std.specs.List.{flat_map}
 use Rattle.std.specs.Str.{bytes_eq}
@@ -11,8 +11,8 @@ use Rattle.pw_slots.specs.Filling.{have_common, but_zero}
 use Rattle.pw_run_languages.specs.Traces.{Event, Loaded, Stored, touches, load_of, store_of}
 use Rattle.pw_run_languages.specs.Programs.{globals_of}
 use Rattle.pw_run_languages.specs.Addresses.{Addresses}
-use Rattle.pw_run_languages.specs.Acts.{Core, Act, Acts, Full, Fails, register, with_register, action_of, acts}
-use Rattle.pw_run_languages.specs.LineRun.{LineProgram, Machine, Step, On, Stopped, Astray, linked, counted, left_behind, accesses, went_on}
+use Rattle.pw_run_languages.specs.Acts.{Core, Act, Acts, Full, Fails, with_register, action_of, acts}
+use Rattle.pw_run_languages.specs.LineRun.{LineProgram, Machine, Step, On, linked, counted, left_behind, accesses, went_on}
 use Rattle.pw_law_slots.specs.Passing.{past, does_not_turn, then_done}
 use Rattle.pw_law_slots.proofs.Passing.{BySources, ByTargets, words_past, actions_past}
 

@@ -1,11 +1,11 @@
 -- A word that is no turn does the same whatever a register holds that it does not name.
-use Rattle.std.proofs.Common.{ℕ, ◌≡◌, ◌<◌, Bool, true, false, if◌then◌else◌, Some, List, [], ◌∷◌, ◌++◌, length, get_or, arith, refl, ap, sym, subst, ◌∙◌}
+use Rattle.std.proofs.Common.{ℕ, ◌≡◌, Bool, true, false, if◌then◌else◌, Some, List, [], ◌∷◌, ◌++◌, arith, refl, ap, sym, subst, ◌∙◌}
 use Rattle.std.specs.Prelude.{◌==◌, Contains}
 use Rattle.std.specs.List.{list_any}
 use Rattle.std.proofs.lemmas.List.Folds.{list_any_at, list_any-append}
 use Rattle.pw_inst.specs.declared.Inst.{Inst}
 use Rattle.pw_inst.specs.declared.Inst.TheVariants.{Ldb, Ldh, Ldw, Ldo, Stb, Sth, Stw, Ldil, And, Or, Xor, Sub, Addl, Vshd, Mtctl, Comclr, Subi, Extru, Extrs, Zdep, Combt, Combf, Bl, Bv, Ble, Break}
-use Rattle.pw_inst.specs.Computing.{Action, Puts, Loads, Stores, Shifts, Clears, Branches, Links, Jumps, Calls, Asks, bytes_of_width, action, registers_put, source_registers, target_registers}
+use Rattle.pw_inst.specs.Computing.{Action, Puts, Loads, Stores, Shifts, bytes_of_width, action, registers_put, source_registers, target_registers}
 use Rattle.pw_slots.specs.Filling.{goes_on, have_common, but_zero}
 use Rattle.pw_run_languages.specs.Addresses.{Addresses}
 use Rattle.pw_run_languages.specs.Acts.{Core, Act, Acts, Full, Fails, register, put, with_register, number_at, with_number, is_open, act_of, action_of, executed, acts}
@@ -57,7 +57,7 @@ named xs r s none there = by (s == r) refl
     by false e = e
     by true e =
         let at : list_any (λ a. list_any (λ b. a == b) (r ∷ [])) xs ≡ true =
-            list_any_at (λ a. list_any (λ b. a == b) (r ∷ [])) xs there.0 s there.1 (rw there.2 (rw e refl)) in
+        list_any_at (λ a. list_any (λ b. a == b) (r ∷ [])) xs there.0 s there.1 (rw there.2 (rw e refl)) in
         absurd (let no : true ≡ false = sym at ∙ none in cc)
 
 first_part : (p : ℕ → Bool) (xs ys : List ℕ) → list_any p (xs ++ ys) ≡ false → list_any p xs ≡ false
@@ -139,7 +139,7 @@ executed_past sources targets w i r v c goes none =
     let written = second_part (λ a. list_any (λ b. a == b) (r ∷ [])) (source_registers i) (target_registers i) none in
     ap (λ a. act_of w a (put_in r v c)) (action_same sources i r v c none)
     ∙ action_past w (action_of i c) r v c (goes_alike i (λ s. register c s) (λ s. 0) c.shift 0 ∙ goes)
-        (λ s there. named (target_registers i) r s written (subst (λ ts. Contains ts s) (targets i (λ q. register c q) c.shift) there))
+    (λ s there. named (target_registers i) r s written (subst (λ ts. Contains ts s) (targets i (λ q. register c q) c.shift) there))
 
 past_nothing : (a : Act) → a ≡ past (λ c. c) a
 past_nothing (Acts c) = refl
@@ -183,7 +183,7 @@ action_keeps : (w : Addresses) (a : Action) (r : ℕ) (c d : Core) → goes_on a
 unfolding Stays
 action_keeps w (Puts q word) r c d goes apart e =
     subst (λ d. (register d r ≡ register c r) × (d.skip ≡ c.skip)) (act_same _ d e)
-        (keeps_put (q == 0) (r == 0) q word r c (apart q (0, omega arith, refl)), skip_put (q == 0) q word c)
+    (keeps_put (q == 0) (r == 0) q word r c (apart q (0, omega arith, refl)), skip_put (q == 0) q word c)
 action_keeps w (Loads width a q) r c d goes apart e = by (is_open w a (bytes_of_width width)) e
   where
     word : ℕ
@@ -206,7 +206,7 @@ pub words_keep : ByTargets → (w : Addresses) (i : Inst) (r : ℕ) (c d : Core)
 unfolding Stays
 words_keep targets w i r c d goes run none does =
     let stays = action_keeps w (action_of i c) r c d (goes_alike i (λ s. register c s) (λ s. 0) c.shift 0 ∙ goes)
-        (λ s there. named (target_registers i) r s none (subst (λ ts. Contains ts s) (targets i (λ q. register c q) c.shift) there)) (sym (runs w i c run) ∙ does) in
+    (λ s there. named (target_registers i) r s none (subst (λ ts. Contains ts s) (targets i (λ q. register c q) c.shift) there)) (sym (runs w i c run) ∙ does) in
     (stays.0, stays.1 ∙ run)
 
 -- ---- it never stops the run
@@ -229,3 +229,27 @@ never_full w a c goes e = absurd cc
 pub words_never_stop : (w : Addresses) (i : Inst) (c : Core) → does_not_turn i ≡ true → c.skip ≡ false → acts w (Some i) c ≡ Full → ⊥
 words_never_stop w i c goes run e =
     never_full w (action_of i c) c (goes_alike i (λ s. register c s) (λ s. 0) c.shift 0 ∙ goes) (sym (runs w i c run) ∙ e)
+
+-- ---- nor passes over the next word
+
+action_clears : (w : Addresses) (a : Action) (c d : Core) → goes_on a ≡ true → act_of w a c ≡ Acts d → d.skip ≡ c.skip
+action_clears w (Puts q word) c d goes e = ap (λ d. d.skip) (sym (act_same _ d e)) ∙ skip_put (q == 0) q word c
+action_clears w (Loads width a q) c d goes e = by (is_open w a (bytes_of_width width)) e
+  where
+    word : ℕ
+    word = number_at (bytes_of_width width) c.memory a
+
+    by : (o : Bool) → (if o then Acts (put_by (q == 0) q word c) else Fails) ≡ Acts d → d.skip ≡ c.skip
+    by true e = ap (λ d. d.skip) (sym (act_same _ d e)) ∙ skip_put (q == 0) q word c
+    by false e = absurd cc
+action_clears w (Stores width a word) c d goes e = by (is_open w a (bytes_of_width width)) e
+  where
+    by : (o : Bool) → (if o then Acts (record c { memory = with_number (bytes_of_width width) word a c.memory }) else Fails) ≡ Acts d → d.skip ≡ c.skip
+    by true e = ap (λ d. d.skip) (sym (act_same _ d e))
+    by false e = absurd cc
+action_clears w (Shifts n) c d goes e = ap (λ d. d.skip) (sym (act_same _ d e))
+action_clears w a c d goes e = absurd cc
+
+pub words_clear : (w : Addresses) (i : Inst) (c d : Core) → does_not_turn i ≡ true → c.skip ≡ false → acts w (Some i) c ≡ Acts d → d.skip ≡ false
+words_clear w i c d goes run does =
+    action_clears w (action_of i c) c d (goes_alike i (λ s. register c s) (λ s. 0) c.shift 0 ∙ goes) (sym (runs w i c run) ∙ does) ∙ run

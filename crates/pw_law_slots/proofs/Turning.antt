@@ -1,5 +1,5 @@
 -- A turn with the word before it in its slot does in one step what the two do one after the other.
-use Rattle.std.proofs.Common.{ℕ, ◌≡◌, ◌+◌, Bool, true, false, if◌then◌else◌, Option, None, Some, List, [], ◌∷◌, ◌++◌, refl, ap, sym, subst, ◌∙◌, arith}
+use Rattle.std.proofs.Common.{ℕ, ◌≡◌, Bool, true, false, if◌then◌else◌, Option, None, Some, List, [], ◌∷◌, ◌++◌, refl, ap, sym, subst, ◌∙◌, arith}
 use Rattle.std.specs.Prelude.{◌==◌, ◌&&◌, ◌||◌, not}
 use Rattle.std.specs.List.{list_any}
 use Rattle.pw_inst.specs.declared.Inst.{Inst}
@@ -9,13 +9,13 @@ use Rattle.pw_delay.specs.declared.items.Word.{Word}
 use Rattle.pw_delay.specs.declared.items.Turn.{Turn}
 use Rattle.pw_delay.specs.declared.items.Turn.TheVariants.{Back, Goto, If, CallTo, CallReg, Leave}
 use Rattle.pw_delay.specs.declared.items.Item.{Item}
-use Rattle.pw_delay.specs.declared.items.Item.TheVariants.{Plain, Turns, Mark}
+use Rattle.pw_delay.specs.declared.items.Item.TheVariants.{Plain, Turns}
 use Rattle.pw_slots.specs.Filling.{have_common, but_zero, are_apart, branch, may_move, moves}
 use Rattle.pw_run_languages.specs.Addresses.{Addresses}
 use Rattle.pw_run_languages.specs.Acts.{Core, Act, Acts, Full, Fails, register, acts, settled}
 use Rattle.pw_run_languages.specs.LineRun.{LineProgram, Machine, Step, On, Stopped, Astray, and_then, linked, counted, left_behind, accesses, went_on, does, from_mark, goes_to, to_block, return_address, calls, calls_at, function_at, routine, returns, turned, step}
 use Rattle.pw_law_slots.specs.Passing.{does_not_turn, then_done, LeadsOn}
-use Rattle.pw_law_slots.proofs.Passing.{BySources, ByTargets, words_keep, words_never_stop}
+use Rattle.pw_law_slots.proofs.Passing.{BySources, ByTargets, words_keep, words_never_stop, words_clear}
 use Rattle.pw_law_slots.proofs.Settling.{settled_sources, settled_targets, settled_turns}
 use Rattle.pw_law_slots.proofs.Doing.{does_by, IsFree, does_linked, does_left, does_counted}
 
@@ -56,7 +56,7 @@ goes_in_slot : (p : LineProgram) (w : Addresses) (o : Option Inst) (b : ℕ) (le
 unfolding gone
 goes_in_slot p w o b left m stops =
     done_twice p w o left counted (to_block b) (λ d. to_block b (counted d)) m (does_counted p w o m) stops
-      (λ c e. goes_alike (from_mark b m.frame.function.items) left (counted (gone p w o c m)))
+    (λ c e. goes_alike (from_mark b m.frame.function.items) left (counted (gone p w o c m)))
 
 passes_slot : (p : LineProgram) (w : Addresses) (o : Option Inst) (left rest : List Item) (m : Machine) → (acts w o m.core ≡ Full → ⊥)
     → and_then (does_by p w o (left_behind rest m)) On ≡ and_then (does_by p w o (left_behind left m)) (λ d. On (left_behind rest d))
@@ -67,11 +67,11 @@ passes_slot p w o left rest m stops = done_twice p w o left (left_behind rest) O
 tests_first : (p : LineProgram) (w : Addresses) (o : Option Inst) (left : List Item) (r : ℕ) (m : Machine) (here there : Machine → Step)
     → ((c : Core) → acts w o m.core ≡ Acts c → register c r ≡ register m.core r) → (acts w o m.core ≡ Full → ⊥)
     → and_then (does_by p w o (left_behind left m)) (if register m.core r == 0 then here else there)
-      ≡ and_then (does_by p w o (left_behind left m)) (λ d. if register d.core r == 0 then here d else there d)
+    ≡ and_then (does_by p w o (left_behind left m)) (λ d. if register d.core r == 0 then here d else there d)
 unfolding gone
 tests_first p w o left r m here there keeps stops =
     done_twice p w o left (left_behind left) (if register m.core r == 0 then here else there) (λ d. if register d.core r == 0 then here d else there d) m (does_left p w o left m) stops
-      (λ c e. by (register m.core r == 0) refl (left_behind left (gone p w o c m)) ∙ ap (λ (x : ℕ). if x == 0 then here (left_behind left (gone p w o c m)) else there (left_behind left (gone p w o c m))) (sym (keeps c e)))
+    (λ c e. by (register m.core r == 0) refl (left_behind left (gone p w o c m)) ∙ ap (λ (x : ℕ). if x == 0 then here (left_behind left (gone p w o c m)) else there (left_behind left (gone p w o c m))) (sym (keeps c e)))
   where
     by : (t : Bool) → (register m.core r == 0) ≡ t → (d : Machine) → (if t then here else there) d ≡ (if t then here d else there d)
     by true e d = refl
@@ -102,13 +102,13 @@ nowhere p w o m stops = by (acts w o m.core) refl
 among_first : (r : ℕ) (rest : List ℕ) → list_any (λ s. r == s) (r ∷ rest) ≡ true
 among_first r rest = let e : (r == r) ≡ true = grind arith in rw e refl
 
-turn_in_slot : BySources → ByTargets → (p : LineProgram) (w : Addresses) (scratch : ℕ → (ℕ → ℕ) → ℕ → ℕ) (word : Word) (turn : Turn) (here left rest : List Item) (m : Machine)
+turn_in_slot : BySources → ByTargets → (p : LineProgram) (w : Addresses) (scratch : ℕ → (ℕ → ℕ) → ℕ → ℕ) (word : Word) (turn : Turn) (here there left rest : List Item) (m : Machine)
     → LeadsOn turn → Fits w (settled w word) (branch turn) m → m.core.skip ≡ false
-    → turned p w scratch turn (Some word) here rest m ≡ and_then (does p w word (left_behind left m)) (turned p w scratch turn None here rest)
+    → turned p w scratch turn (Some word) here rest m ≡ and_then (does p w word (left_behind left m)) (turned p w scratch turn None there rest)
 unfolding gone
-turn_in_slot sources targets p w scratch word (Back i) here left rest m on fits run = elim on [ ]
-turn_in_slot sources targets p w scratch word (Goto b) here left rest m on fits run = goes_in_slot p w (settled w word) b left m fits.stops
-turn_in_slot sources targets p w scratch word (If r b) here left rest m on fits run =
+turn_in_slot sources targets p w scratch word (Back i) here there left rest m on fits run = elim on [ ]
+turn_in_slot sources targets p w scratch word (Goto b) here there left rest m on fits run = goes_in_slot p w (settled w word) b left m fits.stops
+turn_in_slot sources targets p w scratch word (If r b) here there left rest m on fits run =
     by (register m.core r == 0)
     ∙ tests_first p w (settled w word) left r m (λ d. On (left_behind rest d)) (λ d. to_block b (counted d)) (λ c e. fits.keeps r c (among_first r (0 ∷ [])) e) fits.stops
   where
@@ -116,24 +116,24 @@ turn_in_slot sources targets p w scratch word (If r b) here left rest m on fits 
         ≡ and_then (does_by p w (settled w word) (left_behind left m)) (if t then (λ d. On (left_behind rest d)) else (λ d. to_block b (counted d)))
     by true = passes_slot p w (settled w word) left rest m fits.stops
     by false = goes_in_slot p w (settled w word) b left m fits.stops
-turn_in_slot sources targets p w scratch word (CallTo (symbol.Named f) link) here left rest m on fits run =
+turn_in_slot sources targets p w scratch word (CallTo (symbol.Named f) link) here there left rest m on fits run =
     let to = return_address w m.frame rest in
-    done_twice p w (settled w word) left (λ d. linked link to (left_behind rest d)) (calls p w to f) (turned p w scratch (CallTo (symbol.Named f) link) None here rest) m
-      (links_past sources targets p w (settled w word) link to rest m (fits.free link refl) run) fits.stops (λ c e. refl)
-turn_in_slot sources targets p w scratch word (CallTo (symbol.Routine k) link) here left rest m on fits run =
+    done_twice p w (settled w word) left (λ d. linked link to (left_behind rest d)) (calls p w to f) (turned p w scratch (CallTo (symbol.Named f) link) None there rest) m
+    (links_past sources targets p w (settled w word) link to rest m (fits.free link refl) run) fits.stops (λ c e. refl)
+turn_in_slot sources targets p w scratch word (CallTo (symbol.Routine k) link) here there left rest m on fits run =
     let to = return_address w m.frame rest in
-    done_twice p w (settled w word) left (λ d. linked link to (left_behind rest d)) (routine scratch k) (turned p w scratch (CallTo (symbol.Routine k) link) None here rest) m
-      (links_past sources targets p w (settled w word) link to rest m (fits.free link refl) run) fits.stops (λ c e. refl)
-turn_in_slot sources targets p w scratch word (CallTo s link) here left rest m on fits run = nowhere p w (settled w word) (left_behind left m) fits.stops
-turn_in_slot sources targets p w scratch word CallReg here left rest m on fits run =
+    done_twice p w (settled w word) left (λ d. linked link to (left_behind rest d)) (routine scratch k) (turned p w scratch (CallTo (symbol.Routine k) link) None there rest) m
+    (links_past sources targets p w (settled w word) link to rest m (fits.free link refl) run) fits.stops (λ c e. refl)
+turn_in_slot sources targets p w scratch word (CallTo s link) here there left rest m on fits run = nowhere p w (settled w word) (left_behind left m) fits.stops
+turn_in_slot sources targets p w scratch word CallReg here there left rest m on fits run =
     let to = return_address w m.frame rest in
-    done_twice p w (settled w word) left (λ d. linked 31 to (left_behind rest d)) (calls_at p w to (function_at p w (register m.core 22))) (turned p w scratch CallReg None here rest) m
-      (links_past sources targets p w (settled w word) 31 to rest m (fits.free 31 refl) run) fits.stops
-      (λ c e. ap (λ (x : ℕ). calls_at p w to (function_at p w x) (linked 31 to (left_behind rest (gone p w (settled w word) c m)))) (sym (fits.keeps 22 c (among_first 22 []) e)))
-turn_in_slot sources targets p w scratch word Leave here left rest m on fits run =
-    done_twice p w (settled w word) left (left_behind rest) (returns p w (register m.core 2)) (turned p w scratch Leave None here rest) m
-      (does_left p w (settled w word) rest m) fits.stops
-      (λ c e. ap (λ (x : ℕ). returns p w x (left_behind rest (gone p w (settled w word) c m))) (sym (fits.keeps 2 c (among_first 2 []) e)))
+    done_twice p w (settled w word) left (λ d. linked 31 to (left_behind rest d)) (calls_at p w to (function_at p w (register m.core 22))) (turned p w scratch CallReg None there rest) m
+    (links_past sources targets p w (settled w word) 31 to rest m (fits.free 31 refl) run) fits.stops
+    (λ c e. ap (λ (x : ℕ). calls_at p w to (function_at p w x) (linked 31 to (left_behind rest (gone p w (settled w word) c m)))) (sym (fits.keeps 22 c (among_first 22 []) e)))
+turn_in_slot sources targets p w scratch word Leave here there left rest m on fits run =
+    done_twice p w (settled w word) left (left_behind rest) (returns p w (register m.core 2)) (turned p w scratch Leave None there rest) m
+    (does_left p w (settled w word) rest m) fits.stops
+    (λ c e. ap (λ (x : ℕ). returns p w x (left_behind rest (gone p w (settled w word) c m))) (sym (fits.keeps 2 c (among_first 2 []) e)))
 
 -- ---- words that move are such
 
@@ -175,10 +175,12 @@ moves_fit_by sources targets w word turn m free run =
     record {
       stops = stops_by goes (settled w word) refl;
       keeps = λ r c there e. keeps_by goes written r c there (settled w word) refl e;
-      free = λ r is i e. (settled_turns w word i e ∙ goes,
-          subst (λ (qs : List ℕ). have_common (qs ++ target_registers i) (but_zero (r ∷ [])) ≡ false) (sym (settled_sources w word i e))
+      free = λ r is i e. (
+        settled_turns w word i e ∙ goes,
+        subst (λ (qs : List ℕ). have_common (qs ++ target_registers i) (but_zero (r ∷ [])) ≡ false) (sym (settled_sources w word i e))
             (subst (λ (qs : List ℕ). have_common (source_registers word.inst ++ qs) (but_zero (r ∷ [])) ≡ false) (sym (settled_targets w word i e))
-              (subst (λ (ts : List ℕ). have_common (source_registers word.inst ++ target_registers word.inst) (but_zero ts) ≡ false) is named)));
+            (subst (λ (ts : List ℕ). have_common (source_registers word.inst ++ target_registers word.inst) (but_zero ts) ≡ false) is named)),
+      );
     }
   where
     stops_by : does_not_turn word.inst ≡ true → (o : Option Inst) → settled w word ≡ o → acts w o m.core ≡ Full → ⊥
@@ -190,11 +192,23 @@ moves_fit_by sources targets w word turn m free run =
     keeps_by goes written r c there None e does = absurd cc
     keeps_by goes written r c there (Some i) e does =
         let none = apart_from (target_registers i) (source_registers (branch turn)) r
-            (subst (λ (ts : List ℕ). have_common ts (source_registers (branch turn)) ≡ false) (sym (settled_targets w word i e)) written) there in
+        (subst (λ (ts : List ℕ). have_common ts (source_registers (branch turn)) ≡ false) (sym (settled_targets w word i e)) written) there in
         (words_keep targets w i r m.core c (settled_turns w word i e ∙ goes) run none does).0
 
-pub turns_take : BySources → ByTargets → (p : LineProgram) (w : Addresses) (scratch : ℕ → (ℕ → ℕ) → ℕ → ℕ) (word : Word) (turn : Turn) (here left rest : List Item) (m : Machine)
+clear_by : (w : Addresses) (word : Word) (c d : Core) → may_move word.inst ≡ true → c.skip ≡ false → (o : Option Inst) → settled w word ≡ o → acts w o c ≡ Acts d → d.skip ≡ false
+clear_by w word c d movable run None e does = absurd cc
+clear_by w word c d movable run (Some i) e does = words_clear w i c d (settled_turns w word i e ∙ both_left _ _ movable) run does
+
+pub steps_take : BySources → ByTargets → (p : LineProgram) (w : Addresses) (scratch : ℕ → (ℕ → ℕ) → ℕ → ℕ) (word : Word) (turn : Turn) (rest : List Item) (m : Machine)
     → LeadsOn turn → moves word.inst turn ≡ true → m.core.skip ≡ false
-    → turned p w scratch turn (Some word) here rest m ≡ and_then (does p w word (left_behind left m)) (turned p w scratch turn None here rest)
-turns_take sources targets p w scratch word turn here left rest m on free run =
-    turn_in_slot sources targets p w scratch word turn here left rest m on (moves_fit_by sources targets w word turn m free run) run
+    → step p w scratch (left_behind (Turns turn (Some word) ∷ rest) m) ≡ and_then (step p w scratch (left_behind (Plain word ∷ Turns turn None ∷ rest) m)) (step p w scratch)
+unfolding step gone
+steps_take sources targets p w scratch word turn rest m on free run =
+    let here = Turns turn (Some word) ∷ rest in
+    let left = Turns turn None ∷ rest in
+    let fits = moves_fit_by sources targets w word turn m free run in
+    ap (λ (t : Bool). if t then Astray else turned p w scratch turn (Some word) here rest (left_behind here m)) run
+    ∙ turn_in_slot sources targets p w scratch word turn here left left rest (left_behind here m) on (moves_fit_by sources targets w word turn (left_behind here m) free run) run
+    ∙ done_twice p w (settled w word) left (left_behind left) (turned p w scratch turn None left rest) (step p w scratch) m (does_left p w (settled w word) left m) fits.stops
+    (λ c e. ap (λ (t : Bool). if t then Astray else turned p w scratch turn None left rest (left_behind left (gone p w (settled w word) c m)))
+    (sym (clear_by w word m.core c (both_left (may_move word.inst) (are_apart word.inst (branch turn)) free) run (settled w word) refl e)))
