@@ -3,3 +3,4 @@ pub mod Settling
 pub mod Doing
 pub mod Turning
 pub mod Leading
+pub mod Programs

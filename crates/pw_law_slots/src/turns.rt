@@ -1,15 +1,16 @@
 //! Turns with a word in their slots.
 
-ghost use Rattle.std.specs.Prelude.{ℕ, Bool, ◌≡◌, true, false, Some, None, List, ◌∷◌};
+ghost use Rattle.std.specs.Prelude.{ℕ, Bool, option_map, ◌≡◌, true, false, Some, None, List, ◌∷◌};
 ghost use Rattle.pw_delay.specs.declared.items.Word.{Word};
 ghost use Rattle.pw_delay.specs.declared.items.Turn.{Turn};
 ghost use Rattle.pw_delay.specs.declared.items.Item.{Item};
 ghost use Rattle.pw_delay.specs.declared.items.Item.TheVariants.{Plain, Turns};
 ghost use Rattle.pw_slots.specs.Filling.{moves, filled};
 ghost use Rattle.pw_run_languages.specs.Addresses.{Addresses};
-ghost use Rattle.pw_run_languages.specs.LineRun.{LineProgram, Machine, and_then, left_behind, from_mark, turns, step};
+ghost use Rattle.pw_run_languages.specs.LineRun.{LineProgram, Machine, and_then, left_behind, from_mark, function_at, function_named, turns, step};
 ghost use Rattle.pw_law_slots.specs.Passing.{LeadsOn};
 ghost use Rattle.pw_law_slots.specs.Found.{AreFoundAlike};
+ghost use Rattle.pw_law_slots.specs.SlotLaws.{filled_function, filled_program};
 
 use pw_inst::actions_go_by_registers;
 
@@ -29,4 +30,10 @@ pub fn turns_take_words()
 pub fn filled_items_lead_alike()
     ensures blocks { (b : ℕ) (behind : Bool) (items : List Item) → AreFoundAlike (from_mark b items) (from_mark b (filled behind items)) }
     ensures turns { (behind : Bool) (items : List Item) → turns (filled behind items) ≡ turns items }
+{}
+
+/// The functions of a program with filled slots are found by the same names, and stand at the same addresses.
+pub fn filled_programs_name_alike()
+    ensures named { (p : LineProgram) (name : List ℕ) → function_named (filled_program p) name ≡ option_map filled_function (function_named p name) }
+    ensures standing { (p : LineProgram) (w : Addresses) (a : ℕ) → function_at (filled_program p) w a ≡ function_at p w a }
 {}
