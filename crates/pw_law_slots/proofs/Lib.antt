@@ -4,3 +4,4 @@ pub mod Doing
 pub mod Turning
 pub mod Leading
 pub mod Programs
+pub mod Looping

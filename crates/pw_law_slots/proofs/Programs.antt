@@ -1,5 +1,5 @@
 -- The functions of a program with filled slots, by their names.
-use Rattle.std.proofs.Common.{ℕ, ◌≡◌, Bool, true, false, if◌then◌else◌, Option, None, Some, List, [], ◌∷◌, map, refl, ap}
+use Rattle.std.proofs.Common.{ℕ, ◌≡◌, Bool, true, false, if◌then◌else◌, Some, List, [], ◌∷◌, map, refl, ap}
 use Rattle.std.specs.Prelude.{find, option_map, ◌==◌, ◌++◌}
 use Rattle.std.specs.Str.{bytes_eq}
 use Rattle.pw_value.specs.ProgramNames.{library_functions}
@@ -13,7 +13,7 @@ found_filled name (f ∷ fs) = by (bytes_eq f.located.body.name name) (found_fil
   where
     by : (t : Bool) → find (λ g. bytes_eq g.located.body.name name) (map filled_function fs) ≡ option_map filled_function (find (λ g. bytes_eq g.located.body.name name) fs)
         → (if t then Some (filled_function f) else find (λ g. bytes_eq g.located.body.name name) (map filled_function fs))
-          ≡ option_map filled_function (if t then Some f else find (λ g. bytes_eq g.located.body.name name) fs)
+        ≡ option_map filled_function (if t then Some f else find (λ g. bytes_eq g.located.body.name name) fs)
     by true e = refl
     by false e = e
 

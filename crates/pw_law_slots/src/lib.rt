@@ -4,5 +4,7 @@
 mod turns;
 mod words;
 
-pub use turns::{filled_items_lead_alike, filled_programs_name_alike, turns_take_words};
+pub use turns::{
+    filled_items_lead_alike, filled_programs_name_alike, loops_go_over_words, turns_take_words,
+};
 pub use words::{settled_words_move_alike, words_keep_registers, words_pass_registers};

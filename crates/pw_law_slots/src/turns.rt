@@ -1,13 +1,14 @@
 //! Turns with a word in their slots.
 
-ghost use Rattle.std.specs.Prelude.{ℕ, Bool, option_map, ◌≡◌, true, false, Some, None, List, ◌∷◌};
+ghost use Rattle.std.specs.Prelude.{ℕ, Bool, option_map, ◌≡◌, true, false, Some, None, List, ◌∷◌, ◌++◌, length};
+ghost use Rattle.std.specs.List.{list_all};
 ghost use Rattle.pw_delay.specs.declared.items.Word.{Word};
 ghost use Rattle.pw_delay.specs.declared.items.Turn.{Turn};
 ghost use Rattle.pw_delay.specs.declared.items.Item.{Item};
 ghost use Rattle.pw_delay.specs.declared.items.Item.TheVariants.{Plain, Turns};
 ghost use Rattle.pw_slots.specs.Filling.{moves, filled};
 ghost use Rattle.pw_run_languages.specs.Addresses.{Addresses};
-ghost use Rattle.pw_run_languages.specs.LineRun.{LineProgram, Machine, and_then, left_behind, from_mark, function_at, function_named, turns, step};
+ghost use Rattle.pw_run_languages.specs.LineRun.{LineProgram, Machine, and_then, left_behind, back_over, from_mark, function_at, function_named, is_plain, turns, step};
 ghost use Rattle.pw_law_slots.specs.Passing.{LeadsOn};
 ghost use Rattle.pw_law_slots.specs.Found.{AreFoundAlike};
 ghost use Rattle.pw_law_slots.specs.SlotLaws.{filled_function, filled_program};
@@ -36,4 +37,11 @@ pub fn filled_items_lead_alike()
 pub fn filled_programs_name_alike()
     ensures named { (p : LineProgram) (name : List ℕ) → function_named (filled_program p) name ≡ option_map filled_function (function_named p name) }
     ensures standing { (p : LineProgram) (w : Addresses) (a : ℕ) → function_at (filled_program p) w a ≡ function_at p w a }
+{}
+
+/// A branch that goes back over so many words leads to the first of them; and words that stand together stay together where
+/// slots are filled.
+pub fn loops_go_over_words()
+    ensures back { (before words here : List Item) → list_all is_plain words ≡ true → back_over (length words) here (before ++ (words ++ here)) ≡ Some (words ++ here) }
+    ensures stay { (behind : Bool) (words : List Item) → list_all is_plain words ≡ true → filled behind words ≡ words }
 {}
