@@ -4,4 +4,4 @@ mod ShortBytes
 mod NoElements
 mod Accepted
 mod Resolved
-pub mod Rows
+mod Rows
