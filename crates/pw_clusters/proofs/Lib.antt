@@ -1,1 +1,4 @@
 mod Registers
+mod Climbing
+mod Roots
+mod Sharing

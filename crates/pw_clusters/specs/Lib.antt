@@ -1,3 +1,4 @@
 pub mod Needs
 pub mod Clusters
 pub mod Saving
+pub mod Sharing

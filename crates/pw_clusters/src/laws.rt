@@ -1,10 +1,16 @@
 //! Laws of the registers that roots save.
 
-ghost use Rattle.std.specs.Prelude.{◌≡◌, ◌≤◌, ◌⊎◌, ℕ, [], Contains};
-ghost use Rattle.pw_db.specs.Limits.{first_register, last_register};
+ghost use Rattle.std.specs.Prelude.{◌≡◌, ◌+◌, ◌<◌, ◌≤◌, ◌⊎◌, ℕ, List, [], length, slice_index, Contains};
+ghost use Rattle.std.specs.List.{AllByRecursion};
+ghost use Rattle.pw_db.specs.Limits.{first_register, last_register, colour_limit};
 ghost use Rattle.pw_flow.specs.Outline.{Outline};
+ghost use Rattle.pw_summary.specs.declared.summary.Summary.{Summary};
+ghost use Rattle.pw_graph.specs.declared.graph.CallGraph.{CallGraph};
+ghost use Rattle.pw_graph.specs.Program.{IsGraphOf};
+ghost use Rattle.pw_clusters.specs.Clusters.{AreRoots};
 ghost use Rattle.pw_clusters.specs.Needs.{need, need_limit};
-ghost use Rattle.pw_clusters.specs.Saving.{last_registers, saves_by, free_by};
+ghost use Rattle.pw_clusters.specs.Saving.{last_registers, saves_by, free_by, free_at};
+ghost use Rattle.pw_clusters.specs.Sharing.{Shares, IsSavedAbove};
 
 /// No function needs more registers than are saved for a cluster at most. These are some of those that a callee keeps; and no
 /// function both saves registers for others and has some free.
@@ -12,4 +18,17 @@ pub fn few_registers_are_saved()
     ensures few { (f : Outline) → need f ≤ need_limit }
     ensures kept { (k r : ℕ) → k ≤ need_limit → Contains (last_registers k) r → (first_register ≤ r) × (r ≤ last_register) }
     ensures apart { (f root k : ℕ) → (saves_by f root k ≡ []) ⊎ (free_by f root k ≡ []) }
+{}
+
+/// A call graph has at most one assignment of roots, and by it each root is its own.
+pub fn roots_are_one()
+    ensures one { (ss : List Summary) (g : CallGraph) (xs ys : List ℕ) → IsGraphOf ss g → AreRoots ss g xs → AreRoots ss g ys → xs ≡ ys }
+    ensures own { (ss : List Summary) (g : CallGraph) (roots : List ℕ) → IsGraphOf ss g → AreRoots ss g roots → (f : ℕ) → f < length g.functions → slice_index roots (slice_index roots f) ≡ slice_index roots f }
+{}
+
+/// A register that a function is free to use is saved by its root, and each function from which calls lead to it without the
+/// root saves the register or is free to use it too. No web has such a register, as webs have the first ones.
+pub fn free_registers_are_saved_above()
+    ensures saved { (ss : List Summary) (g : CallGraph) (roots needs : List ℕ) → IsGraphOf ss g → AreRoots ss g roots → (f q : ℕ) → f < length g.functions → Contains (free_at roots needs f) q → IsSavedAbove g roots needs f q }
+    ensures of_no_web { (roots needs : List ℕ) (f q : ℕ) → AllByRecursion (λ n. n ≤ need_limit) needs → Shares roots needs f q → (first_register + colour_limit ≤ q) × (q ≤ last_register) }
 {}
