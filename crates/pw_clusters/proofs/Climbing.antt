@@ -33,11 +33,14 @@ record Trail (g : CallGraph) (f : ℕ) (trail : List ℕ) : Type 0 where
   distinct : IsDistinct eqb trail
   each : (q : ℕ) → list_any (eqb q) trail ≡ true → (q < length g.functions) × Path g f q
 
--- what holds of functions, and is told of each
+-- what holds of each function or else the function does not come to call itself, and holds if it holds of all that call it
 pub record IsCarried (g : CallGraph) (P : ℕ → Type 0) : Type 0 where
-  pub told : (f : ℕ) → P f ⊎ (P f → ⊥)
-  pub in_cycle : (f : ℕ) → f < length g.functions → Path g f f → P f
+  pub once : (f : ℕ) → f < length g.functions → P f ⊎ (Path g f f → ⊥)
   pub from_callers : (f : ℕ) → f < length g.functions → ((c : ℕ) → Calls g c f → P c) → P f
+
+-- where one can tell whether it holds
+pub where_told : (g : CallGraph) (P : ℕ → Type 0) → ((f : ℕ) → P f ⊎ (P f → ⊥)) → ((f : ℕ) → f < length g.functions → Path g f f → P f) → (f : ℕ) → f < length g.functions → P f ⊎ (Path g f f → ⊥)
+where_told g P told in_cycle f lt = elim (told f) [ inl p ↦ inl p | inr others ↦ inr (λ path. others (in_cycle f lt path)) ]
 
 module _ (g : CallGraph) (rows : length g.calls ≡ length g.functions) where
   distinct_with : (f : ℕ) (trail : List ℕ) → Trail g f trail → (Path g f f → ⊥) → IsDistinct eqb (f ∷ trail)
@@ -66,17 +69,17 @@ module _ (g : CallGraph) (rows : length g.calls ≡ length g.functions) where
       let few : length (f ∷ trail) ≤ length g.functions = length-le_from_distinct_below (f ∷ trail) (length g.functions) (distinct_with f trail t once) (within f trail t lt) in
       omega (arith, few, long)
 
-  caller_within : (c f : ℕ) → Calls g c f → c < length g.functions
+  pub caller_within : (c f : ℕ) → Calls g c f → c < length g.functions
   caller_within c f calls = let lt = slice_get_within g.calls c calls.row calls.at in omega (arith, lt, rows)
 
   climb : (P : ℕ → Type 0) → IsCarried g P → (more : ℕ) (f : ℕ) (trail : List ℕ) → Trail g f trail → f < length g.functions → length g.functions ≤ more + length trail → P f
-  climb P k zero f trail t lt long = elim (k.told f) [
+  climb P k zero f trail t lt long = elim (k.once f lt) [
     | inl p ↦ p
-    | inr others ↦ absurd (full f trail t (λ path. others (k.in_cycle f lt path)) lt (omega (arith, long)))
+    | inr others ↦ absurd (full f trail t others lt (omega (arith, long)))
   ]
-  climb P k (suc more) f trail t lt long = elim (k.told f) [
+  climb P k (suc more) f trail t lt long = elim (k.once f lt) [
     | inl p ↦ p
-    | inr others ↦ k.from_callers f lt (λ c calls. climb P k more c (f ∷ trail) (longer c f trail t (λ path. others (k.in_cycle f lt path)) lt calls) (caller_within c f calls) (omega (arith, long)))
+    | inr others ↦ k.from_callers f lt (λ c calls. climb P k more c (f ∷ trail) (longer c f trail t others lt calls) (caller_within c f calls) (omega (arith, long)))
   ]
 
   pub everywhere : (P : ℕ → Type 0) → IsCarried g P → (f : ℕ) → f < length g.functions → P f
