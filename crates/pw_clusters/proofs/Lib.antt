@@ -2,3 +2,4 @@ mod Registers
 mod Climbing
 mod Roots
 mod Sharing
+mod Naming

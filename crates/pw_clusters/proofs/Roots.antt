@@ -48,10 +48,10 @@ module _ (ss : List Summary) (g : CallGraph) (xs : List ℕ) (x : AreRoots ss g 
     | inl e ↦ e
     | inr past ↦
         let none : (r : ℕ) → IsInner ss g f → HaveRoot g xs f r → ⊥ =
-          λ r inner have.
-            let same : slice_index xs inner.caller ≡ slice_index xs f = have inner.caller inner.called ∙ sym (x.of_callers f r inner have) in
-            let below : slice_index xs inner.caller < length g.functions = all inner.caller inner.called in
-            omega (arith, same, below, past) in
+        λ r inner have.
+        let same : slice_index xs inner.caller ≡ slice_index xs f = have inner.caller inner.called ∙ sym (x.of_callers f r inner have) in
+        let below : slice_index xs inner.caller < length g.functions = all inner.caller inner.called in
+        omega (arith, same, below, past) in
         let is : slice_index xs f ≡ f = x.itself f lt none in
         omega (arith, is, lt)
   ]
@@ -64,7 +64,6 @@ module _ (ss : List Summary) (g : CallGraph) (xs : List ℕ) (x : AreRoots ss g 
     ];
     from_callers = near;
   })
-
 
   -- who stands below the root on the way to one that has it, has it too
   pub below : IsGraphOf ss g → (h r f : ℕ) → PathBelow g r h f → slice_index xs f ≡ r → slice_index xs h ≡ r

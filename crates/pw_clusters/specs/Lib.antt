@@ -2,3 +2,4 @@ pub mod Needs
 pub mod Clusters
 pub mod Saving
 pub mod Sharing
+pub mod Naming

@@ -1,6 +1,6 @@
 //! Laws of the registers that roots save.
 
-ghost use Rattle.std.specs.Prelude.{◌≡◌, ◌+◌, ◌<◌, ◌≤◌, ◌⊎◌, ℕ, List, [], length, slice_index, Contains};
+ghost use Rattle.std.specs.Prelude.{◌≡◌, ◌+◌, Some, slice_get, ◌<◌, ◌≤◌, ◌⊎◌, ℕ, List, [], length, slice_index, Contains};
 ghost use Rattle.std.specs.List.{AllByRecursion};
 ghost use Rattle.pw_db.specs.Limits.{first_register, last_register, colour_limit};
 ghost use Rattle.pw_flow.specs.Outline.{Outline};
@@ -10,7 +10,10 @@ ghost use Rattle.pw_graph.specs.Program.{IsGraphOf};
 ghost use Rattle.pw_clusters.specs.Clusters.{AreRoots};
 ghost use Rattle.pw_clusters.specs.Needs.{need, need_limit};
 ghost use Rattle.pw_clusters.specs.Saving.{last_registers, saves_by, free_by, free_at};
+ghost use Rattle.pw_clusters.specs.Naming.{TellsMovable, AreTold, IsSavedAboveNamed};
 ghost use Rattle.pw_clusters.specs.Sharing.{Shares, IsSavedAbove};
+ghost use Rattle.pw_colour.specs.Naming.{IsNamed};
+ghost use Rattle.pw_db_sound.specs.CallGraphs.{Graph};
 
 /// No function needs more registers than are saved for a cluster at most. These are some of those that a callee keeps; and no
 /// function both saves registers for others and has some free.
@@ -31,4 +34,10 @@ pub fn roots_are_one()
 pub fn free_registers_are_saved_above()
     ensures saved { (ss : List Summary) (g : CallGraph) (roots needs : List ℕ) → IsGraphOf ss g → AreRoots ss g roots → (f q : ℕ) → f < length g.functions → Contains (free_at roots needs f) q → IsSavedAbove g roots needs f q }
     ensures of_no_web { (roots needs : List ℕ) (f q : ℕ) → AllByRecursion (λ n. n ≤ need_limit) needs → Shares roots needs f q → (first_register + colour_limit ≤ q) × (q ≤ last_register) }
+{}
+
+/// So it is by names, as soundness of directives has it, where one can tell of each function whether it may work for another
+/// alone: its root is the one of that graph.
+pub fn free_registers_are_saved_by_name()
+    ensures { (ss : List Summary) (g : CallGraph) (roots needs : List ℕ) (n : Graph) → IsGraphOf ss g → AreRoots ss g roots → IsNamed g n → TellsMovable ss n → AreTold ss g → (f : ℕ) (h : List ℕ) (q : ℕ) → slice_get g.functions f ≡ Some h → Contains (free_at roots needs f) q → IsSavedAboveNamed g n roots needs h q }
 {}
