@@ -3,3 +3,4 @@ mod Climbing
 mod Roots
 mod Sharing
 mod Naming
+mod Greatest

@@ -1,10 +1,11 @@
 -- The registers that a root saves for its cluster: the last of those that a callee keeps, as many as the member needs that
 -- needs most. The members are free to use them; every other function neither saves nor has free any.
-use Rattle.std.specs.Prelude.{ℕ, suc, ◌+◌, ◌-◌, ◌==◌, ◌&&◌, ◌||◌, not, if◌then◌else◌, max, nat_lt, Bool, List, [], ◌∷◌, length, slice_index}
+use Rattle.std.specs.Prelude.{ℕ, suc, ◌≡◌, Some, slice_get, ◌+◌, ◌-◌, ◌==◌, ◌&&◌, ◌||◌, not, if◌then◌else◌, max, nat_lt, Bool, List, [], ◌∷◌, length, slice_index}
 use Rattle.std.specs.List.{range_with_len}
 use Rattle.pw_db.specs.Limits.{last_register}
 use Rattle.pw_db.specs.Database.{has_web}
 use Rattle.pw_db.specs.declared.database.Directives.{Directives}
+use Rattle.pw_clusters.specs.Clusters.{IsMember}
 
 -- the greatest need among the members of the cluster of a root, where functions stand from a place on, each with its root and
 -- its need
@@ -24,6 +25,12 @@ saves_by f root k = if root == f then last_registers k else []
 
 abbrev pub free_by : ℕ → ℕ → ℕ → List ℕ
 free_by f root k = if root == f then [] else last_registers k
+
+-- some member of the root's cluster needs so many
+pub record IsNeed (roots needs : List ℕ) (r n : ℕ) : Type 0 where
+  pub member : ℕ
+  pub is : IsMember roots r member
+  pub need : slice_get needs member ≡ Some n
 
 -- both of each function, where all have their roots and their needs by their places
 abbrev pub need_in : List ℕ → List ℕ → ℕ → ℕ

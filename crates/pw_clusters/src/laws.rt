@@ -7,9 +7,9 @@ ghost use Rattle.pw_flow.specs.Outline.{Outline};
 ghost use Rattle.pw_summary.specs.declared.summary.Summary.{Summary};
 ghost use Rattle.pw_graph.specs.declared.graph.CallGraph.{CallGraph};
 ghost use Rattle.pw_graph.specs.Program.{IsGraphOf};
-ghost use Rattle.pw_clusters.specs.Clusters.{AreRoots};
+ghost use Rattle.pw_clusters.specs.Clusters.{AreRoots, IsMember};
 ghost use Rattle.pw_clusters.specs.Needs.{need, need_limit};
-ghost use Rattle.pw_clusters.specs.Saving.{last_registers, saves_by, free_by, free_at};
+ghost use Rattle.pw_clusters.specs.Saving.{last_registers, saves_by, free_by, need_in, free_at, IsNeed};
 ghost use Rattle.pw_clusters.specs.Naming.{TellsMovable, AreTold, IsSavedAboveNamed};
 ghost use Rattle.pw_clusters.specs.Sharing.{Shares, IsSavedAbove};
 ghost use Rattle.pw_colour.specs.Naming.{IsNamed};
@@ -40,4 +40,10 @@ pub fn free_registers_are_saved_above()
 /// alone: its root is the one of that graph.
 pub fn free_registers_are_saved_by_name()
     ensures { (ss : List Summary) (g : CallGraph) (roots needs : List ℕ) (n : Graph) → IsGraphOf ss g → AreRoots ss g roots → IsNamed g n → TellsMovable ss n → AreTold ss g → (f : ℕ) (h : List ℕ) (q : ℕ) → slice_get g.functions f ≡ Some h → Contains (free_at roots needs f) q → IsSavedAboveNamed g n roots needs h q }
+{}
+
+/// Each member of a cluster has as many registers free as it needs, and no more are saved than some member needs.
+pub fn members_have_what_they_need()
+    ensures enough { (roots needs : List ℕ) (r f n : ℕ) → IsMember roots r f → slice_get needs f ≡ Some n → n ≤ length (free_at roots needs f) }
+    ensures attained { (roots needs : List ℕ) (r : ℕ) → (need_in roots needs r ≡ 0) ⊎ IsNeed roots needs r (need_in roots needs r) }
 {}
