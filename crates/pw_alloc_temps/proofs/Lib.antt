@@ -1,1 +1,5 @@
 mod Registers
+mod Lists
+mod Places
+mod Entered
+mod Lawful
