@@ -1,15 +1,13 @@
 -- What allocation gives is lawful.
-use Rattle.std.proofs.Common.{◌≡◌, ◌⊎◌, ℕ, ◌+◌, ◌-◌, ◌≤◌, ◌<◌, ◌||◌, not, Bool, true, false, List, length, map, refl, sym, ap, subst, ◌∙◌, arith, inl, inr}
-use Rattle.std.specs.Prelude.{Option, None, Some, slice_get, Contains, filter}
-use Rattle.std.specs.List.{AllByRecursion, list_any, range_with_len}
+use Rattle.std.proofs.Common.{◌≡◌, ℕ, ◌+◌, ◌-◌, ◌≤◌, ◌||◌, not, Bool, true, false, List, length, map, refl, ap, ◌∙◌, arith, inl, inr}
+use Rattle.std.specs.Prelude.{Some, slice_get, Contains}
+use Rattle.std.specs.List.{list_any}
 use Rattle.std.proofs.lemmas.Bool.{or_left, or_right, eq-eqb}
 use Rattle.pw_files.proofs.Standing.{Has, has_by, contains_by, has_split, each_by}
 use Rattle.pw_db.specs.Limits.{first_register, last_register, last_temporary, register_count, kept_registers}
 use Rattle.pw_webflow.specs.declared.web.WebFn.{WebFn}
 use Rattle.pw_webflow.specs.WebOutline.{web_outline}
 use Rattle.pw_webflow.specs.ValidWebs.{HasRegister, IsWebFn}
-use Rattle.pw_alloc.specs.declared.located.Place.TheVariants.{Slot, Reg}
-use Rattle.pw_alloc.specs.declared.located.Located.{Located}
 use Rattle.pw_alloc.specs.Allocation.{is_entered, saved_of, in_frame}
 use Rattle.pw_alloc.specs.Frames.{head_size}
 use Rattle.pw_alloc.specs.ValidPlaces.{IsPlace, IsSaved, IsLocated}
@@ -17,7 +15,7 @@ use Rattle.pw_live.specs.Liveness.{has, is_that}
 use Rattle.pw_live.specs.Interference.{is_held}
 use Rattle.pw_alloc_temps.specs.Registers.{changed_registers, of_temporaries, allowed}
 use Rattle.pw_alloc_temps.specs.Temporaries.{registers_in, saved_in, placed, allocated}
-use Rattle.pw_alloc_temps.proofs.Lists.{At, stands_at, listed, some_passes, Kept, kept, stays, within, all_within, rises}
+use Rattle.pw_alloc_temps.proofs.Lists.{stands_at, listed, some_passes, kept, stays, within, all_within, rises}
 use Rattle.pw_alloc_temps.proofs.Places.{each_placed, placed_each}
 use Rattle.pw_alloc_temps.proofs.Entered.{entered_are}
 use Rattle.pw_alloc_temps.proofs.Registers.{each_has_one, registers_allowed}

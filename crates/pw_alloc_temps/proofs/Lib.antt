@@ -1,5 +1,5 @@
 mod Registers
-mod Lists
-mod Places
+pub mod Lists
+pub mod Places
 mod Entered
-mod Lawful
+pub mod Lawful

@@ -1,2 +1,2 @@
 mod SavingLaws
-mod PlaceLaws
+mod Fitting
