@@ -1,16 +1,15 @@
-use Rattle.std.proofs.Common.{◌≡◌, ◌<◌, ◌≤◌, ◌+◌, ◌∙◌, ℕ, [], List, get_or, length, take, arith, refl, sym, ap, subst, vec_len}
-use Rattle.std.specs.Prelude.{Some, slice_get}
+use Rattle.std.proofs.Common.{◌≡◌, ◌<◌, ◌≤◌, ◌+◌, ◌∙◌, ℕ, [], List, get_or, length, take, arith, sym, subst, vec_len}
 use Rattle.std.proofs.lemmas.List.{take_all}
 use Rattle.std.proofs.lemmas.Option.{slice_get_read}
 use Rattle.pw_alloc_temps.specs.Weights.{by_weight}
-use Rattle.pw_alloc_temps.specs.Registers.{given_to, given, register_of, registers}
+use Rattle.pw_alloc_temps.specs.Registers.{given_to, given, registers}
 use Rattle.pw_alloc_taken.specs.Knowing.{AreGiven}
 use Rattle.pw_alloc_taken.proofs.Knowledge.{many_makers}
 use Rattle.pw_alloc_registers.proofs.Turns.{next_turn, none_yet, all_registers, ordered_below}
 use Rattle.pw_alloc_registers.proofs.colouring.registers.Goals as goal
 
-pub new-given-requires : goal.new-given-requires
-new-given-requires c = let v = c.in_ok-facts.facts in c.len-points.ensures ∙ v.makers.ok.0 ∙ many_makers c.args.f.now v c.in_ok-facts.ensures
+pub new-requires : goal.new-requires
+new-requires c = let v = c.in_ok-facts.facts in c.len-points.ensures ∙ v.makers.ok.0 ∙ many_makers c.args.f.now v c.in_ok-facts.ensures
 
 pub colour-requires : goal.colour-requires
 colour-requires c =
