@@ -1,0 +1,3 @@
+mod Levels
+mod Paths
+mod Beside
