@@ -100,13 +100,13 @@ is_given f webs = all_given f webs (by_weight f 0 f.temps) [] (record { apart = 
 
 two_apart : (f : Outline) (gs : List (ℕ × ℕ)) (a b r : ℕ) → Apart f gs → Has (a, r) gs → Has (b, r) gs → interfere f a b ≡ false
 two_apart f [] a b r apart one two = absurd one
-two_apart f (g ∷ rest) a b r apart (inl one) (inl two) = never_itself f a b (sym (ap (λ h. h.0) one) ∙ ap (λ h. h.0) two)
+two_apart f (g ∷ rest) a b r apart (inl one) (inl two) = never_itself f a b (sym (ap (λ (h : ℕ × ℕ). h.0) one) ∙ ap (λ (h : ℕ × ℕ). h.0) two)
 two_apart f (g ∷ rest) a b r apart (inl one) (inr two) =
-    let here = has_each (Avoids f g.0 g.1) rest (b, r) apart.0 two (sym (ap (λ h. h.1) one)) in
-    subst (λ x. interfere f x b ≡ false) (ap (λ h. h.0) one) here
+    let here = has_each (Avoids f g.0 g.1) rest (b, r) apart.0 two (sym (ap (λ (h : ℕ × ℕ). h.1) one)) in
+    subst (λ x. interfere f x b ≡ false) (ap (λ (h : ℕ × ℕ). h.0) one) here
 two_apart f (g ∷ rest) a b r apart (inr one) (inl two) =
-    let here = has_each (Avoids f g.0 g.1) rest (a, r) apart.0 one (sym (ap (λ h. h.1) two)) in
-    interfere_back f a b ∙ subst (λ x. interfere f x a ≡ false) (ap (λ h. h.0) two) here
+    let here = has_each (Avoids f g.0 g.1) rest (a, r) apart.0 one (sym (ap (λ (h : ℕ × ℕ). h.1) two)) in
+    interfere_back f a b ∙ subst (λ x. interfere f x a ≡ false) (ap (λ (h : ℕ × ℕ). h.0) two) here
 two_apart f (g ∷ rest) a b r apart (inr one) (inr two) = two_apart f rest a b r apart.1 one two
 
 -- ---- by number

@@ -86,6 +86,13 @@ over_outline f t (run.on end b block there is rest) =
     block_at : (f : WebFn) (b : ℕ) (block : WebBlock) → slice_get f.blocks b ≡ Some block → slice_get (map web_stretch f.blocks) b ≡ Some (web_stretch block)
     block_at f b block is = slice_get-map web_stretch f.blocks b ∙ ap (option_map web_stretch) is
 
+abbrev webs_of : WebFn → List ℕ
+webs_of f = map (λ w. w.0.reg) f.directives.webs
+
+-- the places, in a frame with such a head and so many saved registers
+abbrev all_in : WebFn → ℕ → ℕ → List Place
+all_in f head saved = placed head saved 0 (registers_in f)
+
 -- ---- what allocation owes
 
 module _
@@ -132,61 +139,52 @@ module _
       and_from (not (d == t)) (overwrites o d t || overwrites o t d) (ap not (ne_eqb d t (differ f d t h)))
           (or_left (overwrites o d t) (overwrites o t d) (clash f d t h))
 
-  abbrev webs_of : WebFn → List ℕ
-  webs_of f = map (λ w. w.0.reg) f.directives.webs
-
   module _ (f : WebFn) (head saved : ℕ) where
-    abbrev regs : List (Option ℕ)
-    regs = registers_in f
+    count : length (all_in f head saved) ≡ f.temps
+    count = each_placed head saved 0 (registers_in f) ∙ each (web_outline f) (webs_of f)
 
-    abbrev all : List Place
-    all = placed head saved 0 regs
-
-    count : length all ≡ f.temps
-    count = each_placed head saved 0 regs ∙ each (web_outline f) (webs_of f)
-
-    reg_at : (t : ℕ) → t < f.temps → slice_get regs t ≡ Some (get_or regs t None)
-    reg_at t lt = let n : length regs ≡ f.temps = each (web_outline f) (webs_of f) in slice_get-get_or regs t None (omega (arith, lt, n))
+    reg_at : (t : ℕ) → t < f.temps → slice_get (registers_in f) t ≡ Some (get_or (registers_in f) t None)
+    reg_at t lt = let n : length (registers_in f) ≡ f.temps = each (web_outline f) (webs_of f) in slice_get-get_or (registers_in f) t None (omega (arith, lt, n))
 
     -- ---- what interferes stands apart
 
-    in_words : (d t : ℕ) → d ≢ t → slice_get regs t ≡ Some None → slice_get regs d ≡ Some None → slice_get all t ≡ slice_get all d → ⊥
+    in_words : (d t : ℕ) → d ≢ t → slice_get (registers_in f) t ≡ Some None → slice_get (registers_in f) d ≡ Some None → slice_get (all_in f head saved) t ≡ slice_get (all_in f head saved) d → ⊥
     in_words d t other one two same =
-        let words : Some (Slot (temp_offset head saved (0 + nones regs t))) ≡ Some (Slot (temp_offset head saved (0 + nones regs d))) =
-        sym (word_at head saved 0 regs t one) ∙ same ∙ word_at head saved 0 regs d two in
-        let places_same = same_Some (Slot (temp_offset head saved (0 + nones regs t))) (Slot (temp_offset head saved (0 + nones regs d))) words in
-        let offsets : temp_offset head saved (0 + nones regs t) ≡ temp_offset head saved (0 + nones regs d) = ap offset_in places_same in
-        let numbers = one_number head saved (0 + nones regs t) (0 + nones regs d) offsets in
+        let words : Some (Slot (temp_offset head saved (0 + nones (registers_in f) t))) ≡ Some (Slot (temp_offset head saved (0 + nones (registers_in f) d))) =
+        sym (word_at head saved 0 (registers_in f) t one) ∙ same ∙ word_at head saved 0 (registers_in f) d two in
+        let places_same = same_Some (Slot (temp_offset head saved (0 + nones (registers_in f) t))) (Slot (temp_offset head saved (0 + nones (registers_in f) d))) words in
+        let offsets : temp_offset head saved (0 + nones (registers_in f) t) ≡ temp_offset head saved (0 + nones (registers_in f) d) = ap offset_in places_same in
+        let numbers = one_number head saved (0 + nones (registers_in f) t) (0 + nones (registers_in f) d) offsets in
         elim (cases_order t d) [
           | inl e ↦ other (sym e)
           | inr way ↦ elim way [
-            | inl lt ↦ let up = nones_rise regs t d one lt in omega (arith, up, numbers)
-            | inr lt ↦ let up = nones_rise regs d t two lt in omega (arith, up, numbers)
+            | inl lt ↦ let up = nones_rise (registers_in f) t d one lt in omega (arith, up, numbers)
+            | inr lt ↦ let up = nones_rise (registers_in f) d t two lt in omega (arith, up, numbers)
           ]
         ]
 
-    by_kind : (d t : ℕ) (one two : Option ℕ) → Interfere f d t → slice_get regs t ≡ Some one → slice_get regs d ≡ Some two → slice_get all t ≡ slice_get all d → ⊥
+    by_kind : (d t : ℕ) (one two : Option ℕ) → Interfere f d t → slice_get (registers_in f) t ≡ Some one → slice_get (registers_in f) d ≡ Some two → slice_get (all_in f head saved) t ≡ slice_get (all_in f head saved) d → ⊥
     by_kind d t None None h here there same = in_words d t (differ f d t h) here there same
     by_kind d t None (Some r) h here there same =
-        let k : Some (Slot (temp_offset head saved (0 + nones regs t))) ≡ Some (Reg r) = sym (word_at head saved 0 regs t here) ∙ same ∙ register_at head saved 0 regs d r there in
+        let k : Some (Slot (temp_offset head saved (0 + nones (registers_in f) t))) ≡ Some (Reg r) = sym (word_at head saved 0 (registers_in f) t here) ∙ same ∙ register_at head saved 0 (registers_in f) d r there in
         cc
     by_kind d t (Some r) None h here there same =
-        let k : Some (Reg r) ≡ Some (Slot (temp_offset head saved (0 + nones regs d))) = sym (register_at head saved 0 regs t r here) ∙ same ∙ word_at head saved 0 regs d there in
+        let k : Some (Reg r) ≡ Some (Slot (temp_offset head saved (0 + nones (registers_in f) d))) = sym (register_at head saved 0 (registers_in f) t r here) ∙ same ∙ word_at head saved 0 (registers_in f) d there in
         cc
     by_kind d t (Some r) (Some q) h here there same =
-        let k : Some (Reg q) ≡ Some (Reg r) = sym (register_at head saved 0 regs d q there) ∙ sym same ∙ register_at head saved 0 regs t r here in
+        let k : Some (Reg q) ≡ Some (Reg r) = sym (register_at head saved 0 (registers_in f) d q there) ∙ sym same ∙ register_at head saved 0 (registers_in f) t r here in
         let one : q ≡ r = cc in
         let free = keep_apart (web_outline f) (webs_of f) d t r (there ∙ ap (λ n. Some (Some n)) one) here in
         let meets = meet f d t h in
         cc
 
-    apart : (d t : ℕ) → t < f.temps → Interfere f d t → slice_get all t ≢ slice_get all d
+    apart : (d t : ℕ) → t < f.temps → Interfere f d t → slice_get (all_in f head saved) t ≢ slice_get (all_in f head saved) d
     apart d t low h same = elim (cases_lt d f.temps) [
-      | inl lt ↦ by_kind d t (get_or regs t None) (get_or regs d None) h (reg_at t low) (reg_at d lt) same
+      | inl lt ↦ by_kind d t (get_or (registers_in f) t None) (get_or (registers_in f) d None) h (reg_at t low) (reg_at d lt) same
       | inr past ↦
-          let n : length all ≡ f.temps = count in
-          let here = slice_get-get_or all t (Reg 0) (omega (arith, n, low)) in
-          let none : Some (get_or all t (Reg 0)) ≡ None = sym here ∙ same ∙ slice_get_past all d (omega (arith, n, past)) in
+          let n : length (all_in f head saved) ≡ f.temps = count in
+          let here = slice_get-get_or (all_in f head saved) t (Reg 0) (omega (arith, n, low)) in
+          let none : Some (get_or (all_in f head saved) t (Reg 0)) ≡ None = sym here ∙ same ∙ slice_get_past (all_in f head saved) d (omega (arith, n, past)) in
           cc
     ]
 
@@ -206,18 +204,18 @@ module _
       not_of_web : (r : ℕ) → not (has r (webs_of f)) ≡ true → ¬ Contains (webs_of f) r
       not_of_web r e c = let k = listed r (webs_of f) (has_by r (webs_of f) c) in let n = ap not k in cc
 
-      of_temporary : (t r : ℕ) → slice_get regs t ≡ Some (Some r) → IsTempRegister r × (¬ Contains (webs_of f) r)
+      of_temporary : (t r : ℕ) → slice_get (registers_in f) t ≡ Some (Some r) → IsTempRegister r × (¬ Contains (webs_of f) r)
       of_temporary t r e =
           let c = may_have (web_outline f) (webs_of f) t r e in
           let k = kept (λ r. not (has r (webs_of f))) r (of_temporaries (is_held (web_outline f) t)) (has_by r (allowed (web_outline f) (webs_of f) t) c) in
           (in_bounds (is_held (web_outline f) t) r k.there, not_of_web r k.passes)
 
-      of_place : (r : ℕ) → Contains all (Reg r) → IsTempRegister r × (¬ Contains (webs_of f) r)
+      of_place : (r : ℕ) → Contains (all_in f head saved) (Reg r) → IsTempRegister r × (¬ Contains (webs_of f) r)
       of_place r c =
-          let p = stands_at (Some r) regs (register_back head saved 0 regs r (has_by (Reg r) all c)) in
+          let p = stands_at (Some r) (registers_in f) (register_back head saved 0 (registers_in f) r (has_by (Reg r) (all_in f head saved) c)) in
           of_temporary p.place r p.is
 
-      held_in : (t r : ℕ) → IsHeld f t → slice_get regs t ≡ Some (Some r) → IsKeptOver f (Reg r)
+      held_in : (t r : ℕ) → IsHeld f t → slice_get (registers_in f) t ≡ Some (Some r) → IsKeptOver f (Reg r)
       held_in t r h e =
           let o = web_outline f in
           let is = over o (web_stretch h.there.block) (map web_act h.there.before) (map web_act h.after) (web_act h.op) t
@@ -226,42 +224,42 @@ module _
           let k = kept (λ r. not (has r (webs_of f))) r (of_temporaries (is_held o t)) (has_by r (allowed o (webs_of f) t) c) in
           let low = subst (λ (b : Bool). Has r (of_temporaries b)) is k.there in
           let w = within first_register register_count r low in
-          (w.0, omega (arith, w.1), none_free r, λ (c : Contains [] r). nowhere r c)
+          (w.0, omega (arith, w.1), none_free r, λ c. nowhere r c)
 
-      held_at : (t : ℕ) (one : Option ℕ) (place : Place) → IsHeld f t → slice_get regs t ≡ Some one → slice_get all t ≡ Some place → IsKeptOver f place
-      held_at t None place h here e = subst (IsKeptOver f) (same_Some (Slot (temp_offset head saved (0 + nones regs t))) place (sym (word_at head saved 0 regs t here) ∙ e)) tt
-      held_at t (Some r) place h here e = subst (IsKeptOver f) (same_Some (Reg r) place (sym (register_at head saved 0 regs t r here) ∙ e)) (held_in t r h here)
+      held_at : (t : ℕ) (one : Option ℕ) (place : Place) → IsHeld f t → slice_get (registers_in f) t ≡ Some one → slice_get (all_in f head saved) t ≡ Some place → IsKeptOver f place
+      held_at t None place h here e = subst (IsKeptOver f) (same_Some (Slot (temp_offset head saved (0 + nones (registers_in f) t))) place (sym (word_at head saved 0 (registers_in f) t here) ∙ e)) tt
+      held_at t (Some r) place h here e = subst (IsKeptOver f) (same_Some (Reg r) place (sym (register_at head saved 0 (registers_in f) t r here) ∙ e)) (held_in t r h here)
 
-      held : (t : ℕ) (place : Place) → IsHeld f t → slice_get all t ≡ Some place → IsKeptOver f place
+      held : (t : ℕ) (place : Place) → IsHeld f t → slice_get (all_in f head saved) t ≡ Some place → IsKeptOver f place
       held t place h e =
-          let n : length all ≡ f.temps = count in
-          let lt = slice_get_within all t place e in
-          held_at t (get_or regs t None) place h (reg_at t (omega (arith, n, lt))) e
+          let n : length (all_in f head saved) ≡ f.temps = count in
+          let lt = slice_get_within (all_in f head saved) t place e in
+          held_at t (get_or (registers_in f) t None) place h (reg_at t (omega (arith, n, lt))) e
 
       -- ---- saved registers
 
-      saved_back : (l : Located) → l.places ≡ all → (r : ℕ) → Contains (saved_in f regs) r → Changes f l r
+      saved_back : (l : Located) → l.places ≡ (all_in f head saved) → (r : ℕ) → Contains (saved_in f (registers_in f)) r → Changes f l r
       saved_back l is r c =
           let webs = f.directives.webs in
-          let k = kept (λ r. is_entered webs r || list_any (λ o. is_that o r) regs) r kept_registers (has_by r (saved_in f regs) c) in
-          elim (or_cases (is_entered webs r) (list_any (λ o. is_that o r) regs) k.passes) [
+          let k = kept (λ r. is_entered webs r || list_any (λ o. is_that o r) (registers_in f)) r kept_registers (has_by r (saved_in f (registers_in f)) c) in
+          elim (or_cases (is_entered webs r) (list_any (λ o. is_that o r) (registers_in f)) k.passes) [
             | inl e ↦ let w = entered_by webs r e in enters (record { web = w.web; there = contains_by (w.web, Entry) webs w.there; is = w.is })
             | inr e ↦
-                let p = passing (λ o. is_that o r) regs e in
-                let here : Has (Some r) regs = subst (λ (o : Option ℕ). Has o regs) (that_is p.is r p.passes) p.there in
+                let p = passing (λ o. is_that o r) (registers_in f) e in
+                let here : Has (Some r) (registers_in f) = subst (λ (o : Option ℕ). Has o (registers_in f)) (that_is p.is r p.passes) p.there in
                 let high = within first_register register_count r k.there in
-                places (subst (λ (ps : List Place). Contains ps (Reg r)) (sym is) (contains_by (Reg r) all (register_there head saved 0 regs r here))) (omega (arith, high.1)) (none_free r)
+                places (subst (λ (ps : List Place). Contains ps (Reg r)) (sym is) (contains_by (Reg r) (all_in f head saved) (register_there head saved 0 (registers_in f) r here))) (omega (arith, high.1)) (none_free r)
           ]
 
-      saved_there : (l : Located) → l.places ≡ all → (r : ℕ) → Changes f l r → Contains (saved_in f regs) r
+      saved_there : (l : Located) → l.places ≡ (all_in f head saved) → (r : ℕ) → Changes f l r → Contains (saved_in f (registers_in f)) r
       saved_there l is r (places c high free) =
           let webs = f.directives.webs in
           let here = subst (λ (ps : List Place). Contains ps (Reg r)) is c in
           let low = (of_place r here).0.low in
-          contains_by r (saved_in f regs)
-              (stays (λ r. is_entered webs r || list_any (λ o. is_that o r) regs) r kept_registers (all_within first_register register_count r low (omega (arith, high)))
-                  (or_right (is_entered webs r) (list_any (λ o. is_that o r) regs)
-                      (some_passes (λ o. is_that o r) (Some r) regs (register_back head saved 0 regs r (has_by (Reg r) all here)) (eq-eqb r r refl))))
+          contains_by r (saved_in f (registers_in f))
+              (stays (λ r. is_entered webs r || list_any (λ o. is_that o r) (registers_in f)) r kept_registers (all_within first_register register_count r low (omega (arith, high)))
+                  (or_right (is_entered webs r) (list_any (λ o. is_that o r) (registers_in f))
+                      (some_passes (λ o. is_that o r) (Some r) (registers_in f) (register_back head saved 0 (registers_in f) r (has_by (Reg r) (all_in f head saved) here)) (eq-eqb r r refl))))
       saved_there l is r (enters w) =
           let webs = f.directives.webs in
           let there = has_by (w.web, Entry) webs w.there in
@@ -269,9 +267,9 @@ module _
           let same : w.web.reg ≡ r = w.is in
           let low : first_register ≤ r = omega (arith, web.low, same) in
           let high : r < first_register + register_count = omega (arith, web.high, same) in
-          contains_by r (saved_in f regs)
-              (stays (λ r. is_entered webs r || list_any (λ o. is_that o r) regs) r kept_registers (all_within first_register register_count r low high)
-                  (or_left (is_entered webs r) (list_any (λ o. is_that o r) regs) (enters_so webs w.web r there same)))
+          contains_by r (saved_in f (registers_in f))
+              (stays (λ r. is_entered webs r || list_any (λ o. is_that o r) (registers_in f)) r kept_registers (all_within first_register register_count r low high)
+                  (or_left (is_entered webs r) (list_any (λ o. is_that o r) (registers_in f)) (enters_so webs w.web r there same)))
       saved_there l is r (saves c) = absurd (nowhere r c)
 
   -- ---- together

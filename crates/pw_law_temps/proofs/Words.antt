@@ -27,10 +27,7 @@ register_at head saved i (None ∷ rest) (suc t) r e = register_at head saved (s
 
 pub register_back : (head saved i : ℕ) (regs : List (Option ℕ)) (r : ℕ) → Has (Reg r) (placed head saved i regs) → Has (Some r) regs
 register_back head saved i [] r h = absurd h
-register_back head saved i (Some q ∷ rest) r (inl e) = inl (ap Some (number e))
-  where
-    number : {q r : ℕ} → Reg q ≡ Reg r → q ≡ r
-    number e = cc
+register_back head saved i (Some q ∷ rest) r (inl e) = let k : q ≡ r = cc in inl (ap Some k)
 register_back head saved i (Some q ∷ rest) r (inr h) = inr (register_back head saved i rest r h)
 register_back head saved i (None ∷ rest) r (inl e) = absurd cc
 register_back head saved i (None ∷ rest) r (inr h) = inr (register_back head saved (suc i) rest r h)
