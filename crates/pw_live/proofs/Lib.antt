@@ -1,3 +1,5 @@
 mod Levels
 mod Paths
 mod Beside
+mod Needed
+mod Fronts

@@ -1,3 +1,5 @@
 pub mod Liveness
 pub mod Points
 pub mod Interference
+pub mod Blocks
+pub mod Flowing
