@@ -3,3 +3,7 @@ mod Paths
 mod Beside
 mod Needed
 mod Fronts
+mod Exposing
+mod Names
+mod Marking
+mod Rows

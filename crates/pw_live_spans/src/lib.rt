@@ -1,0 +1,7 @@
+//! Where each temporary of a function is live: the spans of points.
+#![tactic(auto)]
+
+mod spans;
+mod walk;
+
+pub use spans::{Spans, spans};
