@@ -31,12 +31,13 @@ none_of x e = ap one e
 count_full : (g : ℕ → Bool) (n b : ℕ) → n ≤ count g n → b < n → g b ≡ true
 count_full g zero b full lt = absurd (omega (arith, lt))
 count_full g (suc n) b full lt =
+    let whole : suc n ≤ one (g n) + count g n = full in
     let within = count_within g n in
     let o = one_at_most (g n) in
-    let rest : n ≤ count g n = omega arith in
+    let rest : n ≤ count g n = omega (arith, whole, o) in
     elim (cases_Bool (g n)) [
       | inl e ↦ elim (cases_eq b n) [ inl same ↦ ap g same ∙ e | inr other ↦ count_full g n b rest (omega arith) ]
-      | inr e ↦ let z = none_of (g n) e in absurd (omega arith)
+      | inr e ↦ let z = none_of (g n) e in absurd (omega (arith, whole, within, z))
     ]
 
 -- of two sets, the second with all of the first, the first has all of the second too, or less of them
