@@ -18,7 +18,7 @@ further f a b c (inl x) (inr y) = let same = y.0 in inl (omega (arith, x, same))
 further f a b c (inr x) (inl y) = let same = x.0 in inl (omega (arith, y, same))
 further f a b c (inr x) (inr y) = let one = x.0 in let two = y.0 in let low = x.1 in let high = y.1 in inr (omega (arith, one, two), omega (arith, low, high))
 
-never_both : (f : Outline) (a b : ℕ) → Before f a b → Before f b a → ⊥
+pub never_both : (f : Outline) (a b : ℕ) → Before f a b → Before f b a → ⊥
 never_both f a b (inl x) (inl y) = omega (arith, x, y)
 never_both f a b (inl x) (inr y) = let same = y.0 in omega (arith, x, same)
 never_both f a b (inr x) (inl y) = let same = x.0 in omega (arith, y, same)
@@ -77,8 +77,8 @@ pub in_order : (f : Outline) (i more : ℕ) → EachTwo (Before f) (by_weight f 
 in_order f i zero = tt
 in_order f i (suc more) =
     put_sorted f i (by_weight f (suc i) more)
-        (each_by (λ u. i < u) (by_weight f (suc i) more) (λ x h. let b = has_between f (suc i) more x h in let low = b.0 in omega (arith, low)))
-        (in_order f (suc i) more)
+    (each_by (λ u. i < u) (by_weight f (suc i) more) (λ x h. let b = has_between f (suc i) more x h in let low = b.0 in omega (arith, low)))
+    (in_order f (suc i) more)
 
 -- ---- two lists in order with the same numbers are one
 
@@ -98,6 +98,6 @@ one_order f (x ∷ xs) (y ∷ ys) one two there back =
       ]
     ] in
     let rest : xs ≡ ys = one_order f xs ys one.1 two.1
-        (λ z h. elim (there z (inr h)) [ inl e ↦ absurd (not_first f x z xs one.0 h (first ∙ e)) | inr k ↦ k ])
-        (λ z h. elim (back z (inr h)) [ inl e ↦ absurd (not_first f y z ys two.0 h (sym first ∙ e)) | inr k ↦ k ]) in
+    (λ z h. elim (there z (inr h)) [ inl e ↦ absurd (not_first f x z xs one.0 h (first ∙ e)) | inr k ↦ k ])
+    (λ z h. elim (back z (inr h)) [ inl e ↦ absurd (not_first f y z ys two.0 h (sym first ∙ e)) | inr k ↦ k ]) in
     ap (λ (n : ℕ). n ∷ xs) first ∙ ap (λ (ns : List ℕ). y ∷ ns) rest

@@ -1,12 +1,14 @@
 //! The order in which temporaries get registers.
 
-ghost use Rattle.std.specs.Prelude.{◌≡◌, ◌<◌, ℕ, slice_index, vec_len, IfOk};
+ghost use Rattle.std.specs.Prelude.{◌≡◌, map, IfOk};
 ghost use Rattle.std.specs.List.Sorted.{IsPermutation};
 ghost use Rattle.pw_db.specs.Database.{EachTwo};
-ghost use Rattle.pw_flow.specs.Outline.{Outline as OutlineValue};
-ghost use Rattle.pw_alloc_temps.specs.Weights.{by_weight, weight};
+ghost use Rattle.pw_live.specs.Blocks.{IsOutline};
+ghost use Rattle.pw_alloc_temps.specs.Weights.{by_weight};
 ghost use Rattle.pw_alloc_temps.specs.Ordering.{numbered, ComesFirst, Rises};
 
+use crate::weights::weights;
+use pw_live::Outline;
 use std::alloc::{AllocError as NoMemory, Global};
 
 /// A temporary and its weight.
@@ -16,8 +18,9 @@ struct Weighed {
     weight: u64,
 }
 
-/// The temporaries by number, with their weights.
+/// The temporaries by number, with their weights, of which there are no more than a word counts.
 fn weighed(alloc: Global, weights: &[u64]) -> Result<Vec<Weighed>, NoMemory>
+    requires { length weights.now < 2 ^ 32 }
     ensures { IfOk result (λ v. v.items ≡ numbered 0 weights.now) }
 {
     let mut all = Vec::with_capacity(alloc, weights.len())?;
@@ -39,4 +42,25 @@ fn sorted(all: Vec<Weighed>) -> Result<Vec<Weighed>, NoMemory>
     let mut sorted = all;
     sorted.sort_by(|one, other| other.weight.cmp(&one.weight))?;
     Ok(sorted)
+}
+
+/// The temporaries alone.
+fn temps_of(alloc: Global, all: &[Weighed]) -> Result<Vec<u32>, NoMemory>
+    ensures { IfOk result (λ v. v.items ≡ map (λ (w : Weighed). w.temp) all.now) }
+{
+    let mut temps = Vec::with_capacity(alloc, all.len())?;
+    for weighed in all {
+        temps.push(weighed.temp)?;
+    }
+    Ok(temps)
+}
+
+/// The temporaries of a function by weight downward, then by number upward.
+pub(crate) fn order(alloc: Global, f: &Outline) -> Result<Vec<u32>, NoMemory>
+    requires { IsOutline f.now }
+    ensures { IfOk result (λ v. v.items ≡ by_weight f.now 0 f.now.temps) }
+{
+    let weights = weights(alloc, f)?;
+    let all = sorted(weighed(alloc, &weights)?)?;
+    temps_of(alloc, &all)
 }

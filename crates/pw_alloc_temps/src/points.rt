@@ -1,7 +1,6 @@
 //! What stands before the points of a function.
 
-ghost use Rattle.std.specs.Prelude.{◌≡◌, ◌≢◌, ◌++◌, ◌<◌, ◌↔◌, ℕ, Some, length, map, slice_get, vec_len, Contains, IfOk, OnOk};
-ghost use Rattle.std.specs.List.{flat_map};
+ghost use Rattle.std.specs.Prelude.{◌≡◌, ◌++◌, map, IfOk, OnOk};
 ghost use Rattle.pw_live.specs.Points.{points_in, points};
 ghost use Rattle.pw_alloc_temps.specs.Makers.{maker, calls};
 
@@ -42,22 +41,4 @@ pub(crate) fn points(alloc: Global, f: &Outline) -> Result<Points, NoMemory>
         add_block(&mut points, block)?;
     }
     Ok(points)
-}
-
-/// Of each temporary the points directly behind its definitions.
-pub(crate) fn definitions(alloc: Global, makers: &[Option<u32>], temps: u32) -> Result<Vec<Vec<usize>>, NoMemory>
-    requires { AreBelow temps makers.now }
-    ensures count { IfOk result (λ v. vec_len v ≡ temps) }
-    ensures each { IfOk result (λ v. (t p : ℕ) (row : Vec ℕ Global) → slice_get v.items t ≡ Some row → Contains row.items p ↔ (slice_get makers.now p ≡ Some (Some t))) }
-{
-    let mut rows = Vec::new(alloc);
-    for _ in 0..temps {
-        rows.push(Vec::new(alloc))?;
-    }
-    for p in 0..makers.len() {
-        if let Some(t) = makers[p] {
-            rows[t as usize].push(p)?;
-        }
-    }
-    Ok(rows)
 }

@@ -121,23 +121,23 @@ module _
   clash : (f : WebFn) (d t : ℕ) → Interfere f d t → overwrites (web_outline f) d t ≡ true
   clash f d t (by_operation o after end there defined lives apart) =
       or_left (written_beside (web_outline f) d t) (starts_beside (web_outline f) d t)
-          (written (web_outline f) (web_stretch there.block) (map web_act there.before) (map web_act after) (web_act o) d t
-              (block_of f o after end there) (acts_of f o after end there) defined (behind f o after end there t lives))
+      (written (web_outline f) (web_stretch there.block) (map web_act there.before) (map web_act after) (web_act o) d t
+      (block_of f o after end there) (acts_of f o after end there) defined (behind f o after end there t lives))
   clash f d t (by_start block first low lives apart) =
       let at : slice_get (map web_stretch f.blocks) 0 ≡ Some (web_stretch block) = slice_get-map web_stretch f.blocks 0 ∙ ap (option_map web_stretch) first in
       or_right (written_beside (web_outline f) d t) (starts_beside (web_outline f) d t)
-          (and_from (nat_lt d f.params) (nat_lt t f.params || is_live_in (web_outline f) t 0) (lt-ltb d f.params low)
-              (or_right (nat_lt t f.params) (is_live_in (web_outline f) t 0) ((front (web_outline f) t 0 (web_stretch block) at).1 (over_outline f t lives))))
+      (and_from (nat_lt d f.params) (nat_lt t f.params || is_live_in (web_outline f) t 0) (lt-ltb d f.params low)
+      (or_right (nat_lt t f.params) (is_live_in (web_outline f) t 0) ((front (web_outline f) t 0 (web_stretch block) at).1 (over_outline f t lives))))
   clash f d t (parameters low high apart) =
       or_right (written_beside (web_outline f) d t) (starts_beside (web_outline f) d t)
-          (and_from (nat_lt d f.params) (nat_lt t f.params || is_live_in (web_outline f) t 0) (lt-ltb d f.params low)
-              (or_left (nat_lt t f.params) (is_live_in (web_outline f) t 0) (lt-ltb t f.params high)))
+      (and_from (nat_lt d f.params) (nat_lt t f.params || is_live_in (web_outline f) t 0) (lt-ltb d f.params low)
+      (or_left (nat_lt t f.params) (is_live_in (web_outline f) t 0) (lt-ltb t f.params high)))
 
   meet : (f : WebFn) (d t : ℕ) → Interfere f d t → interfere (web_outline f) d t ≡ true
   meet f d t h =
       let o = web_outline f in
       and_from (not (d == t)) (overwrites o d t || overwrites o t d) (ap not (ne_eqb d t (differ f d t h)))
-          (or_left (overwrites o d t) (overwrites o t d) (clash f d t h))
+      (or_left (overwrites o d t) (overwrites o t d) (clash f d t h))
 
   module _ (f : WebFn) (head saved : ℕ) where
     count : length (all_in f head saved) ≡ f.temps
@@ -219,7 +219,7 @@ module _
       held_in t r h e =
           let o = web_outline f in
           let is = over o (web_stretch h.there.block) (map web_act h.there.before) (map web_act h.after) (web_act h.op) t
-              (block_of f h.op h.after h.end h.there) (acts_of f h.op h.after h.end h.there) h.call h.other (behind f h.op h.after h.end h.there t h.lives) in
+          (block_of f h.op h.after h.end h.there) (acts_of f h.op h.after h.end h.there) h.call h.other (behind f h.op h.after h.end h.there t h.lives) in
           let c = may_have o (webs_of f) t r e in
           let k = kept (λ r. not (has r (webs_of f))) r (of_temporaries (is_held o t)) (has_by r (allowed o (webs_of f) t) c) in
           let low = subst (λ (b : Bool). Has r (of_temporaries b)) is k.there in
@@ -257,9 +257,9 @@ module _
           let here = subst (λ (ps : List Place). Contains ps (Reg r)) is c in
           let low = (of_place r here).0.low in
           contains_by r (saved_in f (registers_in f))
-              (stays (λ r. is_entered webs r || list_any (λ o. is_that o r) (registers_in f)) r kept_registers (all_within first_register register_count r low (omega (arith, high)))
-                  (or_right (is_entered webs r) (list_any (λ o. is_that o r) (registers_in f))
-                      (some_passes (λ o. is_that o r) (Some r) (registers_in f) (register_back head saved 0 (registers_in f) r (has_by (Reg r) (all_in f head saved) here)) (eq-eqb r r refl))))
+          (stays (λ r. is_entered webs r || list_any (λ o. is_that o r) (registers_in f)) r kept_registers (all_within first_register register_count r low (omega (arith, high)))
+          (or_right (is_entered webs r) (list_any (λ o. is_that o r) (registers_in f))
+          (some_passes (λ o. is_that o r) (Some r) (registers_in f) (register_back head saved 0 (registers_in f) r (has_by (Reg r) (all_in f head saved) here)) (eq-eqb r r refl))))
       saved_there l is r (enters w) =
           let webs = f.directives.webs in
           let there = has_by (w.web, Entry) webs w.there in
@@ -268,8 +268,8 @@ module _
           let low : first_register ≤ r = omega (arith, web.low, same) in
           let high : r < first_register + register_count = omega (arith, web.high, same) in
           contains_by r (saved_in f (registers_in f))
-              (stays (λ r. is_entered webs r || list_any (λ o. is_that o r) (registers_in f)) r kept_registers (all_within first_register register_count r low high)
-                  (or_left (is_entered webs r) (list_any (λ o. is_that o r) (registers_in f)) (enters_so webs w.web r there same)))
+          (stays (λ r. is_entered webs r || list_any (λ o. is_that o r) (registers_in f)) r kept_registers (all_within first_register register_count r low high)
+          (or_left (is_entered webs r) (list_any (λ o. is_that o r) (registers_in f)) (enters_so webs w.web r there same)))
       saved_there l is r (saves c) = absurd (nowhere r c)
 
   -- ---- together

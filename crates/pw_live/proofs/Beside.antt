@@ -19,7 +19,7 @@ any_behind p s (b ∷ before) after a e =
 any_in : (p : Point → Bool) (s : Stretch) (before after : List Act) (a : Act) → s.acts ≡ before ++ a ∷ after → p (point_in s (Some a) after) ≡ true → list_any p (points_in s) ≡ true
 any_in p s before after a is e =
     or_right (p (point_in s None s.acts)) (list_any p (points_behind s s.acts))
-        (ap (λ (acts : List Act). list_any p (points_behind s acts)) is ∙ any_behind p s before after a e)
+    (ap (λ (acts : List Act). list_any p (points_behind s acts)) is ∙ any_behind p s before after a e)
 
 any_at : (p : Point → Bool) (blocks : List Stretch) (s : Stretch) (k : ℕ) → k < length blocks → get_or blocks k s ≡ s → list_any p (points_in s) ≡ true → list_any p (flat_map points_in blocks) ≡ true
 any_at p [] s k lt is e = absurd (omega (arith, lt))
@@ -36,10 +36,10 @@ any_point p f s before after a there is e = any_at p f.blocks s there.0 there.1 
 pub written : (f : Outline) (s : Stretch) (before after : List Act) (a : Act) (d t : ℕ) → Contains f.blocks s → s.acts ≡ before ++ a ∷ after → a.defines ≡ Some d → Live f t after s.uses s.next → written_beside f d t ≡ true
 written f s before after a d t there is defines live =
     any_point (λ p. writes p.before d && lives f t p) f s before after a there is
-        (and_from (is_that a.defines d) (is_live f t after s.uses s.next) (is_that_one a.defines d defines) ((live_by_paths f t after s.uses s.next).1 live))
+    (and_from (is_that a.defines d) (is_live f t after s.uses s.next) (is_that_one a.defines d defines) ((live_by_paths f t after s.uses s.next).1 live))
 
 pub held : (f : Outline) (s : Stretch) (before after : List Act) (a : Act) (t : ℕ) → Contains f.blocks s → s.acts ≡ before ++ a ∷ after → a.calls ≡ true → a.defines ≢ Some t → Live f t after s.uses s.next → is_held f t ≡ true
 held f s before after a t there is call other live =
     any_point (λ p. is_call p.before && (not (writes p.before t) && lives f t p)) f s before after a there is
-        (and_from a.calls (not (is_that a.defines t) && is_live f t after s.uses s.next) call
-            (and_from (not (is_that a.defines t)) (is_live f t after s.uses s.next) (ap not (other_that a.defines t other)) ((live_by_paths f t after s.uses s.next).1 live)))
+    (and_from a.calls (not (is_that a.defines t) && is_live f t after s.uses s.next) call
+    (and_from (not (is_that a.defines t)) (is_live f t after s.uses s.next) (ap not (other_that a.defines t other)) ((live_by_paths f t after s.uses s.next).1 live)))

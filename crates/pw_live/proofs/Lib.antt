@@ -7,3 +7,5 @@ mod Exposing
 mod Names
 mod Marking
 mod Rows
+mod Edges
+mod Readings

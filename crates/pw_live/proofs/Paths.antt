@@ -73,7 +73,7 @@ needs_rises g h t (a ∷ acts) uses next up e =
       | inr k ↦
           let both = and_both (not (is_that a.defines t)) (needs g t acts uses next) k in
           or_right (has t a.uses) (not (is_that a.defines t) && needs h t acts uses next)
-              (and_from (not (is_that a.defines t)) (needs h t acts uses next) both.0 (needs_rises g h t acts uses next up both.1))
+          (and_from (not (is_that a.defines t)) (needs h t acts uses next) both.0 (needs_rises g h t acts uses next up both.1))
     ]
 
 block_rises : (g h : ℕ → Bool) (t : ℕ) (s : Option Stretch) → ((b : ℕ) → g b ≡ true → h b ≡ true) → needs_block g t s ≡ true → needs_block h t s ≡ true
@@ -128,7 +128,7 @@ module _ (f : Outline) (t : ℕ) where
   live_needs (used a acts uses next h) = or_left (has t a.uses) (not (is_that a.defines t) && is_live f t acts uses next) (there_has t a.uses h)
   live_needs (past a acts uses next other rest) =
       or_right (has t a.uses) (not (is_that a.defines t) && is_live f t acts uses next)
-          (and_from (not (is_that a.defines t)) (is_live f t acts uses next) (ap not (other_that a.defines t other)) (live_needs rest))
+      (and_from (not (is_that a.defines t)) (is_live f t acts uses next) (ap not (other_that a.defines t other)) (live_needs rest))
   live_needs (at_end uses next h) = or_left (has t uses) (list_any (is_live_in f t) next) (there_has t uses h)
   live_needs (on uses next b block there is rest) =
       let here = last b (ap (needs_block (is_live_in f t) t) is ∙ live_needs rest) in
@@ -145,3 +145,7 @@ module _ (f : Outline) (t : ℕ) where
         subst (λ (block : Stretch). Live f t block.acts block.uses block.next) same r.2,
     λ h. last b (ap (needs_block (is_live_in f t) t) is ∙ live_needs h),
   )
+
+  -- the front of a block is the point before all that stands in it
+  pub front_point : (b : ℕ) (s : Stretch) → slice_get f.blocks b ≡ Some s → is_live_in f t b ≡ is_live f t s.acts s.uses s.next
+  front_point b s is = sym (fronts_stay (suc (length f.blocks)) b (omega arith)) ∙ ap (needs_block (is_live_in f t) t) is

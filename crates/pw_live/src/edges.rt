@@ -9,7 +9,12 @@ use crate::outline::Outline;
 use std::alloc::{AllocError as NoMemory, Global};
 
 /// Adds the edges from the nodes of the blocks at which a block may go on.
-fn add_edges(edges: &mut Vec<(usize, usize)>, next: &[u32], count: usize, to: usize) -> Result<(), NoMemory>
+fn add_edges(
+    edges: &mut Vec<(usize, usize)>,
+    next: &[u32],
+    count: usize,
+    to: usize,
+) -> Result<(), NoMemory>
     requires { All (λ b. b < count) next.now }
     ensures { OnOk result (edges.new.items ≡ edges.old.items ++ map (λ b. (count - 1 - b, to)) next.now) }
 {

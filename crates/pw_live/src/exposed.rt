@@ -125,7 +125,13 @@ pub(crate) fn exposed(alloc: Global, f: &Outline) -> Result<Exposed, NoMemory>
     let mut marks = vec![in alloc; 0; f.temps() as usize]?;
     let blocks = f.blocks();
     for place in 0..blocks.len() {
-        expose_block(&mut exposed, &mut marks, place + 1, &blocks[place], blocks.len())?;
+        expose_block(
+            &mut exposed,
+            &mut marks,
+            place + 1,
+            &blocks[place],
+            blocks.len(),
+        )?;
     }
     Ok(exposed)
 }

@@ -120,7 +120,13 @@ pub(crate) fn marks(alloc: Global, exposed: &Exposed, f: &Outline) -> Result<Mar
     let defines = BitRows::new(alloc, count, len)?;
     let mut marks = Marks { uses, defines };
     for place in 0..count {
-        mark_block(&mut marks, exposed, count - 1 - place, &blocks[place], count);
+        mark_block(
+            &mut marks,
+            exposed,
+            count - 1 - place,
+            &blocks[place],
+            count,
+        );
     }
     Ok(marks)
 }

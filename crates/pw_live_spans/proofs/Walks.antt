@@ -80,7 +80,7 @@ pub act_step : (f : Outline) (b : ℕ) (s : Stretch) (k : ℕ) (a : Act) (old ne
     → ((u q : ℕ) → Marked new u q ↔ (Marked old u q ⊎ (IsLiveBefore a (IsOpen old) u × (q ≡ new.place))))
     → ((u : ℕ) → IsOpen new u ↔ IsLiveBefore a (IsOpen old) u)
     → StandsInside f b s (suc k) old → StandsInside f b s k new
-act_step f b s k a old new is place marked open h =
+act_step f b s k a old new is place marked opens h =
     let before = h.place in
     let here : new.place ≡ points_before f.blocks b + k = omega (arith, place, before) in
     let high = slice_get_within s.acts k a is in
@@ -89,19 +89,19 @@ act_step f b s k a old new is place marked open h =
       marked = λ t q. (
         λ m. elim ((marked t q).0 m) [
           | inl o ↦ elim ((h.marked t q).0 o) [ inl later ↦ inl later | inr inside ↦ inr (wider f b s k t q inside) ]
-          | inr n ↦ inr (record { inside = k; low = omega arith; high = omega (arith, high); is = n.1 ∙ here; live = (live_before f s k a t (IsOpen old) is (h.open t)).0 n.0 })
+          | inr n ↦ inr (record { inside = k; low = omega arith; high = omega (arith, high); is = n.1 ∙ here; live = (live_before f s k a t (IsOpen old) is (h.opens t)).0 n.0 })
         ],
         λ m. elim m [
           | inl later ↦ (marked t q).1 (inl ((h.marked t q).1 (inl later)))
           | inr inside ↦ elim (at_or_behind f b s k t q inside) [
-            | inl now ↦ (marked t q).1 (inr ((live_before f s k a t (IsOpen old) is (h.open t)).1 now.1, now.0 ∙ sym here))
+            | inl now ↦ (marked t q).1 (inr ((live_before f s k a t (IsOpen old) is (h.opens t)).1 now.1, now.0 ∙ sym here))
             | inr behind ↦ (marked t q).1 (inl ((h.marked t q).1 (inr behind)))
           ]
         ],
       );
-      open = λ t. (
-        λ o. (live_before f s k a t (IsOpen old) is (h.open t)).0 ((open t).0 o),
-        λ e. (open t).1 ((live_before f s k a t (IsOpen old) is (h.open t)).1 e),
+      opens = λ t. (
+        λ o. (live_before f s k a t (IsOpen old) is (h.opens t)).0 ((opens t).0 o),
+        λ e. (opens t).1 ((live_before f s k a t (IsOpen old) is (h.opens t)).1 e),
       );
     }
 
@@ -123,7 +123,7 @@ pub end_step : (f : Outline) (b : ℕ) (s : Stretch) (old new : Walk) → slice_
     → ((u q : ℕ) → Marked new u q ↔ (Marked old u q ⊎ ((is_live f u [] s.uses s.next ≡ true) × (q ≡ new.place))))
     → ((u : ℕ) → IsOpen new u ↔ (is_live f u [] s.uses s.next ≡ true))
     → StandsBefore f (b + 1) old → StandsInside f b s (length s.acts) new
-end_step f b s old new is place marked open h =
+end_step f b s old new is place marked opens h =
     let before = h.place in
     let next = next_block f.blocks b s is in
     let here : new.place ≡ points_before f.blocks b + length s.acts = omega (arith, place, before, next) in
@@ -146,7 +146,7 @@ end_step f b s old new is place marked open h =
               (marked t q).1 (inr (sym (live t) ∙ ap (λ (j : ℕ). is_live f t (drop j s.acts) s.uses s.next) (sym whole) ∙ inside.live, there ∙ sym here))
         ],
       );
-      open = λ t. (λ o. live t ∙ (open t).0 o, λ e. (open t).1 (sym (live t) ∙ e));
+      opens = λ t. (λ o. live t ∙ (opens t).0 o, λ e. (opens t).1 (sym (live t) ∙ e));
     }
 
 -- what is live from a block on: in the block, or from the next one on
@@ -169,7 +169,7 @@ pub front_step : (f : Outline) (b : ℕ) (s : Stretch) (live : List ℕ) (old ne
     → ((u : ℕ) → IsOpen new u ↔ (IsOpen old u × ¬ Contains live u))
     → ((u : ℕ) → Contains live u ↔ (is_live f u s.acts s.uses s.next ≡ true))
     → StandsInside f b s 0 old → StandsBefore f b new
-front_step f b s live old new is place marked open lives h =
+front_step f b s live old new is place marked opens lives h =
     let before = h.place in
     record {
       place = omega (arith, place, before);
@@ -178,8 +178,8 @@ front_step f b s live old new is place marked open lives h =
         λ m. (marked t q).1 ((h.marked t q).1 ((here_or_later f b s t q is).0 m)),
       );
       shut = λ t o.
-          let both_hold = (open t).0 o in
-          both_hold.1 ((lives t).1 ((h.open t).0 both_hold.0));
+          let both_hold = (opens t).0 o in
+          both_hold.1 ((lives t).1 ((h.opens t).0 both_hold.0));
     }
 
 pub at_the_end : (f : Outline) (w : Walk) → w.place ≡ points_before f.blocks (length f.blocks) → ((t q : ℕ) → ¬ Marked w t q) → ((t : ℕ) → ¬ IsOpen w t) → StandsBefore f (length f.blocks) w
@@ -194,6 +194,6 @@ at_the_start f w h t q spans is = (
   λ c. (h.marked t q).0 (inl (record { spans = spans; at = is; covers = c })),
   λ l. elim ((h.marked t q).1 l) [
     | inl c ↦ subst (λ (xs : List (ℕ × ℕ)). Covers xs q) (same_Some c.spans spans (sym c.at ∙ is)) c.covers
-    | inr a ↦ absurd (h.shut t (a.end, a.open))
+    | inr a ↦ absurd (h.shut t (a.end, a.opens))
   ],
 )

@@ -37,7 +37,7 @@ pub record StandsBefore (f : Outline) (b : ℕ) (w : Walk) : Type 0 where
 pub record StandsInside (f : Outline) (b : ℕ) (s : Stretch) (inside : ℕ) (w : Walk) : Type 0 where
   pub place : w.place ≡ points_before f.blocks b + inside
   pub marked : (t q : ℕ) → Marked w t q ↔ (LivesFrom f (b + 1) t q ⊎ LivesIn f b s inside t q)
-  pub open : (t : ℕ) → IsOpen w t ↔ (is_live f t (drop inside s.acts) s.uses s.next ≡ true)
+  pub opens : (t : ℕ) → IsOpen w t ↔ (is_live f t (drop inside s.acts) s.uses s.next ≡ true)
 
 -- it is live at the front of one of the blocks
 abbrev pub IsLiveAtOne : Outline → ℕ → List ℕ → Type 0

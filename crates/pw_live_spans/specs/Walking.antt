@@ -5,7 +5,7 @@ use Rattle.pw_live_spans.specs.declared.walk.Walk.{Walk}
 
 -- a temporary is live at the point where the walk stands, and so up to a point that is no longer in its span
 abbrev pub IsOpenTo : Walk → ℕ → ℕ → Type 0
-IsOpenTo w t end = slice_get w.open.items t ≡ Some (Some end)
+IsOpenTo w t end = slice_get w.ends.items t ≡ Some (Some end)
 
 abbrev pub IsOpen : Walk → ℕ → Type 0
 IsOpen w t = (end : ℕ) × IsOpenTo w t end
@@ -18,7 +18,7 @@ pub record IsClosed (w : Walk) (t q : ℕ) : Type 0 where
 
 pub record IsAhead (w : Walk) (t q : ℕ) : Type 0 where
   pub end : ℕ
-  pub open : IsOpenTo w t end
+  pub opens : IsOpenTo w t end
   pub low : w.place ≤ q
   pub high : q < end
 

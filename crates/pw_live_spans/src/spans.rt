@@ -16,42 +16,48 @@ use std::alloc::{AllocError as NoMemory, Global};
 
 /// Temporaries that are live from here on.
 fn open_all(walk: &mut Walk, temps: &[u32])
-    requires temps { All (λ t. t < vec_len walk.old.open) temps.now }
+    requires temps { All (λ t. t < vec_len walk.old.ends) temps.now }
     requires room { walk.old.place + 1 < 2 ^ 64 }
     ensures place { walk.new.place ≡ walk.old.place }
-    ensures count { vec_len walk.new.open ≡ vec_len walk.old.open }
+    ensures count { vec_len walk.new.ends ≡ vec_len walk.old.ends }
     ensures marked { (u q : ℕ) → Marked walk.new u q ↔ (Marked walk.old u q ⊎ (Contains temps.now u × (q ≡ walk.old.place))) }
-    ensures open { (u : ℕ) → IsOpen walk.new u ↔ (IsOpen walk.old u ⊎ Contains temps.now u) }
+    ensures opens { (u : ℕ) → IsOpen walk.new u ↔ (IsOpen walk.old u ⊎ Contains temps.now u) }
 {
     for &t in temps {
-        walk.open(t);
+        walk.open_span(t);
     }
 }
 
 /// Temporaries that are not live before here.
 fn close_all(walk: &mut Walk, temps: &[u32]) -> Result<(), NoMemory>
-    requires { All (λ t. t < vec_len walk.old.open) temps.now }
+    requires { All (λ t. t < vec_len walk.old.ends) temps.now }
     ensures place { walk.new.place ≡ walk.old.place }
-    ensures count { vec_len walk.new.open ≡ vec_len walk.old.open }
+    ensures count { vec_len walk.new.ends ≡ vec_len walk.old.ends }
     ensures marked { OnOk result ((u q : ℕ) → Marked walk.new u q ↔ Marked walk.old u q) }
-    ensures open { OnOk result ((u : ℕ) → IsOpen walk.new u ↔ (IsOpen walk.old u × ¬ Contains temps.now u)) }
+    ensures opens { OnOk result ((u : ℕ) → IsOpen walk.new u ↔ (IsOpen walk.old u × ¬ Contains temps.now u)) }
 {
     for &t in temps {
-        walk.close(t)?;
+        walk.close_span(t)?;
     }
     Ok(())
 }
 
 /// What is live at the fronts of blocks is live from here on.
-fn open_fronts(alloc: Global, walk: &mut Walk, fronts: &Fronts, f: &Outline, next: &[u32]) -> Result<(), NoMemory>
+fn open_fronts(
+    alloc: Global,
+    walk: &mut Walk,
+    fronts: &Fronts,
+    f: &Outline,
+    next: &[u32],
+) -> Result<(), NoMemory>
     requires fronts { AreFronts f.now fronts.now }
-    requires count { vec_len walk.old.open ≡ f.now.temps }
+    requires count { vec_len walk.old.ends ≡ f.now.temps }
     requires next { All (λ b. b < length f.now.blocks) next.now }
     requires room { walk.old.place + 1 < 2 ^ 64 }
     ensures place { walk.new.place ≡ walk.old.place }
-    ensures count { vec_len walk.new.open ≡ vec_len walk.old.open }
+    ensures count { vec_len walk.new.ends ≡ vec_len walk.old.ends }
     ensures marked { OnOk result ((u q : ℕ) → Marked walk.new u q ↔ (Marked walk.old u q ⊎ (IsLiveAtOne f.now u next.now × (q ≡ walk.old.place)))) }
-    ensures open { OnOk result ((u : ℕ) → IsOpen walk.new u ↔ (IsOpen walk.old u ⊎ IsLiveAtOne f.now u next.now)) }
+    ensures opens { OnOk result ((u : ℕ) → IsOpen walk.new u ↔ (IsOpen walk.old u ⊎ IsLiveAtOne f.now u next.now)) }
 {
     for &b in next {
         let live = fronts.live(alloc, b as usize)?;
@@ -60,34 +66,52 @@ fn open_fronts(alloc: Global, walk: &mut Walk, fronts: &Fronts, f: &Outline, nex
     Ok(())
 }
 
+/// What an operation defines is not live before it.
+fn close_defined(walk: &mut Walk, act: &Act) -> Result<(), NoMemory>
+    requires act { IsAct (vec_len walk.old.ends) act.now }
+    ensures place { walk.new.place ≡ walk.old.place }
+    ensures count { vec_len walk.new.ends ≡ vec_len walk.old.ends }
+    ensures marked { OnOk result ((u q : ℕ) → Marked walk.new u q ↔ Marked walk.old u q) }
+    ensures opens { OnOk result ((u : ℕ) → IsOpen walk.new u ↔ (IsOpen walk.old u × (act.now.defines ≢ Some u))) }
+{
+    match act.defines() {
+        Some(t) => walk.close_span(t),
+        None => Ok(()),
+    }
+}
+
 /// Goes back by an operation: what it defines is not live before it, and what it reads is.
 fn walk_act(walk: &mut Walk, act: &Act) -> Result<(), NoMemory>
-    requires act { IsAct (vec_len walk.old.open) act.now }
+    requires act { IsAct (vec_len walk.old.ends) act.now }
     requires place { 0 < walk.old.place }
     ensures place { OnOk result (walk.new.place + 1 ≡ walk.old.place) }
-    ensures count { vec_len walk.new.open ≡ vec_len walk.old.open }
+    ensures count { vec_len walk.new.ends ≡ vec_len walk.old.ends }
     ensures marked { OnOk result ((u q : ℕ) → Marked walk.new u q ↔ (Marked walk.old u q ⊎ (IsLiveBefore act.now (IsOpen walk.old) u × (q ≡ walk.new.place)))) }
-    ensures open { OnOk result ((u : ℕ) → IsOpen walk.new u ↔ IsLiveBefore act.now (IsOpen walk.old) u) }
+    ensures opens { OnOk result ((u : ℕ) → IsOpen walk.new u ↔ IsLiveBefore act.now (IsOpen walk.old) u) }
 {
-    if let Some(t) = act.defines() {
-        walk.close(t)?;
-    }
+    close_defined(walk, act)?;
     walk.back();
     open_all(walk, act.uses());
     Ok(())
 }
 
 /// Goes back to the end of a block.
-fn walk_end(alloc: Global, walk: &mut Walk, fronts: &Fronts, f: &Outline, block: &Stretch) -> Result<(), NoMemory>
+fn walk_end(
+    alloc: Global,
+    walk: &mut Walk,
+    fronts: &Fronts,
+    f: &Outline,
+    block: &Stretch,
+) -> Result<(), NoMemory>
     requires fronts { AreFronts f.now fronts.now }
-    requires count { vec_len walk.old.open ≡ f.now.temps }
+    requires count { vec_len walk.old.ends ≡ f.now.temps }
     requires block { IsStretch f.now.temps (length f.now.blocks) block.now }
     requires shut { (u : ℕ) → ¬ IsOpen walk.old u }
     requires place { 0 < walk.old.place }
     ensures place { OnOk result (walk.new.place + 1 ≡ walk.old.place) }
-    ensures count { vec_len walk.new.open ≡ vec_len walk.old.open }
+    ensures count { vec_len walk.new.ends ≡ vec_len walk.old.ends }
     ensures marked { OnOk result ((u q : ℕ) → Marked walk.new u q ↔ (Marked walk.old u q ⊎ ((is_live f.now u [] block.now.uses block.now.next ≡ true) × (q ≡ walk.new.place)))) }
-    ensures open { OnOk result ((u : ℕ) → IsOpen walk.new u ↔ (is_live f.now u [] block.now.uses block.now.next ≡ true)) }
+    ensures opens { OnOk result ((u : ℕ) → IsOpen walk.new u ↔ (is_live f.now u [] block.now.uses block.now.next ≡ true)) }
 {
     walk.back();
     open_all(walk, block.uses());
@@ -95,13 +119,19 @@ fn walk_end(alloc: Global, walk: &mut Walk, fronts: &Fronts, f: &Outline, block:
 }
 
 /// Goes back from the front of the block behind to that of a block.
-fn walk_block(alloc: Global, walk: &mut Walk, fronts: &Fronts, f: &Outline, b: usize) -> Result<(), NoMemory>
+fn walk_block(
+    alloc: Global,
+    walk: &mut Walk,
+    fronts: &Fronts,
+    f: &Outline,
+    b: usize,
+) -> Result<(), NoMemory>
     requires outline { IsOutline f.now }
     requires fronts { AreFronts f.now fronts.now }
-    requires count { vec_len walk.old.open ≡ f.now.temps }
+    requires count { vec_len walk.old.ends ≡ f.now.temps }
     requires block { b < length f.now.blocks }
     requires stands { StandsBefore f.now (b + 1) walk.old }
-    ensures count { vec_len walk.new.open ≡ vec_len walk.old.open }
+    ensures count { vec_len walk.new.ends ≡ vec_len walk.old.ends }
     ensures stands { OnOk result (StandsBefore f.now b walk.new) }
 {
     let block = &f.blocks()[b];
@@ -149,7 +179,11 @@ pub fn spans(alloc: Global, fronts: &Fronts, f: &Outline) -> Result<Spans, NoMem
     for done in 0..count {
         walk_block(alloc, &mut walk, fronts, f, count - 1 - done)?;
     }
-    let Walk { lists, open: _, place: _ } = walk;
+    let Walk {
+        lists,
+        ends: _,
+        place: _,
+    } = walk;
     Ok(Spans { lists })
 }
 

@@ -12,10 +12,10 @@ use std::alloc::{AllocError as NoMemory, Global};
 #[derive(Drop)]
 pub(crate) struct Walk {
     pub lists: Vec<Items<(usize, usize)>>,
-    pub open: Vec<Option<usize>>,
+    pub ends: Vec<Option<usize>>,
     pub place: usize,
-    pub ghost same: { vec_len lists ≡ vec_len open },
-    pub ghost ahead: { (t e : ℕ) → slice_get open.items t ≡ Some (Some e) → place < e },
+    pub ghost same: { vec_len lists ≡ vec_len ends },
+    pub ghost ahead: { (t e : ℕ) → slice_get ends.items t ≡ Some (Some e) → place < e },
 }
 
 /// Adds the points from one up to another to spans, the last of which may begin where these end.
@@ -49,53 +49,53 @@ impl Walk {
     /// At the end of so many points, where no temporary is live.
     pub fn new(alloc: Global, temps: u32, place: usize) -> Result<Walk, NoMemory>
         ensures place { IfOk result (λ w. w.place ≡ place) }
-        ensures count { IfOk result (λ w. vec_len w.open ≡ temps) }
+        ensures count { IfOk result (λ w. vec_len w.ends ≡ temps) }
         ensures none { IfOk result (λ w. (t q : ℕ) → ¬ Marked w t q) }
         ensures shut { IfOk result (λ w. (t : ℕ) → ¬ IsOpen w t) }
     {
         let lists = no_spans(alloc, temps)?;
-        let open = vec![in alloc; None; temps as usize]?;
-        Ok(Walk { lists, open, place })
+        let ends = vec![in alloc; None; temps as usize]?;
+        Ok(Walk { lists, ends, place })
     }
 
     /// Goes back by a point, at which all is live that was.
     pub fn back(&mut self)
         requires { 0 < self.old.place }
         ensures place { self.new.place + 1 ≡ self.old.place }
-        ensures count { vec_len self.new.open ≡ vec_len self.old.open }
+        ensures count { vec_len self.new.ends ≡ vec_len self.old.ends }
         ensures marked { (t q : ℕ) → Marked self.new t q ↔ (Marked self.old t q ⊎ (IsOpen self.old t × (q ≡ self.new.place))) }
-        ensures open { (t : ℕ) → IsOpen self.new t ↔ IsOpen self.old t }
+        ensures opens { (t : ℕ) → IsOpen self.new t ↔ IsOpen self.old t }
     {
         self.place -= 1;
     }
 
     /// A temporary is live from here on.
-    pub fn open(&mut self, t: u32)
-        requires temp { t < vec_len self.old.open }
+    pub fn open_span(&mut self, t: u32)
+        requires temp { t < vec_len self.old.ends }
         requires room { self.old.place + 1 < 2 ^ 64 }
         ensures place { self.new.place ≡ self.old.place }
-        ensures count { vec_len self.new.open ≡ vec_len self.old.open }
+        ensures count { vec_len self.new.ends ≡ vec_len self.old.ends }
         ensures marked { (u q : ℕ) → Marked self.new u q ↔ (Marked self.old u q ⊎ ((u ≡ t) × (q ≡ self.old.place))) }
-        ensures open { (u : ℕ) → IsOpen self.new u ↔ (IsOpen self.old u ⊎ (u ≡ t)) }
+        ensures opens { (u : ℕ) → IsOpen self.new u ↔ (IsOpen self.old u ⊎ (u ≡ t)) }
     {
-        if self.open[t as usize].is_none() {
-            self.open[t as usize] = Some(self.place + 1);
+        if self.ends[t as usize].is_none() {
+            self.ends[t as usize] = Some(self.place + 1);
         }
     }
 
     /// A temporary is not live before here.
-    pub fn close(&mut self, t: u32) -> Result<(), NoMemory>
-        requires { t < vec_len self.old.open }
+    pub fn close_span(&mut self, t: u32) -> Result<(), NoMemory>
+        requires { t < vec_len self.old.ends }
         ensures place { self.new.place ≡ self.old.place }
-        ensures count { vec_len self.new.open ≡ vec_len self.old.open }
+        ensures count { vec_len self.new.ends ≡ vec_len self.old.ends }
         ensures marked { OnOk result ((u q : ℕ) → Marked self.new u q ↔ Marked self.old u q) }
-        ensures open { OnOk result ((u : ℕ) → IsOpen self.new u ↔ (IsOpen self.old u × (u ≢ t))) }
+        ensures opens { OnOk result ((u : ℕ) → IsOpen self.new u ↔ (IsOpen self.old u × (u ≢ t))) }
     {
-        let Some(end) = self.open[t as usize] else {
+        let Some(end) = self.ends[t as usize] else {
             return Ok(());
         };
         cover(&mut self.lists[t as usize], self.place, end)?;
-        self.open[t as usize] = None;
+        self.ends[t as usize] = None;
         Ok(())
     }
 }

@@ -40,7 +40,7 @@ objects = whole_object (codes "a") [] [] [] [] (global (codes "n") ∷ []) (map 
 abbrev pub graphs : ℕ → Program
 graphs stack = record { modules = bumping.modules; frame_of = frame_in (linked objects stack); stack = stack }
 
-nothing_lawful : IsDirectives empty
+pub nothing_lawful : IsDirectives empty
 nothing_lawful = record { each = tt; numbers = tt; globals = tt; registers = tt; free = refl }
 
 pub all_serve : AllServe (directed_functions bumping bump_directives) places

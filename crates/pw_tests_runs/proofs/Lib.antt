@@ -15,6 +15,10 @@ mod SourceRows
 mod AcceptedRows
 mod BuiltRows
 mod WrittenLists
+mod SummaryRows
+mod WebRows
+mod AnalysedRows
 mod RunEnds
 mod PremiseRows
 mod WrongRows
+mod LoweringRows

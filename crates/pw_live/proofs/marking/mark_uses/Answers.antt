@@ -21,4 +21,4 @@ loop-t-preserved c =
 pub returns-clause-holds : goal.returns-clause-holds
 returns-clause-holds c =
     reads_all c.args.exposed.now c.args.read.now c.loop-t.t-index c.args.node (HoldsAt c.loop-t.uses) (HoldsAt c.args.uses.now) (HoldsAt c.args.defines.now c.args.node)
-        c.loop-t-test.false c.loop-t.invariant.holds
+    c.loop-t-test.false c.loop-t.invariant.holds

@@ -4,6 +4,6 @@ use Rattle.pw_live_spans.proofs.spans.spans.Given as goal
 
 abbrev pub invariant-loop-done : goal.invariant-loop-done
 invariant-loop-done l = record {
-  count : vec_len l.walk.open ≡ l.f.temps;
+  count : vec_len l.walk.ends ≡ l.f.temps;
   stands : StandsBefore l.f (length l.f.blocks - l.done) l.walk;
 }
