@@ -12,7 +12,7 @@ ghost use Rattle.pw_alloc_temps.specs.Temporaries.{registers_in, saved_in, place
 
 use crate::colouring::registers;
 use crate::masks::with_register;
-use crate::outline::outline;
+use crate::outline::outline_of;
 use pw_alloc::{Located, Place, below, head_size, last_reach, slots_begin};
 use pw_db::{FIRST_REGISTER, LAST_REGISTER, Role, Web};
 use pw_items::Items;

@@ -11,9 +11,9 @@ ghost use Rattle.pw_alloc_temps.specs.Knowing.{AreFacts, AreSized, AreGiven};
 ghost use Rattle.pw_alloc_temps.specs.Registers.{of_temporaries, allowed, is_taken, with_register, given_to, register_of, registers};
 ghost use Rattle.pw_alloc_temps.specs.Weights.{by_weight};
 
-use crate::facts::{Facts, facts, is_held};
+use crate::facts::{Facts, find_facts, is_held};
 use crate::masks::{both, has_register, with_register};
-use crate::order::order;
+use crate::order::ordered;
 use crate::taken::{made_beside, occupied_behind, occupy, taken_at_start};
 use pw_db::{FIRST_REGISTER, LAST_REGISTER, LAST_TEMPORARY};
 use pw_live::Outline;
@@ -143,8 +143,8 @@ pub(crate) fn registers(alloc: Global, f: &Outline, webs: u32) -> Result<Vec<Opt
     requires { IsOutline f.now }
     ensures { IfOk result (λ v. (ws : List ℕ) → ((r : ℕ) → in_mask webs r ≡ has r ws) → v.items ≡ registers f.now ws) }
 {
-    let facts = facts(alloc, f)?;
-    let order = order(alloc, f)?;
+    let facts = find_facts(alloc, f)?;
+    let order = ordered(alloc, f)?;
     let mut given = Given::new(alloc, f, facts.makers.len())?;
     for &t in &order {
         colour(&mut given, &facts, f, webs, t);

@@ -8,9 +8,9 @@ ghost use Rattle.pw_live_spans.specs.Spans.{Covers};
 ghost use Rattle.pw_alloc_temps.specs.Makers.{AreBelow, IsOverCall};
 ghost use Rattle.pw_alloc_temps.specs.Knowing.{AreFacts};
 
-use crate::points::{Points, points};
-use pw_live::{Outline, fronts};
-use pw_live_spans::{Spans, spans};
+use crate::points::{Points, find_points};
+use pw_live::{Outline, find_fronts};
+use pw_live_spans::{Spans, find_spans};
 use std::alloc::{AllocError as NoMemory, Global};
 
 /// Where temporaries are live and where they are written.
@@ -57,14 +57,14 @@ fn definitions(
 }
 
 /// The facts of a function.
-pub(crate) fn facts(alloc: Global, f: &Outline) -> Result<Facts, NoMemory>
+pub(crate) fn find_facts(alloc: Global, f: &Outline) -> Result<Facts, NoMemory>
     requires { IsOutline f.now }
     ensures { IfOk result (AreFacts f.now) }
 {
-    let Points { makers, calls } = points(alloc, f)?;
+    let Points { makers, calls } = find_points(alloc, f)?;
     let definitions = definitions(alloc, &makers, f.temps())?;
-    let fronts = fronts(alloc, f)?;
-    let spans = spans(alloc, &fronts, f)?;
+    let fronts = find_fronts(alloc, f)?;
+    let spans = find_spans(alloc, &fronts, f)?;
     Ok(Facts {
         spans,
         makers,

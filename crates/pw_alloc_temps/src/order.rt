@@ -7,7 +7,7 @@ ghost use Rattle.pw_live.specs.Blocks.{IsOutline};
 ghost use Rattle.pw_alloc_temps.specs.Weights.{by_weight};
 ghost use Rattle.pw_alloc_temps.specs.Ordering.{numbered, ComesFirst, Rises};
 
-use crate::weights::weights;
+use crate::weights::weigh;
 use pw_live::Outline;
 use std::alloc::{AllocError as NoMemory, Global};
 
@@ -19,7 +19,7 @@ struct Weighed {
 }
 
 /// The temporaries by number, with their weights, of which there are no more than a word counts.
-fn weighed(alloc: Global, weights: &[u64]) -> Result<Vec<Weighed>, NoMemory>
+fn with_weights(alloc: Global, weights: &[u64]) -> Result<Vec<Weighed>, NoMemory>
     requires { length weights.now < 2 ^ 32 }
     ensures { IfOk result (λ v. v.items ≡ numbered 0 weights.now) }
 {
@@ -49,18 +49,18 @@ fn temps_of(alloc: Global, all: &[Weighed]) -> Result<Vec<u32>, NoMemory>
     ensures { IfOk result (λ v. v.items ≡ map (λ (w : Weighed). w.temp) all.now) }
 {
     let mut temps = Vec::with_capacity(alloc, all.len())?;
-    for weighed in all {
-        temps.push(weighed.temp)?;
+    for one in all {
+        temps.push(one.temp)?;
     }
     Ok(temps)
 }
 
 /// The temporaries of a function by weight downward, then by number upward.
-pub(crate) fn order(alloc: Global, f: &Outline) -> Result<Vec<u32>, NoMemory>
+pub(crate) fn ordered(alloc: Global, f: &Outline) -> Result<Vec<u32>, NoMemory>
     requires { IsOutline f.now }
     ensures { IfOk result (λ v. v.items ≡ by_weight f.now 0 f.now.temps) }
 {
-    let weights = weights(alloc, f)?;
-    let all = sorted(weighed(alloc, &weights)?)?;
+    let weights = weigh(alloc, f)?;
+    let all = sorted(with_weights(alloc, &weights)?)?;
     temps_of(alloc, &all)
 }

@@ -133,7 +133,7 @@ fn stretch(alloc: Global, block: &WebBlock) -> Result<Stretch, NoMemory>
 }
 
 /// The outline of a directed function.
-pub fn outline(alloc: Global, f: &WebFn) -> Result<Outline, NoMemory>
+pub fn outline_of(alloc: Global, f: &WebFn) -> Result<Outline, NoMemory>
     ensures { IfOk result (λ o. o ≡ web_outline f.now) }
 {
     let mut blocks = Items::new(alloc);

@@ -29,7 +29,7 @@ fn add_block(points: &mut Points, block: &Stretch) -> Result<(), NoMemory>
 }
 
 /// The points of a function.
-pub(crate) fn points(alloc: Global, f: &Outline) -> Result<Points, NoMemory>
+pub(crate) fn find_points(alloc: Global, f: &Outline) -> Result<Points, NoMemory>
     ensures makers { IfOk result (λ v. v.makers.items ≡ map maker (points f.now)) }
     ensures calls { IfOk result (λ v. v.calls.items ≡ map calls (points f.now)) }
 {

@@ -69,7 +69,7 @@ fn count_block(weights: &mut [u64], block: &Stretch, blocks: usize) -> Result<()
 }
 
 /// The weight of each temporary of a function.
-pub(crate) fn weights(alloc: Global, f: &Outline) -> Result<Vec<u64>, NoMemory>
+pub(crate) fn weigh(alloc: Global, f: &Outline) -> Result<Vec<u64>, NoMemory>
     requires { IsOutline f.now }
     ensures count { IfOk result (λ v. vec_len v ≡ f.now.temps) }
     ensures each { IfOk result (λ v. (t : ℕ) → t < f.now.temps → slice_index v.items t ≡ weight f.now t) }

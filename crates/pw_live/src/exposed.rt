@@ -116,7 +116,7 @@ fn expose_block(
 }
 
 /// The temporaries of a function that some block uses before it defines them.
-pub(crate) fn exposed(alloc: Global, f: &Outline) -> Result<Exposed, NoMemory>
+pub(crate) fn expose_all(alloc: Global, f: &Outline) -> Result<Exposed, NoMemory>
     requires { IsOutline f.now }
     ensures count { IfOk result (λ e. vec_len e.numbers ≡ f.now.temps) }
     ensures there { IfOk result (λ e. (b t : ℕ) (s : StretchValue) → slice_get f.now.blocks b ≡ Some s → uses_first t s.acts s.uses ≡ true → IsExposed e t) }

@@ -10,8 +10,8 @@ ghost use Rattle.pw_live.specs.Liveness.{is_live_in};
 ghost use Rattle.pw_live.specs.LiveFronts.{AreFronts};
 
 use crate::edges::edges_of;
-use crate::exposed::{Exposed, exposed};
-use crate::marking::{Marks, marks};
+use crate::exposed::{Exposed, expose_all};
+use crate::marking::{Marks, mark_all};
 use crate::outline::Outline;
 use pw_fix::{BitRow, Graph, Problem, Rows, solve};
 use std::alloc::{AllocError as NoMemory, Global};
@@ -63,12 +63,12 @@ pub struct Fronts {
 }
 
 /// What is live at the fronts of a function's blocks.
-pub fn fronts(alloc: Global, f: &Outline) -> Result<Fronts, NoMemory>
+pub fn find_fronts(alloc: Global, f: &Outline) -> Result<Fronts, NoMemory>
     requires { IsOutline f.now }
     ensures { IfOk result (AreFronts f.now) }
 {
-    let exposed = exposed(alloc, f)?;
-    let marks = marks(alloc, &exposed, f)?;
+    let exposed = expose_all(alloc, f)?;
+    let marks = mark_all(alloc, &exposed, f)?;
     let edges = edges_of(alloc, f)?;
     let len = exposed.names.len();
     let _nothing = BitRow::new(alloc, len)?;

@@ -8,5 +8,5 @@ pub mod laws;
 mod marking;
 mod outline;
 
-pub use fronts::{Fronts, fronts};
+pub use fronts::{Fronts, find_fronts};
 pub use outline::{Act, Outline, Stretch};

@@ -105,7 +105,7 @@ fn mark_block(marks: &mut Marks, exposed: &Exposed, node: usize, block: &Stretch
 }
 
 /// The marks of all blocks of a function.
-pub(crate) fn marks(alloc: Global, exposed: &Exposed, f: &Outline) -> Result<Marks, NoMemory>
+pub(crate) fn mark_all(alloc: Global, exposed: &Exposed, f: &Outline) -> Result<Marks, NoMemory>
     requires outline { IsOutline f.now }
     requires temps { vec_len exposed.now.numbers ≡ f.now.temps }
     ensures count { IfOk result (λ marks. vec_len marks.uses.rows ≡ length f.now.blocks) }

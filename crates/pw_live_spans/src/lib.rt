@@ -5,4 +5,4 @@ pub mod laws;
 mod spans;
 mod walk;
 
-pub use spans::{Spans, spans};
+pub use spans::{Spans, find_spans};

@@ -168,7 +168,7 @@ pub struct Spans {
 }
 
 /// The spans of a function's temporaries.
-pub fn spans(alloc: Global, fronts: &Fronts, f: &Outline) -> Result<Spans, NoMemory>
+pub fn find_spans(alloc: Global, fronts: &Fronts, f: &Outline) -> Result<Spans, NoMemory>
     requires outline { IsOutline f.now }
     requires fronts { AreFronts f.now fronts.now }
     ensures { IfOk result (AreSpans f.now) }

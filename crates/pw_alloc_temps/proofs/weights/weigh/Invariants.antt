@@ -1,7 +1,7 @@
 use Rattle.std.proofs.Common.{◌≡◌, ◌+◌, ℕ, take, vec_len}
 use Rattle.std.specs.Prelude.{if◌then◌else◌, nat_lt, slice_index, sum_by}
 use Rattle.pw_alloc_temps.specs.Weights.{weight_in}
-use Rattle.pw_alloc_temps.proofs.weights.weights.Given as goal
+use Rattle.pw_alloc_temps.proofs.weights.weigh.Given as goal
 
 abbrev pub invariant-loop-block : goal.invariant-loop-block
 invariant-loop-block l = record {

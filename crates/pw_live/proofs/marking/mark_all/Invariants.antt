@@ -3,7 +3,7 @@ use Rattle.std.specs.Prelude.{◌↔◌}
 use Rattle.pw_fix.specs.Table.{HoldsAt}
 use Rattle.pw_live.specs.Exposing.{IsUsedFirst, IsDefined}
 use Rattle.pw_live.proofs.Marking.{OfBlocks}
-use Rattle.pw_live.proofs.marking.marks.Given as goal
+use Rattle.pw_live.proofs.marking.mark_all.Given as goal
 
 abbrev pub invariant-loop-place : goal.invariant-loop-place
 invariant-loop-place l = record {

@@ -1,6 +1,6 @@
 use Rattle.std.proofs.Common.{◌≡◌, ◌-◌, length, vec_len}
 use Rattle.pw_live_spans.specs.LivePoints.{StandsBefore}
-use Rattle.pw_live_spans.proofs.spans.spans.Given as goal
+use Rattle.pw_live_spans.proofs.spans.find_spans.Given as goal
 
 abbrev pub invariant-loop-done : goal.invariant-loop-done
 invariant-loop-done l = record {

@@ -3,7 +3,7 @@ use Rattle.std.specs.Prelude.{Some, slice_get, slice_index}
 use Rattle.pw_flow.specs.Outline.{Stretch}
 use Rattle.pw_live.specs.Blocks.{uses_first}
 use Rattle.pw_live.specs.Exposing.{IsExposed}
-use Rattle.pw_live.proofs.exposed.exposed.Given as goal
+use Rattle.pw_live.proofs.exposed.expose_all.Given as goal
 
 abbrev pub invariant-loop-place : goal.invariant-loop-place
 invariant-loop-place l = record {
