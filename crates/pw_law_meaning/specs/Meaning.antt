@@ -7,7 +7,7 @@ use Rattle.pw_machine.specs.Run.{run_of, start_state}
 use Rattle.pw_machine.specs.Start.{image_start}
 use Rattle.pw_store_modules.specs.Modules.{Texts}
 use Rattle.pw_build_opts.specs.declared.opts.Opts.{Opts}
-use Rattle.pw_build.specs.declared.fault.BuildFault.{BuildFault}
+use Rattle.pw_build_files.specs.FromBuild.BuildFault.{BuildFault}
 use Rattle.pw_build_files.specs.Full.{BuildsImage}
 use Rattle.pw_cmean.specs.Worlds.{Program}
 use Rattle.pw_run_agreement.specs.Agreement.{Agree, IsDefined, IsMeaningful, SourceRun}
@@ -15,8 +15,8 @@ use Rattle.pw_run_languages.specs.Programs.{AreBytes}
 use Rattle.pw_run_languages.specs.LinkingLaws.{frame_in}
 use Rattle.pw_law_stops.specs.Stops.{Tells}
 use Rattle.pw_law_source.specs.Source.{source_runs}
-use Rattle.pw_law_layers.specs.Whole.{FramesFit}
-use Rattle.pw_law_analysis.specs.ImageTraffic.{Traffic}
+use Rattle.pw_law_whole.specs.FromLayers.Whole.{FramesFit}
+use Rattle.pw_law_whole.specs.FromAnalysis.ImageTraffic.{Traffic}
 use Rattle.pw_law_whole.specs.Programs.{IsProgramOf, Summarise}
 
 -- the runs of the program on an input, by their bound, each call taking the stack that its function takes in the image

@@ -2,3 +2,4 @@ pub mod FromMeaning
 pub mod Full
 pub mod Whole
 pub mod History
+pub mod FromSession

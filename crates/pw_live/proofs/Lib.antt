@@ -1,11 +1,3 @@
 mod Levels
-mod Paths
+pub mod Paths
 mod Beside
-mod Needed
-mod Fronts
-mod Exposing
-mod Names
-mod Marking
-mod Rows
-mod Edges
-mod Readings

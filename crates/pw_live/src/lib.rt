@@ -1,12 +1,5 @@
-//! Liveness: where the temporaries of a function are needed, by the outline of its flow graph.
+//! Liveness and interference in definitions, over the outline of a flow graph: where temporaries are needed, which of them
+//! may not share a register, and which are held over calls.
 #![tactic(auto)]
 
-mod edges;
-mod exposed;
-mod fronts;
 pub mod laws;
-mod marking;
-mod outline;
-
-pub use fronts::{Fronts, find_fronts};
-pub use outline::{Act, Outline, Stretch};

@@ -2,18 +2,18 @@
 use Rattle.std.proofs.Common.{◌≡◌, ◌⊎◌, ℕ, ◌<◌, ◌≤◌, List, [], ◌∷◌, ◌++◌, sym, ap, subst, ◌∙◌, arith, inl, inr}
 use Rattle.std.specs.Prelude.{◌↔◌}
 use Rattle.std.proofs.lemmas.Bool.{cases_lt}
+use Rattle.std.proofs.lemmas.List.Elements.{Contains-append_left, Contains-push, Contains-push_cases}
 use Rattle.pw_live_spans.specs.Spans.{IsIn, Covers}
 
 covers_push : (spans : List (ℕ × ℕ)) (span : ℕ × ℕ) (q : ℕ) → Covers (spans ++ span ∷ []) q ↔ (Covers spans q ⊎ IsIn span q)
-covers_push [] span q = (λ h. elim h [ inl k ↦ inr k | inr k ↦ absurd k ], λ h. elim h [ inl k ↦ absurd k | inr k ↦ inl k ])
-covers_push (s ∷ rest) span q = (
-  λ h. elim h [
-    | inl k ↦ inl (inl k)
-    | inr k ↦ elim ((covers_push rest span q).0 k) [ inl c ↦ inl (inr c) | inr c ↦ inr c ]
+covers_push spans span q = (
+  λ h. elim (Contains-push_cases spans span h.0 h.1) [
+    | inl c ↦ inl (h.0, c, h.2)
+    | inr e ↦ inr (subst (λ (s : ℕ × ℕ). IsIn s q) (sym e) h.2)
   ],
   λ h. elim h [
-    | inl k ↦ elim k [ inl c ↦ inl c | inr c ↦ inr ((covers_push rest span q).1 (inl c)) ]
-    | inr k ↦ inr ((covers_push rest span q).1 (inr k))
+    | inl c ↦ (c.0, Contains-append_left spans (span ∷ []) c.0 c.1, c.2)
+    | inr k ↦ (span, Contains-push spans span, k)
   ],
 )
 

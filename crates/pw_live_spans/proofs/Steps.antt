@@ -8,8 +8,8 @@ use Rattle.std.proofs.lemmas.List.Elements.{Contains-get_or, Contains-append_lef
 use Rattle.std.proofs.lemmas.Option.{slice_get_within}
 use Rattle.pw_flow.specs.Outline.{Act, Stretch, Outline}
 use Rattle.pw_live.specs.Liveness.{has, is_live, is_live_in}
-use Rattle.pw_live.specs.LiveFronts.{IsLiveAt, AreFronts}
-use Rattle.pw_live.specs.declared.fronts.Fronts.{Fronts}
+use Rattle.pw_live_fronts.specs.LiveFronts.{IsLiveAt, AreFronts}
+use Rattle.pw_live_fronts.specs.declared.fronts.Fronts.{Fronts}
 use Rattle.pw_live_spans.specs.LivePoints.{IsLiveAtOne, IsLiveBefore}
 
 -- ---- a prefix that is one longer

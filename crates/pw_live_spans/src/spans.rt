@@ -2,16 +2,16 @@
 
 ghost use Rattle.std.specs.Prelude.{◌≡◌, ◌≢◌, ◌⊎◌, ◌+◌, ◌^◌, ◌<◌, ◌≤◌, ◌↔◌, ℕ, true, [], Some, length, slice_get, vec_len, All, Contains, IfOk, OnOk};
 ghost use Rattle.pw_flow.specs.Outline.{Stretch as StretchValue};
-ghost use Rattle.pw_live.specs.Blocks.{IsAct, IsStretch, IsOutline};
+ghost use Rattle.pw_live_fronts.specs.Blocks.{IsAct, IsStretch, IsOutline};
 ghost use Rattle.pw_live.specs.Liveness.{is_live};
-ghost use Rattle.pw_live.specs.LiveFronts.{AreFronts};
+ghost use Rattle.pw_live_fronts.specs.LiveFronts.{AreFronts};
 ghost use Rattle.pw_live_spans.specs.LivePoints.{IsLiveAtOne, IsLiveBefore, StandsBefore, points_before};
 ghost use Rattle.pw_live_spans.specs.Walking.{IsOpen, Marked};
 ghost use Rattle.pw_live_spans.specs.AreSpans.{AreSpans};
 
 use crate::walk::Walk;
 use pw_items::Items;
-use pw_live::{Act, Fronts, Outline, Stretch};
+use pw_live_fronts::{Act, Fronts, Outline, Stretch};
 use std::alloc::{AllocError as NoMemory, Global};
 
 /// Temporaries that are live from here on.

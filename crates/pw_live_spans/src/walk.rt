@@ -2,7 +2,6 @@
 
 ghost use Rattle.std.specs.Prelude.{◌≡◌, ◌≢◌, ◌⊎◌, ◌+◌, ◌^◌, ◌<◌, ◌≤◌, ◌↔◌, ℕ, List, [], Some, slice_get, vec_len, IfOk, OnOk};
 ghost use Rattle.pw_live_spans.specs.Spans.{Covers};
-ghost use Rattle.pw_live_spans.specs.Walking.{IsOpen, Marked};
 
 use pw_items::Items;
 use std::alloc::{AllocError as NoMemory, Global};
@@ -46,6 +45,8 @@ fn no_spans(alloc: Global, temps: u32) -> Result<Vec<Items<(usize, usize)>>, NoM
 }
 
 impl Walk {
+    ghost use Rattle.pw_live_spans.specs.Walking.{IsOpen, Marked};
+
     /// At the end of so many points, where no temporary is live.
     pub fn new(alloc: Global, temps: u32, place: usize) -> Result<Walk, NoMemory>
         ensures place { IfOk result (λ w. w.place ≡ place) }

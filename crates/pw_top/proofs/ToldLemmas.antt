@@ -10,13 +10,13 @@ use Rattle.pw_top_answer.specs.Effects.{Effect, NamedFile, PutsFiles, PutPrefix}
 use Rattle.pw_top_answer.specs.Outcomes.{Answers, InputCount, IsLineDue, LeavesInput, LeavesStreams, OutputCount, StoreCount, ToldAs, WasReadInPart}
 use Rattle.pw_go.specs.Ends.{EndsIn}
 use Rattle.pw_commands.specs.Others.{KeepsOthers}
-use Rattle.pw_session.specs.FromBuild.BuildFault.{BuildFault}
-use Rattle.pw_session.specs.FromBuildFiles.Building.{Outcome}
-use Rattle.pw_session.specs.FromBuildFiles.Outcomes.{AnswersOutcome}
+use Rattle.pw_law_session.specs.FromSession.FromBuild.BuildFault.{BuildFault}
+use Rattle.pw_law_session.specs.FromSession.FromBuildFiles.Building.{Outcome}
+use Rattle.pw_law_session.specs.FromSession.FromBuildFiles.Outcomes.{AnswersOutcome}
 use Rattle.pw_top_words.specs.declared.commands.Command.{Command}
 use Rattle.pw_top_words.specs.declared.commands.Command.TheVariants.{Go, Build as BuildAll, Session}
-use Rattle.pw_session.specs.FromBuildFiles.Driving.{KeepsUnput, Unput}
-use Rattle.pw_session.specs.Removals.{MayRemove}
+use Rattle.pw_law_session.specs.FromSession.FromBuildFiles.Driving.{KeepsUnput, Unput}
+use Rattle.pw_law_session.specs.FromSession.Removals.{MayRemove}
 use Rattle.pw_top.specs.Answers.{HoldsNoWantOfMemory}
 use Rattle.pw_top.specs.Commands.{EndsScript, KeepsTheRest, RefusesAsBuilt, files_put}
 use Rattle.pw_top.specs.Does.{Does, DoesAs}

@@ -4,17 +4,17 @@ use Rattle.pw_io.specs.Files.{Files, Told}
 use Rattle.pw_store_modules.specs.FileNames.{database_name, image_name}
 use Rattle.pw_top_answer.specs.declared.answer.Answer.{Answer}
 use Rattle.pw_store_modules.specs.Modules.{modules_of}
-use Rattle.pw_session.specs.FromBuild.Phases as phases
-use Rattle.pw_session.specs.FromBuild.BuildFault.{BuildFault}
-use Rattle.pw_session.specs.FromBuildFiles.Building.{BuildOutcome, Outcome}
-use Rattle.pw_session.specs.FromBuildFiles.Outcomes.{AnswersOutcome}
+use Rattle.pw_law_session.specs.FromSession.FromBuild.Phases as phases
+use Rattle.pw_law_session.specs.FromSession.FromBuild.BuildFault.{BuildFault}
+use Rattle.pw_law_session.specs.FromSession.FromBuildFiles.Building.{BuildOutcome, Outcome}
+use Rattle.pw_law_session.specs.FromSession.FromBuildFiles.Outcomes.{AnswersOutcome}
 use Rattle.pw_commands.specs.Others.{KeepsOthers}
-use Rattle.pw_session.specs.FromBuildFiles.Genuine.{KeepsGenuine}
-use Rattle.pw_session.specs.Bench.{bench_files}
-use Rattle.pw_session.specs.Changes.{MakesSome}
-use Rattle.pw_session.specs.Outcomes.{EndsAs}
-use Rattle.pw_session.specs.Removals.{MayRemove}
-use Rattle.pw_session.specs.FromBuildFiles.Driving.{KeepsUnput}
+use Rattle.pw_law_session.specs.FromSession.FromBuildFiles.Genuine.{KeepsGenuine}
+use Rattle.pw_law_session.specs.FromSession.Bench.{bench_files}
+use Rattle.pw_law_session.specs.FromSession.Changes.{MakesSome}
+use Rattle.pw_law_session.specs.FromSession.Outcomes.{EndsAs}
+use Rattle.pw_law_session.specs.FromSession.Removals.{MayRemove}
+use Rattle.pw_law_session.specs.FromSession.FromBuildFiles.Driving.{KeepsUnput}
 use Rattle.pw_law_session.specs.Full.{SessionBuildsInFull}
 use Rattle.pw_top.specs.Rest.{LeavesRest}
 use Rattle.pw_top.specs.Whole.{BenchesFull, ComesInFull, IfMade, ReportsFull, RunsFull}

@@ -3,7 +3,7 @@ use Rattle.std.specs.Prelude.{ℕ, List, Option, IfSome}
 use Rattle.pw_io.specs.Files.{Told, Keeps}
 use Rattle.pw_top_answer.specs.declared.answer.Answer.{Answer}
 use Rattle.pw_top_answer.specs.Outcomes.{InputCount, IsLineDue, LeavesStreams, OutputCount, StoreCount}
-use Rattle.pw_session.specs.FromBuildFiles.Genuine.{KeepsGenuine}
+use Rattle.pw_law_session.specs.FromSession.FromBuildFiles.Genuine.{KeepsGenuine}
 use Rattle.pw_top_words.specs.declared.commands.Command.{Command}
 use Rattle.pw_top.specs.Answers.{HoldsNoWantOfMemory}
 use Rattle.pw_top.specs.Commands.{EndsScript, IsNoSession, KeepsTheRest, OnlyReads, RefusesAsBuilt, line_of}

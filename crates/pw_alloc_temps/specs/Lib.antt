@@ -1,3 +1,0 @@
-pub mod Weights
-pub mod Registers
-pub mod Temporaries

@@ -1,4 +1,0 @@
-//! Laws of temporaries in registers, without code: the places that allocation gives in its second form serve.
-#![tactic(auto)]
-
-pub mod laws;
