@@ -1,8 +1,8 @@
 -- What is exposed, use by use, operation by operation and block by block.
-use Rattle.std.proofs.Common.{◌≡◌, ◌≢◌, ◌⊎◌, ℕ, ◌+◌, ◌<◌, ◌≤◌, ◌||◌, true, List, [], length, get_or, take, sym, ap, subst, ◌∙◌, arith, inl, inr}
+use Rattle.std.proofs.Common.{◌≡◌, ◌≢◌, ◌⊎◌, ℕ, ◌+◌, ◌<◌, ◌≤◌, ◌||◌, true, List, [], ◌∷◌, length, get_or, set, take, sym, ap, subst, ◌∙◌, arith, inl, inr}
 use Rattle.std.specs.Prelude.{Some, slice_get, slice_index, Contains}
-use Rattle.std.proofs.lemmas.Bool.{cases_eq, or_left, or_right}
-use Rattle.std.proofs.lemmas.List.{take_all}
+use Rattle.std.proofs.lemmas.Bool.{cases_eq, or_left, or_right, eq-eqb}
+use Rattle.std.proofs.lemmas.List.{take_all, get_or-set_same, get_or-set_other}
 use Rattle.std.proofs.lemmas.Option.{same_Some}
 use Rattle.pw_flow.specs.Outline.{Act, Stretch}
 use Rattle.pw_live.specs.Liveness.{has, is_that}
@@ -12,6 +12,10 @@ use Rattle.pw_live_fronts.proofs.Exposing.{defines_more, uses_more, uses_all}
 use Rattle.pw_live_fronts.proofs.MarkSteps.{there_cases}
 
 -- ---- uses
+
+pub nothing_read : (uses : List ℕ) (u : ℕ) → ¬ Contains (take 0 uses) u
+nothing_read [] u c = let lt : c.0 < 0 = c.1 in omega (arith, lt)
+nothing_read (x ∷ xs) u c = let lt : c.0 < 0 = c.1 in omega (arith, lt)
 
 pub expose_more : (uses marks : List ℕ) (k mark : ℕ) (Old New : ℕ → Type 0) → k < length uses → ((u : ℕ) → Old u → New u)
     → (slice_index marks (get_or uses k 0) ≢ mark → New (get_or uses k 0))
@@ -58,6 +62,20 @@ pub acts_end : (acts : List Act) (uses : List ℕ) (k mark : ℕ) (marks : List 
 acts_end acts uses k mark marks Old New le kept now marked before t e = elim (uses_all acts uses t k le e) [
   | inl o ↦ kept t (before t o)
   | inr n ↦ now t (has_there t uses n.1) (λ same. let d = marked t same in let none = n.0 in absurd (cc))
+]
+
+-- ---- marks
+
+pub marked_set : (marks : List ℕ) (t mark u : ℕ) → slice_index (set marks t mark) u ≡ mark → (slice_index marks u ≡ mark) ⊎ (is_that (Some t) u ≡ true)
+marked_set marks t mark u e = elim (cases_eq u t) [
+  | inl same ↦ inr (eq-eqb t u (sym same))
+  | inr other ↦ inl (sym (get_or-set_other marks t u mark 0 other) ∙ e)
+]
+
+pub low_set : (marks : List ℕ) (t mark : ℕ) → t < length marks → ((u : ℕ) → slice_index marks u ≤ mark) → (u : ℕ) → slice_index (set marks t mark) u ≤ mark
+low_set marks t mark lt low u = elim (cases_eq u t) [
+  | inl same ↦ let e : get_or (set marks t mark) u 0 ≡ mark = ap (λ (n : ℕ). get_or (set marks t mark) n 0) same ∙ get_or-set_same marks t mark 0 lt in omega (arith, e)
+  | inr other ↦ let e : get_or (set marks t mark) u 0 ≡ get_or marks u 0 = get_or-set_other marks t u mark 0 other in let h = low u in omega (arith, e, h)
 ]
 
 -- ---- blocks

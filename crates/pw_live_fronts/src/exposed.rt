@@ -1,7 +1,7 @@
 //! Temporaries that some block uses before it defines them. No other one can be live at the front of a block, so rows of
 //! bits are kept of these alone.
 
-ghost use Rattle.std.specs.Prelude.{◌≡◌, ◌≢◌, ◌⊎◌, ◌+◌, ◌<◌, ◌≤◌, ℕ, true, length, slice_get, slice_index, vec_len, All, Contains, Some, IfOk, OnOk};
+ghost use Rattle.std.specs.Prelude.{◌≡◌, ◌≢◌, ◌⊎◌, ◌+◌, ◌<◌, ◌≤◌, ℕ, true, length, slice_get, slice_index, vec_len, All, Contains, Some, IfOk, IfSome, OnOk};
 ghost use Rattle.pw_live_fronts.specs.Blocks.{IsAct, IsStretch, IsOutline, uses_first};
 ghost use Rattle.pw_live.specs.Liveness.{is_that};
 ghost use Rattle.pw_live_fronts.specs.Exposing.{IsExposed};
@@ -38,6 +38,20 @@ impl Exposed {
     }
 }
 
+/// Exposes a temporary, unless it bears the mark.
+fn expose_use(exposed: &mut Exposed, marks: &[usize], mark: usize, t: u32) -> Result<(), NoMemory>
+    requires marks { length marks.now ≡ vec_len exposed.old.numbers }
+    requires temp { t < vec_len exposed.old.numbers }
+    ensures count { vec_len exposed.new.numbers ≡ vec_len exposed.old.numbers }
+    ensures kept { (u : ℕ) → IsExposed exposed.old u → IsExposed exposed.new u }
+    ensures there { OnOk result (slice_index marks.now t ≢ mark → IsExposed exposed.new t) }
+{
+    if marks[t as usize] == mark {
+        return Ok(());
+    }
+    exposed.expose(t)
+}
+
 /// Exposes those of the temporaries that do not bear the mark.
 fn expose_uses(
     exposed: &mut Exposed,
@@ -52,11 +66,22 @@ fn expose_uses(
     ensures there { OnOk result ((t : ℕ) → Contains uses.now t → slice_index marks.now t ≢ mark → IsExposed exposed.new t) }
 {
     for &t in uses {
-        if marks[t as usize] != mark {
-            exposed.expose(t)?;
-        }
+        expose_use(exposed, marks, mark, t)?;
     }
     Ok(())
+}
+
+/// Marks what an operation defines.
+fn mark_defined(marks: &mut [usize], mark: usize, defined: Option<u32>)
+    requires { IfSome defined (λ t. t < length marks.old) }
+    ensures length { length marks.new ≡ length marks.old }
+    ensures marked { (t : ℕ) → slice_index marks.new t ≡ mark → (slice_index marks.old t ≡ mark) ⊎ (is_that defined t ≡ true) }
+    ensures low { ((t : ℕ) → slice_index marks.old t ≤ mark) → (t : ℕ) → slice_index marks.new t ≤ mark }
+{
+    let Some(t) = defined else {
+        return;
+    };
+    marks[t as usize] = mark;
 }
 
 /// Exposes what an operation reads and the block did not define before, and marks what it defines.
@@ -76,9 +101,7 @@ fn expose_act(
     ensures low { ((t : ℕ) → slice_index marks.old t ≤ mark) → (t : ℕ) → slice_index marks.new t ≤ mark }
 {
     expose_uses(exposed, marks, mark, act.uses())?;
-    if let Some(t) = act.defines() {
-        marks[t as usize] = mark;
-    }
+    mark_defined(marks, mark, act.defines());
     Ok(())
 }
 
@@ -102,7 +125,8 @@ fn expose_block(
     for act in block.acts() {
         expose_act(exposed, marks, mark, act)?;
     }
-    expose_uses(exposed, marks, mark, block.uses())
+    expose_uses(exposed, marks, mark, block.uses())?;
+    Ok(())
 }
 
 /// The temporaries of a function that some block uses before it defines them.

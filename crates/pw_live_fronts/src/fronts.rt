@@ -68,13 +68,14 @@ pub fn find_fronts(alloc: Global, f: &Outline) -> Result<Fronts, NoMemory>
     requires { IsOutline f.now }
     ensures { IfOk result (AreFronts f.now) }
 {
+    let blocks = f.blocks();
     let exposed = expose_all(alloc, f)?;
     let marks = mark_all(alloc, &exposed, f)?;
     let edges = edges_of(alloc, f)?;
     let len = exposed.names.len();
     let _nothing = BitRow::new(alloc, len)?;
     let graph = Graph {
-        nodes: f.blocks().len(),
+        nodes: blocks.len(),
         edges,
     };
     let needing = Needing {

@@ -74,34 +74,49 @@ fn mark_definition(defines: &mut BitRows, exposed: &Exposed, node: usize, writte
 }
 
 /// Marks what an operation reads, and then what it defines.
-fn mark_act(marks: &mut Marks, exposed: &Exposed, node: usize, act: &Act)
-    requires node { node < vec_len marks.old.uses.rows }
-    requires len { marks.old.uses.len ≡ length exposed.now.names.items }
+fn mark_act(uses: &mut BitRows, defines: &mut BitRows, exposed: &Exposed, node: usize, act: &Act)
+    requires node { node < vec_len uses.old.rows }
+    requires count { vec_len defines.old.rows ≡ vec_len uses.old.rows }
+    requires uses_len { uses.old.len ≡ length exposed.now.names.items }
+    requires defines_len { defines.old.len ≡ length exposed.now.names.items }
     requires act { IsAct (vec_len exposed.now.numbers) act.now }
-    ensures count { vec_len marks.new.uses.rows ≡ vec_len marks.old.uses.rows }
-    ensures len { marks.new.uses.len ≡ marks.old.uses.len }
-    ensures uses { (m i : ℕ) → HoldsAt marks.new.uses m i ↔ (HoldsAt marks.old.uses m i ⊎ ((m ≡ node) × IsRead exposed.now act.now.uses i × ¬ HoldsAt marks.old.defines node i)) }
-    ensures defines { (m i : ℕ) → HoldsAt marks.new.defines m i ↔ (HoldsAt marks.old.defines m i ⊎ ((m ≡ node) × IsWritten exposed.now act.now.defines i)) }
+    ensures uses_count { vec_len uses.new.rows ≡ vec_len uses.old.rows }
+    ensures uses_len { uses.new.len ≡ uses.old.len }
+    ensures defines_count { vec_len defines.new.rows ≡ vec_len defines.old.rows }
+    ensures defines_len { defines.new.len ≡ defines.old.len }
+    ensures used { (m i : ℕ) → HoldsAt uses.new m i ↔ (HoldsAt uses.old m i ⊎ ((m ≡ node) × IsRead exposed.now act.now.uses i × ¬ HoldsAt defines.old node i)) }
+    ensures defined { (m i : ℕ) → HoldsAt defines.new m i ↔ (HoldsAt defines.old m i ⊎ ((m ≡ node) × IsWritten exposed.now act.now.defines i)) }
 {
-    mark_uses(&mut marks.uses, &marks.defines, exposed, node, act.uses());
-    mark_definition(&mut marks.defines, exposed, node, act.defines());
+    mark_uses(uses, defines, exposed, node, act.uses());
+    mark_definition(defines, exposed, node, act.defines());
 }
 
 /// Marks what a block uses before it defines it, and what it defines, in rows of its node that are empty.
-fn mark_block(marks: &mut Marks, exposed: &Exposed, node: usize, block: &Stretch, blocks: usize)
-    requires node { node < vec_len marks.old.uses.rows }
-    requires len { marks.old.uses.len ≡ length exposed.now.names.items }
+fn mark_block(
+    uses: &mut BitRows,
+    defines: &mut BitRows,
+    exposed: &Exposed,
+    node: usize,
+    block: &Stretch,
+    blocks: usize,
+)
+    requires node { node < vec_len uses.old.rows }
+    requires count { vec_len defines.old.rows ≡ vec_len uses.old.rows }
+    requires uses_len { uses.old.len ≡ length exposed.now.names.items }
+    requires defines_len { defines.old.len ≡ length exposed.now.names.items }
     requires block { IsStretch (vec_len exposed.now.numbers) blocks block.now }
-    requires empty { (i : ℕ) → ¬ HoldsAt marks.old.defines node i }
-    ensures count { vec_len marks.new.uses.rows ≡ vec_len marks.old.uses.rows }
-    ensures len { marks.new.uses.len ≡ marks.old.uses.len }
-    ensures uses { (m i : ℕ) → HoldsAt marks.new.uses m i ↔ (HoldsAt marks.old.uses m i ⊎ ((m ≡ node) × IsUsedFirst exposed.now block.now i)) }
-    ensures defines { (m i : ℕ) → HoldsAt marks.new.defines m i ↔ (HoldsAt marks.old.defines m i ⊎ ((m ≡ node) × IsDefined exposed.now block.now i)) }
+    requires empty { (i : ℕ) → ¬ HoldsAt defines.old node i }
+    ensures uses_count { vec_len uses.new.rows ≡ vec_len uses.old.rows }
+    ensures uses_len { uses.new.len ≡ uses.old.len }
+    ensures defines_count { vec_len defines.new.rows ≡ vec_len defines.old.rows }
+    ensures defines_len { defines.new.len ≡ defines.old.len }
+    ensures used { (m i : ℕ) → HoldsAt uses.new m i ↔ (HoldsAt uses.old m i ⊎ ((m ≡ node) × IsUsedFirst exposed.now block.now i)) }
+    ensures defined { (m i : ℕ) → HoldsAt defines.new m i ↔ (HoldsAt defines.old m i ⊎ ((m ≡ node) × IsDefined exposed.now block.now i)) }
 {
     for act in block.acts() {
-        mark_act(marks, exposed, node, act);
+        mark_act(uses, defines, exposed, node, act);
     }
-    mark_uses(&mut marks.uses, &marks.defines, exposed, node, block.uses());
+    mark_uses(uses, defines, exposed, node, block.uses());
 }
 
 /// The marks of all blocks of a function.
@@ -116,17 +131,18 @@ pub(crate) fn mark_all(alloc: Global, exposed: &Exposed, f: &Outline) -> Result<
     let blocks = f.blocks();
     let count = blocks.len();
     let len = exposed.names.len();
-    let uses = BitRows::new(alloc, count, len)?;
-    let defines = BitRows::new(alloc, count, len)?;
-    let mut marks = Marks { uses, defines };
+    let mut uses = BitRows::new(alloc, count, len)?;
+    let mut defines = BitRows::new(alloc, count, len)?;
     for place in 0..count {
+        let node = count - 1 - place;
         mark_block(
-            &mut marks,
+            &mut uses,
+            &mut defines,
             exposed,
-            count - 1 - place,
+            node,
             &blocks[place],
             count,
         );
     }
-    Ok(marks)
+    Ok(Marks { uses, defines })
 }

@@ -17,45 +17,28 @@ covers_push spans span q = (
   ],
 )
 
-abbrev pub CoversMore : List (ℕ × ℕ) → List (ℕ × ℕ) → ℕ → ℕ → Type 0
-CoversMore old new from to = (q : ℕ) → Covers new q ↔ (Covers old q ⊎ ((from ≤ q) × (q < to)))
+-- ---- a span and points
 
--- behind the others
-pub behind : (old mid back new : List (ℕ × ℕ)) (last : ℕ × ℕ) (from to : ℕ) → old ≡ mid ++ last ∷ [] → back ≡ mid ++ last ∷ [] → new ≡ back ++ (from, to) ∷ [] → CoversMore old new from to
-behind old mid back new last from to o b n q =
-    let same : back ≡ old = b ∙ sym o in
-    let one = covers_push back (from, to) q in (
-      λ h. elim (one.0 (subst (λ (xs : List (ℕ × ℕ)). Covers xs q) n h)) [ inl k ↦ inl (subst (λ (xs : List (ℕ × ℕ)). Covers xs q) same k) | inr k ↦ inr k ],
-      λ h. subst (λ (xs : List (ℕ × ℕ)). Covers xs q) (sym n) (one.1 (elim h [ inl k ↦ inl (subst (λ (xs : List (ℕ × ℕ)). Covers xs q) (sym same) k) | inr k ↦ inr k ])),
-    )
+abbrev pub IsBetween : ℕ → ℕ → ℕ → Type 0
+IsBetween from to q = (from ≤ q) × (q < to)
 
--- where there are none
-pub alone : (old mid new : List (ℕ × ℕ)) (from to : ℕ) → old ≡ [] → mid ≡ [] → new ≡ mid ++ (from, to) ∷ [] → CoversMore old new from to
-alone old mid new from to o m n q =
-    let one = covers_push mid (from, to) q in
-    let same : mid ≡ old = m ∙ sym o in (
-      λ h. elim (one.0 (subst (λ (xs : List (ℕ × ℕ)). Covers xs q) n h)) [ inl k ↦ inl (subst (λ (xs : List (ℕ × ℕ)). Covers xs q) same k) | inr k ↦ inr k ],
-      λ h. subst (λ (xs : List (ℕ × ℕ)). Covers xs q) (sym n) (one.1 (elim h [ inl k ↦ inl (subst (λ (xs : List (ℕ × ℕ)). Covers xs q) (sym same) k) | inr k ↦ inr k ])),
-    )
-
--- before the last one, which begins where the new one ends
-pub joined : (old mid new : List (ℕ × ℕ)) (low high from to : ℕ) → old ≡ mid ++ (low, high) ∷ [] → low ≡ to → low ≤ high → from ≤ to → new ≡ mid ++ (from, high) ∷ [] → CoversMore old new from to
-joined old mid new low high from to o touch up le n q =
-    let was = covers_push mid (low, high) q in
-    let is = covers_push mid (from, high) q in
-    let back : Covers (mid ++ (low, high) ∷ []) q → Covers old q = subst (λ (xs : List (ℕ × ℕ)). Covers xs q) (sym o) in (
-      λ h. elim (is.0 (subst (λ (xs : List (ℕ × ℕ)). Covers xs q) n h)) [
-        | inl k ↦ inl (back (was.1 (inl k)))
+-- the span begins where the points end
+pub put_joined : (old new : List (ℕ × ℕ)) (low high from to : ℕ) → low ≡ to → low ≤ high → from ≤ to → new ≡ old ++ (from, high) ∷ []
+    → (q : ℕ) → Covers new q ↔ ((Covers old q ⊎ IsIn (low, high) q) ⊎ IsBetween from to q)
+put_joined old new low high from to touch up le n q =
+    let one = covers_push old (from, high) q in (
+      λ h. elim (one.0 (subst (λ (xs : List (ℕ × ℕ)). Covers xs q) n h)) [
+        | inl k ↦ inl (inl k)
         | inr k ↦
             let first : from ≤ q = k.0 in
             let last : q < high = k.1 in
             elim (cases_lt q to) [
               | inl lt ↦ inr (first, lt)
-              | inr past ↦ inl (back (was.1 (inr (omega (arith, touch, past), last))))
+              | inr past ↦ inl (inr (omega (arith, touch, past), last))
             ]
       ],
-      λ h. subst (λ (xs : List (ℕ × ℕ)). Covers xs q) (sym n) (is.1 (elim h [
-        | inl k ↦ elim (was.0 (subst (λ (xs : List (ℕ × ℕ)). Covers xs q) o k)) [
+      λ h. subst (λ (xs : List (ℕ × ℕ)). Covers xs q) (sym n) (one.1 (elim h [
+        | inl k ↦ elim k [
           | inl c ↦ inl c
           | inr c ↦
               let first : low ≤ q = c.0 in
@@ -67,4 +50,33 @@ joined old mid new low high from to o touch up le n q =
             let last : q < to = k.1 in
             inr (first, omega (arith, touch, up, last))
       ])),
+    )
+
+-- they stand one behind the other
+pub put_both : (old mid new : List (ℕ × ℕ)) (last : ℕ × ℕ) (from to : ℕ) → mid ≡ old ++ last ∷ [] → new ≡ mid ++ (from, to) ∷ []
+    → (q : ℕ) → Covers new q ↔ ((Covers old q ⊎ IsIn last q) ⊎ IsBetween from to q)
+put_both old mid new last from to m n q =
+    let one = covers_push mid (from, to) q in
+    let two = covers_push old last q in (
+      λ h. elim (one.0 (subst (λ (xs : List (ℕ × ℕ)). Covers xs q) n h)) [ inl k ↦ inl (two.0 (subst (λ (xs : List (ℕ × ℕ)). Covers xs q) m k)) | inr k ↦ inr k ],
+      λ h. subst (λ (xs : List (ℕ × ℕ)). Covers xs q) (sym n) (one.1 (elim h [ inl k ↦ inl (subst (λ (xs : List (ℕ × ℕ)). Covers xs q) (sym m) (two.1 k)) | inr k ↦ inr k ])),
+    )
+
+-- ---- all spans
+
+pub alone : (old mid new : List (ℕ × ℕ)) (from to : ℕ) → old ≡ [] → mid ≡ [] → new ≡ mid ++ (from, to) ∷ [] → (q : ℕ) → Covers new q ↔ (Covers old q ⊎ IsBetween from to q)
+alone old mid new from to o m n q =
+    let one = covers_push mid (from, to) q in
+    let same : mid ≡ old = m ∙ sym o in (
+      λ h. elim (one.0 (subst (λ (xs : List (ℕ × ℕ)). Covers xs q) n h)) [ inl k ↦ inl (subst (λ (xs : List (ℕ × ℕ)). Covers xs q) same k) | inr k ↦ inr k ],
+      λ h. subst (λ (xs : List (ℕ × ℕ)). Covers xs q) (sym n) (one.1 (elim h [ inl k ↦ inl (subst (λ (xs : List (ℕ × ℕ)). Covers xs q) (sym same) k) | inr k ↦ inr k ])),
+    )
+
+pub with_last : (old mid new : List (ℕ × ℕ)) (last : ℕ × ℕ) (from to : ℕ) → old ≡ mid ++ last ∷ []
+    → ((q : ℕ) → Covers new q ↔ ((Covers mid q ⊎ IsIn last q) ⊎ IsBetween from to q))
+    → (q : ℕ) → Covers new q ↔ (Covers old q ⊎ IsBetween from to q)
+with_last old mid new last from to o now q =
+    let was = covers_push mid last q in (
+      λ h. elim ((now q).0 h) [ inl k ↦ inl (subst (λ (xs : List (ℕ × ℕ)). Covers xs q) (sym o) (was.1 k)) | inr k ↦ inr k ],
+      λ h. (now q).1 (elim h [ inl k ↦ inl (was.0 (subst (λ (xs : List (ℕ × ℕ)). Covers xs q) o k)) | inr k ↦ inr k ]),
     )

@@ -3,7 +3,7 @@ use Rattle.std.proofs.Common.{◌≡◌, ◌≢◌, ◌⊎◌, ℕ, zero, suc, �
 use Rattle.std.specs.Prelude.{Some, slice_get, vec_len, Contains, All, ◌↔◌}
 use Rattle.std.specs.List.{list_any}
 use Rattle.std.proofs.lemmas.Bool.{or_cases, or_left, or_right, eqb-true, eq-eqb}
-use Rattle.std.proofs.lemmas.List.{take_more, take_all}
+use Rattle.std.proofs.lemmas.List.{take_more, take_all, get_or_default}
 use Rattle.std.proofs.lemmas.List.Elements.{Contains-get_or, Contains-append_left, Contains-push, Contains-push_cases}
 use Rattle.std.proofs.lemmas.Option.{slice_get_within}
 use Rattle.pw_flow.specs.Outline.{Act, Stretch, Outline}
@@ -30,6 +30,10 @@ first_none (x ∷ xs) y c = let lt : c.0 < 0 = c.1 in omega (arith, lt)
 
 pub first_all : {X : Type 0} (xs : List X) (k : ℕ) (y : X) → length xs ≤ k → Contains (take k xs) y ↔ Contains xs y
 first_all {X} xs k y le = let whole = take_all k xs le in (λ h. subst (λ (zs : List X). Contains zs y) whole h, λ h. subst (λ (zs : List X). Contains zs y) (sym whole) h)
+
+-- what stands at a place, whatever stands for what is past the end
+pub item_at : {X : Type 0} (xs : List X) (i : ℕ) (d : X) → i < length xs → get_or xs i (get_or xs i d) ≡ get_or xs i d
+item_at xs i d lt = get_or_default xs i (get_or xs i d) d lt
 
 -- ---- temporaries that are live from a point on
 

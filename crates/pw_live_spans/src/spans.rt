@@ -11,6 +11,7 @@ ghost use Rattle.pw_live_spans.specs.AreSpans.{AreSpans};
 
 use crate::walk::Walk;
 use pw_items::Items;
+use pw_live::laws::longer_paths_add_nothing;
 use pw_live_fronts::{Act, Fronts, Outline, Stretch};
 use std::alloc::{AllocError as NoMemory, Global};
 
@@ -115,7 +116,8 @@ fn walk_end(
 {
     walk.back();
     open_all(walk, block.uses());
-    open_fronts(alloc, walk, fronts, f, block.next())
+    open_fronts(alloc, walk, fronts, f, block.next())?;
+    Ok(())
 }
 
 /// Goes back from the front of the block behind to that of a block.
@@ -141,7 +143,9 @@ fn walk_block(
         walk_act(walk, &acts[acts.len() - 1 - done])?;
     }
     let live = fronts.live(alloc, b)?;
-    close_all(walk, &live)
+    close_all(walk, &live)?;
+    longer_paths_add_nothing();
+    Ok(())
 }
 
 /// How many points the blocks have, where that can be counted.

@@ -1,7 +1,7 @@
 //! A walk over the points of a function, from the last one back, that notes where temporaries are live.
 
 ghost use Rattle.std.specs.Prelude.{◌≡◌, ◌≢◌, ◌⊎◌, ◌+◌, ◌^◌, ◌<◌, ◌≤◌, ◌↔◌, ℕ, List, [], Some, slice_get, vec_len, IfOk, OnOk};
-ghost use Rattle.pw_live_spans.specs.Spans.{Covers};
+ghost use Rattle.pw_live_spans.specs.Spans.{IsIn, Covers};
 
 use pw_items::Items;
 use std::alloc::{AllocError as NoMemory, Global};
@@ -17,6 +17,24 @@ pub(crate) struct Walk {
     pub ghost ahead: { (t e : ℕ) → slice_get ends.items t ≡ Some (Some e) → place < e },
 }
 
+/// Adds to spans one more, and the points from one up to another, which may end where it begins.
+fn put_behind(
+    spans: &mut Items<(usize, usize)>,
+    last: (usize, usize),
+    from: usize,
+    to: usize,
+) -> Result<(), NoMemory>
+    requires { from ≤ to }
+    ensures { OnOk result ((q : ℕ) → Covers spans.new q ↔ ((Covers spans.old q ⊎ IsIn last q) ⊎ ((from ≤ q) × (q < to)))) }
+{
+    let (low, high) = last;
+    if low == to && low <= high {
+        return spans.push((from, high));
+    }
+    spans.push(last)?;
+    spans.push((from, to))
+}
+
 /// Adds the points from one up to another to spans, the last of which may begin where these end.
 fn cover(spans: &mut Items<(usize, usize)>, from: usize, to: usize) -> Result<(), NoMemory>
     requires { from ≤ to }
@@ -24,11 +42,7 @@ fn cover(spans: &mut Items<(usize, usize)>, from: usize, to: usize) -> Result<()
 {
     match spans.pop() {
         None => spans.push((from, to)),
-        Some((low, high)) if low == to && low <= high => spans.push((from, high)),
-        Some(last) => {
-            spans.push(last)?;
-            spans.push((from, to))
-        }
+        Some(last) => put_behind(spans, last, from, to),
     }
 }
 

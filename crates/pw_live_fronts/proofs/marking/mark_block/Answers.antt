@@ -1,15 +1,17 @@
 use Rattle.std.proofs.Common.{◌≡◌, ◌<◌, ◌≤◌, ◌∙◌, List, get_or, length, refl, subst, sym, take}
 use Rattle.pw_fix.specs.Table.{HoldsAt}
 use Rattle.pw_flow.specs.Outline.{Act}
-use Rattle.pw_live_fronts.proofs.MarkSteps.{nothing_used, nothing_defined, uses_step, defines_step, defined_so_far, uses_end, defines_end}
+use Rattle.pw_live_fronts.proofs.MarkSteps.{nothing_used, nothing_defined, uses_step, defines_step, defined_so_far}
 use Rattle.pw_live_fronts.proofs.marking.mark_block.Goals as goal
 
 pub loop-act-init : goal.loop-act-init
 loop-act-init c = record {
-  count = refl;
-  len = refl;
-  uses = nothing_used c.args.exposed.now c.args.node (HoldsAt c.args.marks.now.uses);
-  defines = nothing_defined c.args.exposed.now c.args.node (HoldsAt c.args.marks.now.defines);
+  uses_count = refl;
+  uses_len = refl;
+  defines_count = refl;
+  defines_len = refl;
+  used = nothing_used c.args.exposed.now c.args.node (HoldsAt c.args.uses.now);
+  defined = nothing_defined c.args.exposed.now c.args.node (HoldsAt c.args.defines.now);
 }
 
 pub loop-act-preserved : goal.loop-act-preserved
@@ -22,11 +24,13 @@ loop-act-preserved c =
     let lt : k < length acts = subst (λ (xs : List Act). k < length xs) c.acts.ensures c.loop-act-test.true in
     let is : get_or acts k a ≡ a = sym (subst (λ (xs : List Act). a ≡ get_or xs k a) c.acts.ensures c.act-item.is) in
     record {
-      count = c.mark_act.ensures.count ∙ c.loop-act.invariant.count;
-      len = c.mark_act.ensures.len ∙ c.loop-act.invariant.len;
-      uses = uses_step e acts k node a (HoldsAt c.mark_act.new.marks.uses) (HoldsAt c.loop-act.marks.uses) (HoldsAt c.args.marks.now.uses) (HoldsAt c.loop-act.marks.defines node) lt is
-          c.mark_act.ensures.uses c.loop-act.invariant.uses
-          (defined_so_far e (take k acts) node (HoldsAt c.loop-act.marks.defines) (HoldsAt c.args.marks.now.defines) c.loop-act.invariant.defines c.requires.empty);
-      defines = defines_step e acts k node a (HoldsAt c.mark_act.new.marks.defines) (HoldsAt c.loop-act.marks.defines) (HoldsAt c.args.marks.now.defines) lt is
-          c.mark_act.ensures.defines c.loop-act.invariant.defines;
+      uses_count = c.mark_act.ensures.uses_count ∙ c.loop-act.invariant.uses_count;
+      uses_len = c.mark_act.ensures.uses_len ∙ c.loop-act.invariant.uses_len;
+      defines_count = c.mark_act.ensures.defines_count ∙ c.loop-act.invariant.defines_count;
+      defines_len = c.mark_act.ensures.defines_len ∙ c.loop-act.invariant.defines_len;
+      used = uses_step e acts k node a (HoldsAt c.mark_act.new.uses) (HoldsAt c.loop-act.uses) (HoldsAt c.args.uses.now) (HoldsAt c.loop-act.defines node) lt is
+          c.mark_act.ensures.used c.loop-act.invariant.used
+          (defined_so_far e (take k acts) node (HoldsAt c.loop-act.defines) (HoldsAt c.args.defines.now) c.loop-act.invariant.defined c.requires.empty);
+      defined = defines_step e acts k node a (HoldsAt c.mark_act.new.defines) (HoldsAt c.loop-act.defines) (HoldsAt c.args.defines.now) lt is
+          c.mark_act.ensures.defined c.loop-act.invariant.defined;
     }

@@ -6,8 +6,10 @@ use Rattle.pw_live_fronts.proofs.marking.mark_block.Given as goal
 
 abbrev pub invariant-loop-act : goal.invariant-loop-act
 invariant-loop-act l = record {
-  count : vec_len l.marks.uses.rows ≡ vec_len l.fn.marks.uses.rows;
-  len : l.marks.uses.len ≡ l.fn.marks.uses.len;
-  uses : (m i : ℕ) → HoldsAt l.marks.uses m i ↔ (HoldsAt l.fn.marks.uses m i ⊎ ((m ≡ l.node) × UsesSoFar l.exposed (take l.act-index l.block.acts) i));
-  defines : (m i : ℕ) → HoldsAt l.marks.defines m i ↔ (HoldsAt l.fn.marks.defines m i ⊎ ((m ≡ l.node) × DefinesSoFar l.exposed (take l.act-index l.block.acts) i));
+  uses_count : vec_len l.uses.rows ≡ vec_len l.fn.uses.rows;
+  uses_len : l.uses.len ≡ l.fn.uses.len;
+  defines_count : vec_len l.defines.rows ≡ vec_len l.fn.defines.rows;
+  defines_len : l.defines.len ≡ l.fn.defines.len;
+  used : (m i : ℕ) → HoldsAt l.uses m i ↔ (HoldsAt l.fn.uses m i ⊎ ((m ≡ l.node) × UsesSoFar l.exposed (take l.act-index l.block.acts) i));
+  defined : (m i : ℕ) → HoldsAt l.defines m i ↔ (HoldsAt l.fn.defines m i ⊎ ((m ≡ l.node) × DefinesSoFar l.exposed (take l.act-index l.block.acts) i));
 }
