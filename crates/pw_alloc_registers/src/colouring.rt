@@ -5,6 +5,7 @@ ghost use Rattle.std.specs.List.{find, range_with_len};
 ghost use Rattle.pw_live_fronts.specs.Blocks.{IsOutline};
 ghost use Rattle.pw_live.specs.Liveness.{has};
 ghost use Rattle.pw_live.specs.Points.{points};
+ghost use Rattle.pw_live_spans.specs.Spans.{Covers};
 ghost use Rattle.pw_live_spans.specs.LivePoints.{LivesFrom};
 ghost use Rattle.pw_alloc_registers.specs.Masks.{in_mask, HasRegister};
 ghost use Rattle.pw_alloc_registers.specs.Knowing.{AreFacts, AreSized, AreGiven};
@@ -17,6 +18,7 @@ use crate::order::ordered;
 use crate::taken::{made_beside, occupied_behind, occupy, taken_at_start};
 use pw_db::{FIRST_REGISTER, LAST_REGISTER, LAST_TEMPORARY};
 use pw_live_fronts::Outline;
+use pw_live_spans::laws::points_stand_by_number;
 use std::alloc::{AllocError as NoMemory, Global};
 
 /// What temporaries have been given so far.
@@ -78,11 +80,21 @@ fn is_live_at_start(spans: &[(usize, usize)]) -> bool
     ensures { IsTrue result ↔ Covers spans.now 0 }
 {
     for &(from, to) in spans {
-        if from == 0 && from < to {
+        if from == 0 && to > 0 {
             return true;
         }
     }
     false
+}
+
+/// What is occupied where the function starts.
+fn at_start(occupied: &[u32]) -> u32
+    ensures { result ≡ slice_index occupied.now 0 }
+{
+    if occupied.is_empty() {
+        return 0;
+    }
+    occupied[0]
 }
 
 /// The registers that a temporary may not have, since one that interferes has them.
@@ -93,13 +105,11 @@ fn taken(given: &Given, facts: &Facts, f: &Outline, t: u32) -> u32
     requires temp { t < f.now.temps }
     ensures { (gs : List (ℕ × ℕ)) → AreGiven f.now gs given.now → register_of gs t ≡ None → (r : ℕ) → HasRegister result r ↔ (is_taken f.now gs t r ≡ true) }
 {
+    points_stand_by_number();
     let spans = facts.spans.of(t);
     let beside = made_beside(spans, &facts.makers, &given.registers);
     let behind = occupied_behind(&facts.definitions[t as usize], &given.occupied);
-    let start = match given.occupied.first() {
-        Some(start) => *start,
-        None => 0,
-    };
+    let start = at_start(&given.occupied);
     let first = taken_at_start(t < f.params(), is_live_at_start(spans), given.params, start);
     both(both(beside, behind), first)
 }
@@ -113,6 +123,7 @@ fn give(given: &mut Given, facts: &Facts, f: &Outline, t: u32, r: u8)
     ensures sized { AreSized f.now given.new }
     ensures given { (gs : List (ℕ × ℕ)) → AreGiven f.now gs given.old → register_of gs t ≡ None → AreGiven f.now (with_register t (Some r) gs) given.new }
 {
+    points_stand_by_number();
     given.registers[t as usize] = Some(r);
     occupy(&mut given.occupied, facts.spans.of(t), r);
     if t < f.params() {

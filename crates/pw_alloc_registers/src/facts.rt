@@ -10,6 +10,7 @@ ghost use Rattle.pw_alloc_registers.specs.Knowing.{AreFacts};
 
 use crate::points::{Points, find_points};
 use pw_live_fronts::{Outline, find_fronts};
+use pw_live_spans::laws::points_stand_by_number;
 use pw_live_spans::{Spans, find_spans};
 use std::alloc::{AllocError as NoMemory, Global};
 
@@ -117,7 +118,6 @@ pub(crate) fn is_held(facts: &Facts, f: &Outline, t: u32) -> bool
     requires temp { t < f.now.temps }
     ensures { result ≡ is_held f.now t }
 {
-    let temps = f.temps();
-    prove!(t < temps);
+    points_stand_by_number();
     is_held_over(facts.spans.of(t), &facts.makers, &facts.calls, t)
 }

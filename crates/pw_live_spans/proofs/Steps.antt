@@ -1,13 +1,14 @@
 -- What several steps of a walk do together, and which temporaries they speak of.
 use Rattle.std.proofs.Common.{◌≡◌, ◌≢◌, ◌⊎◌, ℕ, zero, suc, ◌+◌, ◌<◌, ◌≤◌, ◌||◌, ◌==◌, Bool, true, List, [], ◌∷◌, ◌++◌, length, get_or, take, refl, sym, ap, subst, ◌∙◌, arith, inl, inr}
 use Rattle.std.specs.Prelude.{Some, slice_get, vec_len, Contains, All, ◌↔◌}
-use Rattle.std.specs.List.{list_any}
+use Rattle.std.specs.List.{AllByRecursion, list_any}
 use Rattle.std.proofs.lemmas.Bool.{or_cases, or_left, or_right, eqb-true, eq-eqb}
 use Rattle.std.proofs.lemmas.List.{take_more, take_all, get_or_default}
 use Rattle.std.proofs.lemmas.List.Elements.{Contains-get_or, Contains-append_left, Contains-push, Contains-push_cases}
-use Rattle.std.proofs.lemmas.Option.{slice_get_within}
+use Rattle.std.proofs.lemmas.Option.{same_Some, slice_get_within}
 use Rattle.pw_flow.specs.Outline.{Act, Stretch, Outline}
 use Rattle.pw_live.specs.Liveness.{has, is_live, is_live_in}
+use Rattle.pw_live_fronts.specs.Blocks.{IsAct, IsStretch, IsOutline}
 use Rattle.pw_live_fronts.specs.LiveFronts.{IsLiveAt, AreFronts}
 use Rattle.pw_live_fronts.specs.declared.fronts.Fronts.{Fronts}
 use Rattle.pw_live_spans.specs.LivePoints.{IsLiveAtOne, IsLiveBefore}
@@ -265,3 +266,23 @@ live_within f v live b n fronts same lives = λ k d lt.
     let long = fronts.temps in
     let size = v.exposed.numbers.ok.0 in
     omega (arith, low, long, size, same)
+
+-- ---- lawful outlines
+
+each_at : {X : Type 0} (P : X → Type 0) (xs : List X) (k : ℕ) (x : X) → AllByRecursion P xs → slice_get xs k ≡ Some x → P x
+each_at P [] k x all e = absurd cc
+each_at P (y ∷ ys) zero x all e = subst P (same_Some y x e) all.0
+each_at P (y ∷ ys) (suc k) x all e = each_at P ys k x all.1 e
+
+pub stretch_at : (f : Outline) → IsOutline f → (b : ℕ) (s : Stretch) → slice_get f.blocks b ≡ Some s → IsStretch f.temps (length f.blocks) s
+stretch_at f lawful b s is = each_at (IsStretch f.temps (length f.blocks)) f.blocks b s lawful.blocks is
+
+pub act_at : (f : Outline) (s : Stretch) (n k : ℕ) (a : Act) → IsStretch f.temps (length f.blocks) s → n ≡ f.temps → slice_get s.acts k ≡ Some a → IsAct n a
+act_at f s n k a lawful same is = subst (λ (temps : ℕ). IsAct temps a) (sym same) (each_at (IsAct f.temps) s.acts k a lawful.acts is)
+
+-- what is live at the front of a block is live before all that stands in it
+pub front_lives : (f : Outline) (v : Fronts) (live : List ℕ) (b u : ℕ) (s : Stretch) → AreFronts f v → b < length f.blocks → is_live_in f u b ≡ is_live f u s.acts s.uses s.next
+    → (Contains live u ↔ IsLiveAt v b u) → Contains live u ↔ (is_live f u s.acts s.uses s.next ≡ true)
+front_lives f v live b u s fronts lt point lives =
+    let one = fronts.live b u lt in
+    (λ h. sym point ∙ one.0 (lives.0 h), λ e. lives.1 (one.1 (point ∙ e)))

@@ -107,7 +107,7 @@ act_step f b s k a old new is place marked opens h =
 
 -- ---- blocks
 
-next_block : (blocks : List Stretch) (b : ℕ) (s : Stretch) → slice_get blocks b ≡ Some s → points_before blocks (b + 1) ≡ points_before blocks b + length s.acts + 1
+pub next_block : (blocks : List Stretch) (b : ℕ) (s : Stretch) → slice_get blocks b ≡ Some s → points_before blocks (b + 1) ≡ points_before blocks b + length s.acts + 1
 next_block [] b s e = absurd cc
 next_block (x ∷ rest) zero s e =
     let same = ap (λ (y : Stretch). length y.acts) (same_Some x s e) in

@@ -136,11 +136,13 @@ fn walk_block(
     ensures count { vec_len walk.new.ends ≡ vec_len walk.old.ends }
     ensures stands { OnOk result (StandsBefore f.now b walk.new) }
 {
-    let block = &f.blocks()[b];
+    let blocks = f.blocks();
+    let block = &blocks[b];
     let acts = block.acts();
     walk_end(alloc, walk, fronts, f, block)?;
     for done in 0..acts.len() {
-        walk_act(walk, &acts[acts.len() - 1 - done])?;
+        let place = acts.len() - 1 - done;
+        walk_act(walk, &acts[place])?;
     }
     let live = fronts.live(alloc, b)?;
     close_all(walk, &live)?;
@@ -177,11 +179,13 @@ pub fn find_spans(alloc: Global, fronts: &Fronts, f: &Outline) -> Result<Spans, 
     requires fronts { AreFronts f.now fronts.now }
     ensures { IfOk result (AreSpans f.now) }
 {
-    let count = f.blocks().len();
-    let points = count_points(f.blocks())?;
+    let blocks = f.blocks();
+    let count = blocks.len();
+    let points = count_points(blocks)?;
     let mut walk = Walk::new(alloc, f.temps(), points)?;
     for done in 0..count {
-        walk_block(alloc, &mut walk, fronts, f, count - 1 - done)?;
+        let b = count - 1 - done;
+        walk_block(alloc, &mut walk, fronts, f, b)?;
     }
     let Walk {
         lists,
