@@ -9,3 +9,4 @@ mod Sorting
 mod Ranking
 mod Counting
 mod Lawful
+mod Placing

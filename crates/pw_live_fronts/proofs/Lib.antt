@@ -6,3 +6,4 @@ mod MarkSteps
 mod Rows
 mod Ways
 mod Readings
+mod Collecting

@@ -1,10 +1,11 @@
 //! What is live at the fronts of blocks, by the data-flow solver.
 
-ghost use Rattle.std.specs.Prelude.{◌≡◌, ◌<◌, ◌≤◌, ◌↔◌, ℕ, true, length, vec_len, Contains, IsTrue, IfOk};
+ghost use Rattle.std.specs.Prelude.{◌≡◌, ◌<◌, ◌≤◌, ◌⊎◌, ◌↔◌, ℕ, true, length, vec_len, Contains, IsTrue, IfOk, OnOk};
 ghost use Rattle.pw_fix.specs.RowLaws.{members_fit};
 ghost use Rattle.pw_fix.specs.Table.{HoldsAt};
 ghost use Rattle.pw_flow.specs.Outline.{Outline as OutlineValue};
 ghost use Rattle.pw_live_fronts.specs.Blocks.{IsOutline};
+ghost use Rattle.pw_live_fronts.specs.Exposing.{IsNumber};
 ghost use Rattle.pw_live_fronts.specs.Flowing.{IsNeededRow, needing_monotone};
 ghost use Rattle.pw_live.specs.Liveness.{is_live_in};
 ghost use Rattle.pw_live_fronts.specs.LiveFronts.{AreFronts};
@@ -86,6 +87,17 @@ pub fn find_fronts(alloc: Global, f: &Outline) -> Result<Fronts, NoMemory>
     Ok(Fronts { exposed, rows })
 }
 
+/// Puts the temporary of a number behind the others, if there is one.
+fn push_named(live: &mut Vec<u32>, exposed: &Exposed, i: usize) -> Result<(), NoMemory>
+    ensures { OnOk result ((t : ℕ) → Contains live.new.items t ↔ (Contains live.old.items t ⊎ IsNumber exposed.now t i)) }
+{
+    if i >= exposed.names.len() {
+        return Ok(());
+    }
+    live.push(exposed.names[i])?;
+    Ok(())
+}
+
 impl Fronts {
     ghost use Rattle.pw_live_fronts.specs.LiveFronts.{IsLiveAt};
 
@@ -106,10 +118,13 @@ impl Fronts {
         requires block { block < vec_len self.now.rows }
         ensures { IfOk result (λ v. (t : ℕ) → Contains v.items t ↔ IsLiveAt self.now block t) }
     {
-        let row = &self.rows[self.rows.len() - 1 - block];
+        let place = self.rows.len() - 1 - block;
+        let row = &self.rows[place];
         let mut live = Vec::new(alloc);
-        for i in row.iter() {
-            live.push(self.exposed.names[i])?;
+        let mut at = 0;
+        while let Some(i) = row.next_from(at) {
+            push_named(&mut live, &self.exposed, i)?;
+            at = i + 1;
         }
         Ok(live)
     }

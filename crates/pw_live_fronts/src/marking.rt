@@ -35,9 +35,10 @@ fn mark_use(uses: &mut BitRows, defines: &BitRows, exposed: &Exposed, node: usiz
     let Some(i) = exposed.numbers[t as usize] else {
         return;
     };
-    if !defines.contains(node, i) {
-        uses.insert(node, i);
+    if defines.contains(node, i) {
+        return;
     }
+    uses.insert(node, i);
 }
 
 /// Marks what an operation or the end of a block reads.
@@ -55,6 +56,21 @@ fn mark_uses(uses: &mut BitRows, defines: &BitRows, exposed: &Exposed, node: usi
     }
 }
 
+/// Marks a definition of a temporary.
+fn mark_written(defines: &mut BitRows, exposed: &Exposed, node: usize, t: u32)
+    requires node { node < vec_len defines.old.rows }
+    requires len { defines.old.len ≡ length exposed.now.names.items }
+    requires temp { t < vec_len exposed.now.numbers }
+    ensures count { vec_len defines.new.rows ≡ vec_len defines.old.rows }
+    ensures len { defines.new.len ≡ defines.old.len }
+    ensures holds { (m i : ℕ) → HoldsAt defines.new m i ↔ (HoldsAt defines.old m i ⊎ ((m ≡ node) × IsNumber exposed.now t i)) }
+{
+    let Some(i) = exposed.numbers[t as usize] else {
+        return;
+    };
+    defines.insert(node, i);
+}
+
 /// Marks what an operation defines.
 fn mark_definition(defines: &mut BitRows, exposed: &Exposed, node: usize, written: Option<u32>)
     requires node { node < vec_len defines.old.rows }
@@ -67,10 +83,7 @@ fn mark_definition(defines: &mut BitRows, exposed: &Exposed, node: usize, writte
     let Some(t) = written else {
         return;
     };
-    let Some(i) = exposed.numbers[t as usize] else {
-        return;
-    };
-    defines.insert(node, i);
+    mark_written(defines, exposed, node, t);
 }
 
 /// Marks what an operation reads, and then what it defines.
