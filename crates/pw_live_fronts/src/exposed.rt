@@ -1,7 +1,7 @@
 //! Temporaries that some block uses before it defines them. No other one can be live at the front of a block, so rows of
 //! bits are kept of these alone.
 
-ghost use Rattle.std.specs.Prelude.{◌≡◌, ◌≢◌, ◌⊎◌, ◌+◌, ◌<◌, ◌≤◌, ℕ, true, length, slice_get, slice_index, vec_len, All, Contains, Some, IfOk, IfSome, OnOk};
+ghost use Rattle.std.specs.Prelude.{◌≡◌, ◌≢◌, ◌⊎◌, ◌+◌, ◌<◌, ◌≤◌, ℕ, true, length, slice_get, slice_index, vec_len, All, Contains, Some, None, IfOk, IfSome, OnOk};
 ghost use Rattle.pw_live_fronts.specs.Blocks.{IsAct, IsStretch, IsOutline, uses_first};
 ghost use Rattle.pw_live.specs.Liveness.{is_that};
 ghost use Rattle.pw_live_fronts.specs.Exposing.{IsExposed};
@@ -21,6 +21,19 @@ impl Exposed {
         Ok(Exposed { names, numbers })
     }
 
+    /// Gives a number to a temporary that has none.
+    fn add(&mut self, t: u32) -> Result<(), NoMemory>
+        requires { slice_get self.old.numbers.items t ≡ Some None }
+        ensures count { vec_len self.new.numbers ≡ vec_len self.old.numbers }
+        ensures there { OnOk result (IsExposed self.new t) }
+        ensures kept { (u : ℕ) → IsExposed self.old u → IsExposed self.new u }
+    {
+        let number = self.names.len();
+        self.names.push(t)?;
+        self.numbers[t as usize] = Some(number);
+        Ok(())
+    }
+
     /// Gives a temporary a number, where it has none.
     fn expose(&mut self, t: u32) -> Result<(), NoMemory>
         requires { t < vec_len self.old.numbers }
@@ -28,13 +41,10 @@ impl Exposed {
         ensures there { OnOk result (IsExposed self.new t) }
         ensures kept { (u : ℕ) → IsExposed self.old u → IsExposed self.new u }
     {
-        if let Some(_) = self.numbers[t as usize] {
-            return Ok(());
+        match self.numbers[t as usize] {
+            Some(_) => Ok(()),
+            None => self.add(t),
         }
-        let number = self.names.len();
-        self.names.push(t)?;
-        self.numbers[t as usize] = Some(number);
-        Ok(())
     }
 }
 
