@@ -1,4 +1,5 @@
 pub mod FromMeaning
+pub mod FromBuildLaws
 pub mod Full
 pub mod Whole
 pub mod History

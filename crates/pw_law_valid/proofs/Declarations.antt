@@ -10,7 +10,6 @@ use Rattle.pw_tree.specs.Symbols.{Symbol}
 use Rattle.pw_types.specs.declared.record.RecordKind.{RecordKind}
 use Rattle.pw_types.specs.TypeTrees.{QType, type_of}
 use Rattle.pw_types.specs.TypedTrees.{Initialiser}
-use Rattle.pw_types.specs.TypedTrees as T
 use Rattle.pw_check_walk.specs.Causes.{needs, DeclaresSomething}
 use Rattle.pw_check_walk.specs.Walks.{Walk, Done, bind, meets}
 use Rattle.pw_check_rules.specs.Declarations.{Sort, ATypedef, AFunction, AGlobal, AnExtern, AStatic, ALocal, sort_of, asking_of, name_of, name_rule, hidden_of, local_of, is_tentative, completed_rule, fitting_rule, context_of, global_rule, static_rule, bytes_rule, single_rule, local_initialiser, local_rule, declare_rule, init_declarator_rule, init_declarators_rule, storage_rule, declares_something, specified_rule, bare_rule, declarators_rule, decl_rule, decls_rule}

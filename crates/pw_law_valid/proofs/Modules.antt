@@ -9,7 +9,7 @@ use Rattle.pw_tree.specs.Trees as S
 use Rattle.pw_tree.specs.Spelling.{symbols, spell_declarator, spell_decls, spell_block, spell_external, spell_externals}
 use Rattle.pw_tree.specs.Symbols.{Symbol}
 use Rattle.pw_types.specs.TypeTrees.{QType}
-use Rattle.pw_types.specs.TypedTrees.{External as Shared, Internal, Hidden, GlobalValue, ModuleValue}
+use Rattle.pw_types.specs.TypedTrees.{External as Shared, Internal, GlobalValue, ModuleValue}
 use Rattle.pw_flow.proofs.Lists.{all_flat}
 use Rattle.pw_check_walk.specs.Walks.{Done, bind}
 use Rattle.pw_check_rules.specs.Checks.{Checks, checking}

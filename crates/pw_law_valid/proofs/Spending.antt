@@ -1,5 +1,5 @@
 -- Rules and the objects without a name that they make: a rule that reads a phrase makes no more of them than the phrase has tokens.
-use Rattle.std.specs.Prelude.{ℕ, suc, ◌≡◌, ◌+◌, ◌≤◌, Bool, true, false, List, ◌∷◌, length}
+use Rattle.std.specs.Prelude.{ℕ, suc, ◌≡◌, ◌+◌, ◌≤◌, Bool, true, false, List, length}
 use Rattle.std.proofs.Common.{arith, ap}
 use Rattle.pw_tree.specs.Spelling.{separated}
 use Rattle.pw_tree.specs.Symbols.{Symbol}

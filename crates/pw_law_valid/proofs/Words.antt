@@ -1,5 +1,5 @@
 -- Numbers below the limit on tokens are words.
-use Rattle.std.specs.Prelude.{ℕ, ◌<◌, ◌≤◌, ◌^◌, All}
+use Rattle.std.specs.Prelude.{ℕ, ◌≤◌, All}
 use Rattle.std.proofs.Common.{arith}
 use Rattle.pw_token.specs.Limits.{token_limit}
 use Rattle.pw_types.specs.TypedTrees.{Symbol, External, Internal, Hidden, ModuleValue}

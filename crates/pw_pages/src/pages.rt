@@ -45,9 +45,12 @@ impl Pages {
     pub fn blank(alloc: Global, pages: usize) -> Result<Pages, AllocError>
         ensures { IfOk result (λ p. p ≡ zeros (4096 * pages)) }
     {
-        Ok(Pages {
-            pages: vec![in alloc; [0; PAGE]; pages]?,
-        })
+        // A page is put at once; `vec!` clones its words one by one in a program that is compiled without proofs.
+        let mut blank = Vec::with_capacity(alloc, pages)?;
+        for _ in 0..pages {
+            blank.push([0; PAGE])?;
+        }
+        Ok(Pages { pages: blank })
     }
 
     /// The word at an address that is a multiple of 4.

@@ -295,12 +295,12 @@ usage_apart command answer h e = absurd (subst IsNoUsage e h)
 pub no_command : (command : Command) (answer : Answer) → Some command ≡ None → (answer ≡ Usage) ⊎ (answer ≡ NoMemory)
 no_command command answer e = absurd (none_and_some (Some command) command e refl)
 
-first_line : (answer : Answer) → IsLineDue 1 answer 1
+first_line : (answer : Answer) → IsLineDue None answer None
 first_line (Refused name refusal) = refl
 first_line _ = tt
 
 -- an answer of a command that refuses no module
-pub plain_line : (told : Option Told) (answer : Answer) → IfSome told (λ t. IsLineDue 1 answer 1)
+pub plain_line : (told : Option Told) (answer : Answer) → IfSome told (λ t. IsLineDue None answer None)
 plain_line None answer = tt
 plain_line (Some t) answer = first_line answer
 
