@@ -1,6 +1,6 @@
 //! A walk over the points of a function, from the last one back, that notes where temporaries are live.
 
-ghost use Rattle.std.specs.Prelude.{◌≡◌, ◌≢◌, ◌⊎◌, ◌+◌, ◌^◌, ◌<◌, ◌≤◌, ◌↔◌, ℕ, List, [], Some, slice_get, vec_len, IfOk, OnOk};
+ghost use Rattle.std.specs.Prelude.{◌≡◌, ◌≢◌, ◌⊎◌, ◌+◌, ◌^◌, ◌<◌, ◌≤◌, ◌↔◌, ℕ, List, [], Some, None, slice_get, vec_len, IfOk, OnOk};
 ghost use Rattle.pw_live_spans.specs.Spans.{IsIn, Covers};
 
 use pw_items::Items;
@@ -29,10 +29,12 @@ fn put_behind(
 {
     let (low, high) = last;
     if low == to && low <= high {
-        return spans.push((from, high));
+        spans.push((from, high))?;
+        return Ok(());
     }
     spans.push(last)?;
-    spans.push((from, to))
+    spans.push((from, to))?;
+    Ok(())
 }
 
 /// Adds the points from one up to another to spans, the last of which may begin where these end.
@@ -41,8 +43,14 @@ fn cover(spans: &mut Items<(usize, usize)>, from: usize, to: usize) -> Result<()
     ensures { OnOk result ((q : ℕ) → Covers spans.new q ↔ (Covers spans.old q ⊎ ((from ≤ q) × (q < to)))) }
 {
     match spans.pop() {
-        None => spans.push((from, to)),
-        Some(last) => put_behind(spans, last, from, to),
+        None => {
+            spans.push((from, to))?;
+            Ok(())
+        }
+        Some(last) => {
+            put_behind(spans, last, from, to)?;
+            Ok(())
+        }
     }
 }
 
@@ -84,6 +92,18 @@ impl Walk {
         self.place -= 1;
     }
 
+    /// A temporary that is not live is live from here on.
+    fn start(&mut self, t: u32)
+        requires shut { slice_get self.old.ends.items t ≡ Some None }
+        requires room { self.old.place + 1 < 2 ^ 64 }
+        ensures place { self.new.place ≡ self.old.place }
+        ensures count { vec_len self.new.ends ≡ vec_len self.old.ends }
+        ensures marked { (u q : ℕ) → Marked self.new u q ↔ (Marked self.old u q ⊎ ((u ≡ t) × (q ≡ self.old.place))) }
+        ensures opens { (u : ℕ) → IsOpen self.new u ↔ (IsOpen self.old u ⊎ (u ≡ t)) }
+    {
+        self.ends[t as usize] = Some(self.place + 1);
+    }
+
     /// A temporary is live from here on.
     pub fn open_span(&mut self, t: u32)
         requires temp { t < vec_len self.old.ends }
@@ -93,9 +113,23 @@ impl Walk {
         ensures marked { (u q : ℕ) → Marked self.new u q ↔ (Marked self.old u q ⊎ ((u ≡ t) × (q ≡ self.old.place))) }
         ensures opens { (u : ℕ) → IsOpen self.new u ↔ (IsOpen self.old u ⊎ (u ≡ t)) }
     {
-        if self.ends[t as usize].is_none() {
-            self.ends[t as usize] = Some(self.place + 1);
+        match self.ends[t as usize] {
+            Some(_) => (),
+            None => self.start(t),
         }
+    }
+
+    /// A temporary that is live up to a point is not live before here.
+    fn finish(&mut self, t: u32, end: usize) -> Result<(), NoMemory>
+        requires { slice_get self.old.ends.items t ≡ Some (Some end) }
+        ensures place { self.new.place ≡ self.old.place }
+        ensures count { vec_len self.new.ends ≡ vec_len self.old.ends }
+        ensures marked { OnOk result ((u q : ℕ) → Marked self.new u q ↔ Marked self.old u q) }
+        ensures opens { OnOk result ((u : ℕ) → IsOpen self.new u ↔ (IsOpen self.old u × (u ≢ t))) }
+    {
+        cover(&mut self.lists[t as usize], self.place, end)?;
+        self.ends[t as usize] = None;
+        Ok(())
     }
 
     /// A temporary is not live before here.
@@ -106,11 +140,9 @@ impl Walk {
         ensures marked { OnOk result ((u q : ℕ) → Marked self.new u q ↔ Marked self.old u q) }
         ensures opens { OnOk result ((u : ℕ) → IsOpen self.new u ↔ (IsOpen self.old u × (u ≢ t))) }
     {
-        let Some(end) = self.ends[t as usize] else {
-            return Ok(());
-        };
-        cover(&mut self.lists[t as usize], self.place, end)?;
-        self.ends[t as usize] = None;
-        Ok(())
+        match self.ends[t as usize] {
+            Some(end) => self.finish(t, end),
+            None => Ok(()),
+        }
     }
 }
