@@ -1,8 +1,10 @@
 #!/usr/bin/env python3
-"""Compares runs of images by pawc with their runs by qemu-hppa. outside.sh calls it, and says what is compared.
+"""Compares runs of images by pawc, and by the interpreter in C, with their runs by qemu-hppa. outside.sh calls it, and says
+what is compared.
 
-Usage: outside.py FOLDER PAWC IMAGES GROUPS PART [TABLE].. with a folder to work in, the program pawc, how many images of how
-many random groups of instructions are made, and one part in how many of the table's programs and of the rows is taken.
+Usage: outside.py FOLDER PAWC MACHINE IMAGES GROUPS PART [TABLE].. with a folder to work in, the program pawc, the program of
+machine.c, how many images of how many random groups of instructions are made, and one part in how many of the table's
+programs and of the rows is taken.
 A TABLE has a program in JSON on each line: `modules`, texts by name; `input`; and `run` with `end`, `status`, `output` and
 `read`, where `end` is `Ended` or something else, and all characters are bytes.
 """
@@ -69,8 +71,8 @@ def meanings():
 
 
 def rows():
-    """The programs that rows of pw_tests run with no fault: each with the files and the input of its row. What builds by
-    separate commands comes to, which leave files that no text makes, is left out."""
+    """The programs that rows of pw_tests run with no fault and no bound on steps: each with the texts of its modules and its
+    input. Other files of a row, as an image that was put, are left out."""
     files, text, given, whole = {}, b"", b"", True
     for number, row in enumerate((TOP / "crates" / "pw_tests" / "stdin").read_text(encoding="latin-1").splitlines(), 1):
         kind, _, rest = row.partition(" ")
@@ -94,7 +96,7 @@ def rows():
             files.pop(rest, None)
         elif kind == "input":
             given, text = text, b""
-        elif row.startswith("$") and whole and kind == "$" and rest.split(" ")[0] in ("go", "run"):
+        elif kind == "$" and whole and rest.split(" ")[0] in ("go", "run") and "--steps" not in rest:
             modules = {name[:-2]: data for name, data in files.items() if name.endswith(".i")}
             yield Case(f"pw_tests, line {number}", modules, given, rest.split(" ")[1:])
 
@@ -125,8 +127,8 @@ def instructions(count, groups):
 class Comparison:
     """What came of the cases so far: how many agree, how many are not compared and why, and what differs."""
 
-    def __init__(self, folder, pawc):
-        self.folder, self.pawc = folder, pawc
+    def __init__(self, folder, pawc, interpreter):
+        self.folder, self.pawc, self.interpreter = folder, pawc, interpreter
         self.machine = Machine(folder)
         self.lock, self.folders = threading.Lock(), 0
         self.differs = 0
@@ -138,9 +140,14 @@ class Comparison:
         folder.mkdir()
         return folder
 
-    def obey(self, folder, words, given=b""):
-        done = subprocess.run([self.pawc, *words], cwd=folder, input=given, capture_output=True, timeout=300)
+    def obey(self, folder, command, given=b""):
+        done = subprocess.run(command, cwd=folder, input=given, capture_output=True, timeout=600)
         return done.returncode, done.stdout, done.stderr.decode("latin-1").removesuffix("\n")
+
+    def interpreted(self, folder, given):
+        """How the run by the interpreter in C ends, which has no line that tells a full stack, and what it puts out."""
+        status, out, _ = self.obey(folder, [self.interpreter, STEPS, "prog.img"], given)
+        return status, out
 
     def image(self, case, folder):
         """The file of the image, or why there is none."""
@@ -149,8 +156,7 @@ class Comparison:
             return case.file, None
         for name, text in case.modules.items():
             (folder / (name + ".i")).write_bytes(text)
-        options = [word for word in case.options if not word.startswith("--steps")]
-        status, _, line = self.obey(folder, ["build", *options])
+        status, _, line = self.obey(folder, [self.pawc, "build", *case.options])
         return (None, line or status) if status else ((folder / "prog.img").read_bytes(), None)
 
     def compare(self, case):
@@ -160,13 +166,16 @@ class Comparison:
             file, refused = self.image(case, folder)
             if refused:
                 return f"refused: {refused}" if case.known is None else f"DIFFERS: {case.name} is refused: {refused}"
-            status, out, line = self.obey(folder, ["run", "--steps", STEPS], case.given)
+            status, out, line = self.obey(folder, [self.pawc, "run", "--steps", STEPS], case.given)
             if line == "Spent" or line.startswith("Halted"):
                 return "undefined or without an end" if case.known is None else f"DIFFERS: {case.name}: {line}"
             own = (line or status, out)
             other = self.machine.run(file, case.given)
             if own != other[:2]:
                 return f"DIFFERS: {case.name}: pawc {shown(own)}, qemu-hppa {shown(other)}"
+            third = self.interpreted(folder, case.given)
+            if third != (status, out):
+                return f"DIFFERS: {case.name}: pawc {shown(own)}, the interpreter in C {shown(third)}"
             if case.known and any(known not in (None, came) for known, came in zip(case.known, other)):
                 return f"DIFFERS: {case.name}: known {shown(case.known)}, both {shown(other)}"
             return "agrees"
@@ -191,14 +200,15 @@ def shown(run):
 
 
 def main():
-    folder, pawc, count, groups, part = Path(sys.argv[1]), sys.argv[2], *map(int, sys.argv[3:6])
-    comparison = Comparison(folder, pawc)
+    folder, pawc, interpreter = Path(sys.argv[1]), *sys.argv[2:4]
+    count, groups, part = map(int, sys.argv[4:7])
+    comparison = Comparison(folder, pawc, interpreter)
     comparison.all(f"random instructions, {groups} groups an image", instructions(count, groups))
     comparison.all("samples", samples())
     comparison.all("programs of pw_tests_meaning", list(meanings())[::part])
     comparison.all("rows of pw_tests that run a program", list(rows())[::part])
     comparison.all("a made program of 65 modules", made())
-    for path in sys.argv[6:]:
+    for path in sys.argv[7:]:
         comparison.all(f"programs of {path}", list(table(path))[::part])
     sys.exit(comparison.differs > 0)
 

@@ -1,13 +1,12 @@
 -- The tokens of the text, and its tree, by computation.
-use Rattle.std.specs.Prelude.{◌≡◌, ℕ, ◌≤◌, ◌+◌, List, [], ◌∷◌, codes, Ok, refl}
+use Rattle.std.specs.Prelude.{◌≡◌, ℕ, List, [], ◌∷◌, Ok, refl}
 use Rattle.std.proofs.Common.{arith}
-use Rattle.std.specs.List.{AllByRecursion}
 use Rattle.pw_token.specs.Pieces.{longest_at, token_at, piece_at}
 use Rattle.pw_token.specs.Scanning.{integer_suffix_len, digits_len, integer_len, exponent_len, fraction_len, scaled_len, floating_len, literal_len, wide_len, comment_len}
 use Rattle.pw_token.specs.Words.{keyword_of, mark_of, is_keyword, is_mark}
 use Rattle.pw_token.specs.declared.token.Token.{Token}
 use Rattle.pw_token.specs.declared.token.TokenKind.TheVariants.{Identifier, Keyword, Number, Character, Mark}
-use Rattle.pw_tree.specs.Grammar.{IsTreeOf, spelled_all}
+use Rattle.pw_tree.specs.Grammar.{spelled_all}
 use Rattle.pw_tree.specs.Numbering.{NumberedModule, Numbered, NumberedPostfixes, NumberedArguments, NumberedSpecifiers, NumberedDeclarator, NumberedCore, NumberedSuffixes, NumberedParameters, NumberedStmt, NumberedBlock, NumberedStmts}
 use Rattle.pw_tree.specs.Spelling.{spell_expr, spell_postfixes, spell_arguments, spell_specifiers, spell_declarator, spell_core, spell_suffixes, spell_parameters, spell_stmt, spell_block, spell_stmts, spelling}
 use Rattle.pw_tree.specs.Scopes.{after_expr, after_postfixes, after_arguments, after_specifiers, after_declarator, after_core, after_suffixes, after_stmt}

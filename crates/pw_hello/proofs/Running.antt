@@ -1,11 +1,11 @@
 -- What the program does, by the meaning of C, where its frames have room.
-use Rattle.std.specs.Prelude.{◌≡◌, ℕ, suc, ◌+◌, ◌%◌, ◌≤◌, false, nat_lt, Some, None, List, [], ◌∷◌, ◌++◌, codes}
+use Rattle.std.specs.Prelude.{◌≡◌, ℕ, suc, ◌+◌, ◌%◌, ◌≤◌, false, nat_lt, Some, List, [], ◌∷◌, ◌++◌}
 use Rattle.std.proofs.Common.{arith, ap, refl, le-ltb, ◌∙◌}
 use Rattle.pw_value.specs.declared.value.Value.TheVariants as V
 use Rattle.pw_value.specs.ProgramNames.{start_name, main_name, putchar_name}
-use Rattle.pw_types.specs.TypedTrees.{External, Node, Call, Number, OneExpression, NoExpression, Evaluate, Statements, OneStatement, NoStatement, Return, FunctionValue}
+use Rattle.pw_types.specs.TypedTrees.{Node, Number, Statements, OneStatement, NoStatement, Return}
 use Rattle.pw_types.specs.Labels.{labels_among}
-use Rattle.pw_cmean.specs.Worlds.{Program, ProgramModule, World, PutChar, library_callable, Defined, depth}
+use Rattle.pw_cmean.specs.Worlds.{World, PutChar, library_callable, Defined, depth}
 use Rattle.pw_cmean.specs.Acts.{State, Outcome, Gives, Ends, Exit, StackFull, go_on, ◌>>=◌, give, stop, branch, look, need, put_char, during, called, returned, Called, Returned, Bound, ◌>>◌}
 use Rattle.pw_cmean.specs.Evaluation.{Env, Calls, site, take_room, library_call, call_body, call, bounded_call, answer_of, values_of, used}
 use Rattle.pw_cmean.specs.Execution.{Normal, Front, At_label, Returns, Flow, meaning, items, go_forward, caught, taking_up, with_locals, initialise_all, value_of}

@@ -1,5 +1,5 @@
 -- A program of one module: its text, its syntax tree, its typed tree, and what it does.
-use Rattle.std.specs.Prelude.{ℕ, ◌+◌, false, true, Some, None, List, [], ◌∷◌, codes}
+use Rattle.std.specs.Prelude.{ℕ, ◌+◌, false, Some, None, List, [], ◌∷◌, codes}
 use Rattle.pw_tree.specs.declared.expr.BasicType.TheVariants as W
 use Rattle.pw_tree.specs.Trees as S
 use Rattle.pw_types.specs.declared.kind.IntKind.TheVariants as K

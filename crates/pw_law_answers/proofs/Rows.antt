@@ -53,7 +53,7 @@ none_in_row n P small none =
     let long : length items ≡ div_ceil n 64 = length-replicate (div_ceil n 64) 0 in
     let fits : length items < 2 ^ 63 = let few = few_words n small in omega (arith, long, few) in
     let words = words_of items fits in
-    let are : words.items ≡ items = words_are items fits in
+    let are : ◌≡◌ {A = List ℕ} words.items items = words_are items fits in
     let empty : (k : ℕ) → HasBit words.items k → ⊥ = λ k h. no_bit (div_ceil n 64) k (subst (λ (ws : List ℕ). HasBit ws k) are h) in
     record {
       row = record { len = n; words = words; enough = ap length are ∙ long; unused = λ i le. empty i };
@@ -72,7 +72,7 @@ one_more_in_row n P Q i small lt more old =
     let enough : length items ≡ div_ceil old.row.len 64 = same ∙ old.row.enough in
     let fits : length items < 2 ^ 63 = let few = few_words old.row.len (let long = old.long in omega (arith, small, long)) in omega (arith, enough, few) in
     let words = words_of items fits in
-    let are : words.items ≡ items = words_are items fits in
+    let are : ◌≡◌ {A = List ℕ} words.items items = words_are items fits in
     let bits : (k : ℕ) → HasBit words.items k ↔ ((k ≡ i) ⊎ HasBit ws k) = λ k. subst (λ (xs : List ℕ). HasBit xs k ↔ ((k ≡ i) ⊎ HasBit ws k)) (sym are) (set_bit ws i k there) in
     record {
       row = record { len = old.row.len; words = words; enough = ap length are ∙ enough; unused = λ k le h. elim ((bits k).0 h) [ inl e ↦ omega (arith, le, e, within) | inr b ↦ old.row.unused k le b ] };

@@ -1,0 +1,5 @@
+pub mod ActLaws
+pub mod LeadLaws
+pub mod Firsts
+pub mod Splits
+pub mod Resumes
