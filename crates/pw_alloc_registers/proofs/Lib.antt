@@ -1,0 +1,12 @@
+mod Besides
+mod Looking
+mod Takers
+mod Giving
+mod Masking
+mod Choosing
+mod Turns
+mod Sorting
+mod Ranking
+mod Counting
+mod Lawful
+mod Placing

@@ -1,0 +1,4 @@
+pub mod Makers
+pub mod Masks
+pub mod Knowing
+pub mod Ordering

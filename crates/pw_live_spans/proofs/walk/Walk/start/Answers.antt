@@ -1,0 +1,9 @@
+use Rattle.std.proofs.Common.{refl}
+use Rattle.pw_live_spans.proofs.Walking.{open_marks, open_opens}
+use Rattle.pw_live_spans.proofs.walk.Walk.start.Goals as goal
+
+pub returns-clause-marked : goal.returns-clause-marked
+returns-clause-marked c = open_marks c.args.self.now _ c.args.t refl refl c.requires.shut refl
+
+pub returns-clause-opens : goal.returns-clause-opens
+returns-clause-opens c = open_opens c.args.self.now _ c.args.t refl refl c.requires.shut refl
