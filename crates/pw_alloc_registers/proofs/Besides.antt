@@ -41,11 +41,11 @@ not_true false e = refl
 
 -- ---- what an operation writes
 
-that_is : (o : Option ℕ) (t : ℕ) → is_that o t ≡ true → o ≡ Some t
+pub that_is : (o : Option ℕ) (t : ℕ) → is_that o t ≡ true → o ≡ Some t
 that_is None t e = absurd cc
 that_is (Some d) t e = ap Some (eqb-true d t e)
 
-is_that_one : (o : Option ℕ) (t : ℕ) → o ≡ Some t → is_that o t ≡ true
+pub is_that_one : (o : Option ℕ) (t : ℕ) → o ≡ Some t → is_that o t ≡ true
 is_that_one o t e = ap (λ (p : Option ℕ). is_that p t) e ∙ eq-eqb t t refl
 
 made : (o : Option Act) (t : ℕ) → writes o t ≡ is_that (made_by o) t

@@ -1,12 +1,14 @@
 -- The first register that a temporary may have and that is not taken, by sets of registers.
-use Rattle.std.proofs.Common.{◌≡◌, ◌⊎◌, ℕ, ◌==◌, ◌||◌, not, Bool, true, false, cond, List, [], ◌∷◌, refl, sym, ap, ◌∙◌, inl, inr}
+use Rattle.std.proofs.Common.{◌≡◌, ◌⊎◌, ℕ, suc, ◌+◌, ◌-◌, ◌<◌, ◌≤◌, ◌==◌, ◌||◌, not, Bool, true, false, cond, List, [], ◌∷◌, ◌++◌, refl, sym, ap, ◌∙◌, arith, inl, inr}
 use Rattle.std.specs.Prelude.{Option, None, Some, filter, ◌↔◌}
+use Rattle.std.specs.Option.{option_or}
 use Rattle.std.specs.Int.{bit_at}
-use Rattle.std.specs.List.{find}
+use Rattle.std.specs.List.{find, range_with_len}
 use Rattle.std.proofs.lemmas.Bool.{eqb-true, eq-eqb, or_cases, or_left, or_right}
+use Rattle.std.proofs.lemmas.List.Folds.{find-append}
 use Rattle.pw_alloc_registers.specs.Masks.{in_mask, HasRegister}
 
-same_test : (x y : Bool) → (x ≡ true → y ≡ true) → (y ≡ true → x ≡ true) → x ≡ y
+pub same_test : (x y : Bool) → (x ≡ true → y ≡ true) → (y ≡ true → x ≡ true) → x ≡ y
 same_test true y there back = sym (there refl)
 same_test false true there back = back refl
 same_test false false there back = refl
@@ -34,3 +36,25 @@ pub find_left : (away barred taken : ℕ → Bool) (xs : List ℕ) → ((r : ℕ
 find_left away barred taken [] all = refl
 find_left away barred taken (x ∷ xs) all =
     find_step taken x (filter (λ r. not (barred r)) xs) (find (λ r. not (away r)) xs) (away x) (barred x) (taken x) (all x) refl (find_left away barred taken xs all)
+
+-- ---- registers one behind the other
+
+pub find_here : (p : ℕ → Bool) (r to : ℕ) → r < to → p r ≡ true → find p (range_with_len r (to - r)) ≡ Some r
+find_here p r to lt e =
+    let more : to - r ≡ suc (to - (r + 1)) = omega (arith, lt) in
+    ap (λ (n : ℕ). find p (range_with_len r n)) more ∙ ap (λ (b : Bool). cond b (Some r) (find p (range_with_len (r + 1) (to - (r + 1))))) e
+
+pub find_next : (p : ℕ → Bool) (r to : ℕ) → r < to → p r ≡ false → find p (range_with_len r (to - r)) ≡ find p (range_with_len (r + 1) (to - (r + 1)))
+find_next p r to lt e =
+    let more : to - r ≡ suc (to - (r + 1)) = omega (arith, lt) in
+    ap (λ (n : ℕ). find p (range_with_len r n)) more ∙ ap (λ (b : Bool). cond b (Some r) (find p (range_with_len (r + 1) (to - (r + 1))))) e
+
+pub find_end : (p : ℕ → Bool) (r to : ℕ) → to ≤ r → find p (range_with_len r (to - r)) ≡ None
+find_end p r to le = let none : to - r ≡ 0 = omega (arith, le) in ap (λ (n : ℕ). find p (range_with_len r n)) none
+
+-- those of one list and then those of another
+pub find_first : (p : ℕ → Bool) (xs ys : List ℕ) (r : ℕ) → find p xs ≡ Some r → find p (xs ++ ys) ≡ Some r
+find_first p xs ys r e = find-append p xs ys ∙ ap (λ (o : Option ℕ). option_or o (find p ys)) e
+
+pub find_second : (p : ℕ → Bool) (xs ys : List ℕ) → find p xs ≡ None → find p (xs ++ ys) ≡ find p ys
+find_second p xs ys e = find-append p xs ys ∙ ap (λ (o : Option ℕ). option_or o (find p ys)) e

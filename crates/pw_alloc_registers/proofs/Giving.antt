@@ -10,7 +10,7 @@ use Rattle.pw_files.proofs.Standing.{Has, has_by, contains_by}
 use Rattle.pw_flow.specs.Outline.{Outline}
 use Rattle.pw_live_spans.specs.Spans.{Covers}
 use Rattle.pw_live_spans.specs.LivePoints.{LivesFrom}
-use Rattle.pw_alloc_registers.specs.Masks.{HasRegister}
+use Rattle.pw_alloc_registers.specs.Masks.{HasRegister, AreRegisters}
 use Rattle.pw_alloc_temps.specs.Registers.{register_of}
 use Rattle.pw_alloc_registers.specs.Knowing.{AreGiven}
 use Rattle.pw_alloc_registers.specs.declared.colouring.Given.{Given}
@@ -140,3 +140,12 @@ given_none f v points registers occupied params = record {
   );
   params = λ k. (λ h. absurd (empty v.params k params h), λ h. absurd (let clash = h.2 in cc));
 }
+
+pub registers_none : (registers : List (Option ℕ)) (n : ℕ) → registers ≡ replicate n None → AreRegisters registers
+registers_none registers n is t r e = absurd (let clash = (nones n t (Some r) (ap (λ (rs : List (Option ℕ)). slice_get rs t) (sym is) ∙ e)).1 in cc)
+
+pub registers_with : (registers : List (Option ℕ)) (t r : ℕ) → r < 32 → AreRegisters registers → AreRegisters (set registers t (Some r))
+registers_with registers t r lt low u k e = elim (set_cases registers t u (Some r) (Some k) e) [
+  | inl h ↦ let same : k ≡ r = same_Some k r h.1 in omega (arith, same, lt)
+  | inr h ↦ low u k h.1
+]

@@ -10,3 +10,7 @@ mod Ranking
 mod Counting
 mod Lawful
 mod Placing
+mod Defining
+mod Pointing
+mod Calling
+mod Knowledge

@@ -7,7 +7,7 @@ use Rattle.std.specs.Cmp.{IsStrictWeakOrder}
 use Rattle.std.specs.Ordering.{nat_cmp, is_lt}
 use Rattle.std.proofs.lemmas.Bool.{cases_eq}
 use Rattle.std.proofs.lemmas.Cmp.{nat_cmp_total, ranked, by_ranked, tied_itself, tied_back}
-use Rattle.std.proofs.lemmas.List.{take_more}
+use Rattle.std.proofs.lemmas.List.{take_more, length-take-le}
 use Rattle.std.proofs.lemmas.List.Sorted.{ranks_by, IsStrictWeakOrder-flip, sorted_far, IsPermutation-sym, Contains-permutation}
 use Rattle.pw_files.proofs.Standing.{Has, has_by, has_each, each_by, contains_by, has_map, has_map_back}
 use Rattle.pw_db.specs.Database.{EachTwo}
@@ -103,6 +103,14 @@ numbered_more t [] w = let z : t ≡ t + 0 = omega arith in ap (λ (n : ℕ). (r
 numbered_more t (x ∷ ws) w =
     let s : suc t + length ws ≡ t + suc (length ws) = omega arith in
     ap (λ (rest : List Weighed). (record { temp = t; weight = x }) ∷ rest) (numbered_more (suc t) ws w ∙ ap (λ (n : ℕ). numbered (suc t) ws ++ (record { temp = n; weight = w }) ∷ []) s)
+
+pub numbered_next : (ws : List ℕ) (k w : ℕ) (cur new : List Weighed) → k < length ws → w ≡ get_or ws k w → new ≡ cur ++ (record { temp = k; weight = w }) ∷ [] → cur ≡ numbered 0 (take k ws) → new ≡ numbered 0 (take (k + 1) ws)
+numbered_next ws k w cur new lt is now before =
+    let some : length (take k ws) ≡ k = length-take-le k ws (omega (arith, lt)) in
+    let more : numbered 0 (take (k + 1) ws) ≡ numbered 0 (take k ws) ++ (record { temp = k; weight = w }) ∷ [] =
+    ap (numbered 0) (take_more ws k w lt ∙ ap (λ (x : ℕ). take k ws ++ x ∷ []) (sym is)) ∙ numbered_more 0 (take k ws) w
+    ∙ ap (λ (n : ℕ). numbered 0 (take k ws) ++ (record { temp = n; weight = w }) ∷ []) some in
+    now ∙ ap (λ (xs : List Weighed). xs ++ (record { temp = k; weight = w }) ∷ []) before ∙ sym more
 
 numbered_between : (t : ℕ) (ws : List ℕ) (w : Weighed) → Has w (numbered t ws) → (t ≤ w.temp) × (w.temp < t + length ws)
 numbered_between t [] w h = absurd h

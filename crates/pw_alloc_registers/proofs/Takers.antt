@@ -1,7 +1,6 @@
 -- The registers that are taken for a temporary are those of temporaries that have got one and interfere.
 use Rattle.std.proofs.Common.{◌≡◌, ◌≢◌, ◌⊎◌, ℕ, ◌<◌, ◌==◌, ◌&&◌, Bool, true, List, [], ◌∷◌, length, map, refl, sym, ap, subst, ◌∙◌, arith, inl, inr}
-use Rattle.std.specs.Prelude.{Option, None, Some, Vec, slice_get, slice_index, Contains, ◌↔◌}
-use Rattle.std.specs.declared.alloc.Global.{Global}
+use Rattle.std.specs.Prelude.{Option, None, Some, slice_get, slice_index, Contains, ◌↔◌}
 use Rattle.std.specs.List.{list_any}
 use Rattle.std.proofs.lemmas.Bool.{or_cases, or_left, or_right, and_from, eqb-true, eq-eqb}
 use Rattle.std.proofs.lemmas.Option.{same_Some, slice_get_within}
@@ -73,8 +72,8 @@ module _ (f : Outline) (gs : List (ℕ × ℕ)) (given : Given) (facts : Facts) 
 
   -- ---- of temporaries that are live where it is written
 
-  pub behind_are : (row : Vec ℕ Global) → slice_get facts.definitions.items t ≡ Some row
-      → IsOccupiedBehind row.items given.occupied.items r ↔ ((u : ℕ) × (register_of gs u ≡ Some r) × (written_beside f t u ≡ true))
+  pub behind_are : (row : List ℕ) → slice_get facts.definitions.items t ≡ Some row
+      → IsOccupiedBehind row given.occupied.items r ↔ ((u : ℕ) × (register_of gs u ≡ Some r) × (written_beside f t u ≡ true))
   behind_are row at = (
     λ h.
         let p = h.0 in

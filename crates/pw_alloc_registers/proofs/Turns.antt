@@ -10,7 +10,7 @@ use Rattle.pw_flow.specs.Outline.{Outline}
 use Rattle.pw_alloc_temps.specs.Weights.{by_weight}
 use Rattle.pw_alloc_temps.specs.Registers.{allowed, is_taken, with_register, given_to, given, register_of, registers_from, registers}
 use Rattle.pw_alloc_registers.proofs.Looking.{has_register}
-use Rattle.pw_alloc_registers.proofs.Sorting.{Before, never_both, in_order}
+use Rattle.pw_alloc_registers.proofs.Sorting.{Before, never_both, in_order, has_between}
 
 given_step : (f : Outline) (ws xs : List ℕ) (t : ℕ) (gs : List (ℕ × ℕ))
     → given_to f ws (xs ++ t ∷ []) gs ≡ with_register t (find (λ r. not (is_taken f (given_to f ws xs gs) t r)) (allowed f ws t)) (given_to f ws xs gs)
@@ -64,6 +64,19 @@ none_yet f ws k t lt is =
         | inr h ↦ absurd h
       ]
     ]
+
+-- those of the order are temporaries of the function
+pub ordered_below : (f : Outline) (xs : List ℕ) (k t : ℕ) → xs ≡ by_weight f 0 f.temps → slice_get xs k ≡ Some t → t < f.temps
+ordered_below f xs k t is at =
+    let there : slice_get (by_weight f 0 f.temps) k ≡ Some t = ap (λ (ys : List ℕ). slice_get ys k) (sym is) ∙ at in
+    let b = has_between f 0 f.temps t (at_has (by_weight f 0 f.temps) k t there) in
+    let high = b.1 in
+    omega (arith, high)
+  where
+    at_has : (ys : List ℕ) (k t : ℕ) → slice_get ys k ≡ Some t → Has t ys
+    at_has [] k t e = absurd cc
+    at_has (y ∷ ys) zero t e = inl (same_Some y t e)
+    at_has (y ∷ ys) (suc k) t e = inr (at_has ys k t e)
 
 -- ---- at the end
 

@@ -1,6 +1,5 @@
 -- What is known of temporaries before they get registers, and while they get them.
-use Rattle.std.specs.Prelude.{ℕ, ◌≡◌, ◌<◌, ◌↔◌, Some, Vec, List, length, map, slice_get, slice_index, vec_len, Contains}
-use Rattle.std.specs.declared.alloc.Global.{Global}
+use Rattle.std.specs.Prelude.{ℕ, ◌≡◌, ◌<◌, ◌↔◌, Some, List, length, map, slice_get, slice_index, vec_len, Contains}
 use Rattle.pw_flow.specs.Outline.{Outline}
 use Rattle.pw_live.specs.Points.{points}
 use Rattle.pw_live_spans.specs.LivePoints.{LivesFrom}
@@ -16,7 +15,7 @@ pub record AreFacts (f : Outline) (v : Facts) : Type 0 where
   pub makers : v.makers.items ≡ map maker (points f)
   pub calls : v.calls.items ≡ map calls (points f)
   pub count : vec_len v.definitions ≡ f.temps
-  pub definitions : (t p : ℕ) (row : Vec ℕ Global) → slice_get v.definitions.items t ≡ Some row → Contains row.items p ↔ (slice_get v.makers.items p ≡ Some (Some t))
+  pub definitions : (t p : ℕ) (row : List ℕ) → slice_get v.definitions.items t ≡ Some row → Contains row p ↔ (slice_get v.makers.items p ≡ Some (Some t))
 
 -- there is a place for each temporary and for each point
 pub record AreSized (f : Outline) (v : Given) : Type 0 where

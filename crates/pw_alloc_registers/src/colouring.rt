@@ -1,11 +1,11 @@
 //! The registers of temporaries: each in turn gets the first that it may have and that is not taken.
 
-ghost use Rattle.std.specs.Prelude.{◌≡◌, ◌||◌, ◌<◌, ◌-◌, ◌↔◌, not, ℕ, [], List, None, Some, true, length, slice_get, slice_index, vec_len, All, IsTrue, IfOk};
+ghost use Rattle.std.specs.Prelude.{◌≡◌, ◌⊎◌, ◌<◌, ◌-◌, ◌↔◌, not, ℕ, [], List, None, Some, true, false, length, slice_index, vec_len, IsTrue, IfOk, IfSome};
 ghost use Rattle.std.specs.List.{find, range_with_len};
 ghost use Rattle.pw_live_fronts.specs.Blocks.{IsOutline};
 ghost use Rattle.pw_live.specs.Liveness.{has};
 ghost use Rattle.pw_live.specs.Points.{points};
-ghost use Rattle.pw_live_spans.specs.Spans.{Covers};
+ghost use Rattle.pw_live_spans.specs.Spans.{IsIn, Covers};
 ghost use Rattle.pw_live_spans.specs.LivePoints.{LivesFrom};
 ghost use Rattle.pw_alloc_registers.specs.Masks.{in_mask, HasRegister};
 ghost use Rattle.pw_alloc_registers.specs.Knowing.{AreFacts, AreSized, AreGiven};
@@ -52,7 +52,8 @@ impl Given {
 /// The first of some registers that is not in a set.
 fn first_in(away: u32, from: u8, to: u8) -> Option<u8>
     requires { to < 32 }
-    ensures { result ≡ find (λ r. not (in_mask away r)) (range_with_len from (to - from)) }
+    ensures first { result ≡ find (λ r. not (in_mask away r)) (range_with_len from (to - from)) }
+    ensures low { IfSome result (λ r. r < 32) }
 {
     for r in from..to {
         if !has_register(away, r) {
@@ -62,25 +63,42 @@ fn first_in(away: u32, from: u8, to: u8) -> Option<u8>
     None
 }
 
-/// The first of the registers of temporaries that is not in a set: over calls one that a callee keeps.
-fn first_free(held: bool, away: u32) -> Option<u8>
-    ensures { result ≡ find (λ r. not (in_mask away r)) (of_temporaries held) }
+/// The first of the registers of temporaries that is not in a set, those first that calls may change.
+fn first_of_all(away: u32) -> Option<u8>
+    ensures first { result ≡ find (λ r. not (in_mask away r)) (of_temporaries false) }
+    ensures low { IfSome result (λ r. r < 32) }
 {
-    if held {
-        return first_in(away, FIRST_REGISTER, LAST_REGISTER + 1);
-    }
     match first_in(away, LAST_REGISTER + 1, LAST_TEMPORARY + 1) {
         Some(r) => Some(r),
         None => first_in(away, FIRST_REGISTER, LAST_REGISTER + 1),
     }
 }
 
+/// The first of the registers of temporaries that is not in a set: over calls one that a callee keeps.
+fn first_free(held: bool, away: u32) -> Option<u8>
+    ensures first { result ≡ find (λ r. not (in_mask away r)) (of_temporaries held) }
+    ensures low { IfSome result (λ r. r < 32) }
+{
+    if held {
+        first_in(away, FIRST_REGISTER, LAST_REGISTER + 1)
+    } else {
+        first_of_all(away)
+    }
+}
+
+/// Whether a span has the first point.
+fn has_first(span: (usize, usize)) -> bool
+    ensures { IsTrue result ↔ IsIn span 0 }
+{
+    span.0 == 0 && span.1 > 0
+}
+
 /// Whether a temporary is live where the function starts.
 fn is_live_at_start(spans: &[(usize, usize)]) -> bool
     ensures { IsTrue result ↔ Covers spans.now 0 }
 {
-    for &(from, to) in spans {
-        if from == 0 && to > 0 {
+    for place in 0..spans.len() {
+        if has_first(spans[place]) {
             return true;
         }
     }
@@ -108,10 +126,25 @@ fn taken(given: &Given, facts: &Facts, f: &Outline, t: u32) -> u32
     points_stand_by_number();
     let spans = facts.spans.of(t);
     let beside = made_beside(spans, &facts.makers, &given.registers);
-    let behind = occupied_behind(&facts.definitions[t as usize], &given.occupied);
+    let row = facts.definitions[t as usize].as_slice();
+    let behind = occupied_behind(row, &given.occupied);
     let start = at_start(&given.occupied);
-    let first = taken_at_start(t < f.params(), is_live_at_start(spans), given.params, start);
-    both(both(beside, behind), first)
+    let is_live = is_live_at_start(spans);
+    let first = taken_at_start(t < f.params(), is_live, given.params, start);
+    let written = both(beside, behind);
+    both(written, first)
+}
+
+/// A set with one more register, where it is that of a parameter.
+fn with_param(params: u32, is_param: bool, r: u8) -> u32
+    requires { r < 32 }
+    ensures { (k : ℕ) → HasRegister result k ↔ (HasRegister params k ⊎ ((is_param ≡ true) × (k ≡ r))) }
+{
+    if is_param {
+        with_register(params, r)
+    } else {
+        params
+    }
 }
 
 /// Gives a register to a temporary that has none.
@@ -124,11 +157,10 @@ fn give(given: &mut Given, facts: &Facts, f: &Outline, t: u32, r: u8)
     ensures given { (gs : List (ℕ × ℕ)) → AreGiven f.now gs given.old → register_of gs t ≡ None → AreGiven f.now (with_register t (Some r) gs) given.new }
 {
     points_stand_by_number();
+    let params = with_param(given.params, t < f.params(), r);
+    given.params = params;
     given.registers[t as usize] = Some(r);
     occupy(&mut given.occupied, facts.spans.of(t), r);
-    if t < f.params() {
-        given.params = with_register(given.params, r);
-    }
 }
 
 /// Gives a temporary the first register that it may have and that is not taken, if there is one.
@@ -143,7 +175,8 @@ fn colour(given: &mut Given, facts: &Facts, f: &Outline, webs: u32, t: u32)
 {
     let taken = taken(given, facts, f, t);
     let held = is_held(facts, f, t);
-    match first_free(held, both(webs, taken)) {
+    let away = both(webs, taken);
+    match first_free(held, away) {
         Some(r) => give(given, facts, f, t, r),
         None => (),
     }
@@ -157,8 +190,8 @@ pub(crate) fn registers(alloc: Global, f: &Outline, webs: u32) -> Result<Vec<Opt
     let facts = find_facts(alloc, f)?;
     let order = ordered(alloc, f)?;
     let mut given = Given::new(alloc, f, facts.makers.len())?;
-    for &t in &order {
-        colour(&mut given, &facts, f, webs, t);
+    for place in 0..order.len() {
+        colour(&mut given, &facts, f, webs, order[place]);
     }
     let Given {
         registers,

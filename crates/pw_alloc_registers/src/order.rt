@@ -24,11 +24,10 @@ fn with_weights(alloc: Global, weights: &[u64]) -> Result<Vec<Weighed>, NoMemory
     ensures { IfOk result (λ v. v.items ≡ numbered 0 weights.now) }
 {
     let mut all = Vec::with_capacity(alloc, weights.len())?;
-    for temp in 0..weights.len() {
-        all.push(Weighed {
-            temp: temp as u32,
-            weight: weights[temp],
-        })?;
+    for place in 0..weights.len() {
+        let temp = place as u32;
+        let weight = weights[place];
+        all.push(Weighed { temp, weight })?;
     }
     Ok(all)
 }
@@ -61,6 +60,8 @@ pub(crate) fn ordered(alloc: Global, f: &Outline) -> Result<Vec<u32>, NoMemory>
     ensures { IfOk result (λ v. v.items ≡ by_weight f.now 0 f.now.temps) }
 {
     let weights = weigh(alloc, f)?;
-    let all = sorted(with_weights(alloc, &weights)?)?;
-    temps_of(alloc, &all)
+    let weighed = with_weights(alloc, &weights)?;
+    let all = sorted(weighed)?;
+    let temps = temps_of(alloc, &all)?;
+    Ok(temps)
 }

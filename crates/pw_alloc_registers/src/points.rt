@@ -7,38 +7,46 @@ ghost use Rattle.pw_alloc_registers.specs.Makers.{maker, calls};
 use pw_live_fronts::{Outline, Stretch};
 use std::alloc::{AllocError as NoMemory, Global};
 
-/// Of each point what the operation directly before it writes, and whether that is a call.
-#[derive(Drop)]
-pub(crate) struct Points {
-    pub makers: Vec<Option<u32>>,
-    pub calls: Vec<bool>,
-}
-
-/// Adds the points of a block.
-fn add_block(points: &mut Points, block: &Stretch) -> Result<(), NoMemory>
-    ensures makers { OnOk result (points.new.makers.items ≡ points.old.makers.items ++ map maker (points_in block.now)) }
-    ensures calls { OnOk result (points.new.calls.items ≡ points.old.calls.items ++ map calls (points_in block.now)) }
+/// Adds the temporaries that are written directly before the points of a block.
+fn add_makers(makers: &mut Vec<Option<u32>>, block: &Stretch) -> Result<(), NoMemory>
+    ensures { OnOk result (makers.new.items ≡ makers.old.items ++ map maker (points_in block.now)) }
 {
-    points.makers.push(None)?;
-    points.calls.push(false)?;
+    makers.push(None)?;
     for act in block.acts() {
-        points.makers.push(act.defines())?;
-        points.calls.push(act.calls())?;
+        makers.push(act.defines())?;
     }
     Ok(())
 }
 
-/// The points of a function.
-pub(crate) fn find_points(alloc: Global, f: &Outline) -> Result<Points, NoMemory>
-    ensures makers { IfOk result (λ v. v.makers.items ≡ map maker (points f.now)) }
-    ensures calls { IfOk result (λ v. v.calls.items ≡ map calls (points f.now)) }
+/// Of each point the temporary that the operation directly before it writes.
+pub(crate) fn find_makers(alloc: Global, f: &Outline) -> Result<Vec<Option<u32>>, NoMemory>
+    ensures { IfOk result (λ v. v.items ≡ map maker (points f.now)) }
 {
-    let mut points = Points {
-        makers: Vec::new(alloc),
-        calls: Vec::new(alloc),
-    };
+    let mut makers = Vec::new(alloc);
     for block in f.blocks() {
-        add_block(&mut points, block)?;
+        add_makers(&mut makers, block)?;
     }
-    Ok(points)
+    Ok(makers)
+}
+
+/// Adds whether there are calls directly before the points of a block.
+fn add_calls(all: &mut Vec<bool>, block: &Stretch) -> Result<(), NoMemory>
+    ensures { OnOk result (all.new.items ≡ all.old.items ++ map calls (points_in block.now)) }
+{
+    all.push(false)?;
+    for act in block.acts() {
+        all.push(act.calls())?;
+    }
+    Ok(())
+}
+
+/// Of each point whether the operation directly before it calls.
+pub(crate) fn find_calls(alloc: Global, f: &Outline) -> Result<Vec<bool>, NoMemory>
+    ensures { IfOk result (λ v. v.items ≡ map calls (points f.now)) }
+{
+    let mut all = Vec::new(alloc);
+    for block in f.blocks() {
+        add_calls(&mut all, block)?;
+    }
+    Ok(all)
 }

@@ -1,11 +1,23 @@
 //! Registers that are taken where a temporary is live and where it is written.
 
-ghost use Rattle.std.specs.Prelude.{◌≡◌, ◌⊎◌, ◌≤◌, ◌<◌, ◌↔◌, ℕ, true, Some, length, slice_index, All, IfSome};
+ghost use Rattle.std.specs.Prelude.{◌≡◌, ◌⊎◌, ◌≤◌, ◌<◌, ◌↔◌, ℕ, true, Some, length, slice_get, slice_index, All, IfSome};
 ghost use Rattle.pw_live_spans.specs.Spans.{Covers};
 ghost use Rattle.pw_alloc_registers.specs.Masks.{HasRegister, AreRegisters, IsOfMaker, IsMadeWithin, IsMadeBeside, IsOccupiedBehind};
 ghost use Rattle.pw_alloc_registers.specs.Makers.{AreBelow};
 
 use crate::masks::{both, with_register};
+
+/// A set with the register of a temporary, if it has got one.
+fn with_register_of(mask: u32, registers: &[Option<u8>], t: usize) -> u32
+    requires temp { t < length registers.now }
+    requires registers { AreRegisters registers.now }
+    ensures { (k : ℕ) → HasRegister result k ↔ (HasRegister mask k ⊎ (slice_get registers.now t ≡ Some (Some k))) }
+{
+    match registers[t] {
+        Some(r) => with_register(mask, r),
+        None => mask,
+    }
+}
 
 /// A set with the register of the temporary that is written, if one is and has got one.
 fn with_maker(mask: u32, maker: Option<u32>, registers: &[Option<u8>]) -> u32
@@ -13,13 +25,10 @@ fn with_maker(mask: u32, maker: Option<u32>, registers: &[Option<u8>]) -> u32
     requires registers { AreRegisters registers.now }
     ensures { (k : ℕ) → HasRegister result k ↔ (HasRegister mask k ⊎ IsOfMaker registers.now maker k) }
 {
-    let Some(t) = maker else {
-        return mask;
-    };
-    let Some(r) = registers[t as usize] else {
-        return mask;
-    };
-    with_register(mask, r)
+    match maker {
+        Some(t) => with_register_of(mask, registers, t as usize),
+        None => mask,
+    }
 }
 
 /// A set with the registers of the temporaries that are written before the points of a span.
@@ -53,8 +62,8 @@ pub(crate) fn made_beside(
     ensures { (k : ℕ) → HasRegister result k ↔ IsMadeBeside makers.now registers.now spans.now k }
 {
     let mut beside = 0;
-    for &span in spans {
-        beside = with_span(beside, span, makers, registers);
+    for place in 0..spans.len() {
+        beside = with_span(beside, spans[place], makers, registers);
     }
     beside
 }
@@ -65,7 +74,8 @@ pub(crate) fn occupied_behind(definitions: &[usize], occupied: &[u32]) -> u32
     ensures { (k : ℕ) → HasRegister result k ↔ IsOccupiedBehind definitions.now occupied.now k }
 {
     let mut behind = 0;
-    for &p in definitions {
+    for place in 0..definitions.len() {
+        let p = definitions[place];
         behind = both(behind, occupied[p]);
     }
     behind
@@ -93,7 +103,8 @@ fn occupy_span(occupied: &mut [u32], span: (usize, usize), r: u8)
     ensures each { (p k : ℕ) → HasRegister (slice_index occupied.new p) k ↔ (HasRegister (slice_index occupied.old p) k ⊎ ((span.0 ≤ p) × (p < span.1) × (k ≡ r))) }
 {
     for p in span.0..span.1 {
-        occupied[p] = with_register(occupied[p], r);
+        let mask = with_register(occupied[p], r);
+        occupied[p] = mask;
     }
 }
 
@@ -104,7 +115,7 @@ pub(crate) fn occupy(occupied: &mut [u32], spans: &[(usize, usize)], r: u8)
     ensures length { length occupied.new ≡ length occupied.old }
     ensures each { (p k : ℕ) → HasRegister (slice_index occupied.new p) k ↔ (HasRegister (slice_index occupied.old p) k ⊎ (Covers spans.now p × (k ≡ r))) }
 {
-    for &span in spans {
-        occupy_span(occupied, span, r);
+    for place in 0..spans.len() {
+        occupy_span(occupied, spans[place], r);
     }
 }

@@ -7,14 +7,17 @@ ghost use Rattle.pw_alloc_temps.specs.Weights.{counted_in, depth_limit, weight_i
 use pw_live_fronts::{Act, Outline, Stretch};
 use std::alloc::{AllocError as NoMemory, Global};
 
-/// From that depth on deeper loops count no more.
-const DEPTH_LIMIT: u32 = 4;
-
-/// What a use or a definition inside so many loops counts.
+/// What a use or a definition inside so many loops counts: 8 for each, up to the fourth.
 fn factor(depth: u32) -> u64
-    ensures value { result ≡ 8 ^ (min depth_limit depth) }
+    ensures { result ≡ 8 ^ (min depth_limit depth) }
 {
-    8u64.pow(depth.min(DEPTH_LIMIT))
+    match depth {
+        0 => 1,
+        1 => 8,
+        2 => 64,
+        3 => 512,
+        _ => 4096,
+    }
 }
 
 /// Adds what a use or a definition counts. A sum past 64 bits is want of memory.
@@ -23,10 +26,12 @@ fn count(weights: &mut [u64], t: u32, factor: u64) -> Result<(), NoMemory>
     ensures length { length weights.new ≡ length weights.old }
     ensures value { OnOk result ((u : ℕ) → slice_index weights.new u ≡ slice_index weights.old u + (if t == u then factor else 0)) }
 {
-    let Some(sum) = weights[t as usize].checked_add(factor) else {
+    let place = t as usize;
+    let weight = weights[place];
+    let Some(sum) = weight.checked_add(factor) else {
         return Err(NoMemory);
     };
-    weights[t as usize] = sum;
+    weights[place] = sum;
     Ok(())
 }
 
@@ -36,8 +41,8 @@ fn count_uses(weights: &mut [u64], uses: &[u32], factor: u64) -> Result<(), NoMe
     ensures length { length weights.new ≡ length weights.old }
     ensures value { OnOk result ((u : ℕ) → slice_index weights.new u ≡ slice_index weights.old u + factor * count_by (λ t. t == u) uses.now) }
 {
-    for &t in uses {
-        count(weights, t, factor)?;
+    for place in 0..uses.len() {
+        count(weights, uses[place], factor)?;
     }
     Ok(())
 }
@@ -50,7 +55,10 @@ fn count_act(weights: &mut [u64], act: &Act, factor: u64) -> Result<(), NoMemory
 {
     count_uses(weights, act.uses(), factor)?;
     match act.defines() {
-        Some(t) => count(weights, t, factor),
+        Some(t) => {
+            count(weights, t, factor)?;
+            Ok(())
+        }
         None => Ok(()),
     }
 }
@@ -65,7 +73,8 @@ fn count_block(weights: &mut [u64], block: &Stretch, blocks: usize) -> Result<()
     for act in block.acts() {
         count_act(weights, act, factor)?;
     }
-    count_uses(weights, block.uses(), factor)
+    count_uses(weights, block.uses(), factor)?;
+    Ok(())
 }
 
 /// The weight of each temporary of a function.
@@ -76,8 +85,8 @@ pub(crate) fn weigh(alloc: Global, f: &Outline) -> Result<Vec<u64>, NoMemory>
 {
     let mut weights = vec![in alloc; 0; f.temps() as usize]?;
     let blocks = f.blocks();
-    for block in blocks {
-        count_block(&mut weights, block, blocks.len())?;
+    for place in 0..blocks.len() {
+        count_block(&mut weights, &blocks[place], blocks.len())?;
     }
     for t in 0..f.params() {
         count(&mut weights, t, 1)?;

@@ -1,6 +1,6 @@
 -- What several steps of a walk do together, and which temporaries they speak of.
 use Rattle.std.proofs.Common.{◌≡◌, ◌≢◌, ◌⊎◌, ℕ, zero, suc, ◌+◌, ◌<◌, ◌≤◌, ◌||◌, ◌==◌, Bool, true, List, [], ◌∷◌, ◌++◌, length, get_or, take, refl, sym, ap, subst, ◌∙◌, arith, inl, inr}
-use Rattle.std.specs.Prelude.{Some, slice_get, vec_len, Contains, All, ◌↔◌}
+use Rattle.std.specs.Prelude.{Option, None, Some, slice_get, vec_len, Contains, All, ◌↔◌}
 use Rattle.std.specs.List.{AllByRecursion, list_any}
 use Rattle.std.proofs.lemmas.Bool.{or_cases, or_left, or_right, eqb-true, eq-eqb}
 use Rattle.std.proofs.lemmas.List.{take_more, take_all, get_or_default}
@@ -122,6 +122,15 @@ pub marks_same : (New Cur Old : ℕ → ℕ → Type 0) → ((u q : ℕ) → New
 marks_same New Cur Old now before u q = (λ h. (before u q).0 ((now u q).0 h), λ h. (now u q).1 ((before u q).1 h))
 
 -- ---- an operation
+
+pub defined_here : (o : Option ℕ) (t : ℕ) (New Old : ℕ → Type 0) → o ≡ Some t → ((u : ℕ) → New u ↔ (Old u × (u ≢ t))) → (u : ℕ) → New u ↔ (Old u × (o ≢ Some u))
+defined_here o t New Old is now u = (
+  λ h. let k = (now u).0 h in (k.0, λ e. k.1 (same_Some u t (sym e ∙ is))),
+  λ h. (now u).1 (h.0, λ same. h.1 (is ∙ ap Some (sym same))),
+)
+
+pub defined_none : (o : Option ℕ) (Old : ℕ → Type 0) → o ≡ None → (u : ℕ) → Old u ↔ (Old u × (o ≢ Some u))
+defined_none o Old is u = (λ h. (h, λ e. let clash : Some u ≡ None = sym e ∙ is in cc), λ h. h.0)
 
 pub act_marks : (a : Act) (Last Back Shut Old : ℕ → ℕ → Type 0) (Still Open : ℕ → Type 0) (here : ℕ)
     → ((u : ℕ) → Still u ↔ (Open u × (a.defines ≢ Some u)))

@@ -1,12 +1,49 @@
 -- What the steps of a walk do to what it has found.
-use Rattle.std.proofs.Common.{◌≡◌, ◌≢◌, ◌⊎◌, ℕ, ◌+◌, ◌<◌, ◌≤◌, List, set, refl, sym, ap, subst, ◌∙◌, arith, inl, inr}
+use Rattle.std.proofs.Common.{◌≡◌, ◌≢◌, ◌⊎◌, ℕ, zero, suc, ◌+◌, ◌<◌, ◌≤◌, List, [], All, replicate, set, refl, sym, ap, subst, ◌∙◌, arith, inl, inr}
 use Rattle.std.specs.Prelude.{Option, None, Some, slice_get, ◌↔◌}
 use Rattle.std.proofs.lemmas.Bool.{cases_eq}
 use Rattle.std.proofs.lemmas.Option.{same_Some, slice_get_within}
-use Rattle.pw_fix.proofs.Places.{slice_get-set_same, slice_get-set_other, set_cases}
+use Rattle.pw_fix.proofs.Places.{All-at, slice_get-set_same, slice_get-set_other, set_cases}
 use Rattle.pw_live_spans.specs.Spans.{Covers}
 use Rattle.pw_live_spans.specs.Walking.{IsOpenTo, IsOpen, IsClosed, IsAhead, Marked}
 use Rattle.pw_live_spans.specs.declared.walk.Walk.{Walk}
+
+-- ---- none yet
+
+nones : (n t : ℕ) (x : Option ℕ) → slice_get (replicate n None) t ≡ Some x → x ≡ None
+nones zero t x e = absurd cc
+nones (suc n) zero x e = sym (same_Some None x e)
+nones (suc n) (suc t) x e = nones n t x e
+
+pub new_shut : (w : Walk) (n : ℕ) → w.ends.items ≡ replicate n None → (t : ℕ) → ¬ IsOpen w t
+new_shut w n is t h = let none : Some h.0 ≡ None = nones n t (Some h.0) (ap (λ (os : List (Option ℕ)). slice_get os t) (sym is) ∙ h.1) in cc
+
+pub new_none : (w : Walk) (n : ℕ) → w.ends.items ≡ replicate n None → All (λ (spans : List (ℕ × ℕ)). spans ≡ []) w.lists.items → (t q : ℕ) → ¬ Marked w t q
+new_none w n is none t q h = elim h [
+  | inl c ↦
+      let empty : c.spans ≡ [] = All-at (λ (spans : List (ℕ × ℕ)). spans ≡ []) w.lists.items t c.spans none c.at in
+      let k = subst (λ (spans : List (ℕ × ℕ)). Covers spans q) empty c.covers in
+      let lt : k.1.0 < 0 = k.1.1 in
+      absurd (omega (arith, lt))
+  | inr a ↦ new_shut w n is t (a.end, a.opens)
+]
+
+-- ---- ends are ahead
+
+pub ahead_none : (n place : ℕ) (t e : ℕ) → slice_get (replicate n None) t ≡ Some (Some e) → place < e
+ahead_none n place t e is = absurd (let none : Some e ≡ None = nones n t (Some e) is in cc)
+
+pub ahead_with : (ends : List (Option ℕ)) (t place : ℕ) → ((u e : ℕ) → slice_get ends u ≡ Some (Some e) → place < e) → (u e : ℕ) → slice_get (set ends t (Some (place + 1))) u ≡ Some (Some e) → place < e
+ahead_with ends t place ahead u e is = elim (set_cases ends t u (Some (place + 1)) (Some e) is) [
+  | inl k ↦ let same = same_Some e (place + 1) k.1 in omega (arith, same)
+  | inr k ↦ ahead u e k.1
+]
+
+pub ahead_without : (ends : List (Option ℕ)) (t place : ℕ) → ((u e : ℕ) → slice_get ends u ≡ Some (Some e) → place < e) → (u e : ℕ) → slice_get (set ends t None) u ≡ Some (Some e) → place < e
+ahead_without ends t place ahead u e is = elim (set_cases ends t u None (Some e) is) [
+  | inl k ↦ absurd (let clash : Some e ≡ None = k.1 in cc)
+  | inr k ↦ ahead u e k.1
+]
 
 -- ---- what stays
 

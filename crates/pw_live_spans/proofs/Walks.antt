@@ -107,16 +107,21 @@ act_step f b s k a old new is place marked opens h =
 
 -- ---- blocks
 
+pub no_points : (blocks : List Stretch) → points_before blocks 0 ≡ 0
+no_points [] = refl
+no_points (s ∷ rest) = refl
+
+pub points_past : (blocks : List Stretch) (b : ℕ) → length blocks ≤ b → points_before blocks b ≡ points_before blocks (length blocks)
+points_past [] b le = refl
+points_past (s ∷ rest) zero le = absurd (omega (arith, le))
+points_past (s ∷ rest) (suc b) le = ap (λ (n : ℕ). length s.acts + 1 + n) (points_past rest b (omega (arith, le)))
+
 pub next_block : (blocks : List Stretch) (b : ℕ) (s : Stretch) → slice_get blocks b ≡ Some s → points_before blocks (b + 1) ≡ points_before blocks b + length s.acts + 1
 next_block [] b s e = absurd cc
 next_block (x ∷ rest) zero s e =
     let same = ap (λ (y : Stretch). length y.acts) (same_Some x s e) in
     let none = no_points rest in
     omega (arith, same, none)
-  where
-    no_points : (rest : List Stretch) → points_before rest 0 ≡ 0
-    no_points [] = refl
-    no_points (y ∷ ys) = refl
 next_block (x ∷ rest) (suc b) s e = let h = next_block rest b s e in let step : suc b + 1 ≡ suc (b + 1) = omega arith in ap (points_before (x ∷ rest)) step ∙ omega (arith, h)
 
 pub end_step : (f : Outline) (b : ℕ) (s : Stretch) (old new : Walk) → slice_get f.blocks b ≡ Some s → new.place + 1 ≡ old.place

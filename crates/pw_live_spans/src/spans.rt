@@ -76,7 +76,10 @@ fn close_defined(walk: &mut Walk, act: &Act) -> Result<(), NoMemory>
     ensures opens { OnOk result ((u : ℕ) → IsOpen walk.new u ↔ (IsOpen walk.old u × (act.now.defines ≢ Some u))) }
 {
     match act.defines() {
-        Some(t) => walk.close_span(t),
+        Some(t) => {
+            walk.close_span(t)?;
+            Ok(())
+        }
         None => Ok(()),
     }
 }
@@ -150,19 +153,27 @@ fn walk_block(
     Ok(())
 }
 
+/// A count with the points of a block, where that can be counted.
+fn with_points(count: usize, block: &Stretch) -> Result<usize, NoMemory>
+    ensures { IfOk result (λ n. n ≡ count + length block.now.acts + 1) }
+{
+    let Some(more) = count.checked_add(block.acts().len()) else {
+        return Err(NoMemory);
+    };
+    let Some(next) = more.checked_add(1) else {
+        return Err(NoMemory);
+    };
+    Ok(next)
+}
+
 /// How many points the blocks have, where that can be counted.
 fn count_points(blocks: &[Stretch]) -> Result<usize, NoMemory>
     ensures { IfOk result (λ n. n ≡ points_before blocks.now (length blocks.now)) }
 {
     let mut count: usize = 0;
     for block in blocks {
-        let Some(more) = count.checked_add(block.acts().len()) else {
-            return Err(NoMemory);
-        };
-        let Some(next) = more.checked_add(1) else {
-            return Err(NoMemory);
-        };
-        count = next;
+        let more = with_points(count, block)?;
+        count = more;
     }
     Ok(count)
 }

@@ -1,6 +1,6 @@
 //! A walk over the points of a function, from the last one back, that notes where temporaries are live.
 
-ghost use Rattle.std.specs.Prelude.{◌≡◌, ◌≢◌, ◌⊎◌, ◌+◌, ◌^◌, ◌<◌, ◌≤◌, ◌↔◌, ℕ, List, [], Some, None, slice_get, vec_len, IfOk, OnOk};
+ghost use Rattle.std.specs.Prelude.{◌≡◌, ◌≢◌, ◌⊎◌, ◌+◌, ◌^◌, ◌<◌, ◌≤◌, ◌↔◌, ℕ, List, [], Some, None, slice_get, vec_len, All, IsTrue, IfOk, OnOk};
 ghost use Rattle.pw_live_spans.specs.Spans.{IsIn, Covers};
 
 use pw_items::Items;
@@ -17,6 +17,41 @@ pub(crate) struct Walk {
     pub ghost ahead: { (t e : ℕ) → slice_get ends.items t ≡ Some (Some e) → place < e },
 }
 
+/// Whether a span begins at a point, where points end that stand before it.
+fn touches(span: (usize, usize), to: usize) -> bool
+    ensures { IsTrue result ↔ ((span.0 ≡ to) × (span.0 ≤ span.1)) }
+{
+    span.0 == to && span.0 <= span.1
+}
+
+/// Adds to spans one that begins where points end, and these points.
+fn put_joined(
+    spans: &mut Items<(usize, usize)>,
+    last: (usize, usize),
+    from: usize,
+) -> Result<(), NoMemory>
+    requires up { last.0 ≤ last.1 }
+    requires points { from ≤ last.0 }
+    ensures { OnOk result ((q : ℕ) → Covers spans.new q ↔ ((Covers spans.old q ⊎ IsIn last q) ⊎ ((from ≤ q) × (q < last.0)))) }
+{
+    spans.push((from, last.1))?;
+    Ok(())
+}
+
+/// Adds to spans two more.
+fn put_both(
+    spans: &mut Items<(usize, usize)>,
+    last: (usize, usize),
+    from: usize,
+    to: usize,
+) -> Result<(), NoMemory>
+    ensures { OnOk result ((q : ℕ) → Covers spans.new q ↔ ((Covers spans.old q ⊎ IsIn last q) ⊎ ((from ≤ q) × (q < to)))) }
+{
+    spans.push(last)?;
+    spans.push((from, to))?;
+    Ok(())
+}
+
 /// Adds to spans one more, and the points from one up to another, which may end where it begins.
 fn put_behind(
     spans: &mut Items<(usize, usize)>,
@@ -27,13 +62,11 @@ fn put_behind(
     requires { from ≤ to }
     ensures { OnOk result ((q : ℕ) → Covers spans.new q ↔ ((Covers spans.old q ⊎ IsIn last q) ⊎ ((from ≤ q) × (q < to)))) }
 {
-    let (low, high) = last;
-    if low == to && low <= high {
-        spans.push((from, high))?;
-        return Ok(());
+    if touches(last, to) {
+        put_joined(spans, last, from)?;
+    } else {
+        put_both(spans, last, from, to)?;
     }
-    spans.push(last)?;
-    spans.push((from, to))?;
     Ok(())
 }
 
@@ -57,7 +90,7 @@ fn cover(spans: &mut Items<(usize, usize)>, from: usize, to: usize) -> Result<()
 /// No spans yet, of so many temporaries.
 fn no_spans(alloc: Global, temps: u32) -> Result<Vec<Items<(usize, usize)>>, NoMemory>
     ensures count { IfOk result (λ v. vec_len v ≡ temps) }
-    ensures none { IfOk result (λ v. (t : ℕ) (spans : List (ℕ × ℕ)) → slice_get v.items t ≡ Some spans → spans ≡ []) }
+    ensures none { IfOk result (λ v. All (λ (spans : List (ℕ × ℕ)). spans ≡ []) v.items) }
 {
     let mut lists = Vec::new(alloc);
     for _ in 0..temps {

@@ -1,5 +1,6 @@
 use Rattle.std.proofs.Common.{◌≡◌, ◌+◌, ◌*◌, ℕ, length, take}
-use Rattle.std.specs.Prelude.{slice_index, sum_by}
+use Rattle.std.specs.Prelude.{slice_index}
+use Rattle.std.specs.List.{sum_by}
 use Rattle.pw_alloc_temps.specs.Weights.{counted_in}
 use Rattle.pw_alloc_registers.proofs.weights.count_block.Given as goal
 
