@@ -26,7 +26,7 @@ passing p (x ∷ xs) e = elim (or_cases (p x) (list_any p xs) e) [
   | inr h ↦ let r = passing p xs h in record { place = suc r.place; item = r.item; at = r.at; passes = r.passes }
 ]
 
-passed : {X : Type 0} (p : X → Bool) (xs : List X) (k : ℕ) (x : X) → slice_get xs k ≡ Some x → p x ≡ true → list_any p xs ≡ true
+pub passed : {X : Type 0} (p : X → Bool) (xs : List X) (k : ℕ) (x : X) → slice_get xs k ≡ Some x → p x ≡ true → list_any p xs ≡ true
 passed p [] k x at e = absurd cc
 passed p (y ∷ ys) zero x at e = or_left (p y) (list_any p ys) (ap p (same_Some y x at) ∙ e)
 passed p (y ∷ ys) (suc k) x at e = or_right (p y) (list_any p ys) (passed p ys k x at e)

@@ -14,3 +14,7 @@ mod Defining
 mod Pointing
 mod Calling
 mod Knowledge
+mod Locating
+mod Saving
+mod Barring
+mod Located

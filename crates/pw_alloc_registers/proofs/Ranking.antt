@@ -23,7 +23,7 @@ each_if : {X : Type 0} (P : X → Type 0) (b : Bool) (x : X) (ys : List X) → P
 each_if P true x ys h all = (h, all)
 each_if P false x ys h all = all
 
-each_filter : {X : Type 0} (P : X → Type 0) (p : X → Bool) (xs : List X) → AllByRecursion P xs → AllByRecursion P (filter p xs)
+pub each_filter : {X : Type 0} (P : X → Type 0) (p : X → Bool) (xs : List X) → AllByRecursion P xs → AllByRecursion P (filter p xs)
 each_filter P p [] all = tt
 each_filter P p (x ∷ xs) all = each_if P (p x) x (filter p xs) all.0 (each_filter P p xs all.1)
 
@@ -31,7 +31,7 @@ two_if : {X : Type 0} (R : X → X → Type 0) (b : Bool) (x : X) (ys : List X) 
 two_if R true x ys h all = (h, all)
 two_if R false x ys h all = all
 
-two_filter : {X : Type 0} (R : X → X → Type 0) (p : X → Bool) (xs : List X) → EachTwo R xs → EachTwo R (filter p xs)
+pub two_filter : {X : Type 0} (R : X → X → Type 0) (p : X → Bool) (xs : List X) → EachTwo R xs → EachTwo R (filter p xs)
 two_filter R p [] all = tt
 two_filter R p (x ∷ xs) all = two_if R (p x) x (filter p xs) (each_filter (R x) p xs all.0) (two_filter R p xs all.1)
 
@@ -51,7 +51,7 @@ later_kept : {X : Type 0} (b : Bool) (y x : X) (ys : List X) → Has x ys → Ha
 later_kept true y x ys h = inr h
 later_kept false y x ys h = h
 
-has_kept : {X : Type 0} (p : X → Bool) (xs : List X) (x : X) → Has x xs → p x ≡ true → Has x (filter p xs)
+pub has_kept : {X : Type 0} (p : X → Bool) (xs : List X) (x : X) → Has x xs → p x ≡ true → Has x (filter p xs)
 has_kept p [] x h e = absurd h
 has_kept p (y ∷ ys) x (inl same) e = first_kept (p y) y x (filter p ys) (ap p same ∙ e) same
 has_kept p (y ∷ ys) x (inr h) e = later_kept (p y) y x (filter p ys) (has_kept p ys x h e)
