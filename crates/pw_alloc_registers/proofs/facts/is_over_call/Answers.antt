@@ -1,7 +1,7 @@
 use Rattle.std.proofs.Common.{◌≡◌, true, false, arith, length, refl, sym, ap, ◌∙◌, inl, inr}
 use Rattle.std.specs.Prelude.{Some, slice_get}
 use Rattle.std.proofs.lemmas.Option.{slice_get_read}
-use Rattle.pw_alloc_registers.proofs.Calling.{over_call, no_call}
+use Rattle.pw_alloc_registers.proofs.Calling.{over_call}
 use Rattle.pw_alloc_registers.proofs.facts.is_over_call.Goals as goal
 
 pub returns : goal.returns
