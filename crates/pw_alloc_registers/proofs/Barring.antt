@@ -8,12 +8,12 @@ use Rattle.std.proofs.lemmas.List.{map_more}
 use Rattle.pw_db.specs.declared.database.Web.{Web}
 use Rattle.pw_db.specs.declared.database.Role.{Role}
 use Rattle.pw_live.specs.Liveness.{has}
-use Rattle.pw_alloc_registers.specs.Masks.{in_mask, HasRegister}
-use Rattle.pw_alloc_registers.proofs.Choosing.{same_test}
-use Rattle.pw_alloc_registers.proofs.Masking.{zero_mask}
+use Rattle.pw_alloc_taken.specs.Masks.{in_mask, HasRegister}
+use Rattle.std.specs.Cmp.{both_ways}
+use Rattle.pw_alloc_taken.proofs.Masking.{zero_mask}
 
 pub barred_none : (r : ℕ) → in_mask 0 r ≡ false
-barred_none r = same_test (in_mask 0 r) false (λ e. absurd (zero_mask r (eqb-true (bit_at 0 r) 1 e))) (λ e. absurd cc)
+barred_none r = both_ways (in_mask 0 r) false (λ e. absurd (zero_mask r (eqb-true (bit_at 0 r) 1 e))) (λ e. absurd cc)
 
 or_ends : (a b c : Bool) → (a || (b || c)) ≡ ((a || b) || c)
 or_ends true b c = refl
@@ -35,7 +35,7 @@ barred_more webs k w old new lt is now before r =
     let more : map (λ (x : Web × Role). x.0.reg) (take (k + 1) webs) ≡ map (λ (x : Web × Role). x.0.reg) (take k webs) ++ w.0.reg ∷ [] =
     map_more (λ (x : Web × Role). x.0.reg) webs k w lt ∙ ap (λ (x : Web × Role). map (λ (y : Web × Role). y.0.reg) (take k webs) ++ x.0.reg ∷ []) is in
     let so_far = has r (map (λ (x : Web × Role). x.0.reg) (take k webs)) in
-    same_test (in_mask new r) (so_far || (w.0.reg == r))
+    both_ways (in_mask new r) (so_far || (w.0.reg == r))
     (λ e. elim ((now r).0 (eqb-true (bit_at new r) 1 e)) [
       | inl o ↦ or_left so_far (w.0.reg == r) (sym (before r) ∙ eq-eqb (bit_at old r) 1 o)
       | inr same ↦ or_right so_far (w.0.reg == r) (eq-eqb w.0.reg r (sym same))

@@ -1,21 +1,17 @@
 -- The first register that a temporary may have and that is not taken, by sets of registers.
 use Rattle.std.proofs.Common.{◌≡◌, ◌⊎◌, ℕ, suc, ◌+◌, ◌-◌, ◌<◌, ◌≤◌, ◌==◌, ◌||◌, not, Bool, true, false, cond, List, [], ◌∷◌, ◌++◌, refl, sym, ap, ◌∙◌, arith, inl, inr}
 use Rattle.std.specs.Prelude.{Option, None, Some, filter, ◌↔◌}
+use Rattle.std.specs.Cmp.{both_ways}
 use Rattle.std.specs.Option.{option_or}
 use Rattle.std.specs.Int.{bit_at}
 use Rattle.std.specs.List.{find, range_with_len}
 use Rattle.std.proofs.lemmas.Bool.{eqb-true, eq-eqb, or_cases, or_left, or_right}
 use Rattle.std.proofs.lemmas.List.Folds.{find-append}
-use Rattle.pw_alloc_registers.specs.Masks.{in_mask, HasRegister}
-
-pub same_test : (x y : Bool) → (x ≡ true → y ≡ true) → (y ≡ true → x ≡ true) → x ≡ y
-same_test true y there back = sym (there refl)
-same_test false true there back = back refl
-same_test false false there back = refl
+use Rattle.pw_alloc_taken.specs.Masks.{in_mask, HasRegister}
 
 pub in_joined : (webs taken away r : ℕ) (barred full : Bool) → in_mask webs r ≡ barred → (HasRegister taken r ↔ (full ≡ true))
     → (HasRegister away r ↔ (HasRegister webs r ⊎ HasRegister taken r)) → in_mask away r ≡ (barred || full)
-in_joined webs taken away r barred full is takes joined = same_test (in_mask away r) (barred || full)
+in_joined webs taken away r barred full is takes joined = both_ways (in_mask away r) (barred || full)
     (λ e. elim (joined.0 (eqb-true (bit_at away r) 1 e)) [
       | inl w ↦ or_left barred full (sym is ∙ eq-eqb (bit_at webs r) 1 w)
       | inr k ↦ or_right barred full (takes.0 k)

@@ -21,7 +21,7 @@ use Rattle.pw_live.specs.Interference.{is_held}
 use Rattle.pw_alloc_temps.specs.Registers.{changed_registers, of_temporaries, allowed, registers}
 use Rattle.pw_alloc_temps.specs.Temporaries.{registers_in, saved_in, placed, allocated}
 use Rattle.pw_alloc_registers.proofs.Placing.{each_placed, placed_each, entered_are}
-use Rattle.pw_alloc_registers.proofs.Ranking.{each_filter, two_filter, has_kept}
+use Rattle.pw_alloc_weights.proofs.Ranking.{each_filter, two_filter, has_kept}
 
 -- ---- registers one behind the other
 

@@ -9,8 +9,8 @@ use Rattle.pw_db.specs.Database.{EachTwo}
 use Rattle.pw_flow.specs.Outline.{Outline}
 use Rattle.pw_alloc_temps.specs.Weights.{by_weight}
 use Rattle.pw_alloc_temps.specs.Registers.{allowed, is_taken, with_register, given_to, given, register_of, registers_from, registers}
-use Rattle.pw_alloc_registers.proofs.Looking.{has_register}
-use Rattle.pw_alloc_registers.proofs.Sorting.{Before, never_both, in_order, has_between}
+use Rattle.pw_alloc_taken.proofs.Looking.{has_register}
+use Rattle.pw_alloc_weights.proofs.Sorting.{Before, never_both, in_order, has_between}
 
 given_step : (f : Outline) (ws xs : List ℕ) (t : ℕ) (gs : List (ℕ × ℕ))
     → given_to f ws (xs ++ t ∷ []) gs ≡ with_register t (find (λ r. not (is_taken f (given_to f ws xs gs) t r)) (allowed f ws t)) (given_to f ws xs gs)

@@ -7,13 +7,13 @@ ghost use Rattle.pw_webflow.specs.ValidWebs.{IsWebFn};
 ghost use Rattle.pw_alloc.specs.Allocation.{is_entered, in_frame};
 ghost use Rattle.pw_alloc.specs.ValidPlaces.{IsLocated};
 ghost use Rattle.pw_live.specs.Liveness.{has, is_that};
-ghost use Rattle.pw_alloc_registers.specs.Masks.{in_mask};
+ghost use Rattle.pw_alloc_taken.specs.Masks.{in_mask};
 ghost use Rattle.pw_alloc_temps.specs.Temporaries.{placed, allocated};
 
 use crate::colouring::registers;
-use crate::masks::with_register;
 use crate::outline::outline_of;
 use pw_alloc::{Located, Place, below, head_size, is_entered, last_reach, slots_begin};
+use pw_alloc_taken::with_register;
 use pw_alloc_temps::laws::registers_keep_apart;
 use pw_db::{FIRST_REGISTER, LAST_REGISTER, Role, Web};
 use pw_items::Items;

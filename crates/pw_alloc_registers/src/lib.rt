@@ -1,13 +1,9 @@
-//! The registers of temporaries: by weight, the first that a temporary may have and that no other one which interferes has.
+//! Allocation in its second form: temporaries have registers by weight, and those that get none a word of the frame.
 #![tactic(auto)]
 
+mod allocating;
 mod colouring;
-mod facts;
-mod masks;
-mod order;
 mod outline;
-mod points;
-mod taken;
-mod weights;
 
+pub use allocating::allocate_owned;
 pub use outline::outline_of;

@@ -5,7 +5,7 @@ use Rattle.std.proofs.lemmas.List.{take_all}
 use Rattle.std.proofs.lemmas.List.Folds.{list_any_more}
 use Rattle.std.proofs.lemmas.Option.{slice_get_read}
 use Rattle.pw_live.specs.Liveness.{is_that}
-use Rattle.pw_alloc_registers.proofs.Besides.{passed}
+use Rattle.pw_alloc_taken.proofs.Besides.{passed}
 use Rattle.pw_alloc_registers.proofs.allocating.is_given.Goals as goal
 
 pub loop-place-init : goal.loop-place-init

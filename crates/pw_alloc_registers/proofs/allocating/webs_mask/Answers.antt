@@ -4,7 +4,7 @@ use Rattle.std.proofs.lemmas.Option.{slice_get_read}
 use Rattle.pw_db.specs.declared.database.Web.{Web}
 use Rattle.pw_db.specs.declared.database.Role.{Role}
 use Rattle.pw_live.specs.Liveness.{has}
-use Rattle.pw_alloc_registers.proofs.Counting.{each_at}
+use Rattle.pw_alloc_weights.proofs.Counting.{each_at}
 use Rattle.pw_alloc_registers.proofs.Barring.{barred_none, barred_more}
 use Rattle.pw_alloc_registers.proofs.allocating.webs_mask.Goals as goal
 

@@ -1,6 +1,6 @@
 use Rattle.std.proofs.Common.{◌≡◌, ℕ, map, take}
 use Rattle.pw_live.specs.Liveness.{has}
-use Rattle.pw_alloc_registers.specs.Masks.{in_mask}
+use Rattle.pw_alloc_taken.specs.Masks.{in_mask}
 use Rattle.pw_alloc_registers.proofs.allocating.webs_mask.Given as goal
 
 abbrev pub invariant-loop-web : goal.invariant-loop-web

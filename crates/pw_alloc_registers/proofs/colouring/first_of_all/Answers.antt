@@ -1,7 +1,7 @@
 use Rattle.std.proofs.Common.{◌≡◌, ◌∙◌, not, sym}
 use Rattle.pw_db.specs.Limits.{kept_registers}
 use Rattle.pw_alloc_temps.specs.Registers.{changed_registers}
-use Rattle.pw_alloc_registers.specs.Masks.{in_mask}
+use Rattle.pw_alloc_taken.specs.Masks.{in_mask}
 use Rattle.pw_alloc_registers.proofs.Choosing.{find_first, find_second}
 use Rattle.pw_alloc_registers.proofs.colouring.first_of_all.Goals as goal
 

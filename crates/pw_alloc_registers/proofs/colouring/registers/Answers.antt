@@ -4,8 +4,8 @@ use Rattle.std.proofs.lemmas.List.{take_all}
 use Rattle.std.proofs.lemmas.Option.{slice_get_read}
 use Rattle.pw_alloc_temps.specs.Weights.{by_weight}
 use Rattle.pw_alloc_temps.specs.Registers.{given_to, given, register_of, registers}
-use Rattle.pw_alloc_registers.specs.Knowing.{AreGiven}
-use Rattle.pw_alloc_registers.proofs.Knowledge.{many_makers}
+use Rattle.pw_alloc_taken.specs.Knowing.{AreGiven}
+use Rattle.pw_alloc_taken.proofs.Knowledge.{many_makers}
 use Rattle.pw_alloc_registers.proofs.Turns.{next_turn, none_yet, all_registers, ordered_below}
 use Rattle.pw_alloc_registers.proofs.colouring.registers.Goals as goal
 

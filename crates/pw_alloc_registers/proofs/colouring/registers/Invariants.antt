@@ -1,8 +1,8 @@
 use Rattle.std.proofs.Common.{◌≡◌, ℕ, [], List, take}
 use Rattle.pw_live.specs.Liveness.{has}
 use Rattle.pw_alloc_temps.specs.Registers.{given_to}
-use Rattle.pw_alloc_registers.specs.Masks.{in_mask}
-use Rattle.pw_alloc_registers.specs.Knowing.{AreSized, AreGiven}
+use Rattle.pw_alloc_taken.specs.Masks.{in_mask}
+use Rattle.pw_alloc_taken.specs.Knowing.{AreSized, AreGiven}
 use Rattle.pw_alloc_registers.proofs.colouring.registers.Given as goal
 
 abbrev pub invariant-loop-place : goal.invariant-loop-place

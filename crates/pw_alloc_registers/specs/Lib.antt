@@ -1,4 +1,0 @@
-pub mod Makers
-pub mod Masks
-pub mod Knowing
-pub mod Ordering
