@@ -14,6 +14,14 @@ use pw_db::{FIRST_REGISTER, LAST_REGISTER, LAST_TEMPORARY};
 use pw_live_fronts::Outline;
 use std::alloc::{AllocError as NoMemory, Global};
 
+/// Whether a register is not in a set.
+fn is_free(away: u32, r: u8) -> bool
+    requires { r < 32 }
+    ensures { result ≡ not (in_mask away r) }
+{
+    !has_register(away, r)
+}
+
 /// The first of some registers that is not in a set.
 fn first_in(away: u32, from: u8, to: u8) -> Option<u8>
     requires { to < 32 }
@@ -21,7 +29,7 @@ fn first_in(away: u32, from: u8, to: u8) -> Option<u8>
     ensures low { IfSome result (λ r. r < 32) }
 {
     for r in from..to {
-        if !has_register(away, r) {
+        if is_free(away, r) {
             return Some(r);
         }
     }
