@@ -1,16 +1,29 @@
 -- The registers of webs, as a set, web by web.
-use Rattle.std.proofs.Common.{◌≡◌, ◌⊎◌, ℕ, ◌+◌, ◌<◌, ◌==◌, ◌||◌, Bool, true, false, List, [], ◌∷◌, ◌++◌, length, get_or, map, take, refl, sym, ap, ◌∙◌, inl, inr}
+use Rattle.std.proofs.Common.{◌≡◌, ◌⊎◌, ℕ, ◌+◌, ◌<◌, ◌==◌, ◌||◌, Bool, true, false, List, [], ◌∷◌, ◌++◌, length, get_or, map, take, refl, sym, ap, subst, ◌∙◌, arith, inl, inr}
 use Rattle.std.specs.Prelude.{◌↔◌}
 use Rattle.std.specs.Int.{bit_at}
-use Rattle.std.specs.List.{list_any}
+use Rattle.std.specs.List.{AllByRecursion, list_any}
 use Rattle.std.proofs.lemmas.Bool.{eqb-true, eq-eqb, or_cases, or_left, or_right}
 use Rattle.std.proofs.lemmas.List.{map_more}
 use Rattle.pw_db.specs.declared.database.Web.{Web}
 use Rattle.pw_db.specs.declared.database.Role.{Role}
+use Rattle.pw_db.specs.Database.{IsWeb}
+use Rattle.pw_webflow.specs.declared.web.WebFn.{WebFn}
+use Rattle.pw_webflow.specs.ValidWebs.{IsWebFn}
 use Rattle.pw_live.specs.Liveness.{has}
 use Rattle.pw_alloc_taken.specs.Masks.{in_mask, HasRegister}
 use Rattle.std.specs.Cmp.{both_ways}
 use Rattle.pw_alloc_taken.proofs.Masking.{zero_mask}
+
+-- registers of webs are numbers below 32
+each_low : (ws : List (Web × Role)) → AllByRecursion IsWeb (map (λ w. w.0) ws) → AllByRecursion (λ (w : Web × Role). w.0.reg < 32) ws
+each_low [] all = tt
+each_low (w ∷ ws) all = (let high = all.0.high in omega (arith, high), each_low ws all.1)
+
+pub webs_low : (f : WebFn) (ws : List (Web × Role)) → IsWebFn f → ws ≡ f.directives.webs → AllByRecursion (λ (w : Web × Role). w.0.reg < 32) ws
+webs_low f ws lawful is = subst (AllByRecursion (λ (w : Web × Role). w.0.reg < 32)) (sym is) (each_low f.directives.webs lawful.directives.each)
+
+-- ---- web by web
 
 pub barred_none : (r : ℕ) → in_mask 0 r ≡ false
 barred_none r = both_ways (in_mask 0 r) false (λ e. absurd (zero_mask r (eqb-true (bit_at 0 r) 1 e))) (λ e. absurd cc)

@@ -1,8 +1,4 @@
 mod Choosing
 mod Turns
 mod Lawful
-mod Placing
-mod Saving
 mod Barring
-mod Locating
-mod Located

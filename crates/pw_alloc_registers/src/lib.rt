@@ -1,9 +1,9 @@
-//! Allocation in its second form: temporaries have registers by weight, and those that get none a word of the frame.
+//! The registers of temporaries: by weight, the first that a temporary may have and that no other one which interferes has.
 #![tactic(auto)]
 
-mod allocating;
 mod colouring;
+mod finding;
 mod outline;
 
-pub use allocating::allocate_owned;
+pub use finding::find_registers;
 pub use outline::outline_of;

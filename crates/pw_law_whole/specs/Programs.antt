@@ -7,16 +7,15 @@ use Rattle.pw_tree.specs.Trees.{Module}
 use Rattle.pw_check_rules.specs.Checks.{Checks}
 use Rattle.pw_store_modules.specs.Modules.{Source, Texts}
 use Rattle.pw_alloc.specs.declared.located.Located.{Located}
-use Rattle.pw_alloc_temps.specs.Temporaries.{allocated}
 use Rattle.pw_summary.specs.declared.summary.Summary.{Summary}
 use Rattle.pw_flow.specs.declared.flow.FlowModule.{FlowModule}
 use Rattle.pw_lower.specs.Modules.{lowered}
 use Rattle.pw_build_objects.specs.Programs.{AreSummariesOf, Parts}
 use Rattle.pw_run_languages.specs.Programs as flows
 use Rattle.pw_run_languages.specs.Programs.{AreBytes}
-use Rattle.pw_run_languages.specs.Direction.{directed_functions}
 use Rattle.pw_run_languages.specs.LinkingLaws.{frame_in}
 use Rattle.pw_cmean.specs.Worlds.{Program, ProgramModule}
+use Rattle.pw_law_direction.specs.Laws.{first_places}
 use Rattle.pw_law_source.specs.Accepting.{HasNoColon, IsWhole}
 use Rattle.pw_law_source.specs.Lowering.{flow_program, AreChecked, LoweringKeepsRuns}
 use Rattle.pw_law_layers.specs.Whole.{image_of, IsLaidOut}
@@ -59,7 +58,7 @@ flows_in p parts stack = flow_program p (frame_in (image_of parts.objects stack)
 
 -- its functions under the directives of the database, each with the places that the second phase gives
 abbrev pub functions_under : Program → Parts → ℕ → List Located
-functions_under p parts stack = map allocated (directed_functions (flows_in p parts stack) parts.database)
+functions_under p parts stack = first_places (flows_in p parts stack) parts.database
 
 -- The program is checked, and accepted in the words of C's meaning; its flow graphs are laid out with the places that allocation
 -- gives; and by the law of lowering they implement it, and the parts are what the analyser, allocation and selection make of them.

@@ -1,12 +1,14 @@
 -- The temporaries of the numbers that a row holds, from the least one on.
-use Rattle.std.proofs.Common.{◌≡◌, ◌⊎◌, ℕ, ◌+◌, ◌<◌, ◌≤◌, List, [], ◌∷◌, ◌++◌, length, get_or, sym, ap, subst, ◌∙◌, arith, inl, inr}
-use Rattle.std.specs.Prelude.{Some, slice_get, slice_index, vec_len, Contains, ◌↔◌}
+use Rattle.std.proofs.Common.{◌≡◌, ◌⊎◌, ℕ, ◌+◌, ◌-◌, ◌<◌, ◌≤◌, List, [], ◌∷◌, ◌++◌, length, get_or, sym, ap, subst, ◌∙◌, arith, inl, inr}
+use Rattle.std.specs.Prelude.{None, Some, slice_get, slice_index, vec_len, Contains, ◌↔◌}
 use Rattle.std.proofs.lemmas.Bool.{cases_eq, cases_lt}
 use Rattle.std.proofs.lemmas.List.Elements.{Contains-append_left, Contains-push, Contains-push_cases}
 use Rattle.std.proofs.lemmas.Option.{same_Some, slice_get_within, get_or_from_slice_get}
 use Rattle.pw_fix.specs.Row.{Holds}
 use Rattle.pw_fix.specs.declared.bit_row.BitRow.{BitRow}
 use Rattle.pw_live_fronts.specs.Exposing.{IsNumber}
+use Rattle.pw_live_fronts.specs.LiveFronts.{IsLiveAt}
+use Rattle.pw_live_fronts.specs.declared.fronts.Fronts.{Fronts}
 use Rattle.pw_live_fronts.specs.declared.named.Exposed.{Exposed}
 
 -- ---- one temporary
@@ -65,3 +67,24 @@ found_all e row at t live none before = (
     | inr past ↦ absurd (none n.0 past n.2)
   ]),
 )
+
+-- ---- the row of a block
+
+pub live_is : (v : Fronts) (b t : ℕ) (row : BitRow) (live : List ℕ) → slice_get v.rows.items (vec_len v.rows - 1 - b) ≡ Some row
+    → (Contains live t ↔ ((i : ℕ) × IsNumber v.exposed t i × Holds row i)) → Contains live t ↔ IsLiveAt v b t
+live_is v b t row live at is = (
+  λ h. let n = is.0 h in record { number = n.0; is = n.1; row = row; at = at; holds = n.2 },
+  λ l. is.1 (l.number, l.is, subst (λ (r : BitRow). Holds r l.number) (same_Some l.row row (sym l.at ∙ at)) l.holds),
+)
+
+pub one_live : (v : Fronts) (b t i : ℕ) (row : BitRow) (Answer : Type 0) → IsNumber v.exposed t i → slice_get v.rows.items (vec_len v.rows - 1 - b) ≡ Some row
+    → (Answer ↔ Holds row i) → Answer ↔ IsLiveAt v b t
+one_live v b t i row Answer number at is = (
+  λ h. record { number = i; is = number; row = row; at = at; holds = is.0 h },
+  λ l.
+      let same : l.number ≡ i = same_Some l.number i (same_Some (Some l.number) (Some i) (sym l.is ∙ number)) in
+      is.1 (subst (Holds row) same (subst (λ (r : BitRow). Holds r l.number) (same_Some l.row row (sym l.at ∙ at)) l.holds)),
+)
+
+pub none_live : (v : Fronts) (b t : ℕ) → slice_get v.exposed.numbers.items t ≡ Some None → ¬ IsLiveAt v b t
+none_live v b t none l = let clash : Some (Some l.number) ≡ Some None = sym l.is ∙ none in cc

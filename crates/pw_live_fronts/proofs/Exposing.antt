@@ -69,6 +69,14 @@ numbered_more names numbers t numbered u i e = elim (set_cases numbers t u (Some
       before_last names t i (slice_get_within names i u old) ∙ old
 ]
 
+pub named_now : (names now : List ℕ) (numbers : List (Option ℕ)) (t n : ℕ) → n ≡ length names → now ≡ names ++ t ∷ [] → slice_get numbers t ≡ Some None → Named names numbers → Named now (set numbers t (Some n))
+named_now names now numbers t n size is free named =
+    subst (λ (k : ℕ). Named now (set numbers t (Some k))) (sym size) (subst (λ (ns : List ℕ). Named ns (set numbers t (Some (length names)))) (sym is) (named_more names numbers t free named))
+
+pub numbered_now : (names now : List ℕ) (numbers : List (Option ℕ)) (t n : ℕ) → n ≡ length names → now ≡ names ++ t ∷ [] → Numbered names numbers → Numbered now (set numbers t (Some n))
+numbered_now names now numbers t n size is numbered =
+    subst (λ (k : ℕ). Numbered now (set numbers t (Some k))) (sym size) (subst (λ (ns : List ℕ). Numbered ns (set numbers t (Some (length names)))) (sym is) (numbered_more names numbers t numbered))
+
 -- what has a number keeps it
 pub number_kept : (numbers : List (Option ℕ)) (t n : ℕ) → slice_get numbers t ≡ Some None → (u i : ℕ) → slice_get numbers u ≡ Some (Some i) → slice_get (set numbers t (Some n)) u ≡ Some (Some i)
 number_kept numbers t n free u i e = elim (cases_eq u t) [

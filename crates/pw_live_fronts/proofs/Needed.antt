@@ -54,13 +54,13 @@ module _ (len nodes : ℕ) (edges : List (ℕ × ℕ)) (Gen Kill : ℕ → ℕ �
       value_at : (m n : ℕ) → HasEdge edges m n → (y : BitRow) × (slice_get values m ≡ Some y)
       value_at m n e = at_index values m (let lt : m < nodes = within m n e in let size = solution.each_node in omega (arith, lt, size))
 
-      held : {n v : ℕ} → Needed edges Gen Kill v n → (x : BitRow) → slice_get values n ≡ Some x → Holds x v
-      held {v = v} (itself n own) x at = let s = solution.at_least_step n x at in s.2 v ((s.1.given v).1 (inl own))
-      held {v = v} (behind n m e stays needed) x at =
+      held : (v : ℕ) {n : ℕ} → Needed edges Gen Kill v n → (x : BitRow) → slice_get values n ≡ Some x → Holds x v
+      held v (itself n own) x at = let s = solution.at_least_step n x at in s.2 v ((s.1.given v).1 (inl own))
+      held v (behind n m e stays needed) x at =
           let s = solution.at_least_step n x at in
           let y = value_at m n e in
-          s.2 v ((s.1.given v).1 (inr (s.1.joined.above m y.0 e y.1 v (held needed y.0 y.1), stays)))
+          s.2 v ((s.1.given v).1 (inr (s.1.joined.above m y.0 e y.1 v (held v needed y.0 y.1), stays)))
 
       -- a value has what is needed from its node on
       pub rows_are_needed : (n : ℕ) (x : BitRow) → slice_get values n ≡ Some x → (v : ℕ) → Holds x v ↔ Needed edges Gen Kill v n
-      rows_are_needed n x at v = (derivable_fits (derived n x at) v, λ h. held h x at)
+      rows_are_needed n x at v = (derivable_fits (derived n x at) v, λ h. held v h x at)

@@ -59,9 +59,10 @@ impl<'a> Problem for Needing<'a> {
 /// Which temporaries are live at the front of each block.
 #[derive(Drop)]
 pub struct Fronts {
-    pub(crate) exposed: Exposed,
+    /// The temporaries of which rows are kept.
+    pub exposed: Exposed,
     /// By nodes: from the last block on.
-    pub(crate) rows: Vec<BitRow>,
+    pub rows: Vec<BitRow>,
 }
 
 /// What is live at the fronts of a function's blocks.
@@ -120,6 +121,7 @@ impl Fronts {
     {
         let place = self.rows.len() - 1 - block;
         let row = &self.rows[place];
+        let _len = row.len;
         let mut live = Vec::new(alloc);
         let mut at = 0;
         while let Some(i) = row.next_from(at) {

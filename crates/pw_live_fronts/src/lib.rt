@@ -9,4 +9,5 @@ mod named;
 mod outline;
 
 pub use fronts::{Fronts, find_fronts};
+pub use named::Exposed;
 pub use outline::{Act, Outline, Stretch};

@@ -4,7 +4,7 @@ ghost use Rattle.std.specs.Prelude.{◌≡◌, ◌<◌, ℕ, length, slice_get, 
 
 /// Temporaries with numbers, which count from 0 in the order in which they got them.
 #[derive(Drop)]
-pub(crate) struct Exposed {
+pub struct Exposed {
     /// The temporaries, by their numbers.
     pub names: Vec<u32>,
     /// Of each temporary of the function its number, where it has one.

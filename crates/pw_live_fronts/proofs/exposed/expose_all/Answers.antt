@@ -1,4 +1,4 @@
-use Rattle.std.proofs.Common.{◌≡◌, ◌+◌, ◌<◌, ◌≤◌, ◌∙◌, ℕ, List, ap, arith, length, refl, subst, sym, vec_len}
+use Rattle.std.proofs.Common.{◌≡◌, ◌+◌, ◌<◌, ◌≤◌, ◌∙◌, ℕ, List, ap, arith, length, refl, rules, subst, sym, vec_len}
 use Rattle.std.specs.Prelude.{Some, slice_get, slice_index}
 use Rattle.std.proofs.lemmas.Option.{slice_get_read}
 use Rattle.pw_flow.specs.Outline.{Stretch}
@@ -28,7 +28,7 @@ loop-place-preserved c =
     let inv = c.loop-place.invariant in
     record {
       count = c.expose_block.ensures.count ∙ inv.count;
-      long = c.expose_block.ensures.length ∙ inv.long;
-      low = c.expose_block.ensures.low;
+      long = first_of (search rules, omega arith);
+      low = λ t. let h = c.expose_block.ensures.low t in first_of (omega (arith, h), search rules);
       there = block_more f.blocks place s (IsExposed c.loop-place.exposed) (IsExposed c.expose_block.new.exposed) there c.expose_block.ensures.kept c.in_ok-expose_block.ensures.there inv.there;
     }

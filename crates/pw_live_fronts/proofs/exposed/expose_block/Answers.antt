@@ -12,8 +12,8 @@ loop-act-preserved c =
     let a = c.act-item.result in
     let mark = c.args.mark in
     let inv = c.loop-act.invariant in
-    let lt : k < length acts = subst (λ (xs : List Act). k < length xs) c.acts.ensures c.loop-act-test.true in
-    let is : get_or acts k a ≡ a = sym (subst (λ (xs : List Act). a ≡ get_or xs k a) c.acts.ensures c.act-item.is) in
+    let lt : k < length acts = subst (λ (xs : List Act). k < length xs) c.acts-act-items.ensures c.loop-act-test.true in
+    let is : get_or acts k a ≡ a = sym (subst (λ (xs : List Act). a ≡ get_or xs k a) c.acts-act-items.ensures c.act-item.is) in
     record {
       long = c.expose_act.ensures.length ∙ inv.long;
       count = c.expose_act.ensures.count ∙ inv.count;
@@ -29,6 +29,6 @@ returns-clause-there c =
     let uses = c.args.block.now.uses in
     let mark = c.args.mark in
     let inv = c.loop-act.invariant in
-    let le : length acts ≤ c.loop-act.act-index = subst (λ (xs : List Act). length xs ≤ c.loop-act.act-index) c.acts.ensures c.loop-act-test.false in
+    let le : length acts ≤ c.loop-act.act-index = subst (λ (xs : List Act). length xs ≤ c.loop-act.act-index) c.acts-act-items.ensures c.loop-act-test.false in
     let now = subst (λ (ts : List ℕ). (t : ℕ) → Contains ts t → slice_index c.loop-act.marks t ≢ mark → IsExposed c.expose_uses.new.exposed t) c.uses.ensures c.in_ok-expose_uses.ensures.there in
     acts_end acts uses c.loop-act.act-index mark c.loop-act.marks (IsExposed c.loop-act.exposed) (IsExposed c.expose_uses.new.exposed) le c.expose_uses.ensures.kept now inv.marked inv.there

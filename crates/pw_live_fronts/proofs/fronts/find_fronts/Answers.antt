@@ -7,7 +7,7 @@ use Rattle.pw_live_fronts.proofs.fronts.find_fronts.Goals as goal
 pub invariant_of-graph : goal.invariant_of-graph
 invariant_of-graph c =
     let nodes : length c.blocks-blocks.result.now ≡ length c.args.f.now.blocks = ap (λ (bs : List Stretch). length bs) c.blocks-blocks.ensures in
-    all_within c.args.f.now c.requires (length c.blocks-blocks.result.now) nodes c.in_ok-edges.edges.items c.in_ok-edges.ensures
+    record { within = all_within c.args.f.now c.requires (length c.blocks-blocks.result.now) nodes c.in_ok-edges.edges.items c.in_ok-edges.ensures }
 
 pub returns : goal.returns
 returns c =

@@ -24,8 +24,8 @@ loop-act-preserved c =
     let k = c.loop-act.act-index in
     let a = c.act-item.result in
     let node = c.args.node in
-    let lt : k < length acts = subst (λ (xs : List Act). k < length xs) c.acts.ensures c.loop-act-test.true in
-    let is : get_or acts k a ≡ a = sym (subst (λ (xs : List Act). a ≡ get_or xs k a) c.acts.ensures c.act-item.is) in
+    let lt : k < length acts = subst (λ (xs : List Act). k < length xs) c.acts-act-items.ensures c.loop-act-test.true in
+    let is : get_or acts k a ≡ a = sym (subst (λ (xs : List Act). a ≡ get_or xs k a) c.acts-act-items.ensures c.act-item.is) in
     record {
       uses_count = c.mark_act.ensures.uses_count ∙ c.loop-act.invariant.uses_count;
       uses_len = c.mark_act.ensures.uses_len ∙ c.loop-act.invariant.uses_len;
@@ -49,7 +49,7 @@ returns-clause-used c =
     let s = c.args.block.now in
     let k = c.loop-act.act-index in
     let node = c.args.node in
-    let le : length s.acts ≤ k = subst (λ (xs : List Act). length xs ≤ k) c.acts.ensures c.loop-act-test.false in
+    let le : length s.acts ≤ k = subst (λ (xs : List Act). length xs ≤ k) c.acts-act-items.ensures c.loop-act-test.false in
     let now = subst (λ (ts : List ℕ). (m i : ℕ) → HoldsAt c.mark_uses.new.uses m i ↔ (HoldsAt c.loop-act.uses m i ⊎ ((m ≡ node) × IsRead e ts i × ¬ HoldsAt c.loop-act.defines node i))) c.uses.ensures c.mark_uses.ensures.holds in
     uses_end e s k node (HoldsAt c.mark_uses.new.uses) (HoldsAt c.loop-act.uses) (HoldsAt c.args.uses.now) (HoldsAt c.loop-act.defines node) le now c.loop-act.invariant.used
     (defined_so_far e (take k s.acts) node (HoldsAt c.loop-act.defines) (HoldsAt c.args.defines.now) c.loop-act.invariant.defined c.requires.empty)
@@ -58,5 +58,5 @@ pub returns-clause-defined : goal.returns-clause-defined
 returns-clause-defined c =
     let s = c.args.block.now in
     let k = c.loop-act.act-index in
-    let le : length s.acts ≤ k = subst (λ (xs : List Act). length xs ≤ k) c.acts.ensures c.loop-act-test.false in
+    let le : length s.acts ≤ k = subst (λ (xs : List Act). length xs ≤ k) c.acts-act-items.ensures c.loop-act-test.false in
     defines_end c.args.exposed.now s k c.args.node (HoldsAt c.loop-act.defines) (HoldsAt c.args.defines.now) le c.loop-act.invariant.defined

@@ -6,7 +6,7 @@ use Rattle.pw_db.specs.declared.database.Role.{Role}
 use Rattle.pw_live.specs.Liveness.{has}
 use Rattle.pw_alloc_weights.proofs.Counting.{each_at}
 use Rattle.pw_alloc_registers.proofs.Barring.{barred_none, barred_more}
-use Rattle.pw_alloc_registers.proofs.allocating.webs_mask.Goals as goal
+use Rattle.pw_alloc_registers.proofs.finding.webs_mask.Goals as goal
 
 pub loop-web-init : goal.loop-web-init
 loop-web-init c = barred_none
