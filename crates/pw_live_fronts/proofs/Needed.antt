@@ -1,6 +1,6 @@
 -- The least solution of a problem over rows of bits in which a node adds what it needs itself to what flows in, without
 -- what it defines: it has what some walk of edges leads to.
-use Rattle.std.proofs.Common.{◌≡◌, ◌⊎◌, ℕ, ◌<◌, List, length, sym, subst, arith, inl, inr}
+use Rattle.std.proofs.Common.{◌≡◌, ◌⊎◌, ℕ, ◌<◌, List, arith, inl, inr}
 use Rattle.std.specs.Prelude.{Some, slice_get, ◌↔◌}
 use Rattle.pw_fix.specs.Row.{Holds, IsSubset}
 use Rattle.pw_fix.specs.Solution.{HasEdge, IsSolution, Derivable, least, flows, steps, joins, Place, into, value_of, AreDerived}

@@ -1,5 +1,5 @@
 -- What is exposed, use by use, operation by operation and block by block.
-use Rattle.std.proofs.Common.{◌≡◌, ◌≢◌, ◌⊎◌, ℕ, ◌+◌, ◌<◌, ◌≤◌, ◌||◌, true, List, [], ◌∷◌, length, get_or, set, take, sym, ap, subst, ◌∙◌, arith, inl, inr}
+use Rattle.std.proofs.Common.{◌≡◌, ◌≢◌, ◌⊎◌, ℕ, ◌+◌, ◌<◌, ◌≤◌, true, List, [], ◌∷◌, length, get_or, set, take, sym, ap, subst, ◌∙◌, arith, inl, inr}
 use Rattle.std.specs.Prelude.{Some, slice_get, slice_index, Contains}
 use Rattle.std.proofs.lemmas.Bool.{cases_eq, or_left, or_right, eq-eqb}
 use Rattle.std.proofs.lemmas.List.{take_all, get_or-set_same, get_or-set_other}

@@ -11,9 +11,9 @@ use Rattle.pw_fix.proofs.Places.{at_index}
 use Rattle.pw_flow.specs.Outline.{Stretch, Outline}
 use Rattle.pw_live.specs.Liveness.{is_live_in}
 use Rattle.pw_live_fronts.specs.Blocks.{IsStretch, IsOutline, uses_first, defines_any}
-use Rattle.pw_live_fronts.specs.Flowing.{IsNeededRow, Needed, node_of, IsEdge}
+use Rattle.pw_live_fronts.specs.Flowing.{IsNeededRow, node_of, IsEdge}
 use Rattle.pw_live_fronts.specs.Exposing.{IsNumber, IsExposed, IsUsedFirst, IsDefined}
-use Rattle.pw_live_fronts.specs.LiveFronts.{IsLiveAt, AreFronts}
+use Rattle.pw_live_fronts.specs.LiveFronts.{AreFronts}
 use Rattle.pw_live_fronts.specs.declared.fronts.Fronts.{Fronts}
 use Rattle.pw_live_fronts.specs.declared.named.Exposed.{Exposed}
 use Rattle.pw_live_fronts.proofs.Names.{one_name}

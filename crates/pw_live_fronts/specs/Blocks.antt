@@ -1,5 +1,5 @@
 -- What a block does to what is needed behind it.
-use Rattle.std.specs.Prelude.{ℕ, ◌≡◌, ◌<◌, ◌≤◌, ◌&&◌, ◌||◌, not, Bool, Option, IfSome, List, [], ◌∷◌, length}
+use Rattle.std.specs.Prelude.{ℕ, ◌<◌, ◌≤◌, ◌&&◌, ◌||◌, not, Bool, IfSome, List, [], ◌∷◌, length}
 use Rattle.std.specs.List.{AllByRecursion, list_any}
 use Rattle.pw_flow.specs.Outline.{Act, Stretch, Outline}
 use Rattle.pw_live.specs.Liveness.{has, is_that}

@@ -1,7 +1,7 @@
-use Rattle.std.proofs.Common.{◌≡◌, ◌⊎◌, ◌<◌, ◌∙◌, ℕ, true, List, length, arith, refl, sym, ap, subst, vec_len, inl, inr}
+use Rattle.std.proofs.Common.{◌≡◌, ◌⊎◌, ◌<◌, ◌∙◌, ℕ, true, List, drop, length, arith, rules, refl, sym, ap, subst, vec_len, inl, inr}
 use Rattle.std.specs.Prelude.{Some, nat_lt, slice_index, ◌↔◌}
 use Rattle.std.proofs.lemmas.Bool.{ltb-true, lt-ltb}
-use Rattle.std.proofs.lemmas.List.{length-set}
+use Rattle.std.proofs.lemmas.List.{take_at}
 use Rattle.pw_live_spans.specs.Spans.{Covers}
 use Rattle.pw_alloc_taken.specs.Masks.{HasRegister}
 use Rattle.pw_alloc_taken.proofs.Giving.{given_more, registers_with}
@@ -24,8 +24,8 @@ pub returns-clause-sized : goal.returns-clause-sized
 returns-clause-sized c =
     let given = c.args.given.now in
     record {
-      temps = c.requires.sized.temps;
-      points = c.requires.sized.points;
+      temps = first_of (search rules, omega (arith, c.requires.sized.temps));
+      points = first_of (search rules, omega (arith, c.requires.sized.points));
       low = registers_with given.registers.items c.args.t c.args.r c.requires.register c.requires.sized.low;
     }
 
@@ -36,7 +36,12 @@ returns-clause-given c = λ gs has none.
     let given = c.args.given.now in
     let t = c.args.t in
     let r = c.args.r in
-    let occupied = subst (λ (ms : List ℕ). (p k : ℕ) → HasRegister (slice_index c.occupy.new.occupied p) k ↔ (HasRegister (slice_index ms p) k ⊎ (Covers c.of.result.now p × (k ≡ r)))) c.deref_mut.ensures.value c.occupy.ensures.each in
+    let masks = given.occupied in
+    let now = c.occupy.new.occupied in
+    let long : length c.deref_mut.result.now ≡ length masks.items = ap (λ (ms : List ℕ). length ms) c.deref_mut.ensures.value in
+    let size : length now ≡ masks.len = omega (arith, c.occupy.ensures.length, long, masks.ok.0) in
+    let each = subst (λ (ms : List ℕ). (p k : ℕ) → HasRegister (slice_index now p) k ↔ (HasRegister (slice_index ms p) k ⊎ (Covers c.of.result.now p × (k ≡ r)))) c.deref_mut.ensures.value c.occupy.ensures.each in
+    let occupied = subst (λ (ms : List ℕ). (p k : ℕ) → HasRegister (slice_index ms p) k ↔ (HasRegister (slice_index masks.items p) k ⊎ (Covers c.of.result.now p × (k ≡ r)))) (sym (take_at now (drop (length now) masks.items) masks.len size)) each in
     given_more f gs given _ t r c.of.result.now c.requires.temp (sym given.registers.ok.0 ∙ c.requires.sized.temps) none (λ q. c.requires.facts.spans.each t q c.of.result.now c.of.ensures) refl occupied
     (λ k. (
       λ h. elim ((c.with_param-params.ensures k).0 h) [ inl old ↦ inl old | inr new ↦ inr (subst (λ (n : ℕ). t < n) c.params.ensures (ltb-true t c.params.result new.0), new.1) ],

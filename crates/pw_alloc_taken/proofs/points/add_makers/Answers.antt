@@ -13,15 +13,15 @@ loop-act-preserved c =
     let acts = c.args.block.now.acts in
     let k = c.loop-act.act-index in
     let a = c.act-item.result in
-    let lt : k < length acts = subst (λ (xs : List Act). k < length xs) c.acts.ensures c.loop-act-test.true in
-    let is : get_or acts k a ≡ a = sym (subst (λ (xs : List Act). a ≡ get_or xs k a) c.acts.ensures c.act-item.is) in
+    let lt : k < length acts = subst (λ (xs : List Act). k < length xs) c.acts-act-items.ensures c.loop-act-test.true in
+    let is : get_or acts k a ≡ a = sym (subst (λ (xs : List Act). a ≡ get_or xs k a) c.acts-act-items.ensures c.act-item.is) in
     made_more acts a k c.defines.result c.args.makers.now.items c.loop-act.makers.items c.push-2.new.self.items lt is c.defines.ensures c.in_ok-push-2.ensures.items c.loop-act.invariant
 
 pub returns : goal.returns
 returns c =
     let s = c.args.block.now in
     let k = c.loop-act.act-index in
-    let le : length s.acts ≤ k = subst (λ (xs : List Act). length xs ≤ k) c.acts.ensures c.loop-act-test.false in
+    let le : length s.acts ≤ k = subst (λ (xs : List Act). length xs ≤ k) c.acts-act-items.ensures c.loop-act-test.false in
     c.loop-act.invariant
     ∙ ap (λ (acts : List Act). c.args.makers.now.items ++ None ∷ map (λ (a : Act). a.defines) acts) (take_all k s.acts le)
     ∙ ap (λ (rest : List (Option ℕ)). c.args.makers.now.items ++ rest) (sym (makers_in s))

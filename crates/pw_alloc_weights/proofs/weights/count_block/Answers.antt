@@ -17,8 +17,8 @@ count_act-requires c =
     let acts = c.args.block.now.acts in
     let k = c.loop-act.act-index in
     let a = c.act-item.result in
-    let lt : k < length acts = subst (λ (xs : List Act). k < length xs) c.acts.ensures c.loop-act-test.true in
-    let is : a ≡ get_or acts k a = subst (λ (xs : List Act). a ≡ get_or xs k a) c.acts.ensures c.act-item.is in
+    let lt : k < length acts = subst (λ (xs : List Act). k < length xs) c.acts-act-items.ensures c.loop-act-test.true in
+    let is : a ≡ get_or acts k a = subst (λ (xs : List Act). a ≡ get_or xs k a) c.acts-act-items.ensures c.act-item.is in
     subst (λ (n : ℕ). IsAct n a) (sym c.loop-act.invariant.long)
     (each_at (IsAct (length c.args.weights.now)) acts k a c.requires.acts (slice_get_read acts (length acts) k a refl lt is))
 
@@ -27,8 +27,8 @@ loop-act-preserved c =
     let acts = c.args.block.now.acts in
     let k = c.loop-act.act-index in
     let a = c.act-item.result in
-    let lt : k < length acts = subst (λ (xs : List Act). k < length xs) c.acts.ensures c.loop-act-test.true in
-    let is : get_or acts k a ≡ a = sym (subst (λ (xs : List Act). a ≡ get_or xs k a) c.acts.ensures c.act-item.is) in
+    let lt : k < length acts = subst (λ (xs : List Act). k < length xs) c.acts-act-items.ensures c.loop-act-test.true in
+    let is : get_or acts k a ≡ a = sym (subst (λ (xs : List Act). a ≡ get_or xs k a) c.acts-act-items.ensures c.act-item.is) in
     record {
       long = c.count_act.ensures.length ∙ c.loop-act.invariant.long;
       value = λ u. sum_more (counted_in u) acts k a c.factor-factor.result (slice_index c.args.weights.now u) (slice_index c.loop-act.weights u) (slice_index c.count_act.new.weights u) lt is
@@ -50,6 +50,6 @@ returns-clause-value c = λ u.
     let factor = c.factor-factor.result in
     let cur = slice_index c.loop-act.weights u in
     let new = slice_index c.count_uses.new.weights u in
-    let le : length s.acts ≤ c.loop-act.act-index = subst (λ (xs : List Act). length xs ≤ c.loop-act.act-index) c.acts.ensures c.loop-act-test.false in
+    let le : length s.acts ≤ c.loop-act.act-index = subst (λ (xs : List Act). length xs ≤ c.loop-act.act-index) c.acts-act-items.ensures c.loop-act-test.false in
     let used = subst (λ (ts : List ℕ). new ≡ cur + factor * count_by (λ t. t == u) ts) c.uses.ensures (c.in_ok-count_uses.ensures.value u) in
     block_all s c.loop-act.act-index u factor (slice_index c.args.weights.now u) cur new le (c.factor-factor.ensures ∙ ap (λ (d : ℕ). 8 ^ (min depth_limit d)) c.depth.ensures) (c.loop-act.invariant.value u) used

@@ -1,7 +1,7 @@
-use Rattle.std.proofs.Common.{◌≡◌, ◌<◌, ◌≤◌, ◌+◌, ◌∙◌, ℕ, List, get_or, length, replicate, arith, refl, sym, ap, subst, vec_len}
-use Rattle.std.specs.Prelude.{Some, slice_get, slice_index}
+use Rattle.std.proofs.Common.{◌≡◌, ◌<◌, ◌≤◌, ◌+◌, ◌==◌, ◌∙◌, ℕ, List, drop, get_or, length, replicate, take, arith, rules, refl, sym, ap, subst, vec_len}
+use Rattle.std.specs.Prelude.{if◌then◌else◌, nat_lt, Some, slice_get, slice_index}
 use Rattle.std.specs.List.{sum_by}
-use Rattle.std.proofs.lemmas.List.{length-replicate}
+use Rattle.std.proofs.lemmas.List.{length-replicate, take_at}
 use Rattle.std.proofs.lemmas.Option.{slice_get_read}
 use Rattle.pw_flow.specs.Outline.{Stretch}
 use Rattle.pw_live_fronts.specs.Blocks.{IsStretch}
@@ -38,10 +38,15 @@ loop-place-preserved c =
     let s = c.index-blocks-place.result in
     let lt : k < length f.blocks = subst (λ (bs : List Stretch). k < length bs) c.blocks-blocks.ensures c.loop-place-test.true in
     let is : get_or f.blocks k s ≡ s = sym (subst (λ (bs : List Stretch). s ≡ get_or bs k s) c.blocks-blocks.ensures c.index-blocks-place.is) in
+    let old = c.loop-place.weights in
+    let new = c.count_block.new.weights in
+    let same : length c.deref_mut.result.now ≡ length old.items = ap (λ (xs : List ℕ). length xs) c.deref_mut.ensures.value in
+    let size : length new ≡ old.len = omega (arith, c.count_block.ensures.length, same, old.ok.0) in
     record {
-      long = c.loop-place.invariant.long;
-      value = λ u. blocks_more f.blocks k s u (slice_index c.loop-place.weights.items u) (slice_index c.count_block.new.weights u) lt is
-          (subst (λ (xs : List ℕ). slice_index c.count_block.new.weights u ≡ slice_index xs u + weight_in u s) c.deref_mut.ensures.value (c.in_ok-count_block.ensures.value u)) (c.loop-place.invariant.value u);
+      long = first_of (search rules, omega arith);
+      value = λ u. subst (λ (xs : List ℕ). slice_index xs u ≡ sum_by (weight_in u) (take (k + 1) f.blocks)) (sym (take_at new (drop (length new) old.items) old.len size))
+          (blocks_more f.blocks k s u (slice_index old.items u) (slice_index new u) lt is
+          (subst (λ (xs : List ℕ). slice_index new u ≡ slice_index xs u + weight_in u s) c.deref_mut.ensures.value (c.in_ok-count_block.ensures.value u)) (c.loop-place.invariant.value u));
     }
 
 pub loop-t-init : goal.loop-t-init
@@ -57,11 +62,17 @@ loop-t-init c =
 pub loop-t-preserved : goal.loop-t-preserved
 loop-t-preserved c =
     let f = c.args.f.now in
+    let t = c.loop-t.t in
+    let old = c.loop-t.weights in
+    let new = c.count.new.weights in
+    let same : length c.deref_mut-2.result.now ≡ length old.items = ap (λ (xs : List ℕ). length xs) c.deref_mut-2.ensures.value in
+    let size : length new ≡ old.len = omega (arith, c.count.ensures.length, same, old.ok.0) in
     record {
-      long = c.loop-t.invariant.long;
-      high = let lt = c.loop-t-test.true in let same = c.params.ensures in omega (arith, lt, same);
-      value = λ u. params_more (sum_by (weight_in u) f.blocks) u c.loop-t.t (slice_index c.loop-t.weights.items u) (slice_index c.count.new.weights u)
-          (subst (λ (xs : List ℕ). slice_index c.count.new.weights u ≡ slice_index xs u + _) c.deref_mut-2.ensures.value (c.in_ok-count.ensures.value u)) (c.loop-t.invariant.value u);
+      long = first_of (search rules, omega arith);
+      high = let lt = c.loop-t-test.true in let many = c.params.ensures in omega (arith, lt, many);
+      value = λ u. subst (λ (xs : List ℕ). slice_index xs u ≡ sum_by (weight_in u) f.blocks + (if nat_lt u (t + 1) then 1 else 0)) (sym (take_at new (drop (length new) old.items) old.len size))
+          (params_more (sum_by (weight_in u) f.blocks) u t (slice_index old.items u) (slice_index new u)
+          (subst (λ (xs : List ℕ). slice_index new u ≡ slice_index xs u + (if t == u then 1 else 0)) c.deref_mut-2.ensures.value (c.in_ok-count.ensures.value u)) (c.loop-t.invariant.value u));
     }
 
 pub returns-clause-each : goal.returns-clause-each

@@ -1,4 +1,4 @@
-use Rattle.std.proofs.Common.{◌≡◌, ◌<◌, ℕ, length}
+use Rattle.std.proofs.Common.{◌<◌, ℕ}
 use Rattle.std.specs.Prelude.{◌↔◌}
 use Rattle.pw_fix.specs.Solution.{HasEdge}
 use Rattle.pw_live_fronts.specs.Flowing.{IsEdge}

@@ -1,5 +1,6 @@
-use Rattle.std.proofs.Common.{◌≡◌, ◌+◌, ◌<◌, ◌≤◌, ◌∙◌, ℕ, List, ap, arith, length, refl, rules, subst, sym, vec_len}
+use Rattle.std.proofs.Common.{◌≡◌, ◌+◌, ◌≤◌, ◌∙◌, ℕ, List, ap, arith, drop, length, refl, rules, subst, sym, vec_len}
 use Rattle.std.specs.Prelude.{Some, slice_get, slice_index}
+use Rattle.std.proofs.lemmas.List.{take_at}
 use Rattle.std.proofs.lemmas.Option.{slice_get_read}
 use Rattle.pw_flow.specs.Outline.{Stretch}
 use Rattle.pw_live_fronts.specs.Blocks.{IsStretch}
@@ -26,9 +27,12 @@ loop-place-preserved c =
     let there : slice_get f.blocks place ≡ Some s =
     subst (λ (bs : List Stretch). slice_get bs place ≡ Some s) c.blocks-blocks.ensures (slice_get_read c.blocks-blocks.result.now (length c.blocks-blocks.result.now) place s refl c.loop-place-test.true c.index-blocks-place.is) in
     let inv = c.loop-place.invariant in
+    let new = c.expose_block.new.marks in
+    let same : length c.deref_mut.result.now ≡ length c.loop-place.marks.items = ap (λ (xs : List ℕ). length xs) c.deref_mut.ensures.value in
+    let size : length new ≡ c.loop-place.marks.len = omega (arith, c.expose_block.ensures.length, same, c.loop-place.marks.ok.0) in
     record {
       count = c.expose_block.ensures.count ∙ inv.count;
       long = first_of (search rules, omega arith);
-      low = λ t. let h = c.expose_block.ensures.low t in first_of (omega (arith, h), search rules);
+      low = λ t. subst (λ (xs : List ℕ). slice_index xs t ≤ place + 1) (sym (take_at new (drop (length new) c.loop-place.marks.items) c.loop-place.marks.len size)) (c.expose_block.ensures.low t);
       there = block_more f.blocks place s (IsExposed c.loop-place.exposed) (IsExposed c.expose_block.new.exposed) there c.expose_block.ensures.kept c.in_ok-expose_block.ensures.there inv.there;
     }

@@ -1,4 +1,4 @@
-use Rattle.std.proofs.Common.{◌≡◌, ◌<◌, ◌≤◌, ℕ, true, length, vec_len}
+use Rattle.std.proofs.Common.{◌≡◌, ◌<◌, ◌≤◌, ℕ, true, vec_len}
 use Rattle.std.specs.Prelude.{Some, slice_get, slice_index}
 use Rattle.pw_flow.specs.Outline.{Stretch}
 use Rattle.pw_live_fronts.specs.Blocks.{uses_first}

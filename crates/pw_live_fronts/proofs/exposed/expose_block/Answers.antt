@@ -1,4 +1,4 @@
-use Rattle.std.proofs.Common.{◌≡◌, ◌≢◌, ◌⊎◌, ◌<◌, ◌≤◌, ◌∙◌, ℕ, true, List, arith, get_or, length, refl, subst, sym}
+use Rattle.std.proofs.Common.{◌≡◌, ◌≢◌, ◌<◌, ◌≤◌, ◌∙◌, ℕ, true, List, get_or, length, subst, sym}
 use Rattle.std.specs.Prelude.{Contains, slice_index}
 use Rattle.pw_flow.specs.Outline.{Act}
 use Rattle.pw_live_fronts.specs.Exposing.{IsExposed}

@@ -1,4 +1,4 @@
-use Rattle.std.proofs.Common.{◌≡◌, ◌≢◌, ◌<◌, ◌≤◌, ◌∙◌, ℕ, get_or, refl}
+use Rattle.std.proofs.Common.{◌∙◌, refl}
 use Rattle.pw_live_fronts.specs.Exposing.{IsExposed}
 use Rattle.pw_live_fronts.proofs.Readings.{nothing_read, expose_more, expose_end}
 use Rattle.pw_live_fronts.proofs.exposed.expose_uses.Goals as goal

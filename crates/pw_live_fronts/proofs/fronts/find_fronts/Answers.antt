@@ -1,4 +1,4 @@
-use Rattle.std.proofs.Common.{◌≡◌, List, ap, length, refl, sym, ◌∙◌}
+use Rattle.std.proofs.Common.{◌≡◌, List, ap, length}
 use Rattle.pw_fix.specs.Table.{HoldsAt}
 use Rattle.pw_flow.specs.Outline.{Stretch}
 use Rattle.pw_live_fronts.proofs.Rows.{all_within, are_fronts}

@@ -1,4 +1,4 @@
-use Rattle.std.proofs.Common.{◌≡◌, ◌<◌, ◌∙◌, ℕ, [], ◌∷◌, ◌++◌, length, arith, ap}
+use Rattle.std.proofs.Common.{◌<◌, ◌∙◌, ℕ, [], ◌∷◌, ◌++◌, length, arith, ap}
 use Rattle.std.proofs.lemmas.List.{get_or_read}
 use Rattle.pw_live_fronts.proofs.Collecting.{named_push, unnamed}
 use Rattle.pw_live_fronts.proofs.fronts.push_named.Goals as goal

@@ -1,5 +1,5 @@
-use Rattle.std.proofs.Common.{◌≡◌, ◌-◌, ◌<◌, ◌≤◌, ℕ, rules, ap, arith, ◌∙◌}
-use Rattle.std.specs.Prelude.{Some, slice_get, vec_len}
+use Rattle.std.proofs.Common.{◌≡◌, ◌-◌, ◌<◌, rules, ap, arith, ◌∙◌}
+use Rattle.std.specs.Prelude.{slice_get, vec_len}
 use Rattle.std.proofs.lemmas.Option.{slice_get_read}
 use Rattle.pw_live_fronts.proofs.Collecting.{found_more, found_all, live_is}
 use Rattle.pw_live_fronts.proofs.fronts.Fronts.live.Goals as goal

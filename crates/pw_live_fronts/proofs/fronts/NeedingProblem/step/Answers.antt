@@ -1,4 +1,4 @@
-use Rattle.std.proofs.Common.{◌⊎◌, inl, inr}
+use Rattle.std.proofs.Common.{inl, inr}
 use Rattle.pw_live_fronts.proofs.fronts.NeedingProblem.step.Goals as goal
 
 pub returns-clause-outflow : goal.returns-clause-outflow
