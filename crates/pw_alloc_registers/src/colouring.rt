@@ -85,8 +85,10 @@ pub(crate) fn registers(alloc: Global, f: &Outline, webs: u32) -> Result<Vec<Opt
 {
     let facts = find_facts(alloc, f)?;
     let order = ordered(alloc, f)?;
-    let mut given = Given::new(alloc, f, facts.makers.len())?;
-    for place in 0..order.len() {
+    let points = facts.makers.len();
+    let mut given = Given::new(alloc, f, points)?;
+    let count = order.len();
+    for place in 0..count {
         colour(&mut given, &facts, f, webs, order[place]);
     }
     let Given {

@@ -1,6 +1,6 @@
 //! The order in which temporaries get registers.
 
-ghost use Rattle.std.specs.Prelude.{◌≡◌, map, IfOk};
+ghost use Rattle.std.specs.Prelude.{◌≡◌, length, map, IfOk};
 ghost use Rattle.std.specs.List.Sorted.{IsPermutation};
 ghost use Rattle.pw_db.specs.Database.{EachTwo};
 ghost use Rattle.pw_live_fronts.specs.Blocks.{IsOutline};
@@ -18,14 +18,14 @@ struct Weighed {
     weight: u64,
 }
 
-/// The temporaries by number, with their weights, of which there are no more than a word counts.
-fn with_weights(alloc: Global, weights: &[u64]) -> Result<Vec<Weighed>, NoMemory>
-    requires { length weights.now < 2 ^ 32 }
+/// So many temporaries by number, with their weights.
+fn with_weights(alloc: Global, weights: &[u64], temps: u32) -> Result<Vec<Weighed>, NoMemory>
+    requires { length weights.now ≡ temps }
     ensures { IfOk result (λ v. v.items ≡ numbered 0 weights.now) }
 {
     let mut all = Vec::with_capacity(alloc, weights.len())?;
-    for place in 0..weights.len() {
-        let temp = place as u32;
+    for temp in 0..temps {
+        let place = temp as usize;
         let weight = weights[place];
         all.push(Weighed { temp, weight })?;
     }
@@ -38,9 +38,9 @@ fn sorted(all: Vec<Weighed>) -> Result<Vec<Weighed>, NoMemory>
     ensures same { IfOk result (λ v. IsPermutation all.items v.items) }
     ensures order { IfOk result (λ v. EachTwo ComesFirst v.items) }
 {
-    let mut sorted = all;
-    sorted.sort_by(|one, other| other.weight.cmp(&one.weight))?;
-    Ok(sorted)
+    let mut ranked = all;
+    ranked.sort_by(|one, other| other.weight.cmp(&one.weight))?;
+    Ok(ranked)
 }
 
 /// The temporaries alone.
@@ -60,8 +60,9 @@ pub fn ordered(alloc: Global, f: &Outline) -> Result<Vec<u32>, NoMemory>
     ensures { IfOk result (λ v. v.items ≡ by_weight f.now 0 f.now.temps) }
 {
     let weights = weigh(alloc, f)?;
-    let weighed = with_weights(alloc, &weights)?;
+    let temps = f.temps();
+    let weighed = with_weights(alloc, &weights, temps)?;
     let all = sorted(weighed)?;
-    let temps = temps_of(alloc, &all)?;
-    Ok(temps)
+    let order = temps_of(alloc, &all)?;
+    Ok(order)
 }

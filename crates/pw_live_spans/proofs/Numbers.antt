@@ -1,5 +1,5 @@
 -- The points of a function by number.
-use Rattle.std.proofs.Common.{◌≡◌, ◌⊎◌, ℕ, zero, suc, ◌+◌, ◌-◌, ◌<◌, ◌≤◌, Bool, true, List, [], ◌∷◌, ◌++◌, length, drop, refl, sym, ap, subst, ◌∙◌, arith, inl, inr}
+use Rattle.std.proofs.Common.{◌≡◌, ℕ, zero, suc, ◌+◌, ◌-◌, ◌<◌, ◌≤◌, true, List, [], ◌∷◌, ◌++◌, length, drop, refl, sym, ap, ◌∙◌, arith, inl, inr}
 use Rattle.std.specs.Prelude.{None, Some, slice_get, ◌↔◌}
 use Rattle.std.specs.List.{flat_map}
 use Rattle.std.proofs.lemmas.Bool.{cases_lt}
@@ -8,7 +8,7 @@ use Rattle.std.proofs.lemmas.Option.{same_Some, slice_get_within, slice_get_case
 use Rattle.pw_flow.specs.Outline.{Act, Stretch, Outline}
 use Rattle.pw_live.specs.Liveness.{needs_block, at_front, is_live, is_live_in}
 use Rattle.pw_live.specs.Points.{Point, point_in, points_behind, points_in, points, lives}
-use Rattle.pw_live_spans.specs.LivePoints.{points_before, LivesIn, LivesFrom}
+use Rattle.pw_live_spans.specs.LivePoints.{points_before, LivesFrom}
 
 -- ---- two lists
 

@@ -4,10 +4,10 @@ use Rattle.std.specs.Prelude.{Option, None, Some, slice_get, Contains, ◌↔◌
 use Rattle.std.proofs.lemmas.Bool.{cases_eq, cases_Bool, or_cases, or_left, or_right, and_from, eqb-true, eq-eqb}
 use Rattle.std.proofs.lemmas.Option.{same_Some, slice_get_within}
 use Rattle.pw_flow.specs.Outline.{Act, Stretch, Outline}
-use Rattle.pw_live.specs.Liveness.{has, is_that, is_live, is_live_in}
+use Rattle.pw_live.specs.Liveness.{has, is_that, is_live}
 use Rattle.pw_live_spans.specs.Spans.{Covers}
-use Rattle.pw_live_spans.specs.Walking.{IsOpen, IsClosed, IsAhead, Marked}
-use Rattle.pw_live_spans.specs.LivePoints.{points_before, LivesIn, LivesFrom, StandsBefore, StandsInside, IsLiveAtOne, IsLiveBefore}
+use Rattle.pw_live_spans.specs.Walking.{IsOpen, Marked}
+use Rattle.pw_live_spans.specs.LivePoints.{points_before, LivesIn, LivesFrom, StandsBefore, StandsInside, IsLiveBefore}
 use Rattle.pw_live_spans.specs.declared.walk.Walk.{Walk}
 
 -- ---- tests

@@ -181,7 +181,7 @@ fn count_points(blocks: &[Stretch]) -> Result<usize, NoMemory>
 /// Of each temporary the spans of points where it is live.
 #[derive(Drop)]
 pub struct Spans {
-    pub(crate) lists: Vec<Items<(usize, usize)>>,
+    pub lists: Vec<Items<(usize, usize)>>,
 }
 
 /// The spans of a function's temporaries.

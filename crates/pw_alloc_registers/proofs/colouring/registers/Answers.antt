@@ -10,7 +10,7 @@ use Rattle.pw_alloc_registers.proofs.Turns.{next_turn, none_yet, all_registers, 
 use Rattle.pw_alloc_registers.proofs.colouring.registers.Goals as goal
 
 pub new-given-requires : goal.new-given-requires
-new-given-requires c = let v = c.in_ok-facts.facts in c.len.ensures ∙ many_makers c.args.f.now v c.in_ok-facts.ensures
+new-given-requires c = let v = c.in_ok-facts.facts in c.len-points.ensures ∙ v.makers.ok.0 ∙ many_makers c.args.f.now v c.in_ok-facts.ensures
 
 pub colour-requires : goal.colour-requires
 colour-requires c =
@@ -20,7 +20,7 @@ colour-requires c =
       outline = c.requires;
       facts = c.in_ok-facts.ensures;
       sized = c.loop-place.invariant.sized;
-      temp = ordered_below f order.items c.loop-place.place c.index.result.now c.in_ok-order.ensures (slice_get_read order.items (vec_len order) c.loop-place.place c.index.result.now order.ok.0 c.loop-place-test.true c.index.ensures);
+      temp = ordered_below f order.items c.loop-place.place c.index.result.now c.in_ok-order.ensures (slice_get_read order.items (vec_len order) c.loop-place.place c.index.result.now order.ok.0 (omega (arith, c.loop-place-test.true, c.len-count.ensures)) c.index.ensures);
     }
 
 pub loop-place-init : goal.loop-place-init
@@ -36,7 +36,7 @@ loop-place-preserved c =
     record {
       sized = c.colour.ensures.sized;
       given = λ ws webs.
-          let lt : k < length xs = subst (λ (ys : List ℕ). k < length ys) c.in_ok-order.ensures (let low = c.loop-place-test.true in let size = order.ok.0 in omega (arith, low, size)) in
+          let lt : k < length xs = subst (λ (ys : List ℕ). k < length ys) c.in_ok-order.ensures (let low = c.loop-place-test.true in let size = order.ok.0 in let many = c.len-count.ensures in omega (arith, low, size, many)) in
           let is : get_or xs k t ≡ t = sym (subst (λ (ys : List ℕ). t ≡ get_or ys k t) c.in_ok-order.ensures c.index.ensures) in
           let known = subst (λ (ys : List ℕ). AreGiven f (given_to f ws (take k ys) []) c.loop-place.given) c.in_ok-order.ensures (c.loop-place.invariant.given ws webs) in
           let none = none_yet f ws k t lt is in
@@ -50,6 +50,6 @@ returns c = λ ws webs.
     let order = c.in_ok-order.order in
     let v = c.loop-place.given in
     let xs = by_weight f 0 f.temps in
-    let le : length order.items ≤ c.loop-place.place = let past = c.loop-place-test.false in let size = order.ok.0 in omega (arith, past, size) in
+    let le : length order.items ≤ c.loop-place.place = let past = c.loop-place-test.false in let size = order.ok.0 in let many = c.len-count.ensures in omega (arith, past, size, many) in
     let known = subst (λ (ys : List ℕ). AreGiven f (given_to f ws ys []) v) (take_all c.loop-place.place order.items le ∙ c.in_ok-order.ensures) (c.loop-place.invariant.given ws webs) in
     all_registers f ws v.registers.items (sym v.registers.ok.0 ∙ c.loop-place.invariant.sized.temps) known.registers

@@ -12,7 +12,8 @@ use Rattle.pw_alloc_weights.proofs.weights.weigh.Goals as goal
 pub loop-place-init : goal.loop-place-init
 loop-place-init c =
     let ws = c.in_ok-weights.weights in
-    let none : ws.items ≡ replicate c.args.f.now.temps 0 = c.in_ok-weights.ensures ∙ ap (λ (n : ℕ). replicate n 0) c.temps.ensures in
+    let zero_of : ws.items ≡ replicate c.temps.result 0 = search rules in
+    let none : ws.items ≡ replicate c.args.f.now.temps 0 = zero_of ∙ ap (λ (n : ℕ). replicate n 0) c.temps.ensures in
     record {
       long = ws.ok.0 ∙ ap (λ (xs : List ℕ). length xs) none ∙ length-replicate c.args.f.now.temps 0;
       value = λ u. ap (λ (xs : List ℕ). slice_index xs u) none ∙ zeros c.args.f.now.temps u;
@@ -58,6 +59,12 @@ loop-t-init c =
       high = omega arith;
       value = λ u. blocks_all f.blocks c.loop-place.place u (slice_index c.loop-place.weights.items u) le (c.loop-place.invariant.value u);
     }
+
+pub count-requires : goal.count-requires
+count-requires c =
+    let old = c.loop-t.weights in
+    let same : length c.deref_mut-2.result.now ≡ length old.items = ap (λ (xs : List ℕ). length xs) c.deref_mut-2.ensures.value in
+    omega (arith, c.loop-t-test.true, c.params.ensures, c.requires.params, c.loop-t.invariant.long, old.ok.0, same)
 
 pub loop-t-preserved : goal.loop-t-preserved
 loop-t-preserved c =

@@ -1,4 +1,4 @@
-use Rattle.std.proofs.Common.{◌≡◌, ◌≤◌, ◌<◌, ◌-◌, ◌+◌, ◌∙◌, ℕ, List, ap, arith, length, refl, subst, sym}
+use Rattle.std.proofs.Common.{◌≡◌, ◌≤◌, ◌<◌, ◌-◌, ◌+◌, ◌∙◌, ℕ, List, ap, arith, length, subst}
 use Rattle.pw_flow.specs.Outline.{Stretch}
 use Rattle.pw_live_spans.specs.LivePoints.{points_before, StandsBefore}
 use Rattle.pw_live_spans.proofs.Walks.{at_the_end, at_the_start}

@@ -1,4 +1,4 @@
-use Rattle.std.proofs.Common.{◌≡◌, ◌⊎◌, ◌≤◌, ◌<◌, ℕ, arith, subst}
+use Rattle.std.proofs.Common.{◌⊎◌, ◌≤◌, ◌<◌, ℕ, arith, subst}
 use Rattle.std.specs.Prelude.{◌↔◌}
 use Rattle.pw_live_spans.specs.Spans.{IsIn, Covers}
 use Rattle.pw_live_spans.proofs.walk.put_behind.Goals as goal

@@ -1,8 +1,14 @@
 use Rattle.std.proofs.Common.{◌<◌, arith, refl, vec_len}
 use Rattle.std.specs.Prelude.{Some}
 use Rattle.std.proofs.lemmas.Option.{slice_get_read, slice_get_within}
-use Rattle.pw_live_spans.proofs.Walking.{close_marks, close_opens}
+use Rattle.pw_live_spans.proofs.Walking.{ahead_without, close_marks, close_opens}
 use Rattle.pw_live_spans.proofs.walk.Walk.finish.Goals as goal
+
+pub cover-requires : goal.cover-requires
+cover-requires c = let up = c.args.self.now.ahead c.args.t c.args.end c.requires in omega (arith, up)
+
+pub invariant_of-self-2 : goal.invariant_of-self-2
+invariant_of-self-2 c = let w = c.args.self.now in record { same = w.same; ahead = ahead_without w.ends.items c.args.t w.place w.ahead }
 
 pub returns-clause-marked : goal.returns-clause-marked
 returns-clause-marked c =
