@@ -6,6 +6,9 @@ use Rattle.pw_live.specs.Liveness.{is_that}
 use Rattle.pw_alloc_taken.specs.Makers.{IsOverCall}
 use Rattle.pw_alloc_taken.proofs.Besides.{and_both, not_true, that_is, is_that_one}
 
+pub no_call : (makers : List (Option ℕ)) (calls : List Bool) (t p : ℕ) → slice_get calls p ≡ Some false → (false ≡ true) ↔ IsOverCall makers calls t p
+no_call makers calls t p none = (λ e. absurd cc, λ h. let clash = same_Some false true (sym none ∙ h.0) in clash)
+
 pub over_call : (makers : List (Option ℕ)) (calls : List Bool) (t p : ℕ) (m : Option ℕ) (call result : Bool) → slice_get makers p ≡ Some m → slice_get calls p ≡ Some call → result ≡ (call && not (is_that m t))
     → (result ≡ true) ↔ IsOverCall makers calls t p
 over_call makers calls t p m call result made called is = (

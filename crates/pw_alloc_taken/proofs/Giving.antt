@@ -110,12 +110,15 @@ module _ (f : Outline) (gs : List (ℕ × ℕ)) (old new : Given) (t r : ℕ) (s
 
 -- ---- none yet
 
+abbrev pub nothing : Option ℕ
+nothing = None
+
 nones : (n u : ℕ) (x : Option ℕ) → slice_get (replicate n None) u ≡ Some x → (u < n) × (x ≡ None)
 nones zero u x e = absurd cc
 nones (suc n) zero x e = (omega arith, sym (same_Some None x e))
 nones (suc n) (suc u) x e = let h = nones n u x e in (let lt = h.0 in omega (arith, lt), h.1)
 
-none_at : (n u : ℕ) → u < n → slice_get (replicate n None) u ≡ Some (None {A = ℕ})
+none_at : (n u : ℕ) → u < n → slice_get (replicate n None) u ≡ Some nothing
 none_at zero u lt = absurd (omega (arith, lt))
 none_at (suc n) zero lt = refl
 none_at (suc n) (suc u) lt = none_at n u (omega (arith, lt))

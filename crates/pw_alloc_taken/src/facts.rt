@@ -52,7 +52,10 @@ fn put_point(
     ensures after { OnOk result (AreDefinitions makers.now (p + 1) rows.new.items) }
 {
     match makers[p] {
-        Some(t) => rows[t as usize].push(p),
+        Some(t) => {
+            rows[t as usize].push(p)?;
+            Ok(())
+        }
         None => Ok(()),
     }
 }
@@ -108,7 +111,12 @@ fn is_over_call(makers: &[Option<u32>], calls: &[bool], t: u32, p: usize) -> boo
     requires calls { length calls.now ≡ length makers.now }
     ensures { IsTrue result ↔ IsOverCall makers.now calls.now t p }
 {
-    calls[p] && is_other(makers[p], t)
+    let call = calls[p];
+    if call {
+        is_other(makers[p], t)
+    } else {
+        false
+    }
 }
 
 /// Whether one of the points of a span stands behind a call that does not write the temporary.

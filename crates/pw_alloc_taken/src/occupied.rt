@@ -45,7 +45,8 @@ fn with_span(
 {
     let mut with = mask;
     for p in span.0..span.1 {
-        with = with_maker(with, makers[p], registers);
+        let more = with_maker(with, makers[p], registers);
+        with = more;
     }
     with
 }
@@ -63,7 +64,8 @@ pub(crate) fn made_beside(
 {
     let mut beside = 0;
     for place in 0..spans.len() {
-        beside = with_span(beside, spans[place], makers, registers);
+        let more = with_span(beside, spans[place], makers, registers);
+        beside = more;
     }
     beside
 }
@@ -76,7 +78,8 @@ pub(crate) fn occupied_behind(definitions: &[usize], occupied: &[u32]) -> u32
     let mut behind = 0;
     for place in 0..definitions.len() {
         let p = definitions[place];
-        behind = both(behind, occupied[p]);
+        let more = both(behind, occupied[p]);
+        behind = more;
     }
     behind
 }

@@ -45,6 +45,30 @@ ahead_without ends t place ahead u e is = elim (set_cases ends t u None (Some e)
   | inr k ↦ ahead u e k.1
 ]
 
+-- ---- what is open
+
+pub open_with : (ends : List (Option ℕ)) (t n : ℕ) → slice_get ends t ≡ Some None
+    → (u : ℕ) → ((e : ℕ) × (slice_get (set ends t (Some n)) u ≡ Some (Some e))) ↔ (((e : ℕ) × (slice_get ends u ≡ Some (Some e))) ⊎ (u ≡ t))
+open_with ends t n shut u = (
+  λ h. elim (set_cases ends t u (Some n) (Some h.0) h.1) [ inl k ↦ inr k.0 | inr k ↦ inl (h.0, k.1) ],
+  λ h. elim h [
+    | inl k ↦
+        let apart : u ≢ t = λ same. let clash : Some (Some k.0) ≡ Some None = sym k.1 ∙ ap (slice_get ends) same ∙ shut in cc in
+        (k.0, slice_get-set_other ends t u (Some n) apart ∙ k.1)
+    | inr same ↦ (n, ap (slice_get (set ends t (Some n))) same ∙ slice_get-set_same ends t (Some n) (slice_get_within ends t None shut))
+  ],
+)
+
+pub open_without : (ends : List (Option ℕ)) (t end : ℕ) → slice_get ends t ≡ Some (Some end)
+    → (u : ℕ) → ((e : ℕ) × (slice_get (set ends t None) u ≡ Some (Some e))) ↔ (((e : ℕ) × (slice_get ends u ≡ Some (Some e))) × (u ≢ t))
+open_without ends t end is u = (
+  λ h. elim (set_cases ends t u None (Some h.0) h.1) [
+    | inl k ↦ absurd (let clash : Some h.0 ≡ None = k.1 in cc)
+    | inr k ↦ ((h.0, k.1), k.0)
+  ],
+  λ h. (h.0.0, slice_get-set_other ends t u None h.1 ∙ h.0.1),
+)
+
 -- ---- what stays
 
 closed_stays : (a b : Walk) (t q : ℕ) → a.lists.items ≡ b.lists.items → IsClosed a t q → IsClosed b t q
@@ -85,8 +109,6 @@ back_marks old new lists opens place t q = (
   ],
 )
 
-pub back_opens : (old new : Walk) → new.ends.items ≡ old.ends.items → (t : ℕ) → IsOpen new t ↔ IsOpen old t
-back_opens old new opens t = (λ h. (h.0, open_stays new old t h.0 opens h.1), λ h. (h.0, open_stays old new t h.0 (sym opens) h.1))
 
 -- ---- one more that is open
 
@@ -130,17 +152,7 @@ module _ (old new : Walk) (t : ℕ) (lists : new.lists.items ≡ old.lists.items
     ],
   )
 
-  pub open_opens : (u : ℕ) → IsOpen new u ↔ (IsOpen old u ⊎ (u ≡ t))
-  open_opens u = (
-    λ h. elim (was u h.0 h.1) [ inl k ↦ inr k.0 | inr k ↦ inl (h.0, k) ],
-    λ h. elim h [ inl k ↦ (k.0, still u k.0 k.1) | inr same ↦ (old.place + 1, subst (λ (n : ℕ). IsOpenTo new n (old.place + 1)) (sym same) here) ],
-  )
 
-  pub open_ahead : (u end : ℕ) → IsOpenTo new u end → new.place < end
-  open_ahead u end is = elim (was u end is) [
-    | inl k ↦ let e = k.1 in omega (arith, e, place)
-    | inr k ↦ let up = old.ahead u end k in omega (arith, up, place)
-  ]
 
 -- one that is open already
 pub opened_marks : (old : Walk) (t end : ℕ) → slice_get old.ends.items t ≡ Some (Some end) → (u q : ℕ) → Marked old u q ↔ (Marked old u q ⊎ ((u ≡ t) × (q ≡ old.place)))
@@ -219,11 +231,7 @@ module _ (old new : Walk) (t end : ℕ) (before after : List (ℕ × ℕ)) (plac
     ],
   )
 
-  pub close_opens : (u : ℕ) → IsOpen new u ↔ (IsOpen old u × (u ≢ t))
-  close_opens u = (λ h. let k = was_open u h.0 h.1 in ((h.0, k.1), k.0), λ h. (h.0.0, other_open u h.0.0 h.1 h.0.1))
 
-  pub close_ahead : (u e : ℕ) → IsOpenTo new u e → new.place < e
-  close_ahead u e h = let up = old.ahead u e (was_open u e h).1 in omega (arith, up, place)
 
 -- one that is not open
 pub shut_opens : (old : Walk) (t : ℕ) → slice_get old.ends.items t ≡ Some None → (u : ℕ) → IsOpen old u ↔ (IsOpen old u × (u ≢ t))

@@ -20,11 +20,11 @@ pub record LivesIn (f : Outline) (b : ℕ) (s : Stretch) (from t q : ℕ) : Type
   pub live : is_live f t (drop inside s.acts) s.uses s.next ≡ true
 
 -- one of a block from some block on
-pub record LivesFrom (f : Outline) (low t q : ℕ) : Type 0 where
+pub record LivesFrom (f : Outline) (least t q : ℕ) : Type 0 where
   pub block : ℕ
   pub stretch : Stretch
   pub at : slice_get f.blocks block ≡ Some stretch
-  pub low : low ≤ block
+  pub low : least ≤ block
   pub in_block : LivesIn f block stretch 0 t q
 
 -- a walk has come to the front of a block, and no span is open

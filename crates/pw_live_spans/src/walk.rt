@@ -119,6 +119,7 @@ impl Walk {
         requires { 0 < self.old.place }
         ensures place { self.new.place + 1 ≡ self.old.place }
         ensures count { vec_len self.new.ends ≡ vec_len self.old.ends }
+        ensures room { self.new.place + 1 < 2 ^ 64 }
         ensures marked { (t q : ℕ) → Marked self.new t q ↔ (Marked self.old t q ⊎ (IsOpen self.old t × (q ≡ self.new.place))) }
         ensures opens { (t : ℕ) → IsOpen self.new t ↔ IsOpen self.old t }
     {

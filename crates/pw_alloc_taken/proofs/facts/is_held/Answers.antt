@@ -5,6 +5,9 @@ use Rattle.std.specs.Cmp.{both_ways}
 use Rattle.pw_alloc_taken.proofs.Knowledge.{covered_points, same_points, held_there, there_held}
 use Rattle.pw_alloc_taken.proofs.facts.is_held.Goals as goal
 
+pub of-requires : goal.of-requires
+of-requires c = let lt = c.requires.temp in let count = c.requires.facts.spans.count in omega (arith, lt, count)
+
 pub is_held_over-requires : goal.is_held_over-requires
 is_held_over-requires c =
     let f = c.args.f.now in

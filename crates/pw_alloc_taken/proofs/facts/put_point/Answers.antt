@@ -9,8 +9,8 @@ index_mut-requires c =
     let makers = c.args.makers.now in
     c.requires.makers c.args.p c.in-Some.t (slice_get_read makers (length makers) c.args.p c.index-makers-p.result refl c.requires.point c.index-makers-p.is ∙ ap Some c.in-Some.is)
 
-pub returns-in-Some-clause-after : goal.returns-in-Some-clause-after
-returns-in-Some-clause-after c =
+pub returns-in_ok-push-in-Some-clause-after : goal.returns-in_ok-push-in-Some-clause-after
+returns-in_ok-push-in-Some-clause-after c =
     let makers = c.args.makers.now in
     let p = c.args.p in
     let t = c.in-Some.t in

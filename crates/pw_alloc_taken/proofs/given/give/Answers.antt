@@ -8,6 +8,9 @@ use Rattle.pw_alloc_taken.proofs.Giving.{given_more, registers_with}
 use Rattle.pw_alloc_taken.proofs.Knowledge.{covered_points, many_makers}
 use Rattle.pw_alloc_taken.proofs.given.give.Goals as goal
 
+pub of-requires : goal.of-requires
+of-requires c = let lt = c.requires.temp in let count = c.requires.facts.spans.count in omega (arith, lt, count)
+
 pub occupy-requires-clause-points : goal.occupy-requires-clause-points
 occupy-requires-clause-points c = λ p covers.
     let f = c.args.f.now in

@@ -9,6 +9,9 @@ use Rattle.pw_alloc_taken.proofs.Knowledge.{covered_points, defined_points}
 use Rattle.pw_alloc_taken.proofs.Takers.{made_are, behind_are, first_are, taken_is}
 use Rattle.pw_alloc_taken.proofs.given.taken.Goals as goal
 
+pub of-spans-requires : goal.of-spans-requires
+of-spans-requires c = let lt = c.requires.temp in let count = c.requires.facts.spans.count in omega (arith, lt, count)
+
 pub made_beside-beside-requires : goal.made_beside-beside-requires
 made_beside-beside-requires c =
     let f = c.args.f.now in
@@ -22,6 +25,9 @@ made_beside-beside-requires c =
           (subst (λ (n : ℕ). AreBelow n v.makers.items) (sym (ap (λ (rs : List (Option ℕ)). length rs) registers ∙ sym c.args.given.now.registers.ok.0 ∙ c.requires.sized.temps)) (makers_below f v.makers.items c.requires.outline c.requires.facts.makers));
       registers = subst AreRegisters (sym registers) c.requires.sized.low;
     }
+
+pub index-requires : goal.index-requires
+index-requires c = let lt = c.requires.temp in let count = c.requires.facts.count in omega (arith, lt, count)
 
 pub occupied_behind-behind-requires : goal.occupied_behind-behind-requires
 occupied_behind-behind-requires c =

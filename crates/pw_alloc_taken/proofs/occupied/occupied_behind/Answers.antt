@@ -31,8 +31,8 @@ loop-place-preserved c =
     let mask = c.index-occupied-p.result in
     let lt : p < length ms = subst (λ (n : ℕ). n < length ms) (sym c.index-definitions-place.is) (c.requires c.loop-place.place p c.loop-place-test.true) in
     let is : mask ≡ slice_index ms p = c.index-occupied-p.is ∙ get_or_default ms p mask 0 lt in
-    let now = subst (λ (m : ℕ). (k : ℕ) → HasRegister c.both.result k ↔ (HasRegister c.loop-place.behind k ⊎ HasRegister m k)) is c.both.ensures in
-    behind_more ds ms c.loop-place.place p (HasRegister c.both.result) (HasRegister c.loop-place.behind) c.loop-place-test.true (sym c.index-definitions-place.is) now c.loop-place.invariant
+    let now = subst (λ (m : ℕ). (k : ℕ) → HasRegister c.both-more.result k ↔ (HasRegister c.loop-place.behind k ⊎ HasRegister m k)) is c.both-more.ensures in
+    behind_more ds ms c.loop-place.place p (HasRegister c.both-more.result) (HasRegister c.loop-place.behind) c.loop-place-test.true (sym c.index-definitions-place.is) now c.loop-place.invariant
 
 pub returns : goal.returns
 returns c = subst (λ (ds : List ℕ). (k : ℕ) → HasRegister c.loop-place.behind k ↔ IsOccupiedBehind ds c.args.occupied.now k) (take_all c.loop-place.place c.args.definitions.now c.loop-place-test.false) c.loop-place.invariant

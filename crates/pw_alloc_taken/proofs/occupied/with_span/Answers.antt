@@ -15,8 +15,8 @@ offset_bounds-makers-p c =
     let lt : c.loop-p.p < length c.args.makers.now = c.requires.points c.loop-p.p c.loop-p.invariant.low c.loop-p-test.true in
     first_of (omega arith, search rules, grind arith)
 
-pub with_maker-requires-clause-maker : goal.with_maker-requires-clause-maker
-with_maker-requires-clause-maker c =
+pub with_maker-more-requires-clause-maker : goal.with_maker-more-requires-clause-maker
+with_maker-more-requires-clause-maker c =
     let makers = c.args.makers.now in
     let p = c.loop-p.p in
     let lt = c.requires.points p c.loop-p.invariant.low c.loop-p-test.true in
@@ -33,7 +33,7 @@ loop-p-preserved c =
     record {
       low = omega (arith, low);
       high = omega (arith, c.loop-p-test.true);
-      holds = span_more makers c.args.registers.now c.args.span.0 p c.index-makers-p.result (HasRegister c.with_maker.result) (HasRegister c.loop-p.with) (HasRegister c.args.mask) low at c.with_maker.ensures inv.holds;
+      holds = span_more makers c.args.registers.now c.args.span.0 p c.index-makers-p.result (HasRegister c.with_maker-more.result) (HasRegister c.loop-p.with) (HasRegister c.args.mask) low at c.with_maker-more.ensures inv.holds;
     }
 
 pub returns : goal.returns

@@ -15,8 +15,8 @@ count-requires c =
     subst (λ (n : ℕ). c.in-Some.t < n) (sym c.count_uses.ensures.length)
     (subst (λ (o : Option ℕ). IfSome o (λ t. t < length c.args.weights.now)) (sym c.defines.ensures ∙ c.in-Some.is) c.requires.defines)
 
-pub returns-in-Some-clause-value : goal.returns-in-Some-clause-value
-returns-in-Some-clause-value c = λ u.
+pub returns-in_ok-count-in-Some-clause-value : goal.returns-in_ok-count-in-Some-clause-value
+returns-in_ok-count-in-Some-clause-value c = λ u.
     let old = slice_index c.args.weights.now u in
     let mid = slice_index c.count_uses.new.weights u in
     let used = subst (λ (ts : List ℕ). mid ≡ old + c.args.factor * count_by (λ t. t == u) ts) c.uses.ensures (c.in_ok-count_uses.ensures.value u) in

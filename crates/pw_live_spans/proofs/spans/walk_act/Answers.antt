@@ -6,6 +6,9 @@ use Rattle.pw_live_spans.specs.Walking.{IsOpen, Marked}
 use Rattle.pw_live_spans.proofs.Steps.{act_marks, act_opens}
 use Rattle.pw_live_spans.proofs.spans.walk_act.Goals as goal
 
+pub open_all-requires-clause-room : goal.open_all-requires-clause-room
+open_all-requires-clause-room c = c.back.ensures.room
+
 pub open_all-requires-clause-temps : goal.open_all-requires-clause-temps
 open_all-requires-clause-temps c =
     let count = c.back.ensures.count ∙ c.close_defined.ensures.count in

@@ -1,4 +1,4 @@
-use Rattle.std.proofs.Common.{◌≡◌, ◌≤◌, ◌<◌, ◌-◌, ◌+◌, ◌∙◌, ℕ, suc, List, All, arith, length, refl, subst, sym, vec_len}
+use Rattle.std.proofs.Common.{◌≡◌, ◌≤◌, ◌<◌, ◌-◌, ◌+◌, ◌∙◌, ℕ, suc, List, All, ap, arith, length, refl, subst, sym, vec_len}
 use Rattle.std.specs.Prelude.{Contains, Some, slice_get, ◌↔◌}
 use Rattle.std.proofs.lemmas.Option.{slice_get_read}
 use Rattle.pw_flow.specs.Outline.{Act, Stretch}

@@ -1,4 +1,4 @@
-use Rattle.std.proofs.Common.{◌≡◌, ◌⊎◌, ◌<◌, ◌∙◌, ℕ, true, [], List, All, length, subst, sym, vec_len}
+use Rattle.std.proofs.Common.{◌≡◌, ◌⊎◌, ◌<◌, ◌∙◌, ℕ, true, [], List, All, arith, length, subst, sym, vec_len}
 use Rattle.std.specs.Prelude.{Contains, ◌↔◌}
 use Rattle.std.proofs.lemmas.List.Elements.{All-from_recursion}
 use Rattle.pw_live.specs.Liveness.{is_live}
@@ -6,6 +6,12 @@ use Rattle.pw_live_spans.specs.LivePoints.{IsLiveAtOne}
 use Rattle.pw_live_spans.specs.Walking.{IsOpen, Marked}
 use Rattle.pw_live_spans.proofs.Steps.{end_marks, end_opens}
 use Rattle.pw_live_spans.proofs.spans.walk_end.Goals as goal
+
+pub open_all-requires-clause-room : goal.open_all-requires-clause-room
+open_all-requires-clause-room c = c.back.ensures.room
+
+pub open_fronts-requires-clause-room : goal.open_fronts-requires-clause-room
+open_fronts-requires-clause-room c = omega (arith, c.back.ensures.room, c.open_all.ensures.place)
 
 pub open_all-requires-clause-temps : goal.open_all-requires-clause-temps
 open_all-requires-clause-temps c =
