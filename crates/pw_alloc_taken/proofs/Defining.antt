@@ -1,12 +1,12 @@
 -- What is written before points: rows of points, and that it is a temporary of the function.
-use Rattle.std.proofs.Common.{◌≡◌, ◌≢◌, ℕ, zero, suc, ◌+◌, ◌<◌, ◌≤◌, List, [], ◌∷◌, ◌++◌, All, length, map, set, sym, ap, subst, ◌∙◌, arith, inl, inr}
+use Rattle.std.proofs.Common.{◌≡◌, ℕ, zero, suc, ◌+◌, ◌<◌, ◌≤◌, List, [], ◌∷◌, ◌++◌, All, length, map, set, sym, ap, subst, ◌∙◌, arith, inl, inr}
 use Rattle.std.specs.Prelude.{Option, None, Some, IfSome, slice_get, Contains, ◌↔◌}
 use Rattle.std.specs.List.{AllByRecursion, flat_map}
 use Rattle.std.proofs.lemmas.Bool.{cases_eq}
 use Rattle.std.proofs.lemmas.List.Concat.{flat_map-cons}
 use Rattle.std.proofs.lemmas.List.Elements.{Contains-append_left, Contains-push, Contains-push_cases}
 use Rattle.std.proofs.lemmas.Option.{same_Some, slice_get_within}
-use Rattle.pw_fix.proofs.Places.{All-at, slice_get-set_same, slice_get-set_other, set_cases}
+use Rattle.pw_fix.proofs.Places.{All-at, set_cases}
 use Rattle.pw_flow.specs.Outline.{Act, Stretch, Outline}
 use Rattle.pw_live.specs.Points.{Point, points_behind, points_in, points}
 use Rattle.pw_live_fronts.specs.Blocks.{IsAct, IsStretch, IsOutline}

@@ -1,6 +1,6 @@
 -- What is known of temporaries, at the points of spans.
-use Rattle.std.proofs.Common.{◌≡◌, ◌<◌, ℕ, Bool, true, List, length, map, arith, refl, sym, ap, subst, ◌∙◌}
-use Rattle.std.specs.Prelude.{Option, Some, slice_get, vec_len, Contains, All, ◌↔◌}
+use Rattle.std.proofs.Common.{◌≡◌, ◌<◌, ℕ, Bool, true, List, length, map, arith, sym, ap, ◌∙◌}
+use Rattle.std.specs.Prelude.{Option, Some, slice_get, All, ◌↔◌}
 use Rattle.std.proofs.lemmas.List.{length-map}
 use Rattle.std.proofs.lemmas.List.Elements.{Contains-get_or}
 use Rattle.std.proofs.lemmas.Option.{slice_get_within}

@@ -1,5 +1,5 @@
 -- Registers of several points and temporaries, one behind the other.
-use Rattle.std.proofs.Common.{◌≡◌, ◌≢◌, ◌⊎◌, ℕ, suc, ◌+◌, ◌<◌, ◌≤◌, true, false, List, [], ◌∷◌, ◌++◌, length, get_or, max, set, take, refl, sym, ap, subst, ◌∙◌, arith, inl, inr}
+use Rattle.std.proofs.Common.{◌≡◌, ◌⊎◌, ℕ, ◌+◌, ◌<◌, ◌≤◌, true, false, List, [], ◌∷◌, ◌++◌, length, get_or, max, set, take, refl, sym, ap, subst, ◌∙◌, arith, inl, inr}
 use Rattle.std.specs.Prelude.{Option, None, Some, IfSome, slice_get, slice_index, Contains, ◌↔◌}
 use Rattle.std.specs.Int.{bit_at}
 use Rattle.std.proofs.lemmas.Bool.{cases_eq}
@@ -9,7 +9,7 @@ use Rattle.std.proofs.lemmas.List.Elements.{Contains-append_left, Contains-push,
 use Rattle.std.proofs.lemmas.Option.{same_Some}
 use Rattle.pw_live_spans.specs.Spans.{IsIn, Covers}
 use Rattle.pw_alloc_taken.specs.Makers.{AreBelow}
-use Rattle.pw_alloc_taken.specs.Masks.{HasRegister, IsOfMaker, IsMadeAt, IsMadeWithin, IsMadeBeside, IsOccupiedBehind}
+use Rattle.pw_alloc_taken.specs.Masks.{HasRegister, IsOfMaker, IsMadeWithin, IsMadeBeside, IsOccupiedBehind}
 
 -- ---- a prefix that is one longer
 

@@ -1,15 +1,13 @@
 -- The registers that are taken for a temporary are those of temporaries that have got one and interfere.
-use Rattle.std.proofs.Common.{◌≡◌, ◌≢◌, ◌⊎◌, ℕ, ◌<◌, ◌==◌, ◌&&◌, Bool, true, List, [], ◌∷◌, length, map, refl, sym, ap, subst, ◌∙◌, arith, inl, inr}
+use Rattle.std.proofs.Common.{◌≡◌, ◌≢◌, ◌⊎◌, ℕ, ◌<◌, ◌==◌, ◌&&◌, Bool, true, List, [], ◌∷◌, sym, ap, subst, ◌∙◌, inl, inr}
 use Rattle.std.specs.Prelude.{Option, None, Some, slice_get, slice_index, Contains, ◌↔◌}
-use Rattle.std.specs.List.{list_any}
 use Rattle.std.proofs.lemmas.Bool.{or_cases, or_left, or_right, and_from, eqb-true, eq-eqb}
-use Rattle.std.proofs.lemmas.Option.{same_Some, slice_get_within}
+use Rattle.std.proofs.lemmas.Option.{same_Some}
 use Rattle.pw_files.proofs.Standing.{Has, contains_by}
 use Rattle.pw_flow.specs.Outline.{Outline}
 use Rattle.pw_live.specs.Liveness.{is_live_in}
 use Rattle.pw_live.specs.Points.{Point, points, lives}
 use Rattle.pw_live.specs.Interference.{written_beside, starts_beside, interfere}
-use Rattle.pw_live_spans.specs.Spans.{Covers}
 use Rattle.pw_live_spans.specs.LivePoints.{LivesFrom}
 use Rattle.pw_alloc_taken.specs.Masks.{HasRegister, IsMadeBeside, IsOccupiedBehind}
 use Rattle.pw_alloc_temps.specs.Registers.{is_taken, register_of}

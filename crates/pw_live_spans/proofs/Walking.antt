@@ -18,6 +18,9 @@ nones (suc n) (suc t) x e = nones n t x e
 pub new_shut : (w : Walk) (n : ℕ) → w.ends.items ≡ replicate n None → (t : ℕ) → ¬ IsOpen w t
 new_shut w n is t h = let none : Some h.0 ≡ None = nones n t (Some h.0) (ap (λ (os : List (Option ℕ)). slice_get os t) (sym is) ∙ h.1) in cc
 
+pub shut_all : (ends : List (Option ℕ)) (n : ℕ) → ends ≡ replicate n None → (t : ℕ) → ¬ ((e : ℕ) × (slice_get ends t ≡ Some (Some e)))
+shut_all ends n is t h = let none : Some h.0 ≡ None = nones n t (Some h.0) (ap (λ (os : List (Option ℕ)). slice_get os t) (sym is) ∙ h.1) in cc
+
 pub new_none : (w : Walk) (n : ℕ) → w.ends.items ≡ replicate n None → All (λ (spans : List (ℕ × ℕ)). spans ≡ []) w.lists.items → (t q : ℕ) → ¬ Marked w t q
 new_none w n is none t q h = elim h [
   | inl c ↦
@@ -109,7 +112,6 @@ back_marks old new lists opens place t q = (
   ],
 )
 
-
 -- ---- one more that is open
 
 module _ (old new : Walk) (t : ℕ) (lists : new.lists.items ≡ old.lists.items) (place : new.place ≡ old.place)
@@ -151,8 +153,6 @@ module _ (old new : Walk) (t : ℕ) (lists : new.lists.items ≡ old.lists.items
           inr (record { end = old.place + 1; opens = subst (λ (n : ℕ). IsOpenTo new n (old.place + 1)) (sym k.0) here; low = omega (arith, is, place); high = omega (arith, is) })
     ],
   )
-
-
 
 -- one that is open already
 pub opened_marks : (old : Walk) (t end : ℕ) → slice_get old.ends.items t ≡ Some (Some end) → (u q : ℕ) → Marked old u q ↔ (Marked old u q ⊎ ((u ≡ t) × (q ≡ old.place)))
@@ -230,8 +230,6 @@ module _ (old new : Walk) (t end : ℕ) (before after : List (ℕ × ℕ)) (plac
       ]
     ],
   )
-
-
 
 -- one that is not open
 pub shut_opens : (old : Walk) (t : ℕ) → slice_get old.ends.items t ≡ Some None → (u : ℕ) → IsOpen old u ↔ (IsOpen old u × (u ≢ t))

@@ -1,8 +1,7 @@
-use Rattle.std.proofs.Common.{◌≡◌, ◌<◌, ◌∙◌, ◌||◌, ℕ, not, Bool, List, refl, sym, ap, subst}
+use Rattle.std.proofs.Common.{◌≡◌, ◌<◌, ◌∙◌, ℕ, not, Bool, sym, ap, subst}
 use Rattle.std.specs.Prelude.{Option, None, Some, IfSome, filter}
 use Rattle.std.specs.List.{find}
 use Rattle.pw_live.specs.Liveness.{has}
-use Rattle.pw_live.specs.Interference.{is_held}
 use Rattle.pw_alloc_temps.specs.Registers.{of_temporaries, allowed, is_taken, with_register}
 use Rattle.pw_alloc_taken.specs.Knowing.{AreGiven}
 use Rattle.pw_alloc_taken.specs.Masks.{in_mask}

@@ -1,5 +1,4 @@
-use Rattle.std.proofs.Common.{◌≡◌, ◌∙◌, not, Bool, refl, sym, ap}
-use Rattle.std.specs.Prelude.{IfSome}
+use Rattle.std.proofs.Common.{◌∙◌, not, refl, sym}
 use Rattle.pw_alloc_taken.specs.Masks.{in_mask}
 use Rattle.pw_alloc_registers.proofs.Choosing.{find_here, find_next, find_end}
 use Rattle.pw_alloc_registers.proofs.colouring.first_in.Goals as goal

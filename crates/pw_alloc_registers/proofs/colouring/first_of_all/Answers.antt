@@ -1,4 +1,4 @@
-use Rattle.std.proofs.Common.{◌≡◌, ◌∙◌, not, sym}
+use Rattle.std.proofs.Common.{◌∙◌, not, sym}
 use Rattle.pw_db.specs.Limits.{kept_registers}
 use Rattle.pw_alloc_temps.specs.Registers.{changed_registers}
 use Rattle.pw_alloc_taken.specs.Masks.{in_mask}
@@ -13,4 +13,4 @@ returns-in-Some-clause-first c =
 pub returns-in-None-clause-first : goal.returns-in-None-clause-first
 returns-in-None-clause-first c =
     let p = λ r. not (in_mask c.args.away r) in
-    c.first_in-2.ensures.first ∙ sym (find_second p changed_registers kept_registers (sym c.first_in.ensures.first ∙ c.in-None.is))
+    c.first_in-in-None.ensures.first ∙ sym (find_second p changed_registers kept_registers (sym c.first_in.ensures.first ∙ c.in-None.is))

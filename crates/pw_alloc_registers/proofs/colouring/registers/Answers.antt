@@ -1,9 +1,8 @@
-use Rattle.std.proofs.Common.{◌≡◌, ◌<◌, ◌≤◌, ◌+◌, ◌∙◌, ℕ, [], List, get_or, length, take, arith, refl, sym, ap, subst, vec_len}
-use Rattle.std.specs.Prelude.{Some, slice_get}
+use Rattle.std.proofs.Common.{◌≡◌, ◌<◌, ◌≤◌, ◌+◌, ◌∙◌, ℕ, [], List, get_or, length, take, arith, sym, subst, vec_len}
 use Rattle.std.proofs.lemmas.List.{take_all}
 use Rattle.std.proofs.lemmas.Option.{slice_get_read}
 use Rattle.pw_alloc_temps.specs.Weights.{by_weight}
-use Rattle.pw_alloc_temps.specs.Registers.{given_to, given, register_of, registers}
+use Rattle.pw_alloc_temps.specs.Registers.{given_to, given, registers}
 use Rattle.pw_alloc_taken.specs.Knowing.{AreGiven}
 use Rattle.pw_alloc_taken.proofs.Knowledge.{many_makers}
 use Rattle.pw_alloc_registers.proofs.Turns.{next_turn, none_yet, all_registers, ordered_below}

@@ -1,4 +1,4 @@
-use Rattle.std.proofs.Common.{◌≡◌, ◌<◌, ◌∙◌, ℕ, List, get_or, length, map, refl, sym, ap}
+use Rattle.std.proofs.Common.{◌<◌, ◌∙◌, List, length, map, refl, sym, ap}
 use Rattle.std.proofs.lemmas.List.{take_all}
 use Rattle.std.proofs.lemmas.Option.{slice_get_read}
 use Rattle.pw_db.specs.declared.database.Web.{Web}

@@ -1,4 +1,4 @@
-use Rattle.std.proofs.Common.{◌≡◌, ◌∙◌, ℕ, sym, subst}
+use Rattle.std.proofs.Common.{◌∙◌, ℕ, sym, subst}
 use Rattle.pw_alloc_taken.specs.Makers.{AreBelow}
 use Rattle.pw_alloc_taken.proofs.Defining.{definitions_none, definitions_all}
 use Rattle.pw_alloc_taken.proofs.facts.definitions.Goals as goal

@@ -1,4 +1,4 @@
-use Rattle.std.proofs.Common.{◌≡◌, ◌∙◌, ℕ, List, sym, ap, subst}
+use Rattle.std.proofs.Common.{◌≡◌, ◌∙◌, ℕ, List, sym, subst}
 use Rattle.std.specs.Prelude.{Option, Some, slice_get, Contains, ◌↔◌}
 use Rattle.pw_alloc_taken.specs.Makers.{AreBelow}
 use Rattle.pw_alloc_taken.proofs.Defining.{makers_below}

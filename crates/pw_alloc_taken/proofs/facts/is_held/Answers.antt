@@ -1,5 +1,5 @@
-use Rattle.std.proofs.Common.{◌≡◌, ◌<◌, ◌∙◌, ℕ, Bool, true, List, length, map, arith, sym, ap, subst}
-use Rattle.std.specs.Prelude.{Option, Some, slice_get}
+use Rattle.std.proofs.Common.{◌<◌, ◌∙◌, ℕ, Bool, List, length, arith, sym, ap, subst}
+use Rattle.std.specs.Prelude.{Option}
 use Rattle.pw_live.specs.Interference.{is_held}
 use Rattle.std.specs.Cmp.{both_ways}
 use Rattle.pw_alloc_taken.proofs.Knowledge.{covered_points, same_points, held_there, there_held}

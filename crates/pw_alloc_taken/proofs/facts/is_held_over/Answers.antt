@@ -1,4 +1,4 @@
-use Rattle.std.proofs.Common.{◌≡◌, ◌<◌, ◌≤◌, ℕ, sym}
+use Rattle.std.proofs.Common.{sym}
 use Rattle.std.proofs.lemmas.Bool.{both_ways}
 use Rattle.pw_alloc_taken.specs.Makers.{IsOverCall}
 use Rattle.pw_alloc_taken.proofs.Masking.{first_none, found_in, none_in, none_so_far, span_item}

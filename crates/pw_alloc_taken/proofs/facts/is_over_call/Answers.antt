@@ -1,4 +1,4 @@
-use Rattle.std.proofs.Common.{◌≡◌, arith, length, refl, ap, ◌∙◌}
+use Rattle.std.proofs.Common.{arith, length, refl, ap, ◌∙◌}
 use Rattle.std.specs.Prelude.{Some}
 use Rattle.std.proofs.lemmas.Option.{slice_get_read}
 use Rattle.pw_alloc_taken.proofs.Calling.{over_call, no_call}

@@ -1,5 +1,5 @@
-use Rattle.std.proofs.Common.{◌≡◌, ◌<◌, ◌+◌, ℕ, List, ap, length, arith, refl, subst, ◌∙◌, vec_len}
-use Rattle.std.specs.Prelude.{Option, Some, IfSome, slice_get}
+use Rattle.std.proofs.Common.{◌≡◌, ap, length, refl, ◌∙◌, vec_len}
+use Rattle.std.specs.Prelude.{Some, slice_get}
 use Rattle.std.proofs.lemmas.Option.{slice_get_read}
 use Rattle.pw_alloc_taken.proofs.Defining.{definitions_other, definitions_more}
 use Rattle.pw_alloc_taken.proofs.facts.put_point.Goals as goal
@@ -17,7 +17,7 @@ returns-in_ok-push-in-Some-clause-after c =
     let rows = c.args.rows.now in
     let at : slice_get makers p ≡ Some (Some t) = slice_get_read makers (length makers) p c.index-makers-p.result refl c.requires.point c.index-makers-p.is ∙ ap Some c.in-Some.is in
     let there = slice_get_read rows.items (vec_len rows) t c.index_mut.result.now rows.ok.0 (c.requires.makers p t at) c.index_mut.ensures.value in
-    definitions_more makers rows.items _ p t c.index_mut.result.now c.push.new.self at there c.in_ok-push.ensures refl c.requires.before
+    definitions_more makers rows.items _ p t c.index_mut.result.now c.push.new.self at there c.in_ok-push-in-Some.ensures refl c.requires.before
 
 pub returns-in-None-clause-after : goal.returns-in-None-clause-after
 returns-in-None-clause-after c =

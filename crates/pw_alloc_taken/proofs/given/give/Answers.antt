@@ -1,5 +1,5 @@
-use Rattle.std.proofs.Common.{◌≡◌, ◌⊎◌, ◌<◌, ◌∙◌, ℕ, true, List, drop, length, arith, rules, refl, sym, ap, subst, vec_len, inl, inr}
-use Rattle.std.specs.Prelude.{Some, nat_lt, slice_index, ◌↔◌}
+use Rattle.std.proofs.Common.{◌≡◌, ◌⊎◌, ◌<◌, ◌∙◌, ℕ, List, drop, length, arith, rules, refl, sym, ap, subst, inl, inr}
+use Rattle.std.specs.Prelude.{slice_index, ◌↔◌}
 use Rattle.std.proofs.lemmas.Bool.{ltb-true, lt-ltb}
 use Rattle.std.proofs.lemmas.List.{take_at}
 use Rattle.pw_live_spans.specs.Spans.{Covers}

@@ -1,5 +1,5 @@
-use Rattle.std.proofs.Common.{◌≡◌, ◌⊎◌, ◌<◌, ◌∙◌, ℕ, true, List, All, length, map, arith, refl, sym, ap, subst, inl, inr, vec_len}
-use Rattle.std.specs.Prelude.{Option, None, Some, nat_lt, slice_get, slice_index, ◌↔◌}
+use Rattle.std.proofs.Common.{◌≡◌, ◌<◌, ◌∙◌, ℕ, List, All, length, arith, sym, ap, subst, inl, inr, vec_len}
+use Rattle.std.specs.Prelude.{Option, nat_lt, slice_index, ◌↔◌}
 use Rattle.std.proofs.lemmas.Bool.{ltb-true, lt-ltb}
 use Rattle.std.proofs.lemmas.Option.{slice_get_read}
 use Rattle.pw_alloc_taken.specs.Makers.{AreBelow}

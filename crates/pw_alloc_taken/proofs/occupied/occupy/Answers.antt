@@ -1,4 +1,4 @@
-use Rattle.std.proofs.Common.{◌≡◌, ◌<◌, ◌∙◌, ℕ, length, arith, refl, sym}
+use Rattle.std.proofs.Common.{◌∙◌, ℕ, length, arith, refl, sym}
 use Rattle.std.specs.Prelude.{slice_index}
 use Rattle.pw_alloc_taken.specs.Masks.{HasRegister}
 use Rattle.pw_alloc_taken.proofs.Masking.{spread_none, spread_more, spread_all, span_item}

@@ -1,4 +1,4 @@
-use Rattle.std.proofs.Common.{◌≡◌, ◌⊎◌, ◌≤◌, ◌<◌, ◌+◌, ◌∙◌, ℕ, length, max, arith, rules, refl, subst}
+use Rattle.std.proofs.Common.{◌≡◌, ◌⊎◌, ◌<◌, ◌∙◌, ℕ, length, arith, rules, refl, subst}
 use Rattle.std.specs.Prelude.{slice_index, ◌↔◌}
 use Rattle.std.proofs.lemmas.List.{get_or_default, length-set}
 use Rattle.pw_alloc_taken.specs.Masks.{HasRegister}

@@ -1,4 +1,4 @@
-use Rattle.std.proofs.Common.{◌≡◌, ap, ◌∙◌, length, refl}
+use Rattle.std.proofs.Common.{ap, ◌∙◌, length, refl}
 use Rattle.std.specs.Prelude.{Some}
 use Rattle.std.proofs.lemmas.Option.{slice_get_read}
 use Rattle.pw_alloc_taken.specs.Masks.{HasRegister}

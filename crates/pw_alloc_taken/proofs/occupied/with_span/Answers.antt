@@ -1,4 +1,4 @@
-use Rattle.std.proofs.Common.{◌≡◌, ◌≤◌, ◌<◌, ◌+◌, length, max, arith, rules, refl}
+use Rattle.std.proofs.Common.{◌<◌, length, arith, rules, refl}
 use Rattle.std.proofs.lemmas.Option.{slice_get_read}
 use Rattle.pw_alloc_taken.specs.Masks.{HasRegister}
 use Rattle.pw_alloc_taken.proofs.Masking.{span_none, span_more, span_end, maker_below}

@@ -1,4 +1,4 @@
-use Rattle.std.proofs.Common.{◌≡◌, ◌⊎◌, ◌≤◌, ℕ, max}
+use Rattle.std.proofs.Common.{◌⊎◌, ◌≤◌, ℕ, max}
 use Rattle.std.specs.Prelude.{◌↔◌}
 use Rattle.pw_alloc_taken.specs.Masks.{HasRegister, IsMadeWithin}
 use Rattle.pw_alloc_taken.proofs.occupied.with_span.Given as goal

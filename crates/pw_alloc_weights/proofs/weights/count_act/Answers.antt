@@ -20,7 +20,7 @@ returns-in_ok-count-in-Some-clause-value c = λ u.
     let old = slice_index c.args.weights.now u in
     let mid = slice_index c.count_uses.new.weights u in
     let used = subst (λ (ts : List ℕ). mid ≡ old + c.args.factor * count_by (λ t. t == u) ts) c.uses.ensures (c.in_ok-count_uses.ensures.value u) in
-    act_some c.args.act.now c.in-Some.t u c.args.factor old mid (slice_index c.count.new.weights u) (sym c.defines.ensures ∙ c.in-Some.is) used (c.in_ok-count.ensures.value u)
+    act_some c.args.act.now c.in-Some.t u c.args.factor old mid (slice_index c.count.new.weights u) (sym c.defines.ensures ∙ c.in-Some.is) used (c.in_ok-count-in-Some.ensures.value u)
 
 pub returns-in-None-clause-value : goal.returns-in-None-clause-value
 returns-in-None-clause-value c = λ u.

@@ -1,4 +1,4 @@
-use Rattle.std.proofs.Common.{◌≡◌, ◌<◌, ◌∙◌, ℕ, length, refl, sym, subst}
+use Rattle.std.proofs.Common.{◌<◌, ◌∙◌, ℕ, length, refl, sym, subst}
 use Rattle.std.specs.Prelude.{slice_index}
 use Rattle.pw_alloc_weights.proofs.Counting.{count_none, count_more, count_all}
 use Rattle.pw_alloc_weights.proofs.weights.count_uses.Goals as goal

@@ -1,4 +1,4 @@
-use Rattle.std.proofs.Common.{◌≡◌, ◌≤◌, ◌^◌, ℕ, min, arith, sym, ap}
+use Rattle.std.proofs.Common.{◌≡◌, ◌^◌, ℕ, min, arith, ap}
 use Rattle.pw_alloc_temps.specs.Weights.{depth_limit}
 use Rattle.pw_alloc_weights.proofs.weights.factor.Goals as goal
 

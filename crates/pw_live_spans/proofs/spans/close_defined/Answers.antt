@@ -9,7 +9,7 @@ close_span-requires c = subst (λ (o : Option ℕ). IfSome o (λ t. t < vec_len 
 
 pub returns-in_ok-close_span-in-Some-clause-opens : goal.returns-in_ok-close_span-in-Some-clause-opens
 returns-in_ok-close_span-in-Some-clause-opens c =
-    defined_here c.args.act.now.defines c.in-Some.t (IsOpen c.close_span.new.self) (IsOpen c.args.walk.now) (sym c.defines.ensures ∙ c.in-Some.is) c.in_ok-close_span.ensures.opens
+    defined_here c.args.act.now.defines c.in-Some.t (IsOpen c.close_span.new.self) (IsOpen c.args.walk.now) (sym c.defines.ensures ∙ c.in-Some.is) c.in_ok-close_span-in-Some.ensures.opens
 
 pub returns-in-None-clause-opens : goal.returns-in-None-clause-opens
 returns-in-None-clause-opens c = defined_none c.args.act.now.defines (IsOpen c.args.walk.now) (sym c.defines.ensures ∙ c.in-None.is)

@@ -1,6 +1,6 @@
 use Rattle.std.proofs.Common.{◌≡◌, replicate, rules}
 use Rattle.std.specs.Prelude.{None}
-use Rattle.pw_live_spans.proofs.Walking.{new_shut, new_none}
+use Rattle.pw_live_spans.proofs.Walking.{shut_all, new_none}
 use Rattle.pw_live_spans.proofs.walk.Walk.new.Goals as goal
 
 pub returns-clause-none : goal.returns-clause-none
@@ -11,4 +11,4 @@ returns-clause-none c =
 pub returns-clause-shut : goal.returns-clause-shut
 returns-clause-shut c =
     let e : c.in_ok-ends.ends.items ≡ replicate c.args.temps None = search rules in
-    new_shut _ c.args.temps e
+    shut_all c.in_ok-ends.ends.items c.args.temps e
