@@ -43,12 +43,12 @@ fn with_span(
     requires registers { AreRegisters registers.now }
     ensures { (k : ℕ) → HasRegister result k ↔ (HasRegister mask k ⊎ IsMadeWithin makers.now registers.now span.0 span.1 k) }
 {
-    let mut with = mask;
+    let mut joined = mask;
     for p in span.0..span.1 {
-        let more = with_maker(with, makers[p], registers);
-        with = more;
+        let more = with_maker(joined, makers[p], registers);
+        joined = more;
     }
-    with
+    joined
 }
 
 /// The registers of the temporaries that are written before the points of spans.

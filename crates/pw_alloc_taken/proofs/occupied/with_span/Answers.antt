@@ -33,9 +33,9 @@ loop-p-preserved c =
     record {
       low = omega (arith, low);
       high = omega (arith, c.loop-p-test.true);
-      holds = span_more makers c.args.registers.now c.args.span.0 p c.index-makers-p.result (HasRegister c.with_maker-more.result) (HasRegister c.loop-p.with) (HasRegister c.args.mask) low at c.with_maker-more.ensures inv.holds;
+      holds = span_more makers c.args.registers.now c.args.span.0 p c.index-makers-p.result (HasRegister c.with_maker-more.result) (HasRegister c.loop-p.joined) (HasRegister c.args.mask) low at c.with_maker-more.ensures inv.holds;
     }
 
 pub returns : goal.returns
 returns c =
-    span_end c.args.makers.now c.args.registers.now c.args.span.0 c.loop-p.p c.args.span.1 (HasRegister c.loop-p.with) (HasRegister c.args.mask) c.loop-p.invariant.high c.loop-p-test.false c.loop-p.invariant.holds
+    span_end c.args.makers.now c.args.registers.now c.args.span.0 c.loop-p.p c.args.span.1 (HasRegister c.loop-p.joined) (HasRegister c.args.mask) c.loop-p.invariant.high c.loop-p-test.false c.loop-p.invariant.holds

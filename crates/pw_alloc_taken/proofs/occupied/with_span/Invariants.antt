@@ -7,5 +7,5 @@ abbrev pub invariant-loop-p : goal.invariant-loop-p
 invariant-loop-p l = record {
   low : l.span.0 ≤ l.p;
   high : l.p ≤ max l.span.0 l.span.1;
-  holds : (k : ℕ) → HasRegister l.with k ↔ (HasRegister l.mask k ⊎ IsMadeWithin l.makers l.registers l.span.0 l.p k);
+  holds : (k : ℕ) → HasRegister l.joined k ↔ (HasRegister l.mask k ⊎ IsMadeWithin l.makers l.registers l.span.0 l.p k);
 }
