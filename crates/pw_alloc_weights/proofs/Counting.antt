@@ -95,7 +95,7 @@ blocks_more blocks k s u cur new lt is now before =
 pub blocks_all : (blocks : List Stretch) (k u cur : ℕ) → length blocks ≤ k → cur ≡ sum_by (weight_in u) (take k blocks) → cur ≡ sum_by (weight_in u) blocks + (if nat_lt u 0 then 1 else 0)
 blocks_all blocks k u cur le is =
     let all : sum_by (weight_in u) (take k blocks) ≡ sum_by (weight_in u) blocks = ap (sum_by (weight_in u)) (take_all k blocks le) in
-    let none : (if nat_lt u 0 then 1 else 0) ≡ 0 = ap (λ (b : Bool). if b then 1 else 0) (le-ltb u 0 (omega arith)) in
+    let none : ◌≡◌ {A = ℕ} (if nat_lt u 0 then 1 else 0) 0 = ap (λ (b : Bool). if b then 1 else 0) (le-ltb u 0 (omega arith)) in
     omega (arith, is, all, none)
 
 -- one more parameter

@@ -106,7 +106,8 @@ numbered_more t (x ∷ ws) w =
 
 pub numbered_next : (ws : List ℕ) (k w : ℕ) (cur new : List Weighed) → k < length ws → w ≡ get_or ws k w → new ≡ cur ++ (record { temp = k; weight = w }) ∷ [] → cur ≡ numbered 0 (take k ws) → new ≡ numbered 0 (take (k + 1) ws)
 numbered_next ws k w cur new lt is now before =
-    let some : length (take k ws) ≡ k = length-take-le k ws (omega (arith, lt)) in
+    let many = length-take-le k ws (omega (arith, lt)) in
+    let some : 0 + length (take k ws) ≡ k = omega (arith, many) in
     let more : numbered 0 (take (k + 1) ws) ≡ numbered 0 (take k ws) ++ (record { temp = k; weight = w }) ∷ [] =
     ap (numbered 0) (take_more ws k w lt ∙ ap (λ (x : ℕ). take k ws ++ x ∷ []) (sym is)) ∙ numbered_more 0 (take k ws) w
     ∙ ap (λ (n : ℕ). numbered 0 (take k ws) ++ (record { temp = n; weight = w }) ∷ []) some in
@@ -127,7 +128,7 @@ numbered_rises t (x ∷ ws) = (
 numbered_there : (t : ℕ) (ws : List ℕ) (k : ℕ) → k < length ws → (w : Weighed) × Has w (numbered t ws) × (w.temp ≡ t + k)
 numbered_there t [] k lt = absurd (omega (arith, lt))
 numbered_there t (x ∷ ws) zero lt = (record { temp = t; weight = x }, inl refl, omega arith)
-numbered_there t (x ∷ ws) (suc k) lt = let r = numbered_there (suc t) ws k (omega (arith, lt)) in (r.0, r.1, (let is = r.2 in omega (arith, is)))
+numbered_there t (x ∷ ws) (suc k) lt = let r = numbered_there (suc t) ws k (omega (arith, lt)) in (r.0, inr r.1, (let is = r.2 in omega (arith, is)))
 
 abbrev IsWeighed : Outline → Weighed → Type 0
 IsWeighed f w = w.weight ≡ weight f w.temp

@@ -8,8 +8,8 @@ use Rattle.pw_alloc_taken.proofs.Knowledge.{many_makers}
 use Rattle.pw_alloc_registers.proofs.Turns.{next_turn, none_yet, all_registers, ordered_below}
 use Rattle.pw_alloc_registers.proofs.colouring.registers.Goals as goal
 
-pub new-given-requires : goal.new-given-requires
-new-given-requires c = let v = c.in_ok-facts.facts in c.len-points.ensures ∙ v.makers.ok.0 ∙ many_makers c.args.f.now v c.in_ok-facts.ensures
+pub new-requires : goal.new-requires
+new-requires c = let v = c.in_ok-facts.facts in c.len-points.ensures ∙ v.makers.ok.0 ∙ many_makers c.args.f.now v c.in_ok-facts.ensures
 
 pub colour-requires : goal.colour-requires
 colour-requires c =

@@ -12,8 +12,8 @@ use Rattle.pw_alloc_registers.proofs.finding.find_registers.Goals as goal
 pub webs_mask-webs-requires : goal.webs_mask-webs-requires
 webs_mask-webs-requires c = webs_low c.args.f.now c.as_slice.result.now c.requires c.as_slice.ensures
 
-pub registers-registers-requires : goal.registers-registers-requires
-registers-registers-requires c = subst IsOutline (sym c.in_ok-outline.ensures) (outline_is c.args.f.now c.requires)
+pub registers-requires : goal.registers-requires
+registers-requires c = subst IsOutline (sym c.in_ok-outline.ensures) (outline_is c.args.f.now c.requires)
 
 pub returns : goal.returns
 returns c =

@@ -4,8 +4,8 @@ use Rattle.pw_alloc_taken.specs.Makers.{AreBelow}
 use Rattle.pw_alloc_taken.proofs.Defining.{makers_below}
 use Rattle.pw_alloc_taken.proofs.facts.find_facts.Goals as goal
 
-pub definitions-definitions-requires : goal.definitions-definitions-requires
-definitions-definitions-requires c =
+pub definitions-requires : goal.definitions-requires
+definitions-requires c =
     subst (λ (ms : List (Option ℕ)). AreBelow c.temps.result ms) (sym c.deref.ensures.value)
     (subst (λ (n : ℕ). AreBelow n c.in_ok-makers.makers.items) (sym c.temps.ensures) (makers_below c.args.f.now c.in_ok-makers.makers.items c.requires c.in_ok-makers.ensures))
 

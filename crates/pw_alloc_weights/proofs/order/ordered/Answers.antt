@@ -6,11 +6,11 @@ use Rattle.pw_alloc_weights.specs.declared.order.Weighed.{Weighed}
 use Rattle.pw_alloc_weights.proofs.Ranking.{numbered_rises, order_is}
 use Rattle.pw_alloc_weights.proofs.order.ordered.Goals as goal
 
-pub sorted-all-requires : goal.sorted-all-requires
-sorted-all-requires c = subst (EachTwo Rises) (sym (c.in_ok-weighed.ensures ∙ ap (numbered 0) c.deref.ensures.value)) (numbered_rises 0 c.in_ok-weights.weights.items)
+pub sorted-requires : goal.sorted-requires
+sorted-requires c = subst (EachTwo Rises) (sym (c.in_ok-weighed.ensures ∙ ap (numbered 0) c.deref.ensures.value)) (numbered_rises 0 c.in_ok-weights.weights.items)
 
-pub with_weights-weighed-requires : goal.with_weights-weighed-requires
-with_weights-weighed-requires c =
+pub with_weights-requires : goal.with_weights-requires
+with_weights-requires c =
     let ws = c.in_ok-weights.weights in
     let same : length c.deref.result.now ≡ length ws.items = ap (λ (xs : List ℕ). length xs) c.deref.ensures.value in
     omega (arith, same, ws.ok.0, c.in_ok-weights.ensures.count, c.temps-temps.ensures)

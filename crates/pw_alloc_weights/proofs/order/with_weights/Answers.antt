@@ -1,5 +1,5 @@
-use Rattle.std.proofs.Common.{◌<◌, ◌≤◌, ◌∙◌, length, arith, ap}
-use Rattle.std.proofs.lemmas.List.{take_all}
+use Rattle.std.proofs.Common.{◌<◌, ◌≤◌, ◌∙◌, get_or, length, arith, ap, sym}
+use Rattle.std.proofs.lemmas.List.{get_or_default, take_all}
 use Rattle.pw_alloc_weights.specs.Ordering.{numbered}
 use Rattle.pw_alloc_weights.proofs.Ranking.{numbered_next}
 use Rattle.pw_alloc_weights.proofs.order.with_weights.Goals as goal
@@ -7,8 +7,10 @@ use Rattle.pw_alloc_weights.proofs.order.with_weights.Goals as goal
 pub loop-temp-preserved : goal.loop-temp-preserved
 loop-temp-preserved c =
     let ws = c.args.weights.now in
-    let lt : c.loop-temp.temp < length ws = omega (arith, c.loop-temp-test.true, c.requires) in
-    numbered_next ws c.loop-temp.temp c.index-weights-place.result c.loop-temp.all.items c.push.new.self.items lt c.index-weights-place.is c.in_ok-push.ensures.items c.loop-temp.invariant
+    let k = c.loop-temp.temp in
+    let w = get_or ws k 0 in
+    let lt : k < length ws = omega (arith, c.loop-temp-test.true, c.requires) in
+    numbered_next ws k w c.loop-temp.all.items c.push.new.self.items lt (sym (get_or_default ws k w 0 lt)) c.in_ok-push.ensures.items c.loop-temp.invariant
 
 pub returns : goal.returns
 returns c =

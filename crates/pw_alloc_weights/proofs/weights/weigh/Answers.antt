@@ -63,8 +63,8 @@ loop-t-init c =
 pub count-requires : goal.count-requires
 count-requires c =
     let old = c.loop-t.weights in
-    let same : length c.deref_mut-2.result.now ≡ length old.items = ap (λ (xs : List ℕ). length xs) c.deref_mut-2.ensures.value in
-    omega (arith, c.loop-t-test.true, c.params.ensures, c.requires.params, c.loop-t.invariant.long, old.ok.0, same)
+    let same : length c.deref_mut-in-loop-t.result.now ≡ length old.items = ap (λ (xs : List ℕ). length xs) c.deref_mut-in-loop-t.ensures.value in
+    omega (arith, c.loop-t-test.true, c.params-t-end.ensures, c.requires.params, c.loop-t.invariant.long, old.ok.0, same)
 
 pub loop-t-preserved : goal.loop-t-preserved
 loop-t-preserved c =
@@ -72,18 +72,18 @@ loop-t-preserved c =
     let t = c.loop-t.t in
     let old = c.loop-t.weights in
     let new = c.count.new.weights in
-    let same : length c.deref_mut-2.result.now ≡ length old.items = ap (λ (xs : List ℕ). length xs) c.deref_mut-2.ensures.value in
+    let same : length c.deref_mut-in-loop-t.result.now ≡ length old.items = ap (λ (xs : List ℕ). length xs) c.deref_mut-in-loop-t.ensures.value in
     let size : length new ≡ old.len = omega (arith, c.count.ensures.length, same, old.ok.0) in
     record {
       long = first_of (search rules, omega arith);
-      high = let lt = c.loop-t-test.true in let many = c.params.ensures in omega (arith, lt, many);
+      high = let lt = c.loop-t-test.true in let many = c.params-t-end.ensures in omega (arith, lt, many);
       value = λ u. subst (λ (xs : List ℕ). slice_index xs u ≡ sum_by (weight_in u) f.blocks + (if nat_lt u (t + 1) then 1 else 0)) (sym (take_at new (drop (length new) old.items) old.len size))
           (params_more (sum_by (weight_in u) f.blocks) u t (slice_index old.items u) (slice_index new u)
-          (subst (λ (xs : List ℕ). slice_index new u ≡ slice_index xs u + (if t == u then 1 else 0)) c.deref_mut-2.ensures.value (c.in_ok-count.ensures.value u)) (c.loop-t.invariant.value u));
+          (subst (λ (xs : List ℕ). slice_index new u ≡ slice_index xs u + (if t == u then 1 else 0)) c.deref_mut-in-loop-t.ensures.value (c.in_ok-count.ensures.value u)) (c.loop-t.invariant.value u));
     }
 
 pub returns-clause-each : goal.returns-clause-each
 returns-clause-each c = λ t lt.
     let f = c.args.f.now in
-    let past : f.params ≤ c.loop-t.t = subst (λ (n : ℕ). n ≤ c.loop-t.t) c.params.ensures c.loop-t-test.false in
+    let past : f.params ≤ c.loop-t.t = subst (λ (n : ℕ). n ≤ c.loop-t.t) c.params-t-end.ensures c.loop-t-test.false in
     weight_at f t c.loop-t.t (slice_index c.loop-t.weights.items t) past c.loop-t.invariant.high (c.loop-t.invariant.value t)
