@@ -12,7 +12,7 @@ use Rattle.pw_alloc_weights.proofs.weights.weigh.Goals as goal
 pub loop-place-init : goal.loop-place-init
 loop-place-init c =
     let ws = c.in_ok-weights.weights in
-    let zero_of : ws.items ≡ replicate c.temps.result 0 = search rules in
+    let zero_of : ws.items ≡ replicate c.temps.result 0 = c.in_ok-weights.ensures.items_if_clones_equal (λ y e. e) in
     let none : ws.items ≡ replicate c.args.f.now.temps 0 = zero_of ∙ ap (λ (n : ℕ). replicate n 0) c.temps.ensures in
     record {
       long = ws.ok.0 ∙ ap (λ (xs : List ℕ). length xs) none ∙ length-replicate c.args.f.now.temps 0;
