@@ -40,11 +40,7 @@ fn no_definitions(alloc: Global, temps: u32) -> Result<Vec<Items<usize>>, NoMemo
 }
 
 /// Puts a point to those of the temporary that is written directly before it, if one is.
-fn put_point(
-    rows: &mut Vec<Items<usize>>,
-    makers: &[Option<u32>],
-    p: usize,
-) -> Result<(), NoMemory>
+fn put_point(rows: &mut Vec<Items<usize>>, makers: &[Option<u32>], p: usize) -> Result<(), NoMemory>
     requires point { p < length makers.now }
     requires makers { AreBelow (vec_len rows.old) makers.now }
     requires before { AreDefinitions makers.now p rows.old.items }
@@ -112,11 +108,7 @@ fn is_over_call(makers: &[Option<u32>], calls: &[bool], t: u32, p: usize) -> boo
     ensures { IsTrue result ↔ IsOverCall makers.now calls.now t p }
 {
     let call = calls[p];
-    if call {
-        is_other(makers[p], t)
-    } else {
-        false
-    }
+    if call { is_other(makers[p], t) } else { false }
 }
 
 /// Whether one of the points of a span stands behind a call that does not write the temporary.

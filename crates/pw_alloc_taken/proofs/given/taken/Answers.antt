@@ -55,15 +55,15 @@ returns c = λ gs has none r.
     let count = c.requires.facts.count in
     let at = slice_get_read v.definitions.items (vec_len v.definitions) t row v.definitions.ok.0 (let lt = c.requires.temp in omega (arith, lt, count)) c.index.ensures in
     let made = subst (λ (ms : List (Option ℕ)). HasRegister c.made_beside-beside.result r ↔ IsMadeBeside ms given.registers.items c.of-spans.result.now r) c.deref.ensures.value
-        (subst (λ (rs : List (Option ℕ)). HasRegister c.made_beside-beside.result r ↔ IsMadeBeside c.deref.result.now rs c.of-spans.result.now r) c.deref-2.ensures.value (c.made_beside-beside.ensures r)) in
+    (subst (λ (rs : List (Option ℕ)). HasRegister c.made_beside-beside.result r ↔ IsMadeBeside c.deref.result.now rs c.of-spans.result.now r) c.deref-2.ensures.value (c.made_beside-beside.ensures r)) in
     let defined = subst (λ (ps : List ℕ). HasRegister c.occupied_behind-behind.result r ↔ IsOccupiedBehind ps given.occupied.items r) c.as_slice-row.ensures
-        (subst (λ (ms : List ℕ). HasRegister c.occupied_behind-behind.result r ↔ IsOccupiedBehind c.as_slice-row.result.now ms r) c.deref-3.ensures.value (c.occupied_behind-behind.ensures r)) in
+    (subst (λ (ms : List ℕ). HasRegister c.occupied_behind-behind.result r ↔ IsOccupiedBehind c.as_slice-row.result.now ms r) c.deref-3.ensures.value (c.occupied_behind-behind.ensures r)) in
     let beside = made_are f gs given v t r lives there first c.requires.facts has c.of-spans.result.now c.of-spans.ensures in
     let behind = behind_are f gs given v t r lives there first c.requires.facts has row at in
     let live : (c.is_live_at_start-is_live.result ≡ true) ↔ LivesFrom f 0 t 0 = (λ e. (c.requires.facts.spans.each t 0 c.of-spans.result.now c.of-spans.ensures).0 (c.is_live_at_start-is_live.ensures.0 e), λ l. c.is_live_at_start-is_live.ensures.1 ((c.requires.facts.spans.each t 0 c.of-spans.result.now c.of-spans.ensures).1 l)) in
     let param : (nat_lt t c.params.result ≡ true) ↔ (t < f.params) = (λ e. subst (λ (n : ℕ). t < n) c.params.ensures (ltb-true t c.params.result e), λ lt. lt-ltb t c.params.result (subst (λ (n : ℕ). t < n) (sym c.params.ensures) lt)) in
     let start = first_are f gs given v t r lives there first c.requires.facts has (nat_lt t c.params.result) c.is_live_at_start-is_live.result c.at_start-start.result param live
-        (c.at_start-start.ensures ∙ ap (λ (ms : List ℕ). slice_index ms 0) c.deref-4.ensures.value) in
+    (c.at_start-start.ensures ∙ ap (λ (ms : List ℕ). slice_index ms 0) c.deref-4.ensures.value) in
     let opening = c.taken_at_start-first.ensures r in
     taken_is f gs given v t r lives there first c.requires.facts has (HasRegister c.made_beside-beside.result r) (HasRegister c.occupied_behind-behind.result r) (HasRegister c.taken_at_start-first.result r) (HasRegister c.both.result r) none
     (λ h. beside.0 (made.0 h), λ u. made.1 (beside.1 u)) (λ h. behind.0 (defined.0 h), λ u. defined.1 (behind.1 u)) (λ h. start.0 (opening.0 h), λ u. opening.1 (start.1 u))
