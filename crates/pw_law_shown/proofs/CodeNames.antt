@@ -21,7 +21,7 @@ use Rattle.pw_delay.specs.declared.items.Item.{Item}
 use Rattle.pw_delay.specs.declared.items.Item.TheVariants.{Plain, Turns, Mark}
 use Rattle.pw_delay.specs.Items.{begins_next, plain_item, before, slotted}
 use Rattle.pw_delay.specs.Placement.{in_slot, size, sizes, mark_at, branch_words, return_words, turn_words, item_words, words_from, fix_at, fixes_from, short_limit, laid, placed}
-use Rattle.pw_alloc.specs.Allocation.{allocated}
+use Rattle.pw_alloc_temps.specs.Temporaries.{allocated}
 use Rattle.pw_webflow.specs.Direction.{directed}
 use Rattle.pw_select.specs.Selection.{selected}
 use Rattle.pw_object.specs.Functions.{names_of_symbol}
