@@ -146,7 +146,7 @@ past_nothing (Acts c) = refl
 past_nothing Full = refl
 past_nothing Fails = refl
 
-runs : (w : Addresses) (i : Inst) (c : Core) → c.skip ≡ false → acts w (Some i) c ≡ executed w i c
+pub runs : (w : Addresses) (i : Inst) (c : Core) → c.skip ≡ false → acts w (Some i) c ≡ executed w i c
 runs w i c run = ap (λ (t : Bool). if t then Acts (record c { skip = false }) else executed w i c) run
 
 pub words_past : BySources → ByTargets → (w : Addresses) (i : Inst) (r v : ℕ) (c : Core) → does_not_turn i ≡ true → c.skip ≡ false
