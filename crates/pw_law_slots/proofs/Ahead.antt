@@ -11,8 +11,8 @@ use Rattle.pw_delay.specs.declared.items.Turn.{Turn}
 use Rattle.pw_delay.specs.declared.items.Turn.TheVariants.{Back, Goto, If, CallTo, CallReg, Leave}
 use Rattle.pw_delay.specs.declared.items.Item.{Item}
 use Rattle.pw_delay.specs.declared.items.Item.TheVariants.{Plain, Turns}
-use Rattle.pw_slots.specs.Filling.{may_move, are_apart, branch, moves, drawn_near, filled}
-use Rattle.pw_slots.specs.Parts.{compared_by}
+use Rattle.pw_delay.specs.Filling.{may_move, are_apart, branch, moves, drawn_near, filled}
+use Rattle.pw_delay.specs.Parts.{compared_by}
 use Rattle.pw_run_languages.specs.Addresses.{Addresses}
 use Rattle.pw_run_languages.specs.Acts.{Core, Act, Acts, Full, Fails, register, acts, settled}
 use Rattle.pw_run_languages.specs.LineRun.{LineProgram, Frame, Machine, Step, On, counted, left_behind, accesses, went_on, and_then, goes_back, is_taken, distance, turned, step}

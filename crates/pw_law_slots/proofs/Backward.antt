@@ -9,8 +9,8 @@ use Rattle.pw_delay.specs.declared.items.Turn.{Turn}
 use Rattle.pw_delay.specs.declared.items.Turn.TheVariants.{Back}
 use Rattle.pw_delay.specs.declared.items.Item.{Item}
 use Rattle.pw_delay.specs.declared.items.Item.TheVariants.{Plain, Turns, Mark}
-use Rattle.pw_slots.specs.Filling.{nearer, drawn_near, filled}
-use Rattle.pw_slots.specs.Parts.{compared_by, takes_first}
+use Rattle.pw_delay.specs.Filling.{nearer, drawn_near, filled}
+use Rattle.pw_delay.specs.Parts.{compared_by, takes_first}
 use Rattle.pw_run_languages.specs.LineRun.{Frame, Machine, left_behind, is_plain, back_over, goes_back, is_taken, distance}
 use Rattle.pw_run_languages.specs.Acts.{Core}
 use Rattle.pw_law_slots.specs.SlotLaws.{GoesElsewhere, IsFillable}

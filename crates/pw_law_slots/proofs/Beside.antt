@@ -7,8 +7,8 @@ use Rattle.std.specs.Str.{bytes_eq}
 use Rattle.pw_value.specs.ProgramNames.{getchar_name, putchar_name, exit_name}
 use Rattle.pw_delay.specs.declared.items.Item.{Item}
 use Rattle.pw_delay.specs.declared.items.Item.TheVariants.{Mark}
-use Rattle.pw_slots.specs.Filling.{filled}
-use Rattle.pw_slots.specs.Parts.{compared_by}
+use Rattle.pw_delay.specs.Filling.{filled}
+use Rattle.pw_delay.specs.Parts.{compared_by}
 use Rattle.pw_run.specs.Runs.{Ended}
 use Rattle.pw_run_languages.specs.Traces.{Called, Returned}
 use Rattle.pw_run_languages.specs.Programs.{Library, GetChar, PutChar, Exit, library_at}

@@ -7,7 +7,7 @@ use Rattle.std.specs.Str.{bytes_eq}
 use Rattle.pw_inst.specs.declared.Inst.{Inst}
 use Rattle.pw_inst.specs.Computing.{Action, source_registers, target_registers}
 use Rattle.pw_delay.specs.declared.items.Item.{Item}
-use Rattle.pw_slots.specs.Filling.{have_common, but_zero}
+use Rattle.pw_delay.specs.Filling.{have_common, but_zero}
 use Rattle.pw_run_languages.specs.Traces.{Event, Loaded, Stored, touches, load_of, store_of}
 use Rattle.pw_run_languages.specs.Programs.{globals_of}
 use Rattle.pw_run_languages.specs.Addresses.{Addresses}

@@ -12,8 +12,8 @@ use Rattle.pw_delay.specs.declared.items.Turn.{Turn}
 use Rattle.pw_delay.specs.declared.items.Turn.TheVariants.{Back, Goto, If, CallTo, CallReg, Leave}
 use Rattle.pw_delay.specs.declared.items.Item.{Item}
 use Rattle.pw_delay.specs.declared.items.Item.TheVariants.{Plain, Turns, Mark}
-use Rattle.pw_slots.specs.Filling.{may_move, are_apart, branch, moves, drawn_near, compares, with_slot, filled}
-use Rattle.pw_slots.specs.Parts.{compared_by}
+use Rattle.pw_delay.specs.Filling.{may_move, are_apart, branch, moves, drawn_near, compares, with_slot, filled}
+use Rattle.pw_delay.specs.Parts.{compared_by}
 use Rattle.pw_run_languages.specs.Traces.{Event}
 use Rattle.pw_run_languages.specs.Addresses.{Addresses}
 use Rattle.pw_run_languages.specs.Acts.{Core, Act, Acts, Full, Fails, register, with_register, acts, settled}

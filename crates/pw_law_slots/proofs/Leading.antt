@@ -4,7 +4,7 @@ use Rattle.std.specs.Prelude.{◌==◌, ◌&&◌, not}
 use Rattle.std.proofs.lemmas.List.Sums.{sum_by-cons}
 use Rattle.pw_delay.specs.declared.items.Item.{Item}
 use Rattle.pw_delay.specs.declared.items.Item.TheVariants.{Plain, Turns, Mark}
-use Rattle.pw_slots.specs.Filling.{moves, drawn_near, compared, with_slot, filled}
+use Rattle.pw_delay.specs.Filling.{moves, drawn_near, compared, with_slot, filled}
 use Rattle.pw_run_languages.specs.LineRun.{from_mark, is_turn, turns}
 use Rattle.pw_law_slots.specs.Found.{AreFoundAlike}
 

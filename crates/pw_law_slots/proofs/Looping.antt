@@ -7,8 +7,8 @@ use Rattle.std.proofs.lemmas.List.{append_cancel_left}
 use Rattle.pw_delay.specs.declared.items.Word.{Word}
 use Rattle.pw_delay.specs.declared.items.Item.{Item}
 use Rattle.pw_delay.specs.declared.items.Item.TheVariants.{Plain, Turns, Mark}
-use Rattle.pw_slots.specs.Filling.{compared, with_slot, filled}
-use Rattle.pw_slots.specs.Parts.{compared_by, takes_first}
+use Rattle.pw_delay.specs.Filling.{compared, with_slot, filled}
+use Rattle.pw_delay.specs.Parts.{compared_by, takes_first}
 use Rattle.pw_run_languages.specs.LineRun.{is_plain, back_over}
 use Rattle.pw_law_slots.proofs.Places.{PartsAlone, IsCut, cut_before}
 

@@ -6,7 +6,7 @@ use Rattle.std.proofs.lemmas.List.Folds.{list_any_at, list_any-append}
 use Rattle.pw_inst.specs.declared.Inst.{Inst}
 use Rattle.pw_inst.specs.declared.Inst.TheVariants.{Ldb, Ldh, Ldw, Ldo, Stb, Sth, Stw, Ldil, And, Or, Xor, Sub, Addl, Vshd, Mtctl, Comclr, Subi, Extru, Extrs, Zdep, Combt, Combf, Bl, Bv, Ble, Break}
 use Rattle.pw_inst.specs.Computing.{Action, Puts, Loads, Stores, Shifts, bytes_of_width, action, registers_put, source_registers, target_registers}
-use Rattle.pw_slots.specs.Filling.{goes_on, have_common, but_zero}
+use Rattle.pw_delay.specs.Filling.{goes_on, have_common, but_zero}
 use Rattle.pw_run_languages.specs.Addresses.{Addresses}
 use Rattle.pw_run_languages.specs.Acts.{Core, Act, Acts, Full, Fails, register, put, with_register, number_at, with_number, is_open, act_of, action_of, executed, acts}
 use Rattle.pw_law_slots.specs.Passing.{past, does_not_turn}

@@ -5,8 +5,8 @@ use Rattle.pw_delay.specs.declared.items.Word.{Word}
 use Rattle.pw_delay.specs.declared.items.Turn.{Turn}
 use Rattle.pw_delay.specs.declared.items.Item.{Item}
 use Rattle.pw_delay.specs.declared.items.Item.TheVariants.{Plain, Turns, Mark}
-use Rattle.pw_slots.specs.Filling.{moves, drawn_near, compares, compared, with_slot, filled}
-use Rattle.pw_slots.specs.Parts.{compared_by, takes_first}
+use Rattle.pw_delay.specs.Filling.{moves, drawn_near, compares, compared, with_slot, filled}
+use Rattle.pw_delay.specs.Parts.{compared_by, takes_first}
 use Rattle.pw_run_languages.specs.LineRun.{from_mark, is_plain}
 use Rattle.pw_law_slots.proofs.Leading.{mark_kept}
 use Rattle.pw_law_slots.proofs.Turning.{both_left, both_right, not_true}

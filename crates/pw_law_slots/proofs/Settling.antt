@@ -7,7 +7,7 @@ use Rattle.pw_inst.specs.Computing.{source_registers, target_registers}
 use Rattle.pw_inst.specs.Setting.{left_part, right_part}
 use Rattle.pw_inst.specs.declared.relocation.FixKind.{FixKind}
 use Rattle.pw_inst.specs.declared.relocation.FixKind.TheVariants as kind
-use Rattle.pw_slots.specs.Filling.{compares}
+use Rattle.pw_delay.specs.Filling.{compares}
 use Rattle.pw_delay.specs.declared.items.Relocation.{Relocation}
 use Rattle.pw_delay.specs.declared.items.Word.{Word}
 use Rattle.pw_run_languages.specs.Addresses.{Addresses}

@@ -4,7 +4,7 @@ use Rattle.std.specs.Prelude.{◌==◌, ◌&&◌}
 use Rattle.pw_inst.specs.declared.Inst.{Inst}
 use Rattle.pw_inst.specs.declared.Inst.TheVariants.{Comclr, Combt, Combf, Bl, Bv, Ble, Break}
 use Rattle.pw_delay.specs.declared.items.Word.{Word}
-use Rattle.pw_slots.specs.Filling.{compares}
+use Rattle.pw_delay.specs.Filling.{compares}
 use Rattle.pw_run_languages.specs.Addresses.{Addresses}
 use Rattle.pw_run_languages.specs.Acts.{Core, Acts, Full, Fails, executed, acts, settled}
 use Rattle.pw_law_slots.specs.Passing.{does_not_turn}

@@ -9,8 +9,8 @@ use Rattle.pw_delay.specs.declared.items.Turn.{Turn}
 use Rattle.pw_delay.specs.declared.items.Turn.TheVariants.{Back, CallTo, CallReg}
 use Rattle.pw_delay.specs.declared.items.Item.{Item}
 use Rattle.pw_delay.specs.declared.items.Item.TheVariants.{Plain, Turns, Mark}
-use Rattle.pw_slots.specs.Filling.{moves, drawn_near, compared, with_slot, filled}
-use Rattle.pw_slots.specs.Parts.{compared_by}
+use Rattle.pw_delay.specs.Filling.{moves, drawn_near, compared, with_slot, filled}
+use Rattle.pw_delay.specs.Parts.{compared_by}
 use Rattle.pw_run_languages.specs.Addresses.{Addresses}
 use Rattle.pw_run_languages.specs.Acts.{Core}
 use Rattle.pw_run_languages.specs.LineRun.{Frame, Machine}

@@ -10,7 +10,7 @@ use Rattle.pw_delay.specs.declared.items.Turn.{Turn}
 use Rattle.pw_delay.specs.declared.items.Turn.TheVariants.{Back, Goto, If, CallTo, CallReg, Leave}
 use Rattle.pw_delay.specs.declared.items.Item.{Item}
 use Rattle.pw_delay.specs.declared.items.Item.TheVariants.{Plain, Turns}
-use Rattle.pw_slots.specs.Filling.{have_common, but_zero, are_apart, branch, may_move, moves}
+use Rattle.pw_delay.specs.Filling.{have_common, but_zero, are_apart, branch, may_move, moves}
 use Rattle.pw_run_languages.specs.Addresses.{Addresses}
 use Rattle.pw_run_languages.specs.Acts.{Core, Act, Acts, Full, Fails, register, acts, settled}
 use Rattle.pw_run_languages.specs.LineRun.{LineProgram, Machine, Step, On, Stopped, Astray, and_then, linked, counted, left_behind, accesses, went_on, does, from_mark, goes_to, to_block, return_address, calls, calls_at, function_at, routine, returns, turned, step}

@@ -7,7 +7,7 @@ use Rattle.pw_delay.specs.declared.items.Turn.{Turn}
 use Rattle.pw_delay.specs.declared.items.Item.{Item}
 use Rattle.pw_delay.specs.declared.items.Item.TheVariants.{Turns}
 use Rattle.pw_delay.specs.declared.items.Turn.TheVariants.{Back}
-use Rattle.pw_slots.specs.Filling.{compares, filled}
+use Rattle.pw_delay.specs.Filling.{compares, filled}
 use Rattle.pw_run.specs.Runs.{Same}
 use Rattle.pw_run_languages.specs.Addresses.{Addresses}
 use Rattle.pw_run_languages.specs.Late.{RefinesLately}

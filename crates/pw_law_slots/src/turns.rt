@@ -6,7 +6,7 @@ ghost use Rattle.pw_delay.specs.declared.items.Word.{Word};
 ghost use Rattle.pw_delay.specs.declared.items.Turn.{Turn};
 ghost use Rattle.pw_delay.specs.declared.items.Item.{Item};
 ghost use Rattle.pw_delay.specs.declared.items.Item.TheVariants.{Plain, Turns};
-ghost use Rattle.pw_slots.specs.Filling.{moves, filled};
+ghost use Rattle.pw_delay.specs.Filling.{moves, filled};
 ghost use Rattle.pw_run_languages.specs.Addresses.{Addresses};
 ghost use Rattle.pw_run_languages.specs.LineRun.{LineProgram, Machine, and_then, left_behind, back_over, from_mark, function_at, function_named, is_plain, turns, step};
 ghost use Rattle.pw_law_slots.specs.Passing.{LeadsOn};

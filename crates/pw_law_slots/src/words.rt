@@ -4,7 +4,7 @@ ghost use Rattle.std.specs.Prelude.{ℕ, ◌≡◌, true, false, Some, [], ◌�
 ghost use Rattle.pw_inst.specs.declared.Inst.{Inst};
 ghost use Rattle.pw_inst.specs.Computing.{source_registers, target_registers};
 ghost use Rattle.pw_delay.specs.declared.items.Word.{Word};
-ghost use Rattle.pw_slots.specs.Filling.{goes_on, have_common, but_zero};
+ghost use Rattle.pw_delay.specs.Filling.{goes_on, have_common, but_zero};
 ghost use Rattle.pw_run_languages.specs.Addresses.{Addresses};
 ghost use Rattle.pw_run_languages.specs.Acts.{Core, Acts, register, with_register, acts, settled};
 ghost use Rattle.pw_law_slots.specs.Passing.{past, does_not_turn};

@@ -6,7 +6,7 @@ use Rattle.pw_delay.specs.declared.items.Turn.{Turn}
 use Rattle.pw_delay.specs.declared.items.Turn.TheVariants.{Back}
 use Rattle.pw_delay.specs.declared.items.Item.{Item}
 use Rattle.pw_delay.specs.declared.items.Item.TheVariants.{Plain, Turns, Mark}
-use Rattle.pw_slots.specs.Filling.{moves, drawn_near, compared}
+use Rattle.pw_delay.specs.Filling.{moves, drawn_near, compared}
 
 -- the words, those in slots among them
 abbrev pub words_of : Item → List Word
