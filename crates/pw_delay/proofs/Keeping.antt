@@ -145,7 +145,7 @@ filled_from behind items =
     let there = recursion_from_All (IsFilledFrom items) items (λ k d below. inl (All-contains_itself items k d below)) in
     properties_stay (IsFilledFrom items) behind items (from_moves items) there
 
-turn_lawful : (turn : Turn) → IsTurn turn → IsTurn (drawn_near turn)
+pub turn_lawful : (turn : Turn) → IsTurn turn → IsTurn (drawn_near turn)
 unfolding IsInRange
 turn_lawful (Back (Combf c r1 r2 (negsuc (suc (suc n))))) h = (h.0, h.1, h.2, (omega (arith, ints, h.3.0), omega (arith, ints, h.3.1)))
 turn_lawful turn h = h

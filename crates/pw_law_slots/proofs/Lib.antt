@@ -13,3 +13,4 @@ pub mod Going
 pub mod Ahead
 pub mod Standing
 pub mod Following
+pub mod Placing

@@ -6,7 +6,7 @@ mod runs;
 mod turns;
 mod words;
 
-pub use runs::filling_keeps_runs;
+pub use runs::{filling_keeps_runs, placement_keeps_runs};
 pub use turns::{
     filled_items_lead_alike, filled_programs_name_alike, loops_go_over_words, turns_take_words,
 };

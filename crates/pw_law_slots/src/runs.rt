@@ -1,5 +1,6 @@
 //! The run of items with filled slots.
 
+ghost use Rattle.pw_run_languages.specs.SelectionLaws.{PlacementKeepsRuns};
 ghost use Rattle.pw_law_slots.specs.SlotLaws.{FillingKeepsRuns};
 
 use pw_inst::actions_go_by_registers;
@@ -16,4 +17,11 @@ pub fn filling_keeps_runs()
     actions_go_by_registers();
     parts_are_filled_alone();
     late_logs_compose();
+}
+
+/// The items that are placed run as the lines' own items do, late by loads and stores alone: they are those with filled slots.
+pub fn placement_keeps_runs()
+    ensures { PlacementKeepsRuns }
+{
+    filling_keeps_runs();
 }
