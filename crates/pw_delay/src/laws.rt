@@ -1,6 +1,6 @@
 //! What stays of items where words move into slots, and where the branches of placed code lead.
 
-ghost use Rattle.std.specs.Prelude.{ℕ, Bool, false, Option, List, ◌≡◌, ◌≤◌, ◌∷◌, ◌++◌};
+ghost use Rattle.std.specs.Prelude.{ℕ, Bool, Option, List, ◌≡◌, ◌≤◌, ◌∷◌, ◌++◌};
 ghost use Rattle.std.specs.List.{flat_map, AllByRecursion};
 ghost use Rattle.pw_inst.specs.declared.line.Line.{Line};
 ghost use Rattle.pw_delay.specs.declared.items.Word.{Word};
@@ -10,7 +10,7 @@ ghost use Rattle.pw_delay.specs.declared.items.Item.TheVariants.{Turns, Mark};
 ghost use Rattle.pw_delay.specs.Placement.{sizes};
 ghost use Rattle.pw_delay.specs.Lawful.{AreItems};
 ghost use Rattle.pw_delay.specs.Filling.{filled};
-ghost use Rattle.pw_delay.specs.Parts.{words_of, blocks_of, turns_of, compared_by, takes_first, IsFilledFrom};
+ghost use Rattle.pw_delay.specs.Parts.{words_of, blocks_of, turns_of, compared_by, IsFilledFrom, PartsAlone};
 ghost use Rattle.pw_delay.specs.Branches.{HasNoCall, AreSent, Reaches};
 
 /// Each word stays once, in the order of the others; so do the places where blocks begin and the turns of control, but for
@@ -31,8 +31,7 @@ pub fn slots_are_filled_from_items()
 /// Where what is behind does not begin with a turn whose slot is empty, it is filled by itself: so no word moves over the
 /// beginning of a block, and none but the word directly before a turn moves.
 pub fn parts_are_filled_alone()
-    ensures parts { (behind : Bool) (before after : List Item) → takes_first after ≡ false →
-        filled behind (before ++ after) ≡ filled behind before ++ filled (compared_by behind before) after }
+    ensures parts { PartsAlone }
     ensures blocks { (behind : Bool) (before after : List Item) (b : ℕ) →
         filled behind (before ++ Mark b ∷ after) ≡ filled behind before ++ Mark b ∷ filled (compared_by behind before) after }
 {}

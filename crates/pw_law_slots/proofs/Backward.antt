@@ -10,11 +10,11 @@ use Rattle.pw_delay.specs.declared.items.Turn.TheVariants.{Back}
 use Rattle.pw_delay.specs.declared.items.Item.{Item}
 use Rattle.pw_delay.specs.declared.items.Item.TheVariants.{Plain, Turns, Mark}
 use Rattle.pw_delay.specs.Filling.{nearer, drawn_near, filled}
-use Rattle.pw_delay.specs.Parts.{compared_by, takes_first}
+use Rattle.pw_delay.specs.Parts.{compared_by, takes_first, PartsAlone}
 use Rattle.pw_run_languages.specs.LineRun.{Frame, Machine, left_behind, is_plain, back_over, goes_back, is_taken, distance}
 use Rattle.pw_run_languages.specs.Acts.{Core}
 use Rattle.pw_law_slots.specs.SlotLaws.{GoesElsewhere, IsFillable}
-use Rattle.pw_law_slots.proofs.Places.{PartsAlone, IsCut}
+use Rattle.pw_law_slots.proofs.Places.{IsCut}
 use Rattle.pw_law_slots.proofs.Looping.{goes_over, last_word, plain_split, leads_back}
 use Rattle.pw_law_slots.proofs.Beside.{AreBeside, AreStepsBeside, IsPlaced, Runs, beside, led_beside}
 

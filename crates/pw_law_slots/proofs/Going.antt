@@ -13,7 +13,7 @@ use Rattle.pw_delay.specs.declared.items.Turn.TheVariants.{Back, Goto, If, CallT
 use Rattle.pw_delay.specs.declared.items.Item.{Item}
 use Rattle.pw_delay.specs.declared.items.Item.TheVariants.{Plain, Turns, Mark}
 use Rattle.pw_delay.specs.Filling.{may_move, are_apart, branch, moves, drawn_near, compares, with_slot, filled}
-use Rattle.pw_delay.specs.Parts.{compared_by}
+use Rattle.pw_delay.specs.Parts.{compared_by, PartsAlone}
 use Rattle.pw_run_languages.specs.Traces.{Event}
 use Rattle.pw_run_languages.specs.Addresses.{Addresses}
 use Rattle.pw_run_languages.specs.Acts.{Core, Act, Acts, Full, Fails, register, with_register, acts, settled}
@@ -26,7 +26,7 @@ use Rattle.pw_law_slots.proofs.Leading.{turns_left}
 use Rattle.pw_law_slots.proofs.Programs.{standing_filled}
 use Rattle.pw_law_slots.proofs.Skipping.{word_clears}
 use Rattle.pw_law_slots.proofs.Turning.{both_left, among_first, moves_fit_by, clear_by, steps_take}
-use Rattle.pw_law_slots.proofs.Places.{PartsAlone, IsCut, compared_on, cut_behind, IsTaken, Stays, taken_or_stays, cut_behind_word}
+use Rattle.pw_law_slots.proofs.Places.{IsCut, compared_on, cut_behind, IsTaken, Stays, taken_or_stays, cut_behind_word}
 use Rattle.pw_law_slots.proofs.Beside.{AreBeside, AreStepsBeside, IsAt, IsBeside, IsPlaced, Runs, AreFillable, beside, beside_at, landed, landed_on, block_beside, calls_beside, at_beside, returns_beside}
 use Rattle.pw_law_slots.proofs.Backward.{near, drawn_back, near_taken, back_level, back_near}
 

@@ -14,3 +14,4 @@ pub mod Ahead
 pub mod Standing
 pub mod Following
 pub mod Placing
+pub mod Moving

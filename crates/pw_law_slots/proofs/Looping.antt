@@ -8,9 +8,9 @@ use Rattle.pw_delay.specs.declared.items.Word.{Word}
 use Rattle.pw_delay.specs.declared.items.Item.{Item}
 use Rattle.pw_delay.specs.declared.items.Item.TheVariants.{Plain, Turns, Mark}
 use Rattle.pw_delay.specs.Filling.{compared, with_slot, filled}
-use Rattle.pw_delay.specs.Parts.{compared_by, takes_first}
+use Rattle.pw_delay.specs.Parts.{compared_by, takes_first, PartsAlone}
 use Rattle.pw_run_languages.specs.LineRun.{is_plain, back_over}
-use Rattle.pw_law_slots.proofs.Places.{PartsAlone, IsCut, cut_before}
+use Rattle.pw_law_slots.proofs.Places.{IsCut, cut_before}
 
 drop_all : (xs ys : List Item) → drop (length xs) (xs ++ ys) ≡ ys
 drop_all [] ys = refl

@@ -63,7 +63,7 @@ named xs r s none there = by (s == r) refl
 first_part : (p : ℕ → Bool) (xs ys : List ℕ) → list_any p (xs ++ ys) ≡ false → list_any p xs ≡ false
 first_part p xs ys h = let e = list_any-append p xs ys in grind arith
 
-second_part : (p : ℕ → Bool) (xs ys : List ℕ) → list_any p (xs ++ ys) ≡ false → list_any p ys ≡ false
+pub second_part : (p : ℕ → Bool) (xs ys : List ℕ) → list_any p (xs ++ ys) ≡ false → list_any p ys ≡ false
 second_part p xs ys h = let e = list_any-append p xs ys in grind arith
 
 -- ---- actions

@@ -6,16 +6,10 @@ use Rattle.pw_delay.specs.declared.items.Turn.{Turn}
 use Rattle.pw_delay.specs.declared.items.Item.{Item}
 use Rattle.pw_delay.specs.declared.items.Item.TheVariants.{Plain, Turns, Mark}
 use Rattle.pw_delay.specs.Filling.{moves, drawn_near, compares, compared, with_slot, filled}
-use Rattle.pw_delay.specs.Parts.{compared_by, takes_first}
+use Rattle.pw_delay.specs.Parts.{compared_by, takes_first, PartsAlone}
 use Rattle.pw_run_languages.specs.LineRun.{from_mark, is_plain}
 use Rattle.pw_law_slots.proofs.Leading.{mark_kept}
 use Rattle.pw_law_slots.proofs.Turning.{both_left, both_right, not_true}
-
--- what pw_slots promises of parts
-abbrev pub PartsAlone : Type 0
-PartsAlone =
-    (behind : Bool) (before after : List Item) → takes_first after ≡ false
-    → filled behind (before ++ after) ≡ filled behind before ++ filled (compared_by behind before) after
 
 pub record IsCut (items before left : List Item) : Type 0 where
   pub parts : items ≡ before ++ left

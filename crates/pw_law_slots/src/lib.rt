@@ -10,4 +10,6 @@ pub use runs::{filling_keeps_runs, placement_keeps_runs};
 pub use turns::{
     filled_items_lead_alike, filled_programs_name_alike, loops_go_over_words, turns_take_words,
 };
-pub use words::{settled_words_move_alike, words_keep_registers, words_pass_registers};
+pub use words::{
+    moved_words_go_on, settled_words_move_alike, words_keep_registers, words_pass_registers,
+};
