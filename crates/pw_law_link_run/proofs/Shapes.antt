@@ -1,7 +1,7 @@
 -- How the items of a selected function begin and end, and what its frame holds.
 use Rattle.std.specs.Prelude.{ℕ, ℤ, ◌≡◌, ◌≢◌, ◌+◌, ◌*◌, ◌/◌, ◌≤◌, ◌&&◌, not, Bool, true, false, if◌then◌else◌, Option, Some, None, List, [], ◌∷◌, ◌++◌, length}
 use Rattle.std.specs.List.{flat_map}
-use Rattle.std.proofs.Common.{arith, subst, sym, ap, refl, ◌∙◌, append-nil}
+use Rattle.std.proofs.Common.{arith, subst, sym, refl, ◌∙◌, append-nil}
 use Rattle.pw_flow.specs.declared.flow.End.{End}
 use Rattle.pw_flow.specs.declared.flow.End.TheVariants as end
 use Rattle.pw_inst.specs.declared.line.Line.{Line}

@@ -1,22 +1,21 @@
 -- A branch that goes back inside its block leads to the same place, whether it stands where it stood or has the word before
 -- it in its slot.
-use Rattle.std.proofs.Common.{ℕ, zero, suc, negsuc, ◌≡◌, ◌+◌, Bool, true, false, Option, None, Some, List, [], ◌∷◌, ◌++◌, length, refl, ap, sym, subst, ◌∙◌, length-append, append_assoc, arith}
+use Rattle.std.proofs.Common.{ℕ, zero, suc, negsuc, ◌≡◌, true, false, Option, None, Some, List, [], ◌∷◌, ◌++◌, length, refl, ap, sym, subst, ◌∙◌, length-append, append_assoc, arith}
 use Rattle.std.specs.List.{list_all, AllByRecursion}
 use Rattle.pw_inst.specs.declared.Inst.{Inst}
 use Rattle.pw_inst.specs.declared.Inst.TheVariants.{Combf}
 use Rattle.pw_delay.specs.declared.items.Word.{Word}
-use Rattle.pw_delay.specs.declared.items.Turn.{Turn}
 use Rattle.pw_delay.specs.declared.items.Turn.TheVariants.{Back}
 use Rattle.pw_delay.specs.declared.items.Item.{Item}
 use Rattle.pw_delay.specs.declared.items.Item.TheVariants.{Plain, Turns, Mark}
 use Rattle.pw_delay.specs.Filling.{nearer, drawn_near, filled}
 use Rattle.pw_delay.specs.Parts.{compared_by, takes_first, PartsAlone}
-use Rattle.pw_run_languages.specs.LineRun.{Frame, Machine, left_behind, is_plain, back_over, goes_back, is_taken, distance}
+use Rattle.pw_run_languages.specs.LineRun.{Frame, Machine, is_plain, back_over, goes_back, is_taken, distance}
 use Rattle.pw_run_languages.specs.Acts.{Core}
 use Rattle.pw_law_slots.specs.SlotLaws.{GoesElsewhere, IsFillable}
 use Rattle.pw_law_slots.proofs.Places.{IsCut}
 use Rattle.pw_law_slots.proofs.Looping.{goes_over, last_word, plain_split, leads_back}
-use Rattle.pw_law_slots.proofs.Beside.{AreBeside, AreStepsBeside, IsPlaced, Runs, beside, led_beside}
+use Rattle.pw_law_slots.proofs.Beside.{AreBeside, AreStepsBeside, Runs, beside, led_beside}
 
 -- words do not begin with a turn
 some_first : (words ys : List Item) (n : ℕ) → length words ≡ suc n → list_all is_plain words ≡ true → takes_first (words ++ ys) ≡ false

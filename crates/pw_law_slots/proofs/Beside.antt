@@ -15,11 +15,11 @@ use Rattle.pw_run_languages.specs.Programs.{Library, GetChar, PutChar, Exit, lib
 use Rattle.pw_run_languages.specs.Addresses.{Addresses}
 use Rattle.pw_run_languages.specs.Acts.{Core, register, with_register}
 use Rattle.pw_run_languages.specs.Standing.{Active, globals_now}
-use Rattle.pw_run_languages.specs.LineRun.{LineFn, LineProgram, Frame, Machine, Step, On, Stopped, Astray, name_of, active, kept, counted, left_behind, globals_in, turns, return_address, from_mark, goes_to, to_block, notes_call, enters, library, calls, calls_at, function_named, function_at, returns, staged}
+use Rattle.pw_run_languages.specs.LineRun.{LineFn, LineProgram, Frame, Machine, Step, On, Stopped, Astray, name_of, active, kept, counted, left_behind, globals_in, return_address, from_mark, goes_to, to_block, notes_call, enters, library, calls, calls_at, function_named, returns, staged}
 use Rattle.pw_law_slots.specs.SlotLaws.{filled_function, filled_program, IsFillable}
 use Rattle.pw_law_slots.proofs.Leading.{turns_left}
-use Rattle.pw_law_slots.proofs.Programs.{named_filled, standing_filled}
-use Rattle.pw_law_slots.proofs.Places.{IsCut, cut_at_start, cut_behind, compared_on, Begun, begun}
+use Rattle.pw_law_slots.proofs.Programs.{named_filled}
+use Rattle.pw_law_slots.proofs.Places.{IsCut, cut_at_start, cut_behind, compared_on, begun}
 
 -- ---- frames
 

@@ -9,7 +9,6 @@ use Rattle.pw_inst.specs.declared.Inst.{Inst}
 use Rattle.pw_inst.specs.Computing.{Action}
 use Rattle.pw_delay.specs.declared.items.Word.{Word}
 use Rattle.pw_delay.specs.declared.items.Item.{Item}
-use Rattle.pw_delay.specs.declared.items.Item.TheVariants.{Plain}
 use Rattle.pw_run.specs.Runs.{View, Stage, Going, Over, Wrong, End, Same}
 use Rattle.pw_run_languages.specs.Traces.{Event, Called, Loaded, Stored, touches, load_of, store_of}
 use Rattle.pw_run_languages.specs.Late.{IsAccess, Lately, ahead, GoesLately, MetLately, RefinesLately}
@@ -18,14 +17,14 @@ use Rattle.pw_run_languages.specs.Programs.{globals_of}
 use Rattle.pw_run_languages.specs.Addresses.{Addresses}
 use Rattle.pw_run_languages.specs.Acts.{Core, Act, Acts, Full, Fails, action_of, acts, settled}
 use Rattle.pw_run_languages.specs.Links.{HasLinks, HaveLinks}
-use Rattle.pw_run_languages.specs.LineRun.{LineFn, LineProgram, Frame, Machine, Step, On, Stopped, Astray, kept, left_behind, globals_in, accesses, went_on, and_then, function_named, start_core, start, shown, staged, step, steps, line_run}
+use Rattle.pw_run_languages.specs.LineRun.{LineFn, LineProgram, Machine, Step, On, Stopped, Astray, kept, left_behind, globals_in, accesses, went_on, and_then, function_named, start_core, start, shown, staged, step, steps, line_run}
 use Rattle.pw_law_slots.specs.SlotLaws.{filled_function, filled_program, FillingKeeps}
 use Rattle.pw_law_slots.proofs.Doing.{noted}
 use Rattle.pw_law_slots.proofs.Programs.{named_filled}
 use Rattle.pw_law_slots.proofs.Turning.{moves_fit_by}
 use Rattle.pw_law_slots.proofs.Places.{cut_at_start}
 use Rattle.pw_law_slots.proofs.Beside.{AreStepsBeside, IsBeside, AreFillable, named_fills}
-use Rattle.pw_law_slots.proofs.Going.{Promises, IsAhead, one_step, beside_is}
+use Rattle.pw_law_slots.proofs.Going.{Promises, IsAhead, one_step}
 use Rattle.pw_law_slots.proofs.Ahead.{word_steps, run_clear, second_step}
 use Rattle.pw_law_slots.proofs.Standing.{has_links_too}
 

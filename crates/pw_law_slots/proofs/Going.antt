@@ -1,23 +1,21 @@
 -- A step of the run of items and one of the run with filled slots: both come to the same place, or the first has done a word
 -- that the second does with the turn behind it.
-use Rattle.std.proofs.Common.{ℕ, ◌≡◌, Bool, true, false, if◌then◌else◌, ◌⊎◌, inl, inr, Option, None, Some, List, [], ◌∷◌, ◌++◌, refl, ap, sym, subst, ◌∙◌, append_assoc}
-use Rattle.std.specs.Prelude.{◌==◌, ◌&&◌, ◌||◌, not}
-use Rattle.std.specs.List.{list_any, AllByRecursion}
+use Rattle.std.proofs.Common.{ℕ, ◌≡◌, Bool, true, false, if◌then◌else◌, ◌⊎◌, inl, inr, Option, None, Some, List, [], ◌∷◌, ◌++◌, refl, ap, sym, subst, ◌∙◌}
+use Rattle.std.specs.Prelude.{◌==◌}
+use Rattle.std.specs.List.{AllByRecursion}
 use Rattle.pw_inst.specs.declared.Inst.{Inst}
-use Rattle.pw_inst.specs.declared.Inst.TheVariants.{Combf}
 use Rattle.pw_inst.specs.declared.relocation.Symbol.TheVariants as symbol
-use Rattle.pw_inst.specs.Computing.{source_registers, condition}
 use Rattle.pw_delay.specs.declared.items.Word.{Word}
 use Rattle.pw_delay.specs.declared.items.Turn.{Turn}
 use Rattle.pw_delay.specs.declared.items.Turn.TheVariants.{Back, Goto, If, CallTo, CallReg, Leave}
 use Rattle.pw_delay.specs.declared.items.Item.{Item}
 use Rattle.pw_delay.specs.declared.items.Item.TheVariants.{Plain, Turns, Mark}
-use Rattle.pw_delay.specs.Filling.{may_move, are_apart, branch, moves, drawn_near, compares, with_slot, filled}
+use Rattle.pw_delay.specs.Filling.{compares, filled}
 use Rattle.pw_delay.specs.Parts.{compared_by, PartsAlone}
 use Rattle.pw_run_languages.specs.Traces.{Event}
 use Rattle.pw_run_languages.specs.Addresses.{Addresses}
-use Rattle.pw_run_languages.specs.Acts.{Core, Act, Acts, Full, Fails, register, with_register, acts, settled}
-use Rattle.pw_run_languages.specs.LineRun.{LineProgram, Frame, Machine, Step, On, Stopped, Astray, name_of, counted, left_behind, accesses, went_on, and_then, through_slot, to_block, goes_back, turns, return_address, calls, calls_at, function_at, result_of, scratch_registers, with_scratch, with_result, routine, linked, returns, is_taken, distance, turned, step}
+use Rattle.pw_run_languages.specs.Acts.{Core, Act, Acts, Full, Fails, register, acts, settled}
+use Rattle.pw_run_languages.specs.LineRun.{LineProgram, Frame, Machine, Step, On, Astray, name_of, counted, left_behind, accesses, went_on, and_then, through_slot, to_block, goes_back, turns, return_address, calls, calls_at, function_at, result_of, scratch_registers, with_scratch, with_result, routine, linked, returns, is_taken, distance, turned, step}
 use Rattle.pw_law_slots.specs.Passing.{LeadsOn}
 use Rattle.pw_law_slots.specs.SlotLaws.{GoesElsewhere, PassesNothing, IsFillable, filled_program}
 use Rattle.pw_law_slots.proofs.Passing.{BySources, ByTargets}
@@ -25,10 +23,9 @@ use Rattle.pw_law_slots.proofs.Doing.{skip_stays}
 use Rattle.pw_law_slots.proofs.Leading.{turns_left}
 use Rattle.pw_law_slots.proofs.Programs.{standing_filled}
 use Rattle.pw_law_slots.proofs.Skipping.{word_clears}
-use Rattle.pw_law_slots.proofs.Turning.{both_left, among_first, moves_fit_by, clear_by, steps_take}
-use Rattle.pw_law_slots.proofs.Places.{IsCut, compared_on, cut_behind, IsTaken, Stays, taken_or_stays, cut_behind_word}
-use Rattle.pw_law_slots.proofs.Beside.{AreBeside, AreStepsBeside, IsAt, IsBeside, IsPlaced, Runs, AreFillable, beside, beside_at, landed, landed_on, block_beside, calls_beside, at_beside, returns_beside}
-use Rattle.pw_law_slots.proofs.Backward.{near, drawn_back, near_taken, back_level, back_near}
+use Rattle.pw_law_slots.proofs.Places.{IsCut, compared_on, cut_behind, IsTaken, taken_or_stays, cut_behind_word}
+use Rattle.pw_law_slots.proofs.Beside.{AreBeside, AreStepsBeside, IsBeside, IsPlaced, Runs, AreFillable, beside, beside_at, landed, landed_on, block_beside, calls_beside, at_beside, returns_beside}
+use Rattle.pw_law_slots.proofs.Backward.{back_level}
 
 -- what the crates below promise
 pub record Promises : Type 0 where

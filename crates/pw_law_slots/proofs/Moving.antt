@@ -1,12 +1,10 @@
 -- Words that move into slots, as linking wants them.
 use Rattle.std.proofs.Common.{ℕ, ◌≡◌, Bool, true, false, if◌then◌else◌, Option, None, Some, List, [], ◌∷◌, ◌++◌, refl, ap, sym, subst, ◌∙◌}
-use Rattle.std.specs.Prelude.{◌==◌, not}
+use Rattle.std.specs.Prelude.{not}
 use Rattle.pw_inst.specs.declared.Inst.{Inst}
 use Rattle.pw_inst.specs.Computing.{source_registers, target_registers}
-use Rattle.pw_delay.specs.declared.items.Word.{Word}
-use Rattle.pw_delay.specs.Filling.{goes_on, is_nop, have_common, but_zero, may_move, are_apart, branch}
-use Rattle.pw_run_languages.specs.Addresses.{Addresses}
-use Rattle.pw_run_languages.specs.Acts.{Core, Acts, Full, register, acts, settled}
+use Rattle.pw_delay.specs.Filling.{is_nop, have_common, but_zero, may_move, are_apart, branch}
+use Rattle.pw_run_languages.specs.Acts.{Acts, Full, register, acts, settled}
 use Rattle.pw_law_slots.specs.Passing.{does_not_turn}
 use Rattle.pw_law_slots.specs.Moving.{MovedNeverStop, MovedPassNothing, MovedLeaveLinks}
 use Rattle.pw_law_slots.proofs.Passing.{ByTargets, second_part, words_keep, words_never_stop}

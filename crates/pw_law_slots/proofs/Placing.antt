@@ -1,5 +1,5 @@
 -- The items of selected lines can be filled, so the run of the items that are placed does what the run of the lines' items does.
-use Rattle.std.proofs.Common.{ℕ, zero, suc, negsuc, ◌≡◌, ◌≤◌, Bool, true, false, if◌then◌else◌, None, Some, List, [], ◌∷◌, map, refl, ap, sym, subst, ◌∙◌, arith}
+use Rattle.std.proofs.Common.{ℕ, zero, suc, negsuc, ◌≡◌, Bool, true, false, if◌then◌else◌, None, Some, List, [], ◌∷◌, map, refl, ap, subst, arith}
 use Rattle.std.specs.List.{AllByRecursion}
 use Rattle.pw_value.specs.declared.value.Byte.{Byte}
 use Rattle.pw_value.specs.declared.value.Value.{Value}

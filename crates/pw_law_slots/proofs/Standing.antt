@@ -1,5 +1,5 @@
 -- Return addresses stand in memory at the same places in both runs.
-use Rattle.std.proofs.Common.{ℕ, suc, ◌≡◌, ◌≤◌, ◌+◌, Bool, true, false, if◌then◌else◌, None, Some, List, [], ◌∷◌, ◌++◌, length, refl, ap, sym, subst, ◌∙◌, length-append, append_assoc, arith}
+use Rattle.std.proofs.Common.{◌≡◌, Bool, true, false, if◌then◌else◌, None, Some, List, [], ◌∷◌, ◌++◌, length, refl, ap, sym, subst, ◌∙◌, length-append, append_assoc, arith}
 use Rattle.std.specs.Prelude.{◌&&◌, not}
 use Rattle.std.proofs.lemmas.List.{append_cancel_right, nil_from_length}
 use Rattle.pw_inst.specs.declared.Inst.TheVariants.{Combf}
@@ -8,7 +8,7 @@ use Rattle.pw_delay.specs.declared.items.Word.{Word}
 use Rattle.pw_delay.specs.declared.items.Turn.{Turn}
 use Rattle.pw_delay.specs.declared.items.Turn.TheVariants.{Back, CallTo, CallReg}
 use Rattle.pw_delay.specs.declared.items.Item.{Item}
-use Rattle.pw_delay.specs.declared.items.Item.TheVariants.{Plain, Turns, Mark}
+use Rattle.pw_delay.specs.declared.items.Item.TheVariants.{Plain, Turns}
 use Rattle.pw_delay.specs.Filling.{moves, drawn_near, compared, with_slot, filled}
 use Rattle.pw_delay.specs.Parts.{compared_by}
 use Rattle.pw_run_languages.specs.Addresses.{Addresses}
