@@ -116,7 +116,7 @@ slot_properties P moved behind (Plain w) (Turns turn None ∷ rest) p ps = by (n
     by false h = (p, ps)
 slot_properties P moved behind item rest p ps = (p, ps)
 
-properties_stay : (P : Item → Type 0) (behind : Bool) (items : List Item) → PropertiesMove P → AllByRecursion P items → AllByRecursion P (filled behind items)
+pub properties_stay : (P : Item → Type 0) (behind : Bool) (items : List Item) → PropertiesMove P → AllByRecursion P items → AllByRecursion P (filled behind items)
 properties_stay P behind [] moved ps = tt
 properties_stay P behind (item ∷ rest) moved ps =
     slot_properties P moved behind item (filled (compared behind item) rest) ps.0 (properties_stay P (compared behind item) rest moved ps.1)
