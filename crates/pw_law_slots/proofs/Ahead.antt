@@ -50,7 +50,7 @@ placed_behind word turn rest m before callers at = record {
 leads_both : Promises → (p : LineProgram) (w : Addresses) (scratch : ℕ → (ℕ → ℕ) → ℕ → ℕ) (word : Word) (turn : Turn) (rest : List Item) (m : Machine) (before : List Item) (callers : List Frame)
     → AreFillable p → LeadsOn turn → IsIn m before (Plain word ∷ Turns turn None ∷ rest) callers → moves word.inst turn ≡ true → Runs m
     → AreStepsBeside (and_then (went_on p w (settled w word) (acts w (settled w word) m.core) (left_behind (Turns turn None ∷ rest) m)) (step p w scratch))
-      (and_then (went_on (filled_program p) w (settled w word) (acts w (settled w word) m.core) (beside (Turns turn None ∷ filled false rest) callers m)) (step (filled_program p) w scratch))
+    (and_then (went_on (filled_program p) w (settled w word) (acts w (settled w word) m.core) (beside (Turns turn None ∷ filled false rest) callers m)) (step (filled_program p) w scratch))
 leads_both d p w scratch word turn rest m before callers all on at free run = by (acts w (settled w word) m.core) refl
   where
     here : List Item
@@ -61,7 +61,7 @@ leads_both d p w scratch word turn rest m before callers all on at free run = by
 
     by : (a : Act) → acts w (settled w word) m.core ≡ a
         → AreStepsBeside (and_then (went_on p w (settled w word) a (left_behind here m)) (step p w scratch))
-          (and_then (went_on (filled_program p) w (settled w word) a (beside there callers m)) (step (filled_program p) w scratch))
+        (and_then (went_on (filled_program p) w (settled w word) a (beside there callers m)) (step (filled_program p) w scratch))
     by (Acts c) e =
         let new : Machine = record m { core = c; trace = accesses p w (settled w word) m.core ++ m.trace } in
         let clear : c.skip ≡ false = clear_by w word m.core c (both_left (may_move word.inst) (are_apart word.inst (branch turn)) free) run (settled w word) refl e in
@@ -86,7 +86,7 @@ drawn_on Leave on = refl
 leads_together : Promises → (p : LineProgram) (w : Addresses) (scratch : ℕ → (ℕ → ℕ) → ℕ → ℕ) (word : Word) (turn : Turn) (rest : List Item) (m : Machine) (before : List Item) (callers : List Frame)
     → AreFillable p → LeadsOn turn → IsIn m before (Plain word ∷ Turns turn None ∷ rest) callers → moves word.inst turn ≡ true → Runs m
     → AreStepsBeside (and_then (step p w scratch (left_behind (Plain word ∷ Turns turn None ∷ rest) m)) (step p w scratch))
-      (step (filled_program p) w scratch (beside (Turns (drawn_near turn) (Some word) ∷ filled false rest) callers m))
+    (step (filled_program p) w scratch (beside (Turns (drawn_near turn) (Some word) ∷ filled false rest) callers m))
 leads_together d p w scratch word turn rest m before callers all on at free run =
     let here = Turns turn None ∷ rest in
     let there = Turns turn None ∷ filled false rest in
@@ -116,11 +116,11 @@ same_taken i c d keeps = refl
 back_together : Promises → (p : LineProgram) (w : Addresses) (scratch : ℕ → (ℕ → ℕ) → ℕ → ℕ) (word : Word) (i : Inst) (rest : List Item) (m : Machine) (before : List Item) (callers : List Frame)
     → GoesElsewhere (Back i) → IsIn m before (Plain word ∷ Turns (Back i) None ∷ rest) callers → compared_by false before ≡ false → moves word.inst (Back i) ≡ true → Runs m
     → AreStepsBeside (and_then (went_on p w (settled w word) (acts w (settled w word) m.core) (left_behind (Turns (Back i) None ∷ rest) m)) (step p w scratch))
-      (turned (filled_program p) w scratch (Back (near i)) (Some word) (Turns (Back (near i)) (Some word) ∷ filled false rest) (filled false rest)
-        (beside (Turns (Back (near i)) (Some word) ∷ filled false rest) callers m))
+    (turned (filled_program p) w scratch (Back (near i)) (Some word) (Turns (Back (near i)) (Some word) ∷ filled false rest) (filled false rest)
+    (beside (Turns (Back (near i)) (Some word) ∷ filled false rest) callers m))
 back_together d p w scratch word i rest m before callers elsewhere at behind free run =
     subst (λ (t : Bool). AreStepsBeside (and_then (went_on p w o (acts w o m.core) (left_behind here m)) (step p w scratch))
-      (if t then and_then (went_on q w o (acts w o m.core) (counted (beside there callers m))) (goes_back (distance (near i)) there) else and_then (went_on q w o (acts w o m.core) (beside (filled false rest) callers m)) On))
+    (if t then and_then (went_on q w o (acts w o m.core) (counted (beside there callers m))) (goes_back (distance (near i)) there) else and_then (went_on q w o (acts w o m.core) (beside (filled false rest) callers m)) On))
     (sym (near_taken i m.core)) (by (acts w o m.core) refl)
   where
     o : Option Inst
@@ -143,7 +143,7 @@ back_together d p w scratch word i rest m before callers elsewhere at behind fre
 
     chosen : (new : Machine) → IsIn new before (Plain word ∷ here) callers → Runs new → (t : Bool)
         → AreStepsBeside (if t then goes_back (distance i) here (counted (left_behind here new)) else On (left_behind rest new))
-          (if t then goes_back (distance (near i)) there (counted (beside there callers new)) else On (beside (filled false rest) callers new))
+        (if t then goes_back (distance (near i)) there (counted (beside there callers new)) else On (beside (filled false rest) callers new))
     chosen new in_new clear true =
         subst (λ (l : List Item). AreStepsBeside (goes_back (distance i) here (counted (left_behind here new))) (goes_back (distance (near i)) l (counted (beside there callers new)))) there_is
         (back_near d.alone i word rest (counted (left_behind here new)) there before callers elsewhere in_new.cut in_new.fillable in_new.alike clear)
@@ -160,9 +160,9 @@ back_together d p w scratch word i rest m before callers elsewhere at behind fre
         let in_new : IsIn new before (Plain word ∷ here) callers = record { cut = at.cut; fillable = at.fillable; alike = at.alike } in
         let goes = chosen new in_new clear (is_taken i m.core) in
         subst (λ (s : Step). AreStepsBeside s
-          (if is_taken i m.core then goes_back (distance (near i)) there (counted (beside there callers new)) else On (beside (filled false rest) callers new)))
+        (if is_taken i m.core then goes_back (distance (near i)) there (counted (beside there callers new)) else On (beside (filled false rest) callers new)))
         (sym (step_turns p w scratch (Back i) None rest new clear
-          ∙ ap (λ (t : Bool). if t then goes_back (distance i) here (counted (left_behind here new)) else On (left_behind rest new)) (same_taken i m.core c (λ r there. fits.keeps r c there e))))
+        ∙ ap (λ (t : Bool). if t then goes_back (distance i) here (counted (left_behind here new)) else On (left_behind rest new)) (same_taken i m.core c (λ r there. fits.keeps r c there e))))
         goes
     by Full e = absurd (fits.stops e)
     by Fails e = tt
@@ -176,19 +176,19 @@ run_clear false c h clear = refl
 together : Promises → (p : LineProgram) (w : Addresses) (scratch : ℕ → (ℕ → ℕ) → ℕ → ℕ) (word : Word) (turn : Turn) (rest : List Item) (m : Machine) (before : List Item) (callers : List Frame)
     → AreFillable p → IsIn m before (Plain word ∷ Turns turn None ∷ rest) callers → compared_by false before ≡ false → moves word.inst turn ≡ true → Runs m
     → AreStepsBeside (and_then (step p w scratch (left_behind (Plain word ∷ Turns turn None ∷ rest) m)) (step p w scratch))
-      (step (filled_program p) w scratch (beside (Turns (drawn_near turn) (Some word) ∷ filled false rest) callers m))
+    (step (filled_program p) w scratch (beside (Turns (drawn_near turn) (Some word) ∷ filled false rest) callers m))
 together d p w scratch word turn rest m before callers all at behind free run =
     elim (leads_or_back turn) as (λ h. AreStepsBeside (and_then (step p w scratch (left_behind (Plain word ∷ Turns turn None ∷ rest) m)) (step p w scratch))
-      (step (filled_program p) w scratch (beside (Turns (drawn_near turn) (Some word) ∷ filled false rest) callers m))) [
-      inl on ↦ leads_together d p w scratch word turn rest m before callers all on at free run
+    (step (filled_program p) w scratch (beside (Turns (drawn_near turn) (Some word) ∷ filled false rest) callers m))) [
+      | inl on ↦ leads_together d p w scratch word turn rest m before callers all on at free run
       | inr back ↦ subst (λ (t : Turn). AreStepsBeside (and_then (step p w scratch (left_behind (Plain word ∷ Turns t None ∷ rest) m)) (step p w scratch))
-        (step (filled_program p) w scratch (beside (Turns (drawn_near t) (Some word) ∷ filled false rest) callers m)))
-        (sym back.1) (backwards back.0 (subst (λ (t : Turn). IsIn m before (Plain word ∷ Turns t None ∷ rest) callers) back.1 at) (ap (λ (t : Turn). moves word.inst t) (sym back.1) ∙ free))
+          (step (filled_program p) w scratch (beside (Turns (drawn_near t) (Some word) ∷ filled false rest) callers m)))
+          (sym back.1) (backwards back.0 (subst (λ (t : Turn). IsIn m before (Plain word ∷ Turns t None ∷ rest) callers) back.1 at) (ap (λ (t : Turn). moves word.inst t) (sym back.1) ∙ free))
     ]
   where
     backwards : (i : Inst) → IsIn m before (Plain word ∷ Turns (Back i) None ∷ rest) callers → moves word.inst (Back i) ≡ true
         → AreStepsBeside (and_then (step p w scratch (left_behind (Plain word ∷ Turns (Back i) None ∷ rest) m)) (step p w scratch))
-          (step (filled_program p) w scratch (beside (Turns (drawn_near (Back i)) (Some word) ∷ filled false rest) callers m))
+        (step (filled_program p) w scratch (beside (Turns (drawn_near (Back i)) (Some word) ∷ filled false rest) callers m))
     backwards i in_m moving =
         let q = filled_program p in
         let here = Turns (Back i) None ∷ rest in

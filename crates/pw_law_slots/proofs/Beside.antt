@@ -112,11 +112,11 @@ pub block_beside : (b : ℕ) (m : Machine) (left : List Item) (callers : List Fr
     → AreStepsBeside (to_block b m) (to_block b (beside left callers m))
 block_beside b m left callers fillable alike run =
     led_beside m left callers (from_mark b m.frame.function.items) (from_mark b (filled false m.frame.function.items)) run (λ to e.
-      let h = begun b false m.frame.function.items to e in (
-        h.before ++ Mark h.mark ∷ [],
-        record { cut = cut_behind m.frame.function.items h.before to (Mark h.mark) h.parts refl; fillable = fillable; alike = alike },
-        h.found ∙ ap (λ (c : Bool). Some (filled c to)) (sym (compared_on false h.before (Mark h.mark ∷ []))),
-      ))
+    let h = begun b false m.frame.function.items to e in (
+      h.before ++ Mark h.mark ∷ [],
+      record { cut = cut_behind m.frame.function.items h.before to (Mark h.mark) h.parts refl; fillable = fillable; alike = alike },
+      h.found ∙ ap (λ (c : Bool). Some (filled c to)) (sym (compared_on false h.before (Mark h.mark ∷ []))),
+    ))
 
 -- ---- the library
 
@@ -256,8 +256,8 @@ returned_beside p w to m left (f ∷ fs) [] alike run = absurd alike
 returned_beside p w to m left (f ∷ fs) (g ∷ gs) alike run =
     let old : Machine = record m { callers = f ∷ fs } in
     subst (λ (a : ℕ). AreStepsBeside
-      (if (to == return_address w f f.left) && (register m.core 30 == m.frame.stack) then On (given_back p w f fs old) else Astray)
-      (if (to == a) && (register m.core 30 == m.frame.stack) then On (given_back (filled_program p) w g gs (beside left (g ∷ gs) old)) else Astray))
+    (if (to == return_address w f f.left) && (register m.core 30 == m.frame.stack) then On (given_back p w f fs old) else Astray)
+    (if (to == a) && (register m.core 30 == m.frame.stack) then On (given_back (filled_program p) w g gs (beside left (g ∷ gs) old)) else Astray))
     (sym (address_same w f g alike.0)) (by ((to == return_address w f f.left) && (register m.core 30 == m.frame.stack)))
   where
     by : (t : Bool) → AreStepsBeside

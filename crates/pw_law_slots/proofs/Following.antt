@@ -203,7 +203,7 @@ next_level d P Q carries p w scratch n all next (On m) (On k) h holds =
     let q : Q k = carries m k h now in
     let more = later_holds P p w scratch n (On m) holds in
     elim (one_step d p w scratch m k all h) as (λ o. Follows Q p w scratch (suc n) (On m) (On k)) [
-      inl steps_on ↦ both_on Q p w scratch n (On m) k q (next (step p w scratch m) (step (filled_program p) w scratch k) (level steps_on) more)
+      | inl steps_on ↦ both_on Q p w scratch n (On m) k q (next (step p w scratch m) (step (filled_program p) w scratch k) (level steps_on) more)
       | inr a ↦ one_on Q p w scratch n (On m) (On k) (next (step p w scratch m) (On k) (behind (record { first = m; second = k; ahead = a; holds = q; done = refl; is = refl })) more)
     ]
 next_level d P Q carries p w scratch n all next (Stopped end m) (Stopped other k) h holds =
@@ -313,7 +313,7 @@ late_related : NoneBehind → Promises → (Q : Machine → Type 0) (p : LinePro
     → Related Q p w scratch s t → MetLately Same (staged s) b
 late_related itself d Q p w scratch s t b at e (level h) =
     elim (same_stage s t h) as (λ o. MetLately Same (staged s) b) [
-      inl astray ↦ subst (λ (s : Step). MetLately Same (staged s) b) (sym astray) tt
+      | inl astray ↦ subst (λ (s : Step). MetLately Same (staged s) b) (sym astray) tt
       | inr same ↦ subst (λ (v : Stage (Event ℕ ℕ)). MetLately Same v b) (e ∙ same) (itself b at)
     ]
 late_related itself d Q p w scratch s t b at e (behind h) =
@@ -334,7 +334,7 @@ links_related : Promises → (P : ℕ → Type 0) (Q : Machine → Type 0) (p : 
     → Related Q p w scratch s t → MetIn P (staged s) b
 links_related d P Q p w scratch s t b at e holds (level h) =
     elim (same_stage s t h) as (λ o. MetIn P (staged s) b) [
-      inl astray ↦ subst (λ (s : Step). MetIn P (staged s) b) (sym astray) tt
+      | inl astray ↦ subst (λ (s : Step). MetIn P (staged s) b) (sym astray) tt
       | inr same ↦ met_in P (staged s) b at (e ∙ same) holds
     ]
 links_related d P Q p w scratch s t b at e holds (behind h) =

@@ -114,7 +114,7 @@ turned_beside p w scratch CallReg slot here there rest m left before callers all
     let then_left = filled (compared_by false before) rest in
     let o = function_at p w (register m.core 22) in
     subst (λ (d : Option (List ℕ)). AreStepsBeside (through_slot p w slot (calls_at p w to o) old)
-      (through_slot (filled_program p) w slot (calls_at (filled_program p) w (w.behind (name_of m.frame) (turns then_left)) d) (linked 31 (w.behind (name_of m.frame) (turns then_left)) (beside then_left callers m))))
+    (through_slot (filled_program p) w slot (calls_at (filled_program p) w (w.behind (name_of m.frame) (turns then_left)) d) (linked 31 (w.behind (name_of m.frame) (turns then_left)) (beside then_left callers m))))
     (sym (standing_filled p w (register m.core 22)))
     (subst (λ (a : ℕ). AreStepsBeside (through_slot p w slot (calls_at p w to o) old) (through_slot (filled_program p) w slot (calls_at (filled_program p) w a o) (linked 31 a (beside then_left callers m))))
     (sym (behind_same w m before rest))
@@ -139,7 +139,7 @@ back_beside : PartsAlone → (p : LineProgram) (w : Addresses) (scratch : ℕ �
     → GoesElsewhere (Back i) → PassesNothing slot → IsCut m.frame.function.items before (Turns (Back i) slot ∷ rest)
     → IsPlaced (left_behind rest m) (before ++ Turns (Back i) slot ∷ []) callers → Runs m
     → AreStepsBeside (turned p w scratch (Back i) slot (Turns (Back i) slot ∷ rest) rest m)
-      (turned (filled_program p) w scratch (Back i) slot (Turns (Back i) slot ∷ filled false rest) (filled (compared_by false (before ++ Turns (Back i) slot ∷ [])) rest) (beside left callers m))
+    (turned (filled_program p) w scratch (Back i) slot (Turns (Back i) slot ∷ filled false rest) (filled (compared_by false (before ++ Turns (Back i) slot ∷ [])) rest) (beside left callers m))
 back_beside alone p w scratch i slot rest m left before callers elsewhere calm cut placed run = by (is_taken i m.core)
   where
     here : List Item
@@ -198,7 +198,7 @@ turn_beside d p w scratch turn slot rest m before callers all at run =
     record { cut = cut_behind m.frame.function.items before rest item at.cut.parts refl; fillable = at.fillable; alike = at.alike } in
     let goes : AreStepsBeside (turned p w scratch turn slot here rest old) (turned (filled_program p) w scratch turn slot there (filled (compared_by false then_before) rest) (beside there callers m)) =
     elim (leads_or_back turn) as (λ h. AreStepsBeside (turned p w scratch turn slot here rest old) (turned (filled_program p) w scratch turn slot there (filled (compared_by false then_before) rest) (beside there callers m))) [
-      inl on ↦ turned_beside p w scratch turn slot here there rest old there then_before callers all on fills.1 (record { cut = placed.cut; fillable = placed.fillable; alike = placed.alike }) run
+      | inl on ↦ turned_beside p w scratch turn slot here there rest old there then_before callers all on fills.1 (record { cut = placed.cut; fillable = placed.fillable; alike = placed.alike }) run
       | inr back ↦ backwards back.0 back.1
     ] in
     subst (λ (s : Step). AreStepsBeside s (step (filled_program p) w scratch (beside there callers m))) (sym (step_turns p w scratch turn slot rest m run))
@@ -207,12 +207,12 @@ turn_beside d p w scratch turn slot rest m before callers all at run =
   where
     backwards : (i : Inst) → turn ≡ Back i
         → AreStepsBeside (turned p w scratch turn slot (Turns turn slot ∷ rest) rest (left_behind (Turns turn slot ∷ rest) m))
-          (turned (filled_program p) w scratch turn slot (Turns turn slot ∷ filled false rest) (filled (compared_by false (before ++ Turns turn slot ∷ [])) rest) (beside (Turns turn slot ∷ filled false rest) callers m))
+        (turned (filled_program p) w scratch turn slot (Turns turn slot ∷ filled false rest) (filled (compared_by false (before ++ Turns turn slot ∷ [])) rest) (beside (Turns turn slot ∷ filled false rest) callers m))
     backwards i is =
         let moved_at : IsIn m before (Turns (Back i) slot ∷ rest) callers = subst (λ (t : Turn). IsIn m before (Turns t slot ∷ rest) callers) is at in
         let fills = item_fills m before rest (Turns (Back i) slot) callers moved_at in
         subst (λ (t : Turn). AreStepsBeside (turned p w scratch t slot (Turns t slot ∷ rest) rest (left_behind (Turns t slot ∷ rest) m))
-          (turned (filled_program p) w scratch t slot (Turns t slot ∷ filled false rest) (filled (compared_by false (before ++ Turns t slot ∷ [])) rest) (beside (Turns t slot ∷ filled false rest) callers m)))
+        (turned (filled_program p) w scratch t slot (Turns t slot ∷ filled false rest) (filled (compared_by false (before ++ Turns t slot ∷ [])) rest) (beside (Turns t slot ∷ filled false rest) callers m)))
         (sym is)
         (back_beside d.alone p w scratch i slot rest (left_behind (Turns (Back i) slot ∷ rest) m) (Turns (Back i) slot ∷ filled false rest) before callers fills.0 fills.1 moved_at.cut
         (record { cut = cut_behind m.frame.function.items before rest (Turns (Back i) slot) moved_at.cut.parts refl; fillable = at.fillable; alike = at.alike }) run)
@@ -282,7 +282,7 @@ stepped d p w scratch (Mark b ∷ rest) m before callers all at passes =
 stepped d p w scratch (Turns turn slot ∷ rest) m before callers all at passes = inl (at_turn d p w scratch turn slot rest m before callers all at m.core.skip refl)
 stepped d p w scratch (Plain word ∷ rest) m before callers all at passes =
     elim (taken_or_stays d.alone (compared_by false before) word rest) as (λ h. StepGoes p w scratch (left_behind (Plain word ∷ rest) m) (beside (filled (compared_by false before) (Plain word ∷ rest)) callers m)) [
-      inl taken ↦ inr (record {
+      | inl taken ↦ inr (record {
         beside = record { at = record { before = before; cut = at.cut; fillable = at.fillable; is = refl }; callers = at.alike; is = refl; passes = passes };
         word = word;
         rest = rest;
@@ -290,8 +290,8 @@ stepped d p w scratch (Plain word ∷ rest) m before callers all at passes =
         taken = taken;
       })
       | inr stays ↦ inl (subst (λ (l : List Item). AreStepsBeside (step p w scratch (left_behind (Plain word ∷ rest) m)) (step (filled_program p) w scratch (beside l callers m))) (sym stays)
-        (word_beside p w scratch word rest m before callers
-        (record { cut = cut_behind_word d.alone m.frame.function.items before rest word at.cut stays; fillable = at.fillable; alike = at.alike })))
+          (word_beside p w scratch word rest m before callers
+          (record { cut = cut_behind_word d.alone m.frame.function.items before rest word at.cut stays; fillable = at.fillable; alike = at.alike })))
     ]
 
 pub beside_is : (m n : Machine) (h : IsBeside m n) → n ≡ beside (filled (compared_by false h.at.before) m.frame.left) n.callers m

@@ -3,9 +3,9 @@
 ghost use Rattle.pw_run_languages.specs.SelectionLaws.{PlacementKeepsRuns};
 ghost use Rattle.pw_law_slots.specs.SlotLaws.{FillingKeepsRuns};
 
+use pw_delay::laws::parts_are_filled_alone;
 use pw_inst::actions_go_by_registers;
 use pw_run_languages::late_logs_compose;
-use pw_delay::laws::parts_are_filled_alone;
 
 /// The run of items with filled slots does what the run of the items does, as long as that one does not go wrong: the same
 /// output, input and ends, the same calls and returns; only what a word in a slot loads or stores it notes with the turn, and
