@@ -1,5 +1,5 @@
 -- A function whose items keep the stack pointer is leveled.
-use Rattle.std.specs.Prelude.{ℕ, zero, suc, ◌≡◌, ◌≢◌, ◌+◌, ◌-◌, ◌<◌, ◌≤◌, ◌⊎◌, ◌^◌, nat_le, Bool, true, false, if◌then◌else◌, Option, Some, None, List, [], ◌∷◌, ◌++◌, length, take}
+use Rattle.std.specs.Prelude.{ℕ, zero, suc, ◌≡◌, ◌≢◌, ◌+◌, ◌-◌, ◌<◌, ◌≤◌, ◌⊎◌, ◌^◌, nat_le, Bool, true, false, if◌then◌else◌, Option, Some, None, List, [], ◌∷◌, ◌++◌, length}
 use Rattle.std.specs.List.{list_all}
 use Rattle.std.proofs.Common.{arith, subst, sym, ap, refl, ◌∙◌, inl, inr, length-append}
 use Rattle.std.proofs.lemmas.Bool.{le-leb, lt-leb, cases_lt}
@@ -17,8 +17,9 @@ use Rattle.pw_law_link_run.specs.Steps.{Setting}
 use Rattle.pw_law_link_run.specs.Placing.{name_in, words_of, Parts}
 use Rattle.pw_law_link_run.specs.Meeting.{IsTurning}
 use Rattle.pw_law_link_run.specs.Leveled.{IsRaised, Level, HoldsAt, IsCold, IsApart, IsLeveled}
+use Rattle.pw_law_slots.specs.Found.{GoesOver}
 use Rattle.pw_law_levels.specs.Bodies.{Leads, Raises, first_level, LeavesPointer, StartsLeave, Keeps, BlockFirst, IsPointed}
-use Rattle.pw_law_levels.proofs.Splits.{Behind, behind, Within, within, loops_over}
+use Rattle.pw_law_levels.proofs.Splits.{Behind, behind, Within, within}
 use Rattle.pw_law_levels.proofs.Cold.{more, joined, cold_behind, AreWords, cold_first}
 
 -- ---- levels
@@ -338,21 +339,18 @@ slot_leaves x word Leave w rest t h = absurd t
 
 -- ---- loops
 
+-- what pw_law_slots promises of branches back
+abbrev pub BackGoesOver : Type 0
+BackGoesOver = (items before here from : List Item) (n : ℕ) → items ≡ before ++ here → back_over n here items ≡ Some from → GoesOver before here from n
+
 -- words alone lead to a turn only where no block begins first
-words_no_block : (words here : List Item) (item : Item) (rest : List Item) (n : ℕ) → length words ≡ n → here ≡ item ∷ rest → IsTurning item → list_all is_plain (take n (words ++ here)) ≡ true
-    → BlockFirst (words ++ here) → ⊥
-words_no_block [] here item rest n count is turning plain first =
-    turn_no_block item rest turning (subst (λ items. BlockFirst items) is first)
-  where
-    turn_no_block : (item : Item) (rest : List Item) → IsTurning item → BlockFirst (item ∷ rest) → ⊥
-    turn_no_block (Turns turn slot) rest t b = b
-    turn_no_block (Plain w) rest t b = t
-    turn_no_block (Mark b') rest t b = t
-words_no_block (Plain w ∷ words) here item rest zero count is turning plain first = absurd (omega (arith, count))
-words_no_block (Plain w ∷ words) here item rest (suc n) count is turning plain first = words_no_block words here item rest n (omega (arith, count)) is turning plain first
-words_no_block (Mark b ∷ words) here item rest zero count is turning plain first = absurd (omega (arith, count))
-words_no_block (Mark b ∷ words) here item rest (suc n) count is turning plain first = absurd cc
-words_no_block (Turns turn slot ∷ words) here item rest n count is turning plain first = absurd first
+words_no_block : (words rest : List Item) (item : Item) → IsTurning item → list_all is_plain words ≡ true → BlockFirst (words ++ item ∷ rest) → ⊥
+words_no_block [] rest (Turns turn slot) turning plain first = first
+words_no_block [] rest (Plain w) turning plain first = turning
+words_no_block [] rest (Mark b) turning plain first = turning
+words_no_block (Plain w ∷ words) rest item turning plain first = words_no_block words rest item turning plain first
+words_no_block (Mark b ∷ words) rest item turning plain first = absurd cc
+words_no_block (Turns turn slot ∷ words) rest item turning plain first = absurd first
 
 block_first : (x : Setting) (f : LineFn) (l : Level) (entry body : List Item) → Raises x f l entry → BlockFirst body → BlockFirst (entry ++ body)
 block_first x f l [] body h first = first
@@ -368,18 +366,19 @@ entry_rest x f l (Mark b ∷ before) rest body h first = absurd h
 entry_rest x f l (Turns turn slot ∷ before) rest body h first = absurd h
 
 -- a loop goes back to a place in the body
-loop_place : (x : Setting) (f : LineFn) (p : IsPointed x f) (before rest from : List Item) (item : Item) (n : ℕ) → Parts f before (item ∷ rest) → IsTurning item
+loop_place : BackGoesOver → (x : Setting) (f : LineFn) (p : IsPointed x f) (before rest from : List Item) (item : Item) (n : ℕ) → Parts f before (item ∷ rest) → IsTurning item
     → back_over n (item ∷ rest) f.items ≡ Some from → InBody x f p from
-loop_place x f p before rest from item n parts turning e =
-    let o = loops_over f.items before (item ∷ rest) from n parts e in
+loop_place over x f p before rest from item n parts turning e =
+    let o = over f.items before (item ∷ rest) from n parts e in
+    let items_are : f.items ≡ o.start ++ from =
+    parts ∙ ap (λ (b : List Item). b ++ item ∷ rest) o.parts ∙ append_assoc o.start o.words (item ∷ rest) ∙ ap (λ (l : List Item). o.start ++ l) (sym o.from_is) in
     elim (cases_lt (length p.body) (length from)) [
       | inl lt ↦
-          let here = within p.entry p.body o.before from (sym p.items ∙ o.items_are) lt in
+          let here = within p.entry p.body o.start from (sym p.items ∙ items_are) lt in
           let first : BlockFirst from =
           subst (λ items. BlockFirst items) (sym here.left_is)
-          (entry_rest x f first_level o.before (here.item ∷ here.rest) p.body (subst (λ entry. Raises x f first_level entry) here.entry_is p.raises) p.first) in
-          absurd (words_no_block o.words (item ∷ rest) item rest n o.count refl turning
-          (subst (λ items. list_all is_plain (take n items) ≡ true) o.from_is o.plain) (subst (λ items. BlockFirst items) o.from_is first))
+          (entry_rest x f first_level o.start (here.item ∷ here.rest) p.body (subst (λ entry. Raises x f first_level entry) here.entry_is p.raises) p.first) in
+          absurd (words_no_block o.words rest item turning o.plain (subst (λ items. BlockFirst items) o.from_is first))
       | inr le ↦ omega (arith, le)
     ]
 
@@ -447,8 +446,8 @@ left_apart x f p before rest (Some w) stack c parts le holds =
     let pointer = raised.pointer in
     inl (omega (arith, some, pointer))
 
-pub leveled : (x : Setting) (f : LineFn) → IsPointed x f → IsLeveled x f
-leveled x f p = record {
+pub leveled : BackGoesOver → (x : Setting) (f : LineFn) → IsPointed x f → IsLeveled x f
+leveled over x f p = record {
   at = level_at x f p;
   entry = enters x f p;
   word = word_goes x f p;
@@ -458,7 +457,7 @@ leveled x f p = record {
   behind_block = λ before rest b stack c parts raised. behind_in x f p rest stack c (shorter x f p (Mark b) rest (not_word x f p before rest (Mark b) parts (mark_no_word b))) raised;
   behind_turn = λ before rest item stack c parts turning raised.
       behind_in x f p rest stack c (shorter x f p item rest (not_word x f p before rest item parts (turning_no_word item turning))) raised;
-  loop = λ before rest from item n stack c parts turning e raised. behind_in x f p from stack c (loop_place x f p before rest from item n parts turning e) raised;
+  loop = λ before rest from item n stack c parts turning e raised. behind_in x f p from stack c (loop_place over x f p before rest from item n parts turning e) raised;
   slot = λ before rest turn w stack c d parts turning raised run act.
       let k = kept x f p before (Turns turn (Some w) ∷ rest) parts (not_word x f p before rest (Turns turn (Some w)) parts (turning_no_word (Turns turn (Some w)) turning)) in
       slot_leaves x k.word turn w rest turning k.keeps c d act;
@@ -478,16 +477,15 @@ turning_size long (Plain v) h = absurd h
 turning_size long (Mark b) h = absurd h
 
 -- a loop does not begin where the function does, and words stand behind its beginning
-pub loops : (x : Setting) (f : LineFn) → IsPointed x f → (before rest from : List Item) (item : Item) (n : ℕ) → Parts f before (item ∷ rest) → IsTurning item
+pub loops : BackGoesOver → (x : Setting) (f : LineFn) → IsPointed x f → (before rest from : List Item) (item : Item) (n : ℕ) → Parts f before (item ∷ rest) → IsTurning item
     → back_over n (item ∷ rest) f.items ≡ Some from → (from ≢ f.items) × (1 ≤ words_of x f from)
-loops x f p before rest from item n parts turning e =
+loops over x f p before rest from item n parts turning e =
     let long = x.long (name_in f) in
-    let o = loops_over f.items before (item ∷ rest) from n parts e in
+    let o = over f.items before (item ∷ rest) from n parts e in
     let whole : words_of x f from ≡ words_of x f o.words + words_of x f (item ∷ rest) = ap (words_of x f) o.from_is ∙ joined long o.words (item ∷ rest) in
     let some = turning_size long item turning in (
       λ same.
           let first : BlockFirst from = subst (λ items. BlockFirst items) (sym (same ∙ p.items)) (block_first x f first_level p.entry p.body p.raises p.first) in
-          words_no_block o.words (item ∷ rest) item rest n o.count refl turning
-          (subst (λ items. list_all is_plain (take n items) ≡ true) o.from_is o.plain) (subst (λ items. BlockFirst items) o.from_is first),
+          words_no_block o.words rest item turning o.plain (subst (λ items. BlockFirst items) o.from_is first),
       omega (arith, whole, more long item rest, some),
     )

@@ -19,6 +19,7 @@ ghost use Rattle.pw_law_levels.specs.Sparing.{IsSparing};
 use pw_delay::laws::parts_are_filled_alone;
 use pw_inst::actions_go_by_registers;
 use pw_law_link_run::laws::selected_items_are_shaped;
+use pw_law_slots::loops_go_over_words;
 
 /// A function that begins with words that put the stack pointer to the end of its frame, and leaves it there but for the
 /// word before a return or in its slot, is leveled; a loop in it neither begins where the function does nor is without words.
@@ -26,7 +27,9 @@ pub fn pointed_functions_are_leveled()
     ensures leveled { (x : Setting) (f : LineFn) → IsPointed x f → IsLeveled x f }
     ensures loops { (x : Setting) (f : LineFn) → IsPointed x f → (before rest from : List Item) (item : Item) (n : ℕ) → Parts f before (item ∷ rest) → IsTurning item →
         back_over n (item ∷ rest) f.items ≡ Some from → (from ≢ f.items) × (1 ≤ words_of x f from) }
-{}
+{
+    loops_go_over_words();
+}
 
 /// What is selected of a function is such, where its temporaries, webs and saved registers are not the stack pointer.
 pub fn selected_functions_are_pointed()

@@ -9,6 +9,7 @@ use Rattle.pw_delay.specs.declared.items.Item.TheVariants.{Plain, Turns, Mark}
 use Rattle.pw_delay.specs.Filling.{compared, with_slot, filled}
 use Rattle.pw_delay.specs.Parts.{compared_by, takes_first, PartsAlone}
 use Rattle.pw_run_languages.specs.LineRun.{is_plain, back_over}
+use Rattle.pw_law_slots.specs.Found.{GoesOver}
 use Rattle.pw_law_slots.proofs.Places.{IsCut, cut_before}
 
 drop_all : (xs ys : List Item) → drop (length xs) (xs ++ ys) ≡ ys
@@ -72,15 +73,6 @@ taken (y ∷ ys) (suc k) = ap (λ r. y ∷ r) (taken ys k)
 if_some : (b : Bool) (x y : List Item) → (if b then Some x else None) ≡ Some y → (b ≡ true) × (x ≡ y)
 if_some true x y e = (refl, cc)
 if_some false x y e = absurd cc
-
--- over words alone, which stand directly before it
-pub record GoesOver (before here from : List Item) (n : ℕ) : Type 0 where
-  pub start : List Item
-  pub words : List Item
-  pub parts : before ≡ start ++ words
-  pub from_is : from ≡ words ++ here
-  pub count : length words ≡ n
-  pub plain : list_all is_plain words ≡ true
 
 pub goes_over : (items before here from : List Item) (n : ℕ) → items ≡ before ++ here → back_over n here items ≡ Some from → GoesOver before here from n
 goes_over items before here from n parts e =
