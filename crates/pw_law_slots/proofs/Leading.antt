@@ -10,7 +10,7 @@ use Rattle.pw_law_slots.specs.Found.{AreFoundAlike}
 
 -- ---- blocks
 
-mark_kept : (b : ℕ) (behind : Bool) (item : Item) (rest : List Item) → from_mark b (with_slot behind item rest) ≡ from_mark b (item ∷ rest)
+pub mark_kept : (b : ℕ) (behind : Bool) (item : Item) (rest : List Item) → from_mark b (with_slot behind item rest) ≡ from_mark b (item ∷ rest)
 mark_kept b behind (Plain w) (Turns turn None ∷ rest) = by (not behind && moves w.inst turn)
   where
     by : (t : Bool) → from_mark b (if t then Turns (drawn_near turn) (Some w) ∷ rest else Plain w ∷ Turns turn None ∷ rest) ≡ from_mark b rest
