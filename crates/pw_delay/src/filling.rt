@@ -4,11 +4,11 @@ ghost use Rattle.std.specs.Prelude.{◌≡◌, Some, List, [], ◌∷◌, ◌++�
 ghost use Rattle.std.specs.List.{cons_option};
 ghost use Rattle.pw_inst.specs.Computing.{source_registers, target_registers};
 ghost use Rattle.pw_delay.specs.declared.items.Item.{Item as ItemValue};
-ghost use Rattle.pw_slots.specs.Filling as filling;
-ghost use Rattle.pw_slots.specs.Steps.{is_taken, with_word, whole};
+ghost use Rattle.pw_delay.specs.Filling as filling;
+ghost use Rattle.pw_delay.specs.Steps.{is_taken, with_word, whole};
 
+use crate::items::{Item, Turn, Word};
 use crate::registers::{reads, target};
-use pw_delay::{Item, Turn, Word};
 use pw_inst::{FIRST, Inst, RETURN_ADDRESS};
 use pw_items::Items;
 use std::alloc::{AllocError, Global};

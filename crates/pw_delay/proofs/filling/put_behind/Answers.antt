@@ -1,6 +1,6 @@
 use Rattle.std.proofs.Common.{sym, ◌∙◌}
-use Rattle.pw_slots.proofs.Stepping.{left}
-use Rattle.pw_slots.proofs.filling.put_behind.Goals as goal
+use Rattle.pw_delay.proofs.Stepping.{left}
+use Rattle.pw_delay.proofs.filling.put_behind.Goals as goal
 
 pub returns-in_ok-push-2 : goal.returns-in_ok-push-2
 returns-in_ok-push-2 c = λ rest.

@@ -3,7 +3,7 @@ use Rattle.std.specs.Prelude.{not, ◌&&◌, Bool, false, Option, None, Some, Li
 use Rattle.std.specs.List.{cons_option}
 use Rattle.pw_delay.specs.declared.items.Item.{Item}
 use Rattle.pw_delay.specs.declared.items.Item.TheVariants.{Plain, Turns}
-use Rattle.pw_slots.specs.Filling.{moves, drawn_near, filled}
+use Rattle.pw_delay.specs.Filling.{moves, drawn_near, filled}
 
 -- whether an item moves into the next one
 abbrev pub is_taken : Bool → Item → Item → Bool

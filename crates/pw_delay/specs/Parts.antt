@@ -1,12 +1,12 @@
 -- What items are made of: their words, their blocks and their turns of control, in order.
-use Rattle.std.specs.Prelude.{ℕ, pos, ◌≡◌, ◌⊎◌, Bool, true, false, None, Some, List, [], ◌∷◌, Contains}
+use Rattle.std.specs.Prelude.{ℕ, pos, ◌≡◌, ◌⊎◌, Bool, true, false, None, Some, List, [], ◌∷◌, ◌++◌, Contains}
 use Rattle.pw_inst.specs.declared.Inst.TheVariants.{Combf}
 use Rattle.pw_delay.specs.declared.items.Word.{Word}
 use Rattle.pw_delay.specs.declared.items.Turn.{Turn}
 use Rattle.pw_delay.specs.declared.items.Turn.TheVariants.{Back}
 use Rattle.pw_delay.specs.declared.items.Item.{Item}
 use Rattle.pw_delay.specs.declared.items.Item.TheVariants.{Plain, Turns, Mark}
-use Rattle.pw_slots.specs.Filling.{moves, drawn_near, compared}
+use Rattle.pw_delay.specs.Filling.{moves, drawn_near, compared, filled}
 
 -- the words, those in slots among them
 abbrev pub words_of : Item → List Word
@@ -52,3 +52,9 @@ IsFilledFrom items item = Contains items item ⊎ HasTaken items item
 abbrev pub takes_first : List Item → Bool
 takes_first (Turns turn None ∷ rest) = true
 takes_first items = false
+
+-- What is behind a place is filled by itself, where it does not begin with a turn whose slot is empty.
+abbrev pub PartsAlone : Type 0
+PartsAlone =
+    (behind : Bool) (before after : List Item) → takes_first after ≡ false
+    → filled behind (before ++ after) ≡ filled behind before ++ filled (compared_by behind before) after

@@ -4,8 +4,8 @@ use Rattle.std.specs.Prelude.{not, ◌&&◌}
 use Rattle.pw_delay.specs.declared.items.Word.{Word}
 use Rattle.pw_delay.specs.declared.items.Item.{Item}
 use Rattle.pw_delay.specs.declared.items.Item.TheVariants.{Plain, Turns, Mark}
-use Rattle.pw_slots.specs.Filling.{moves, drawn_near, compares, compared, with_slot, filled}
-use Rattle.pw_slots.specs.Steps.{is_taken, with_word, whole}
+use Rattle.pw_delay.specs.Filling.{moves, drawn_near, compares, compared, with_slot, filled}
+use Rattle.pw_delay.specs.Steps.{is_taken, with_word, whole}
 
 -- no item moves into one that is a word, whatever that does
 over_word : (behind c : Bool) (last : Item) (w : Word) (l : List Item) → with_slot behind last (with_slot c (Plain w) l) ≡ last ∷ with_slot c (Plain w) l

@@ -14,8 +14,8 @@ use Rattle.pw_delay.specs.declared.items.Item.{Item}
 use Rattle.pw_delay.specs.declared.items.Item.TheVariants.{Plain, Turns, Mark}
 use Rattle.pw_delay.specs.Lawful.{IsTurn, IsItem, AreItems}
 use Rattle.pw_delay.specs.Placement.{turn_size, size, sizes}
-use Rattle.pw_slots.specs.Filling.{moves, drawn_near, compared, with_slot, filled}
-use Rattle.pw_slots.specs.Parts.{words_of, blocks_of, turns_of, led_anywhere, compared_by, takes_first, IsFilledFrom}
+use Rattle.pw_delay.specs.Filling.{moves, drawn_near, compared, with_slot, filled}
+use Rattle.pw_delay.specs.Parts.{words_of, blocks_of, turns_of, led_anywhere, compared_by, takes_first, IsFilledFrom}
 
 -- ---- parts of items, in order
 
@@ -99,7 +99,7 @@ sizes_shrink long behind (item ∷ rest) =
 
 -- ---- what holds of each item
 
-PropertiesMove : (Item → Type 0) → Type 0
+abbrev pub PropertiesMove : (Item → Type 0) → Type 0
 PropertiesMove P = (w : Word) (turn : Turn) → P (Plain w) → P (Turns turn None) → moves w.inst turn ≡ true → P (Turns (drawn_near turn) (Some w))
 
 both_true : (s t : Bool) → (s && t) ≡ true → t ≡ true
@@ -108,7 +108,6 @@ both_true false t h = grind arith
 
 slot_properties : (P : Item → Type 0) → PropertiesMove P → (behind : Bool) (item : Item) (rest : List Item)
     → P item → AllByRecursion P rest → AllByRecursion P (with_slot behind item rest)
-unfolding PropertiesMove
 slot_properties P moved behind (Plain w) (Turns turn None ∷ rest) p ps = by (not behind && moves w.inst turn) (λ h. both_true (not behind) (moves w.inst turn) h)
   where
     by : (t : Bool) → (t ≡ true → moves w.inst turn ≡ true)
@@ -117,7 +116,7 @@ slot_properties P moved behind (Plain w) (Turns turn None ∷ rest) p ps = by (n
     by false h = (p, ps)
 slot_properties P moved behind item rest p ps = (p, ps)
 
-properties_stay : (P : Item → Type 0) (behind : Bool) (items : List Item) → PropertiesMove P → AllByRecursion P items → AllByRecursion P (filled behind items)
+pub properties_stay : (P : Item → Type 0) (behind : Bool) (items : List Item) → PropertiesMove P → AllByRecursion P items → AllByRecursion P (filled behind items)
 properties_stay P behind [] moved ps = tt
 properties_stay P behind (item ∷ rest) moved ps =
     slot_properties P moved behind item (filled (compared behind item) rest) ps.0 (properties_stay P (compared behind item) rest moved ps.1)
@@ -132,7 +131,6 @@ turn_there items turn (inl h) = h
 turn_there items turn (inr h) = let e = h.is in grind arith
 
 from_moves : (items : List Item) → PropertiesMove (IsFilledFrom items)
-unfolding PropertiesMove
 from_moves items w turn plain turns free = inr (record {
   word = w;
   turn = turn;
@@ -147,13 +145,12 @@ filled_from behind items =
     let there = recursion_from_All (IsFilledFrom items) items (λ k d below. inl (All-contains_itself items k d below)) in
     properties_stay (IsFilledFrom items) behind items (from_moves items) there
 
-turn_lawful : (turn : Turn) → IsTurn turn → IsTurn (drawn_near turn)
+pub turn_lawful : (turn : Turn) → IsTurn turn → IsTurn (drawn_near turn)
 unfolding IsInRange
 turn_lawful (Back (Combf c r1 r2 (negsuc (suc (suc n))))) h = (h.0, h.1, h.2, (omega (arith, ints, h.3.0), omega (arith, ints, h.3.1)))
 turn_lawful turn h = h
 
 lawful_moves : PropertiesMove IsItem
-unfolding PropertiesMove
 lawful_moves w turn plain turns free = (turn_lawful turn turns.0, plain)
 
 pub lawful_stays : (behind : Bool) (items : List Item) → AreItems items → AreItems (filled behind items)
