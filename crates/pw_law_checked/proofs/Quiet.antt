@@ -20,7 +20,6 @@ use Rattle.pw_check_rules.specs.Derivations.{ParameterValue}
 use Rattle.pw_check_rules.specs.Initialisers.{Context, Filled, Cursor, Target, Initialised, StringForm, IsString, IsOther, string_form, braced_string, words_in, target_at, frame_of, nothing_filled, string_filled, listed_expression, listed_by, listed_form, meets_characters, braced_by, inits_rule, init_rule, object_string, object_value, object_list, object_by, object_rule, fills_characters}
 use Rattle.pw_check_rules.specs.Kinds.{int_type}
 use Rattle.pw_check_rules.specs.States.{State, Rule, scoped, uncounted, one_deeper, records_in, with_made}
-use Rattle.pw_check_rules.specs.declared.names.Tag.TheVariants as G
 use Rattle.pw_law_checked.proofs.Walking.{Post, post_bind, post_weaken}
 use Rattle.pw_law_checked.proofs.Untouched.{Untouched, reference_untouched, opening_untouched, member_untouched, closing_untouched, enumerating_untouched, enumerator_untouched, parameter_untouched}
 use Rattle.pw_law_checked.proofs.Still.{Still, address_still, arrow_still, assignment_still, bindings_still, braced_target_still, call_still, cast_still, character_still, conditional_still, deref_still, dot_still, enumeration_still, enumerator_name_still, enumerator_value_still, identifier_still, index_still, length_still, listed_string_still, listed_value_still, named_still, number_still, operation_still, sign_still, size_still, specified_still, step_still, storage_still, string_filled_still, type_size_still, typedef_still, value_filled_still, value_still}

@@ -26,7 +26,6 @@ use Rattle.pw_check_rules.specs.SpecifierLists.{Gathered, nothing_gathered, gath
 use Rattle.pw_check_rules.specs.Derivations.{ParameterValue}
 use Rattle.pw_check_rules.specs.Kinds.{int_type}
 use Rattle.pw_check_rules.specs.States.{State, Rule, HiddenObject, scoped, uncounted, one_deeper, with_made, add_hidden, next_hidden}
-use Rattle.pw_check_rules.specs.declared.names.Tag.TheVariants as G
 use Rattle.pw_law_checked.proofs.Walking.{Post, post_bind, post_weaken, after_any}
 use Rattle.pw_law_checked.proofs.Still.{address_still, arrow_still, assignment_still, bindings_still, call_still, cast_still, character_still, conditional_still, deref_still, dot_still, enumeration_still, enumerator_name_still, enumerator_value_still, identifier_still, index_still, length_still, named_still, number_still, operation_still, sign_still, size_still, specified_still, step_still, storage_still, type_size_still, typedef_still, value_still}
 use Rattle.pw_law_checked.proofs.Untouched.{Untouched, reference_untouched, opening_untouched, member_untouched, closing_untouched, enumerating_untouched, enumerator_untouched, parameter_untouched}
