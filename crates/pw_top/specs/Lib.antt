@@ -1,4 +1,5 @@
 pub mod Answers
+pub mod Behind
 pub mod Commands
 pub mod Does
 pub mod Obeying
