@@ -1,5 +1,5 @@
 -- In which function's words an address lies.
-use Rattle.std.specs.Prelude.{ℕ, suc, ◌==◌, nat_le, if◌then◌else◌, Bool, Option, Some, None, option_bind, List, [], ◌∷◌, bytes_eq}
+use Rattle.std.specs.Prelude.{ℕ, suc, ◌==◌, nat_le, if◌then◌else◌, Bool, Option, Some, None, option_and_then, List, [], ◌∷◌, bytes_eq}
 use Rattle.std.specs.List.{find, list_any}
 use Rattle.pw_image.specs.declared.image.Function.{Function}
 use Rattle.pw_debug.specs.declared.info.FrameInfo.{FrameInfo}
@@ -29,7 +29,7 @@ beginning functions a = find (λ f. f.address == a) functions
 -- A function's words go up to the next address of the map, and behind the last address stand none: so an address lies
 -- in the words of the function that begins nearest before it, if some function begins behind it.
 abbrev pub function_at : List Function → ℕ → Option Function
-function_at functions a = if is_before_some functions a then option_bind (nearest a None functions) (beginning functions) else None
+function_at functions a = if is_before_some functions a then option_and_then (beginning functions) (nearest a None functions) else None
 
 -- what is known of a function of that name
 abbrev pub frame_of : List FrameInfo → List ℕ → Option FrameInfo
@@ -37,4 +37,4 @@ frame_of frames name = find (λ i. bytes_eq i.function name) frames
 
 -- what is known of the function in whose words an address lies
 abbrev pub frame_at : List Function → List FrameInfo → ℕ → Option FrameInfo
-frame_at functions frames a = option_bind (function_at functions a) (λ f. frame_of frames f.name)
+frame_at functions frames a = option_and_then (λ f. frame_of frames f.name) (function_at functions a)

@@ -6,7 +6,7 @@ ghost use Rattle.pw_debug.specs.Knowing.{IsFrame};
 ghost use Rattle.pw_debug.specs.Walk.{registers_of, seen, start_of, told, WalksTo};
 
 use crate::info::{FrameInfo, Lost};
-use crate::turning::{At, Turn, turn};
+use crate::turning::{At, Finding, turn};
 use pw_image::{Function, GlobalObject};
 use pw_inst::{RETURN_ADDRESS, STACK_POINTER};
 use pw_machine::Machine;
@@ -54,9 +54,9 @@ pub fn global_at(
     let mut at = start_of(machine);
     loop {
         match turn(machine, functions, frames, object, kind, &at) {
-            Turn::Found(value) => return Ok(value),
-            Turn::Nothing => return Err(Lost(at.link)),
-            Turn::On(next) => at = next,
+            Finding::Found(value) => return Ok(value),
+            Finding::Nothing => return Err(Lost(at.link)),
+            Finding::On(next) => at = next,
         }
     }
 }

@@ -1,7 +1,9 @@
 //! In which function's words an address lies.
 
-ghost use Rattle.std.specs.Prelude.{◌≡◌, None};
+ghost use Rattle.std.specs.Prelude.{◌≡◌, IfSome, None};
+ghost use Rattle.std.specs.List.{AllByRecursion};
 ghost use Rattle.std.specs.Option.{option_copied};
+ghost use Rattle.pw_debug.specs.Knowing.{IsFrame};
 ghost use Rattle.pw_debug.specs.Holding.{is_before_some, nearer, nearest, beginning, function_at, frame_of, frame_at};
 
 use crate::info::FrameInfo;
@@ -12,12 +14,7 @@ use pw_value::Name;
 fn is_before_some(functions: &[Function], address: u32) -> bool
     ensures { result ≡ is_before_some functions.now address }
 {
-    for function in functions {
-        if address < function.address {
-            return true;
-        }
-    }
-    false
+    functions.iter().any(|function| address < function.address)
 }
 
 /// The greater of two addresses, if the second is not behind the address.
@@ -38,8 +35,10 @@ fn nearest(functions: &[Function], address: u32) -> Option<u32>
     ensures { result ≡ nearest address None functions.now }
 {
     let mut greatest = None;
-    for function in functions {
+    let mut rest = functions;
+    while let [function, after @ ..] = rest {
         greatest = nearer(address, greatest, function.address);
+        rest = after;
     }
     greatest
 }
@@ -48,12 +47,7 @@ fn nearest(functions: &[Function], address: u32) -> Option<u32>
 fn beginning(functions: &[Function], begins: u32) -> Option<&Function>
     ensures { option_copied result ≡ beginning functions.now begins }
 {
-    for function in functions {
-        if function.address == begins {
-            return Some(function);
-        }
-    }
-    None
+    functions.iter().find(|function| function.address == begins)
 }
 
 /// The function in whose words an address lies.
@@ -68,15 +62,13 @@ fn function_at(functions: &[Function], address: u32) -> Option<&Function>
 }
 
 /// What is known of a function of that name.
+#[tactic(auto, using(crate::proofs::Finding::lawful_found))]
 fn frame_of<'a>(frames: &'a [FrameInfo], name: &Name) -> Option<&'a FrameInfo>
-    ensures { option_copied result ≡ frame_of frames.now name.now }
+    requires { AllByRecursion IsFrame frames.now }
+    ensures value { option_copied result ≡ frame_of frames.now name.now }
+    ensures lawful { IfSome (option_copied result) IsFrame }
 {
-    for frame in frames {
-        if frame.function == *name {
-            return Some(frame);
-        }
-    }
-    None
+    frames.iter().find(|frame| frame.function == *name)
 }
 
 /// What is known of the function in whose words an address lies.
@@ -85,7 +77,9 @@ pub fn frame_at<'a>(
     frames: &'a [FrameInfo],
     address: u32,
 ) -> Option<&'a FrameInfo>
-    ensures { option_copied result ≡ frame_at functions.now frames.now address }
+    requires { AllByRecursion IsFrame frames.now }
+    ensures value { option_copied result ≡ frame_at functions.now frames.now address }
+    ensures lawful { IfSome (option_copied result) IsFrame }
 {
     let function = function_at(functions, address)?;
     frame_of(frames, &function.name)

@@ -1,12 +1,10 @@
 //! One function after another of those that are active.
 
-ghost use Rattle.std.specs.Prelude.{◌≡◌, ◌<◌, IfSome, List};
+ghost use Rattle.std.specs.Prelude.{◌≡◌, ◌<◌, IfSome};
 ghost use Rattle.std.specs.List.{AllByRecursion};
 ghost use Rattle.std.specs.Option.{option_copied};
 ghost use Rattle.pw_debug.specs.Knowing.{IsFrame, IsKept};
 ghost use Rattle.pw_webflow.specs.Direction.{register_of};
-ghost use Rattle.pw_image.specs.declared.image.Function.{Function as AnyFunction};
-ghost use Rattle.pw_debug.specs.declared.info.FrameInfo.{FrameInfo as AnyFrame};
 ghost use Rattle.pw_debug.specs.Walk.{given_back, outward, found_or_nothing, on_or_nothing, turn, turn_in_memory, seen, GoesLower};
 
 use crate::holding::frame_at;
@@ -16,8 +14,8 @@ use pw_alloc::{LINK_PLACE, below, numbers_of_frames};
 use pw_db::{Role, Web};
 use pw_image::{Function, GlobalObject};
 use pw_machine::Machine;
-use pw_value::{Kind, Name};
 use pw_value::program_names::START;
+use pw_value::{Kind, Name};
 
 /// Where a walk stands: the stack pointer at a call, the address that it returns to, and the registers as they are when
 /// what was called later has given back what it saved.
@@ -29,7 +27,7 @@ pub struct At {
 }
 
 /// What comes of a function: the value is found, or nothing is, or the walk goes on at the call behind it.
-pub enum Turn {
+pub enum Finding {
     Found(u32),
     Nothing,
     On(At),
@@ -46,8 +44,10 @@ fn given_back(
     ensures { result ≡ given_back machine.now.core.memory stack saved.now registers }
 {
     let mut registers = registers;
-    for &(r, offset) in saved {
-        registers[usize::from(r)] = word_beside(machine, stack, offset)?;
+    let mut rest = saved;
+    while let [(r, offset), after @ ..] = rest {
+        registers[usize::from(*r)] = word_beside(machine, stack, *offset)?;
+        rest = after;
     }
     Some(registers)
 }
@@ -65,38 +65,55 @@ fn outward(machine: &Machine, frame: &FrameInfo, at: &At) -> Option<At>
     let stack = at.stack - frame.frame;
     let registers = given_back(machine, at.stack, frame.saved.as_slice(), at.registers)?;
     let link = word_beside(machine, stack, below(LINK_PLACE))?;
-    Some(At { stack, link, registers })
+    Some(At {
+        stack,
+        link,
+        registers,
+    })
 }
 
 /// The register of a global among a function's webs.
 fn register_of(webs: &[(Web, Role)], global: &Name) -> Option<u8>
     ensures { result ≡ register_of webs.now global.now }
 {
-    for (web, _) in webs {
+    let mut rest = webs;
+    while let [(web, _), after @ ..] = rest {
         if web.global == *global {
             return Some(web.reg);
         }
+        rest = after;
     }
     None
 }
 
+/// The same of a function that has its webs in registers that a callee keeps.
+#[tactic(auto, using(crate::proofs::Finding::lawful_register))]
+fn kept_register(webs: &[(Web, Role)], global: &Name) -> Option<u8>
+    requires { AllByRecursion (λ w. IsKept w.0.reg) webs.now }
+    ensures value { result ≡ register_of webs.now global.now }
+    ensures kept { IfSome result IsKept }
+{
+    let register = register_of(webs, global);
+    register
+}
+
 /// What comes of the word that memory holds.
-fn found(value: Option<u32>) -> Turn
+fn found(value: Option<u32>) -> Finding
     ensures { result ≡ found_or_nothing value }
 {
     match value {
-        Some(value) => Turn::Found(value),
-        None => Turn::Nothing,
+        Some(value) => Finding::Found(value),
+        None => Finding::Nothing,
     }
 }
 
 /// What comes of the call behind a frame.
-fn on(at: Option<At>) -> Turn
+fn on(at: Option<At>) -> Finding
     ensures { result ≡ on_or_nothing at }
 {
     match at {
-        Some(at) => Turn::On(at),
-        None => Turn::Nothing,
+        Some(at) => Finding::On(at),
+        None => Finding::Nothing,
     }
 }
 
@@ -107,9 +124,9 @@ fn turn_in_memory(
     kind: Kind,
     frame: &FrameInfo,
     at: &At,
-) -> Turn
+) -> Finding
     requires { IsFrame frame.now }
-    ensures value { (functions : List AnyFunction) (frames : List AnyFrame) → result ≡ turn_in_memory (seen machine.now.core.memory functions frames object.now kind) at.now frame.now }
+    ensures value { result ≡ turn_in_memory machine.now.core.memory kind object.now.address at.now frame.now }
     ensures lower { GoesLower at.now result }
 {
     if frame.function.as_bytes() == START {
@@ -127,16 +144,16 @@ pub fn turn(
     object: &GlobalObject,
     kind: Kind,
     at: &At,
-) -> Turn
+) -> Finding
     requires { AllByRecursion IsFrame frames.now }
     ensures value { result ≡ turn (seen machine.now.core.memory functions.now frames.now object.now kind) at.now }
     ensures lower { GoesLower at.now result }
 {
     let Some(frame) = frame_at(functions, frames, at.link) else {
-        return Turn::Nothing;
+        return Finding::Nothing;
     };
-    match register_of(frame.webs.as_slice(), &object.name) {
-        Some(r) => Turn::Found(of_kind(kind, at.registers[usize::from(r)])),
+    match kept_register(frame.webs.as_slice(), &object.name) {
+        Some(r) => Finding::Found(of_kind(kind, at.registers[usize::from(r)])),
         None => turn_in_memory(machine, object, kind, frame, at),
     }
 }
