@@ -1,9 +1,9 @@
-use Rattle.std.proofs.Common.{◌≡◌, ◌<◌, ◌≤◌, ◌+◌, ◌∙◌, ℕ, [], List, get_or, length, take, arith, sym, ap, subst, vec_len}
+use Rattle.std.proofs.Common.{◌≡◌, ◌<◌, ◌≤◌, ◌+◌, ◌∙◌, ℕ, [], List, get_or, length, take, arith, sym, ap, subst}
 use Rattle.std.specs.Prelude.{Option}
 use Rattle.std.proofs.lemmas.List.{take_all, length-map}
 use Rattle.pw_live.specs.Points.{points}
 use Rattle.pw_alloc_temps.specs.Weights.{by_weight}
-use Rattle.pw_alloc_temps.specs.Registers.{given_to, given, registers}
+use Rattle.pw_alloc_temps.specs.Registers.{given_to}
 use Rattle.pw_alloc_taken.specs.Makers.{maker}
 use Rattle.pw_alloc_taken.specs.Knowing.{AreGiven}
 use Rattle.pw_alloc_registers.proofs.Turns.{next_turn, none_yet, all_registers, ordered_below}
