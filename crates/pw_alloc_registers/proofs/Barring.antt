@@ -5,6 +5,7 @@ use Rattle.std.specs.Int.{bit_at}
 use Rattle.std.specs.List.{AllByRecursion}
 use Rattle.std.proofs.lemmas.Bool.{eqb-true, eq-eqb, or_cases, or_left, or_right}
 use Rattle.std.proofs.lemmas.List.{map_more}
+use Rattle.std.proofs.lemmas.Nat.Bits.{bit_at-zero}
 use Rattle.pw_db.specs.declared.database.Web.{Web}
 use Rattle.pw_db.specs.declared.database.Role.{Role}
 use Rattle.pw_db.specs.Database.{IsWeb}
@@ -13,7 +14,6 @@ use Rattle.pw_webflow.specs.ValidWebs.{IsWebFn}
 use Rattle.pw_live.specs.Liveness.{has}
 use Rattle.pw_alloc_taken.specs.Masks.{in_mask, HasRegister}
 use Rattle.std.specs.Cmp.{both_ways}
-use Rattle.pw_alloc_taken.proofs.Masking.{zero_mask}
 
 -- registers of webs are numbers below 32
 each_low : (ws : List (Web × Role)) → AllByRecursion IsWeb (map (λ w. w.0) ws) → AllByRecursion (λ (w : Web × Role). w.0.reg < 32) ws
@@ -26,7 +26,7 @@ webs_low f ws lawful is = subst (AllByRecursion (λ (w : Web × Role). w.0.reg <
 -- ---- web by web
 
 pub barred_none : (r : ℕ) → in_mask 0 r ≡ false
-barred_none r = both_ways (in_mask 0 r) false (λ e. absurd (zero_mask r (eqb-true (bit_at 0 r) 1 e))) (λ e. absurd cc)
+barred_none r = ap (λ (n : ℕ). n == 1) (bit_at-zero r)
 
 or_ends : (a b c : Bool) → (a || (b || c)) ≡ ((a || b) || c)
 or_ends true b c = refl

@@ -9,7 +9,7 @@ use Rattle.pw_db.specs.Database.{EachTwo}
 use Rattle.pw_flow.specs.Outline.{Outline}
 use Rattle.pw_alloc_temps.specs.Weights.{by_weight}
 use Rattle.pw_alloc_temps.specs.Registers.{allowed, is_taken, with_register, given_to, given, register_of, registers_from, registers}
-use Rattle.pw_alloc_taken.proofs.Looking.{has_register}
+use Rattle.pw_alloc_temps.proofs.Registers.{has_register}
 use Rattle.pw_alloc_weights.proofs.Sorting.{Before, never_both, in_order, has_between}
 
 given_step : (f : Outline) (ws xs : List ℕ) (t : ℕ) (gs : List (ℕ × ℕ))
