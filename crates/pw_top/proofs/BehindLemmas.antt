@@ -23,15 +23,15 @@ use Rattle.pw_commands.specs.Running.{core_at, core_in, run_effect, runs}
 use Rattle.pw_law_session.specs.FromSession.FromBuild.BuildFault.{BuildFault}
 use Rattle.pw_law_session.specs.FromSession.FromBuild.BuildFault.TheVariants as build
 use Rattle.pw_law_session.specs.FromSession.FromBuildFiles.Building.{BuildOutcome, Outcome}
-use Rattle.pw_law_session.specs.FromSession.FromBuildFiles.Driving.{BuildEffect, built_effect}
 use Rattle.pw_law_session.specs.FromSession.FromBuildFiles.Genuine.{KeepsGenuine}
 use Rattle.pw_law_session.specs.FromSession.FromBuildFiles.Outcomes.{AreOpts, fault_answer}
 use Rattle.pw_law_session.specs.FromMeaning.Meaning.{Means}
 use Rattle.pw_build_opts.specs.declared.opts.Opts.{Opts}
 use Rattle.pw_build_opts.specs.declared.opts.RunOpts.{RunOpts}
-use Rattle.pw_go.specs.Going.{GoEffect, GoOver, ran_behind, run_from}
+use Rattle.pw_go.specs.Going.{GoEffect, GoOver, HasBuilt, ran_behind, run_from}
 use Rattle.pw_top_words.specs.declared.commands.Command.TheVariants.{Build as BuildAll, Run}
 use Rattle.pw_top.specs.Behind.{DoesAsGo, HoldsShortImage}
+use Rattle.pw_top.specs.Commands.{BuildsFirst}
 use Rattle.pw_top.specs.Does.{Does, DoesAs}
 use Rattle.pw_top.proofs.WholeLemmas.{BuildsAreFull, FullAt, full_at, go_whole}
 
@@ -78,16 +78,15 @@ some_outcome : (files : Files) (opts : Opts) (comes : Result Outcome BuildFault)
 some_outcome files opts (Ok outcome) none b = (outcome, b)
 some_outcome files opts (Err fault) none b = absurd (none fault b)
 
-built_of : (opts : Opts) → FullAt opts → (told left : Told) (script : List ℕ) (script' report report' : Option (List ℕ)) → KeepsGenuine told.files
-    → Does (BuildEffect told.files opts script) Done told (Some left) script script' report report' → Built opts told left
-built_of opts law told left script script' report report' keeps d =
-    let none : (fault : BuildFault) → BuildOutcome told.files opts (Err fault) → ⊥ = λ fault b. not_done fault (d.answers (built_effect (Err fault) script) (Err fault, b, refl)) in
+built_of : (opts : Opts) → FullAt opts → (told left : Told) → KeepsGenuine told.files → HasBuilt opts Done told (Some left) → Built opts told left
+built_of opts law told left keeps h =
+    let none : (fault : BuildFault) → BuildOutcome told.files opts (Err fault) → ⊥ = λ fault b. not_done fault (h.answers (Err fault) b) in
     record {
       law = law;
       keeps = keeps;
       fault = none;
-      put = λ outcome b. some_is left (after_puts told outcome.puts) (d.puts (built_effect (Ok outcome) script) (Ok outcome, b, refl));
-      some = some_outcome told.files opts d.found.1.0 none d.found.1.1;
+      put = λ outcome b. some_is left (after_puts told outcome.puts) (h.puts (Ok outcome) b);
+      some = some_outcome told.files opts h.found.0 none h.found.1;
     }
 
 -- its image stands there
@@ -176,9 +175,9 @@ go_of fronts opts told left new answer input input' taken taken' built short d =
           found_as (GoEffect told.files opts input) answer run one.0 one.1 (ap (λ (x : Effect). x.answer) h.go ∙ sym (ap (λ (x : Effect). x.answer) h.run)) d.found;
     }
 
-pub is_go : BuildsAreFull → Fronts → (opts : RunOpts) (told left : Told) (new : Option Told) (answer : Answer) (script input : List ℕ) (script' input' report report' taken taken' : Option (List ℕ)) → AreOpts opts.build → KeepsGenuine told.files → HoldsShortImage left.files
-    → DoesAs (Some (BuildAll opts.build)) Done told (Some left) script script' report report' → DoesAs (Some (Run opts.budget)) answer left new input input' taken taken' → DoesAsGo opts answer told new input input' taken taken'
-is_go law fronts opts told left new answer script input script' input' report report' taken taken' are keeps short first second =
+pub is_go : BuildsAreFull → Fronts → (opts : RunOpts) (told left : Told) (new : Option Told) (answer : Answer) (input : List ℕ) (input' taken taken' : Option (List ℕ)) → AreOpts opts.build → KeepsGenuine told.files → HoldsShortImage left.files
+    → BuildsFirst (Some (BuildAll opts.build)) Done told (Some left) → DoesAs (Some (Run opts.budget)) answer left new input input' taken taken' → DoesAsGo opts answer told new input input' taken taken'
+is_go law fronts opts told left new answer input input' taken taken' are keeps short first second =
     let full = full_at law opts.build are in
-    let does = go_of fronts opts told left new answer input input' taken taken' (built_of opts.build full told left script script' report report' keeps first) short second in
+    let does = go_of fronts opts told left new answer input input' taken taken' (built_of opts.build full told left keeps first) short second in
     (does, λ genuine. go_whole opts full answer told new input input' taken taken' does genuine)

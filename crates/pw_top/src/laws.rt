@@ -9,6 +9,7 @@ ghost use Rattle.pw_law_session.specs.FromSession.FromBuildFiles.Genuine.{KeepsG
 ghost use Rattle.pw_law_session.specs.FromSession.FromBuildFiles.Outcomes.{AreOpts};
 ghost use Rattle.pw_top_words.specs.declared.commands.Command.TheVariants.{Build, Run};
 ghost use Rattle.pw_top.specs.Behind.{DoesAsGo, HoldsShortImage};
+ghost use Rattle.pw_top.specs.Commands.{BuildsFirst};
 ghost use Rattle.pw_top.specs.Does.{DoesAs};
 
 use pw_io::laws::front;
@@ -20,9 +21,9 @@ use pw_law_session::builds_are_full;
 ///
 /// `run` reads no more of an image's file than 2^28 bytes, so that the image has to be at most as long; `build` tells its length.
 pub fn a_run_behind_a_build_is_go()
-    ensures { (opts : RunOpts) (told left : Told) (new : Option Told) (answer : Answer) (script input : List ℕ) (script' input' report report' taken taken' : Option (List ℕ)) →
+    ensures { (opts : RunOpts) (told left : Told) (new : Option Told) (answer : Answer) (input : List ℕ) (input' taken taken' : Option (List ℕ)) →
         AreOpts opts.build → KeepsGenuine told.files → HoldsShortImage left.files →
-        DoesAs (Some (Build opts.build)) Done told (Some left) script script' report report' →
+        BuildsFirst (Some (Build opts.build)) Done told (Some left) →
         DoesAs (Some (Run opts.budget)) answer left new input input' taken taken' →
         DoesAsGo opts answer told new input input' taken taken' }
 {
