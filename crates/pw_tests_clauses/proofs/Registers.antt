@@ -1,11 +1,11 @@
 -- A function that changes a register which calls keep: the clause on registers refuses its image.
-use Rattle.std.proofs.Common.{◌≡◌, ℕ, ◌+◌, ◌*◌, ◌<◌, ◌≤◌, ◌^◌, ⊎_elim, List, [], ◌∷◌, replicate, true, false, None, refl, sym, ap, ◌∙◌, subst, arith, lit<, lit≤}
+use Rattle.std.proofs.Common.{◌≡◌, ℕ, ◌+◌, ◌*◌, ◌<◌, ◌^◌, ⊎_elim, List, [], replicate, false, None, refl, sym, ap, ◌∙◌, subst, arith, lit<, lit≤}
 use Rattle.std.specs.Prelude.{slice_index, slice_set}
 use Rattle.std.proofs.lemmas.Bool.{cases_lt}
 use Rattle.pw_inst.specs.InstructionTable.{decoded, form_of, three_register, branch, memory}
-use Rattle.pw_machine.specs.Core.{Core, register, word_at}
+use Rattle.pw_machine.specs.Core.{word_at}
 use Rattle.pw_machine.specs.Effect.{effect_of, effect_of_inst}
-use Rattle.pw_machine.specs.Run.{State, Progress, Running, taken, step, goes_on, run_of, start_state}
+use Rattle.pw_machine.specs.Run.{State, Running, taken, step, goes_on, run_of, start_state}
 use Rattle.pw_machine.specs.Start.{image_start, start_core, start_memory}
 use Rattle.pw_run_languages.specs.Traces.{IsMembers}
 use Rattle.pw_run_languages.specs.ImageTrace.{has_returned}

@@ -2,8 +2,7 @@
 use Rattle.std.proofs.Common.{◌≡◌, ℕ, zero, suc, ◌+◌, ◌*◌, ◌<◌, ◌^◌, Bool, List, [], ◌∷◌, ◌++◌, replicate, length, Option, Some, None, true, false, if◌then◌else◌, refl, sym, ap, ◌∙◌, subst, arith, lit<, lit≤, append_assoc}
 use Rattle.std.specs.Prelude.{slice_index, slice_set}
 use Rattle.std.specs.List.{flat_map}
-use Rattle.pw_value.specs.ProgramNames.{main_name, start_name}
-use Rattle.pw_value.specs.declared.value.Byte.{Byte}
+use Rattle.pw_value.specs.ProgramNames.{main_name}
 use Rattle.pw_value.specs.declared.value.Byte.TheVariants as B
 use Rattle.pw_value.specs.Objects.{Object}
 use Rattle.pw_inst.specs.declared.Inst.{Inst}
@@ -29,8 +28,8 @@ use Rattle.pw_cmean.specs.Operators.{truth, outcome_of, on_numbers, unary_number
 use Rattle.pw_cmean.specs.Evaluation.{local_place, symbol_place, used, value_by, value_at, cast, bounded_call, take_room, library_call, call_body, call, call_value, old_value, update, step as steps, answer_of, place_of, values_of}
 use Rattle.pw_cmean.specs.Execution.{go_forward, caught, taking_up, after_body, turn, loop, meet_loop, always, value_of, condition, for_condition, drop_value, switch_to, after_switch, with_locals, set_local, initialise, initialise_all, meaning, items, arms, behind_arms}
 use Rattle.pw_cmean.specs.SourceRun.{set_parameters, result_of, run_body, callee, calls, finish, run_main}
-use Rattle.pw_run.specs.Runs.{View, Stage, Going, Over, Wrong, Ended, StackFull, AreAlike, none, also, Met, EndsSo}
-use Rattle.pw_run_languages.specs.Traces.{Standing, InMemory, InPlace, Event, Called, Returned, Loaded, Stored, calls_alone, calls_of, is_shown, shown_by}
+use Rattle.pw_run.specs.Runs.{View, Stage, Over, Ended, AreAlike, none, also, Met, EndsSo}
+use Rattle.pw_run_languages.specs.Traces.{InMemory, Event, Called, Returned, Loaded, Stored, calls_alone, calls_of, is_shown, shown_by}
 use Rattle.pw_run_languages.specs.Programs as flows
 use Rattle.pw_run_languages.specs.Programs.{globals_of}
 use Rattle.pw_run_languages.specs.Acts as lines
