@@ -24,21 +24,19 @@ use Rattle.pw_law_session.specs.FromSession.FromBuild.BuildFault.{BuildFault}
 use Rattle.pw_law_session.specs.FromSession.FromBuild.BuildFault.TheVariants as build
 use Rattle.pw_law_session.specs.FromSession.FromBuildFiles.Building.{BuildOutcome, Outcome}
 use Rattle.pw_law_session.specs.FromSession.FromBuildFiles.Genuine.{KeepsGenuine}
-use Rattle.pw_law_session.specs.FromSession.FromBuildFiles.Outcomes.{AreOpts, fault_answer}
+use Rattle.pw_law_session.specs.FromSession.FromBuildFiles.Outcomes.{fault_answer}
 use Rattle.pw_law_session.specs.FromMeaning.Meaning.{Means}
 use Rattle.pw_build_opts.specs.declared.opts.Opts.{Opts}
 use Rattle.pw_build_opts.specs.declared.opts.RunOpts.{RunOpts}
 use Rattle.pw_go.specs.Going.{GoEffect, GoOver, HasBuilt, ran_behind, run_from}
-use Rattle.pw_top_words.specs.declared.commands.Command.TheVariants.{Build as BuildAll, Run}
-use Rattle.pw_top.specs.Behind.{DoesAsGo, HoldsShortImage}
-use Rattle.pw_top.specs.Commands.{BuildsFirst}
-use Rattle.pw_top.specs.Does.{Does, DoesAs}
+use Rattle.pw_top.specs.Behind.{DoesAsGo, HoldsShortImage, RunsBehindBuild}
+use Rattle.pw_top.specs.Does.{Does}
 use Rattle.pw_top.proofs.WholeLemmas.{BuildsAreFull, FullAt, full_at, go_whole}
 
 -- ---- the run of an image that stands in its file
 
 -- the law: a file that is no longer than what is asked for is read whole
-abbrev Fronts : Type 0
+abbrev pub Fronts : Type 0
 Fronts = (most : ℕ) (bytes : List ℕ) → length bytes ≤ most → prefix_of most bytes ≡ bytes
 
 core_stands : Fronts → (files : Files) (image : List ℕ) (c : Contents Image) → HoldsShortImage files → finite.get files image_name ≡ Some image → IsImageFile image c → core_in files ≡ Ok (image_start c.value.memory)
@@ -47,7 +45,7 @@ core_stands fronts files image c short stands is =
     ∙ (ap (λ (bytes : List ℕ). found_in image_name (core_at bytes)) (fronts kept_limit image (short image stands))
     ∙ ap (λ (read : Result (Contents Image) ℕ). found_in image_name (loaded_as (λ (v : Image). image_start v.memory) read)) (image_again image c is))
 
-run_stands : Fronts → (files : Files) (image : List ℕ) (c : Contents Image) (budget : ℕ) (input : List ℕ) → HoldsShortImage files → finite.get files image_name ≡ Some image → IsImageFile image c
+pub run_stands : Fronts → (files : Files) (image : List ℕ) (c : Contents Image) (budget : ℕ) (input : List ℕ) → HoldsShortImage files → finite.get files image_name ≡ Some image → IsImageFile image c
     → run_effect files budget input ≡ ran (run_from budget input c)
 run_stands fronts files image c budget input short stands is = ap (λ (core : Result Core Answer). runs core budget input) (core_stands fronts files image c short stands is)
 
@@ -67,7 +65,7 @@ some_is : (a b : Told) → Some a ≡ Some b → a ≡ b
 some_is a b e = cc
 
 -- a build over genuine objects that is done, and the files that it left
-record Built (opts : Opts) (told left : Told) : Type 0 where
+pub record Built (opts : Opts) (told left : Told) : Type 0 where
   pub law : FullAt opts
   pub keeps : KeepsGenuine told.files
   pub fault : (fault : BuildFault) → BuildOutcome told.files opts (Err fault) → ⊥
@@ -78,7 +76,7 @@ some_outcome : (files : Files) (opts : Opts) (comes : Result Outcome BuildFault)
 some_outcome files opts (Ok outcome) none b = (outcome, b)
 some_outcome files opts (Err fault) none b = absurd (none fault b)
 
-built_of : (opts : Opts) → FullAt opts → (told left : Told) → KeepsGenuine told.files → HasBuilt opts Done told (Some left) → Built opts told left
+pub built_of : (opts : Opts) → FullAt opts → (told left : Told) → KeepsGenuine told.files → HasBuilt opts Done told (Some left) → Built opts told left
 built_of opts law told left keeps h =
     let none : (fault : BuildFault) → BuildOutcome told.files opts (Err fault) → ⊥ = λ fault b. not_done fault (h.answers (Err fault) b) in
     record {
@@ -90,7 +88,7 @@ built_of opts law told left keeps h =
     }
 
 -- its image stands there
-stands : (opts : Opts) (told left : Told) → Built opts told left → (outcome : Outcome) → BuildOutcome told.files opts (Ok outcome) → finite.get left.files image_name ≡ Some outcome.image
+pub stands : (opts : Opts) (told left : Told) → Built opts told left → (outcome : Outcome) → BuildOutcome told.files opts (Ok outcome) → finite.get left.files image_name ≡ Some outcome.image
 stands opts told left built outcome b =
     subst (λ (t : Told). finite.get t.files image_name ≡ Some outcome.image) (sym (built.put outcome b)) (built.law told (Ok outcome) built.keeps b).1.1
 
@@ -175,9 +173,8 @@ go_of fronts opts told left new answer input input' taken taken' built short d =
           found_as (GoEffect told.files opts input) answer run one.0 one.1 (ap (λ (x : Effect). x.answer) h.go ∙ sym (ap (λ (x : Effect). x.answer) h.run)) d.found;
     }
 
-pub is_go : BuildsAreFull → Fronts → (opts : RunOpts) (told left : Told) (new : Option Told) (answer : Answer) (input : List ℕ) (input' taken taken' : Option (List ℕ)) → AreOpts opts.build → KeepsGenuine told.files → HoldsShortImage left.files
-    → BuildsFirst (Some (BuildAll opts.build)) Done told (Some left) → DoesAs (Some (Run opts.budget)) answer left new input input' taken taken' → DoesAsGo opts answer told new input input' taken taken'
-is_go law fronts opts told left new answer input input' taken taken' are keeps short first second =
-    let full = full_at law opts.build are in
-    let does = go_of fronts opts told left new answer input input' taken taken' (built_of opts.build full told left keeps first) short second in
+pub is_go : BuildsAreFull → Fronts → (opts : RunOpts) (answer : Answer) (told : Told) (new : Option Told) (input : List ℕ) (input' taken taken' : Option (List ℕ)) → RunsBehindBuild opts answer told new input input' taken taken' → DoesAsGo opts answer told new input input' taken taken'
+is_go law fronts opts answer told new input input' taken taken' h =
+    let full = full_at law opts.build h.are in
+    let does = go_of fronts opts told h.left new answer input input' taken taken' (built_of opts.build full told h.left h.genuine h.built) h.short h.ran in
     (does, λ genuine. go_whole opts full answer told new input input' taken taken' does genuine)
