@@ -1,11 +1,9 @@
 -- What the main theorem says of `hello` where it is built by one call and run by another.
-use Rattle.std.specs.Prelude.{◌≡◌, ℕ, ◌≤◌, List, Option, None, Some, IfSome, Result, Ok, Err}
+use Rattle.std.specs.Prelude.{◌≡◌, ℕ, List, Option, None, Some, IfSome, Result, Ok, Err}
 use Rattle.std.proofs.Common.{ap, refl, subst, sym, ◌∙◌}
-use Rattle.pw_value.specs.Limits.{stack_least}
 use Rattle.pw_io.specs.Files.{Keeps, Told}
 use Rattle.pw_front_end.specs.Fronts.{HasTree}
 use Rattle.pw_check_rules.specs.Checks.{Checks}
-use Rattle.pw_store_modules.specs.Modules.{module_map}
 use Rattle.pw_build_opts.specs.declared.opts.Opts.{Opts}
 use Rattle.pw_build_opts.specs.declared.opts.RunOpts.{RunOpts}
 use Rattle.pw_run_languages.specs.Programs.{AreBytes}
@@ -16,7 +14,7 @@ use Rattle.pw_top_answer.specs.Outcomes.{LeavesStreams}
 use Rattle.pw_top.specs.FromLawSession.FromSession.FromBuild.BuildFault.{BuildFault}
 use Rattle.pw_top.specs.FromLawSession.FromSession.FromBuild.BuildFault.TheVariants as build
 use Rattle.pw_top.specs.FromLawSession.FromSession.FromBuildFiles.Building.{BuildOutcome, Outcome}
-use Rattle.pw_top.specs.FromLawSession.FromSession.FromBuildFiles.Driving.{BuildEffect, built_effect}
+use Rattle.pw_top.specs.FromLawSession.FromSession.FromBuildFiles.Driving.{built_effect}
 use Rattle.pw_top.specs.FromLawSession.FromSession.FromBuildFiles.Genuine.{KeepsGenuine}
 use Rattle.pw_top.specs.FromLawSession.FromSession.FromBuildFiles.Outcomes.{AreOpts, fault_answer}
 use Rattle.pw_top_words.specs.CommandLine.{command_of}
