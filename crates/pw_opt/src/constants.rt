@@ -9,28 +9,28 @@ use crate::rewrite::Rewriting;
 use crate::uses::defined;
 use crate::words::{of_binary, of_extension, of_unary};
 use pw_flow::{End, Op};
-use pw_opt_rows::Analysis;
+use pw_opt_rows::{Analysis, Row};
 use pw_opt_rules::Flat;
 use pw_webflow::copy_op;
 use std::alloc::{AllocError as NoMemory, Global};
 
 /// What is known of the temporary that an operation defines.
-fn constant_of(row: &[Flat], op: &Op) -> Flat
+fn constant_of(row: &Row, op: &Op) -> Flat
     requires { IsWithin (length row.now) op.now }
     ensures { result ≡ constant row.now op.now }
 {
     match op {
         Op::Const(_, n) => Flat::One(*n),
-        Op::Copy(_, a) => row[*a as usize],
-        Op::Un(kind, _, a) => of_unary(*kind, row[*a as usize]),
-        Op::Bin(kind, _, a, b) => of_binary(*kind, row[*a as usize], row[*b as usize]),
-        Op::Ext(kind, _, a) => of_extension(*kind, row[*a as usize]),
+        Op::Copy(_, a) => row.get(*a),
+        Op::Un(kind, _, a) => of_unary(*kind, row.get(*a)),
+        Op::Bin(kind, _, a, b) => of_binary(*kind, row.get(*a), row.get(*b)),
+        Op::Ext(kind, _, a) => of_extension(*kind, row.get(*a)),
         _ => Flat::Many,
     }
 }
 
 /// The word that an operation comes to, where it is one that a constant may replace.
-fn folded(row: &[Flat], op: &Op) -> Option<(u32, u32)>
+fn folded(row: &Row, op: &Op) -> Option<(u32, u32)>
     requires { IsWithin (length row.now) op.now }
 {
     let t = match op {
@@ -55,9 +55,9 @@ impl Analysis for Constants {
 
     ghost is_about = { λ _ _. Unit {0} };
 
-    fn follow(&self, row: &mut [Flat], op: &Op) {
+    fn follow(&self, row: &mut Row, op: &Op) {
         if let Some(t) = defined(op) {
-            row[t as usize] = constant_of(row, op);
+            row.set(t, constant_of(row, op));
         }
     }
 
@@ -69,16 +69,16 @@ impl Rewriting for Constants {
 
     ghost transfers = { λ _. refl };
 
-    fn op(&self, alloc: Global, row: &[Flat], op: &Op) -> Result<Op, NoMemory> {
+    fn op(&self, alloc: Global, row: &Row, op: &Op) -> Result<Op, NoMemory> {
         match folded(row, op) {
             Some((t, n)) => Ok(Op::Const(t, n)),
             None => copy_op(alloc, op),
         }
     }
 
-    fn end(&self, row: &[Flat], end: End) -> End {
+    fn end(&self, row: &Row, end: End) -> End {
         match end {
-            End::Branch(a, b, c) => match row[a as usize] {
+            End::Branch(a, b, c) => match row.get(a) {
                 Flat::One(0) => End::Jump(c),
                 Flat::One(_) => End::Jump(b),
                 _ => end,

@@ -9,7 +9,7 @@ use crate::rewrite::Rewriting;
 use crate::uses::defined;
 use pw_flow::{End, FlowFn, Op};
 use pw_items::Items;
-use pw_opt_rows::Analysis;
+use pw_opt_rows::{Analysis, Row};
 use pw_opt_rules::Flat;
 use std::alloc::{AllocError as NoMemory, Global};
 
@@ -54,29 +54,29 @@ fn copied_by(op: &Op) -> Flat
 }
 
 /// Ends the copies of a temporary.
-fn forget(row: &mut [Flat], copiers: &[u32], of: u32) {
+fn forget(row: &mut Row, copiers: &[u32], of: u32) {
     for &t in copiers {
-        if let Flat::One(a) = row[t as usize] {
+        if let Flat::One(a) = row.get(t) {
             if a == of {
-                row[t as usize] = Flat::Many;
+                row.set(t, Flat::Many);
             }
         }
     }
 }
 
 /// What stands for an operand: the temporary of which it is a copy, or itself.
-fn original_of(row: &[Flat], a: u32) -> u32
+fn original_of(row: &Row, a: u32) -> u32
     requires { a < length row.now }
     ensures { result ≡ original row.now a }
 {
-    match row[a as usize] {
+    match row.get(a) {
         Flat::One(x) => x,
         _ => a,
     }
 }
 
 /// What stands for each operand.
-fn originals_of(alloc: Global, row: &[Flat], args: &[u32]) -> Result<Items<u32>, NoMemory>
+fn originals_of(alloc: Global, row: &Row, args: &[u32]) -> Result<Items<u32>, NoMemory>
     ensures { IfOk result (λ new. new ≡ map (original row.now) args.now) }
 {
     let mut new = Items::new(alloc);
@@ -89,14 +89,14 @@ fn originals_of(alloc: Global, row: &[Flat], args: &[u32]) -> Result<Items<u32>,
 impl Analysis for Copies {
     ghost transfer = { λ _. copy_transfer };
 
-    ghost may = { λ c t a. HasCopier c t a };
+    ghost may = { λ c t a. has_copier c t a };
 
     ghost is_about = { λ c o. IsKnownCopy c o };
 
-    fn follow(&self, row: &mut [Flat], op: &Op) {
+    fn follow(&self, row: &mut Row, op: &Op) {
         if let Some(t) = defined(op) {
             forget(row, &self.copiers[t as usize], t);
-            row[t as usize] = copied_by(op);
+            row.set(t, copied_by(op));
         }
     }
 
@@ -108,7 +108,7 @@ impl Rewriting for Copies {
 
     ghost transfers = { λ _. refl };
 
-    fn op(&self, alloc: Global, row: &[Flat], op: &Op) -> Result<Op, NoMemory> {
+    fn op(&self, alloc: Global, row: &Row, op: &Op) -> Result<Op, NoMemory> {
         match op {
             Op::Const(t, n) => Ok(Op::Const(*t, *n)),
             Op::Copy(t, a) => Ok(Op::Copy(*t, original_of(row, *a))),
@@ -136,7 +136,7 @@ impl Rewriting for Copies {
         }
     }
 
-    fn end(&self, row: &[Flat], end: End) -> End {
+    fn end(&self, row: &Row, end: End) -> End {
         match end {
             End::Jump(_) | End::Return(None) => end,
             End::Branch(a, b, c) => End::Branch(original_of(row, a), b, c),

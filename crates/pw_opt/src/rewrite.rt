@@ -11,8 +11,7 @@ ghost use Rattle.pw_opt_rows.specs.Within.{AreAbout, IsWithin};
 
 use pw_flow::{Block, End, FlowFn, Op};
 use pw_items::Items;
-use pw_opt_rows::{Analysis, find_fronts};
-use pw_opt_rules::Flat;
+use pw_opt_rows::{Analysis, Row, find_fronts};
 use std::alloc::{AllocError as NoMemory, Global};
 
 /// An analysis, and what becomes of operations and ends by what it knows.
@@ -24,12 +23,12 @@ pub(crate) trait Rewriting: Analysis {
     ghost transfers: { (r : Self) → transfer r ≡ (rewriting r).transfer };
 
     /// What becomes of an operation by what is known before it.
-    fn op(&self, alloc: Global, row: &[Flat], op: &Op) -> Result<Op, NoMemory>
+    fn op(&self, alloc: Global, row: &Row, op: &Op) -> Result<Op, NoMemory>
         requires { IsWithin (length row.now) op.now }
         ensures { IfOk result (λ o. o ≡ (rewriting self.now).op row.now op.now) };
 
     /// What becomes of the end of a block by what is known before it. Takes no memory.
-    fn end(&self, row: &[Flat], end: End) -> End
+    fn end(&self, row: &Row, end: End) -> End
         ensures { result ≡ (rewriting self.now).end row.now end };
 }
 
@@ -37,7 +36,7 @@ pub(crate) trait Rewriting: Analysis {
 fn rewrite_ops<R: Rewriting>(
     alloc: Global,
     rewriting: &R,
-    row: &mut [Flat],
+    row: &mut Row,
     ops: &[Op],
 ) -> Result<Items<Op>, NoMemory>
     requires about { AllByRecursion (λ o. R.is_about rewriting.now o × IsWithin (length row.old) o) ops.now }
@@ -57,7 +56,7 @@ fn rewrite_ops<R: Rewriting>(
 fn rewrite_block<R: Rewriting>(
     alloc: Global,
     rewriting: &R,
-    row: &mut [Flat],
+    row: &mut Row,
     block: &Block,
 ) -> Result<Block, NoMemory>
     requires about { AreAbout (R.is_about rewriting.now) (length row.old) block.now }

@@ -9,12 +9,12 @@ use Rattle.pw_opt_rules.specs.declared.flat.Flat.TheVariants.{Many}
 use Rattle.pw_opt_rules.specs.Rows.{behind}
 
 -- what flows out of a node: of a block what is known behind its operations, of the one behind them that all may be anything
+abbrev pub outflow_by : (List Flat → Op → List Flat) → ℕ → List Flat → Option Block → List Flat
+outflow_by transfer temps row (Some b) = behind transfer row b.ops
+outflow_by transfer temps row None = replicate temps Many
+
 abbrev pub outflow : (List Flat → Op → List Flat) → ℕ → List Block → ℕ → List Flat → List Flat
-outflow transfer temps blocks n row = by_block (slice_get blocks n)
-  where
-    by_block : Option Block → List Flat
-    by_block (Some b) = behind transfer row b.ops
-    by_block None = replicate temps Many
+outflow transfer temps blocks n row = outflow_by transfer temps row (slice_get blocks n)
 
 -- from a block to those at which it may go on, and from the node behind the blocks to the first
 abbrev pub IsEdge : List Block → ℕ → ℕ → Type 0

@@ -3,12 +3,11 @@
 #![tactic(auto)]
 
 mod analysis;
-mod edges;
 mod flats;
-mod fronts;
+mod row;
 mod rows;
 
 pub use analysis::Analysis;
 pub use flats::{join_flats, rank_of};
-pub use fronts::find_fronts;
+pub use row::Row;
 pub use rows::FlatRows;
