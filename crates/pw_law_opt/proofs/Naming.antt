@@ -24,6 +24,7 @@ use Rattle.pw_opt_rules.specs.Optimised as optimised
 use Rattle.pw_law_opt.specs.Sides.{with_modules}
 use Rattle.pw_law_opt.specs.Laws.{AreOptimisedModules, none, also, OptimisationKeepsLawful, OptimisationKeepsPrograms}
 use Rattle.pw_law_opt.proofs.Lists.{first_there, later_there}
+use Rattle.pw_law_opt.proofs.Modules.{functions_in, globals_in, globals_stay}
 use Rattle.pw_law_opt.proofs.Lawful.{all_both, all_first, all_second, all_pieces, all_joined}
 use Rattle.pw_law_opt.proofs.Operations.{SaysNothingOfOperands, AllOps, AllBlocks, functions_hold}
 
@@ -42,12 +43,6 @@ each_there : {X : Type 0} (P : X → Type 0) (xs : List X) (x : X) → AllByRecu
 each_there P xs x all there = one_of_all P xs x there.0 there.1 there.2 all
 
 -- ---- what all operations of a program hold
-
-abbrev functions_in : List FlowModule → List FlowFn
-functions_in ms = flat_map (λ (m : FlowModule). m.functions) ms
-
-abbrev globals_in : List FlowModule → List FlowGlobal
-globals_in ms = flat_map (λ (m : FlowModule). m.globals) ms
 
 program_holds : (R : Op → Type 0) → SaysNothingOfOperands R → (ms ns : List FlowModule) → AreOptimisedModules ms ns → AllByRecursion (AllBlocks R) (functions_in ms) → AllByRecursion (AllBlocks R) (functions_in ns)
 program_holds R k ms ns none all = tt
@@ -95,13 +90,6 @@ heading_by_all : (P : List ℕ × ℕ → Type 0) (fs : List FlowFn) → AllByRe
 heading_by_all P [] all = tt
 heading_by_all P (f ∷ fs) all = (all.0, heading_by_all P fs all.1)
 
-globals_stay : (ms ns : List FlowModule) → AreOptimisedModules ms ns → globals_in ns ≡ globals_in ms
-globals_stay ms ns none = refl
-globals_stay ms ns (also m n more others o rest) =
-    flat_map-cons (λ (x : FlowModule). x.globals) n others
-    ∙ ap₂ (λ (l k : List FlowGlobal). l ++ k) o.globals (globals_stay more others rest)
-    ∙ sym (flat_map-cons (λ (x : FlowModule). x.globals) m more)
-
 modules_named : (ms ns : List FlowModule) → AreOptimisedModules ms ns → map (λ (m : FlowModule). m.name) ns ≡ map (λ (m : FlowModule). m.name) ms
 modules_named ms ns none = refl
 modules_named ms ns (also m n more others o rest) = ap₂ (λ (x : List ℕ) (xs : List (List ℕ)). x ∷ xs) o.name (modules_named more others rest)
@@ -113,26 +101,26 @@ all_valid keeps ms ns (also m n more others o rest) all = (keeps m n all.0 o, al
 -- ---- names
 
 -- names that pass, in operations
-names_say_nothing : (P : List ℕ → Type 0) → SaysNothingOfOperands (λ o. AllByRecursion P (op_names o))
+names_say_nothing : (P : List ℕ → Type 0) → SaysNothingOfOperands (λ (o : Op). AllByRecursion P (op_names o))
 names_say_nothing P = record { constants = λ t n. tt; operands = operands }
   where
     operands : (h : ℕ → ℕ) (o : Op) → AllByRecursion P (op_names o) → AllByRecursion P (op_names (with_operands h o))
     operands h (op.Const t n) all = all
     operands h o all = all
 
-blocks_split : (P : List ℕ → Type 0) (bs : List Block) → AllByRecursion (λ (b : Block). AllByRecursion P (names_in_block b)) bs → AllByRecursion (AllOps (λ o. AllByRecursion P (op_names o))) bs
+blocks_split : (P : List ℕ → Type 0) (bs : List Block) → AllByRecursion (λ (b : Block). AllByRecursion P (names_in_block b)) bs → AllByRecursion (AllOps (λ (o : Op). AllByRecursion P (op_names o))) bs
 blocks_split P [] all = tt
 blocks_split P (b ∷ bs) all = (all_pieces P op_names b.ops all.0, blocks_split P bs all.1)
 
-blocks_join : (P : List ℕ → Type 0) (bs : List Block) → AllByRecursion (AllOps (λ o. AllByRecursion P (op_names o))) bs → AllByRecursion (λ (b : Block). AllByRecursion P (names_in_block b)) bs
+blocks_join : (P : List ℕ → Type 0) (bs : List Block) → AllByRecursion (AllOps (λ (o : Op). AllByRecursion P (op_names o))) bs → AllByRecursion (λ (b : Block). AllByRecursion P (names_in_block b)) bs
 blocks_join P [] all = tt
 blocks_join P (b ∷ bs) all = (all_joined P op_names b.ops all.0, blocks_join P bs all.1)
 
-functions_split : (P : List ℕ → Type 0) (fs : List FlowFn) → AllByRecursion (λ (f : FlowFn). AllByRecursion P (names_in_function f)) fs → AllByRecursion (AllBlocks (λ o. AllByRecursion P (op_names o))) fs
+functions_split : (P : List ℕ → Type 0) (fs : List FlowFn) → AllByRecursion (λ (f : FlowFn). AllByRecursion P (names_in_function f)) fs → AllByRecursion (AllBlocks (λ (o : Op). AllByRecursion P (op_names o))) fs
 functions_split P [] all = tt
 functions_split P (f ∷ fs) all = (blocks_split P f.blocks (all_pieces P names_in_block f.blocks all.0), functions_split P fs all.1)
 
-functions_join : (P : List ℕ → Type 0) (fs : List FlowFn) → AllByRecursion (AllBlocks (λ o. AllByRecursion P (op_names o))) fs → AllByRecursion (λ (f : FlowFn). AllByRecursion P (names_in_function f)) fs
+functions_join : (P : List ℕ → Type 0) (fs : List FlowFn) → AllByRecursion (AllBlocks (λ (o : Op). AllByRecursion P (op_names o))) fs → AllByRecursion (λ (f : FlowFn). AllByRecursion P (names_in_function f)) fs
 functions_join P [] all = tt
 functions_join P (f ∷ fs) all = (all_joined P names_in_block f.blocks (blocks_join P f.blocks all.0), functions_join P fs all.1)
 
@@ -142,7 +130,7 @@ module_names P m n o all =
     (subst (λ (gs : List FlowGlobal). AllByRecursion P (flat_map names_in_global gs)) (sym o.globals) (all_first P (flat_map names_in_global m.globals) (flat_map names_in_function m.functions) all))
     (all_joined P names_in_function n.functions
     (functions_join P n.functions
-    (functions_hold (λ o. AllByRecursion P (op_names o)) (names_say_nothing P) m m.functions n.functions o.functions
+    (functions_hold (λ (o : Op). AllByRecursion P (op_names o)) (names_say_nothing P) m m.functions n.functions o.functions
     (functions_split P m.functions (all_pieces P names_in_function m.functions (all_second P (flat_map names_in_global m.globals) (flat_map names_in_function m.functions) all))))))
 
 program_names : (P : List ℕ → Type 0) (ms ns : List FlowModule) → AreOptimisedModules ms ns → AllByRecursion P (flat_map named_in ms) → AllByRecursion P (flat_map named_in ns)
@@ -195,8 +183,8 @@ module _ (keeps : OptimisationKeepsLawful) (p : Program) (ns : List FlowModule) 
   defined : (name : List ℕ) → Contains (flat_map named_in ns) name → Contains (all_names q) name
   defined name there =
       subst (λ (names : List (List ℕ)). Contains names name) (sym every_name)
-      (each_there (λ name. Contains (all_names p) name) (flat_map named_in ns) name
-      (program_names (λ name. Contains (all_names p) name) p.modules ns o (all_there (λ name. Contains (all_names p) name) (flat_map named_in p.modules) fine.defined)) there)
+      (each_there (λ (name : List ℕ). Contains (all_names p) name) (flat_map named_in ns) name
+      (program_names (λ (name : List ℕ). Contains (all_names p) name) p.modules ns o (all_there (λ (name : List ℕ). Contains (all_names p) name) (flat_map named_in p.modules) fine.defined)) there)
 
   rightly : (x : Op) → NamesRightly p x → NamesRightly q x
   rightly (op.AddrGlobal t g n) right = subst (λ (gs : List FlowGlobal). Contains (map (λ (x : FlowGlobal). x.name) gs) g) (sym globals_same) right
@@ -213,20 +201,20 @@ module _ (keeps : OptimisationKeepsLawful) (p : Program) (ns : List FlowModule) 
       (program_holds (NamesRightly p) (rightly_says_nothing p) p.modules ns o
       (all_there (AllBlocks (NamesRightly p)) (functions_of p) (λ g in_p. all_of_function (NamesRightly p) g (λ y among. fine.ops g y in_p among)))) there) among)
 
-  item_right : (i : ℕ × Item) → IsItem p i.1 → IsItem q i.1
-  item_right (at, Bytes bytes) is = is
-  item_right (at, Address name offset) is = λ function. is (subst (λ (names : List (List ℕ)). Contains names name) names_same function)
+  item_right : (i : Item) → IsItem p i → IsItem q i
+  item_right (Bytes bytes) is = is
+  item_right (Address name offset) is = λ function. is (subst (λ (names : List (List ℕ)). Contains names name) names_same function)
 
   items_right : (items : List (ℕ × Item)) → AllByRecursion (λ i. IsItem p i.1) items → AllByRecursion (λ i. IsItem q i.1) items
   items_right [] all = tt
-  items_right (i ∷ items) all = (item_right i all.0, items_right items all.1)
+  items_right (i ∷ items) all = (item_right i.1 all.0, items_right items all.1)
 
   takes_nothing : (f : FlowFn) → Contains (functions_of q) f → f.name ≡ start_name → f.params ≡ 0
   takes_nothing f there is =
       each_there (λ (f : FlowFn). f.name ≡ start_name → f.params ≡ 0) (functions_of q) f
-      (heading_by_all (λ h. h.0 ≡ start_name → h.1 ≡ 0) (functions_of q)
-      (subst (AllByRecursion (λ h. h.0 ≡ start_name → h.1 ≡ 0)) (sym headings)
-      (all_by_heading (λ h. h.0 ≡ start_name → h.1 ≡ 0) (functions_of p) (all_there (λ (g : FlowFn). g.name ≡ start_name → g.params ≡ 0) (functions_of p) (λ g in_p is. fine.start_takes_nothing g in_p is)))))
+      (heading_by_all (λ (h : List ℕ × ℕ). h.0 ≡ start_name → h.1 ≡ 0) (functions_of q)
+      (subst (AllByRecursion (λ (h : List ℕ × ℕ). h.0 ≡ start_name → h.1 ≡ 0)) (sym headings)
+      (all_by_heading (λ (h : List ℕ × ℕ). h.0 ≡ start_name → h.1 ≡ 0) (functions_of p) (all_there (λ (g : FlowFn). g.name ≡ start_name → g.params ≡ 0) (functions_of p) (λ g in_p is. fine.start_takes_nothing g in_p is)))))
       there is
 
   pub program_stays : IsProgram q
