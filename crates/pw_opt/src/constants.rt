@@ -7,10 +7,10 @@ ghost use Rattle.pw_opt_rows.specs.Within.{IsWithin};
 
 use crate::rewrite::Rewriting;
 use crate::uses::defined;
-use crate::words::{of_binary, of_extension, of_unary};
 use pw_flow::{End, Op};
 use pw_opt_rows::{Analysis, Row};
 use pw_opt_rules::Flat;
+use pw_opt_words::{of_binary, of_extension, of_unary};
 use pw_webflow::copy_op;
 use std::alloc::{AllocError as NoMemory, Global};
 

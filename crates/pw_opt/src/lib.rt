@@ -8,6 +8,5 @@ mod optimise;
 mod quiet;
 mod rewrite;
 mod uses;
-mod words;
 
 pub use optimise::optimise;

@@ -118,13 +118,13 @@ module _ (transfer : List Flat → Op → List Flat) (r : Rises transfer) (f : F
         (subst (λ v. IsBelow v (known w t)) (sym (known_joined x y same t)) (least_above (known x t) (known y t) (known w t) (first t) (second t)))
 
     bounded : (p : Place) (x : List Flat) → Derivable Own IsRowBelow gives edges p x → IsRowBelow x (bound p)
-    bounded p x (least p x l) = least_below p x l
-    bounded p x (flows m n x e d) = edge_below m n x ((exact m n).0 e) (bounded (value_of m) x d)
+    bounded p x (least k z l) = least_below k z l
+    bounded p x (flows m n z e d) = edge_below m n z ((exact m n).0 e) (bounded (value_of m) z d)
     bounded p x (steps n y z d own g) =
         subst (λ (row : List Flat). IsRowBelow row (bound (value_of n))) (sym g)
         (out_below n (slice_get f.blocks n) y refl (derivable_own Own IsRowBelow gives edges d).0 (bounded (into n) y d))
-    bounded p x (joins p y z x d e j) =
-        joins_below y z x (bound p) (derivable_own Own IsRowBelow gives edges d) (derivable_own Own IsRowBelow gives edges e) j (bounded p y d) (bounded p z e)
+    bounded p x (joins k y z v d e j) =
+        joins_below y z v (bound k) (derivable_own Own IsRowBelow gives edges d) (derivable_own Own IsRowBelow gives edges e) j (bounded k y d) (bounded k z e)
 
   -- ---- the rows at the fronts
 
@@ -145,15 +145,14 @@ module _ (transfer : List Flat → Op → List Flat) (r : Rises transfer) (f : F
 
     start : (t : ℕ) → known (front fronts 0) t ≡ Many
     start t =
-        let n : ℕ = length f.blocks in
-        let x : List Flat = front ends n in
-        let is = end_there n (omega arith) in
-        let step = solved.at_least_step n x is in
-        let none : slice_get f.blocks n ≡ None = slice_get_past f.blocks n (omega arith) in
+        let x : List Flat = front ends (length f.blocks) in
+        let is : slice_get ends (length f.blocks) ≡ Some x = end_there (length f.blocks) (omega arith) in
+        let step = solved.at_least_step (length f.blocks) x is in
+        let none : slice_get f.blocks (length f.blocks) ≡ None = slice_get_past f.blocks (length f.blocks) (omega arith) in
         let all : step.0 ≡ replicate f.temps Many = step.1.given ∙ ap (outflow_by transfer f.temps step.1.inflow) none in
         many_below (known x t) (known (front fronts 0) t)
         (many_below (known step.0 t) (known x t) (ap (λ (row : List Flat). known row t) all ∙ all_many t) (step.2 t))
-        ((inflow 0 some).above n x ((exact n 0).1 (inr (refl, refl))) is t)
+        ((inflow 0 some).above (length f.blocks) x ((exact (length f.blocks) 0).1 (inr (refl, refl))) is t)
       where
         all_many : (t : ℕ) → known (replicate f.temps Many) t ≡ Many
         all_many t = elim (cases_lt t f.temps) [

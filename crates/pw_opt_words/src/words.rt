@@ -1,7 +1,9 @@
-//! Operations on words that are known.
+//! Operations on words that are known to the optimiser: what comes of them, where one is known.
 
-ghost use Rattle.std.specs.Prelude.{◌≡◌};
-ghost use Rattle.pw_opt_rules.specs.declared.flat.Flat.TheVariants.{One};
+ghost use Rattle.std.specs.Prelude.{ℕ, ◌≡◌, ◌<◌, true};
+ghost use Rattle.pw_value.specs.Values.{extended};
+ghost use Rattle.pw_opt_rules.specs.declared.flat.Flat.TheVariants.{One, Many};
+ghost use Rattle.pw_opt_rules.specs.declared.flat.Flat.{Flat as FlatValue};
 ghost use Rattle.pw_opt_rules.specs.Flat.{of_one, of_two};
 ghost use Rattle.pw_opt_rules.specs.Constants.{truth, un_word, ext_word, word_or_many, bin_word};
 
@@ -36,17 +38,39 @@ fn unary(kind: UnKind, a: u32) -> u32
     }
 }
 
+/// A byte extended by its sign.
+fn signed_byte(low: u32) -> u32
+    requires { low < 256 }
+    ensures { result ≡ extended 1 true low }
+{
+    if 256 <= 2 * low {
+        u32::MAX - 255 + low
+    } else {
+        low
+    }
+}
+
+/// Two bytes extended by their sign.
+fn signed_half(low: u32) -> u32
+    requires { low < 65536 }
+    ensures { result ≡ extended 2 true low }
+{
+    if 65536 <= 2 * low {
+        u32::MAX - 65535 + low
+    } else {
+        low
+    }
+}
+
 /// The low bits of a word, extended.
 fn extension(kind: ExtKind, a: u32) -> u32
     ensures { result ≡ ext_word kind a }
 {
-    let byte = a % 256;
-    let half = a % 65536;
     match kind {
-        ExtKind::S8 if byte >= 128 => u32::MAX - 255 + byte,
-        ExtKind::S8 | ExtKind::U8 => byte,
-        ExtKind::S16 if half >= 32768 => u32::MAX - 65535 + half,
-        ExtKind::S16 | ExtKind::U16 => half,
+        ExtKind::S8 => signed_byte(a % 256),
+        ExtKind::U8 => a % 256,
+        ExtKind::S16 => signed_half(a % 65536),
+        ExtKind::U16 => a % 65536,
     }
 }
 
@@ -77,33 +101,56 @@ fn binary(kind: BinKind, a: u32, b: u32) -> Flat
     }
 }
 
-/// What comes of one that is known.
-pub(crate) fn of_unary(kind: UnKind, a: Flat) -> Flat
-    ensures { result ≡ of_one (λ x. One (un_word kind x)) a }
+/// What comes of a word and another that is known.
+fn with_second(kind: BinKind, m: u32, b: Flat) -> Flat
+    ensures { result ≡ of_two (bin_word kind) (One m) b }
 {
-    match a {
-        Flat::One(n) => Flat::One(unary(kind, n)),
-        _ => a,
+    match b {
+        Flat::Bottom => Flat::Bottom,
+        Flat::One(n) => binary(kind, m, n),
+        Flat::Many => Flat::Many,
+    }
+}
+
+/// What comes of one that is known, beside one that may be anything.
+fn beside_many(b: Flat) -> Flat
+    ensures { (g : ℕ → ℕ → FlatValue) → result ≡ of_two g Many b }
+{
+    match b {
+        Flat::Bottom => Flat::Bottom,
+        _ => Flat::Many,
     }
 }
 
 /// What comes of one that is known.
-pub(crate) fn of_extension(kind: ExtKind, a: Flat) -> Flat
+pub fn of_unary(kind: UnKind, a: Flat) -> Flat
+    ensures { result ≡ of_one (λ x. One (un_word kind x)) a }
+{
+    match a {
+        Flat::Bottom => Flat::Bottom,
+        Flat::One(n) => Flat::One(unary(kind, n)),
+        Flat::Many => Flat::Many,
+    }
+}
+
+/// What comes of one that is known.
+pub fn of_extension(kind: ExtKind, a: Flat) -> Flat
     ensures { result ≡ of_one (λ x. One (ext_word kind x)) a }
 {
     match a {
+        Flat::Bottom => Flat::Bottom,
         Flat::One(n) => Flat::One(extension(kind, n)),
-        _ => a,
+        Flat::Many => Flat::Many,
     }
 }
 
 /// What comes of two that are known.
-pub(crate) fn of_binary(kind: BinKind, a: Flat, b: Flat) -> Flat
+pub fn of_binary(kind: BinKind, a: Flat, b: Flat) -> Flat
     ensures { result ≡ of_two (bin_word kind) a b }
 {
-    match (a, b) {
-        (Flat::Bottom, _) | (_, Flat::Bottom) => Flat::Bottom,
-        (Flat::One(m), Flat::One(n)) => binary(kind, m, n),
-        _ => Flat::Many,
+    match a {
+        Flat::Bottom => Flat::Bottom,
+        Flat::One(m) => with_second(kind, m, b),
+        Flat::Many => beside_many(b),
     }
 }
