@@ -17,3 +17,6 @@ mod Order
 mod Keeping
 mod Words
 mod Lawful
+mod Operations
+mod Alone
+mod Naming

@@ -7,6 +7,7 @@ use Rattle.pw_flow.specs.FrameRooms.{flow_room}
 use Rattle.pw_flow.specs.ValidFlow.{IsValid}
 use Rattle.pw_run.specs.Runs.{Refines, Same}
 use Rattle.pw_run_languages.specs.Programs.{Program}
+use Rattle.pw_run_languages.specs.LawfulPrograms.{IsProgram}
 use Rattle.pw_run_languages.specs.FlowRun.{flow_run}
 use Rattle.pw_opt_rules.specs.Optimised.{IsOptimised, IsOptimisedModule}
 use Rattle.pw_law_opt.specs.Sides.{with_modules}
@@ -29,3 +30,11 @@ OptimisationKeepsRooms = (m : FlowModule) (f g : FlowFn) → IsOptimised m f g �
 -- an optimised module of a lawful one is lawful
 abbrev pub OptimisationKeepsLawful : Type 0
 OptimisationKeepsLawful = (m n : FlowModule) → IsValid m → IsOptimisedModule m n → IsValid n
+
+-- and the optimised modules of a lawful program are one
+abbrev pub OptimisationKeepsPrograms : Type 0
+OptimisationKeepsPrograms = (p : Program) (ns : List FlowModule) → IsProgram p → AreOptimisedModules p.modules ns → IsProgram (with_modules p ns)
+
+-- a module has one optimised form at most
+abbrev pub OptimisedFormsAreOne : Type 0
+OptimisedFormsAreOne = (m n o : FlowModule) → IsOptimisedModule m n → IsOptimisedModule m o → n ≡ o

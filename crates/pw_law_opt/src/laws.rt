@@ -1,6 +1,6 @@
 //! What optimisation keeps.
 
-ghost use Rattle.pw_law_opt.specs.Laws.{OptimisationKeepsLawful, OptimisationKeepsRooms, OptimisationKeepsRuns};
+ghost use Rattle.pw_law_opt.specs.Laws.{OptimisationKeepsLawful, OptimisationKeepsPrograms, OptimisationKeepsRooms, OptimisationKeepsRuns, OptimisedFormsAreOne};
 
 use pw_live::laws::longer_paths_add_nothing;
 use pw_value::words::results_are_words;
@@ -25,3 +25,15 @@ pub fn optimisation_keeps_lawful()
 {
     results_are_words();
 }
+
+/// The optimised modules of a lawful program are a lawful program.
+pub fn optimisation_keeps_programs()
+    ensures { OptimisationKeepsPrograms }
+{
+    optimisation_keeps_lawful();
+}
+
+/// A module has one optimised form at most.
+pub fn optimised_forms_are_one()
+    ensures { OptimisedFormsAreOne }
+{}

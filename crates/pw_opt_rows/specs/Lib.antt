@@ -1,0 +1,4 @@
+pub mod Joins
+pub mod Within
+pub mod Outflows
+pub mod RowLaws
