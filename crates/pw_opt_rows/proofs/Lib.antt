@@ -1,2 +1,5 @@
 mod Joining
-pub mod Fronts
+mod Ways
+mod Gathering
+mod Steps
+mod Least

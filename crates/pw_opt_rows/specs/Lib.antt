@@ -1,4 +1,3 @@
 pub mod Joins
-pub mod Within
 pub mod Outflows
 pub mod RowLaws

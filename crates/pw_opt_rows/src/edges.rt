@@ -1,10 +1,8 @@
 //! The ways from block to block as edges.
 
-ghost use Rattle.std.specs.Prelude.{ℕ, ◌≡◌, ◌++◌, ◌<◌, ◌↔◌, length, map, IfOk, OnOk};
-ghost use Rattle.std.specs.List.{AllByRecursion};
+ghost use Rattle.std.specs.Prelude.{ℕ, ◌≡◌, ◌++◌, ◌↔◌, map, IfOk, OnOk};
 ghost use Rattle.pw_fix.specs.Solution.{HasEdge};
 ghost use Rattle.pw_flow.specs.Uses.{successors};
-ghost use Rattle.pw_flow.specs.ValidFlow.{IsBlock};
 ghost use Rattle.pw_opt_rows.specs.Outflows.{IsEdge};
 
 use pw_flow::{Block, End};
@@ -15,10 +13,14 @@ fn add_edges(edges: &mut Vec<(usize, usize)>, from: usize, end: End) -> Result<(
     ensures { OnOk result (edges.new.items ≡ edges.old.items ++ map (λ b. (from, b)) (successors end)) }
 {
     match end {
-        End::Jump(b) => edges.push((from, b as usize)),
+        End::Jump(b) => {
+            edges.push((from, b as usize))?;
+            Ok(())
+        }
         End::Branch(_, b, c) => {
             edges.push((from, b as usize))?;
-            edges.push((from, c as usize))
+            edges.push((from, c as usize))?;
+            Ok(())
         }
         End::Return(_) => Ok(()),
     }
@@ -30,8 +32,8 @@ pub(crate) fn edges_of(alloc: Global, blocks: &[Block]) -> Result<Vec<(usize, us
 {
     let mut edges = Vec::new(alloc);
     edges.push((blocks.len(), 0))?;
-    for (place, block) in blocks.iter().enumerate() {
-        add_edges(&mut edges, place, block.end)?;
+    for place in 0..blocks.len() {
+        add_edges(&mut edges, place, blocks[place].end)?;
     }
     Ok(edges)
 }

@@ -6,12 +6,12 @@ ghost use Rattle.pw_opt_rules.specs.declared.flat.Flat.TheVariants.{Bottom, Many
 ghost use Rattle.pw_opt_rules.specs.Rows.{known, IsRowBelow};
 ghost use Rattle.pw_opt_rows.specs.Joins.{joined, row_rank};
 
-use crate::flats::{join_flats, rank_of};
+use crate::flats::{flat_below, join_flats, rank_of};
 use pw_opt_rules::Flat;
 use std::alloc::{AllocError as NoMemory, Global};
 use std::marker::Model;
 
-/// What is known of each temporary of a function, by its number.
+/// What is known of each temporary of a function, by its number. Of a temporary past the end nothing is known.
 #[derive(Drop)]
 pub struct Row {
     flats: Vec<Flat>,
@@ -35,38 +35,37 @@ impl Row {
         Ok(Row { flats })
     }
 
-    /// How many places it has.
-    pub fn len(&self) -> usize
-        ensures { result ≡ length self.now }
-    {
-        self.flats.len()
-    }
-
     /// What is known of a temporary.
     pub fn get(&self, t: u32) -> Flat
-        requires { t < length self.now }
         ensures { result ≡ known self.now t }
     {
-        self.flats[t as usize]
+        let place = t as usize;
+        if place < self.flats.len() {
+            self.flats[place]
+        } else {
+            Flat::Many
+        }
     }
 
-    /// Sets what is known of a temporary.
+    /// Sets what is known of a temporary. Past the end it does nothing.
     pub fn set(&mut self, t: u32, to: Flat)
-        requires { t < length self.old }
         ensures { self.new ≡ slice_set self.old t to }
     {
-        self.flats[t as usize] = to;
+        let place = t as usize;
+        if place < self.flats.len() {
+            self.flats[place] = to;
+        }
     }
 
     /// Sets all places to Many.
-    pub fn set_many(&mut self)
+    pub(crate) fn set_many(&mut self)
         ensures { self.new ≡ replicate (length self.old) Many }
     {
         self.flats.fill(Flat::Many);
     }
 
     /// Makes it the same as another of as many places.
-    pub fn copy_from(&mut self, other: &Row)
+    pub(crate) fn copy_from(&mut self, other: &Row)
         requires { length self.old ≡ length other.now }
         ensures { self.new ≡ other.now }
     {
@@ -74,7 +73,7 @@ impl Row {
     }
 
     /// Joins another one into it at each place, and answers whether a place has risen.
-    pub fn join(&mut self, other: &Row) -> bool
+    pub(crate) fn join(&mut self, other: &Row) -> bool
         requires { length self.old ≡ length other.now }
         ensures length { length self.new ≡ length self.old }
         ensures joins { (t : ℕ) → known self.new t ≡ joined (known self.old t) (known other.now t) }
@@ -85,7 +84,7 @@ impl Row {
     }
 
     /// Whether each place is at or below that of another.
-    pub fn is_below(&self, other: &Row) -> bool
+    pub(crate) fn is_below(&self, other: &Row) -> bool
         requires { length self.now ≡ length other.now }
         ensures { IsTrue result ↔ IsRowBelow self.now other.now }
     {
@@ -104,7 +103,9 @@ fn join_rows(into: &mut [Flat], from: &[Flat]) -> bool
     for t in 0..into.len() {
         let old = into[t];
         let new = join_flats(old, from[t]);
-        if rank_of(old) < rank_of(new) {
+        let before = rank_of(old);
+        let after = rank_of(new);
+        if before < after {
             into[t] = new;
             risen = true;
         }
@@ -118,7 +119,7 @@ fn rows_below(a: &[Flat], b: &[Flat]) -> bool
     ensures { IsTrue result ↔ IsRowBelow a.now b.now }
 {
     for t in 0..a.len() {
-        if rank_of(b[t]) < rank_of(join_flats(b[t], a[t])) {
+        if !flat_below(a[t], b[t]) {
             return false;
         }
     }

@@ -5,5 +5,3 @@ pub mod Constants
 pub mod Copies
 pub mod Dead
 pub mod Optimised
-pub mod Rises
-pub mod Order

@@ -11,7 +11,7 @@ use Rattle.pw_opt_rules.specs.declared.flat.Flat.{Flat}
 use Rattle.pw_opt_rules.specs.declared.flat.Flat.TheVariants.{Bottom, One, Many}
 use Rattle.pw_opt_rules.specs.Flat.{IsBelow, is_one, of_one, of_two}
 use Rattle.pw_opt_rules.specs.Rows.{known, IsRowBelow, behind}
-use Rattle.pw_opt_rules.specs.Rises.{Rises}
+use Rattle.pw_opt_order.specs.Rises.{Rises}
 use Rattle.pw_opt_rules.specs.Constants.{un_word, ext_word, bin_word, constant, with_known, constant_transfer}
 use Rattle.pw_opt_rules.specs.Copies.{copied, without_copies, with_copy, copy_transfer}
 

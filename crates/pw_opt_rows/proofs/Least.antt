@@ -1,5 +1,5 @@
--- What flows into the blocks of a function, by the solver, is the least solution of its analysis.
-use Rattle.std.specs.Prelude.{◌≡◌, ℕ, zero, suc, ◌+◌, ◌<◌, ◌≤◌, ◌⊎◌, ◌↔◌, Bool, true, false, Option, Some, None, List, [], ◌∷◌, length, replicate, slice_get, slice_index_or, Contains}
+-- What flows into the blocks of a function, by the solver, is the least solution of what is known in it.
+use Rattle.std.specs.Prelude.{◌≡◌, ℕ, zero, suc, ◌+◌, ◌<◌, ◌≤◌, ◌↔◌, Bool, Option, Some, None, List, [], ◌∷◌, length, replicate, slice_get, Contains}
 use Rattle.std.proofs.Common.{refl, sym, ap, subst, ◌∙◌, arith, inl, inr}
 use Rattle.std.proofs.lemmas.Bool.{cases_lt}
 use Rattle.std.proofs.lemmas.List.{get_or_past, get_or-replicate, length-replicate}
@@ -16,11 +16,11 @@ use Rattle.pw_opt_rules.specs.declared.flat.Flat.{Flat}
 use Rattle.pw_opt_rules.specs.declared.flat.Flat.TheVariants.{Bottom, One, Many}
 use Rattle.pw_opt_rules.specs.Flat.{IsBelow}
 use Rattle.pw_opt_rules.specs.Rows.{known, IsRowBelow, behind, front, IsSolution, IsLeastSolution}
-use Rattle.pw_opt_rules.specs.Rises.{Rises}
-use Rattle.pw_opt_rules.specs.Order.{below_many, below_through, rows_below_themselves, behind_long, behind_rises}
-use Rattle.pw_opt_rows.specs.Joins.{joined, HasWhatMay}
-use Rattle.pw_opt_rows.specs.Outflows.{outflow_by, outflow, IsEdge}
-use Rattle.pw_opt_rows.proofs.Joining.{above_first, above_second, least_above, rows_join}
+use Rattle.pw_opt_order.specs.Rises.{Rises}
+use Rattle.pw_opt_order.specs.Order.{below_many, below_through, rows_below_themselves, behind_long, behind_rises}
+use Rattle.pw_opt_rows.specs.Joins.{joined, IsOwnRow}
+use Rattle.pw_opt_rows.specs.Outflows.{outflow_by, outflow, IsOutflow, IsEdge}
+use Rattle.pw_opt_rows.proofs.Joining.{least_above, rows_join, bottom_least}
 
 -- ---- places
 
@@ -55,16 +55,10 @@ known_joined (x ∷ xs) (y ∷ ys) e (suc t) = known_joined xs ys (omega (arith,
 
 module _ (transfer : List Flat → Op → List Flat) (r : Rises transfer) (f : FlowFn) (may : ℕ → ℕ → Bool) (edges : List (ℕ × ℕ)) (exact : (m n : ℕ) → HasEdge edges m n ↔ IsEdge f.blocks m n) where
   abbrev pub Own : List Flat → Type 0
-  Own row = (length row ≡ f.temps) × HasWhatMay may row
+  Own = IsOwnRow may f.temps
 
   abbrev pub gives : ℕ → List Flat → List Flat → Type 0
-  gives n x y = y ≡ outflow transfer f.temps f.blocks n x
-
-  bottoms_own : Own (replicate f.temps Bottom)
-  bottoms_own = (length-replicate f.temps Bottom, λ t n e. elim (cases_lt t f.temps) [
-    | inl lt ↦ absurd (let no : Bottom ≡ One n = sym (get_or-replicate f.temps t Bottom Many lt) ∙ e in cc)
-    | inr ge ↦ absurd (let long : length (replicate f.temps Bottom) ≡ f.temps = length-replicate f.temps Bottom in let no : Many ≡ One n = sym (get_or_past (replicate f.temps Bottom) t Many (omega (arith, ge, long))) ∙ e in cc)
-  ])
+  gives = IsOutflow transfer f.temps f.blocks
 
   -- ---- every solution is above what is derived
 
@@ -91,7 +85,7 @@ module _ (transfer : List Flat → Op → List Flat) (r : Rises transfer) (f : F
 
     least_below : (p : Place) (x : List Flat) → IsLeast Own IsRowBelow x → IsRowBelow x (bound p)
     least_below p x l t = elim (cases_lt t f.temps) [
-      | inl lt ↦ bottom_below (known x t) (known (bound p) t) (subst (λ z. IsBelow (known x t) z) (get_or-replicate f.temps t Bottom Many lt) (l.least (replicate f.temps Bottom) bottoms_own t))
+      | inl lt ↦ bottom_below (known x t) (known (bound p) t) (subst (λ z. IsBelow (known x t) z) (get_or-replicate f.temps t Bottom Many lt) (l.least (replicate f.temps Bottom) (bottom_least may f.temps (replicate f.temps Bottom) refl).own t))
       | inr ge ↦
           let le = bound_long p in
           subst (λ z. IsBelow (known x t) z) (sym (get_or_past (bound p) t Many (omega (arith, ge, le)))) (below_many (known x t))
@@ -194,3 +188,21 @@ module _ (transfer : List Flat → Op → List Flat) (r : Rises transfer) (f : F
       solution = record { each_block = count; each_temp = long; start = start; flows = onward };
       least = below_others;
     }
+
+-- ---- over blocks that are those of the function
+
+module _ (transfer : List Flat → Op → List Flat) (r : Rises transfer) (f : FlowFn) (may : ℕ → ℕ → Bool) (edges : List (ℕ × ℕ)) (ends : List (List Flat)) (some : 0 < length f.blocks) where
+  abbrev Solves : List Block → Type 0
+  Solves blocks =
+      ((m n : ℕ) → HasEdge edges m n ↔ IsEdge blocks m n)
+      → fix.IsSolution (IsOwnRow may f.temps) IsRowBelow (IsOutflow transfer f.temps blocks) (length blocks + 1) edges ends
+      → (fronts : List (List Flat)) → length fronts ≡ length blocks
+      → ((n : ℕ) (row : List Flat) → slice_get fronts n ≡ Some row → IsInflow (IsOwnRow may f.temps) IsRowBelow edges ends n row)
+      → ((n : ℕ) (row : List Flat) → slice_get fronts n ≡ Some row → Derivable (IsOwnRow may f.temps) IsRowBelow (IsOutflow transfer f.temps blocks) edges (into n) row)
+      → IsLeastSolution transfer f fronts
+
+  own_solve : Solves f.blocks
+  own_solve exact solved fronts count inflows derived = fronts_solve transfer r f may edges exact ends fronts solved count inflows derived some
+
+  pub solves : (blocks : List Block) → blocks ≡ f.blocks → Solves blocks
+  solves blocks is = subst Solves (sym is) own_solve
