@@ -7,7 +7,7 @@ use Rattle.pw_opt_rules.specs.Copies.{original, with_operands}
 
 originals_stay : (args : List ℕ) → map (original []) args ≡ args
 originals_stay [] = refl
-originals_stay (a ∷ args) = ap (λ (as : List ℕ). a ∷ as) (originals_stay args)
+originals_stay (a ∷ args) = ap (λ (rest : List ℕ). a ∷ rest) (originals_stay args)
 
 operands_stay : (o : Op) → with_operands (original []) o ≡ o
 operands_stay (op.Call t f args) = ap (op.Call t f) (originals_stay args)

@@ -1,5 +1,5 @@
 -- Where a temporary may have anything, each row has what it may.
-use Rattle.std.specs.Prelude.{◌≡◌, true, List}
+use Rattle.std.specs.Prelude.{true, List}
 use Rattle.std.proofs.Common.{refl}
 use Rattle.pw_opt_rules.specs.declared.flat.Flat.{Flat}
 use Rattle.pw_opt_rows.specs.Joins.{HasWhatMay}

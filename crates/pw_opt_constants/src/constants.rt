@@ -29,13 +29,7 @@ fn branch(known: Flat, a: u32, b: u32, c: u32) -> End
     ensures { result ≡ jump_or known a b c }
 {
     match known {
-        Flat::One(n) => {
-            if n == 0 {
-                End::Jump(c)
-            } else {
-                End::Jump(b)
-            }
-        }
+        Flat::One(n) => { if n == 0 { End::Jump(c) } else { End::Jump(b) } }
         _ => End::Branch(a, b, c),
     }
 }
@@ -58,13 +52,21 @@ impl Constants {
         Ok(Constants { nothing })
     }
 
+    /// The same operation again.
+    fn same(&self, alloc: Global, op: &Op) -> Result<Op, NoMemory>
+        ensures { IfOk result (λ o. o ≡ op.now) }
+    {
+        let same = with_originals(alloc, &self.nothing, op)?;
+        Ok(same)
+    }
+
     /// The constant where it is one, and else the same operation.
     fn const_or(&self, alloc: Global, t: u32, known: Flat, op: &Op) -> Result<Op, NoMemory>
         ensures { IfOk result (λ o. o ≡ const_or t known op.now) }
     {
         match known {
             Flat::One(n) => Ok(Op::Const(t, n)),
-            _ => with_originals(alloc, &self.nothing, op),
+            Flat::Bottom | Flat::Many => self.same(alloc, op),
         }
     }
 }
@@ -93,7 +95,17 @@ impl Rewriting for Constants {
             Op::Copy(t, _) | Op::Un(_, t, _) | Op::Bin(_, t, _, _) | Op::Ext(_, t, _) => {
                 self.const_or(alloc, *t, constant_of(row, op), op)
             }
-            _ => with_originals(alloc, &self.nothing, op),
+            Op::Const(_, _)
+            | Op::AddrGlobal(_, _, _)
+            | Op::AddrSlot(_, _)
+            | Op::AddrFn(_, _)
+            | Op::LoadG(_, _, _)
+            | Op::StoreG(_, _, _)
+            | Op::Load(_, _, _)
+            | Op::Store(_, _, _)
+            | Op::Move(_, _, _, _)
+            | Op::Call(_, _, _)
+            | Op::CallInd(_, _, _, _) => self.same(alloc, op),
         }
     }
 
