@@ -1,6 +1,6 @@
 -- Behind an operation that the copiers have, a temporary is known to be a copy only where it is a copier.
-use Rattle.std.specs.Prelude.{ℕ, ◌≡◌, ◌⊎◌, ◌==◌, ◌<◌, ◌≤◌, if◌then◌else◌, Bool, true, false, Option, Some, None, List, length, slice_set}
-use Rattle.std.proofs.Common.{refl, sym, ap, subst, ◌∙◌, arith, inl, inr}
+use Rattle.std.specs.Prelude.{ℕ, ◌≡◌, ◌⊎◌, ◌==◌, if◌then◌else◌, Bool, true, false, Option, Some, None, List, length, slice_set}
+use Rattle.std.proofs.Common.{sym, ap, subst, ◌∙◌, arith, inl, inr}
 use Rattle.std.proofs.lemmas.Bool.{cases_eq, cases_lt}
 use Rattle.std.proofs.lemmas.List.{get_or_past, get_or-set_same, get_or-set_other, length-set}
 use Rattle.std.proofs.Math.ListN.{get_or-map}
@@ -9,7 +9,6 @@ use Rattle.pw_flow.specs.declared.flow.Op.TheVariants as op
 use Rattle.pw_flow.specs.Uses.{op_defines}
 use Rattle.pw_opt_rules.specs.declared.flat.Flat.{Flat}
 use Rattle.pw_opt_rules.specs.declared.flat.Flat.TheVariants.{Bottom, One, Many}
-use Rattle.pw_opt_rules.specs.Flat.{is_one}
 use Rattle.pw_opt_rules.specs.Rows.{known}
 use Rattle.pw_opt_rules.specs.Copies.{copied, without_copies, with_copy, copy_transfer}
 use Rattle.pw_opt_order.specs.Order.{forgotten}
@@ -53,7 +52,7 @@ copied_noted copiers o d n noted def e = absurd cc
 
 defined_keeps : (copiers : List (List ℕ)) (row : List Flat) (d : Option ℕ) (x : Flat) → ((t n : ℕ) → d ≡ Some t → x ≡ One n → is_copier copiers t n ≡ true)
     → HasWhatMay (is_copier copiers) row → HasWhatMay (is_copier copiers) (with_copy row d x)
-defined_keeps copiers row None x fits may = may
+defined_keeps copiers row None x fits may t n e = may t n e
 defined_keeps copiers row (Some d) x fits may t n e = elim (set_one (without_copies row d) d x t n e) [
   | inl k ↦ fits t n (ap Some (sym k.0)) k.1
   | inr k ↦ may t n (without_one row d t n k)

@@ -23,7 +23,6 @@ pub struct Copiers {
 
 impl Model for Copiers {
     ghost use Rattle.std.specs.Prelude.{ℕ, List, map};
-    ghost use Rattle.std.specs.Vec.{Vec};
 
     ghost Value = { List (List ℕ) };
 
@@ -46,24 +45,48 @@ impl Copiers {
     fn note(&mut self, t: u32, a: u32) -> Result<(), NoMemory>
         requires { a < length self.old }
         ensures length { length self.new ≡ length self.old }
-        ensures kept { (u b : ℕ) → is_copier self.old u b ≡ true → is_copier self.new u b ≡ true }
+        ensures kept { OnOk result ((u b : ℕ) → is_copier self.old u b ≡ true → is_copier self.new u b ≡ true) }
         ensures noted { OnOk result (is_copier self.new t a ≡ true) }
     {
         self.copiers[a as usize].push(t)?;
         Ok(())
     }
 
+    /// Notes an operation, if it copies.
+    fn note_op(&mut self, op: &Op) -> Result<(), NoMemory>
+        requires { CopiesBelow (length self.old) op.now }
+        ensures length { length self.new ≡ length self.old }
+        ensures kept { OnOk result ((u b : ℕ) → is_copier self.old u b ≡ true → is_copier self.new u b ≡ true) }
+        ensures noted { OnOk result (is_noted self.new op.now ≡ true) }
+    {
+        match op {
+            Op::Copy(t, a) => self.note(*t, *a),
+            Op::Const(_, _)
+            | Op::Un(_, _, _)
+            | Op::Bin(_, _, _, _)
+            | Op::Ext(_, _, _)
+            | Op::AddrGlobal(_, _, _)
+            | Op::AddrSlot(_, _)
+            | Op::AddrFn(_, _)
+            | Op::LoadG(_, _, _)
+            | Op::StoreG(_, _, _)
+            | Op::Load(_, _, _)
+            | Op::Store(_, _, _)
+            | Op::Move(_, _, _, _)
+            | Op::Call(_, _, _)
+            | Op::CallInd(_, _, _, _) => Ok(()),
+        }
+    }
+
     /// Notes the copies of operations.
     fn note_ops(&mut self, ops: &[Op]) -> Result<(), NoMemory>
         requires { All (CopiesBelow (length self.old)) ops.now }
         ensures length { length self.new ≡ length self.old }
-        ensures kept { (u b : ℕ) → is_copier self.old u b ≡ true → is_copier self.new u b ≡ true }
+        ensures kept { OnOk result ((u b : ℕ) → is_copier self.old u b ≡ true → is_copier self.new u b ≡ true) }
         ensures noted { OnOk result (All (λ o. is_noted self.new o ≡ true) ops.now) }
     {
         for op in ops {
-            if let Op::Copy(t, a) = op {
-                self.note(*t, *a)?;
-            }
+            self.note_op(op)?;
         }
         Ok(())
     }

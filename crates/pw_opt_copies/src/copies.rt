@@ -15,13 +15,7 @@ fn copied_by(op: &Op) -> Flat
     ensures { result ≡ copied op.now }
 {
     match op {
-        Op::Copy(t, a) => {
-            if *a == *t {
-                Flat::Many
-            } else {
-                Flat::One(*a)
-            }
-        }
+        Op::Copy(t, a) => { if *a == *t { Flat::Many } else { Flat::One(*a) } }
         _ => Flat::Many,
     }
 }
