@@ -1,12 +1,8 @@
 //! The optimiser of flow graphs: constants, copies and operations that nothing needs.
 #![tactic(auto)]
 
-mod constants;
-mod copies;
-mod dead;
-mod optimise;
-mod quiet;
-mod rewrite;
-mod uses;
+mod again;
+mod functions;
+mod modules;
 
-pub use optimise::optimise;
+pub use modules::optimise;
