@@ -34,7 +34,7 @@ fn optimise_function(
     f: &FlowFn,
 ) -> Result<FlowFn, NoMemory>
     requires { IsFunction f.now }
-    ensures { IfOk result (IsOptimised quiet.now.module.now f.now) }
+    ensures { IfOk result (IsOptimised quiet.now.flow.now f.now) }
 {
     if !is_small(f) {
         let same = same_function(alloc, constants, f)?;
@@ -55,7 +55,7 @@ pub(crate) fn optimise_functions(
     functions: &[FlowFn],
 ) -> Result<Items<FlowFn>, NoMemory>
     requires { AllByRecursion IsFunction functions.now }
-    ensures { IfOk result (AreOptimised quiet.now.module.now functions.now) }
+    ensures { IfOk result (AreOptimised quiet.now.flow.now functions.now) }
 {
     let mut optimised = Items::new(alloc);
     for f in functions {

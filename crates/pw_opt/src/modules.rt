@@ -17,16 +17,16 @@ use std::alloc::{AllocError as NoMemory, Global};
 /// # Errors
 ///
 /// `NoMemory` where there is no memory for the module and for what is known of its temporaries.
-pub fn optimise(alloc: Global, module: &FlowModule) -> Result<FlowModule, NoMemory>
-    requires { IsValid module.now }
-    ensures { IfOk result (IsOptimisedModule module.now) }
+pub fn optimise(alloc: Global, flow: &FlowModule) -> Result<FlowModule, NoMemory>
+    requires { IsValid flow.now }
+    ensures { IfOk result (IsOptimisedModule flow.now) }
 {
-    let quiet = Quiet::new(alloc, module)?;
+    let quiet = Quiet::new(alloc, flow)?;
     let constants = Constants::new(alloc)?;
-    let functions = optimise_functions(alloc, &quiet, &constants, module.functions.as_slice())?;
-    let globals = same_globals(alloc, module.globals.as_slice())?;
-    let declared = same_declarations(alloc, module.declared.as_slice())?;
-    let name = module.name.copy(alloc)?;
+    let functions = optimise_functions(alloc, &quiet, &constants, flow.functions.as_slice())?;
+    let globals = same_globals(alloc, flow.globals.as_slice())?;
+    let declared = same_declarations(alloc, flow.declared.as_slice())?;
+    let name = flow.name.copy(alloc)?;
     Ok(FlowModule {
         name,
         globals,

@@ -35,7 +35,7 @@ fn is_needed(live: &[bool], defines: Option<u32>) -> bool
 /// Whether an operation stays.
 fn stays(quiet: &Quiet<'_>, live: &[bool], op: &Op, act: &Act) -> bool
     requires { act.now ≡ act_of op.now }
-    ensures { result ≡ not (only_defines quiet.now.module.now op.now && not (is_needed_by live.now (op_defines op.now))) }
+    ensures { result ≡ not (only_defines quiet.now.flow.now op.now && not (is_needed_by live.now (op_defines op.now))) }
 {
     !quiet.only_defines(op) || is_needed(live, act.defines())
 }
@@ -50,7 +50,7 @@ fn kept_ops(
 ) -> Result<Vec<Op>, NoMemory>
     requires acts { acts.now ≡ map act_of ops }
     requires within { All (IsAct (length live.old)) acts.now }
-    ensures { IfOk result (λ kept. (f : OutlineValue) (b : BlockValue) → MarksLive f b [] live.old → kept.items ≡ reverse (live_ops quiet.now.module.now f b ops)) }
+    ensures { IfOk result (λ kept. (f : OutlineValue) (b : BlockValue) → MarksLive f b [] live.old → kept.items ≡ reverse (live_ops quiet.now.flow.now f b ops)) }
 {
     let mut left = ops;
     let mut kept = Vec::new(alloc);
@@ -76,7 +76,7 @@ fn live_block(
     requires stretch { stretch.now ≡ stretch_of block }
     requires within { IsStretch temps (vec_len fronts.now.rows) stretch.now }
     requires temps { temps ≡ vec_len fronts.now.exposed.numbers }
-    ensures { IfOk result (λ new. (f : OutlineValue) → AreFronts f fronts.now → new ≡ live_block quiet.now.module.now f block) }
+    ensures { IfOk result (λ new. (f : OutlineValue) → AreFronts f fronts.now → new ≡ live_block quiet.now.flow.now f block) }
 {
     let Block { depth, ops, end } = block;
     let mut live = live_at_end(alloc, fronts, temps, stretch.uses(), stretch.next())?;
@@ -97,7 +97,7 @@ fn live_blocks(
     requires blocks { outline.now.blocks ≡ map stretch_of blocks }
     requires within { IsOutline outline.now }
     requires fronts { AreFronts outline.now fronts.now }
-    ensures { IfOk result (λ new. new ≡ map (live_block quiet.now.module.now outline.now) blocks) }
+    ensures { IfOk result (λ new. new ≡ map (live_block quiet.now.flow.now outline.now) blocks) }
 {
     let mut left = blocks;
     let mut new = Vec::new(alloc);
@@ -117,7 +117,7 @@ fn live_blocks(
 /// `NoMemory` where there is no memory for its outline, for what is live in it, and for the operations that stay.
 pub fn remove_dead(alloc: Global, quiet: &Quiet<'_>, f: FlowFn) -> Result<FlowFn, NoMemory>
     requires { IsOutline (outline_of f) }
-    ensures { IfOk result (λ g. g ≡ without_dead quiet.now.module.now f) }
+    ensures { IfOk result (λ g. g ≡ without_dead quiet.now.flow.now f) }
 {
     let outline = outline_of(alloc, &f)?;
     let fronts = find_fronts(alloc, &outline)?;

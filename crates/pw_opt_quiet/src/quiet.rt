@@ -34,10 +34,7 @@ fn tell_declared<'a>(
 }
 
 /// Tells of objects that are defined, of those before others of their name.
-fn tell_defined<'a>(
-    marks: &mut Scopes<'a, bool>,
-    globals: &'a [FlowGlobal],
-) -> Result<(), NoMemory>
+fn tell_defined<'a>(marks: &mut Scopes<'a, bool>, globals: &'a [FlowGlobal]) -> Result<(), NoMemory>
     ensures { OnOk result ((name : List ℕ) → visible marks.new name ≡ option_or (defined_mark globals.now name) (visible marks.old name)) }
 {
     for back in 0..globals.len() {
@@ -50,10 +47,10 @@ fn tell_defined<'a>(
 /// Of each object of a module whether nobody sees that it is read.
 #[derive(Drop)]
 pub struct Quiet<'a> {
-    pub module: &'a FlowModule,
+    pub flow: &'a FlowModule,
     /// By names: what a definition says, and else what a declaration says.
     marks: Scopes<'a, bool>,
-    pub ghost told: { TellsQuiet module.now marks },
+    pub ghost told: { TellsQuiet flow.now marks },
 }
 
 impl<'a> Quiet<'a> {
@@ -62,18 +59,18 @@ impl<'a> Quiet<'a> {
     /// # Errors
     ///
     /// `NoMemory` where there is no memory for a table of their names.
-    pub fn new(alloc: Global, module: &'a FlowModule) -> Result<Quiet<'a>, NoMemory>
-        ensures { IfOk result (λ q. q.module.now ≡ module.now) }
+    pub fn new(alloc: Global, flow: &'a FlowModule) -> Result<Quiet<'a>, NoMemory>
+        ensures { IfOk result (λ q. q.flow.now ≡ flow.now) }
     {
         let mut marks = Scopes::new(alloc);
-        tell_declared(&mut marks, module.declared.as_slice())?;
-        tell_defined(&mut marks, module.globals.as_slice())?;
-        Ok(Quiet { module, marks })
+        tell_declared(&mut marks, flow.declared.as_slice())?;
+        tell_defined(&mut marks, flow.globals.as_slice())?;
+        Ok(Quiet { flow, marks })
     }
 
     /// Whether an operation does no more than define a temporary.
     pub fn only_defines(&self, op: &Op) -> bool
-        ensures { result ≡ only_defines self.now.module.now op.now }
+        ensures { result ≡ only_defines self.now.flow.now op.now }
     {
         match op {
             Op::Const(_, _)
