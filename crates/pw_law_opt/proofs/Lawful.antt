@@ -27,7 +27,8 @@ use Rattle.pw_opt_rules.specs.Copies.{one_or, original, with_operands, with_end_
 use Rattle.pw_opt_rules.specs.Dead.{is_dead, live_ops, live_block, without_dead}
 use Rattle.pw_opt_rules.specs.Optimised.{IsOptimised, stays, steps, AreOptimised, none, also}
 use Rattle.pw_law_opt.specs.Laws.{OptimisationKeepsLawful}
-use Rattle.pw_law_opt.proofs.Order.{Rises, constants_rise, copies_rise}
+use Rattle.pw_opt_order.specs.Rises.{Rises}
+use Rattle.pw_opt_order.specs.Order.{constants_rise, copies_rise}
 use Rattle.pw_law_opt.proofs.Keeping.{IsFine, AreFine, Gives, behind_fine, least_fine}
 use Rattle.pw_law_opt.proofs.Words.{is_word, is_temp, ResultsAreWords, constant_fine, constants_give, copies_give}
 

@@ -34,7 +34,3 @@ OptimisationKeepsLawful = (m n : FlowModule) → IsValid m → IsOptimisedModule
 -- and the optimised modules of a lawful program are one
 abbrev pub OptimisationKeepsPrograms : Type 0
 OptimisationKeepsPrograms = (p : Program) (ns : List FlowModule) → IsProgram p → AreOptimisedModules p.modules ns → IsProgram (with_modules p ns)
-
--- a module has one optimised form at most
-abbrev pub OptimisedFormsAreOne : Type 0
-OptimisedFormsAreOne = (m n o : FlowModule) → IsOptimisedModule m n → IsOptimisedModule m o → n ≡ o

@@ -1,6 +1,6 @@
 //! What optimisation keeps.
 
-ghost use Rattle.pw_law_opt.specs.Laws.{OptimisationKeepsLawful, OptimisationKeepsPrograms, OptimisationKeepsRooms, OptimisationKeepsRuns, OptimisedFormsAreOne};
+ghost use Rattle.pw_law_opt.specs.Laws.{OptimisationKeepsLawful, OptimisationKeepsPrograms, OptimisationKeepsRooms, OptimisationKeepsRuns};
 
 use pw_live::laws::longer_paths_add_nothing;
 use pw_value::words::results_are_words;
@@ -32,8 +32,3 @@ pub fn optimisation_keeps_programs()
 {
     optimisation_keeps_lawful();
 }
-
-/// A module has one optimised form at most.
-pub fn optimised_forms_are_one()
-    ensures { OptimisedFormsAreOne }
-{}

@@ -281,3 +281,11 @@ copies_sound copiers temps count long = record {
   uses = λ row e has s. end_operand_uses copiers temps long row has e s;
   next = λ row e s. end_operand_next (original row) count e s;
 }
+
+-- ---- between the steps
+
+pub folded_sound : (f g : FlowFn) → IsFunction f → IsRewrittenWithin constants (λ _ _. true) f g → IsSound g
+folded_sound f g l r = rewritten_sound constants (λ _ _. true) (λ _. true) f g (constants_sound f.temps (length f.blocks)) (about_all f.blocks) (lawful_sound f l) r
+
+pub copied_sound : (copiers : List (List ℕ)) (g h : FlowFn) → IsSound g → length copiers ≡ g.temps → All (AreAbout (is_noted copiers)) g.blocks → IsRewrittenWithin copies (is_copier copiers) g h → IsSound h
+copied_sound copiers g h s long all r = rewritten_sound copies (is_copier copiers) (is_noted copiers) g h (copies_sound copiers g.temps (length g.blocks) long) all s r

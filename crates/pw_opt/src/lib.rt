@@ -3,6 +3,8 @@
 
 mod again;
 mod functions;
+mod laws;
 mod modules;
 
+pub use laws::optimised_forms_are_one;
 pub use modules::optimise;

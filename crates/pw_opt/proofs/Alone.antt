@@ -1,7 +1,6 @@
 -- A module has one optimised form.
 use Rattle.std.specs.Prelude.{ℕ, zero, suc, ◌≡◌, ◌+◌, ◌*◌, ◌<◌, ◌≤◌, List, [], ◌∷◌, length}
 use Rattle.std.proofs.Common.{refl, sym, ap, ap₂, subst, ◌∙◌, arith}
-use Rattle.pw_value.specs.declared.value.Value.{Value}
 use Rattle.pw_flow.specs.declared.flow.Block.{Block}
 use Rattle.pw_flow.specs.declared.flow.FlowGlobal.{FlowGlobal}
 use Rattle.pw_flow.specs.declared.flow.FlowFn.{FlowFn}
@@ -15,7 +14,6 @@ use Rattle.pw_opt_rules.specs.Constants.{constants}
 use Rattle.pw_opt_rules.specs.Copies.{copies}
 use Rattle.pw_opt_rules.specs.Dead.{without_dead}
 use Rattle.pw_opt_rules.specs.Optimised.{IsOptimised, stays, steps, AreOptimised, none, also, IsOptimisedModule}
-use Rattle.pw_law_opt.specs.Laws.{OptimisedFormsAreOne}
 
 -- ---- rows
 
@@ -75,7 +73,7 @@ same_functions m fs gs hs (also f g more others o rest) (also f' h more' others'
 abbrev module_of : List ℕ → List FlowGlobal → List FlowFn → List (List ℕ × List ℕ) → FlowModule
 module_of name globals functions declared = record { name = name; globals = globals; functions = functions; declared = declared }
 
-pub same_modules : OptimisedFormsAreOne
+pub same_modules : (m n o : FlowModule) → IsOptimisedModule m n → IsOptimisedModule m o → n ≡ o
 same_modules m n o a b =
     ap₂ (λ (name : List ℕ) (globals : List FlowGlobal). module_of name globals n.functions n.declared) (a.name ∙ sym b.name) (a.globals ∙ sym b.globals)
     ∙ ap₂ (λ (functions : List FlowFn) (declared : List (List ℕ × List ℕ)). module_of o.name o.globals functions declared)
