@@ -1,6 +1,6 @@
 -- Marks of temporaries, one after the other.
 use Rattle.std.proofs.Common.{◌≡◌, ◌≢◌, ◌↔◌, ◌∙◌, ◌||◌, ◌&&◌, ◌==◌, ℕ, ◌+◌, ◌<◌, ◌≤◌, Bool, true, false, not, List, All, length, get_or, set, take, drop, ◌++◌, replicate, refl, sym, ap, subst, arith, inl, inr}
-use Rattle.std.specs.Prelude.{Option, None, Some, Contains, slice_get, vec_len}
+use Rattle.std.specs.Prelude.{Some, Contains, vec_len}
 use Rattle.std.specs.List.{list_any}
 use Rattle.std.proofs.lemmas.Bool.{cases_Bool, cases_eq, cases_lt, eqb-true, eq-eqb}
 use Rattle.std.proofs.lemmas.List.{get_or_past, get_or-set_same, get_or-set_other, get_or-replicate, length-replicate}
@@ -9,7 +9,7 @@ use Rattle.std.proofs.lemmas.List.Folds.{list_any_more, Any-from_list_any, list_
 use Rattle.std.proofs.lemmas.Grind.{common_steps}
 use Rattle.std.proofs.lemmas.Option.{slice_get_within}
 use Rattle.pw_flow.specs.Outline.{Outline}
-use Rattle.pw_live.specs.Liveness.{has, is_that, is_live_in}
+use Rattle.pw_live.specs.Liveness.{has, is_live_in}
 use Rattle.pw_live_fronts.specs.declared.fronts.Fronts.{Fronts}
 use Rattle.pw_live_fronts.specs.LiveFronts.{IsLiveAt, AreFronts}
 use Rattle.pw_opt_dead.specs.Marks.{is_marked}

@@ -1,13 +1,13 @@
 -- Operations of a block from the last one to the first, and blocks of a function.
-use Rattle.std.proofs.Common.{◌≡◌, ◌∙◌, ◌||◌, ◌&&◌, ℕ, zero, suc, ◌+◌, ◌<◌, ◌≤◌, Bool, true, false, not, List, [], ◌∷◌, ◌++◌, length, get_or, map, reverse, refl, sym, ap, subst, arith, append_assoc}
+use Rattle.std.proofs.Common.{◌≡◌, ◌∙◌, ◌||◌, ◌&&◌, ℕ, ◌<◌, Bool, true, false, not, List, [], ◌∷◌, ◌++◌, length, get_or, map, reverse, refl, sym, ap, subst, arith, append_assoc}
 use Rattle.std.specs.Prelude.{Option, None, Some, if◌then◌else◌}
 use Rattle.std.proofs.lemmas.List.{append-nil, reverse-append, reverse-reverse}
 use Rattle.pw_flow.specs.declared.flow.Op.{Op}
 use Rattle.pw_flow.specs.declared.flow.Block.{Block}
 use Rattle.pw_flow.specs.declared.flow.FlowModule.{FlowModule}
 use Rattle.pw_flow.specs.Outline.{Act, Stretch, Outline, act_of, stretch_of}
-use Rattle.pw_flow.specs.Uses.{op_defines, end_uses, successors}
-use Rattle.pw_live.specs.Liveness.{has, is_that, is_live}
+use Rattle.pw_flow.specs.Uses.{op_defines}
+use Rattle.pw_live.specs.Liveness.{has, is_that}
 use Rattle.pw_opt_rules.specs.Dead.{only_defines, is_needed, is_dead, live_ops, live_block}
 use Rattle.pw_opt_dead.specs.Marks.{is_marked, is_needed_by, MarksLive}
 
@@ -72,7 +72,7 @@ module _ (m : FlowModule) (all left shorter : List Op) (first live now : List Bo
       stepped t ∙ ap (λ (a : Act). has t a.uses || (not (is_that a.defines t) && is_marked live t)) is_act
       ∙ ap (λ (x : Bool). has t (act_of op).uses || (not (is_that (act_of op).defines t) && x)) (w.live_is f b is t)
 
-  pub walk_stays : not (only_defines m op && not (is_needed_by live (op_defines op))) ≡ true → (new : List Op) → new ≡ kept ++ op ∷ [] → Walk m all shorter first now new
+  walk_stays : not (only_defines m op && not (is_needed_by live (op_defines op))) ≡ true → (new : List Op) → new ≡ kept ++ op ∷ [] → Walk m all shorter first now new
   walk_stays stays new pushed = record {
     rest = op ∷ w.rest;
     split = split_more all left shorter w.rest op w.split popped;
@@ -83,7 +83,7 @@ module _ (m : FlowModule) (all left shorter : List Op) (first live now : List Bo
     live_is = live_now;
   }
 
-  pub walk_goes : not (only_defines m op && not (is_needed_by live (op_defines op))) ≡ false → Walk m all shorter first now kept
+  walk_goes : not (only_defines m op && not (is_needed_by live (op_defines op))) ≡ false → Walk m all shorter first now kept
   walk_goes goes = record {
     rest = op ∷ w.rest;
     split = split_more all left shorter w.rest op w.split popped;
@@ -92,6 +92,10 @@ module _ (m : FlowModule) (all left shorter : List Op) (first live now : List Bo
         w.kept_is f b is ∙ ap (λ (c : Bool). reverse (if c then live_ops m f b w.rest else op ∷ live_ops m f b w.rest)) (sym dead);
     live_is = live_now;
   }
+
+  pub walk_next : (stay : Bool) → stay ≡ not (only_defines m op && not (is_needed_by live (op_defines op))) → (new : List Op) → new ≡ (if stay then kept ++ op ∷ [] else kept) → Walk m all shorter first now new
+  walk_next true e new pushed = walk_stays (sym e) new pushed
+  walk_next false e new pushed = subst (Walk m all shorter first now) (sym pushed) (walk_goes (sym e))
 
 -- where none are left
 pub walk_all : (m : FlowModule) (all left : List Op) (first live : List Bool) (kept : List Op) → Walk m all left first live kept → left ≡ [] → (f : Outline) (b : Block) → MarksLive f b [] first → kept ≡ reverse (live_ops m f b all)

@@ -1,11 +1,9 @@
 //! Dead operations: those that do no more than define a temporary which is not live directly behind them.
 
-ghost use Rattle.std.specs.Prelude.{◌≡◌, ◌&&◌, not, [], map, reverse, length, All, IfOk, vec_len};
-
+ghost use Rattle.std.specs.Prelude.{◌≡◌, ◌&&◌, ◌++◌, ◌∷◌, if◌then◌else◌, not, [], map, reverse, length, All, IfOk, OnOk, vec_len};
 ghost use Rattle.pw_flow.specs.Outline.{Outline as OutlineValue, act_of, stretch_of, outline_of};
 ghost use Rattle.pw_flow.specs.Uses.{op_defines};
 ghost use Rattle.pw_flow.specs.declared.flow.Block.{Block as BlockValue};
-
 ghost use Rattle.pw_live_fronts.specs.Blocks.{IsAct, IsStretch, IsOutline};
 ghost use Rattle.pw_live_fronts.specs.LiveFronts.{AreFronts};
 ghost use Rattle.pw_opt_rules.specs.Dead.{only_defines, live_ops, live_block, without_dead};
@@ -40,6 +38,16 @@ fn stays(quiet: &Quiet<'_>, live: &[bool], op: &Op, act: &Act) -> bool
     !quiet.only_defines(op) || is_needed(live, act.defines())
 }
 
+/// Puts an operation behind the others, if it stays.
+fn push_if(kept: &mut Vec<Op>, op: Op, stays: bool) -> Result<(), NoMemory>
+    ensures { OnOk result (kept.new.items ≡ (if stays then kept.old.items ++ op ∷ [] else kept.old.items)) }
+{
+    if stays {
+        kept.push(op)?;
+    }
+    Ok(())
+}
+
 /// The operations of a block that stay, from the last one to the first. `live` is what is live at the block's end, and is spent.
 fn kept_ops(
     alloc: Global,
@@ -56,10 +64,9 @@ fn kept_ops(
     let mut kept = Vec::new(alloc);
     while let Some(op) = left.pop() {
         let act = &acts[left.len()];
-        if stays(quiet, live, &op, act) {
-            kept.push(op)?;
-        }
+        let stays = stays(quiet, live, &op, act);
         step_back(live, act);
+        push_if(&mut kept, op, stays)?;
     }
     Ok(kept)
 }

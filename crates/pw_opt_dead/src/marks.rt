@@ -47,12 +47,7 @@ pub(crate) fn step_back(live: &mut [bool], act: &Act)
 }
 
 /// Marks what is live at the front of a block.
-fn mark_front(
-    live: &mut [bool],
-    alloc: Global,
-    fronts: &Fronts,
-    block: u32,
-) -> Result<(), NoMemory>
+fn mark_front(live: &mut [bool], alloc: Global, fronts: &Fronts, block: u32) -> Result<(), NoMemory>
     requires block { block < vec_len fronts.now.rows }
     requires temps { length live.old ≡ vec_len fronts.now.exposed.numbers }
     ensures length { length live.new ≡ length live.old }

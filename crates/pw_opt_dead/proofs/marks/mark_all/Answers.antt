@@ -1,4 +1,4 @@
-use Rattle.std.proofs.Common.{◌≡◌, ◌∙◌, ◌||◌, ◌<◌, ℕ, List, Bool, length, get_or, take, sym, ap, arith}
+use Rattle.std.proofs.Common.{◌∙◌, ◌||◌, ◌<◌, ℕ, List, length, get_or, ap, arith}
 use Rattle.std.proofs.lemmas.List.{take_all}
 use Rattle.pw_live.specs.Liveness.{has}
 use Rattle.pw_opt_dead.specs.Marks.{is_marked}
