@@ -128,7 +128,7 @@ about_all bs = λ k d lt i e low. refl
 
 -- ---- a rewriting that keeps operations and ends sound keeps functions so
 
-record KeepsSound (w : Rewriting) (may : ℕ → ℕ → Bool) (about : Op → Bool) (temps count : ℕ) : Type 0 where
+pub record KeepsSound (w : Rewriting) (may : ℕ → ℕ → Bool) (about : Op → Bool) (temps count : ℕ) : Type 0 where
   pub keeps : (row : List Flat) (o : Op) → about o ≡ true → HasWhatMay may row → HasWhatMay may (w.transfer row o)
   pub ops : (row : List Flat) (o : Op) → HasWhatMay may row → IsSoundOp temps o → IsSoundOp temps (w.op row o)
   pub uses : (row : List Flat) (e : End) → HasWhatMay may row → AllByRecursion (λ t. t < temps) (end_uses e) → AllByRecursion (λ t. t < temps) (end_uses (w.end row e))
