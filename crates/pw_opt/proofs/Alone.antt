@@ -1,14 +1,13 @@
 -- A module has one optimised form.
-use Rattle.std.specs.Prelude.{ℕ, zero, suc, ◌≡◌, ◌+◌, ◌*◌, ◌<◌, ◌≤◌, List, [], ◌∷◌, length}
+use Rattle.std.specs.Prelude.{ℕ, suc, ◌≡◌, ◌<◌, List, [], ◌∷◌, length}
 use Rattle.std.proofs.Common.{refl, sym, ap, ap₂, subst, ◌∙◌, arith}
-use Rattle.pw_flow.specs.declared.flow.Block.{Block}
 use Rattle.pw_flow.specs.declared.flow.FlowGlobal.{FlowGlobal}
 use Rattle.pw_flow.specs.declared.flow.FlowFn.{FlowFn}
 use Rattle.pw_flow.specs.declared.flow.FlowModule.{FlowModule}
 use Rattle.pw_opt_rules.specs.declared.flat.Flat.{Flat}
 use Rattle.pw_opt_rules.specs.declared.flat.Flat.TheVariants.{Bottom, One, Many}
 use Rattle.pw_opt_rules.specs.Flat.{IsBelow}
-use Rattle.pw_opt_rules.specs.Rows.{known, IsRowBelow, front, IsLeastSolution}
+use Rattle.pw_opt_rules.specs.Rows.{IsRowBelow, front, IsLeastSolution}
 use Rattle.pw_opt_rules.specs.Rewriting.{Rewriting, rewritten_blocks, with_blocks, IsRewritten}
 use Rattle.pw_opt_rules.specs.Constants.{constants}
 use Rattle.pw_opt_rules.specs.Copies.{copies}
@@ -47,9 +46,9 @@ least_same w f rows others l k =
     let long : length rows ≡ length f.blocks = l.solution.each_block in
     same_rows rows others (l.solution.each_block ∙ sym k.solution.each_block)
     (λ b lt.
-        let within : b < length f.blocks = omega (arith, lt, long) in
-        same_row (front rows b) (front others b) (l.solution.each_temp b within ∙ sym (k.solution.each_temp b within))
-        (l.least others k.solution b) (k.least rows l.solution b))
+    let within : b < length f.blocks = omega (arith, lt, long) in
+    same_row (front rows b) (front others b) (l.solution.each_temp b within ∙ sym (k.solution.each_temp b within))
+    (l.least others k.solution b) (k.least rows l.solution b))
 
 rewritten_same : (w : Rewriting) (f g h : FlowFn) → IsRewritten w f g → IsRewritten w f h → g ≡ h
 rewritten_same w f g h r s =

@@ -1,7 +1,7 @@
 -- What is left sound between the steps: temporaries and blocks are those of the function.
-use Rattle.std.specs.Prelude.{ℕ, zero, suc, ◌≡◌, ◌<◌, ◌≤◌, ◌==◌, Bool, true, false, if◌then◌else◌, Option, Some, None, List, [], ◌∷◌, length, map, All, slice_index_or}
+use Rattle.std.specs.Prelude.{ℕ, zero, suc, ◌≡◌, ◌<◌, ◌≤◌, ◌==◌, Bool, true, false, Some, None, List, [], ◌∷◌, length, map, All}
 use Rattle.std.specs.List.{AllByRecursion, list_any}
-use Rattle.std.proofs.Common.{refl, sym, ap, subst, ◌∙◌, arith, inl, inr}
+use Rattle.std.proofs.Common.{refl, sym, ap, subst, arith, inl, inr}
 use Rattle.std.proofs.lemmas.Bool.{cases_lt}
 use Rattle.std.proofs.lemmas.List.{length-map, get_or_past}
 use Rattle.std.proofs.lemmas.List.Elements.{All-from_recursion}
@@ -11,17 +11,17 @@ use Rattle.pw_flow.specs.declared.flow.End.{End}
 use Rattle.pw_flow.specs.declared.flow.End.TheVariants.{Jump, Branch, Return}
 use Rattle.pw_flow.specs.declared.flow.Block.{Block}
 use Rattle.pw_flow.specs.declared.flow.FlowFn.{FlowFn}
-use Rattle.pw_flow.specs.Uses.{op_uses, op_defines, end_uses, successors}
-use Rattle.pw_flow.specs.Outline.{Act, Stretch, act_of, stretch_of, outline_of}
+use Rattle.pw_flow.specs.Uses.{end_uses, successors}
+use Rattle.pw_flow.specs.Outline.{act_of, stretch_of, outline_of}
 use Rattle.pw_flow.specs.ValidFlow.{IsOp, IsEnd, IsBlock, IsFunction}
 use Rattle.pw_live_fronts.specs.Blocks.{IsAct, IsStretch, IsOutline}
 use Rattle.pw_opt_rules.specs.declared.flat.Flat.{Flat}
 use Rattle.pw_opt_rules.specs.declared.flat.Flat.TheVariants.{Bottom, One, Many}
 use Rattle.pw_opt_rules.specs.Rows.{known, behind}
-use Rattle.pw_opt_rules.specs.Rewriting.{Rewriting, rewritten_ops, rewritten_block, rewritten_blocks, with_blocks}
+use Rattle.pw_opt_rules.specs.Rewriting.{Rewriting, rewritten_ops, rewritten_block, rewritten_blocks}
 use Rattle.pw_opt_rules.specs.Constants.{constant, const_or, constant_op, jump_or, constant_end, constants}
-use Rattle.pw_opt_rules.specs.Copies.{one_or, original, with_operands, with_end_operand, copies, copy_transfer}
-use Rattle.pw_opt_rows.specs.Joins.{HasWhatMay, IsOwnRow}
+use Rattle.pw_opt_rules.specs.Copies.{one_or, original, with_operands, with_end_operand, copies}
+use Rattle.pw_opt_rows.specs.Joins.{HasWhatMay}
 use Rattle.pw_opt_rows.specs.Outflows.{HasWays, AreAbout}
 use Rattle.pw_opt_copies.specs.Copiers.{is_copier, is_noted, CopiesBelow}
 use Rattle.pw_opt_copies.specs.Keeping.{copies_keep}

@@ -18,7 +18,10 @@ fn same_item(alloc: Global, item: &(u32, Item)) -> Result<(u32, Item), NoMemory>
             let bytes = Items::from_vec(Vec::from_slice(alloc, bytes.as_slice())?);
             Ok((*offset, Item::Bytes(bytes)))
         }
-        (offset, Item::Address(name, number)) => Ok((*offset, Item::Address(name.copy(alloc)?, *number))),
+        (offset, Item::Address(name, number)) => Ok((
+            *offset,
+            Item::Address(name.copy(alloc)?, *number),
+        )),
     }
 }
 
@@ -49,7 +52,10 @@ fn same_global(alloc: Global, global: &FlowGlobal) -> Result<FlowGlobal, NoMemor
 }
 
 /// The same objects again.
-pub(crate) fn same_globals(alloc: Global, globals: &[FlowGlobal]) -> Result<Items<FlowGlobal>, NoMemory>
+pub(crate) fn same_globals(
+    alloc: Global,
+    globals: &[FlowGlobal],
+) -> Result<Items<FlowGlobal>, NoMemory>
     ensures { IfOk result (λ v. v ≡ globals.now) }
 {
     let mut same = Items::new(alloc);
@@ -94,7 +100,11 @@ fn same_ops(alloc: Global, constants: &Constants, ops: &[Op]) -> Result<Items<Op
 }
 
 /// The same blocks again.
-fn same_blocks(alloc: Global, constants: &Constants, blocks: &[Block]) -> Result<Items<Block>, NoMemory>
+fn same_blocks(
+    alloc: Global,
+    constants: &Constants,
+    blocks: &[Block],
+) -> Result<Items<Block>, NoMemory>
     ensures { IfOk result (λ v. v ≡ blocks.now) }
 {
     let mut same = Items::new(alloc);
@@ -110,7 +120,11 @@ fn same_blocks(alloc: Global, constants: &Constants, blocks: &[Block]) -> Result
 }
 
 /// The same function again.
-pub(crate) fn same_function(alloc: Global, constants: &Constants, f: &FlowFn) -> Result<FlowFn, NoMemory>
+pub(crate) fn same_function(
+    alloc: Global,
+    constants: &Constants,
+    f: &FlowFn,
+) -> Result<FlowFn, NoMemory>
     ensures { IfOk result (λ g. g ≡ f.now) }
 {
     let blocks = same_blocks(alloc, constants, f.blocks.as_slice())?;

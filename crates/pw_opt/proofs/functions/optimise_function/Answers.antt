@@ -1,4 +1,4 @@
-use Rattle.std.proofs.Common.{◌≡◌, ◌*◌, ◌≤◌, length, sym, subst, inl, inr, true, false}
+use Rattle.std.proofs.Common.{◌*◌, ◌≤◌, length, sym, subst, inl, inr, true}
 use Rattle.std.proofs.lemmas.Bool.{cases_Bool, cases_lt}
 use Rattle.pw_opt_rules.specs.Constants.{constants}
 use Rattle.pw_opt_rules.specs.Copies.{copies}

@@ -1,4 +1,4 @@
-use Rattle.std.proofs.Common.{◌≡◌, [], sym, subst}
+use Rattle.std.proofs.Common.{[], sym, subst}
 use Rattle.pw_opt_rules.specs.Optimised.{AreOptimised, none}
 use Rattle.pw_opt.proofs.Listing.{optimised_more}
 use Rattle.pw_opt.proofs.functions.optimise_functions.Goals as goal
