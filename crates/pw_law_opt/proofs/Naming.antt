@@ -1,5 +1,5 @@
 -- The optimised modules of a lawful program are one.
-use Rattle.std.specs.Prelude.{ℕ, zero, suc, ◌≡◌, ◌<◌, ◌≤◌, Option, List, [], ◌∷◌, ◌++◌, length, map, Contains}
+use Rattle.std.specs.Prelude.{ℕ, zero, suc, ◌≡◌, ◌<◌, List, [], ◌∷◌, ◌++◌, length, map, Contains}
 use Rattle.std.specs.List.{flat_map, AllByRecursion}
 use Rattle.std.proofs.Common.{refl, sym, ap, ap₂, subst, ◌∙◌, arith, get_or}
 use Rattle.std.proofs.lemmas.List.{map-append}
@@ -17,14 +17,14 @@ use Rattle.pw_flow.specs.FlowGraph.{op_names, names_in_global, names_in_block, n
 use Rattle.pw_flow.specs.ValidFlow.{IsValid, AreDistinct}
 use Rattle.pw_files.specs.Rising.{IsRising}
 use Rattle.pw_run_languages.specs.Programs.{Program, functions_of, globals_of, names_of}
-use Rattle.pw_run_languages.specs.LawfulPrograms.{ops_of, IsFunctionName, IsGlobalName, NamesRightly, IsItem, IsProgram}
+use Rattle.pw_run_languages.specs.LawfulPrograms.{ops_of, NamesRightly, IsItem, IsProgram}
 use Rattle.pw_opt_rules.specs.Copies.{with_operands}
 use Rattle.pw_opt_rules.specs.Optimised.{IsOptimised, stays, steps, AreOptimised, IsOptimisedModule}
 use Rattle.pw_opt_rules.specs.Optimised as optimised
 use Rattle.pw_law_opt.specs.Sides.{with_modules}
 use Rattle.pw_law_opt.specs.Laws.{AreOptimisedModules, none, also, OptimisationKeepsLawful, OptimisationKeepsPrograms}
 use Rattle.pw_law_opt.proofs.Lists.{first_there, later_there}
-use Rattle.pw_law_opt.proofs.Modules.{functions_in, globals_in, globals_stay}
+use Rattle.pw_law_opt.proofs.Modules.{functions_in, globals_stay}
 use Rattle.pw_law_opt.proofs.Lawful.{all_both, all_first, all_second, all_pieces, all_joined}
 use Rattle.pw_law_opt.proofs.Operations.{SaysNothingOfOperands, AllOps, AllBlocks, functions_hold}
 

@@ -1,8 +1,8 @@
 -- What holds of all operations of a module's functions holds of those of its optimised form, where it holds of every constant
 -- and says nothing of operands.
-use Rattle.std.specs.Prelude.{ℕ, ◌≡◌, Bool, true, false, if◌then◌else◌, Option, Some, None, List, [], ◌∷◌, ◌++◌, map}
+use Rattle.std.specs.Prelude.{ℕ, Bool, true, false, if◌then◌else◌, List, [], ◌∷◌, map}
 use Rattle.std.specs.List.{AllByRecursion}
-use Rattle.std.proofs.Common.{refl, sym, ap, ap₂, subst, ◌∙◌}
+use Rattle.std.proofs.Common.{sym, subst}
 use Rattle.pw_flow.specs.declared.flow.Op.{Op}
 use Rattle.pw_flow.specs.declared.flow.Op.TheVariants as op
 use Rattle.pw_flow.specs.declared.flow.Block.{Block}
@@ -11,10 +11,10 @@ use Rattle.pw_flow.specs.declared.flow.FlowModule.{FlowModule}
 use Rattle.pw_flow.specs.Outline.{Outline, outline_of}
 use Rattle.pw_opt_rules.specs.declared.flat.Flat.{Flat}
 use Rattle.pw_opt_rules.specs.declared.flat.Flat.TheVariants.{Bottom, One, Many}
-use Rattle.pw_opt_rules.specs.Rewriting.{Rewriting, rewritten_ops, rewritten_block, rewritten_blocks, with_blocks, IsRewritten}
+use Rattle.pw_opt_rules.specs.Rewriting.{Rewriting, rewritten_ops, rewritten_blocks, IsRewritten}
 use Rattle.pw_opt_rules.specs.Constants.{constant, const_or, constant_op, constants}
 use Rattle.pw_opt_rules.specs.Copies.{original, with_operands, copies}
-use Rattle.pw_opt_rules.specs.Dead.{is_dead, live_ops, live_block, without_dead}
+use Rattle.pw_opt_rules.specs.Dead.{is_dead, live_ops, live_block}
 use Rattle.pw_opt_rules.specs.Optimised.{IsOptimised, stays, steps, AreOptimised, none, also}
 
 pub record SaysNothingOfOperands (R : Op → Type 0) : Type 0 where
