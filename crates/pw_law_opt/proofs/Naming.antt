@@ -22,7 +22,7 @@ use Rattle.pw_opt_rules.specs.Copies.{with_operands}
 use Rattle.pw_opt_rules.specs.Optimised.{IsOptimised, stays, steps, AreOptimised, IsOptimisedModule}
 use Rattle.pw_opt_rules.specs.Optimised as optimised
 use Rattle.pw_law_opt.specs.Sides.{with_modules}
-use Rattle.pw_law_opt.specs.Laws.{AreOptimisedModules, none, also, OptimisationKeepsLawful, OptimisationKeepsPrograms}
+use Rattle.pw_law_opt.specs.Laws.{AreOptimisedModules, none, also, entry, OptimisationKeepsLawful, OptimisationKeepsPrograms, OptimisationShowsNoMore}
 use Rattle.pw_law_opt.proofs.Lists.{first_there, later_there}
 use Rattle.pw_law_opt.proofs.Modules.{functions_in, globals_stay}
 use Rattle.pw_law_opt.proofs.Lawful.{all_both, all_first, all_second, all_pieces, all_joined}
@@ -232,3 +232,21 @@ module _ (keeps : OptimisationKeepsLawful) (p : Program) (ns : List FlowModule) 
 
 pub programs_stay : OptimisationKeepsLawful → OptimisationKeepsPrograms
 programs_stay keeps p ns fine o = program_stays keeps p ns fine o
+
+-- ---- what a module shows
+
+entry_stays : (m : FlowModule) (f g : FlowFn) → IsOptimised m f g → entry g ≡ entry f
+entry_stays m f g (stays large) = refl
+entry_stays m f g (steps h k small r s) = ap entry s.is ∙ ap entry r.is
+
+entries_stay : (m : FlowModule) (fs gs : List FlowFn) → AreOptimised m fs gs → map entry gs ≡ map entry fs
+entries_stay m fs gs optimised.none = refl
+entries_stay m fs gs (optimised.also f g more others o rest) = ap₂ (λ (x : List ℕ × List ℕ) (xs : List (List ℕ × List ℕ)). x ∷ xs) (entry_stays m f g o) (entries_stay m more others rest)
+
+pub shows_no_more : OptimisationShowsNoMore
+shows_no_more m n o = record {
+  entries = entries_stay m m.functions n.functions o.functions;
+  fewer = λ name there.
+      each_there (λ (x : List ℕ). Contains (named_in m) x) (named_in n) name
+      (module_names (λ (x : List ℕ). Contains (named_in m) x) m n o (all_there (λ (x : List ℕ). Contains (named_in m) x) (named_in m) (λ x c. c))) there;
+}

@@ -1,6 +1,6 @@
 //! What optimisation keeps.
 
-ghost use Rattle.pw_law_opt.specs.Laws.{OptimisationKeepsLawful, OptimisationKeepsPrograms, OptimisationKeepsRooms, OptimisationKeepsRuns};
+ghost use Rattle.pw_law_opt.specs.Laws.{OptimisationKeepsLawful, OptimisationKeepsPrograms, OptimisationKeepsRooms, OptimisationKeepsRuns, OptimisationShowsNoMore};
 
 use pw_live::laws::longer_paths_add_nothing;
 use pw_value::words::results_are_words;
@@ -32,3 +32,8 @@ pub fn optimisation_keeps_programs()
 {
     optimisation_keeps_lawful();
 }
+
+/// An optimised module defines and declares what the module does, and names no more names.
+pub fn optimisation_shows_no_more()
+    ensures { OptimisationShowsNoMore }
+{}
