@@ -1,0 +1,9 @@
+pub mod OneOutput
+pub mod Steps
+pub mod Texts
+pub mod Bounds
+pub mod Headers
+pub mod Lines
+pub mod WholeFiles
+pub mod OneFile
+pub mod Including
