@@ -19,8 +19,8 @@ use pw_interp_machine::{run, start};
 use pw_interp_start::start_objects;
 use pw_interp_state::State;
 use pw_interp_world::{Callable, Part, World as Names, callables, global_names};
-use pw_value::program_names::{MAIN, START};
 use pw_value::Name;
+use pw_value::program_names::{MAIN, START};
 use std::alloc::{AllocError, Global};
 
 /// How a run ended: at an undefined operation, by the module and the token of the node that met it; because the stack
