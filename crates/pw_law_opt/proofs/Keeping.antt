@@ -14,7 +14,8 @@ use Rattle.pw_opt_rules.specs.declared.flat.Flat.{Flat}
 use Rattle.pw_opt_rules.specs.declared.flat.Flat.TheVariants.{Bottom, One, Many}
 use Rattle.pw_opt_rules.specs.Flat.{IsBelow}
 use Rattle.pw_opt_rules.specs.Rows.{known, IsRowBelow, behind, front, IsSolution, IsLeastSolution}
-use Rattle.pw_law_opt.proofs.Order.{below_through, Rises, behind_rises}
+use Rattle.pw_opt_order.specs.Rises.{Rises}
+use Rattle.pw_opt_order.specs.Order.{below_through, behind_rises}
 
 -- what may be known: one thing that passes a test, or no one thing
 abbrev pub IsFine : (ℕ → Bool) → Flat → Type 0

@@ -27,32 +27,33 @@ use Rattle.pw_opt_rules.specs.Copies.{one_or, original, with_operands, with_end_
 use Rattle.pw_opt_rules.specs.Dead.{is_dead, live_ops, live_block, without_dead}
 use Rattle.pw_opt_rules.specs.Optimised.{IsOptimised, stays, steps, AreOptimised, none, also}
 use Rattle.pw_law_opt.specs.Laws.{OptimisationKeepsLawful}
-use Rattle.pw_law_opt.proofs.Order.{Rises, constants_rise, copies_rise}
+use Rattle.pw_opt_order.specs.Rises.{Rises}
+use Rattle.pw_opt_order.specs.Order.{constants_rise, copies_rise}
 use Rattle.pw_law_opt.proofs.Keeping.{IsFine, AreFine, Gives, behind_fine, least_fine}
 use Rattle.pw_law_opt.proofs.Words.{is_word, is_temp, ResultsAreWords, constant_fine, constants_give, copies_give}
 
 -- ---- lists
 
-all_both : {X : Type 0} (P : X → Type 0) (xs ys : List X) → AllByRecursion P xs → AllByRecursion P ys → AllByRecursion P (xs ++ ys)
+pub all_both : {X : Type 0} (P : X → Type 0) (xs ys : List X) → AllByRecursion P xs → AllByRecursion P ys → AllByRecursion P (xs ++ ys)
 all_both P [] ys a b = b
 all_both P (x ∷ xs) ys a b = (a.0, all_both P xs ys a.1 b)
 
-all_first : {X : Type 0} (P : X → Type 0) (xs ys : List X) → AllByRecursion P (xs ++ ys) → AllByRecursion P xs
+pub all_first : {X : Type 0} (P : X → Type 0) (xs ys : List X) → AllByRecursion P (xs ++ ys) → AllByRecursion P xs
 all_first P [] ys a = tt
 all_first P (x ∷ xs) ys a = (a.0, all_first P xs ys a.1)
 
-all_second : {X : Type 0} (P : X → Type 0) (xs ys : List X) → AllByRecursion P (xs ++ ys) → AllByRecursion P ys
+pub all_second : {X : Type 0} (P : X → Type 0) (xs ys : List X) → AllByRecursion P (xs ++ ys) → AllByRecursion P ys
 all_second P [] ys a = a
 all_second P (x ∷ xs) ys a = all_second P xs ys a.1
 
 -- what holds of all pieces of a list of lists
-all_pieces : {X Y : Type 0} (P : Y → Type 0) (g : X → List Y) (xs : List X) → AllByRecursion P (flat_map g xs) → AllByRecursion (λ x. AllByRecursion P (g x)) xs
+pub all_pieces : {X Y : Type 0} (P : Y → Type 0) (g : X → List Y) (xs : List X) → AllByRecursion P (flat_map g xs) → AllByRecursion (λ x. AllByRecursion P (g x)) xs
 all_pieces P g [] a = tt
 all_pieces P g (x ∷ xs) a =
     let b = subst (AllByRecursion P) (flat_map-cons g x xs) a in
     (all_first P (g x) (flat_map g xs) b, all_pieces P g xs (all_second P (g x) (flat_map g xs) b))
 
-all_joined : {X Y : Type 0} (P : Y → Type 0) (g : X → List Y) (xs : List X) → AllByRecursion (λ x. AllByRecursion P (g x)) xs → AllByRecursion P (flat_map g xs)
+pub all_joined : {X Y : Type 0} (P : Y → Type 0) (g : X → List Y) (xs : List X) → AllByRecursion (λ x. AllByRecursion P (g x)) xs → AllByRecursion P (flat_map g xs)
 all_joined P g [] a = tt
 all_joined P g (x ∷ xs) a = subst (AllByRecursion P) (sym (flat_map-cons g x xs)) (all_both P (g x) (flat_map g xs) a.0 (all_joined P g xs a.1))
 

@@ -13,7 +13,8 @@ mod Dead
 mod Staying
 mod Modules
 mod Rooms
-mod Order
 mod Keeping
 mod Words
 mod Lawful
+mod Operations
+mod Naming

@@ -117,10 +117,10 @@ both_paired : (w : Pass) (fs gs hs ks : List FlowFn) → ArePaired w fs gs → A
 both_paired w fs gs hs ks pass.none b = b
 both_paired w fs gs hs ks (pass.also f bs more others pair rest) b = pass.also f bs (more ++ hs) (others ++ ks) pair (both_paired w more others hs ks rest b)
 
-abbrev functions_in : List FlowModule → List FlowFn
+abbrev pub functions_in : List FlowModule → List FlowFn
 functions_in ms = flat_map (λ (m : FlowModule). m.functions) ms
 
-abbrev globals_in : List FlowModule → List FlowGlobal
+abbrev pub globals_in : List FlowModule → List FlowGlobal
 globals_in ms = flat_map (λ (m : FlowModule). m.globals) ms
 
 all_paths : (ms ns : List FlowModule) → AllByRecursion IsValid ms → AreOptimisedModules ms ns → Paths (functions_in ms) (functions_in ns)
@@ -138,7 +138,7 @@ all_paths ms ns fine (law.also m n more others o rest) =
       three = subst (λ l. ArePaired last_pass (p.second ++ ps.second) l) (sym gs) (both_paired last_pass p.second n.functions ps.second (functions_in others) p.three ps.three);
     }
 
-globals_stay : (ms ns : List FlowModule) → AreOptimisedModules ms ns → globals_in ns ≡ globals_in ms
+pub globals_stay : (ms ns : List FlowModule) → AreOptimisedModules ms ns → globals_in ns ≡ globals_in ms
 globals_stay ms ns law.none = refl
 globals_stay ms ns (law.also m n more others o rest) =
     flat_map-cons (λ (x : FlowModule). x.globals) n others

@@ -1,12 +1,14 @@
 -- What optimisation owes.
-use Rattle.std.specs.Prelude.{ℕ, ◌≡◌, List, [], ◌∷◌}
+use Rattle.std.specs.Prelude.{ℕ, ◌≡◌, List, [], ◌∷◌, map, Contains}
 use Rattle.std.specs.List.{AllByRecursion}
 use Rattle.pw_flow.specs.declared.flow.FlowFn.{FlowFn}
 use Rattle.pw_flow.specs.declared.flow.FlowModule.{FlowModule}
+use Rattle.pw_flow.specs.FlowGraph.{named_in}
 use Rattle.pw_flow.specs.FrameRooms.{flow_room}
 use Rattle.pw_flow.specs.ValidFlow.{IsValid}
 use Rattle.pw_run.specs.Runs.{Refines, Same}
 use Rattle.pw_run_languages.specs.Programs.{Program}
+use Rattle.pw_run_languages.specs.LawfulPrograms.{IsProgram}
 use Rattle.pw_run_languages.specs.FlowRun.{flow_run}
 use Rattle.pw_opt_rules.specs.Optimised.{IsOptimised, IsOptimisedModule}
 use Rattle.pw_law_opt.specs.Sides.{with_modules}
@@ -29,3 +31,19 @@ OptimisationKeepsRooms = (m : FlowModule) (f g : FlowFn) → IsOptimised m f g �
 -- an optimised module of a lawful one is lawful
 abbrev pub OptimisationKeepsLawful : Type 0
 OptimisationKeepsLawful = (m n : FlowModule) → IsValid m → IsOptimisedModule m n → IsValid n
+
+-- and the optimised modules of a lawful program are one
+abbrev pub OptimisationKeepsPrograms : Type 0
+OptimisationKeepsPrograms = (p : Program) (ns : List FlowModule) → IsProgram p → AreOptimisedModules p.modules ns → IsProgram (with_modules p ns)
+
+-- what a function shows: its name and its shape
+abbrev pub entry : FlowFn → List ℕ × List ℕ
+entry f = (f.name, f.shape)
+
+-- What an optimised module shows to others is what the module shows, but that it may name fewer names.
+pub record ShowsNoMore (m n : FlowModule) : Type 0 where
+  pub entries : map entry n.functions ≡ map entry m.functions
+  pub fewer : (name : List ℕ) → Contains (named_in n) name → Contains (named_in m) name
+
+abbrev pub OptimisationShowsNoMore : Type 0
+OptimisationShowsNoMore = (m n : FlowModule) → IsOptimisedModule m n → ShowsNoMore m n

@@ -1,6 +1,6 @@
 //! What optimisation keeps.
 
-ghost use Rattle.pw_law_opt.specs.Laws.{OptimisationKeepsLawful, OptimisationKeepsRooms, OptimisationKeepsRuns};
+ghost use Rattle.pw_law_opt.specs.Laws.{OptimisationKeepsLawful, OptimisationKeepsPrograms, OptimisationKeepsRooms, OptimisationKeepsRuns, OptimisationShowsNoMore};
 
 use pw_live::laws::longer_paths_add_nothing;
 use pw_value::words::results_are_words;
@@ -25,3 +25,15 @@ pub fn optimisation_keeps_lawful()
 {
     results_are_words();
 }
+
+/// The optimised modules of a lawful program are a lawful program.
+pub fn optimisation_keeps_programs()
+    ensures { OptimisationKeepsPrograms }
+{
+    optimisation_keeps_lawful();
+}
+
+/// An optimised module defines and declares what the module does, and names no more names.
+pub fn optimisation_shows_no_more()
+    ensures { OptimisationShowsNoMore }
+{}

@@ -53,7 +53,7 @@ impl Constants {
     }
 
     /// The same operation again.
-    fn same(&self, alloc: Global, op: &Op) -> Result<Op, NoMemory>
+    pub fn same(&self, alloc: Global, op: &Op) -> Result<Op, NoMemory>
         ensures { IfOk result (λ o. o ≡ op.now) }
     {
         let same = with_originals(alloc, &self.nothing, op)?;

@@ -21,6 +21,7 @@ use Rattle.pw_commands.specs.Running.{run_effect}
 use Rattle.pw_law_session.specs.FromMeaning.Meaning.{Means, runs_of}
 use Rattle.pw_law_session.specs.FromSession.FromBuild.BuildFault.{BuildFault}
 use Rattle.pw_law_session.specs.FromSession.FromBuild.BuildFault.TheVariants as build
+use Rattle.pw_law_session.specs.FromSession.FromBuildFiles.Full.{BuildsImage}
 use Rattle.pw_law_session.specs.FromSession.FromBuildFiles.Building.{BuildOutcome, Outcome}
 use Rattle.pw_law_session.specs.FromSession.FromBuildFiles.Genuine.{KeepsGenuine}
 use Rattle.pw_law_session.specs.FromSession.FromBuildFiles.Outcomes.{AreOpts, fault_answer}
@@ -121,13 +122,16 @@ answers_run run input progress answer input' taken taken' was tells e puts left 
 abbrev OneImage : Type 0
 OneImage = (bytes : List ℕ) (c d : Contents Image) → IsImageFile bytes c → IsImageFile bytes d → c ≡ d
 
-of_image : OneImage → (texts : Texts) (opts : RunOpts) (image : List ℕ) (c : Contents Image) (answer : Answer) (input : List ℕ) (input' taken taken' : Option (List ℕ)) → Means texts opts.build image → IsImageFile image c → AreBytes input → WasRun answer
+of_image : OneImage → (texts : Texts) (opts : RunOpts) (image : List ℕ) (c : Contents Image) (answer : Answer) (input : List ℕ) (input' taken taken' : Option (List ℕ)) → BuildsImage texts opts.build (Ok image) → Means texts opts.build image → IsImageFile image c → AreBytes input → WasRun answer
     → Answers (run_answer (run_from opts.budget input c)) answer → PutsOut (run_output (run_from opts.budget input c)) answer taken taken' → LeavesInput (run_rest (run_from opts.budget input c)) input answer input'
     → AnswersProgram texts opts answer input input' taken taken'
-of_image one texts opts image c answer input input' taken taken' means file bytes was e puts left = record {
+of_image one texts opts image c answer input input' taken taken' builds means file bytes was e puts left = record {
   program = means.program;
   of_texts = means.of_texts;
-  image = means.contents.value;
+  bytes = image;
+  builds = builds;
+  contents = means.contents;
+  file = means.file;
   fit = means.fit;
   does = λ bound large meaningful.
       let run = runs_of means.program means.contents.value opts.build.stack input bound in
@@ -160,7 +164,7 @@ over_program : OneImage → (opts : RunOpts) → FullAt opts.build → (comes : 
     → HasBuilt opts.build answer told new → BuildOutcome told.files opts.build comes → GoOver opts.budget input comes e → Answers e.answer answer → PutsOut e.output answer taken taken' → LeavesInput e.rest input answer input'
     → AnswersProgram (module_map told.files) opts answer input input' taken taken'
 over_program one opts full (Ok outcome) e answer told new input input' taken taken' keeps bytes was h b over a puts left =
-    of_image one (module_map told.files) opts outcome.image over.0 answer input input' taken taken' (full told (Ok outcome) keeps b).0.1 over.1 bytes was
+    of_image one (module_map told.files) opts outcome.image over.0 answer input input' taken taken' (full told (Ok outcome) keeps b).0.0 (full told (Ok outcome) keeps b).0.1 over.1 bytes was
     (subst (λ (x : Effect). Answers x.answer answer) over.2 a) (subst (λ (x : Effect). PutsOut x.output answer taken taken') over.2 puts) (subst (λ (x : Effect). LeavesInput x.rest input answer input') over.2 left)
 over_program one opts full (Err fault) e answer told new input input' taken taken' keeps bytes was h b over a puts left = absurd (no_refusal fault answer was (h.answers (Err fault) b))
 
@@ -181,7 +185,7 @@ ran_program fronts one opts answer told new input input' taken taken' h built by
     let means : Means (module_map told.files) opts.build outcome.image = (built.law told (Ok outcome) built.keeps b).0.1 in
     let is : run_effect h.left.files opts.budget input ≡ ran (run_from opts.budget input means.contents) = run_stands fronts h.left.files outcome.image means.contents opts.budget input h.short (stands opts.build told h.left built outcome b) means.file in
     let run = run_effect h.left.files opts.budget input in
-    of_image one (module_map told.files) opts outcome.image means.contents answer input input' taken taken' means means.file bytes was
+    of_image one (module_map told.files) opts outcome.image means.contents answer input input' taken taken' (built.law told (Ok outcome) built.keeps b).0.0 means means.file bytes was
     (subst (λ (x : Effect). Answers x.answer answer) is (h.ran.answers run refl)) (subst (λ (x : Effect). PutsOut x.output answer taken taken') is (h.ran.output run refl)) (subst (λ (x : Effect). LeavesInput x.rest input answer input') is (h.ran.rest run refl))
 
 pub behind_program : BuildsAreFull → Fronts → OneImage → (opts : RunOpts) (answer : Answer) (told : Told) (new : Option Told) (input : List ℕ) (input' taken taken' : Option (List ℕ)) → RunsBehindBuild opts answer told new input input' taken taken' → AreBytes input → WasRun answer

@@ -1,13 +1,15 @@
 -- What a call that ran a program answered, put out and read, as what the program does in C.
-use Rattle.std.specs.Prelude.{◌≡◌, ℕ, ◌<◌, ◌-◌, List, ◌++◌, length, Option, Some}
+use Rattle.std.specs.Prelude.{◌≡◌, ℕ, ◌<◌, ◌-◌, List, ◌++◌, length, Option, Some, Ok}
 use Rattle.pw_io.specs.Streams.{Appends}
 use Rattle.pw_image.specs.declared.image.Image.{Image}
+use Rattle.pw_image.specs.Image.{Contents, IsImageFile}
 use Rattle.pw_store_modules.specs.Modules.{Texts}
 use Rattle.pw_cmean.specs.Worlds.{Program}
 use Rattle.pw_run_agreement.specs.Agreement.{SourceEnd, SourceRun, Ends, Stack, IsMeaningful}
 use Rattle.pw_top_answer.specs.declared.answer.Answer.{Answer}
 use Rattle.pw_top_answer.specs.declared.answer.Answer.TheVariants.{Ended, StackStop, Spent, Halted, ReadFault, WriteFault}
 use Rattle.pw_build_opts.specs.declared.opts.RunOpts.{RunOpts}
+use Rattle.pw_law_session.specs.FromSession.FromBuildFiles.Full.{BuildsImage}
 use Rattle.pw_law_session.specs.FromMeaning.FromLawWhole.FromLayers.Whole.{FramesFit}
 use Rattle.pw_law_session.specs.FromMeaning.FromLawWhole.Programs.{IsProgramOf}
 use Rattle.pw_law_session.specs.FromMeaning.Meaning.{runs_of}
@@ -47,11 +49,14 @@ AnswersRun run _ input input' taken taken' = PutsFront run taken taken'
 
 -- The texts are a C program, and what was answered, put out and read is what its run on the input does within each bound that is
 -- larger than the budget and within which it meets no undefined operation. A call of a function takes the stack that this has in
--- the image, which is no more than its declarations say.
+-- the image of the full build, which is no more than its declarations say.
 pub record AnswersProgram (texts : Texts) (opts : RunOpts) (answer : Answer) (input : List ℕ) (input' taken taken' : Option (List ℕ)) : Type 0 where
   pub program : Program
   pub of_texts : IsProgramOf texts program
-  pub image : Image
-  pub fit : FramesFit program image
-  pub does : (bound : ℕ) → opts.budget < bound → IsMeaningful (runs_of program image opts.build.stack input bound).end →
-      AnswersRun (runs_of program image opts.build.stack input bound) answer input input' taken taken'
+  pub bytes : List ℕ
+  pub builds : BuildsImage texts opts.build (Ok bytes)
+  pub contents : Contents Image
+  pub file : IsImageFile bytes contents
+  pub fit : FramesFit program contents.value
+  pub does : (bound : ℕ) → opts.budget < bound → IsMeaningful (runs_of program contents.value opts.build.stack input bound).end →
+      AnswersRun (runs_of program contents.value opts.build.stack input bound) answer input input' taken taken'

@@ -1,0 +1,3 @@
+mod Sound
+mod Listing
+mod Alone

@@ -1,0 +1,7 @@
+//! Functions without their dead operations.
+#![tactic(auto)]
+
+mod dead;
+mod marks;
+
+pub use dead::remove_dead;
