@@ -1,2 +1,3 @@
 mod BareLemmas
 mod DeclLemmas
+mod NameLemmas

@@ -38,6 +38,10 @@ bare_others specifiers =
     something_rule specifiers b.first >>
     pure []
 
+-- the name without bytes, which a declarator has that has none
+abbrev pub nobody : Word
+nobody = record { token = 0; text = [] }
+
 -- a declared name with its type, and its initialiser
 unfoldable pub named_rule : Specified → Spot → Word → QType → Option Initializer → Rule (List Initialiser)
 named_rule b spot w q i =

@@ -1,6 +1,6 @@
 //! Declarations (C90 6.5).
 
-ghost use Rattle.std.specs.Prelude.{◌≡◌, ◌++◌, IfOk};
+ghost use Rattle.std.specs.Prelude.{◌≡◌, ◌++◌, is_some, IfOk, Option};
 ghost use Rattle.pw_check_state.specs.Follows.{Follows, Leads};
 ghost use Rattle.pw_check_state.specs.PhraseViews.{view_derivations, view_specified, view_spot};
 ghost use Rattle.pw_check_state.specs.StateViews.{view_state};
@@ -10,6 +10,7 @@ ghost use Rattle.pw_check_decl_names.specs.Views.{view_sort};
 ghost use Rattle.pw_check_rules.specs.Declarations as spec;
 ghost use Rattle.pw_check_rules.specs.Derivations as building;
 ghost use Rattle.pw_tree.specs.Views.{view_decl, view_decls, view_init_declarator, view_init_declarators, view_initializer, view_specifiers, view_word};
+ghost use Rattle.pw_tree.specs.Trees as trees;
 ghost use Rattle.pw_types.specs.Views.{view_qtype};
 
 use crate::bare::{bare_rule, storage_rule};
@@ -18,10 +19,10 @@ use pw_check_limits::{built, spot_of};
 use pw_check_linkage::Asking;
 use pw_check_objects::{global_rule, linked_only, local_rule, static_rule};
 use pw_check_state::{
-    Declared, Derivation, Entity, Phrases, Specified, Spot, State, fault, first_of_list,
+    Declared, Derivation, Entity, Phrases, Specified, Spot, State, first_of_list,
 };
 use pw_check_types::copy_qtype;
-use pw_check_walk::{CheckFault, CheckKind};
+use pw_check_walk::CheckFault;
 use pw_tree::{Decl, InitDeclarator, Initializer, Specifier, Word};
 use pw_typed::Initialiser;
 use pw_types::QType;
@@ -100,6 +101,25 @@ fn named_rule<'a, P: Phrases<'a>>(
     declare_rule(alloc, phrases, state, sort, word, specified, q, initializer)
 }
 
+/// What is told of a declarator without a name. It has the name without bytes, which breaks the limit on names, so that
+/// nothing is declared. The grammar gives each declarator of a declaration a name.
+fn nameless_rule(
+    alloc: Global,
+    state: &State<'_>,
+    specified: &Specified,
+    spot: &Spot,
+    q: &QType,
+    initialised: bool,
+) -> Result<Vec<Initialiser>, CheckFault>
+    ensures { (i : Option trees.Initializer) → is_some i ≡ initialised → Follows view_made (part.named_rule (view_specified specified.now) (view_spot spot.now) part.nobody (view_qtype q.now) i) (view_state state.now) result }
+{
+    let text = Vec::new(alloc);
+    let nobody = Word { token: 0, text };
+    let sort = sort_of(state.is_file_scope(), specified, q);
+    name_rule(alloc, state, sort, spot, &nobody, initialised, specified, q)?;
+    unreachable!()
+}
+
 /// The type that a declarator makes of the type of its specifiers.
 fn type_built<'a>(
     alloc: Global,
@@ -114,8 +134,7 @@ fn type_built<'a>(
     built(alloc, state, spot, derivations, base)
 }
 
-/// A declarator of a declaration, with its initialiser. The grammar gives it a name; without one it answers want of
-/// memory.
+/// A declarator of a declaration, with its initialiser.
 fn init_declarator_rule<'a, P: Phrases<'a>>(
     alloc: Global,
     phrases: &P,
@@ -134,19 +153,22 @@ fn init_declarator_rule<'a, P: Phrases<'a>>(
     } = declared;
     let spot = spot_of(name, specified.first, specified.tag);
     let q = type_built(alloc, state, specified, &spot, derivations)?;
-    let Some(word) = name else {
-        return Err(fault(CheckKind::NoMemory, spot.token));
-    };
-    named_rule(
-        alloc,
-        phrases,
-        state,
-        specified,
-        &spot,
-        word,
-        q,
-        &d.initializer,
-    )
+    match name {
+        Some(word) => named_rule(
+            alloc,
+            phrases,
+            state,
+            specified,
+            &spot,
+            word,
+            q,
+            &d.initializer,
+        ),
+        None => {
+            let initialised = d.initializer.is_some();
+            nameless_rule(alloc, state, specified, &spot, &q, initialised)
+        }
+    }
 }
 
 /// A declarator of a declaration, behind what those before it gave.

@@ -1,17 +1,12 @@
 -- What is found at a point, cause by cause, and where a type is to be complete.
-use Rattle.std.proofs.Common.{◌≡◌, ◌≢◌, ℕ, ◌-◌, ◌^◌, Bool, true, false, if◌then◌else◌, arith, Option, None, Some, is_some, unwrap_or, [], ◌∷◌, List, refl, ap}
+use Rattle.std.proofs.Common.{◌≡◌, ℕ, Bool, true, false, if◌then◌else◌, Option, None, Some, is_some, unwrap_or, [], ◌∷◌, List, refl, ap}
 use Rattle.std.proofs.lemmas.Option.{same_Some}
 use Rattle.pw_check_walk.specs.Causes.{Cause, Constraint, Point, needs, DeclaredTag}
-use Rattle.pw_value.specs.Caps.{capped}
 use Rattle.pw_types.specs.TypeTrees.{CType, RecordValue}
 use Rattle.pw_check_walk.specs.Found.{found, lesser_found}
 use Rattle.pw_check_walk.proofs.FindingLaws.{found_append}
 use Rattle.pw_check_rules.specs.Kinds.{is_complete}
 use Rattle.pw_check_rules.specs.Limits.{Spot, completed, lacks_content}
-
--- a number that the greatest of 64 bits does not stand for is the number itself
-pub uncapped : (d n : ℕ) → d ≡ capped n → d ≢ 2 ^ 64 - 1 → d ≡ n
-uncapped d n e other = grind (arith)
 
 -- one cause, and another list behind it
 pub found_pair : (c : Cause) (q : Point) → found (c ∷ q) ≡ lesser_found (found (c ∷ [])) (found q)

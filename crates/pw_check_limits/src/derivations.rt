@@ -1,18 +1,19 @@
 //! Declarators: what they make of a type, from the type of the specifiers outward (C90 6.5.4).
 
-ghost use Rattle.std.specs.Prelude.{◌≡◌, count_by, IfOk};
+ghost use Rattle.std.specs.Prelude.{◌≡◌, ◌∷◌, [], count_by, length, IfOk};
 ghost use Rattle.pw_check_state.specs.Follows.{Follows};
 ghost use Rattle.pw_check_state.specs.PhraseViews.{view_declared, view_derivation, view_derivations, view_spot};
 ghost use Rattle.pw_check_state.specs.StateViews.{view_state};
+ghost use Rattle.pw_check_walk.specs.Causes.{keeps};
 ghost use Rattle.pw_check_walk.specs.Found.{found};
-ghost use Rattle.pw_check_limits.specs.Steps.{derivation_limit};
+ghost use Rattle.pw_check_walk.specs.declared.constraints.Which.TheVariants.{TypeDepth};
 ghost use Rattle.pw_check_rules.specs.Derivations as spec;
 ghost use Rattle.pw_types.specs.Views.{view_qtype};
 
 use crate::completeness::completed;
 use pw_check_state::{Declared, Derivation, Specified, Spot, State};
 use pw_check_types::{copy_qtype, is_array, is_function, is_record, plain};
-use pw_check_walk::{CheckFault, CheckKind, Finding, fault};
+use pw_check_walk::{CheckFault, CheckKind, Finding, Which};
 use pw_token::Feature;
 use pw_tree::Qualifier;
 use pw_types::{CType, QType, Signature, Types};
@@ -20,11 +21,11 @@ use std::alloc::{AllocError, Global};
 
 /// The most steps of one declarator that a type is built of: what goes down a deeper type would take too much of the
 /// stack. The depth that a type may have is far below.
-pub const DERIVATION_LIMIT: usize = 4096;
+pub const DERIVATION_LIMIT: u64 = 4096;
 
 /// The limit of a declarator is the one that its definition speaks of.
 pub fn limit_of_a_declarator()
-    ensures { DERIVATION_LIMIT ≡ derivation_limit }
+    ensures { DERIVATION_LIMIT ≡ spec.derivation_limit }
 {}
 
 /// How often `const` stands among qualifiers.
@@ -94,7 +95,37 @@ pub fn step_type(alloc: Global, step: Derivation, q: QType) -> Result<QType, All
     }
 }
 
-/// The type that a declarator makes of that of its specifiers. More steps than the stack can go down are want of memory.
+/// What is found of the count of a declarator's steps.
+fn steps_within(token: usize, steps: &[Derivation]) -> Finding
+    ensures { result.least ≡ found (keeps TypeDepth spec.derivation_limit token (length (view_derivations steps.now)) ∷ []) }
+{
+    Finding::none().keeps(
+        Which::TypeDepth,
+        DERIVATION_LIMIT,
+        token,
+        steps.len() as u64,
+    )
+}
+
+/// The type that the steps of a declarator make of that of its specifiers.
+fn stepped<'a>(
+    alloc: Global,
+    state: &State<'a>,
+    spot: &Spot,
+    derivations: Vec<Derivation<'a>>,
+    base: QType,
+) -> Result<QType, CheckFault>
+    ensures { Follows view_qtype (spec.stepped (view_spot spot.now) (view_derivations derivations.entry.items) (view_qtype base)) (view_state state.now) result }
+{
+    let mut q = base;
+    for step in derivations {
+        step_point(state.records(), spot, &step, &q).end()?;
+        q = step_type(alloc, step, q)?;
+    }
+    Ok(q)
+}
+
+/// The type that a declarator makes of that of its specifiers. The count of its steps is looked at before a type is made.
 pub fn built<'a>(
     alloc: Global,
     state: &State<'a>,
@@ -104,15 +135,8 @@ pub fn built<'a>(
 ) -> Result<QType, CheckFault>
     ensures { Follows view_qtype (spec.built (view_spot spot.now) (view_derivations derivations.entry.items) (view_qtype base)) (view_state state.now) result }
 {
-    if derivations.len() > DERIVATION_LIMIT {
-        return Err(fault(CheckKind::NoMemory, spot.token));
-    }
-    let mut q = base;
-    for step in derivations {
-        step_point(state.records(), spot, &step, &q).end()?;
-        q = step_type(alloc, step, q)?;
-    }
-    Ok(q)
+    steps_within(spot.token, &derivations).end()?;
+    stepped(alloc, state, spot, derivations, base)
 }
 
 /// The type that a declarator makes of that of its specifiers, of which it takes a copy.

@@ -1,12 +1,14 @@
 //! The limits on types and names that are declared (C90 5.2.4.1).
 
-ghost use Rattle.std.specs.Prelude.{◌≡◌, ◌-◌, ◌≤◌, ◌^◌, [], ◌∷◌, length, IfOk, OnErr};
+ghost use Rattle.std.specs.Prelude.{◌≡◌, [], ◌∷◌, length, IfOk};
+ghost use Rattle.pw_check_walk.specs.Causes.{keeps};
 ghost use Rattle.pw_check_walk.specs.Found.{found, found_behind};
+ghost use Rattle.pw_check_walk.specs.declared.constraints.Which.TheVariants.{TypeDepth};
 ghost use Rattle.pw_check_rules.specs.Limits as spec;
 ghost use Rattle.pw_types.specs.Records.{depth_of};
 ghost use Rattle.pw_types.specs.Shapes.{shape_of};
 ghost use Rattle.pw_types.specs.Views.{view_type, view_qtype};
-ghost use Rattle.pw_value.specs.Limits.{shape_limit};
+ghost use Rattle.pw_value.specs.Limits.{depth_limit, shape_limit};
 
 use pw_check_types::count_of_types;
 use pw_check_walk::{CheckKind, Finding, Which};
@@ -94,19 +96,14 @@ pub fn name_within(so_far: Finding, token: usize, name: &[u8]) -> Finding
     )
 }
 
-/// The depth of a type. One of 2^64 - 1 or more is want of memory.
-fn told_depth(types: &Types, ty: &CType) -> Result<u64, AllocError>
-    ensures told { IfOk result (λ n. n ≡ depth_of types.now (view_type ty.now)) }
-    ensures wants { OnErr result (2 ^ 64 - 1 ≤ depth_of types.now (view_type ty.now)) }
+/// One constraint more: the depth of a type keeps its limit.
+fn depth_within(so_far: Finding, types: &Types, token: usize, ty: &CType) -> Finding
+    ensures { result.least ≡ found_behind so_far.least (keeps TypeDepth depth_limit token (depth_of types.now (view_type ty.now)) ∷ []) }
 {
-    let depth = depth(types, ty);
-    if depth == u64::MAX {
-        return Err(AllocError);
-    }
-    Ok(depth)
+    so_far.keeps(Which::TypeDepth, DEPTH_LIMIT, token, depth(types, ty))
 }
 
-/// What is found of the limits on a type that a declarator builds. A depth of 2^64 - 1 or more is want of memory.
+/// What is found of the limits on a type that a declarator builds.
 pub fn type_within(
     alloc: Global,
     types: &Types,
@@ -115,7 +112,6 @@ pub fn type_within(
 ) -> Result<Finding, AllocError>
     ensures { IfOk result (λ finding. finding.least ≡ found (spec.type_within types.now token (view_qtype q.now))) }
 {
-    let depth = told_depth(types, &q.ty)?;
     let large = passes(
         Finding::none(),
         Which::ObjectSize,
@@ -128,6 +124,6 @@ pub fn type_within(
         token,
         long_shape_of(alloc, types, q)?,
     );
-    let deep = long.keeps(Which::TypeDepth, DEPTH_LIMIT, token, depth);
+    let deep = depth_within(long, types, token, &q.ty);
     Ok(passes(deep, Which::Parameters, token, many_parameters(&q.ty)))
 }

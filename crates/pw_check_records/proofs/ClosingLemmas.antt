@@ -1,5 +1,5 @@
 -- What a definition of a structure or union comes to, and the limit that it passes.
-use Rattle.std.proofs.Common.{◌≡◌, ◌⊎◌, ℕ, ◌-◌, ◌^◌, ◌==◌, ◌≤◌, ◌<◌, nat_lt, Bool, true, false, if◌then◌else◌, Option, None, Some, List, length, refl, ap, sym, subst, ◌∙◌, arith}
+use Rattle.std.proofs.Common.{◌≡◌, ◌⊎◌, ℕ, ◌≤◌, ◌<◌, nat_lt, Bool, true, false, Option, None, Some, List, length, refl, ap, sym, subst, ◌∙◌, arith}
 use mathlib.Core.Logic.{inl, inr}
 use Rattle.pw_value.specs.Limits.{depth_limit, shape_limit, size_limit}
 use Rattle.pw_value.specs.Caps.{capped}
@@ -44,25 +44,19 @@ within most n less = grind arith
 past : (most n : ℕ) → most < n → nat_lt most n ≡ true
 past most n more = grind arith
 
--- a count that passes a limit is told, where 64 bits can tell it
-told_real : (limit : Which) (n real token : ℕ) (f : Option CheckFault) → n ≡ real → f ≡ Some (record { kind = Limit limit real; token = token })
-    → ((told_limit limit n token).kind ≡ NoMemory) ⊎ (f ≡ Some (told_limit limit n token))
-told_real limit n real token f e is = by_greatest (n == 2 ^ 64 - 1) refl
-  where
-    by_greatest : (x : Bool) → (n == 2 ^ 64 - 1) ≡ x → ((told_limit limit n token).kind ≡ NoMemory) ⊎ (f ≡ Some (told_limit limit n token))
-    by_greatest true h = inl (ap (λ b. if b then NoMemory else Limit limit n) h)
-    by_greatest false h =
-        inr (is ∙ ap (λ k. Some (record { kind = Limit limit k; token = token })) (sym e)
-        ∙ ap (λ b. Some (record { kind = if b then NoMemory else Limit limit n; token = token })) (sym h))
+told_twice : (n : ℕ) → capped (capped n) ≡ capped n
+told_twice n = grind arith
 
--- the same where the count is told as far as 64 bits can
-told_by : (limit : Which) (n real token : ℕ) (f : Option CheckFault) → n ≡ capped real → f ≡ Some (record { kind = Limit limit real; token = token })
-    → ((told_limit limit n token).kind ≡ NoMemory) ⊎ (f ≡ Some (told_limit limit n token))
-told_by limit n real token f e is = by_greatest (n == 2 ^ 64 - 1) refl
-  where
-    by_greatest : (x : Bool) → (n == 2 ^ 64 - 1) ≡ x → ((told_limit limit n token).kind ≡ NoMemory) ⊎ (f ≡ Some (told_limit limit n token))
-    by_greatest true h = inl (ap (λ b. if b then NoMemory else Limit limit n) h)
-    by_greatest false h = let same : n ≡ real = grind arith in told_real limit n real token f same is
+-- a count that passes a limit is told as far as 64 bits can tell it
+told_real : (limit : Which) (n real token : ℕ) (f : Option CheckFault) → n ≡ real → f ≡ Some (record { kind = Limit limit (capped real); token = token })
+    → f ≡ Some (told_limit limit n token)
+told_real limit n real token f e is = is ∙ ap (λ k. Some (told_limit limit k token)) (sym e)
+
+-- the same where the count that is told is no greater already
+told_by : (limit : Which) (n real token : ℕ) (f : Option CheckFault) → n ≡ capped real → f ≡ Some (record { kind = Limit limit (capped real); token = token })
+    → f ≡ Some (told_limit limit n token)
+told_by limit n real token f e is =
+    is ∙ ap (λ k. Some (record { kind = Limit limit k; token = token })) (sym (told_twice real) ∙ ap capped (sym e))
 
 -- what is said of records and members, of the same ones
 pub of_members : (P : List RecordValue → List MemberValue → Type 0) (rs qs : List RecordValue) (ms ns : List MemberValue) → rs ≡ qs → ms ≡ ns → P rs ms → P qs ns
@@ -104,14 +98,14 @@ module _ (records : List RecordValue) (kind : RecordKind) (members : List Member
   pub content_told : (r : RecordFault) → Refuses records kind members r
       → ((fault_of_record r token).kind ≡ NoMemory) ⊎ (found (content_point token (content_by records kind members)) ≡ Some (fault_of_record r token))
   content_told (TooLarge n) h =
-      told_by ObjectSize n (layout_by_members records kind members).size token _ h.1
+      inr (told_by ObjectSize n (layout_by_members records kind members).size token _ h.1
       (rw (past size_limit (layout_by_members records kind members).size h.0)
-      (of_size token (layout_by_members records kind members).size (length (shape_by_members records kind members)) (depth_by_members records members) _ _))
+      (of_size token (capped (layout_by_members records kind members).size) (capped (length (shape_by_members records kind members))) (capped (depth_by_members records members)) _ _)))
   content_told (ShapeTooLong n) h =
-      told_real ShapeLength n (length (shape_by_members records kind members)) token _ h.2
+      inr (told_real ShapeLength n (length (shape_by_members records kind members)) token _ h.2
       (rw (within size_limit (layout_by_members records kind members).size h.0, past shape_limit (length (shape_by_members records kind members)) h.1)
-      (of_shape token (layout_by_members records kind members).size (length (shape_by_members records kind members)) (depth_by_members records members) _))
+      (of_shape token (capped (layout_by_members records kind members).size) (capped (length (shape_by_members records kind members))) (capped (depth_by_members records members)) _)))
   content_told (TooDeep n) h =
-      told_by TypeDepth n (depth_by_members records members) token _ h.3
-      (rw (within size_limit (layout_by_members records kind members).size h.0, within shape_limit (length (shape_by_members records kind members)) h.1, past depth_limit (depth_by_members records members) h.2) refl)
+      inr (told_by TypeDepth n (depth_by_members records members) token _ h.3
+      (rw (within size_limit (layout_by_members records kind members).size h.0, within shape_limit (length (shape_by_members records kind members)) h.1, past depth_limit (depth_by_members records members) h.2) refl))
   content_told WithoutMemory h = inl refl

@@ -1,5 +1,6 @@
 -- Parts of the rules of members, which are functions of their own in the code.
-use Rattle.std.specs.Prelude.{ℕ, ◌-◌, ◌^◌, ◌==◌, not, if◌then◌else◌, List, [], ◌∷◌, ◌++◌, map}
+use Rattle.std.specs.Prelude.{ℕ, not, List, [], ◌∷◌, ◌++◌, map}
+use Rattle.pw_value.specs.Caps.{capped}
 use Rattle.pw_types.specs.TypeTrees.{QType, type_of, MemberValue, RecordValue}
 use Rattle.pw_types.specs.declared.record.Member.{Member}
 use Rattle.pw_types.specs.declared.contents.RecordFault.{RecordFault}
@@ -34,9 +35,9 @@ member_behind spot name q members =
     meets (member_point records spot name q members) >>
     pure (members ++ record { name = name; ty = q } ∷ [])
 
--- a count that passes a limit; the greatest that 64 bits can tell may stand for a greater one, which is not told
+-- a count that passes a limit, as far as 64 bits can tell it
 abbrev pub told_limit : Which → ℕ → ℕ → CheckFault
-told_limit limit count token = record { kind = if count == 2 ^ 64 - 1 then NoMemory else Limit limit count; token = token }
+told_limit limit count token = record { kind = Limit limit (capped count); token = token }
 
 -- the limit that a structure or union passes
 abbrev pub fault_of_record : RecordFault → ℕ → CheckFault

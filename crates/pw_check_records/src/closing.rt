@@ -15,7 +15,7 @@ use pw_check_walk::{CheckFault, CheckKind, Which};
 use pw_types::{CType, QType, RecordFault, RecordKind, are_object_types, record_content};
 use std::alloc::Global;
 
-// A limit that a structure or union passes, at a token. A number of 2^64 - 1 or more is want of memory.
+// A limit that a structure or union passes, at a token.
 fn record_fault(refused: RecordFault, token: usize) -> CheckFault
     ensures { result ≡ fault_of_record refused token }
 {
@@ -31,11 +31,7 @@ fn record_fault(refused: RecordFault, token: usize) -> CheckFault
 fn limit_fault(limit: Which, count: u64, token: usize) -> CheckFault
     ensures { result ≡ told_limit limit count token }
 {
-    if count == u64::MAX {
-        fault(CheckKind::NoMemory, token)
-    } else {
-        fault(CheckKind::Limit(limit, count), token)
-    }
+    fault(CheckKind::Limit(limit, count), token)
 }
 
 /// The definition of a structure or union by its members; its own limits stand at the token. Members without a size no

@@ -1,6 +1,6 @@
 //! Members of structures and unions: what their declarations say (C90 6.5.2.1).
 
-ghost use Rattle.std.specs.Prelude.{◌≡◌, IfOk};
+ghost use Rattle.std.specs.Prelude.{◌≡◌, length, IfOk, OnOk};
 ghost use Rattle.pw_check_state.specs.Follows.{Follows};
 ghost use Rattle.pw_check_state.specs.PhraseViews.{view_declared, view_name, view_specified, view_spot};
 ghost use Rattle.pw_check_state.specs.StateViews.{view_state};
@@ -9,6 +9,7 @@ ghost use Rattle.pw_check_records.specs.Parts.{member_asks, member_behind, membe
 ghost use Rattle.pw_check_records.specs.Views.{view_member_list};
 ghost use Rattle.pw_check_rules.specs.Leaves as spec;
 ghost use Rattle.pw_types.specs.Views.{view_qtype};
+ghost use Rattle.pw_value.specs.Names.{IsNameLength};
 
 use crate::members::MemberList;
 use pw_check_limits::{completed, name_within, spot_of, type_declared, type_within};
@@ -57,7 +58,8 @@ fn member_met(
     ty: &QType,
     members: &MemberList,
 ) -> Result<(), CheckFault>
-    ensures { Follows (λ u. u) (member_asks (view_spot spot.now) name.now (view_qtype ty.now) (view_member_list members.now)) (view_state state.now) result }
+    ensures follows { Follows (λ u. u) (member_asks (view_spot spot.now) name.now (view_qtype ty.now) (view_member_list members.now)) (view_state state.now) result }
+    ensures named { OnOk result (IsNameLength (length name.now)) }
 {
     member_found(alloc, state.records(), spot, name, ty, members)?.end()
 }

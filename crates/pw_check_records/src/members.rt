@@ -1,10 +1,11 @@
 //! The members of a structure or union while they are gathered (C90 6.5.2.1).
 
-ghost use Rattle.std.specs.Prelude.{◌≡◌, [], ◌∷◌, ◌++◌, OnOk};
+ghost use Rattle.std.specs.Prelude.{◌≡◌, [], ◌∷◌, ◌++◌, length, OnOk};
 ghost use Rattle.std.specs.List.{list_any};
 ghost use Rattle.std.specs.Str.{bytes_eq};
 ghost use Rattle.pw_check_records.specs.Parts.{names_of_members};
 ghost use Rattle.pw_types.specs.Views.{view_qtype};
+ghost use Rattle.pw_value.specs.Names.{IsNameLength};
 
 use pw_check_state::NameList;
 use pw_types::{Member, QType};
@@ -40,11 +41,12 @@ impl<'a> MemberList<'a> {
         self.names.contains(name)
     }
 
-    /// A member more. One whose name no member may have, no rule lets come: it answers want of memory.
+    /// A member more, whose name is as long as a name may be.
     pub fn push(&mut self, alloc: Global, name: &'a [u8], ty: QType) -> Result<(), AllocError>
+        requires { IsNameLength (length name.now) }
         ensures { OnOk result (view_member_list self.new ≡ view_member_list self.old ++ record { name = name.now; ty = view_qtype ty } ∷ []) }
     {
-        let own_name = Name::lawful(alloc, name)?;
+        let own_name = Name::within(alloc, name)?;
         self.items.reserve(1)?;
         self.names.push(name)?;
         self.items.push(Member { name: own_name, ty })?;

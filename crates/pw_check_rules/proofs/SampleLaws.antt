@@ -4,7 +4,7 @@ use Rattle.pw_check_walk.specs.declared.constraints.CheckKind.TheVariants.{Unkno
 use Rattle.pw_check_walk.specs.Walks.{bind, outcome}
 use Rattle.pw_check_rules.specs.Checks.{checked, checking}
 use Rattle.pw_check_rules.specs.Declarations.{decls_rule, specified_rule}
-use Rattle.pw_check_rules.specs.Derivations.{built}
+use Rattle.pw_check_rules.specs.Derivations.{built, stepped}
 use Rattle.pw_check_rules.specs.Functions.{function_rule, body_rule, measured_rule, ends_in_function}
 use Rattle.pw_check_rules.specs.Kinds.{same_type, qualify, is_const_object, is_volatile_object, innermost}
 use Rattle.pw_check_rules.specs.Leaves.{number_rule, identifier_rule, parameter_rule, parameter_storage, bindings_rule}
@@ -20,7 +20,7 @@ use Rattle.pw_check_rules.specs.Statements.{stmt_rule, stmts_rule, block_rule, r
 
 -- all that the rules of these modules compute with
 rules_of_samples : checked (main_returning seven) ≡ checked (main_returning seven)
-unfolding same_type checked checking bind outcome built value_rule number_rule identifier_rule parameter_rule parameter_storage bindings_rule declare_linked many_parameters long_shape_of qualify is_const_object is_volatile_object innermost module_rule externals_rule external_rule end_rule function_rule body_rule measured_rule ends_in_function expr_rule specifiers_rule declarator_rule core_rule suffixes_rule parameters_rule specified scoped stmt_rule stmts_rule block_rule return_rule whole_rule labels_in_block labels_in_list labels_in decls_rule specified_rule
+unfolding same_type checked checking bind outcome built stepped value_rule number_rule identifier_rule parameter_rule parameter_storage bindings_rule declare_linked many_parameters long_shape_of qualify is_const_object is_volatile_object innermost module_rule externals_rule external_rule end_rule function_rule body_rule measured_rule ends_in_function expr_rule specifiers_rule declarator_rule core_rule suffixes_rule parameters_rule specified scoped stmt_rule stmts_rule block_rule return_rule whole_rule labels_in_block labels_in_list labels_in decls_rule specified_rule
 rules_of_samples = refl
 
 pub seven_is_typed : checked (main_returning seven) ≡ Ok main_of_seven

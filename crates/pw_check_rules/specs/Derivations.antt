@@ -1,11 +1,12 @@
 -- Declarators (ISO C90 6.5.4): what they make of a type, from the type of the specifiers outward.
-use Rattle.std.specs.Prelude.{ℕ, Bool, true, false, not, ◌&&◌, ◌||◌, nat_le, Option, None, Some, List, [], ◌∷◌, count_by}
+use Rattle.std.specs.Prelude.{ℕ, Bool, true, false, not, ◌&&◌, ◌||◌, nat_le, Option, None, Some, List, [], ◌∷◌, count_by, length}
 use Rattle.pw_tree.specs.declared.expr.Qualifier.{Qualifier}
 use Rattle.pw_tree.specs.declared.expr.Qualifier.TheVariants as Q
 use Rattle.pw_tree.specs.Trees.{Word}
 use Rattle.pw_tree.specs.Trees as S
 use Rattle.pw_types.specs.TypeTrees.{Pointer, Array, Function, QType, Qualified, QTypes, type_of, RecordValue}
-use Rattle.pw_check_walk.specs.Causes.{Point, needs, OnePointerQualifier, ElementType, ResultType, NoRecordByValue}
+use Rattle.pw_check_walk.specs.Causes.{Point, keeps, needs, OnePointerQualifier, ElementType, ResultType, NoRecordByValue}
+use Rattle.pw_check_walk.specs.declared.constraints.Which.TheVariants.{TypeDepth}
 use Rattle.pw_check_walk.specs.Walks.{meets, pure, asks, ◌>>=◌, ◌>>◌}
 use Rattle.pw_check_rules.specs.Kinds.{plain, is_array, is_function, is_record}
 use Rattle.pw_check_rules.specs.Limits.{Spot, completed}
@@ -77,13 +78,24 @@ step_point records spot (ToFunction parameters) q =
     ∷ needs NoRecordByValue spot.specifier (not (is_record (type_of q)))
     ∷ []
 
--- the type that a declarator makes
-unfoldable pub built : Spot → List Derivation → QType → Rule QType
-built spot [] q = pure q
-built spot (step ∷ rest) q =
+-- the type that steps make
+unfoldable pub stepped : Spot → List Derivation → QType → Rule QType
+stepped spot [] q = pure q
+stepped spot (step ∷ rest) q =
     asks records_in >>= λ records.
     meets (step_point records spot step q) >>
-    built spot rest (step_type step q)
+    stepped spot rest (step_type step q)
+
+-- the most steps of one declarator (5.2.4.1)
+abbrev pub derivation_limit : ℕ
+derivation_limit = 4096
+
+-- The type that a declarator makes. Each step makes a type deeper by one: where they alone are far too many, no type is
+-- built of them.
+unfoldable pub built : Spot → List Derivation → QType → Rule QType
+built spot steps q =
+    meets (keeps TypeDepth derivation_limit spot.token (length steps) ∷ []) >>
+    stepped spot steps q
 
 -- where its faults stand
 abbrev pub spot_of : Option Word → ℕ → Option ℕ → Spot

@@ -1,6 +1,6 @@
 -- What is found at a point is the fault that the point tells.
 use Rattle.std.specs.Prelude.{◌≢◌, IfErr}
-use Rattle.std.proofs.Common.{◌≡◌, ◌<◌, ◌≤◌, Bool, true, false, cond, nat_lt, Option, None, Some, Result, Ok, Err, [], ◌∷◌, ◌++◌, option_map, refl, ap, sym, ◌∙◌, arith, subst}
+use Rattle.std.proofs.Common.{◌≡◌, ◌<◌, ◌≤◌, Bool, true, false, cond, if◌then◌else◌, nat_lt, Option, None, Some, Result, Ok, Err, [], ◌∷◌, ◌++◌, option_map, refl, ap, sym, ◌∙◌, arith, subst}
 use Rattle.std.proofs.lemmas.Bool.{ltb-true, ltb-false}
 use mathlib.Core.Logic.{inr}
 use Rattle.pw_check_walk.specs.declared.constraints.CheckFault.{CheckFault}
@@ -95,6 +95,48 @@ found_after best (c ∷ rest) =
 pub found_append : (best : Option CheckFault) (p q : Point) → found_behind best (p ++ q) ≡ lesser_found (found_behind best p) (found q)
 found_append best [] q = found_after best q
 found_append best (c ∷ rest) q = found_append (with_cause best c.broken (fault_of c)) rest q
+
+-- ---- where nothing is found
+
+no_some : (f : CheckFault) → Some f ≡ None → ⊥
+no_some f e = absurd (cc)
+
+one_of_two : (x : Bool) (f g : CheckFault) → (h : CheckFault) × ((if x then Some g else Some f) ≡ Some h)
+one_of_two true f g = (g, refl)
+one_of_two false f g = (f, refl)
+
+still_some : (f g : CheckFault) (b : Bool) → (h : CheckFault) × (with_cause (Some f) b g ≡ Some h)
+still_some f g false = (f, refl)
+still_some f g true = one_of_two (nat_lt (rank_of_kind g.kind) (rank_of_kind f.kind)) f g
+
+-- what is found stays found
+found_stays : (f : CheckFault) (p : Point) → found_behind (Some f) p ≡ None → ⊥
+found_stays f [] e = no_some f e
+found_stays f (c ∷ rest) e =
+    let k = still_some f (fault_of c) c.broken in
+    found_stays k.0 rest (ap (λ o. found_behind o rest) (sym k.1) ∙ e)
+
+found_more : (o : Option CheckFault) (f : CheckFault) → lesser_found o (Some f) ≡ None → ⊥
+found_more None f e = no_some f e
+found_more (Some g) f e =
+    let k = one_of_two (nat_lt (rank_of_kind f.kind) (rank_of_kind g.kind)) g f in
+    no_some k.0 (sym k.1 ∙ e)
+
+-- a broken constraint among others is found
+pub found_among : (p q : Point) (c : Cause) → c.broken ≡ true → found (p ++ c ∷ q) ≡ None → ⊥
+found_among p q c broken e = by (found (c ∷ q)) refl
+  where
+    by : (o : Option CheckFault) → found (c ∷ q) ≡ o → ⊥
+    by None h = found_stays (fault_of c) q (ap (λ b. found_behind (with_cause None b (fault_of c)) q) (sym broken) ∙ h)
+    by (Some f) h = found_more (found p) f (ap (lesser_found (found p)) (sym h) ∙ sym (found_append None p (c ∷ q)) ∙ e)
+
+-- where nothing is found each constraint is met
+pub unbroken : (p q : Point) (c : Cause) → found (p ++ c ∷ q) ≡ None → c.broken ≡ false
+unbroken p q c none = by c.broken refl
+  where
+    by : (b : Bool) → c.broken ≡ b → c.broken ≡ false
+    by false e = e
+    by true e = absurd (found_among p q c e none)
 
 -- ---- code that tests a point
 

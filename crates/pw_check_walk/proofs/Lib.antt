@@ -4,4 +4,5 @@ pub mod KindLaws
 pub mod BindLaws
 pub mod CallLaws
 pub mod FindingLaws
+mod KeepLemmas
 pub mod Turns

@@ -2,6 +2,7 @@
 -- that a broken one is.
 use Rattle.std.specs.Prelude.{ℕ, ◌+◌, Bool, not, nat_lt, List}
 use Rattle.pw_token.specs.declared.token.Feature.TheVariants as F
+use Rattle.pw_value.specs.Caps.{capped}
 use Rattle.pw_check_walk.specs.declared.constraints.CheckFault.{CheckFault}
 use Rattle.pw_check_walk.specs.declared.constraints.CheckKind.{CheckKind}
 use Rattle.pw_check_walk.specs.declared.constraints.CheckKind.TheVariants.{UnknownName, Redeclared, Typing, Constant, Unsupported, Limit, NoMemory}
@@ -158,10 +159,10 @@ pub record Cause : Type 0 where
 abbrev pub needs : Constraint → ℕ → Bool → Cause
 needs constraint token holds = record { constraint = constraint; token = token; broken = not holds }
 
--- a count that is to keep its limit
+-- a count that is to keep its limit; it is told as far as 64 bits can tell it
 abbrev pub keeps : Which → ℕ → ℕ → ℕ → Cause
 keeps limit most token count =
-    record { constraint = Within limit count; token = token; broken = nat_lt most count }
+    record { constraint = Within limit (capped count); token = token; broken = nat_lt most count }
 
 -- the order of a cause among those of its point
 abbrev pub rank : Cause → ℕ

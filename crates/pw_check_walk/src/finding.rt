@@ -1,9 +1,11 @@
 //! The least broken constraint of a point.
 
-ghost use Rattle.std.specs.Prelude.{◌≡◌, not, nat_lt, None, Ok};
-ghost use Rattle.pw_check_walk.specs.declared.constraints.CheckKind.TheVariants.{Limit, Typing};
+ghost use Rattle.std.specs.Prelude.{◌≡◌, ◌<◌, ◌-◌, ◌^◌, ◌∷◌, [], ℕ, not, None, Ok};
+ghost use Rattle.pw_value.specs.Caps.{capped};
+ghost use Rattle.pw_check_walk.specs.declared.constraints.CheckKind.TheVariants.{Typing};
+ghost use Rattle.pw_check_walk.specs.Causes as spec;
 ghost use Rattle.pw_check_walk.specs.Causes.{rank_of_kind};
-ghost use Rattle.pw_check_walk.specs.Found.{lesser_fault, lesser_found, told, with_cause};
+ghost use Rattle.pw_check_walk.specs.Found.{found_behind, lesser_fault, lesser_found, told, with_cause};
 
 use crate::constraints::{CheckFault, CheckKind, Which};
 
@@ -78,9 +80,11 @@ impl Finding {
         }
     }
 
-    /// A count that is to keep its limit.
+    /// One constraint more: a count keeps its limit. The count is told as far as 64 bits can tell it.
+    #[tactic(auto, using(crate::proofs::KeepLemmas::kept))]
     pub fn keeps(self, limit: Which, most: u64, token: usize, count: u64) -> Finding
-        ensures { result.least ≡ with_cause self.least (nat_lt most count) (record { kind = Limit limit count; token = token }) }
+        requires { most < 2 ^ 64 - 1 }
+        ensures { (n : ℕ) → count ≡ capped n → result.least ≡ found_behind self.least (spec.keeps limit most token n ∷ []) }
     {
         self.needs(CheckKind::Limit(limit, count), token, count <= most)
     }

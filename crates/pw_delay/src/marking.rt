@@ -66,12 +66,12 @@ impl Blocks {
     }
 }
 
-/// The block begins at the word, if it did not begin before.
+/// The block begins at the word, if it did not begin before. A block has one mark, which is looked up once.
 fn note(marks: &mut IndexMap<u32, u32>, block: u32, at: u32) -> Result<(), AllocError>
     ensures { OnOk result ((b d : ℕ) → unwrap_or (get nat_eq marks.new b) d ≡ unwrap_or (get nat_eq marks.old b) (if block == b then at else d)) }
 {
-    if !marks.contains_key(&block) {
-        marks.insert(block, at)?;
+    if let Some(before) = marks.insert(block, at)? {
+        marks.insert(block, before)?;
     }
     Ok(())
 }

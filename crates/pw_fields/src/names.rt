@@ -1,7 +1,7 @@
 //! The table of names of a file, and names that stand in a file by their index in it.
 
 ghost use Rattle.std.specs.Prelude.{◌≡◌, ◌≢◌, ◌+◌, ◌++◌, ◌<◌, ◌≤◌, ◌^◌, List, length, [], IfOk, IfErr, OnOk, Contains};
-ghost use Rattle.std.specs.Prelude.{ℕ, map, IfSome, IfNone, slice_index_or};
+ghost use Rattle.std.specs.Prelude.{ℕ, map, IfSome, IfNone, IsTrue, slice_index_or};
 ghost use Rattle.std.specs.List.{flat_map};
 ghost use Rattle.pw_value.specs.Names.{IsNameLength};
 ghost use Rattle.pw_fields.specs.Fields.{items_at, text};
@@ -16,7 +16,8 @@ use std::alloc::{AllocError, Global};
 
 /// Whether a text may follow another in the table: as long as a name may be, and above it in byte order.
 fn may_follow(before: &[u8], name: &[u8]) -> bool
-    ensures { result ≡ is_entry before.now name.now }
+    ensures entry { result ≡ is_entry before.now name.now }
+    ensures named { IsTrue result → IsNameLength (length name.now) }
 {
     name.len() >= 1 && name.len() <= NAME_LIMIT && before.cmp(name).is_lt()
 }
@@ -25,6 +26,7 @@ fn may_follow(before: &[u8], name: &[u8]) -> bool
 #[tactic(auto, unfolding(crate::specs::FieldNames::entry_at))]
 fn read_entry<'a>(before: &[u8], bytes: &'a [u8]) -> Result<(&'a [u8], &'a [u8]), FieldFault>
     ensures read { AnswersField (λ x. (x.0.now, x.1.now)) result (entry_at before.now bytes.now) }
+    ensures named { IfOk result (λ x. IsNameLength (length x.0.now)) }
     ensures no_memory { IfErr result (λ e. e ≢ FieldFault.NoMemory) }
 {
     let (name, rest) = read_text_in_place(bytes)?;
@@ -44,7 +46,7 @@ fn read_entries(alloc: Global, count: u32, bytes: &[u8]) -> Result<(Vec<Name>, &
     let mut before: &[u8] = &[];
     for _ in 0..count {
         let (text, after) = read_entry(before, rest)?;
-        names.push(Name::lawful(alloc, text)?)?;
+        names.push(Name::within(alloc, text)?)?;
         before = text;
         rest = after;
     }

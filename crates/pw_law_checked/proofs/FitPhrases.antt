@@ -22,7 +22,7 @@ use Rattle.pw_types.specs.TypedTrees.{Expression}
 use Rattle.pw_types.specs.WellTyped.{type_in}
 use Rattle.pw_check_walk.specs.Walks.{Walk, bind}
 use Rattle.pw_check_rules.specs.Constants.{constant_value}
-use Rattle.pw_check_rules.specs.Derivations.{Derivation, ToPointer, ToArray, ToFunction, Declared, ParameterValue, pointer_step, spot_of, step_type, built}
+use Rattle.pw_check_rules.specs.Derivations.{Derivation, ToPointer, ToArray, ToFunction, Declared, ParameterValue, pointer_step, spot_of, step_type, built, stepped}
 use Rattle.pw_check_rules.specs.Kinds.{plain, int_type, qualify}
 use Rattle.pw_check_rules.specs.Leaves.{length_rule, is_positive, string_rule, string_point, new_record, new_tag, reference_by, reference_rule, opening_by, opening_rule, open_record, member_rule, content_by, closing_rule, enumeration_rule, enumerating_rule, enumerator_name, enumerator_rule, parameter_rule, enter_parameter, bindings_rule, record_kind, record_spot, parameter_types, is_nil, is_last, first_of_list, first_of_declaration, name_text, texts_of}
 use Rattle.pw_check_rules.specs.Limits.{Spot}
@@ -239,12 +239,16 @@ pointer_steps : (ps : List S.Pointer) → StepsFit (map pointer_step ps)
 pointer_steps [] = tt
 pointer_steps (p ∷ ps) = (tt, pointer_steps ps)
 
+stepped_fit : (spot : Spot) (steps : List Derivation) (q : QType) (s : State) → StepsFit steps → IsFit (type_of q) → Post (stepped spot steps q s) (λ r. IsFit (type_of r.0))
+unfolding stepped bind
+stepped_fit spot [] q s h k = k
+stepped_fit spot (ToPointer t qs ∷ rest) q s h k = λ met. stepped_fit spot rest (step_type (ToPointer t qs) q) s h.1 tt
+stepped_fit spot (ToArray n ∷ rest) q s h k = λ met. stepped_fit spot rest (step_type (ToArray n) q) s h.1 (fit_array q n k h.0)
+stepped_fit spot (ToFunction ps ∷ rest) q s h k = λ met. stepped_fit spot rest (step_type (ToFunction ps) q) s h.1 tt
+
 pub built_fit : (spot : Spot) (steps : List Derivation) (q : QType) (s : State) → StepsFit steps → IsFit (type_of q) → Post (built spot steps q s) (λ r. IsFit (type_of r.0))
 unfolding built bind
-built_fit spot [] q s h k = k
-built_fit spot (ToPointer t qs ∷ rest) q s h k = λ met. built_fit spot rest (step_type (ToPointer t qs) q) s h.1 tt
-built_fit spot (ToArray n ∷ rest) q s h k = λ met. built_fit spot rest (step_type (ToArray n) q) s h.1 (fit_array q n k h.0)
-built_fit spot (ToFunction ps ∷ rest) q s h k = λ met. built_fit spot rest (step_type (ToFunction ps) q) s h.1 tt
+built_fit spot steps q s h k = λ met. stepped_fit spot steps q s h k
 
 length_positive : (o : Option ℕ) (ty : CType) → option_map_or (is_positive ty) o true ≡ true → 0 < unwrap_or o 1
 length_positive None ty h = omega arith

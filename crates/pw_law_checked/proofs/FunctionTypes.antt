@@ -9,7 +9,7 @@ use Rattle.pw_types.specs.TypeTrees.{Function, QType, QTypes, type_of, RecordVal
 use Rattle.pw_types.specs.TypedTrees.{FunctionValue, ModuleValue}
 use Rattle.pw_types.specs.TypedModules.{AreParameters, IsFunctionTyped}
 use Rattle.pw_check_walk.specs.Walks.{bind}
-use Rattle.pw_check_rules.specs.Derivations.{Derivation, ToPointer, ToArray, ToFunction, ParameterValue, Bindings, Declared, Suffixed, built, step_type, pointer_step}
+use Rattle.pw_check_rules.specs.Derivations.{Derivation, ToPointer, ToArray, ToFunction, ParameterValue, Bindings, Declared, Suffixed, built, stepped, step_type, pointer_step}
 use Rattle.pw_check_rules.specs.Functions.{ends_in_function, parameter_local}
 use Rattle.pw_check_rules.specs.Leaves.{parameter_types}
 use Rattle.pw_check_rules.specs.Limits.{Spot}
@@ -129,13 +129,13 @@ step_built (ToArray n) q = tt
 step_built (ToFunction ps) q = (q, refl)
 
 -- of a step or more the last one has made the type
-pub built_by : (spot : Spot) (steps : List Derivation) (q : QType) (s : State) → IsBuiltBy (last_of steps) q ≡ IsBuiltBy (last_of steps) q → Post (built spot steps q s) (λ r. IsBuiltBy (last_of steps) r.0)
-unfolding built bind
-built_by spot [] q s e = tt
-built_by spot (step ∷ []) q s e = λ met. step_built step q
-built_by spot (step ∷ next ∷ rest) q s e = λ met.
-    Rattle.pw_law_checked.proofs.Walking.post_weaken (built spot (next ∷ rest) (step_type step q) s) (λ r. IsBuiltBy (last_of (next ∷ rest)) r.0) (λ r. IsBuiltBy (option_or (last_of (next ∷ rest)) (Some step)) r.0)
-    (built_by spot (next ∷ rest) (step_type step q) s refl) (λ r h. subst (λ o. IsBuiltBy o r.0) (last_of_two next rest step) h)
+stepped_by : (spot : Spot) (steps : List Derivation) (q : QType) (s : State) → IsBuiltBy (last_of steps) q ≡ IsBuiltBy (last_of steps) q → Post (stepped spot steps q s) (λ r. IsBuiltBy (last_of steps) r.0)
+unfolding stepped bind
+stepped_by spot [] q s e = tt
+stepped_by spot (step ∷ []) q s e = λ met. step_built step q
+stepped_by spot (step ∷ next ∷ rest) q s e = λ met.
+    Rattle.pw_law_checked.proofs.Walking.post_weaken (stepped spot (next ∷ rest) (step_type step q) s) (λ r. IsBuiltBy (last_of (next ∷ rest)) r.0) (λ r. IsBuiltBy (option_or (last_of (next ∷ rest)) (Some step)) r.0)
+    (stepped_by spot (next ∷ rest) (step_type step q) s refl) (λ r h. subst (λ o. IsBuiltBy o r.0) (last_of_two next rest step) h)
   where
     last_of_two : (x : Derivation) (xs : List Derivation) (y : Derivation) → last_of (x ∷ xs) ≡ option_or (last_of (x ∷ xs)) (Some y)
     last_of_two x xs y = by (last_of xs)
@@ -143,6 +143,10 @@ built_by spot (step ∷ next ∷ rest) q s e = λ met.
         by : (o : Option Derivation) → option_or o (Some x) ≡ option_or (option_or o (Some x)) (Some y)
         by None = refl
         by (Some z) = refl
+
+pub built_by : (spot : Spot) (steps : List Derivation) (q : QType) (s : State) → IsBuiltBy (last_of steps) q ≡ IsBuiltBy (last_of steps) q → Post (built spot steps q s) (λ r. IsBuiltBy (last_of steps) r.0)
+unfolding built bind
+built_by spot steps q s e = λ met. stepped_by spot steps q s e
 
 pub ends_so : (steps : List Derivation) → ends_in_function steps ≡ true → (ps : QTypes) × (last_of steps ≡ Some (ToFunction ps))
 unfolding ends_in_function

@@ -30,7 +30,7 @@ use Rattle.pw_check_rules.specs.declared.names.TagEntry.{TagEntry}
 use Rattle.pw_check_rules.specs.Limits.{Spot}
 use Rattle.pw_check_rules.specs.Linkage.{symbol_at}
 use Rattle.pw_check_rules.specs.SpecifierLists.{Gathered, nothing_gathered, gather_storage, gather_qualifier, gather_word, gather_type, Specified, specified, type_listed, type_of_words, table, same_words}
-use Rattle.pw_check_rules.specs.Derivations.{Derivation, ToPointer, ToArray, ToFunction, ParameterValue, Bindings, Declared, built, step_type, spot_of}
+use Rattle.pw_check_rules.specs.Derivations.{Derivation, ToPointer, ToArray, ToFunction, ParameterValue, Bindings, Declared, built, stepped, step_type, spot_of}
 use Rattle.pw_check_rules.specs.Phrases.{typedef_type, typedef_rule}
 use Rattle.pw_check_rules.specs.Leaves.{entity_operand, linked_operand, lvalue_operand, identifier_rule, number_rule, character_rule, string_rule, string_point, note_string, string_type, bytes_at_start, texts_of, length_rule, new_record, new_tag, reference_by, reference_rule, opening_by, opening_rule, open_record, is_opened, same_record_kind, member_rule, content_by, closing_rule, enumeration_by, enumeration_rule, enumerating_rule, enumerator_value, enumerator_name, enumerator_rule, named_type, is_last, is_nil, adjusted, parameter_storage, parameter_rule, enter_parameter, without_void, parameter_types, bindings_rule, says_none, name_text}
 use Rattle.pw_law_checked.specs.Lawful.{IsLawful, IsLawfulType, AreLawfulTypes, IsObjectLike, IsLawfulEntity, IsLawfulTag, Extends, HasLocal, IsNamed}
@@ -455,15 +455,20 @@ result_by (Array q n) e f = no e
 result_by (Function q ps) e f = no e
 result_by (Record n) e f = no f
 
+stepped_runs : (s : State) (spot : Spot) (steps : List Derivation) (q : QType) → IsLawful s → GoodSteps s.types.records steps → IsLawfulType s.types.records (type_of q)
+    → Runs s (stepped spot steps q s) GoodType
+unfolding stepped bind
+stepped_runs s spot [] q l h k = (l, grows_same s, k)
+stepped_runs s spot (ToPointer t qs ∷ rest) q l h k = λ met. stepped_runs s spot rest (step_type (ToPointer t qs) q) l h.1 (lawful_pointer s.types.records q k)
+stepped_runs s spot (ToArray n ∷ rest) (Qualified ty c v) l h k = λ met.
+    stepped_runs s spot rest (step_type (ToArray n) (Qualified ty c v)) l h.1 (k, is_complete_so s.types.records ty (completed_so s.types.records spot ElementType ty met.1.0))
+stepped_runs s spot (ToFunction ps ∷ rest) (Qualified ty c v) l h k = λ met.
+    stepped_runs s spot rest (step_type (ToFunction ps) (Qualified ty c v)) l h.1 (k, result_by ty (truth _ met.0) (truth _ met.1.0), h.0)
+
 pub built_runs : (s : State) (spot : Spot) (steps : List Derivation) (q : QType) → IsLawful s → GoodSteps s.types.records steps → IsLawfulType s.types.records (type_of q)
     → Runs s (built spot steps q s) GoodType
 unfolding built bind
-built_runs s spot [] q l h k = (l, grows_same s, k)
-built_runs s spot (ToPointer t qs ∷ rest) q l h k = λ met. built_runs s spot rest (step_type (ToPointer t qs) q) l h.1 (lawful_pointer s.types.records q k)
-built_runs s spot (ToArray n ∷ rest) (Qualified ty c v) l h k = λ met.
-    built_runs s spot rest (step_type (ToArray n) (Qualified ty c v)) l h.1 (k, is_complete_so s.types.records ty (completed_so s.types.records spot ElementType ty met.1.0))
-built_runs s spot (ToFunction ps ∷ rest) (Qualified ty c v) l h k = λ met.
-    built_runs s spot rest (step_type (ToFunction ps) (Qualified ty c v)) l h.1 (k, result_by ty (truth _ met.0) (truth _ met.1.0), h.0)
+built_runs s spot steps q l h k = λ met. stepped_runs s spot steps q l h k
 
 abbrev pub AreScalars : List RecordValue → List ParameterValue → Type 0
 AreScalars r [] = Unit {0}

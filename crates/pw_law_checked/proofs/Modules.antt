@@ -29,7 +29,7 @@ use Rattle.pw_types.specs.TypedTrees.{FunctionValue, DeclaredValue, ModuleValue,
 use Rattle.pw_types.specs.WellTyped.{IsKnownType, IsScalar}
 use Rattle.pw_check_walk.specs.Walks.{Done, bind, Walk}
 use Rattle.pw_check_rules.specs.Declarations.{name_of}
-use Rattle.pw_check_rules.specs.Derivations.{Bindings, spot_of, Declared, Derivation, ToPointer, ToArray, ToFunction, built, step_type, ParameterValue}
+use Rattle.pw_check_rules.specs.Derivations.{Bindings, spot_of, Declared, Derivation, ToPointer, ToArray, ToFunction, built, stepped, step_type, ParameterValue}
 use Rattle.pw_check_rules.specs.Functions.{function_of, bindings_of, no_bindings, enter_body, definition_asking, measured_rule, body_rule, function_rule, add_function, definition_rules, ends_in_function, parameter_local}
 use Rattle.pw_check_rules.specs.Leaves.{first_of_declaration}
 use Rattle.pw_check_rules.specs.Linkage.{define_function, symbol_of_linked, linked_before, place_for, is_linked}
@@ -346,15 +346,19 @@ not_yet s w b d ds q met =
     met.1.1.1.0)
 
 -- where the step nearest to the name is a function, the type is one
+stepped_kind : (steps : List Derivation) (spot : Spot) (q : QType) (s : State) → Post (stepped spot steps q s) (λ r. ends_in_function steps ≡ true → is_function (type_of r.0) ≡ true)
+unfolding stepped ends_in_function bind
+stepped_kind [] spot q s = λ e. no e
+stepped_kind (ToFunction ps ∷ []) spot q s = λ met e. refl
+stepped_kind (ToPointer t qs ∷ []) spot q s = λ met e. no e
+stepped_kind (ToArray n ∷ []) spot q s = λ met e. no e
+stepped_kind (ToFunction ps ∷ next ∷ rest) spot q s = λ met. stepped_kind (next ∷ rest) spot (step_type (ToFunction ps) q) s
+stepped_kind (ToPointer t qs ∷ next ∷ rest) spot q s = λ met. stepped_kind (next ∷ rest) spot (step_type (ToPointer t qs) q) s
+stepped_kind (ToArray n ∷ next ∷ rest) spot q s = λ met. stepped_kind (next ∷ rest) spot (step_type (ToArray n) q) s
+
 pub built_kind : (steps : List Derivation) (spot : Spot) (q : QType) (s : State) → Post (built spot steps q s) (λ r. ends_in_function steps ≡ true → is_function (type_of r.0) ≡ true)
-unfolding built ends_in_function bind
-built_kind [] spot q s = λ e. no e
-built_kind (ToFunction ps ∷ []) spot q s = λ met e. refl
-built_kind (ToPointer t qs ∷ []) spot q s = λ met e. no e
-built_kind (ToArray n ∷ []) spot q s = λ met e. no e
-built_kind (ToFunction ps ∷ next ∷ rest) spot q s = λ met. built_kind (next ∷ rest) spot (step_type (ToFunction ps) q) s
-built_kind (ToPointer t qs ∷ next ∷ rest) spot q s = λ met. built_kind (next ∷ rest) spot (step_type (ToPointer t qs) q) s
-built_kind (ToArray n ∷ next ∷ rest) spot q s = λ met. built_kind (next ∷ rest) spot (step_type (ToArray n) q) s
+unfolding built bind
+built_kind steps spot q s = λ met. stepped_kind steps spot q s
 
 is_kind : (s : State) (w : Word) (b : Specified) (d : Declared) (ds : List Decl) (q : QType) → AreMet (definition_rules s w b d ds q) → ends_in_function d.derivations ≡ true
 is_kind s w b d ds q met = truth (ends_in_function d.derivations) met.1.1.1.1.0

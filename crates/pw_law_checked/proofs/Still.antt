@@ -19,7 +19,7 @@ use Rattle.pw_check_rules.specs.Declarations.{storage_rule}
 use Rattle.pw_check_rules.specs.Limits.{Spot}
 use Rattle.pw_check_rules.specs.Phrases.{typedef_rule}
 use Rattle.pw_check_rules.specs.SpecifierLists.{Gathered, Specified, specified}
-use Rattle.pw_check_rules.specs.Derivations.{Declared, Derivation, ParameterValue, built, step_type}
+use Rattle.pw_check_rules.specs.Derivations.{Declared, Derivation, ParameterValue, built, stepped, step_type}
 use Rattle.pw_check_rules.specs.Initialisers.{Context, Filled, Cursor, Target, value_filled, string_filled, listed_value, listed_string, braced_target, reach, takes_record}
 use Rattle.pw_check_rules.specs.Kinds.{is_character_array}
 use Rattle.pw_check_rules.specs.States.{State, records_in, tag_of}
@@ -188,10 +188,14 @@ pub specified_still : (first : ℕ) (g : Gathered) (s : State) → Post (specifi
 unfolding specified bind
 specified_still first g s = λ met. refl
 
+stepped_still : (spot : Spot) (steps : List Derivation) (q : QType) (s : State) → Post (stepped spot steps q s) (Still s)
+unfolding stepped bind
+stepped_still spot [] q s = refl
+stepped_still spot (step ∷ rest) q s = λ met. stepped_still spot rest (step_type step q) s
+
 pub built_still : (spot : Spot) (steps : List Derivation) (q : QType) (s : State) → Post (built spot steps q s) (Still s)
 unfolding built bind
-built_still spot [] q s = refl
-built_still spot (step ∷ rest) q s = λ met. built_still spot rest (step_type step q) s
+built_still spot steps q s = λ met. stepped_still spot steps q s
 
 pub named_still : (b : Specified) (d : Declared) (s : State) → Post (named_type b d s) (Still s)
 unfolding named_type bind

@@ -1,4 +1,4 @@
-use Rattle.std.proofs.Common.{◌≤◌, ◌-◌, ◌^◌, [], ◌∷◌, refl, ap, ◌∙◌, arith}
+use Rattle.std.proofs.Common.{[], ◌∷◌, refl, ap, ◌∙◌}
 use Rattle.pw_check_state.specs.StateViews.{view_state}
 use Rattle.pw_check_labels.proofs.Steps.{from}
 use Rattle.pw_check_rules.specs.Functions.{measured_rule}
@@ -10,7 +10,7 @@ use Rattle.pw_value.specs.Limits.{node_limit, room_limit}
 use Rattle.pw_check_walk.specs.Causes.{keeps}
 use Rattle.pw_check_walk.specs.declared.constraints.Which.TheVariants.{Nodes, Room}
 use Rattle.pw_check_walk.proofs.FindingLaws.{point_end}
-use Rattle.pw_check_heads.proofs.PointLaws.{limits_told, measured}
+use Rattle.pw_check_heads.proofs.PointLaws.{measured, no_want_found}
 use Rattle.pw_check_heads.proofs.measures.measured_rule.Goals as goal
 
 pub returns-clause-follows : goal.returns-clause-follows
@@ -21,26 +21,20 @@ returns-clause-follows c =
     let s = view_state c.args.state.now in
     from _ refl refl
     (point_end (keeps Nodes node_limit t (nodes_of f) ∷ keeps Room room_limit t (room_of (records_in s) f) ∷ []) s _ _
-    (measured t _ _ _ (nodes_of f) (room_of (records_in s) f) _ _ _
-    c.none.ensures c.keeps.ensures c.keeps-2.ensures
-    (c.in_ok-nodes.ensures.told (nodes_of f) c.stmt_nodes.ensures)
-    (c.in_ok-bytes.ensures.told (room_of (records_in s) f) (c.room.ensures ∙ ap (λ r. capped (room_of r f)) c.records.ensures))
+    (measured t (nodes_of f) (room_of (records_in s) f) _ _ _ _ c.none.ensures
+    (c.keeps.ensures (nodes_of f) c.stmt_nodes-nodes.ensures)
+    (c.keeps-2.ensures (room_of (records_in s) f) (c.room-bytes.ensures ∙ ap (λ r. capped (room_of r f)) c.records.ensures))
     c.from.ensures)
     c.end.ensures)
 
-pub returns-in_err-nodes-clause-no_memory : goal.returns-in_err-nodes-clause-no_memory
-returns-in_err-nodes-clause-no_memory c few small =
-    let n = nodes_of (typed.view_function c.args.f.now) in
-    let beyond : 2 ^ 64 - 1 ≤ n = c.in_err-nodes.ensures.beyond n c.stmt_nodes.ensures in
-    absurd (omega (arith, few, beyond))
-
-pub returns-in_err-bytes-clause-no_memory : goal.returns-in_err-bytes-clause-no_memory
-returns-in_err-bytes-clause-no_memory c few small =
-    let f = typed.view_function c.args.f.now in
-    let n = room_of (records_in (view_state c.args.state.now)) f in
-    let beyond : 2 ^ 64 - 1 ≤ n = c.in_err-bytes.ensures.beyond n (c.room.ensures ∙ ap (λ r. capped (room_of r f)) c.records.ensures) in
-    absurd (omega (arith, small, beyond))
-
 pub returns-clause-no_memory : goal.returns-clause-no_memory
-returns-clause-no_memory c few small =
-    limits_told _ _ _ _ _ _ _ _ c.end.result c.none.ensures c.keeps.ensures c.keeps-2.ensures c.end.ensures
+returns-clause-no_memory c =
+    let f = typed.view_function c.args.f.now in
+    let t = c.args.word.now.token in
+    let s = view_state c.args.state.now in
+    no_want_found (keeps Nodes node_limit t (nodes_of f) ∷ keeps Room room_limit t (room_of (records_in s) f) ∷ []) _ c.end.result
+    (measured t (nodes_of f) (room_of (records_in s) f) _ _ _ _ c.none.ensures
+    (c.keeps.ensures (nodes_of f) c.stmt_nodes-nodes.ensures)
+    (c.keeps-2.ensures (room_of (records_in s) f) (c.room-bytes.ensures ∙ ap (λ r. capped (room_of r f)) c.records.ensures))
+    c.from.ensures)
+    c.end.ensures

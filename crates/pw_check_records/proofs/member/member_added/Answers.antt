@@ -11,12 +11,12 @@ unfolding bind
 returns-in_err-member_met c =
     let members = view_member_list c.args.members in
     step_err (λ t. Done (members ++ record { name = c.args.name.now; ty = view_qtype c.args.ty } ∷ [], t.1))
-    c.member_met.ensures c.in_err-member_met.was (search rules)
+    c.member_met.ensures.follows c.in_err-member_met.was (search rules)
 
 pub returns : goal.returns
 unfolding bind
 returns c =
     let members = view_member_list c.args.members in
     step_ok (λ t. Done (members ++ record { name = c.args.name.now; ty = view_qtype c.args.ty } ∷ [], t.1))
-    c.member_met.ensures c.in_ok-member_met.was
+    c.member_met.ensures.follows c.in_ok-member_met.was
     (made_ok view_member_list _ _ _ _ (sym c.in_ok-push.ensures) refl)

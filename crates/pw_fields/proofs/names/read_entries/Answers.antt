@@ -10,7 +10,7 @@ returns-in_err-text c =
 
 pub loop-preserved : goal.loop-preserved
 loop-preserved c =
-    rw (c.in_ok-push.ensures.items, c.in_ok-lawful.ensures) (goes_on entry_at next_entry c.loop.names.items c.args.count c.loop.counter c.loop.before.now c.loop.rest.now c.in_ok-text.text.now c.in_ok-text.after.now _ c.loop-test.true c.in_ok-text.ensures.read c.loop.invariant)
+    rw (c.in_ok-push.ensures.items, c.in_ok-within.ensures) (goes_on entry_at next_entry c.loop.names.items c.args.count c.loop.counter c.loop.before.now c.loop.rest.now c.in_ok-text.text.now c.in_ok-text.after.now _ c.loop-test.true c.in_ok-text.ensures.read c.loop.invariant)
 
 pub returns : goal.returns
 returns c = is_done entry_at next_entry c.loop.names.items c.args.count c.loop.counter c.loop.before.now c.loop.rest.now _ c.loop-test.false c.loop.invariant
