@@ -1,0 +1,30 @@
+-- What denotes no place.
+use Rattle.std.proofs.Common.{ℕ, ◌≡◌, refl, false}
+use Rattle.pw_types.specs.TypeTrees.{QType}
+use Rattle.pw_types.specs.TypedTrees.{Form, Node, Number, Str, Local, Global, Function, Unary, Binary, Logic, Cond, Comma, Assign, Compound, Step, Cast, Decay, Member, Deref, Address, Call, CallValue}
+use Rattle.pw_cmean.specs.Acts.{wrong}
+use Rattle.pw_cmean.specs.Evaluation.{Env, Calls, answer_of, place_of}
+use Rattle.pw_interp_operands.specs.Groups.{denotes}
+
+pub no_lvalue : (token : ℕ) (ty : QType) (form : Form) (cs : Calls) (e : Env) → denotes form ≡ false → place_of (Node token ty form) cs e ≡ wrong
+unfolding answer_of
+no_lvalue token ty (Number n) cs e is = refl
+no_lvalue token ty (Str number) cs e is = cc is
+no_lvalue token ty (Local local) cs e is = cc is
+no_lvalue token ty (Global symbol) cs e is = cc is
+no_lvalue token ty (Function symbol) cs e is = cc is
+no_lvalue token ty (Unary op a) cs e is = refl
+no_lvalue token ty (Binary op a b) cs e is = refl
+no_lvalue token ty (Logic op a b) cs e is = refl
+no_lvalue token ty (Cond c a b) cs e is = cc is
+no_lvalue token ty (Comma a b) cs e is = cc is
+no_lvalue token ty (Assign a b) cs e is = cc is
+no_lvalue token ty (Compound op working a b) cs e is = refl
+no_lvalue token ty (Step op a) cs e is = refl
+no_lvalue token ty (Cast a) cs e is = refl
+no_lvalue token ty (Decay a) cs e is = refl
+no_lvalue token ty (Member a offset) cs e is = cc is
+no_lvalue token ty (Deref a) cs e is = cc is
+no_lvalue token ty (Address a) cs e is = refl
+no_lvalue token ty (Call symbol args) cs e is = refl
+no_lvalue token ty (CallValue a args) cs e is = refl

@@ -1,0 +1,257 @@
+//! What is left of an expression whose result is asked, behind what was evaluated first for it.
+
+ghost use Rattle.std.specs.Prelude.{◌≡◌};
+ghost use Rattle.pw_typed.specs.Views.{view_expr, view_exprs, view_form};
+ghost use Rattle.pw_types.specs.TypedTrees as tree;
+ghost use Rattle.pw_types.specs.Views.{view_qtype, view_type};
+ghost use Rattle.pw_cmean.specs.Evaluation as meaning;
+ghost use Rattle.pw_cmean.specs.Operators.{number_for};
+ghost use Rattle.pw_interp_state.specs.Shown.{view_state};
+ghost use Rattle.pw_interp_calls.specs.Views.{view_env};
+ghost use Rattle.pw_interp_todo.specs.Operands as spec;
+ghost use Rattle.pw_interp_todo.specs.Steps.{StepsExpression};
+
+use crate::last::{holds, word};
+use pw_interp_acts::{advance, old_value, used, value_at};
+use pw_interp_calls::{Ending, Env, Stop};
+use pw_interp_state::State;
+use pw_interp_todo::{Asked, Callee, Next, Operand, need};
+use pw_typed::{TExpr, TForm};
+use pw_types::{CType, LogicOperator, QType, StepOperator, UnaryOperator};
+use pw_value::Value;
+use std::alloc::Global;
+
+/// A unary operator.
+fn unary<'a>(
+    env: &Env<'a>,
+    state: &State<'a>,
+    token: usize,
+    ty: &QType,
+    op: UnaryOperator,
+    given: Option<Value>,
+) -> Result<Next<'a>, Stop<'a>>
+    ensures { (a : tree.Expression) → StepsExpression (view_env env.now) (spec.answer_behind (tree.Node token (view_qtype ty.now) (tree.Unary op a)) given) (view_state state.now) result (view_state state.now) }
+{
+    let value = used(env, token, given)?;
+    let result = pw_interp_acts::unary(env, state, token, op, &ty.ty, value)?;
+    Ok(Next::Gave(Some(result)))
+}
+
+/// A binary operator: its right operand comes behind the left one.
+fn binary<'a>(
+    env: &Env<'a>,
+    state: &State<'a>,
+    e: &'a TExpr,
+    b: &'a TExpr,
+    given: Option<Value>,
+) -> Result<Next<'a>, Stop<'a>>
+    ensures { (op : _) (a : tree.Expression) → view_form e.now.form ≡ tree.Binary op a (view_expr b.now)
+        → StepsExpression (view_env env.now) (spec.answer_behind (view_expr e.now) given) (view_state state.now) result (view_state state.now) }
+{
+    let left = used(env, e.token, given)?;
+    Ok(Next::Behind(Asked::Answer(b), Operand::Right(e, left)))
+}
+
+/// Whether the first operand of `&&` or `||` decides (ISO C90 6.3.13, 6.3.14).
+fn decides(op: LogicOperator, holds: bool) -> bool
+    ensures { result ≡ meaning.decides op holds }
+{
+    match op {
+        LogicOperator::And => !holds,
+        LogicOperator::Or => holds,
+    }
+}
+
+/// `&&` or `||`, whose second operand comes where the first does not decide.
+fn logic<'a>(
+    env: &Env<'a>,
+    state: &State<'a>,
+    e: &'a TExpr,
+    op: LogicOperator,
+    b: &'a TExpr,
+    given: Option<Value>,
+) -> Result<Next<'a>, Stop<'a>>
+    ensures { (a : tree.Expression) → view_form e.now.form ≡ tree.Logic op a (view_expr b.now)
+        → StepsExpression (view_env env.now) (spec.answer_behind (view_expr e.now) given) (view_state state.now) result (view_state state.now) }
+{
+    let first = holds(env, state, e.token, given)?;
+    if decides(op, first) {
+        return Ok(Next::Gave(Some(Value::Num(word(first)))));
+    }
+    Ok(Next::Behind(Asked::Answer(b), Operand::Second(e)))
+}
+
+/// `?:`, of which one operand is evaluated.
+fn cond<'a>(
+    env: &Env<'a>,
+    state: &State<'a>,
+    token: usize,
+    ty: &QType,
+    a: &'a TExpr,
+    b: &'a TExpr,
+    given: Option<Value>,
+) -> Result<Next<'a>, Stop<'a>>
+    ensures { (c : tree.Expression) → StepsExpression (view_env env.now) (spec.answer_behind (tree.Node token (view_qtype ty.now) (tree.Cond c (view_expr a.now) (view_expr b.now))) given) (view_state state.now) result (view_state state.now) }
+{
+    let chosen = holds(env, state, token, given)?;
+    if chosen {
+        Ok(Next::Ask(Asked::Answer(a)))
+    } else {
+        Ok(Next::Ask(Asked::Answer(b)))
+    }
+}
+
+/// `=`, whose right operand comes behind the place of the left one.
+fn assign<'a>(
+    env: &Env<'a>,
+    state: &State<'a>,
+    e: &'a TExpr,
+    b: &'a TExpr,
+    given: Option<Value>,
+) -> Result<Next<'a>, Stop<'a>>
+    ensures { (a : tree.Expression) → view_form e.now.form ≡ tree.Assign a (view_expr b.now)
+        → StepsExpression (view_env env.now) (spec.answer_behind (view_expr e.now) given) (view_state state.now) result (view_state state.now) }
+{
+    let place = need(given)?;
+    Ok(Next::Behind(
+        Asked::Answer(b),
+        Operand::Assigned(Asked::Answer(e), place),
+    ))
+}
+
+/// An operator with `=`, which works in a type. The old value is read before the right operand is evaluated.
+fn compound<'a>(
+    env: &Env<'a>,
+    state: &State<'a>,
+    e: &'a TExpr,
+    working: &CType,
+    a: &'a TExpr,
+    b: &'a TExpr,
+    given: Option<Value>,
+) -> Result<Next<'a>, Stop<'a>>
+    ensures { (op : _) → view_form e.now.form ≡ tree.Compound op (view_type working.now) (view_expr a.now) (view_expr b.now)
+        → StepsExpression (view_env env.now) (spec.answer_behind (view_expr e.now) given) (view_state state.now) result (view_state state.now) }
+{
+    let place = need(given)?;
+    let old = old_value(env, state, e.token, &a.ty.ty, working, place)?;
+    Ok(Next::Behind(
+        Asked::Answer(b),
+        Operand::Updated(e, place, old),
+    ))
+}
+
+/// `++` and `--`.
+fn step<'a>(
+    alloc: Global,
+    env: &Env<'a>,
+    state: &mut State<'a>,
+    token: usize,
+    ty: &QType,
+    op: StepOperator,
+    a: &TExpr,
+    given: Option<Value>,
+) -> Result<Next<'a>, Stop<'a>>
+    ensures { StepsExpression (view_env env.now) (spec.answer_behind (tree.Node token (view_qtype ty.now) (tree.Step op (view_expr a.now))) given) (view_state state.old) result (view_state state.new) }
+{
+    let place = need(given)?;
+    let result = pw_interp_acts::step(alloc, env, state, token, op, &a.ty.ty, place)?;
+    Ok(Next::Gave(Some(result)))
+}
+
+/// A conversion.
+fn cast<'a>(
+    env: &Env<'a>,
+    state: &State<'a>,
+    token: usize,
+    ty: &QType,
+    given: Option<Value>,
+) -> Result<Next<'a>, Stop<'a>>
+    ensures { (a : tree.Expression) → StepsExpression (view_env env.now) (spec.answer_behind (tree.Node token (view_qtype ty.now) (tree.Cast a)) given) (view_state state.now) result (view_state state.now) }
+{
+    let result = pw_interp_acts::cast(env, token, &ty.ty, given)?;
+    Ok(Next::Gave(result))
+}
+
+/// A member, behind the place of the whole.
+fn member<'a>(
+    env: &Env<'a>,
+    state: &State<'a>,
+    token: usize,
+    ty: &QType,
+    offset: u32,
+    given: Option<Value>,
+) -> Result<Next<'a>, Stop<'a>>
+    ensures { (a : tree.Expression) → StepsExpression (view_env env.now) (spec.answer_behind (tree.Node token (view_qtype ty.now) (tree.Member a offset)) given) (view_state state.now) result (view_state state.now) }
+{
+    let whole = need(given)?;
+    let place = advance(env, state, token, whole, offset)?;
+    let value = value_at(env, state, token, ty, place)?;
+    Ok(Next::Gave(value))
+}
+
+/// What a pointer points to, behind the pointer.
+fn deref<'a>(
+    env: &Env<'a>,
+    state: &State<'a>,
+    token: usize,
+    ty: &QType,
+    given: Option<Value>,
+) -> Result<Next<'a>, Stop<'a>>
+    ensures { (a : tree.Expression) → StepsExpression (view_env env.now) (spec.answer_behind (tree.Node token (view_qtype ty.now) (tree.Deref a)) given) (view_state state.now) result (view_state state.now) }
+{
+    let place = used(env, token, given)?;
+    let value = value_at(env, state, token, ty, place)?;
+    Ok(Next::Gave(value))
+}
+
+/// A call through a value: its arguments come behind the value.
+fn call_value<'a>(
+    env: &Env<'a>,
+    state: &State<'a>,
+    token: usize,
+    ty: &QType,
+    a: &'a TExpr,
+    args: &'a [TExpr],
+    given: Option<Value>,
+) -> Result<Next<'a>, Stop<'a>>
+    ensures { StepsExpression (view_env env.now) (spec.answer_behind (tree.Node token (view_qtype ty.now) (tree.CallValue (view_expr a.now) (view_exprs args.now))) given) (view_state state.now) result (view_state state.now) }
+{
+    let callee = used(env, token, given)?;
+    Ok(Next::Arguments(
+        args,
+        token,
+        Callee::Through(token, &a.ty.ty, callee),
+    ))
+}
+
+/// What is left of an expression whose result is asked, behind what was evaluated first for it.
+#[tactic(auto, unfolding(pw_typed::specs::Views::view_form), using(pw_typed::proofs::Rows::call_view, pw_typed::proofs::Rows::call_value_view))]
+pub fn answer_behind<'a>(
+    alloc: Global,
+    env: &Env<'a>,
+    state: &mut State<'a>,
+    e: &'a TExpr,
+    given: Option<Value>,
+) -> Result<Next<'a>, Stop<'a>>
+    ensures { StepsExpression (view_env env.now) (spec.answer_behind (view_expr e.now) given) (view_state state.old) result (view_state state.new) }
+{
+    let token = e.token;
+    match &e.form {
+        TForm::Unary(op, _) => unary(env, state, token, &e.ty, *op, given),
+        TForm::Binary(_, _, b) => binary(env, state, e, b, given),
+        TForm::Logic(op, _, b) => logic(env, state, e, *op, b, given),
+        TForm::Cond(_, a, b) => cond(env, state, token, &e.ty, a, b, given),
+        TForm::Comma(_, b) => Ok(Next::Ask(Asked::Answer(b))),
+        TForm::Assign(_, b) => assign(env, state, e, b, given),
+        TForm::Compound(_, working, a, b) => compound(env, state, e, working, a, b, given),
+        TForm::Step(op, a) => step(alloc, env, state, token, &e.ty, *op, a, given),
+        TForm::Cast(_) => cast(env, state, token, &e.ty, given),
+        TForm::Member(_, offset) => member(env, state, token, &e.ty, *offset, given),
+        TForm::Deref(_) => deref(env, state, token, &e.ty, given),
+        TForm::CallValue(a, args) => call_value(env, state, token, &e.ty, a, args, given),
+        TForm::Number(_) | TForm::Str(_) | TForm::Local(_) => Err(Stop::Ended(Ending::Wrong)),
+        TForm::Global(_) | TForm::Function(_) => Err(Stop::Ended(Ending::Wrong)),
+        TForm::Decay(_) | TForm::Address(_) => Err(Stop::Ended(Ending::Wrong)),
+        TForm::Call(_, _) => Err(Stop::Ended(Ending::Wrong)),
+    }
+}

@@ -1,0 +1,12 @@
+//! The interpreter's steps of expressions: what is left of what is asked, and behind an operand that was evaluated.
+#![tactic(auto)]
+
+mod answers;
+mod asks;
+mod behind;
+mod last;
+mod names;
+mod places;
+
+pub use asks::ask;
+pub use behind::behind;

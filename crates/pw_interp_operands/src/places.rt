@@ -1,0 +1,111 @@
+//! What is left of an lvalue whose place is asked, behind what was evaluated first for it; of another structure or union
+//! its value, which is a place.
+
+ghost use Rattle.std.specs.Prelude.{◌≡◌};
+ghost use Rattle.pw_typed.specs.Views.{view_expr, view_form};
+ghost use Rattle.pw_types.specs.TypeTrees as types;
+ghost use Rattle.pw_types.specs.TypedTrees as tree;
+ghost use Rattle.pw_interp_state.specs.Shown.{view_state};
+ghost use Rattle.pw_interp_calls.specs.Views.{view_env};
+ghost use Rattle.pw_interp_todo.specs.Operands as spec;
+ghost use Rattle.pw_interp_todo.specs.Steps.{StepsExpression};
+
+use crate::last::holds;
+use pw_interp_acts::{advance, used};
+use pw_interp_calls::{Ending, Env, Stop};
+use pw_interp_state::State;
+use pw_interp_todo::{Asked, Next, Operand, need};
+use pw_typed::{TExpr, TForm};
+use pw_value::Value;
+
+/// A member, behind the place of the whole.
+fn member<'a>(
+    env: &Env<'a>,
+    state: &State<'a>,
+    token: usize,
+    offset: u32,
+    given: Option<Value>,
+) -> Result<Next<'a>, Stop<'a>>
+    ensures { (ty : types.QType) (a : tree.Expression) → StepsExpression (view_env env.now) (spec.place_behind (tree.Node token ty (tree.Member a offset)) given) (view_state state.now) result (view_state state.now) }
+{
+    let whole = need(given)?;
+    let place = advance(env, state, token, whole, offset)?;
+    Ok(Next::Gave(Some(place)))
+}
+
+/// What a pointer points to, behind the pointer.
+fn deref<'a>(
+    env: &Env<'a>,
+    state: &State<'a>,
+    token: usize,
+    given: Option<Value>,
+) -> Result<Next<'a>, Stop<'a>>
+    ensures { (ty : types.QType) (a : tree.Expression) → StepsExpression (view_env env.now) (spec.place_behind (tree.Node token ty (tree.Deref a)) given) (view_state state.now) result (view_state state.now) }
+{
+    let place = used(env, token, given)?;
+    Ok(Next::Gave(Some(place)))
+}
+
+/// `?:`, of which one operand's place is found.
+fn cond<'a>(
+    env: &Env<'a>,
+    state: &State<'a>,
+    token: usize,
+    a: &'a TExpr,
+    b: &'a TExpr,
+    given: Option<Value>,
+) -> Result<Next<'a>, Stop<'a>>
+    ensures { (ty : types.QType) (c : tree.Expression) → StepsExpression (view_env env.now) (spec.place_behind (tree.Node token ty (tree.Cond c (view_expr a.now) (view_expr b.now))) given) (view_state state.now) result (view_state state.now) }
+{
+    let chosen = holds(env, state, token, given)?;
+    if chosen {
+        Ok(Next::Ask(Asked::Place(a)))
+    } else {
+        Ok(Next::Ask(Asked::Place(b)))
+    }
+}
+
+/// `=` of structures or unions, whose right operand comes behind the place of the left one.
+fn assign<'a>(
+    env: &Env<'a>,
+    state: &State<'a>,
+    e: &'a TExpr,
+    b: &'a TExpr,
+    given: Option<Value>,
+) -> Result<Next<'a>, Stop<'a>>
+    ensures { (a : tree.Expression) → view_form e.now.form ≡ tree.Assign a (view_expr b.now)
+        → StepsExpression (view_env env.now) (spec.place_behind (view_expr e.now) given) (view_state state.now) result (view_state state.now) }
+{
+    let place = need(given)?;
+    Ok(Next::Behind(
+        Asked::Answer(b),
+        Operand::Assigned(Asked::Place(e), place),
+    ))
+}
+
+/// What is left of an lvalue whose place is asked, behind what was evaluated first for it.
+#[tactic(auto, unfolding(pw_typed::specs::Views::view_form), using(pw_typed::proofs::Rows::call_view, pw_typed::proofs::Rows::call_value_view))]
+pub fn place_behind<'a>(
+    env: &Env<'a>,
+    state: &State<'a>,
+    e: &'a TExpr,
+    given: Option<Value>,
+) -> Result<Next<'a>, Stop<'a>>
+    ensures { StepsExpression (view_env env.now) (spec.place_behind (view_expr e.now) given) (view_state state.now) result (view_state state.now) }
+{
+    let token = e.token;
+    match &e.form {
+        TForm::Member(_, offset) => member(env, state, token, *offset, given),
+        TForm::Deref(_) => deref(env, state, token, given),
+        TForm::Cond(_, a, b) => cond(env, state, token, a, b, given),
+        TForm::Comma(_, b) => Ok(Next::Ask(Asked::Place(b))),
+        TForm::Assign(_, b) => assign(env, state, e, b, given),
+        TForm::Number(_) | TForm::Str(_) | TForm::Local(_) => Err(Stop::Ended(Ending::Wrong)),
+        TForm::Global(_) | TForm::Function(_) => Err(Stop::Ended(Ending::Wrong)),
+        TForm::Unary(_, _) | TForm::Binary(_, _, _) => Err(Stop::Ended(Ending::Wrong)),
+        TForm::Logic(_, _, _) | TForm::Step(_, _) => Err(Stop::Ended(Ending::Wrong)),
+        TForm::Compound(_, _, _, _) | TForm::Cast(_) => Err(Stop::Ended(Ending::Wrong)),
+        TForm::Decay(_) | TForm::Address(_) => Err(Stop::Ended(Ending::Wrong)),
+        TForm::Call(_, _) | TForm::CallValue(_, _) => Err(Stop::Ended(Ending::Wrong)),
+    }
+}

@@ -1,0 +1,3 @@
+pub mod ActLaws
+pub mod LeadLaws
+pub mod Splits

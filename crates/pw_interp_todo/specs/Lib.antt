@@ -1,0 +1,10 @@
+pub mod Asking
+pub mod Operands
+pub mod Flows
+pub mod Loops
+pub mod Parts
+pub mod Going
+pub mod Resuming
+pub mod Leading
+pub mod Needs
+pub mod Steps

@@ -1,0 +1,49 @@
+//! The list of what is left to do in a call of a function, and what is done now.
+
+use crate::asked::{Asked, Callee, Operand};
+use crate::flow::Flow;
+use crate::statements::{Block, Doing, Remainder, Use};
+use pw_typed::TExpr;
+use pw_value::Value;
+
+/// What is left to do behind what is done now. Where a number stands that is called `bound`, it is the one with which the run
+/// goes on behind a statement: loops and gotos within it lower their own.
+#[derive(Clone, Copy)]
+pub enum Todo<'a> {
+    /// What an expression does with the result of an operand.
+    Operand(Operand<'a>),
+    /// Behind an argument of a call, which has the token, those behind it.
+    Argument(&'a [TExpr], usize),
+    /// An argument that has its value.
+    Held(Value),
+    /// A call, behind its arguments.
+    Call(Callee<'a>),
+    /// What a statement does with a value.
+    Value { what: Use<'a>, bound: u64 },
+    /// What is left of a statement behind a part of it.
+    Flow { what: Remainder<'a>, bound: u64 },
+    /// The object of a local ends, and the local has what it had before.
+    EndLocal {
+        local: u32,
+        number: u128,
+        before: Option<u128>,
+    },
+    /// What comes of a function's body is its result.
+    Returned,
+    /// The objects of so many parameters end, which have the numbers from one on.
+    EndParameters { count: u32, number: u128 },
+}
+
+/// What is done now: what is asked; a statement or a block, behind which the run goes on with a bound; the arguments of a
+/// call that are left; or what was done has given this.
+#[derive(Clone, Copy)]
+pub enum Control<'a> {
+    Ask(Asked<'a>),
+    Do { what: Doing<'a>, bound: u64 },
+    Open { what: Block<'a>, bound: u64 },
+    Arguments(&'a [TExpr], usize),
+    Gave(Option<Value>),
+    Flowed(Flow),
+    /// All arguments of a call have their values.
+    Listed,
+}
