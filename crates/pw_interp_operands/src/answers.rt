@@ -11,11 +11,11 @@ ghost use Rattle.pw_interp_calls.specs.Views.{view_env};
 ghost use Rattle.pw_interp_todo.specs.Operands as spec;
 ghost use Rattle.pw_interp_todo.specs.Steps.{StepsExpression};
 
-use crate::last::{holds, word};
+use crate::last::word;
 use pw_interp_acts::{advance, old_value, used, value_at};
 use pw_interp_calls::{Ending, Env, Stop};
 use pw_interp_state::State;
-use pw_interp_todo::{Asked, Callee, Next, Operand, need};
+use pw_interp_todo::{Asked, Callee, Next, Operand, need, tested};
 use pw_typed::{TExpr, TForm};
 use pw_types::{CType, LogicOperator, QType, StepOperator, UnaryOperator};
 use pw_value::Value;
@@ -74,7 +74,7 @@ fn logic<'a>(
     ensures { (a : tree.Expression) → view_form e.now.form ≡ tree.Logic op a (view_expr b.now)
         → StepsExpression (view_env env.now) (spec.answer_behind (view_expr e.now) given) (view_state state.now) result (view_state state.now) }
 {
-    let first = holds(env, state, e.token, given)?;
+    let first = tested(env, state, e.token, given)?;
     if decides(op, first) {
         return Ok(Next::Gave(Some(Value::Num(word(first)))));
     }
@@ -93,7 +93,7 @@ fn cond<'a>(
 ) -> Result<Next<'a>, Stop<'a>>
     ensures { (c : tree.Expression) → StepsExpression (view_env env.now) (spec.answer_behind (tree.Node token (view_qtype ty.now) (tree.Cond c (view_expr a.now) (view_expr b.now))) given) (view_state state.now) result (view_state state.now) }
 {
-    let chosen = holds(env, state, token, given)?;
+    let chosen = tested(env, state, token, given)?;
     if chosen {
         Ok(Next::Ask(Asked::Answer(a)))
     } else {

@@ -1,36 +1,22 @@
 //! The results of operators, behind their last operands.
 
 ghost use Rattle.std.specs.Prelude.{◌≡◌, option_map};
-ghost use Rattle.pw_typed.specs.Views.{view_expr, view_form};
+ghost use Rattle.pw_typed.specs.Views.{view_expr};
 ghost use Rattle.pw_types.specs.Views.{view_type};
 ghost use Rattle.pw_cmean.specs.Operators.{number_for};
 ghost use Rattle.pw_interp_state.specs.Shown.{view_state};
-ghost use Rattle.pw_interp_calls.specs.Answers.{Answers};
 ghost use Rattle.pw_interp_calls.specs.Views.{view_env};
 ghost use Rattle.pw_interp_todo.specs.Operands as spec;
 ghost use Rattle.pw_interp_todo.specs.Steps.{StepsExpression};
 
-use pw_interp_acts::{assigned, binary, put, truth, update, used};
+use pw_interp_acts::{assigned, binary, put, update, used};
 use pw_interp_calls::{Env, Stop};
 use pw_interp_state::{Purpose, State};
-use pw_interp_todo::{Next, need};
+use pw_interp_todo::{Next, need, tested};
 use pw_typed::{TExpr, TForm};
 use pw_types::{BinaryOperator, CType};
 use pw_value::Value;
 use std::alloc::Global;
-
-/// Whether an operand that gave this result is unlike 0.
-pub fn holds<'a>(
-    env: &Env<'a>,
-    state: &State<'a>,
-    token: usize,
-    given: Option<Value>,
-) -> Result<bool, Stop<'a>>
-    ensures { Answers (λ x. x) (view_env env.now).world (spec.holds (view_env env.now) token given) (view_state state.now) result (view_state state.now) }
-{
-    let value = used(env, token, given)?;
-    truth(env, state, token, value)
-}
 
 /// 1 where it holds, and else 0.
 pub fn word(holds: bool) -> u32
@@ -98,7 +84,7 @@ pub fn second<'a>(
 ) -> Result<Next<'a>, Stop<'a>>
     ensures { StepsExpression (view_env env.now) (spec.second_behind (view_expr e.now) given) (view_state state.now) result (view_state state.now) }
 {
-    let second = holds(env, state, e.token, given)?;
+    let second = tested(env, state, e.token, given)?;
     Ok(Next::Gave(Some(Value::Num(word(second)))))
 }
 

@@ -10,11 +10,10 @@ ghost use Rattle.pw_interp_calls.specs.Views.{view_env};
 ghost use Rattle.pw_interp_todo.specs.Operands as spec;
 ghost use Rattle.pw_interp_todo.specs.Steps.{StepsExpression};
 
-use crate::last::holds;
 use pw_interp_acts::{advance, used};
 use pw_interp_calls::{Ending, Env, Stop};
 use pw_interp_state::State;
-use pw_interp_todo::{Asked, Next, Operand, need};
+use pw_interp_todo::{Asked, Next, Operand, need, tested};
 use pw_typed::{TExpr, TForm};
 use pw_value::Value;
 
@@ -57,7 +56,7 @@ fn cond<'a>(
 ) -> Result<Next<'a>, Stop<'a>>
     ensures { (ty : types.QType) (c : tree.Expression) → StepsExpression (view_env env.now) (spec.place_behind (tree.Node token ty (tree.Cond c (view_expr a.now) (view_expr b.now))) given) (view_state state.now) result (view_state state.now) }
 {
-    let chosen = holds(env, state, token, given)?;
+    let chosen = tested(env, state, token, given)?;
     if chosen {
         Ok(Next::Ask(Asked::Place(a)))
     } else {

@@ -12,7 +12,7 @@ use Rattle.pw_cmean.specs.Operators.{truth, number_for, unary, binary, advance}
 use Rattle.pw_cmean.specs.Evaluation.{Env, Calls, site, records_of, used, value_at, cast, answer_of, place_of, values_of, call_value, assigned, old_value, update, step, decides}
 use Rattle.pw_cmean.specs.SourceRun.{calls}
 use Rattle.pw_interp_todo.specs.Asking.{Question, Answer, Place, placed, answered, question_act, answer_first, place_first, first_of}
-use Rattle.pw_interp_todo.specs.Operands.{holds, right_behind, second_behind, assigned_behind, stored_behind, updated_behind, answer_behind, place_behind}
+use Rattle.pw_interp_todo.specs.Operands.{tested, right_behind, second_behind, assigned_behind, stored_behind, updated_behind, answer_behind, place_behind}
 use Rattle.pw_interp_todo.proofs.ActLaws.{grouped, follow_same, lead_same, branch_same, branch_then, through_place, needed}
 
 module _ (e : Env) (bound : ℕ) (t : ℕ) (ty : QType) where
@@ -25,10 +25,10 @@ module _ (e : Env) (bound : ℕ) (t : ℕ) (ty : QType) where
   used_first a f s = grouped (answer_of a cs e) (used (site e t)) f s
 
   -- whether it is unlike 0, and then this
-  holds_first : {B : Type 0} (a : Expression) (f : Bool → Act B) (s : State)
-      → (((answer_of a cs e >>= used (site e t)) >>= truth (site e t)) >>= f) s ≡ (answered a e bound >>= λ given. holds e t given >>= f) s
-  unfolding holds
-  holds_first a f s =
+  tested_first : {B : Type 0} (a : Expression) (f : Bool → Act B) (s : State)
+      → (((answer_of a cs e >>= used (site e t)) >>= truth (site e t)) >>= f) s ≡ (answered a e bound >>= λ given. tested e t given >>= f) s
+  unfolding tested
+  tested_first a f s =
       grouped (answer_of a cs e >>= used (site e t)) (truth (site e t)) f s
       ∙ grouped (answer_of a cs e) (used (site e t)) (λ v. truth (site e t) v >>= f) s
       ∙ follow_same (answer_of a cs e) _ _ s (λ given u. sym (grouped (used (site e t) given) (truth (site e t)) f u))
@@ -59,9 +59,9 @@ module _ (e : Env) (bound : ℕ) (t : ℕ) (ty : QType) where
       used_first a _ s
       ∙ follow_same (answered a e bound) _ _ s (λ given u. follow_same (used (site e t) given) _ _ u (λ v x. used_last b (op, type_of (type_at a), type_of (type_at b)) (λ p w. binary (site e t) (records_of e) p.0 p.1 p.2 v w >>= λ result. give (Some result)) x))
   split (Logic op a b) = λ s.
-      holds_first a _ s
-      ∙ follow_same (answered a e bound) _ _ s (λ given u. follow_same (holds e t given) _ _ u (λ first x. branch_same (decides op first) _ _ _ _ x refl (holds_first b _ x)))
-  split (Cond c a b) = λ s. holds_first c _ s
+      tested_first a _ s
+      ∙ follow_same (answered a e bound) _ _ s (λ given u. follow_same (tested e t given) _ _ u (λ first x. branch_same (decides op first) _ _ _ _ x refl (tested_first b _ x)))
+  split (Cond c a b) = λ s. tested_first c _ s
   split (Comma a b) = λ s. refl
   split (Assign a b) = λ s.
       follow_same (place_of a cs e) _ _ s (λ place u. used_last b (type_of (type_at a)) (λ target v. put Assigning (site e t) (records_of e) target place v >> give (Some (assigned target place v))) u)
@@ -95,8 +95,8 @@ module _ (e : Env) (bound : ℕ) (t : ℕ) (ty : QType) where
   split_place (Logic op a b) = tt
   split_place (Cond c a b) = λ s.
       grouped _ _ _ s
-      ∙ holds_first c _ s
-      ∙ follow_same (answered c e bound) _ _ s (λ given u. follow_same (holds e t given) _ _ u (λ chosen x. branch_then chosen _ _ _ x))
+      ∙ tested_first c _ s
+      ∙ follow_same (answered c e bound) _ _ s (λ given u. follow_same (tested e t given) _ _ u (λ chosen x. branch_then chosen _ _ _ x))
   split_place (Comma a b) = λ s. grouped (answer_of a cs e) _ _ s
   split_place (Assign a b) = λ s.
       grouped (place_of a cs e) _ _ s

@@ -22,9 +22,9 @@ use Rattle.pw_interp_todo.specs.declared.asked.Operand.{Operand}
 use Rattle.pw_interp_todo.specs.declared.asked.Operand.TheVariants as O
 use Rattle.pw_interp_todo.specs.Asking.{asked_act, answered, placed}
 
--- whether an operand that gave this is unlike 0
-unfoldable pub holds : Env → ℕ → Option Value → Act Bool
-holds e token given = used (site e token) given >>= truth (site e token)
+-- whether an operand or a condition that gave this is unlike 0
+unfoldable pub tested : Env → ℕ → Option Value → Act Bool
+tested e token given = used (site e token) given >>= truth (site e token)
 
 -- ---- what an operator asks of its node
 
@@ -56,7 +56,7 @@ right_behind a v given e bound = do
 -- of `&&` or `||`
 unfoldable pub second_behind : Expression → Option Value → Env → ℕ → Act (Option Value)
 second_behind a given e bound = do
-  second ← holds e (token_of a) given
+  second ← tested e (token_of a) given
   give (Some (V.Num (number_for second)))
 
 -- of an assignment to a place: its value, or the place
@@ -95,12 +95,12 @@ answer_behind (Node t ty (Binary op a b)) given e bound = do
   right ← answered b e bound
   right_behind (Node t ty (Binary op a b)) v right e bound
 answer_behind (Node t ty (Logic op a b)) given e bound = do
-  first ← holds e t given
+  first ← tested e t given
   branch (decides op first) (give (Some (V.Num (number_for first)))) (do
     second ← answered b e bound
     second_behind (Node t ty (Logic op a b)) second e bound)
 answer_behind (Node t ty (Cond c a b)) given e bound = do
-  chosen ← holds e t given
+  chosen ← tested e t given
   branch chosen (answered a e bound) (answered b e bound)
 answer_behind (Node t ty (Comma a b)) given e bound = answered b e bound
 answer_behind (Node t ty (Assign a b)) given e bound = do
@@ -140,7 +140,7 @@ place_behind (Node t ty (Deref a)) given e bound = do
   place ← used (site e t) given
   give (Some place)
 place_behind (Node t ty (Cond c a b)) given e bound = do
-  chosen ← holds e t given
+  chosen ← tested e t given
   branch chosen (placed a e bound) (placed b e bound)
 place_behind (Node t ty (Comma a b)) given e bound = placed b e bound
 place_behind (Node t ty (Assign a b)) given e bound = do

@@ -10,6 +10,6 @@ pub mod todo;
 
 pub use asked::{Asked, Callee, Next, Operand};
 pub use flow::{Entry, Flow};
-pub use needs::need;
+pub use needs::{need, tested};
 pub use statements::{Block, Doing, Going, Loop, Remainder, Taking, Tests, Use};
 pub use todo::{Control, Todo};

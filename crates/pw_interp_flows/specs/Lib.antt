@@ -1,0 +1,4 @@
+pub mod Copies
+pub mod Forms
+pub mod Looping
+pub mod Numbers
