@@ -1,1 +1,2 @@
+mod NodeLaws
 mod PlaceLemmas

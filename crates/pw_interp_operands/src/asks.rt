@@ -50,16 +50,6 @@ fn place_first<'a>(e: &'a TExpr) -> Option<Asked<'a>>
     }
 }
 
-/// What is evaluated first for what is asked.
-fn first_of<'a>(asked: Asked<'a>) -> Option<Asked<'a>>
-    ensures { option_map view_asked result ≡ spec.first_of (view_asked asked.entry) }
-{
-    match asked {
-        Asked::Answer(e) => answer_first(e),
-        Asked::Place(e) => place_first(e),
-    }
-}
-
 /// The value of a constant, a string or a name.
 #[tactic(auto, unfolding(pw_typed::specs::Views::view_form), using(pw_typed::proofs::Rows::call_view, pw_typed::proofs::Rows::call_value_view))]
 fn leaf<'a>(
@@ -149,7 +139,37 @@ fn place_alone<'a>(
     Ok(Next::Gave(Some(place)))
 }
 
-/// What is left of what is asked: what is evaluated first for it, and what follows behind that.
+/// What is left of an expression of which the result is asked: what is evaluated first for it, and what follows behind that.
+fn ask_answer<'a>(
+    alloc: Global,
+    env: &Env<'a>,
+    state: &State<'a>,
+    e: &'a TExpr,
+) -> Result<Next<'a>, Stop<'a>>
+    ensures { StepsExpression (view_env env.now) (answered (view_expr e.now)) (view_state state.now) result (view_state state.now) }
+{
+    match answer_first(e) {
+        Some(first) => Ok(Next::Behind(first, Operand::First(Asked::Answer(e)))),
+        None => answer_alone(alloc, env, state, e),
+    }
+}
+
+/// What is left of an lvalue of which the place is asked: what is evaluated first for it, and what follows behind that.
+fn ask_place<'a>(
+    alloc: Global,
+    env: &Env<'a>,
+    state: &State<'a>,
+    e: &'a TExpr,
+) -> Result<Next<'a>, Stop<'a>>
+    ensures { StepsExpression (view_env env.now) (placed (view_expr e.now)) (view_state state.now) result (view_state state.now) }
+{
+    match place_first(e) {
+        Some(first) => Ok(Next::Behind(first, Operand::First(Asked::Place(e)))),
+        None => place_alone(alloc, env, state, e),
+    }
+}
+
+/// What is left of what is asked.
 pub fn ask<'a>(
     alloc: Global,
     env: &Env<'a>,
@@ -158,11 +178,8 @@ pub fn ask<'a>(
 ) -> Result<Next<'a>, Stop<'a>>
     ensures { StepsExpression (view_env env.now) (asked_act asked.entry) (view_state state.now) result (view_state state.now) }
 {
-    if let Some(first) = first_of(asked) {
-        return Ok(Next::Behind(first, Operand::First(asked)));
-    }
     match asked {
-        Asked::Answer(e) => answer_alone(alloc, env, state, e),
-        Asked::Place(e) => place_alone(alloc, env, state, e),
+        Asked::Answer(e) => ask_answer(alloc, env, state, e),
+        Asked::Place(e) => ask_place(alloc, env, state, e),
     }
 }

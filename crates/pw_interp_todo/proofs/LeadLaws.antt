@@ -70,6 +70,9 @@ pub left_so : {A B : Type 0} {left : B → Act A} {world : World} {act : Act A} 
 left_so {left = left} {world = world} {act = act} {w = w} {u = u} b e one =
     subst (λ x. Continues left world act w x u) (sym e) (record { goes = one; stopped = tt })
 
+pub leaves : {A B : Type 0} {left : B → Act A} {world : World} {w : Shown} (b : B) → Continues left world (left b) w (Ok b) w
+leaves b = record { goes = stays; stopped = tt }
+
 -- the whole leads to what the code goes on with
 pub followed : {A B : Type 0} {left : B → Act A} {world : World} {act rest : Act A} {w u v : Shown} {r : Result B Stop} → Leads world act w rest u → Continues left world rest u r v → Continues left world act w r v
 followed {B = B} {left = left} {world = world} {act = act} {rest = rest} {w = w} {u = u} {v = v} {r = r} one c = by r c
