@@ -1,4 +1,5 @@
 pub mod Copies
+pub mod Entering
 pub mod Forms
 pub mod Looping
 pub mod Numbers

@@ -1,23 +1,26 @@
 //! The initialisers of a block's locals (ISO C90 6.5.7).
 
-ghost use Rattle.std.specs.Prelude.{◌≡◌, ◌∷◌, OnOk};
+ghost use Rattle.std.specs.Prelude.{◌≡◌, ◌+◌, ◌<◌, ◌^◌, ◌∷◌, [], drop, OnOk};
 ghost use Rattle.pw_value.specs.Objects.{object_at, written};
-ghost use Rattle.pw_typed.specs.Views.{view_initialiser, view_initialisers, view_stmts};
+ghost use Rattle.pw_typed.specs.Views.{view_initialiser, view_stmt};
 ghost use Rattle.pw_cmean.specs.Execution as execution;
 ghost use Rattle.pw_cmean.specs.SourceRun.{calls};
 ghost use Rattle.pw_interp_state.specs.Shown.{view_state};
 ghost use Rattle.pw_interp_calls.specs.Answers.{Answers};
 ghost use Rattle.pw_interp_calls.specs.Views.{view_env};
 ghost use Rattle.pw_interp_todo.specs.Flows.{view_entry};
+ghost use Rattle.pw_interp_todo.specs.Going.{Leaves};
+ghost use Rattle.pw_interp_todo.specs.Members as any;
 ghost use Rattle.pw_interp_todo.specs.Parts as parts;
 ghost use Rattle.pw_interp_todo.specs.Steps.{StepsStatement};
 ghost use Rattle.pw_interp_flows.specs.Copies as spec;
 
+use crate::members::initialisers_in;
 use pw_interp_acts::{local_place, symbol_place};
 use pw_interp_calls::{Ending, Env, Stop};
 use pw_interp_state::{Objects, State};
-use pw_interp_todo::{Asked, Doing, Entry, Going, Taking, Use};
-use pw_typed::{Initialiser, Symbol, TStmt};
+use pw_interp_todo::{Asked, Doing, Entry, Flow, Going, Part, Purpose, Turn, Use};
+use pw_typed::{Initialiser, Symbol, TStmt, TStmtForm};
 use pw_value::{Pointer, Value};
 use std::alloc::{AllocError, Global};
 
@@ -89,45 +92,58 @@ fn initialise_bytes<'a>(
     copy_all(alloc, env, state, source, place)
 }
 
-/// The inside of a block that is met at its beginning, with an initialiser and those behind it: its expression comes, or
-/// the local has the bytes of a hidden object.
+/// The initialiser of a place: its expression comes, or the local has the bytes of a hidden object.
 fn initialised<'a>(
     alloc: Global,
     env: &Env<'a>,
     state: &mut State<'a>,
+    s: &'a TStmt,
+    i: usize,
     first: &'a Initialiser,
-    rest: &'a [Initialiser],
-    items: &'a [TStmt],
 ) -> Result<Going<'a>, Stop<'a>>
-    ensures { StepsStatement (view_env env.now) (λ e n. parts.inside (view_initialiser first.now ∷ view_initialisers rest.now) (view_stmts items.now) execution.Front (calls e.world n) e) (view_state state.old) result (view_state state.new) }
+    requires { i + 1 < 2 ^ 64 }
+    ensures { drop i (any.initialisers_in (view_stmt s.now)) ≡ view_initialiser first.now ∷ drop (i + 1) (any.initialisers_in (view_stmt s.now))
+        → StepsStatement (view_env env.now) (λ e n. parts.inside (drop i (any.initialisers_in (view_stmt s.now))) (any.members_in (view_stmt s.now)) execution.Front (calls e.world n) e) (view_state state.old) result (view_state state.new) }
 {
     match first {
-        Initialiser::Value(local, e) => {
-            let use_of = Use::Initialise(e.token, *local, rest, items);
-            Ok(Going::Ask(Asked::Answer(e), use_of))
+        Initialiser::Value(_, e) => {
+            let given = Use { purpose: Purpose::Initialise(i), of: s };
+            Ok(Going::Ask(Asked::Answer(e), given))
         }
         Initialiser::Bytes(local, hidden, _) => {
             initialise_bytes(alloc, env, state, *local, *hidden)?;
-            Ok(Going::On(Doing::Inside(rest, items, Entry::Front)))
+            let part = Part::Initialisers(i + 1);
+            Ok(Going::On(Turn::Here, Doing { part, of: s, at: Entry::Front }))
         }
     }
 }
 
-/// The inside of a block: entered at a label, it passes over the initialisers.
-pub fn inside<'a>(
+/// The list of a block behind its initialisers; what is no block is passed over.
+fn list<'a>(s: &'a TStmt, at: Entry) -> Going<'a>
+    ensures { Leaves (λ e n. parts.inside [] (any.members_in (view_stmt s.now)) (view_entry at) (calls e.world n) e) result }
+{
+    match &s.form {
+        TStmtForm::Block { .. } => Going::On(Turn::Here, Doing { part: Part::Taking, of: s, at }),
+        _ => Going::Left(Flow::Normal),
+    }
+}
+
+/// The initialisers of a block from a place on, and its list; entered at a label, the block passes over them.
+pub fn initialisers<'a>(
     alloc: Global,
     env: &Env<'a>,
     state: &mut State<'a>,
-    initialisers: &'a [Initialiser],
-    items: &'a [TStmt],
+    s: &'a TStmt,
+    i: usize,
     at: Entry,
 ) -> Result<Going<'a>, Stop<'a>>
-    ensures { StepsStatement (view_env env.now) (λ e n. parts.inside (view_initialisers initialisers.now) (view_stmts items.now) (view_entry at) (calls e.world n) e) (view_state state.old) result (view_state state.new) }
+    ensures { StepsStatement (view_env env.now) (λ e n. parts.inside (drop i (any.initialisers_in (view_stmt s.now))) (any.members_in (view_stmt s.now)) (view_entry at) (calls e.world n) e) (view_state state.old) result (view_state state.new) }
 {
-    match (initialisers, at) {
-        ([first, rest @ ..], Entry::Front) => {
-            initialised(alloc, env, state, first, rest, items)
-        }
-        (_, _) => Ok(Going::On(Doing::Taking(Taking::Items(items), at))),
+    match at {
+        Entry::Front => match initialisers_in(s).get(i) {
+            Some(first) => initialised(alloc, env, state, s, i, first),
+            None => Ok(list(s, at)),
+        },
+        Entry::AtLabel(_) => Ok(list(s, at)),
     }
 }

@@ -1,18 +1,18 @@
-//! The interpreter's steps of statements: what is left of a part of a statement, behind a smaller statement, and behind the
+//! The interpreter's steps of statements: what is left of a part of a statement, behind a part that was done, and behind the
 //! value of an expression.
 #![tactic(auto)]
 
+mod behind;
 mod forms;
 mod initialisers;
 mod labels;
 mod lists;
 mod locals;
 mod loops;
-mod remainders;
+mod members;
 mod uses;
 
+pub use behind::remainder;
 pub use forms::begin;
-pub use initialisers::inside;
 pub use locals::set_local;
-pub use remainders::remainder;
 pub use uses::use_value;

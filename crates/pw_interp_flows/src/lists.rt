@@ -1,64 +1,91 @@
 //! Lists of statements (ISO C90 6.6.2), arms of an `if` (6.6.4.1), and what takes up gotos (6.6.6.1).
 
-ghost use Rattle.std.specs.Prelude.{◌≡◌, ℕ};
-ghost use Rattle.pw_typed.specs.Views.{view_arms, view_otherwise, view_stmts};
-ghost use Rattle.pw_cmean.specs.Evaluation.{Env};
+ghost use Rattle.std.specs.Prelude.{◌≡◌};
+ghost use Rattle.pw_types.specs.Labels.{labels_in};
+ghost use Rattle.pw_typed.specs.Views.{view_stmt};
 ghost use Rattle.pw_cmean.specs.Execution as execution;
 ghost use Rattle.pw_cmean.specs.SourceRun.{calls};
 ghost use Rattle.pw_interp_todo.specs.Flows.{view_entry};
 ghost use Rattle.pw_interp_todo.specs.Going.{Leaves};
-ghost use Rattle.pw_interp_todo.specs.Parts.{doing_act, met_arms, once_of, taking_act};
+ghost use Rattle.pw_interp_todo.specs.Members.{arms_from, arms_in as any_arms, members_from, members_in as any_members, otherwise_in as any_otherwise};
+ghost use Rattle.pw_interp_todo.specs.Parts.{met_arms, taking_act};
+ghost use Rattle.pw_interp_flows.specs.Entering.{OnceOf, arm_or_later, is_met};
 
 use crate::labels::{has_label, holds};
-use pw_interp_todo::{Asked, Doing, Entry, Flow, Going, Remainder, Taking, Use};
-use pw_typed::{Arm, TStmt};
+use crate::members::{arms_in, members_in, otherwise_in};
+use pw_interp_todo::{Asked, Doing, Done, Entry, Flow, Going, Part, Purpose, Remainder, Turn, Use};
+use pw_typed::{Arm, TStmt, TStmtForm};
 
-/// A list of statements; entered at a label, it starts at the member that holds it.
-pub fn items<'a>(list: &'a [TStmt], at: Entry) -> Going<'a>
-    ensures { Leaves (λ e n. execution.items (view_stmts list.now) (view_entry at) (calls e.world n) e) result }
+/// Whether a statement is met: at its beginning, or at a label that stands in it.
+fn enters(s: &TStmt, at: Entry) -> bool
+    ensures { result ≡ is_met (labels_in (view_stmt s.now)) (view_entry at) }
 {
-    match list {
-        [] => Going::Left(Flow::Normal),
-        [first, rest @ ..] => match at {
-            Entry::AtLabel(label) if !has_label(first, label) => {
-                Going::On(Doing::Items(rest, at))
-            }
-            Entry::Front | Entry::AtLabel(_) => {
-                Going::Then(Doing::Statement(first, at), Remainder::Items(rest))
-            }
-        },
+    match at {
+        Entry::Front => true,
+        Entry::AtLabel(label) => has_label(s, label),
+    }
+}
+
+/// The members of a statement's list from a place on; entered at a label, the list starts at the member that holds it.
+pub fn members<'a>(s: &'a TStmt, i: usize, at: Entry) -> Going<'a>
+    ensures { Leaves (λ e n. execution.items (members_from i (any_members (view_stmt s.now))) (view_entry at) (calls e.world n) e) result }
+{
+    let Some(first) = members_in(s).get(i) else {
+        return Going::Left(Flow::Normal);
+    };
+    let met = enters(first, at);
+    if met {
+        let doing = Doing { part: Part::Whole, of: first, at };
+        let rest = Remainder { done: Done::Member(i + 1), of: s };
+        Going::Then(doing, rest)
+    } else {
+        let doing = Doing { part: Part::Members(i + 1), of: s, at };
+        Going::On(Turn::Here, doing)
     }
 }
 
 /// What stands behind the last `else` of an `if`.
-fn behind_arms<'a>(otherwise: &'a Option<Box<TStmt>>, at: Entry) -> Going<'a>
-    ensures { Leaves (λ e n. execution.behind_arms (view_otherwise otherwise.now) (view_entry at) (calls e.world n) e) result }
+fn behind_arms<'a>(s: &'a TStmt, at: Entry) -> Going<'a>
+    ensures { Leaves (λ e n. execution.behind_arms (any_otherwise (view_stmt s.now)) (view_entry at) (calls e.world n) e) result }
 {
-    match otherwise {
-        Some(last) => Going::On(Doing::Statement(last, at)),
+    match otherwise_in(s) {
+        Some(last) => {
+            let doing = Doing { part: Part::Whole, of: last, at };
+            Going::On(Turn::Here, doing)
+        }
         None => Going::Left(Flow::Normal),
     }
 }
 
-/// The arms of an `if` and what stands behind its last `else`; an arm is met by its condition, or at a label in it.
-pub fn arms<'a>(
-    list: &'a [Arm],
-    otherwise: &'a Option<Box<TStmt>>,
-    at: Entry,
-) -> Going<'a>
-    ensures { Leaves (λ e n. met_arms (view_arms list.now) (view_otherwise otherwise.now) e (view_entry at) (calls e.world n)) result }
+/// An arm of an `if` that is met at a label, behind which those of a place follow: it is met where the label stands in it.
+fn arm_at<'a>(s: &'a TStmt, arm: &'a Arm, rest: usize, label: u32) -> Going<'a>
+    ensures { Leaves (λ e n. arm_or_later (view_stmt arm.now.body) (arms_from rest (any_arms (view_stmt s.now))) (any_otherwise (view_stmt s.now)) label e (calls e.world n)) result }
 {
-    match list {
-        [] => behind_arms(otherwise, at),
-        [arm, rest @ ..] => match at {
-            Entry::Front => {
-                Going::Ask(Asked::Answer(&arm.condition), Use::Arm(arm, rest, otherwise))
-            }
-            Entry::AtLabel(label) if has_label(&arm.body, label) => {
-                Going::Then(Doing::Statement(&arm.body, at), Remainder::Arms(rest, otherwise))
-            }
-            Entry::AtLabel(_) => Going::On(Doing::Arms(rest, otherwise, at)),
-        },
+    let at = Entry::AtLabel(label);
+    if has_label(&arm.body, label) {
+        let doing = Doing { part: Part::Whole, of: &arm.body, at };
+        let rest = Remainder { done: Done::Arm(rest), of: s };
+        Going::Then(doing, rest)
+    } else {
+        let doing = Doing { part: Part::Arms(rest), of: s, at };
+        Going::On(Turn::Here, doing)
+    }
+}
+
+/// The arms of an `if` from a place on and what stands behind its last `else`; an arm is met by its condition, or at a label
+/// in it.
+pub fn arms<'a>(s: &'a TStmt, i: usize, at: Entry) -> Going<'a>
+    ensures { Leaves (λ e n. met_arms (arms_from i (any_arms (view_stmt s.now))) (any_otherwise (view_stmt s.now)) e (view_entry at) (calls e.world n)) result }
+{
+    let Some(arm) = arms_in(s).get(i) else {
+        return behind_arms(s, at);
+    };
+    match at {
+        Entry::Front => {
+            let given = Use { purpose: Purpose::Arm(i), of: s };
+            Going::Ask(Asked::Answer(&arm.condition), given)
+        }
+        Entry::AtLabel(label) => arm_at(s, arm, i + 1, label),
     }
 }
 
@@ -72,20 +99,30 @@ fn behind_labels(labels: &[u32], at: Entry) -> Entry
     }
 }
 
-/// What takes up gotos, once.
-fn once<'a>(what: Taking<'a>, at: Entry) -> Doing<'a>
-    ensures { (e : Env) (n : ℕ) → doing_act result e n ≡ once_of what.entry e (view_entry at) (calls e.world n) }
+/// What takes up gotos, once; what does not is passed over.
+fn once<'a>(s: &'a TStmt, at: Entry) -> Option<Doing<'a>>
+    ensures { OnceOf (view_stmt s.now) (view_entry at) result }
 {
-    match what {
-        Taking::Items(list) => Doing::Items(list, at),
-        Taking::Arms(list, otherwise) => Doing::Arms(list, otherwise, at),
-        Taking::Labels(labels, body) => Doing::Statement(body, behind_labels(labels, at)),
+    match &s.form {
+        TStmtForm::Block { .. } => Some(Doing { part: Part::Members(0), of: s, at }),
+        TStmtForm::If(_, _) => Some(Doing { part: Part::Arms(0), of: s, at }),
+        TStmtForm::Label(labels, body) => {
+            let at = behind_labels(labels, at);
+            Some(Doing { part: Part::Whole, of: body, at })
+        }
+        _ => None,
     }
 }
 
-/// What takes up gotos: once, and behind that those to its labels.
-pub fn taking<'a>(what: Taking<'a>, at: Entry) -> Going<'a>
-    ensures { Leaves (λ e n. taking_act what.entry e (view_entry at) (calls e.world n)) result }
+/// What takes up gotos: it is done once, and behind that come those to its labels.
+pub fn taking<'a>(s: &'a TStmt, at: Entry) -> Going<'a>
+    ensures { Leaves (λ e n. taking_act (view_stmt s.now) e (view_entry at) (calls e.world n)) result }
 {
-    Going::Then(once(what, at), Remainder::Taking(what))
+    match once(s, at) {
+        Some(doing) => {
+            let rest = Remainder { done: Done::Taking, of: s };
+            Going::Then(doing, rest)
+        }
+        None => Going::Left(Flow::Normal),
+    }
 }

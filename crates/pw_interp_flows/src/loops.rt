@@ -1,70 +1,139 @@
-//! Loops (ISO C90 6.6.5).
+//! Loops (ISO C90 6.6.5). What is no loop is left at its top.
 
-ghost use Rattle.pw_typed.specs.Views.{view_expr, view_optional};
-ghost use Rattle.pw_cmean.specs.Acts.{◌>>=◌};
-ghost use Rattle.pw_cmean.specs.Execution.{condition};
+ghost use Rattle.std.specs.Prelude.{◌≡◌, option_map, true};
+ghost use Rattle.pw_typed.specs.Views.{view_expr, view_optional, view_stmt};
+ghost use Rattle.pw_cmean.specs.Acts.{◌>>=◌, ◌>>◌, give};
+ghost use Rattle.pw_cmean.specs.Execution as execution;
 ghost use Rattle.pw_cmean.specs.SourceRun.{calls};
 ghost use Rattle.pw_interp_todo.specs.Flows.{view_entry};
 ghost use Rattle.pw_interp_todo.specs.Going.{Leaves};
-ghost use Rattle.pw_interp_todo.specs.Loops.{behind_of, loop_act, top_or_leave, turn_or_leave};
+ghost use Rattle.pw_interp_todo.specs.Loops as loops;
+ghost use Rattle.pw_interp_flows.specs.Looping as spec;
 ghost use Rattle.pw_interp_flows.specs.Looping.{body_act, counting_act, met_act};
 
-use pw_interp_todo::{Asked, Doing, Entry, Going, Loop, Remainder, Tests, Use};
-use pw_typed::TExpr;
+use pw_interp_todo::{Asked, Doing, Done, Entry, Flow, Going, Part, Purpose, Remainder, Turn, Use};
+use pw_typed::{TExpr, TStmt, TStmtForm};
+
+/// The body of a loop; what is no loop has none.
+#[tactic(auto, unfolding(pw_typed::specs::Views::view_stmt_form), using(pw_typed::proofs::Rows::block_view, pw_typed::proofs::Rows::if_view))]
+fn body_in<'a>(s: &'a TStmt) -> Option<&'a TStmt>
+    ensures { option_map (λ b. view_stmt b.now) result ≡ spec.body_in (view_stmt s.now) }
+{
+    match &s.form {
+        TStmtForm::While(_, body) | TStmtForm::Do(body, _) => Some(body),
+        TStmtForm::For(_, _, _, body) => Some(body),
+        _ => None,
+    }
+}
 
 /// The body of a loop, met there, behind which the loop goes on.
-fn turn<'a>(l: Loop<'a>, at: Entry) -> Going<'a>
-    ensures { Leaves (λ e n. body_act l.entry e (view_entry at) (calls e.world n)) result }
+pub fn turn<'a>(s: &'a TStmt, at: Entry) -> Going<'a>
+    ensures { Leaves (λ e n. body_act (view_stmt s.now) e (view_entry at) (calls e.world n)) result }
 {
-    Going::Then(Doing::Statement(l.body, at), Remainder::Body(l))
+    match body_in(s) {
+        Some(body) => {
+            let doing = Doing { part: Part::Whole, of: body, at };
+            let rest = Remainder { done: Done::Body, of: s };
+            Going::Then(doing, rest)
+        }
+        None => Going::Left(Flow::Normal),
+    }
 }
 
 /// A loop from its top, which tests a condition there.
-fn test<'a>(l: Loop<'a>, c: &'a TExpr) -> Going<'a>
-    ensures { Leaves (λ e n. condition (view_expr c.now) (calls e.world n) e >>= turn_or_leave l.entry e (calls e.world n)) result }
+fn test<'a>(s: &'a TStmt, c: &'a TExpr) -> Going<'a>
+    ensures { Leaves (λ e n. execution.condition (view_expr c.now) (calls e.world n) e >>= loops.turn_or_leave (view_stmt s.now) e (calls e.world n)) result }
 {
-    Going::Ask(Asked::Answer(c), Use::Ahead(c.token, l))
+    let given = Use { purpose: Purpose::Ahead(c.token), of: s };
+    Going::Ask(Asked::Answer(c), given)
+}
+
+/// A `for` from its top, whose condition may be left out.
+fn test_some<'a>(s: &'a TStmt, c: &'a Option<TExpr>) -> Going<'a>
+    ensures { Leaves (λ e n. execution.for_condition (view_optional c.now) (calls e.world n) e >>= loops.turn_or_leave (view_stmt s.now) e (calls e.world n)) result }
+{
+    match c {
+        Some(c) => test(s, c),
+        None => turn(s, Entry::Front),
+    }
 }
 
 /// A loop from its top.
-pub fn top<'a>(l: Loop<'a>) -> Going<'a>
-    ensures { Leaves (λ e n. loop_act l.entry e (calls e.world n)) result }
+pub fn top<'a>(s: &'a TStmt) -> Going<'a>
+    ensures { Leaves (λ e n. loops.loop_act (view_stmt s.now) e (calls e.world n)) result }
 {
-    match l.tests {
-        Tests::While(c) => test(l, c),
-        Tests::Do(_) => turn(l, Entry::Front),
-        Tests::For(Some(c), _) => test(l, c),
-        Tests::For(None, _) => turn(l, Entry::Front),
+    match &s.form {
+        TStmtForm::While(c, _) => test(s, c),
+        TStmtForm::Do(_, _) => turn(s, Entry::Front),
+        TStmtForm::For(_, c, _, _) => test_some(s, c),
+        _ => Going::Left(Flow::Normal),
     }
 }
 
 /// A loop that is met at its beginning or at a label in its body.
-pub fn met<'a>(l: Loop<'a>, at: Entry) -> Going<'a>
-    ensures { Leaves (λ e n. met_act l.entry e (view_entry at) (calls e.world n)) result }
+pub fn met<'a>(s: &'a TStmt, at: Entry) -> Going<'a>
+    ensures { Leaves (λ e n. met_act (view_stmt s.now) e (view_entry at) (calls e.world n)) result }
 {
     match at {
-        Entry::Front => Going::On(Doing::Top(l)),
-        Entry::AtLabel(_) => turn(l, at),
+        Entry::Front => Going::On(Turn::Here, Doing { part: Part::Top, of: s, at }),
+        Entry::AtLabel(_) => turn(s, at),
     }
 }
 
-/// A `for`: its first part comes where it is met at its beginning.
-pub fn counted<'a>(first: &'a Option<TExpr>, l: Loop<'a>, at: Entry) -> Going<'a>
-    ensures { Leaves (λ e n. counting_act (view_optional first.now) l.entry e (view_entry at) (calls e.world n)) result }
+/// A `for` at its beginning: its first part comes, if there is one.
+fn counted_front<'a>(s: &'a TStmt, first: &'a Option<TExpr>) -> Going<'a>
+    ensures { Leaves (λ e n. counting_act (view_optional first.now) (view_stmt s.now) e execution.Front (calls e.world n)) result }
 {
-    match (first, at) {
-        (Some(a), Entry::Front) => Going::Ask(Asked::Answer(a), Use::First(l)),
-        (_, _) => met(l, at),
+    match first {
+        Some(a) => Going::Ask(Asked::Answer(a), Use { purpose: Purpose::First, of: s }),
+        None => met(s, Entry::Front),
     }
 }
 
-/// Behind the body of a loop: what stands there.
-pub fn tail<'a>(l: Loop<'a>) -> Going<'a>
-    ensures { Leaves (λ e n. behind_of l.entry.tests e (calls e.world n) >>= top_or_leave l.entry e (calls e.world n)) result }
+/// A `for`, met at its beginning or at a label in its body.
+pub fn counted<'a>(s: &'a TStmt, first: &'a Option<TExpr>, at: Entry) -> Going<'a>
+    ensures { Leaves (λ e n. counting_act (view_optional first.now) (view_stmt s.now) e (view_entry at) (calls e.world n)) result }
 {
-    match l.tests {
-        Tests::Do(c) => Going::Ask(Asked::Answer(c), Use::Tail(c.token, l)),
-        Tests::For(_, Some(a)) => Going::Ask(Asked::Answer(a), Use::Third(l)),
-        Tests::While(_) | Tests::For(_, None) => Going::Back(Doing::Top(l)),
+    match at {
+        Entry::Front => counted_front(s, first),
+        Entry::AtLabel(_) => met(s, at),
+    }
+}
+
+/// Back at the top of a loop, with a bound that is one smaller.
+pub fn back<'a>(s: &'a TStmt) -> Going<'a>
+    ensures { Leaves (λ e n. loops.top_act (view_stmt s.now) e (calls e.world n)) result }
+{
+    let doing = Doing { part: Part::Top, of: s, at: Entry::Front };
+    Going::On(Turn::Back, doing)
+}
+
+/// Behind the body of a loop that tests a condition there.
+fn tail_test<'a>(s: &'a TStmt, c: &'a TExpr) -> Going<'a>
+    ensures { Leaves (λ e n. execution.condition (view_expr c.now) (calls e.world n) e >>= loops.top_or_leave (view_stmt s.now) e (calls e.world n)) result }
+{
+    let given = Use { purpose: Purpose::Tail(c.token), of: s };
+    Going::Ask(Asked::Answer(c), given)
+}
+
+/// Behind the body of a `for`, whose third part may be left out.
+fn tail_third<'a>(s: &'a TStmt, third: &'a Option<TExpr>) -> Going<'a>
+    ensures { Leaves (λ e n. (execution.drop_value (view_optional third.now) (calls e.world n) e >> give true) >>= loops.top_or_leave (view_stmt s.now) e (calls e.world n)) result }
+{
+    match third {
+        Some(a) => Going::Ask(Asked::Answer(a), Use { purpose: Purpose::Third, of: s }),
+        None => back(s),
+    }
+}
+
+/// Behind the body of a loop.
+pub fn tail<'a>(s: &'a TStmt) -> Going<'a>
+    ensures { Leaves (λ e n. loops.behind_of (view_stmt s.now) e (calls e.world n) >>= loops.top_or_leave (view_stmt s.now) e (calls e.world n)) result }
+{
+    match &s.form {
+        TStmtForm::While(_, _) => back(s),
+        TStmtForm::Do(_, c) => tail_test(s, c),
+        TStmtForm::For(_, _, third, _) => tail_third(s, third),
+        _ => Going::Left(Flow::Normal),
     }
 }

@@ -55,6 +55,5 @@ unfolding ◌>>=◌ go_on give need
 through_place first f s = by (first s)
   where
     by : (o : Outcome _) → go_on (go_on o (λ a. give (Some a))) (λ given. need given >>= f) ≡ go_on o f
-    unfolding go_on ◌>>=◌ give need
     by (Gives a t) = refl
     by (Ends ending t) = refl

@@ -38,11 +38,10 @@ named {world = world} {act = act} {w = w} e = subst (λ x. Leads world act w x w
 
 -- behind what the first gave
 pub behind_given : {A B : Type 0} {world : World} {first : Act A} {a : A} {w u : Shown} (next : A → Act B) → Runs world first w (Ok a) u → Leads world (first >>= next) w (next a) u
-unfolding ◌>>=◌
+unfolding ◌>>=◌ go_on
 behind_given {A = A} {world = world} {first = first} {a = a} {w = w} {u = u} next run = record { leads = λ s e. by (first s) (run.comes s e) }
   where
     by : (o : Outcome A) → Shows world o (Ok a) u → (t : State) × (shown world t ≡ u) × (go_on o next ≡ next a t)
-    unfolding go_on
     by (Gives b t) (is, at) = let same : b ≡ a = cc is in (t, at, ap (λ x. next x t) same)
     by (Ends ending t) (is, at) = cc is
 
@@ -111,7 +110,6 @@ last_gives {A = A} {seen = seen} {left = left} {world = world} {act = act} {made
     left_so d is (subst (λ x. Leads world act w x u) (sym gives) (record { leads = λ s f. by (act s) ((given_by a e).comes s f) }))
   where
     by : (o : Outcome A) → Shows world o (Ok (seen made)) u → (t : State) × (shown world t ≡ u) × (o ≡ give (seen made) t)
-    unfolding give
     by (Gives b t) (is, at) = let same : b ≡ seen made = cc is in (t, at, ap (λ x. Gives x t) same)
     by (Ends ending t) (is, at) = cc is
 
@@ -145,19 +143,19 @@ continues_in {B = B} {left = left} {world = world} {act = act} {w = w} {u = u} {
 
 -- ---- values that must be there
 
-pub need_seen : {A B : Type 0} {view : B → A} {world : World} {o : Option B} {p : Option A} {w : Shown} {r : Result B Stop} → r ≡ needed o → option_map view o ≡ p → Answers view world (need p) w r w
-need_seen {view = view} {world = world} {o = o} {w = w} is seen =
+pub need_seen : {A B : Type 0} {view : B → A} {world : World} {p : Option A} {w : Shown} {r : Result B Stop} (o : Option B) → r ≡ needed o → option_map view o ≡ p → Answers view world (need p) w r w
+unfolding need wrong
+need_seen {B = B} {view = view} {world = world} {w = w} o is seen =
     subst (λ x. Answers view world (need x) w _ w) seen (subst (λ x. Answers view world (need (option_map view o)) w x w) (sym is) (by o))
   where
-    by : (x : Option _) → Answers view world (need (option_map view x)) w (needed x) w
-    unfolding need wrong
+    by : (x : Option B) → Answers view world (need (option_map view x)) w (needed x) w
     by (Some b) = gives b
     by None = ends_so {stop = S.Ended E.Wrong} refl
 
-pub need_there : {A : Type 0} {world : World} {o : Option A} {w : Shown} {r : Result A Stop} → r ≡ needed o → Answers (λ a. a) world (need o) w r w
-need_there {world = world} {o = o} {w = w} is = subst (λ x. Answers (λ a. a) world (need o) w x w) (sym is) (by o)
+pub need_there : {A : Type 0} {world : World} {w : Shown} {r : Result A Stop} (o : Option A) → r ≡ needed o → Answers (λ a. a) world (need o) w r w
+unfolding need wrong
+need_there {A = A} {world = world} {w = w} o is = subst (λ x. Answers (λ a. a) world (need o) w x w) (sym is) (by o)
   where
-    by : (x : Option _) → Answers (λ a. a) world (need x) w (needed x) w
-    unfolding need wrong
+    by : (x : Option A) → Answers (λ a. a) world (need x) w (needed x) w
     by (Some a) = gives a
     by None = ends_so {stop = S.Ended E.Wrong} refl

@@ -1,3 +1,4 @@
 pub mod ActLaws
 pub mod LeadLaws
+pub mod Firsts
 pub mod Splits

@@ -1,6 +1,7 @@
 pub mod Asking
 pub mod Operands
 pub mod Flows
+pub mod Members
 pub mod Loops
 pub mod Parts
 pub mod Going

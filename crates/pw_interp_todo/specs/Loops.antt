@@ -1,43 +1,48 @@
--- Loops by their tests (ISO C90 6.6.5).
-use Rattle.std.specs.Prelude.{ℕ, Bool, true, [], ◌∷◌}
-use Rattle.pw_types.specs.TypedTrees.{Statement}
-use Rattle.pw_typed.specs.Views.{view_expr, view_optional, view_stmt}
+-- Loops by their forms (ISO C90 6.6.5). What is no loop is left at its top.
+use Rattle.std.specs.Prelude.{Bool, true, false, [], ◌∷◌}
+use Rattle.pw_types.specs.TypedTrees.{Statement, While, Do, For}
 use Rattle.pw_cmean.specs.Acts.{Act, Bound, ◌>>=◌, ◌>>◌, give, stop, branch}
 use Rattle.pw_cmean.specs.Evaluation.{Env, Calls}
 use Rattle.pw_cmean.specs.Execution as execution
-use Rattle.pw_cmean.specs.Execution.{Entry, Flow, always, condition, for_condition, drop_value, meaning}
-use Rattle.pw_interp_todo.specs.declared.statements.Loop.{Loop}
-use Rattle.pw_interp_todo.specs.declared.statements.Tests.{Tests}
-use Rattle.pw_interp_todo.specs.declared.statements.Tests.TheVariants as T
+use Rattle.pw_cmean.specs.Execution.{Entry, Front, Flow, Normal, always, condition, for_condition, drop_value, meaning, turn, after_body}
 
 -- what is tested at the top
-abbrev pub ahead_of : Tests → Env → Calls → Act Bool
-ahead_of (T.While c) e = λ cs. condition (view_expr c.now) cs e
-ahead_of (T.Do c) e = always
-ahead_of (T.For c third) e = λ cs. for_condition (view_optional c.now) cs e
-
--- what stands behind the body
-abbrev pub behind_of : Tests → Env → Calls → Act Bool
-behind_of (T.While c) e = always
-behind_of (T.Do c) e = λ cs. condition (view_expr c.now) cs e
-behind_of (T.For c third) e = λ cs. drop_value (view_optional third.now) cs e >> give true
+abbrev pub ahead_of : Statement → Env → Calls → Act Bool
+ahead_of (While t c body) e cs = condition c cs e
+ahead_of (Do t body c) e cs = always cs
+ahead_of (For t first c third body) e cs = for_condition c cs e
+ahead_of _ e cs = give false
 
 abbrev pub body_of : Statement → Env → Entry → Calls → Act Flow
-body_of body e = λ at cs. meaning body at cs e
+body_of (While t c body) e at cs = meaning body at cs e
+body_of (Do t body c) e at cs = meaning body at cs e
+body_of (For t first c third body) e at cs = meaning body at cs e
+body_of _ e at cs = give Normal
+
+-- what stands behind the body
+abbrev pub behind_of : Statement → Env → Calls → Act Bool
+behind_of (While t c body) e cs = always cs
+behind_of (Do t body c) e cs = condition c cs e
+behind_of (For t first c third body) e cs = drop_value third cs e >> give true
+behind_of _ e cs = give false
 
 -- a loop from its top
-abbrev pub loop_act : Loop → Env → Calls → Act Flow
-loop_act l e cs = execution.loop (ahead_of l.tests e) (body_of (view_stmt l.body.now) e) (behind_of l.tests e) cs
+abbrev pub loop_act : Statement → Env → Calls → Act Flow
+loop_act s e cs = execution.loop (ahead_of s e) (body_of s e) (behind_of s e) cs
 
 -- back at the top, with a bound that is one smaller
-unfoldable pub top_act : Loop → Env → Calls → Act Flow
-top_act l e [] = stop Bound
-top_act l e (c ∷ cs) = loop_act l e cs
+unfoldable pub top_act : Statement → Env → Calls → Act Flow
+top_act s e [] = stop Bound
+top_act s e (c ∷ cs) = loop_act s e cs
 
 -- where what is tested at the top says so, the body and what stands behind it
-unfoldable pub turn_or_leave : Loop → Env → Calls → Bool → Act Flow
-turn_or_leave l e cs more = branch more (execution.turn (body_of (view_stmt l.body.now) e) (behind_of l.tests e) execution.Front cs (top_act l e cs)) (give execution.Normal)
+unfoldable pub turn_or_leave : Statement → Env → Calls → Bool → Act Flow
+turn_or_leave s e cs more = branch more (turn (body_of s e) (behind_of s e) Front cs (top_act s e cs)) (give Normal)
 
 -- where what stands behind the body says so, the way back to the top
-unfoldable pub top_or_leave : Loop → Env → Calls → Bool → Act Flow
-top_or_leave l e cs more = branch more (top_act l e cs) (give execution.Normal)
+unfoldable pub top_or_leave : Statement → Env → Calls → Bool → Act Flow
+top_or_leave s e cs more = branch more (top_act s e cs) (give Normal)
+
+-- behind the body
+unfoldable pub body_behind : Statement → Env → Calls → Flow → Act Flow
+body_behind s e cs flow = after_body (behind_of s e cs >>= top_or_leave s e cs) flow

@@ -13,7 +13,8 @@ use Rattle.pw_interp_todo.specs.declared.todo.Todo.TheVariants as T
 use Rattle.pw_interp_todo.specs.Asking.{asked_act}
 use Rattle.pw_interp_todo.specs.Flows.{view_flow}
 use Rattle.pw_interp_todo.specs.Operands.{behind, call_behind}
-use Rattle.pw_interp_todo.specs.Parts.{doing_act, block_act, remainder_act, use_act}
+use Rattle.pw_interp_todo.specs.Parts.{doing_act}
+use Rattle.pw_interp_todo.specs.Going.{remainder_act, use_act}
 
 -- what was done has given this: a result, what comes of a statement, or the values of a call's arguments
 pub data Told : Type 0 where
@@ -73,7 +74,6 @@ resume (first ∷ more) rest = resume more (after first rest)
 unfoldable pub control_act : Control → Env → ℕ → Rest → Act (Unit {0})
 control_act (C.Ask asked) e n rest = asked_act asked e n >>= λ r. rest e n (Gave r)
 control_act (C.Do what bound) e n rest = doing_act what e n >>= λ flow. rest e bound (Flowed flow)
-control_act (C.Open what bound) e n rest = block_act what e n >>= λ flow. rest e bound (Flowed flow)
 control_act (C.Arguments args token) e n rest = values_of (view_exprs args.now) token (calls e.world n) e >>= λ vs. rest e n (Listed vs)
 control_act (C.Gave given) e n rest = rest e n (Gave given)
 control_act (C.Flowed flow) e n rest = rest e n (Flowed (view_flow flow))

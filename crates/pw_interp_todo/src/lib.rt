@@ -11,5 +11,5 @@ pub mod todo;
 pub use asked::{Asked, Callee, Next, Operand};
 pub use flow::{Entry, Flow};
 pub use needs::{need, tested};
-pub use statements::{Block, Doing, Going, Loop, Remainder, Taking, Tests, Use};
+pub use statements::{Doing, Done, Going, Part, Purpose, Remainder, Turn, Use};
 pub use todo::{Control, Todo};

@@ -1,105 +1,102 @@
-//! Parts of statements that are done, and what is left of statements behind them (ISO C90 6.6).
+//! Parts of statements that are done, and what is left of statements behind them (ISO C90 6.6). Each is told by its
+//! statement and a place in it, which counts from 0.
 
 use crate::asked::Asked;
 use crate::flow::{Entry, Flow};
-use pw_typed::{Arm, Case, Initialiser, TExpr, TStmt};
+use pw_typed::TStmt;
 
-/// What takes up gotos that go back: the list of a block; an `if`; or a statement behind labels of its own, for these.
+/// A part of a statement. A statement that has no such part has an empty one.
 #[derive(Clone, Copy)]
-pub enum Taking<'a> {
-    Items(&'a [TStmt]),
-    Arms(&'a [Arm], &'a Option<Box<TStmt>>),
-    Labels(&'a [u32], &'a TStmt),
+pub enum Part {
+    /// The statement itself.
+    Whole,
+    /// A block, so many of whose locals have their objects.
+    Locals(u32),
+    /// The initialisers of a block from a place on, and then its list.
+    Initialisers(usize),
+    /// The list of a block, an `if` or a statement with labels, which takes up the gotos to the labels in it.
+    Taking,
+    /// The members of a block's list from a place on.
+    Members(usize),
+    /// The arms of an `if` from a place on, and what stands behind its last `else`.
+    Arms(usize),
+    /// A loop from its top.
+    Top,
 }
 
-/// What a loop does beside its body: it tests a condition at its top, or behind its body; or it tests at its top, and
-/// evaluates behind its body, either of which may be left out.
+/// A part of a statement that is done, and where it is met.
 #[derive(Clone, Copy)]
-pub enum Tests<'a> {
-    While(&'a TExpr),
-    Do(&'a TExpr),
-    For(&'a Option<TExpr>, &'a Option<TExpr>),
-}
-
-/// A loop: its tests and its body.
-#[derive(Clone, Copy)]
-pub struct Loop<'a> {
-    pub tests: Tests<'a>,
-    pub body: &'a TStmt,
-}
-
-/// A block of which so many locals from a place on have no objects yet; its initialisers, its list, and where it is met.
-#[derive(Clone, Copy)]
-pub struct Block<'a> {
-    pub first: u32,
-    pub count: u32,
-    pub initialisers: &'a [Initialiser],
-    pub items: &'a [TStmt],
+pub struct Doing<'a> {
+    pub part: Part,
+    pub of: &'a TStmt,
     pub at: Entry,
 }
 
-/// A statement or a part of one that is done.
+/// What the value of an expression is for in a statement. A token is that of the expression.
 #[derive(Clone, Copy)]
-pub enum Doing<'a> {
-    Statement(&'a TStmt, Entry),
-    /// The members of a list that are left.
-    Items(&'a [TStmt], Entry),
-    /// The arms of an `if` that are left, and what stands behind its last `else`.
-    Arms(&'a [Arm], &'a Option<Box<TStmt>>, Entry),
-    /// What takes up gotos.
-    Taking(Taking<'a>, Entry),
-    /// The initialisers of a block that are left, and its list.
-    Inside(&'a [Initialiser], &'a [TStmt], Entry),
-    /// A loop from its top.
-    Top(Loop<'a>),
+pub enum Purpose {
+    /// It is dropped.
+    Dropped,
+    /// The condition of the arm of this place.
+    Arm(usize),
+    /// The first part of a `for`.
+    First,
+    /// The condition at the top of a loop.
+    Ahead(usize),
+    /// The condition behind the body of a loop.
+    Tail(usize),
+    /// The third part of a `for`.
+    Third,
+    /// The value of a switch.
+    Switch(usize),
+    /// The value of a `return`.
+    Return(usize),
+    /// The initialiser of this place.
+    Initialise(usize),
 }
 
 /// What a statement does with the value of an expression.
 #[derive(Clone, Copy)]
-pub enum Use<'a> {
-    /// It drops the value.
-    Dropped,
-    /// The condition of an arm, behind which others stand and what is behind the last `else`.
-    Arm(&'a Arm, &'a [Arm], &'a Option<Box<TStmt>>),
-    /// The first part of a `for`.
-    First(Loop<'a>),
-    /// The condition at the top of a loop, which has the token.
-    Ahead(usize, Loop<'a>),
-    /// The condition behind the body of a loop, which has the token.
-    Tail(usize, Loop<'a>),
-    /// The third part of a `for`.
-    Third(Loop<'a>),
-    /// The value of a switch, which has the token: its cases, the label of its default and its body.
-    Switch(usize, &'a [Case], Option<u32>, &'a TStmt),
-    /// The value of a `return`, which has the token.
-    Return(usize),
-    /// The initialiser of a local, which has the token; the initialisers behind it, and the list of the block.
-    Initialise(usize, u32, &'a [Initialiser], &'a [TStmt]),
+pub struct Use<'a> {
+    pub purpose: Purpose,
+    pub of: &'a TStmt,
+}
+
+/// A part of a statement that was done.
+#[derive(Clone, Copy)]
+pub enum Done {
+    /// The member of a list before this place.
+    Member(usize),
+    /// The arm of an `if` before this place.
+    Arm(usize),
+    /// What takes up gotos.
+    Taking,
+    /// The body of a loop.
+    Body,
+    /// The body of a switch.
+    Switch,
 }
 
 /// What is left of a statement behind a part of it.
 #[derive(Clone, Copy)]
-pub enum Remainder<'a> {
-    /// Behind a member of a list the others.
-    Items(&'a [TStmt]),
-    /// Behind an arm of an `if` the others, and what stands behind its last `else`.
-    Arms(&'a [Arm], &'a Option<Box<TStmt>>),
-    /// Gotos that go back are taken up.
-    Taking(Taking<'a>),
-    /// Behind the body of a loop.
-    Body(Loop<'a>),
-    /// Behind the body of a switch.
-    Switch,
+pub struct Remainder<'a> {
+    pub done: Done,
+    pub of: &'a TStmt,
 }
 
-/// What is left of a statement: nothing; a part in its place, also at a bound that is one smaller; a block; a part, and
-/// what is left behind that; or an expression, and what the statement does with its value.
+/// With which bound the run goes on: with the same, or with one that is one smaller.
+#[derive(Clone, Copy)]
+pub enum Turn {
+    Here,
+    Back,
+}
+
+/// What is left of a statement: nothing; a part in its place; a part, and what is left behind that; or an expression, and
+/// what the statement does with its value.
 #[derive(Clone, Copy)]
 pub enum Going<'a> {
     Left(Flow),
-    On(Doing<'a>),
-    Back(Doing<'a>),
-    Open(Block<'a>),
+    On(Turn, Doing<'a>),
     Then(Doing<'a>, Remainder<'a>),
     Ask(Asked<'a>, Use<'a>),
 }

@@ -2,7 +2,7 @@
 
 use crate::asked::{Asked, Callee, Operand};
 use crate::flow::Flow;
-use crate::statements::{Block, Doing, Remainder, Use};
+use crate::statements::{Doing, Remainder, Use};
 use pw_typed::TExpr;
 use pw_value::Value;
 
@@ -34,13 +34,12 @@ pub enum Todo<'a> {
     EndParameters { count: u32, number: u128 },
 }
 
-/// What is done now: what is asked; a statement or a block, behind which the run goes on with a bound; the arguments of a
+/// What is done now: what is asked; a part of a statement, behind which the run goes on with a bound; the arguments of a
 /// call that are left; or what was done has given this.
 #[derive(Clone, Copy)]
 pub enum Control<'a> {
     Ask(Asked<'a>),
     Do { what: Doing<'a>, bound: u64 },
-    Open { what: Block<'a>, bound: u64 },
     Arguments(&'a [TExpr], usize),
     Gave(Option<Value>),
     Flowed(Flow),

@@ -12,19 +12,19 @@ pub returns-in_err-node : goal.returns-in_err-node
 unfolding right_behind
 returns-in_err-node c bound =
     then_more _ (c.used.ensures.answers _) c.in_ok-value.was
-    (then_stops _ (need_seen c.need.ensures c.binary_in.ensures) c.in_err-node.was (search rules))
+    (then_stops _ (need_seen _ c.need.ensures c.binary_in.ensures) c.in_err-node.was (search rules))
 
 pub returns-in_err-result : goal.returns-in_err-result
 unfolding right_behind
 returns-in_err-result c bound =
     then_more _ (c.used.ensures.answers _) c.in_ok-value.was
-    (then_more _ (need_seen c.need.ensures c.binary_in.ensures) c.in_ok-node.was
+    (then_more _ (need_seen _ c.need.ensures c.binary_in.ensures) c.in_ok-node.was
     (then_stops _ c.binary.ensures.answers c.in_err-result.was (search rules)))
 
 pub returns : goal.returns
 unfolding right_behind
 returns c bound =
     then_more _ (c.used.ensures.answers _) c.in_ok-value.was
-    (then_more _ (need_seen c.need.ensures c.binary_in.ensures) c.in_ok-node.was
+    (then_more _ (need_seen _ c.need.ensures c.binary_in.ensures) c.in_ok-node.was
     (then_more _ c.binary.ensures.answers c.in_ok-result.was
     (leaves _)))

@@ -12,19 +12,19 @@ pub returns-in_err-ty : goal.returns-in_err-ty
 unfolding stored_behind
 returns-in_err-ty c bound =
     then_more _ (c.used.ensures.answers _) c.in_ok-value.was
-    (then_stops _ (need_seen c.need.ensures c.target_in.ensures) c.in_err-ty.was (search rules))
+    (then_stops _ (need_seen _ c.need.ensures c.target_in.ensures) c.in_err-ty.was (search rules))
 
 pub returns-in_err-put : goal.returns-in_err-put
 unfolding stored_behind
 returns-in_err-put c bound =
     then_more _ (c.used.ensures.answers _) c.in_ok-value.was
-    (then_more _ (need_seen c.need.ensures c.target_in.ensures) c.in_ok-ty.was
+    (then_more _ (need_seen _ c.need.ensures c.target_in.ensures) c.in_ok-ty.was
     (then_stops _ c.put.ensures c.in_err-put.was (search rules)))
 
 pub returns : goal.returns
 unfolding stored_behind
 returns c bound =
     then_more _ (c.used.ensures.answers _) c.in_ok-value.was
-    (then_more _ (need_seen c.need.ensures c.target_in.ensures) c.in_ok-ty.was
+    (then_more _ (need_seen _ c.need.ensures c.target_in.ensures) c.in_ok-ty.was
     (then_more _ c.put.ensures c.in_ok-put.was
     (leaves _)))

@@ -1,0 +1,3 @@
+mod Copying
+mod LabelLemmas
+mod LocalLaws

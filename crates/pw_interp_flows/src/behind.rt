@@ -1,0 +1,118 @@
+//! What is left of a statement behind a part of it.
+
+ghost use Rattle.std.specs.Prelude.{◌≡◌, drop};
+ghost use Rattle.pw_typed.specs.Views.{view_stmt};
+ghost use Rattle.pw_cmean.specs.Execution as execution;
+ghost use Rattle.pw_cmean.specs.SourceRun.{calls};
+ghost use Rattle.pw_interp_todo.specs.Flows.{view_flow};
+ghost use Rattle.pw_interp_todo.specs.Going as spec;
+ghost use Rattle.pw_interp_todo.specs.Going.{Leaves};
+ghost use Rattle.pw_interp_todo.specs.Loops.{body_behind};
+ghost use Rattle.pw_interp_todo.specs.Members as any;
+ghost use Rattle.pw_interp_todo.specs.Parts.{again_act};
+
+use crate::labels::{holds, is_among, is_in_if};
+use crate::loops::tail;
+use crate::members::{arms_in, members_in, otherwise_in};
+use pw_interp_todo::{Doing, Done, Entry, Flow, Going, Part, Remainder, Turn};
+use pw_typed::{TStmt, TStmtForm};
+
+/// What stands of a list from a place on.
+fn from_on<T>(list: &[T], i: usize) -> &[T]
+    ensures { result.now ≡ drop i list.now }
+{
+    if i <= list.len() { &list[i..] } else { &[] }
+}
+
+/// Behind a member of a list: the others from a place on, from their beginning or from a label in them.
+fn members<'a>(s: &'a TStmt, i: usize, flow: Flow) -> Going<'a>
+    ensures { Leaves (λ e n. spec.members_behind (any.members_from i (any.members_in (view_stmt s.now))) e (calls e.world n) (view_flow flow)) result }
+{
+    match flow {
+        Flow::Normal => {
+            let doing = Doing { part: Part::Members(i), of: s, at: Entry::Front };
+            Going::On(Turn::Here, doing)
+        }
+        Flow::Goes(label) if is_among(from_on(members_in(s), i), label) => {
+            let at = Entry::AtLabel(label);
+            let doing = Doing { part: Part::Members(i), of: s, at };
+            Going::On(Turn::Here, doing)
+        }
+        Flow::Breaks | Flow::Continues | Flow::Returns(_) | Flow::Goes(_) => Going::Left(flow),
+    }
+}
+
+/// Behind an arm that was met: those behind it from a place on, from a label in them.
+fn later_arms<'a>(s: &'a TStmt, i: usize, flow: Flow) -> Going<'a>
+    ensures { Leaves (λ e n. spec.arm_behind (any.arms_from i (any.arms_in (view_stmt s.now))) (any.otherwise_in (view_stmt s.now)) e (calls e.world n) (view_flow flow)) result }
+{
+    match flow {
+        Flow::Goes(label) if is_in_if(from_on(arms_in(s), i), otherwise_in(s), label) => {
+            let at = Entry::AtLabel(label);
+            let doing = Doing { part: Part::Arms(i), of: s, at };
+            Going::On(Turn::Here, doing)
+        }
+        _ => Going::Left(flow),
+    }
+}
+
+/// Whether a statement takes up gotos to a label.
+#[tactic(auto, unfolding(pw_typed::specs::Views::view_stmt_form), using(pw_typed::proofs::Rows::block_view, pw_typed::proofs::Rows::if_view))]
+fn takes(s: &TStmt, label: u32) -> bool
+    ensures { result ≡ execution.holds (any.taken_in (view_stmt s.now)) label }
+{
+    match &s.form {
+        TStmtForm::Block { items, .. } => is_among(items, label),
+        TStmtForm::If(arms, otherwise) => is_in_if(arms, otherwise, label),
+        TStmtForm::Label(labels, _) => holds(labels, label),
+        _ => false,
+    }
+}
+
+/// Behind what takes up gotos: each goes on at its label, with a bound that is one smaller.
+fn taken<'a>(s: &'a TStmt, flow: Flow) -> Going<'a>
+    ensures { Leaves (λ e n. execution.caught (any.taken_in (view_stmt s.now)) (again_act (view_stmt s.now) e (calls e.world n)) (view_flow flow)) result }
+{
+    match flow {
+        Flow::Goes(label) if takes(s, label) => {
+            let at = Entry::AtLabel(label);
+            let doing = Doing { part: Part::Taking, of: s, at };
+            Going::On(Turn::Back, doing)
+        }
+        _ => Going::Left(flow),
+    }
+}
+
+/// Behind the body of a loop.
+fn behind_body<'a>(s: &'a TStmt, flow: Flow) -> Going<'a>
+    ensures { Leaves (λ e n. body_behind (view_stmt s.now) e (calls e.world n) (view_flow flow)) result }
+{
+    match flow {
+        Flow::Normal | Flow::Continues => tail(s),
+        Flow::Breaks => Going::Left(Flow::Normal),
+        Flow::Returns(_) | Flow::Goes(_) => Going::Left(flow),
+    }
+}
+
+/// A `break` in the body of a switch leaves the switch.
+fn behind_switch<'a>(flow: Flow) -> Going<'a>
+    ensures { Leaves (λ e n. execution.after_switch (view_flow flow)) result }
+{
+    match flow {
+        Flow::Breaks => Going::Left(Flow::Normal),
+        _ => Going::Left(flow),
+    }
+}
+
+/// What is left of a statement behind a part of it, of which this comes.
+pub fn remainder<'a>(what: Remainder<'a>, flow: Flow) -> Going<'a>
+    ensures { Leaves (λ e n. spec.remainder_act what.entry e n (view_flow flow)) result }
+{
+    match what.done {
+        Done::Member(i) => members(what.of, i, flow),
+        Done::Arm(i) => later_arms(what.of, i, flow),
+        Done::Taking => taken(what.of, flow),
+        Done::Body => behind_body(what.of, flow),
+        Done::Switch => behind_switch(flow),
+    }
+}
