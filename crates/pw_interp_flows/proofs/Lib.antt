@@ -1,3 +1,6 @@
 mod Copying
+mod Forming
 mod LabelLemmas
+mod Listing
 mod LocalLaws
+mod Turning

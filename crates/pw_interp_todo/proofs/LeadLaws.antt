@@ -145,8 +145,8 @@ continues_in {B = B} {left = left} {world = world} {act = act} {w = w} {u = u} {
 
 pub need_seen : {A B : Type 0} {view : B → A} {world : World} {p : Option A} {w : Shown} {r : Result B Stop} (o : Option B) → r ≡ needed o → option_map view o ≡ p → Answers view world (need p) w r w
 unfolding need wrong
-need_seen {B = B} {view = view} {world = world} {w = w} o is seen =
-    subst (λ x. Answers view world (need x) w _ w) seen (subst (λ x. Answers view world (need (option_map view o)) w x w) (sym is) (by o))
+need_seen {B = B} {view = view} {world = world} {w = w} {r = r} o is seen =
+    subst (λ x. Answers view world (need x) w r w) seen (subst (λ x. Answers view world (need (option_map view o)) w x w) (sym is) (by o))
   where
     by : (x : Option B) → Answers view world (need (option_map view x)) w (needed x) w
     by (Some b) = gives b

@@ -97,7 +97,7 @@ module _ (e : Env) (bound : ℕ) (t : ℕ) (ty : QType) where
   split_place (Step op a) = tt
   split_place (Cast a) = tt
   split_place (Decay a) = tt
-  split_place (Member a offset) = λ s. grouped _ _ _ s ∙ grouped (place_of a cs e) _ _ s ∙ placed_first e bound t a _ s
+  split_place (Member a offset) = λ s. grouped (place_of a cs e) _ _ s ∙ placed_first e bound t a _ s
   split_place (Deref a) = λ s. used_first e bound t a _ s
   split_place (Address a) = tt
   split_place (Call symbol args) = tt
