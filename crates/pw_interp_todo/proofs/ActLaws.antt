@@ -1,5 +1,5 @@
 -- Acts in order, state by state.
-use Rattle.std.proofs.Common.{◌≡◌, refl, ◌∙◌, Bool, true, false, Option, Some}
+use Rattle.std.proofs.Common.{◌≡◌, refl, Bool, true, false, Some}
 use Rattle.pw_cmean.specs.Acts.{Act, State, Outcome, Gives, Ends, give, go_on, ◌>>=◌, branch, need}
 
 -- what follows does the same

@@ -1,8 +1,8 @@
 -- What is evaluated first, and then this.
-use Rattle.std.proofs.Common.{ℕ, ◌≡◌, sym, ◌∙◌, Bool, Option, Some}
+use Rattle.std.proofs.Common.{ℕ, ◌≡◌, sym, ◌∙◌, Bool, Some}
 use Rattle.pw_value.specs.declared.value.Value.{Value}
 use Rattle.pw_types.specs.TypedTrees.{Expression}
-use Rattle.pw_cmean.specs.Acts.{Act, State, give, ◌>>=◌, need}
+use Rattle.pw_cmean.specs.Acts.{Act, State, ◌>>=◌, need}
 use Rattle.pw_cmean.specs.Operators.{truth}
 use Rattle.pw_cmean.specs.Evaluation.{Env, Calls, site, used, answer_of, place_of}
 use Rattle.pw_cmean.specs.SourceRun.{calls}

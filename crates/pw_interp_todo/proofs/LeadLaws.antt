@@ -1,11 +1,11 @@
 -- What leads to what, and what code answers that does the first steps of an act.
 use Rattle.std.proofs.Common.{◌≡◌, refl, sym, ap, subst, ◌∙◌, Bool, true, false, Option, Some, None, Result, Ok, Err}
-use Rattle.std.specs.Prelude.{IfOk, IfErr, option_map}
+use Rattle.std.specs.Prelude.{IfErr, option_map}
 use Rattle.pw_cmean.specs.Worlds.{World}
 use Rattle.pw_cmean.specs.Acts.{Act, State, Ending, Outcome, Gives, Ends, give, go_on, ◌>>=◌, branch, need, wrong}
 use Rattle.pw_interp_state.specs.Shown.{Shown, shown}
 use Rattle.pw_interp_state.specs.Runs.{Shows, Runs}
-use Rattle.pw_interp_state.proofs.RunLaws.{goes_on, ends, same_act}
+use Rattle.pw_interp_state.proofs.RunLaws.{ends}
 use Rattle.pw_interp_calls.specs.declared.ending.Ending.TheVariants as E
 use Rattle.pw_interp_calls.specs.declared.ending.Stop.{Stop}
 use Rattle.pw_interp_calls.specs.declared.ending.Stop.TheVariants as S

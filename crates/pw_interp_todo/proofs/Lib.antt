@@ -2,3 +2,4 @@ pub mod ActLaws
 pub mod LeadLaws
 pub mod Firsts
 pub mod Splits
+pub mod Resumes

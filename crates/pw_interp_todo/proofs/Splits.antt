@@ -1,17 +1,14 @@
 -- An expression is what is evaluated first for it, and what follows behind that.
-use Rattle.std.proofs.Common.{ℕ, ◌≡◌, refl, sym, ap, subst, ◌∙◌, Bool, Option, Some, None}
-use Rattle.std.specs.Prelude.{pos}
+use Rattle.std.proofs.Common.{ℕ, ◌≡◌, refl, subst, ◌∙◌, Option, Some, None}
 use Rattle.pw_value.specs.declared.value.Value.{Value}
-use Rattle.pw_value.specs.declared.value.Value.TheVariants as V
 use Rattle.pw_types.specs.TypeTrees.{QType, type_of}
-use Rattle.pw_types.specs.declared.tree.LogicOperator.{LogicOperator}
 use Rattle.pw_types.specs.TypedTrees.{Expression, Form, Node, Number, Str, Local, Global, Function, Unary, Binary, Logic, Cond, Comma, Assign, Compound, Step, Cast, Decay, Member, Deref, Address, Call, CallValue, type_at}
-use Rattle.pw_cmean.specs.Acts.{Act, State, give, ◌>>=◌, ◌>>◌, branch, need}
+use Rattle.pw_cmean.specs.Acts.{State, give, ◌>>=◌, ◌>>◌}
 use Rattle.pw_cmean.specs.Access.{Assigning, put}
-use Rattle.pw_cmean.specs.Operators.{truth, number_for, unary, binary, advance}
-use Rattle.pw_cmean.specs.Evaluation.{Env, Calls, site, records_of, used, value_at, cast, answer_of, place_of, values_of, call_value, assigned, old_value, update, step, decides}
+use Rattle.pw_cmean.specs.Operators.{binary}
+use Rattle.pw_cmean.specs.Evaluation.{Env, Calls, site, records_of, used, answer_of, place_of, assigned, old_value, update, decides}
 use Rattle.pw_cmean.specs.SourceRun.{calls}
-use Rattle.pw_interp_todo.specs.Asking.{Question, Answer, Place, placed, answered, question_act, answer_first, place_first, first_of}
+use Rattle.pw_interp_todo.specs.Asking.{Question, placed, answered, question_act, answer_first, place_first}
 use Rattle.pw_interp_todo.specs.Operands.{tested, right_behind, second_behind, assigned_behind, stored_behind, updated_behind, answer_behind, place_behind}
 use Rattle.pw_interp_todo.proofs.ActLaws.{grouped, follow_same, given_on, branch_same, branch_then}
 use Rattle.pw_interp_todo.proofs.Firsts.{used_first, tested_first, used_last, placed_first}

@@ -1,5 +1,5 @@
 -- What follows in a statement behind a value or behind a part of it, and what is left of it (ISO C90 6.6).
-use Rattle.std.specs.Prelude.{ℕ, ◌≡◌, Bool, Option, Some, None, List, [], ◌∷◌, ◌++◌, drop}
+use Rattle.std.specs.Prelude.{ℕ, ◌≡◌, Bool, Option, Some, List, [], ◌∷◌, ◌++◌, drop}
 use Rattle.pw_value.specs.declared.value.Value.{Value}
 use Rattle.pw_types.specs.TypedTrees.{Statement, Switch, Arms, NoArm, Arm, Otherwise, Statements, Initialiser, Value as ByValue, Bytes as ByBytes, token_of}
 use Rattle.pw_types.specs.Labels.{labels_among, labels_of_arms, labels_behind}

@@ -1,6 +1,6 @@
 -- What statements hold, from a place on (ISO C90 6.6). A statement that holds no such thing holds an empty one.
-use Rattle.std.specs.Prelude.{ℕ, zero, suc, Option, None, List, [], ◌++◌}
-use Rattle.pw_types.specs.TypedTrees.{Statement, Block, If, Label, Switch, Statements, NoStatement, OneStatement, Arms, NoArm, Arm, Otherwise, NoElse, Initialiser}
+use Rattle.std.specs.Prelude.{ℕ, zero, suc, List, [], ◌++◌}
+use Rattle.pw_types.specs.TypedTrees.{Statement, Block, If, Label, Statements, NoStatement, OneStatement, Arms, NoArm, Arm, Otherwise, NoElse, Initialiser}
 use Rattle.pw_types.specs.Labels.{labels_among, labels_of_arms, labels_behind}
 
 -- ---- blocks

@@ -3,7 +3,7 @@ use Rattle.std.specs.Prelude.{ℕ, zero, suc, ◌+◌, ◌-◌, List, [], ◌∷
 use Rattle.pw_types.specs.TypedTrees.{Statement, Block, If, Label, Arms, Otherwise, Statements, Initialiser}
 use Rattle.pw_types.specs.Labels.{labels_among, labels_behind}
 use Rattle.pw_typed.specs.Views.{view_stmt}
-use Rattle.pw_cmean.specs.Acts.{Act, Bound, ◌>>=◌, ◌>>◌, give, stop}
+use Rattle.pw_cmean.specs.Acts.{Act, Bound, ◌>>◌, give, stop}
 use Rattle.pw_cmean.specs.Evaluation.{Env, Calls}
 use Rattle.pw_cmean.specs.Execution.{Entry, At_label, Flow, Normal, taking_up, with_locals, initialise_all, behind_labels, meaning, items, arms, behind_arms}
 use Rattle.pw_cmean.specs.SourceRun.{calls}

@@ -24,7 +24,7 @@ pub enum Todo<'a> {
     Flow { what: Remainder<'a>, bound: u64 },
     /// The object of a local ends, and the local has what it had before.
     EndLocal {
-        local: u32,
+        local: usize,
         number: u128,
         before: Option<u128>,
     },

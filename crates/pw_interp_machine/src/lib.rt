@@ -1,0 +1,14 @@
+//! The interpreter's machine: a run of a C program, a step at a time, with what is left to do on the heap, so that neither
+//! calls nor phrases of the program nest in calls of the machine.
+#![tactic(auto)]
+
+mod arguments;
+mod blocks;
+mod calls;
+mod controls;
+mod machine;
+mod pushes;
+mod steps;
+
+pub use machine::{Call, Machine};
+pub use steps::step;
