@@ -80,15 +80,20 @@ module _ (at : Entry) (e : Env) (n : ℕ) (s : State) where
       ap (λ c. with_locals c first (inside initialisers list at cs) e s) less ∙ ap (λ f. with_locals (count - 0) f (inside initialisers list at cs) e s) same)
 
 module _ (e : Env) (n : ℕ) (s : State) where
-  pub for_front : {a : Statement} (t : ℕ) (first c third : Option Expression) (body : Statement) → a ≡ For t first c third body
+  for_front : {a : Statement} (t : ℕ) (first c third : Option Expression) (body : Statement) → a ≡ For t first c third body
       → meaning a Front (calls e.world n) e s ≡ counting_act first a e Front (calls e.world n) s
   unfolding meaning counting_act
   for_front t first c third body is = subst (λ x. meaning x Front (calls e.world n) e s ≡ counting_act first x e Front (calls e.world n) s) (sym is) refl
 
-  pub for_label : {a : Statement} (t : ℕ) (first c third : Option Expression) (body : Statement) (l : ℕ) → a ≡ For t first c third body
+  for_label : {a : Statement} (t : ℕ) (first c third : Option Expression) (body : Statement) (l : ℕ) → a ≡ For t first c third body
       → meaning a (At_label l) (calls e.world n) e s ≡ counting_act first a e (At_label l) (calls e.world n) s
   unfolding meaning counting_act
   for_label t first c third body l is = subst (λ x. meaning x (At_label l) (calls e.world n) e s ≡ counting_act first x e (At_label l) (calls e.world n) s) (sym is) refl
+
+  pub for_is : {a : Statement} (t : ℕ) (first c third : Option Expression) (body : Statement) (at : Entry) → a ≡ For t first c third body
+      → meaning a at (calls e.world n) e s ≡ counting_act first a e at (calls e.world n) s
+  for_is t first c third body Front is = for_front t first c third body is
+  for_is t first c third body (At_label l) is = for_label t first c third body l is
 
   -- the value of an expression, and then this
   pub value_is : {B : Type 0} (a : Expression) (f : Value → Act B)

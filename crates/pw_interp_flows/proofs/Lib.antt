@@ -1,4 +1,5 @@
 mod Copying
+mod Following
 mod Forming
 mod LabelLemmas
 mod Listing

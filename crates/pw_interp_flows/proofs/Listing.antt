@@ -3,19 +3,19 @@ use Rattle.std.proofs.Common.{ℕ, zero, suc, ◌+◌, ◌≡◌, refl, sym, ap,
 use Rattle.std.specs.Prelude.{slice_get}
 use Rattle.std.specs.Borrow.{Bor}
 use Rattle.pw_types.specs.Labels.{labels_in}
-use Rattle.pw_types.specs.TypedTrees.{Expression, Statement, Statements, NoStatement, OneStatement, Arms, NoArm, Arm, Otherwise, token_of}
+use Rattle.pw_types.specs.TypedTrees.{Expression, Statement, Block, If, Label, Statements, NoStatement, OneStatement, Arms, NoArm, Arm, Otherwise, Initialiser, token_of}
 use Rattle.pw_typed.specs.Views.{view_arms, view_expr, view_stmt, view_stmts}
 use Rattle.pw_typed.specs.declared.tree.Arm as code
 use Rattle.pw_typed.specs.declared.tree.TStmt.{TStmt}
 use Rattle.pw_cmean.specs.Acts.{State, give, go_on, ◌>>=◌, branch}
 use Rattle.pw_cmean.specs.Evaluation.{Env, Calls}
-use Rattle.pw_cmean.specs.Execution.{Entry, Front, At_label, Normal, holds, items, behind_arms, meaning, condition, value_of, caught, taking_up}
+use Rattle.pw_cmean.specs.Execution.{Entry, Front, At_label, Normal, holds, items, behind_arms, behind_labels, meaning, condition, value_of, caught, taking_up}
 use Rattle.pw_cmean.specs.SourceRun.{calls}
 use Rattle.pw_interp_todo.specs.declared.flow.Entry.TheVariants as E
 use Rattle.pw_interp_todo.specs.declared.statements.Part.TheVariants as P
 use Rattle.pw_interp_todo.specs.Asking.{answered}
 use Rattle.pw_interp_todo.specs.Going.{members_behind, arm_behind, arm_or_rest, arm_tested}
-use Rattle.pw_interp_todo.specs.Members.{members_from, arms_from, taken_in}
+use Rattle.pw_interp_todo.specs.Members.{members_in, members_from, arms_in, arms_from, otherwise_in, taken_in}
 use Rattle.pw_interp_todo.specs.Parts.{met_arms, once_of, taking_act, again_act, back_act}
 use Rattle.pw_interp_todo.proofs.Firsts.{tested_first}
 use Rattle.pw_interp_flows.specs.Entering.{is_met, arm_or_later}
@@ -54,6 +54,20 @@ pub arms_drop : (list : List code.Arm) (i : ℕ) → arms_from i (view_arms list
 arms_drop list zero = refl
 arms_drop [] (suc i) = refl
 arms_drop (x ∷ list) (suc i) = arms_drop list i
+
+-- of a list that a statement holds
+pub member_at : {l : Statements} (list : List TStmt) (i : ℕ) (a : TStmt) → view_stmts list ≡ l → slice_get list i ≡ Some a → members_from i l ≡ OneStatement (view_stmt a) (members_from (i + 1) l)
+member_at list i a same is = subst (λ x. members_from i x ≡ OneStatement (view_stmt a) (members_from (i + 1) x)) same (members_some list i a is)
+
+pub member_past : {l : Statements} (list : List TStmt) (i : ℕ) → view_stmts list ≡ l → slice_get list i ≡ None → members_from i l ≡ NoStatement
+member_past list i same is = subst (λ x. members_from i x ≡ NoStatement) same (members_none list i is)
+
+pub arm_at_place : {l : Arms} (list : List code.Arm) (i : ℕ) (a : code.Arm) → view_arms list ≡ l → slice_get list i ≡ Some a
+    → arms_from i l ≡ Arm a.token (view_expr a.condition) (view_stmt a.body) (arms_from (i + 1) l)
+arm_at_place list i a same is = subst (λ x. arms_from i x ≡ Arm a.token (view_expr a.condition) (view_stmt a.body) (arms_from (i + 1) x)) same (arms_some list i a is)
+
+pub arm_past : {l : Arms} (list : List code.Arm) (i : ℕ) → view_arms list ≡ l → slice_get list i ≡ None → arms_from i l ≡ NoArm
+arm_past list i same is = subst (λ x. arms_from i x ≡ NoArm) same (arms_none list i is)
 
 module _ (e : Env) (n : ℕ) (s : State) where
   abbrev cs : Calls
@@ -134,3 +148,20 @@ pub again_is : (of : Bor TStmt) (l : ℕ) (e : Env) (n : ℕ) (s : State)
 unfolding again_act back_act calls
 again_is of l e zero s = refl
 again_is of l e (suc n) s = refl
+
+-- ---- what takes up gotos, once
+
+pub once_block : {a : Statement} (t first count : ℕ) (initialisers : List Initialiser) (list : Statements) → a ≡ Block t first count initialisers list
+    → (at : Entry) (e : Env) (n : ℕ) (s : State) → once_of a e at (calls e.world n) s ≡ items (members_from 0 (members_in a)) at (calls e.world n) e s
+once_block t first count initialisers list is at e n s =
+    subst (λ x. once_of x e at (calls e.world n) s ≡ items (members_from 0 (members_in x)) at (calls e.world n) e s) (sym is) refl
+
+pub once_if : {a : Statement} (t : ℕ) (list : Arms) (o : Otherwise) → a ≡ If t list o
+    → (at : Entry) (e : Env) (n : ℕ) (s : State) → once_of a e at (calls e.world n) s ≡ met_arms (arms_from 0 (arms_in a)) (otherwise_in a) e at (calls e.world n) s
+once_if t list o is at e n s =
+    subst (λ x. once_of x e at (calls e.world n) s ≡ met_arms (arms_from 0 (arms_in x)) (otherwise_in x) e at (calls e.world n) s) (sym is) refl
+
+pub once_label : {a : Statement} (t : ℕ) (labels : List ℕ) (body : Statement) → a ≡ Label t labels body
+    → (at : Entry) (e : Env) (n : ℕ) (s : State) → once_of a e at (calls e.world n) s ≡ meaning body (behind_labels labels at) (calls e.world n) e s
+once_label t labels body is at e n s =
+    subst (λ x. once_of x e at (calls e.world n) s ≡ meaning body (behind_labels labels at) (calls e.world n) e s) (sym is) refl

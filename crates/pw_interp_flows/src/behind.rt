@@ -1,7 +1,8 @@
 //! What is left of a statement behind a part of it.
 
-ghost use Rattle.std.specs.Prelude.{◌≡◌, drop};
-ghost use Rattle.pw_typed.specs.Views.{view_stmt};
+ghost use Rattle.std.specs.Prelude.{◌≡◌, ◌++◌, drop, option_map};
+ghost use Rattle.pw_types.specs.Labels.{labels_among, labels_behind, labels_of_arms};
+ghost use Rattle.pw_typed.specs.Views.{view_arms, view_otherwise, view_stmt, view_stmts};
 ghost use Rattle.pw_cmean.specs.Execution as execution;
 ghost use Rattle.pw_cmean.specs.SourceRun.{calls};
 ghost use Rattle.pw_interp_todo.specs.Flows.{view_flow};
@@ -10,12 +11,14 @@ ghost use Rattle.pw_interp_todo.specs.Going.{Leaves};
 ghost use Rattle.pw_interp_todo.specs.Loops.{body_behind};
 ghost use Rattle.pw_interp_todo.specs.Members as any;
 ghost use Rattle.pw_interp_todo.specs.Parts.{again_act};
+ghost use Rattle.pw_interp_flows.specs.Behind as behind;
+ghost use Rattle.pw_interp_flows.specs.Behind.{view_onward};
 
 use crate::labels::{holds, is_among, is_in_if};
 use crate::loops::tail;
 use crate::members::{arms_in, members_in, otherwise_in};
 use pw_interp_todo::{Doing, Done, Entry, Flow, Going, Part, Remainder, Turn};
-use pw_typed::{TStmt, TStmtForm};
+use pw_typed::{Arm, TStmt, TStmtForm};
 
 /// What stands of a list from a place on.
 fn from_on<T>(list: &[T], i: usize) -> &[T]
@@ -24,21 +27,47 @@ fn from_on<T>(list: &[T], i: usize) -> &[T]
     if i <= list.len() { &list[i..] } else { &[] }
 }
 
+/// Behind a member of a list or an arm of an `if`: where the rest is met, or with what the whole is left.
+#[derive(Clone, Copy)]
+enum Onward {
+    Met(Entry),
+    Left(Flow),
+}
+
+/// Behind a member of a list: where the rest is met, or with what the list is left.
+fn onward(rest: &[TStmt], flow: Flow) -> Onward
+    ensures { view_onward result ≡ behind.onward (labels_among (view_stmts rest.now)) (view_flow flow) }
+{
+    match flow {
+        Flow::Normal => Onward::Met(Entry::Front),
+        Flow::Goes(label) if is_among(rest, label) => Onward::Met(Entry::AtLabel(label)),
+        Flow::Breaks | Flow::Continues | Flow::Returns(_) | Flow::Goes(_) => Onward::Left(flow),
+    }
+}
+
+/// Behind an arm, behind which others stand and what is behind the last `else`: where that is met, or with what the `if` is
+/// left.
+fn behind_arm(rest: &[Arm], otherwise: &Option<Box<TStmt>>, flow: Flow) -> Onward
+    ensures { view_onward result ≡ behind.behind_arm (labels_of_arms (view_arms rest.now) ++ labels_behind (view_otherwise otherwise.now)) (view_flow flow) }
+{
+    match flow {
+        Flow::Goes(label) if is_in_if(rest, otherwise, label) => {
+            Onward::Met(Entry::AtLabel(label))
+        }
+        _ => Onward::Left(flow),
+    }
+}
+
 /// Behind a member of a list: the others from a place on, from their beginning or from a label in them.
 fn members<'a>(s: &'a TStmt, i: usize, flow: Flow) -> Going<'a>
     ensures { Leaves (λ e n. spec.members_behind (any.members_from i (any.members_in (view_stmt s.now))) e (calls e.world n) (view_flow flow)) result }
 {
-    match flow {
-        Flow::Normal => {
-            let doing = Doing { part: Part::Members(i), of: s, at: Entry::Front };
-            Going::On(Turn::Here, doing)
-        }
-        Flow::Goes(label) if is_among(from_on(members_in(s), i), label) => {
-            let at = Entry::AtLabel(label);
+    match onward(from_on(members_in(s), i), flow) {
+        Onward::Met(at) => {
             let doing = Doing { part: Part::Members(i), of: s, at };
             Going::On(Turn::Here, doing)
         }
-        Flow::Breaks | Flow::Continues | Flow::Returns(_) | Flow::Goes(_) => Going::Left(flow),
+        Onward::Left(flow) => Going::Left(flow),
     }
 }
 
@@ -46,13 +75,12 @@ fn members<'a>(s: &'a TStmt, i: usize, flow: Flow) -> Going<'a>
 fn later_arms<'a>(s: &'a TStmt, i: usize, flow: Flow) -> Going<'a>
     ensures { Leaves (λ e n. spec.arm_behind (any.arms_from i (any.arms_in (view_stmt s.now))) (any.otherwise_in (view_stmt s.now)) e (calls e.world n) (view_flow flow)) result }
 {
-    match flow {
-        Flow::Goes(label) if is_in_if(from_on(arms_in(s), i), otherwise_in(s), label) => {
-            let at = Entry::AtLabel(label);
+    match behind_arm(from_on(arms_in(s), i), otherwise_in(s), flow) {
+        Onward::Met(at) => {
             let doing = Doing { part: Part::Arms(i), of: s, at };
             Going::On(Turn::Here, doing)
         }
-        _ => Going::Left(flow),
+        Onward::Left(flow) => Going::Left(flow),
     }
 }
 
@@ -69,17 +97,38 @@ fn takes(s: &TStmt, label: u32) -> bool
     }
 }
 
+/// The label to which a goto goes, where a statement takes it up.
+fn taken_by(s: &TStmt, flow: Flow) -> Option<u32>
+    ensures { result ≡ behind.taken (any.taken_in (view_stmt s.now)) (view_flow flow) }
+{
+    match flow {
+        Flow::Goes(label) if takes(s, label) => Some(label),
+        _ => None,
+    }
+}
+
 /// Behind what takes up gotos: each goes on at its label, with a bound that is one smaller.
 fn taken<'a>(s: &'a TStmt, flow: Flow) -> Going<'a>
     ensures { Leaves (λ e n. execution.caught (any.taken_in (view_stmt s.now)) (again_act (view_stmt s.now) e (calls e.world n)) (view_flow flow)) result }
 {
-    match flow {
-        Flow::Goes(label) if takes(s, label) => {
+    match taken_by(s, flow) {
+        Some(label) => {
             let at = Entry::AtLabel(label);
             let doing = Doing { part: Part::Taking, of: s, at };
             Going::On(Turn::Back, doing)
         }
-        _ => Going::Left(flow),
+        None => Going::Left(flow),
+    }
+}
+
+/// With what the body of a loop leaves it; None where what stands behind the body follows.
+fn left_by(flow: Flow) -> Option<Flow>
+    ensures { option_map view_flow result ≡ behind.left_by (view_flow flow) }
+{
+    match flow {
+        Flow::Normal | Flow::Continues => None,
+        Flow::Breaks => Some(Flow::Normal),
+        Flow::Returns(_) | Flow::Goes(_) => Some(flow),
     }
 }
 
@@ -87,20 +136,19 @@ fn taken<'a>(s: &'a TStmt, flow: Flow) -> Going<'a>
 fn behind_body<'a>(s: &'a TStmt, flow: Flow) -> Going<'a>
     ensures { Leaves (λ e n. body_behind (view_stmt s.now) e (calls e.world n) (view_flow flow)) result }
 {
-    match flow {
-        Flow::Normal | Flow::Continues => tail(s),
-        Flow::Breaks => Going::Left(Flow::Normal),
-        Flow::Returns(_) | Flow::Goes(_) => Going::Left(flow),
+    match left_by(flow) {
+        Some(left) => Going::Left(left),
+        None => tail(s),
     }
 }
 
 /// A `break` in the body of a switch leaves the switch.
-fn behind_switch<'a>(flow: Flow) -> Going<'a>
-    ensures { Leaves (λ e n. execution.after_switch (view_flow flow)) result }
+fn behind_switch(flow: Flow) -> Flow
+    ensures { view_flow result ≡ behind.behind_switch (view_flow flow) }
 {
     match flow {
-        Flow::Breaks => Going::Left(Flow::Normal),
-        _ => Going::Left(flow),
+        Flow::Breaks => Flow::Normal,
+        _ => flow,
     }
 }
 
@@ -113,6 +161,6 @@ pub fn remainder<'a>(what: Remainder<'a>, flow: Flow) -> Going<'a>
         Done::Arm(i) => later_arms(what.of, i, flow),
         Done::Taking => taken(what.of, flow),
         Done::Body => behind_body(what.of, flow),
-        Done::Switch => behind_switch(flow),
+        Done::Switch => Going::Left(behind_switch(flow)),
     }
 }

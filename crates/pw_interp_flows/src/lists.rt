@@ -2,7 +2,8 @@
 
 ghost use Rattle.std.specs.Prelude.{◌≡◌};
 ghost use Rattle.pw_types.specs.Labels.{labels_in};
-ghost use Rattle.pw_typed.specs.Views.{view_stmt};
+ghost use Rattle.pw_types.specs.TypedTrees.{Arm as AnyArm, OneStatement};
+ghost use Rattle.pw_typed.specs.Views.{view_expr, view_stmt};
 ghost use Rattle.pw_cmean.specs.Execution as execution;
 ghost use Rattle.pw_cmean.specs.SourceRun.{calls};
 ghost use Rattle.pw_interp_todo.specs.Flows.{view_entry};
@@ -26,21 +27,27 @@ fn enters(s: &TStmt, at: Entry) -> bool
     }
 }
 
+/// A member of a statement's list, behind which those from a place on follow; it is met at its beginning, or at a label in it.
+fn member<'a>(s: &'a TStmt, first: &'a TStmt, rest: usize, at: Entry) -> Going<'a>
+    ensures { Leaves (λ e n. execution.items (OneStatement (view_stmt first.now) (members_from rest (any_members (view_stmt s.now)))) (view_entry at) (calls e.world n) e) result }
+{
+    if enters(first, at) {
+        let doing = Doing { part: Part::Whole, of: first, at };
+        let rest = Remainder { done: Done::Member(rest), of: s };
+        Going::Then(doing, rest)
+    } else {
+        let doing = Doing { part: Part::Members(rest), of: s, at };
+        Going::On(Turn::Here, doing)
+    }
+}
+
 /// The members of a statement's list from a place on; entered at a label, the list starts at the member that holds it.
 pub fn members<'a>(s: &'a TStmt, i: usize, at: Entry) -> Going<'a>
     ensures { Leaves (λ e n. execution.items (members_from i (any_members (view_stmt s.now))) (view_entry at) (calls e.world n) e) result }
 {
-    let Some(first) = members_in(s).get(i) else {
-        return Going::Left(Flow::Normal);
-    };
-    let met = enters(first, at);
-    if met {
-        let doing = Doing { part: Part::Whole, of: first, at };
-        let rest = Remainder { done: Done::Member(i + 1), of: s };
-        Going::Then(doing, rest)
-    } else {
-        let doing = Doing { part: Part::Members(i + 1), of: s, at };
-        Going::On(Turn::Here, doing)
+    match members_in(s).get(i) {
+        Some(first) => member(s, first, i + 1, at),
+        None => Going::Left(Flow::Normal),
     }
 }
 
@@ -72,20 +79,27 @@ fn arm_at<'a>(s: &'a TStmt, arm: &'a Arm, rest: usize, label: u32) -> Going<'a>
     }
 }
 
-/// The arms of an `if` from a place on and what stands behind its last `else`; an arm is met by its condition, or at a label
-/// in it.
-pub fn arms<'a>(s: &'a TStmt, i: usize, at: Entry) -> Going<'a>
-    ensures { Leaves (λ e n. met_arms (arms_from i (any_arms (view_stmt s.now))) (any_otherwise (view_stmt s.now)) e (view_entry at) (calls e.world n)) result }
+/// The arm of a place, behind which the others follow; it is met by its condition, or at a label in it.
+fn arm<'a>(s: &'a TStmt, first: &'a Arm, i: usize, rest: usize, at: Entry) -> Going<'a>
+    ensures { arms_from i (any_arms (view_stmt s.now)) ≡ AnyArm first.now.token (view_expr first.now.condition) (view_stmt first.now.body) (arms_from rest (any_arms (view_stmt s.now)))
+        → Leaves (λ e n. met_arms (arms_from i (any_arms (view_stmt s.now))) (any_otherwise (view_stmt s.now)) e (view_entry at) (calls e.world n)) result }
 {
-    let Some(arm) = arms_in(s).get(i) else {
-        return behind_arms(s, at);
-    };
     match at {
         Entry::Front => {
             let given = Use { purpose: Purpose::Arm(i), of: s };
-            Going::Ask(Asked::Answer(&arm.condition), given)
+            Going::Ask(Asked::Answer(&first.condition), given)
         }
-        Entry::AtLabel(label) => arm_at(s, arm, i + 1, label),
+        Entry::AtLabel(label) => arm_at(s, first, rest, label),
+    }
+}
+
+/// The arms of an `if` from a place on and what stands behind its last `else`.
+pub fn arms<'a>(s: &'a TStmt, i: usize, at: Entry) -> Going<'a>
+    ensures { Leaves (λ e n. met_arms (arms_from i (any_arms (view_stmt s.now))) (any_otherwise (view_stmt s.now)) e (view_entry at) (calls e.world n)) result }
+{
+    match arms_in(s).get(i) {
+        Some(first) => arm(s, first, i, i + 1, at),
+        None => behind_arms(s, at),
     }
 }
 
@@ -110,7 +124,10 @@ fn once<'a>(s: &'a TStmt, at: Entry) -> Option<Doing<'a>>
             let at = behind_labels(labels, at);
             Some(Doing { part: Part::Whole, of: body, at })
         }
-        _ => None,
+        TStmtForm::Empty | TStmtForm::Expr(_) | TStmtForm::Switch(_, _, _, _) => None,
+        TStmtForm::While(_, _) | TStmtForm::Do(_, _) | TStmtForm::For(_, _, _, _) => None,
+        TStmtForm::Goto(_) | TStmtForm::Break | TStmtForm::Continue => None,
+        TStmtForm::Return(_) => None,
     }
 }
 

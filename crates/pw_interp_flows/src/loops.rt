@@ -3,6 +3,7 @@
 ghost use Rattle.std.specs.Prelude.{◌≡◌, option_map, true};
 ghost use Rattle.pw_typed.specs.Views.{view_expr, view_optional, view_stmt};
 ghost use Rattle.pw_cmean.specs.Acts.{◌>>=◌, ◌>>◌, give};
+ghost use Rattle.pw_cmean.specs.Evaluation.{Calls, Env};
 ghost use Rattle.pw_cmean.specs.Execution as execution;
 ghost use Rattle.pw_cmean.specs.SourceRun.{calls};
 ghost use Rattle.pw_interp_todo.specs.Flows.{view_entry};
@@ -13,6 +14,50 @@ ghost use Rattle.pw_interp_flows.specs.Looping.{body_act, counting_act, met_act}
 
 use pw_interp_todo::{Asked, Doing, Done, Entry, Flow, Going, Part, Purpose, Remainder, Turn, Use};
 use pw_typed::{TExpr, TStmt, TStmtForm};
+
+/// What a loop tests at its top: a condition, nothing, or a condition that may be left out; what is no loop is left there.
+#[derive(Clone, Copy)]
+enum Ahead<'a> {
+    Condition(&'a TExpr),
+    Always,
+    Optional(&'a Option<TExpr>),
+    Never,
+}
+
+/// What stands behind the body of a loop: a condition, nothing, or an expression that may be left out.
+#[derive(Clone, Copy)]
+enum Tail<'a> {
+    Condition(&'a TExpr),
+    Always,
+    Third(&'a Option<TExpr>),
+    Never,
+}
+
+/// What is tested at the top of a loop.
+#[tactic(auto, unfolding(pw_typed::specs::Views::view_stmt_form), using(pw_typed::proofs::Rows::block_view, pw_typed::proofs::Rows::if_view))]
+fn ahead_in<'a>(s: &'a TStmt) -> Ahead<'a>
+    ensures { (e : Env) (cs : Calls) → spec.ahead_act result e cs ≡ loops.ahead_of (view_stmt s.now) e cs }
+{
+    match &s.form {
+        TStmtForm::While(c, _) => Ahead::Condition(c),
+        TStmtForm::Do(_, _) => Ahead::Always,
+        TStmtForm::For(_, c, _, _) => Ahead::Optional(c),
+        _ => Ahead::Never,
+    }
+}
+
+/// What stands behind the body of a loop.
+#[tactic(auto, unfolding(pw_typed::specs::Views::view_stmt_form), using(pw_typed::proofs::Rows::block_view, pw_typed::proofs::Rows::if_view))]
+fn tail_in<'a>(s: &'a TStmt) -> Tail<'a>
+    ensures { (e : Env) (cs : Calls) → spec.tail_act result e cs ≡ loops.behind_of (view_stmt s.now) e cs }
+{
+    match &s.form {
+        TStmtForm::While(_, _) => Tail::Always,
+        TStmtForm::Do(_, c) => Tail::Condition(c),
+        TStmtForm::For(_, _, third, _) => Tail::Third(third),
+        _ => Tail::Never,
+    }
+}
 
 /// The body of a loop; what is no loop has none.
 #[tactic(auto, unfolding(pw_typed::specs::Views::view_stmt_form), using(pw_typed::proofs::Rows::block_view, pw_typed::proofs::Rows::if_view))]
@@ -62,11 +107,11 @@ fn test_some<'a>(s: &'a TStmt, c: &'a Option<TExpr>) -> Going<'a>
 pub fn top<'a>(s: &'a TStmt) -> Going<'a>
     ensures { Leaves (λ e n. loops.loop_act (view_stmt s.now) e (calls e.world n)) result }
 {
-    match &s.form {
-        TStmtForm::While(c, _) => test(s, c),
-        TStmtForm::Do(_, _) => turn(s, Entry::Front),
-        TStmtForm::For(_, c, _, _) => test_some(s, c),
-        _ => Going::Left(Flow::Normal),
+    match ahead_in(s) {
+        Ahead::Condition(c) => test(s, c),
+        Ahead::Always => turn(s, Entry::Front),
+        Ahead::Optional(c) => test_some(s, c),
+        Ahead::Never => Going::Left(Flow::Normal),
     }
 }
 
@@ -130,10 +175,10 @@ fn tail_third<'a>(s: &'a TStmt, third: &'a Option<TExpr>) -> Going<'a>
 pub fn tail<'a>(s: &'a TStmt) -> Going<'a>
     ensures { Leaves (λ e n. loops.behind_of (view_stmt s.now) e (calls e.world n) >>= loops.top_or_leave (view_stmt s.now) e (calls e.world n)) result }
 {
-    match &s.form {
-        TStmtForm::While(_, _) => back(s),
-        TStmtForm::Do(_, c) => tail_test(s, c),
-        TStmtForm::For(_, _, third, _) => tail_third(s, third),
-        _ => Going::Left(Flow::Normal),
+    match tail_in(s) {
+        Tail::Condition(c) => tail_test(s, c),
+        Tail::Always => back(s),
+        Tail::Third(third) => tail_third(s, third),
+        Tail::Never => Going::Left(Flow::Normal),
     }
 }
