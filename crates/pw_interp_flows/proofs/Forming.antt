@@ -1,22 +1,26 @@
 -- Statements by their forms, as what is left of them.
-use Rattle.std.proofs.Common.{ℕ, ◌+◌, ◌-◌, ◌≡◌, refl, sym, ap, subst, ◌∙◌, Option, Some, None, List, [], ◌∷◌, ◌++◌, arith}
+use Rattle.std.proofs.Common.{ℕ, zero, suc, ◌+◌, ◌-◌, ◌≡◌, refl, sym, ap, subst, ◌∙◌, Option, Some, None, List, [], ◌∷◌, drop, map, arith}
+use Rattle.std.specs.Prelude.{slice_get}
 use Rattle.pw_value.specs.declared.value.Value.{Value}
 use Rattle.pw_types.specs.Labels.{labels_among}
-use Rattle.pw_types.specs.TypedTrees.{Expression, Statement, Empty, Evaluate, Block, If, While, Do, For, Switch, Label, Goto, Break, Continue, Return, Arms, Otherwise, Statements, NoStatement, CaseValue, Initialiser, token_of}
+use Rattle.pw_types.specs.TypedTrees.{Expression, Statement, Empty, Evaluate, Block, If, While, Do, For, Switch, Label, Goto, Break, Continue, Return, Arms, Otherwise, Statements, NoStatement, OneStatement, CaseValue, Initialiser, Value as ByValue, Bytes as ByBytes, token_of}
+use Rattle.pw_typed.specs.Views.{view_initialiser, view_initialisers}
+use Rattle.pw_typed.specs.declared.tree.Initialiser as code
 use Rattle.pw_cmean.specs.Acts.{State, Act, give, go_on, ◌>>=◌, ◌>>◌}
 use Rattle.pw_cmean.specs.Evaluation.{Env, Calls, site, used}
 use Rattle.pw_cmean.specs.Execution as execution
-use Rattle.pw_cmean.specs.Execution.{Entry, Front, At_label, Flow, Normal, taking_up, meet_loop, value_of, with_locals, meaning, items, initialise_all, after_switch, caught}
+use Rattle.pw_cmean.specs.Execution.{Entry, Front, At_label, Flow, Normal, taking_up, meet_loop, value_of, with_locals, meaning, items, initialise, initialise_all, after_switch, caught}
 use Rattle.pw_cmean.specs.SourceRun.{calls}
 use Rattle.pw_interp_todo.specs.declared.statements.Part.TheVariants as P
 use Rattle.pw_interp_todo.specs.Asking.{answered}
-use Rattle.pw_interp_todo.specs.Going.{switched}
+use Rattle.pw_interp_todo.specs.Going.{initialised, switched}
 use Rattle.pw_interp_todo.specs.Members.{initialisers_in, members_in, first_in, count_in, taken_in}
 use Rattle.pw_interp_todo.specs.Parts.{met_arms, inside, once_of, taking_act, part_act}
+use Rattle.pw_interp_todo.proofs.ActLaws.{grouped}
 use Rattle.pw_interp_todo.proofs.Firsts.{used_first}
+use Rattle.pw_interp_flows.specs.Copies.{by_bytes, copying}
 use Rattle.pw_interp_flows.specs.Forms.{return_act}
 use Rattle.pw_interp_flows.specs.Looping.{met_act, counting_act}
-use Rattle.pw_interp_flows.proofs.Listing.{taking_none}
 
 module _ (at : Entry) (e : Env) (n : ℕ) (s : State) where
   abbrev cs : Calls
@@ -126,11 +130,21 @@ module _ (e : Env) (n : ℕ) (s : State) where
   inside_label [] list l = refl
   inside_label (i ∷ rest) list l = refl
 
-  pub list_block : {a : Statement} (t first count : ℕ) (initialisers : List Initialiser) (list : Statements) (at : Entry) → a ≡ Block t first count initialisers list
-      → inside [] (members_in a) at (calls e.world n) e s ≡ taking_act a e at (calls e.world n) s
+  pub list_some : (a x : Statement) (rest : Statements) (at : Entry) → members_in a ≡ OneStatement x rest → inside [] (members_in a) at (calls e.world n) e s ≡ taking_act a e at (calls e.world n) s
   unfolding inside initialise_all ◌>>=◌ go_on give
-  list_block t first count initialisers list at is =
-      subst (λ x. inside [] (members_in x) at (calls e.world n) e s ≡ taking_act x e at (calls e.world n) s) (sym is) refl
+  list_some (Empty t) x rest at is = cc is
+  list_some (Evaluate t a) x rest at is = cc is
+  list_some (Block t first count initialisers list) x rest at is = refl
+  list_some (If t list o) x rest at is = cc is
+  list_some (While t c body) x rest at is = cc is
+  list_some (Do t body c) x rest at is = cc is
+  list_some (For t first c third body) x rest at is = cc is
+  list_some (Switch t a cases default body) x rest at is = cc is
+  list_some (Label t labels body) x rest at is = cc is
+  list_some (Goto t k) x rest at is = cc is
+  list_some (Break t) x rest at is = cc is
+  list_some (Continue t) x rest at is = cc is
+  list_some (Return t a) x rest at is = cc is
 
   pub no_list : (at : Entry) → inside [] NoStatement at (calls e.world n) e s ≡ give Normal s
   unfolding inside initialise_all taking_up caught meaning ◌>>=◌ go_on give
@@ -139,3 +153,37 @@ module _ (e : Env) (n : ℕ) (s : State) where
       by : (cs : Calls) → inside [] NoStatement at cs e s ≡ give Normal s
       by [] = refl
       by (c ∷ cs) = refl
+
+  -- an initialiser, and those behind it
+  pub inside_value : (all : List Initialiser) (list : Statements) (k : ℕ) (a : Expression) (rest : List Initialiser) → all ≡ ByValue k a ∷ rest
+      → inside all list Front (calls e.world n) e s ≡ (answered a e n >>= initialised all list e (calls e.world n)) s
+  unfolding inside initialise_all initialise initialised value_of
+  inside_value all list k a rest is =
+      subst (λ x. inside x list Front (calls e.world n) e s ≡ (answered a e n >>= initialised x list e (calls e.world n)) s) (sym is)
+      (grouped _ _ _ s ∙ grouped _ _ _ s ∙ used_first e n (token_of a) a _ s)
+
+  pub inside_bytes : (all : List Initialiser) (list : Statements) (k hidden : ℕ) (parts : List Expression) (rest : List Initialiser) → all ≡ ByBytes k hidden parts ∷ rest
+      → inside all list Front (calls e.world n) e s ≡ (by_bytes k hidden e >> inside rest list Front (calls e.world n) e) s
+  unfolding inside initialise_all initialise by_bytes copying
+  inside_bytes all list k hidden parts rest is =
+      subst (λ x. inside x list Front (calls e.world n) e s ≡ (by_bytes k hidden e >> inside rest list Front (calls e.world n) e) s) (sym is)
+      (grouped _ _ _ s)
+
+-- initialisers by their places
+initialisers_some : (list : List code.Initialiser) (i : ℕ) (a : code.Initialiser) → slice_get list i ≡ Some a → drop i (map view_initialiser list) ≡ view_initialiser a ∷ drop (i + 1) (map view_initialiser list)
+initialisers_some [] i a is = cc is
+initialisers_some (x ∷ list) zero a is = let same : x ≡ a = cc is in ap (λ y. view_initialiser y ∷ map view_initialiser list) same
+initialisers_some (x ∷ list) (suc i) a is = initialisers_some list i a is
+
+initialisers_none : (list : List code.Initialiser) (i : ℕ) → slice_get list i ≡ None → drop i (map view_initialiser list) ≡ []
+initialisers_none [] zero is = refl
+initialisers_none [] (suc i) is = refl
+initialisers_none (x ∷ list) zero is = cc is
+initialisers_none (x ∷ list) (suc i) is = initialisers_none list i is
+
+pub initialiser_at : {l : List Initialiser} (list : List code.Initialiser) (i : ℕ) (a : code.Initialiser) → view_initialisers list ≡ l → slice_get list i ≡ Some a
+    → drop i l ≡ view_initialiser a ∷ drop (i + 1) l
+initialiser_at list i a same is = subst (λ x. drop i x ≡ view_initialiser a ∷ drop (i + 1) x) same (initialisers_some list i a is)
+
+pub initialiser_past : {l : List Initialiser} (list : List code.Initialiser) (i : ℕ) → view_initialisers list ≡ l → slice_get list i ≡ None → drop i l ≡ []
+initialiser_past list i same is = subst (λ x. drop i x ≡ []) same (initialisers_none list i is)

@@ -15,12 +15,12 @@ ghost use Rattle.pw_interp_todo.specs.Parts as parts;
 ghost use Rattle.pw_interp_todo.specs.Steps.{StepsStatement};
 ghost use Rattle.pw_interp_flows.specs.Copies as spec;
 
-use crate::members::initialisers_in;
+use crate::members::{initialisers_in, members_in};
 use pw_interp_acts::{local_place, symbol_place};
 use pw_interp_calls::{Ending, Env, Stop};
 use pw_interp_state::{Objects, State};
 use pw_interp_todo::{Asked, Doing, Entry, Flow, Going, Part, Purpose, Turn, Use};
-use pw_typed::{Initialiser, Symbol, TStmt, TStmtForm};
+use pw_typed::{Initialiser, Symbol, TStmt};
 use pw_value::{Pointer, Value};
 use std::alloc::{AllocError, Global};
 
@@ -118,13 +118,13 @@ fn initialised<'a>(
     }
 }
 
-/// The list of a block behind its initialisers; what is no block is passed over.
+/// The list of a block behind its initialisers; what has no list is passed over.
 fn list<'a>(s: &'a TStmt, at: Entry) -> Going<'a>
     ensures { Leaves (λ e n. parts.inside [] (any.members_in (view_stmt s.now)) (view_entry at) (calls e.world n) e) result }
 {
-    match &s.form {
-        TStmtForm::Block { .. } => Going::On(Turn::Here, Doing { part: Part::Taking, of: s, at }),
-        _ => Going::Left(Flow::Normal),
+    match members_in(s).get(0) {
+        Some(_first) => Going::On(Turn::Here, Doing { part: Part::Taking, of: s, at }),
+        None => Going::Left(Flow::Normal),
     }
 }
 
