@@ -1,2 +1,4 @@
+pub mod Locals
 pub mod Waiting
 pub mod Standing
+pub mod Stepping

@@ -1,13 +1,19 @@
 //! The locals of blocks: each has an object of its own while the block runs (ISO C90 6.1.2.4).
 
-ghost use Rattle.std.specs.Prelude.{◌≡◌, ◌+◌, slice_set, Some};
+ghost use Rattle.std.specs.Prelude.{◌≡◌, ◌+◌, ◌<◌, option_and_then, slice_get, slice_set};
+ghost use Rattle.pw_value.specs.Objects.{ended};
 ghost use Rattle.pw_typed.specs.Views.{view_stmt};
+ghost use Rattle.pw_cmean.specs.Acts.{◌>>=◌};
+ghost use Rattle.pw_interp_calls.specs.Answers.{Answers};
 ghost use Rattle.pw_interp_calls.specs.Views.{view_env};
-ghost use Rattle.pw_interp_state.specs.Shown.{view_state};
-ghost use Rattle.pw_interp_todo.specs.Leading.{Continues};
+ghost use Rattle.pw_interp_state.specs.Shown.{Shown, view_state};
+ghost use Rattle.pw_interp_todo.specs.Flows.{view_entry};
 ghost use Rattle.pw_interp_todo.specs.Members as any;
-ghost use Rattle.pw_interp_todo.specs.Resuming as spec;
-ghost use Rattle.pw_interp_todo.specs.Resuming.{Rest, control_act, resume};
+ghost use Rattle.pw_interp_todo.specs.Parts.{part_act};
+ghost use Rattle.pw_interp_todo.specs.Resuming as resuming;
+ghost use Rattle.pw_interp_todo.specs.Resuming.{put_back};
+ghost use Rattle.pw_interp_machine.specs.Locals as spec;
+ghost use Rattle.pw_interp_machine.specs.Stepping.{StepsCall, all_ended};
 
 use crate::machine::Call;
 use pw_interp_calls::{Ending, Env, Stop};
@@ -48,14 +54,9 @@ fn set_number(numbers: &mut [Option<u128>], local: usize, number: Option<u128>)
     }
 }
 
-/// Makes the object of a local, where it has a layout, and answers its number.
-fn make_object<'a>(
-    alloc: Global,
-    env: &Env<'a>,
-    objects: &mut Objects,
-    local: usize,
-) -> Result<u128, Stop<'a>>
-    ensures { Answers (λ number. number) .. }
+/// What the object of a local is: its size, and whether it may be written; where it has a layout.
+fn object_of<'a>(env: &Env<'a>, local: usize) -> Result<(u32, bool), Stop<'a>>
+    ensures { (w : Shown) → Answers (λ o. o) (view_env env.now).world (spec.object_for local (view_env env.now)) w result w }
 {
     let Some(declared) = env.locals.get(local) else {
         return Err(Stop::Ended(Ending::Wrong));
@@ -63,8 +64,39 @@ fn make_object<'a>(
     let Some(layout) = exact_layout(&env.home.tree.types, &declared.ty.ty)? else {
         return Err(Stop::Ended(Ending::Wrong));
     };
-    let number = objects.make(alloc, layout.size, declared.writable)?;
-    Ok(number)
+    Ok((layout.size, declared.writable))
+}
+
+/// The next local of a block gets an object of its own, behind which the others come, and behind the block the local has
+/// what it had before.
+fn open_one<'a>(
+    alloc: Global,
+    call: &mut Call<'a>,
+    state: &mut State<'a>,
+    of: &'a TStmt,
+    made: u32,
+    local: usize,
+    at: Entry,
+    bound: u64,
+) -> Result<Control<'a>, Stop<'a>>
+    requires next { made < any.count_in (view_stmt of.now) }
+    requires place { local ≡ any.first_in (view_stmt of.now) + made }
+    ensures { StepsCall call.old (λ rest. part_act (Part.Locals made) (view_stmt of.now) (view_entry at) (view_env call.old.env) call.old.bound >>= λ flow. rest (view_env call.old.env) bound (resuming.Flowed flow)) (view_state state.old) result call.new (view_state state.new) }
+{
+    let (size, writable) = object_of(&call.env, local)?;
+    let before = number_of(&call.env.numbers, local);
+    let number = state.objects.make(alloc, size, writable)?;
+    set_number(&mut call.env.numbers, local, Some(number));
+    call.todo.push(Todo::EndLocal {
+        local,
+        number,
+        before,
+    })?;
+    let part = Part::Locals(made + 1);
+    Ok(Control::Do {
+        what: Doing { part, of, at },
+        bound,
+    })
 }
 
 /// A block, so many of whose locals have their objects: the next gets its own, or where all have theirs the inside comes.
@@ -77,31 +109,34 @@ pub fn open<'a>(
     at: Entry,
     bound: u64,
 ) -> Result<Control<'a>, Stop<'a>>
-    ensures { TODO }
+    ensures { StepsCall call.old (λ rest. part_act (Part.Locals made) (view_stmt of.now) (view_entry at) (view_env call.old.env) call.old.bound >>= λ flow. rest (view_env call.old.env) bound (resuming.Flowed flow)) (view_state state.old) result call.new (view_state state.new) }
 {
     let (first, count) = locals_in(of);
-    if made >= count {
-        let what = Doing { part: Part::Initialisers(0), of, at };
-        return Ok(Control::Do { what, bound });
+    if made < count {
+        let local = first as usize + made as usize;
+        open_one(alloc, call, state, of, made, local, at, bound)
+    } else {
+        let part = Part::Initialisers(0);
+        Ok(Control::Do {
+            what: Doing { part, of, at },
+            bound,
+        })
     }
-    let local = first as usize + made as usize;
-    let before = number_of(&call.env.numbers, local);
-    let number = make_object(alloc, &call.env, &mut state.objects, local)?;
-    set_number(&mut call.env.numbers, local, Some(number));
-    call.todo.push(Todo::EndLocal { local, number, before })?;
-    let what = Doing { part: Part::Locals(made + 1), of, at };
-    Ok(Control::Do { what, bound })
 }
 
 /// The object of a local ends, and the local has what it had before.
 pub fn end_local<'a>(
     call: &mut Call<'a>,
-    state: &mut State<'a>,
+    objects: &mut Objects,
     local: usize,
     number: u128,
     before: Option<u128>,
-) {
-    state.objects.end(number);
+)
+    ensures objects { objects.new ≡ ended number objects.old }
+    ensures env { view_env call.new.env ≡ put_back local before (view_env call.old.env) }
+    ensures rest { (call.new.bound ≡ call.old.bound) × (call.new.todo.items ≡ call.old.todo.items) × (call.new.before ≡ call.old.before) }
+{
+    objects.end(number);
     set_number(&mut call.env.numbers, local, before);
 }
 
@@ -112,6 +147,6 @@ pub fn end_parameters(objects: &mut Objects, count: u32, number: u128)
     let mut left = count;
     while left > 0 {
         left -= 1;
-        objects.end(number.saturating_add(u128::from(left)));
+        objects.end(number + u128::from(left));
     }
 }

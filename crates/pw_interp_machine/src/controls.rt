@@ -1,5 +1,22 @@
 //! Steps that stay in the call of the function that runs.
 
+ghost use Rattle.std.specs.Prelude.{◌∷◌};
+ghost use Rattle.pw_typed.specs.Views.{view_exprs};
+ghost use Rattle.pw_cmean.specs.Acts.{◌>>=◌};
+ghost use Rattle.pw_cmean.specs.Evaluation as meaning;
+ghost use Rattle.pw_cmean.specs.SourceRun as runs;
+ghost use Rattle.pw_cmean.specs.Worlds as worlds;
+ghost use Rattle.pw_interp_state.specs.Shown.{Shown, view_state};
+ghost use Rattle.pw_interp_calls.specs.Answers.{Answers};
+ghost use Rattle.pw_interp_calls.specs.Views.{view_env};
+ghost use Rattle.pw_interp_todo.specs.Asking.{asked_act};
+ghost use Rattle.pw_interp_todo.specs.Flows.{view_flow};
+ghost use Rattle.pw_interp_todo.specs.Going.{remainder_act, use_act};
+ghost use Rattle.pw_interp_todo.specs.Operands as operands;
+ghost use Rattle.pw_interp_todo.specs.Parts.{doing_act};
+ghost use Rattle.pw_interp_todo.specs.Resuming as spec;
+ghost use Rattle.pw_interp_machine.specs.Stepping.{StepsCall};
+
 use crate::arguments::push_arguments;
 use crate::blocks::{end_local, end_parameters, open};
 use crate::machine::Call;
@@ -20,7 +37,9 @@ fn ask_step<'a>(
     call: &mut Call<'a>,
     state: &State<'a>,
     asked: Asked<'a>,
-) -> Result<Control<'a>, Stop<'a>> {
+) -> Result<Control<'a>, Stop<'a>>
+    ensures { StepsCall call.old (λ rest. asked_act asked.entry (view_env call.old.env) call.old.bound >>= λ r. rest (view_env call.old.env) call.old.bound (spec.Gave r)) (view_state state.now) result call.new (view_state state.now) }
+{
     let next = ask(alloc, &call.env, state, asked)?;
     let control = push_next(&mut call.todo, next)?;
     Ok(control)
@@ -33,7 +52,9 @@ fn do_step<'a>(
     state: &mut State<'a>,
     what: Doing<'a>,
     bound: u64,
-) -> Result<Control<'a>, Stop<'a>> {
+) -> Result<Control<'a>, Stop<'a>>
+    ensures { StepsCall call.old (λ rest. doing_act what.entry (view_env call.old.env) call.old.bound >>= λ flow. rest (view_env call.old.env) bound (spec.Flowed flow)) (view_state state.old) result call.new (view_state state.new) }
+{
     match what.part {
         Part::Locals(made) => open(alloc, call, state, what.of, made, what.at, bound),
         _ => {
@@ -50,7 +71,9 @@ fn operand_step<'a>(
     state: &mut State<'a>,
     operand: Operand<'a>,
     given: Option<Value>,
-) -> Result<Control<'a>, Stop<'a>> {
+) -> Result<Control<'a>, Stop<'a>>
+    ensures { StepsCall call.old (λ rest. operands.behind operand.entry given (view_env call.old.env) call.old.bound >>= λ r. rest (view_env call.old.env) call.old.bound (spec.Gave r)) (view_state state.old) result call.new (view_state state.new) }
+{
     let next = behind(alloc, &call.env, state, operand, given)?;
     let control = push_next(&mut call.todo, next)?;
     Ok(control)
@@ -62,7 +85,9 @@ fn argument_step<'a>(
     args: &'a [TExpr],
     token: usize,
     given: Option<Value>,
-) -> Result<Control<'a>, Stop<'a>> {
+) -> Result<Control<'a>, Stop<'a>>
+    ensures { (w : Shown) → StepsCall call.old (λ rest. meaning.used (meaning.site (view_env call.old.env) token) given >>= λ v. meaning.values_of (view_exprs args.now) token (runs.calls (view_env call.old.env).world call.old.bound) (view_env call.old.env) >>= λ vs. rest (view_env call.old.env) call.old.bound (spec.Listed (v ∷ vs))) w result call.new w }
+{
     let value = used(&call.env, token, given)?;
     call.todo.push(Todo::Held(value))?;
     Ok(Control::Arguments(args, token))
@@ -76,7 +101,9 @@ fn value_step<'a>(
     what: Use<'a>,
     bound: u64,
     given: Option<Value>,
-) -> Result<Control<'a>, Stop<'a>> {
+) -> Result<Control<'a>, Stop<'a>>
+    ensures { StepsCall call.old (λ rest. use_act what.entry (view_env call.old.env) call.old.bound given >>= λ flow. rest (view_env call.old.env) bound (spec.Flowed flow)) (view_state state.old) result call.new (view_state state.new) }
+{
     let going = use_value(alloc, &call.env, state, what, given)?;
     push_going(&mut call.todo, &mut call.bound, going, bound)
 }
@@ -87,13 +114,17 @@ fn flow_step<'a>(
     what: Remainder<'a>,
     bound: u64,
     flow: Flow,
-) -> Result<Control<'a>, Stop<'a>> {
+) -> Result<Control<'a>, Stop<'a>>
+    ensures { (w : Shown) → StepsCall call.old (λ rest. remainder_act what.entry (view_env call.old.env) call.old.bound (view_flow flow) >>= λ f. rest (view_env call.old.env) bound (spec.Flowed f)) w result call.new w }
+{
     let going = remainder(what, flow);
     push_going(&mut call.todo, &mut call.bound, going, bound)
 }
 
 /// What a function's body leaves is its result: its end returns none (ISO C90 6.6.6.4).
-fn result_of<'a>(flow: Flow) -> Result<Option<Value>, Stop<'a>> {
+fn result_of<'a>(flow: Flow) -> Result<Option<Value>, Stop<'a>>
+    ensures { (world : worlds.World) (w : Shown) → Answers (λ v. v) world (runs.result_of (view_flow flow)) w result w }
+{
     match flow {
         Flow::Normal => Ok(None),
         Flow::Returns(value) => Ok(value),
@@ -109,13 +140,15 @@ fn gave_step<'a>(
     call: &mut Call<'a>,
     state: &mut State<'a>,
     given: Option<Value>,
-) -> Result<Control<'a>, Stop<'a>> {
+) -> Result<Control<'a>, Stop<'a>>
+    ensures { StepsCall call.old (λ rest. rest (view_env call.old.env) call.old.bound (spec.Gave given)) (view_state state.old) result call.new (view_state state.new) }
+{
     match call.todo.pop() {
         Some(Todo::Operand(operand)) => operand_step(alloc, call, state, operand, given),
         Some(Todo::Argument(args, token)) => argument_step(call, args, token, given),
         Some(Todo::Value { what, bound }) => value_step(alloc, call, state, what, bound, given),
         Some(Todo::EndLocal { local, number, before }) => {
-            end_local(call, state, local, number, before);
+            end_local(call, &mut state.objects, local, number, before);
             Ok(Control::Gave(given))
         }
         Some(Todo::EndParameters { count, number }) => {
@@ -133,11 +166,13 @@ fn flowed_step<'a>(
     call: &mut Call<'a>,
     state: &mut State<'a>,
     flow: Flow,
-) -> Result<Control<'a>, Stop<'a>> {
+) -> Result<Control<'a>, Stop<'a>>
+    ensures { StepsCall call.old (λ rest. rest (view_env call.old.env) call.old.bound (spec.Flowed (view_flow flow))) (view_state state.old) result call.new (view_state state.new) }
+{
     match call.todo.pop() {
         Some(Todo::Flow { what, bound }) => flow_step(call, what, bound, flow),
         Some(Todo::EndLocal { local, number, before }) => {
-            end_local(call, state, local, number, before);
+            end_local(call, &mut state.objects, local, number, before);
             Ok(Control::Flowed(flow))
         }
         Some(Todo::Returned) => Ok(Control::Gave(result_of(flow)?)),
@@ -158,7 +193,9 @@ pub fn call_step<'a>(
     call: &mut Call<'a>,
     state: &mut State<'a>,
     control: Control<'a>,
-) -> Result<Control<'a>, Stop<'a>> {
+) -> Result<Control<'a>, Stop<'a>>
+    ensures { StepsCall call.old (λ rest. spec.control_act control.entry (view_env call.old.env) call.old.bound rest) (view_state state.old) result call.new (view_state state.new) }
+{
     match control {
         Control::Ask(asked) => ask_step(alloc, call, state, asked),
         Control::Do { what, bound } => do_step(alloc, call, state, what, bound),
