@@ -1,1 +1,2 @@
 mod Pushing
+mod Standings

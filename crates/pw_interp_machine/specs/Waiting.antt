@@ -23,12 +23,12 @@ unfoldable pub leave : List ℕ → List (List ℕ) → Act (Unit {0})
 leave name active s = Gives tt (record s { active = active; moments = Returned name s.objects ∷ s.moments })
 
 -- behind the last that a function has left to do its result goes to who waits for it
-unfoldable pub ended : Frame → (Option Value → Act (Unit {0})) → Rest
-ended f next e n told = on_value told (λ v. leave f.name f.active >> next v)
+unfoldable pub ended : List ℕ → List (List ℕ) → (Option Value → Act (Unit {0})) → Rest
+ended name active next e n told = on_value told (λ v. leave name active >> next v)
 
 -- a caller goes on with the result, and behind it who waits for that
 unfoldable pub goes_on : Frame → (Option Value → Act (Unit {0})) → Option Value → Act (Unit {0})
-goes_on f next v = resume f.todo (ended f next) f.env f.bound (Gave v)
+goes_on f next v = resume f.todo (ended f.name f.active next) f.env f.bound (Gave v)
 
 -- the callers, of which the last comes first, and then this
 abbrev pub callers_act : List Frame → (Option Value → Act (Unit {0})) → Option Value → Act (Unit {0})
@@ -37,4 +37,4 @@ callers_act (f ∷ more) next = callers_act more (goes_on f next)
 
 -- what is left of a run of a program with this main
 abbrev pub left : Body → Control → Frame → List Frame → Act (Unit {0})
-left main control f callers = control_act control f.env f.bound (resume f.todo (ended f (callers_act callers (finish main))))
+left main control f callers = control_act control f.env f.bound (resume f.todo (ended f.name f.active (callers_act callers (finish main))))

@@ -46,7 +46,7 @@ fn number_of(numbers: &[Option<u128>], local: usize) -> Option<u128>
 
 /// Notes what object a local has; what is no local has none.
 #[tactic(auto, using(std::proofs::lemmas::List::set_past))]
-fn set_number(numbers: &mut [Option<u128>], local: usize, number: Option<u128>)
+pub(crate) fn set_number(numbers: &mut [Option<u128>], local: usize, number: Option<u128>)
     ensures { numbers.new ≡ slice_set numbers.old local number }
 {
     if local < numbers.len() {
@@ -55,7 +55,7 @@ fn set_number(numbers: &mut [Option<u128>], local: usize, number: Option<u128>)
 }
 
 /// What the object of a local is: its size, and whether it may be written; where it has a layout.
-fn object_of<'a>(env: &Env<'a>, local: usize) -> Result<(u32, bool), Stop<'a>>
+pub(crate) fn object_of<'a>(env: &Env<'a>, local: usize) -> Result<(u32, bool), Stop<'a>>
     ensures { (w : Shown) → Answers (λ o. o) (view_env env.now).world (spec.object_for local (view_env env.now)) w result w }
 {
     let Some(declared) = env.locals.get(local) else {

@@ -4,9 +4,11 @@
 
 mod arguments;
 mod blocks;
+mod callees;
 mod calls;
 mod controls;
 mod machine;
+mod parameters;
 mod pushes;
 mod steps;
 

@@ -34,7 +34,7 @@ pub fn push_next<'a>(todo: &mut Vec<Todo<'a>>, next: Next<'a>) -> Result<Control
 }
 
 /// A bound that is one smaller; a bound of 0 ends the run.
-fn lower<'a>(bound: u64) -> Result<u64, Stop<'a>>
+pub(crate) fn lower<'a>(bound: u64) -> Result<u64, Stop<'a>>
     ensures lower { IfOk result (λ lower. bound ≡ lower + 1) }
     ensures none { IfErr result (λ stop. (bound ≡ 0) × (stop ≡ Stop.Ended Ending.Bound)) }
 {
