@@ -6,7 +6,7 @@ ghost use Rattle.pw_types.specs.TypedTrees as tree;
 ghost use Rattle.pw_types.specs.Views.{view_qtype, view_type};
 ghost use Rattle.pw_cmean.specs.Evaluation as meaning;
 ghost use Rattle.pw_cmean.specs.Operators.{number_for};
-ghost use Rattle.pw_interp_state.specs.Shown.{view_state};
+ghost use Rattle.pw_interp_state.specs.Shown.{Shown, view_state};
 ghost use Rattle.pw_interp_calls.specs.Views.{view_env};
 ghost use Rattle.pw_interp_todo.specs.Operands as spec;
 ghost use Rattle.pw_interp_todo.specs.Steps.{StepsExpression};
@@ -40,13 +40,12 @@ fn unary<'a>(
 /// A binary operator: its right operand comes behind the left one.
 fn binary<'a>(
     env: &Env<'a>,
-    state: &State<'a>,
     e: &'a TExpr,
     b: &'a TExpr,
     given: Option<Value>,
 ) -> Result<Next<'a>, Stop<'a>>
-    ensures { (op : _) (a : tree.Expression) → view_form e.now.form ≡ tree.Binary op a (view_expr b.now)
-        → StepsExpression (view_env env.now) (spec.answer_behind (view_expr e.now) given) (view_state state.now) result (view_state state.now) }
+    ensures { (w : Shown) (op : _) (a : tree.Expression) → view_form e.now.form ≡ tree.Binary op a (view_expr b.now)
+        → StepsExpression (view_env env.now) (spec.answer_behind (view_expr e.now) given) w result w }
 {
     let left = used(env, e.token, given)?;
     Ok(Next::Behind(Asked::Answer(b), Operand::Right(e, left)))
@@ -104,13 +103,12 @@ fn cond<'a>(
 /// `=`, whose right operand comes behind the place of the left one.
 fn assign<'a>(
     env: &Env<'a>,
-    state: &State<'a>,
     e: &'a TExpr,
     b: &'a TExpr,
     given: Option<Value>,
 ) -> Result<Next<'a>, Stop<'a>>
-    ensures { (a : tree.Expression) → view_form e.now.form ≡ tree.Assign a (view_expr b.now)
-        → StepsExpression (view_env env.now) (spec.answer_behind (view_expr e.now) given) (view_state state.now) result (view_state state.now) }
+    ensures { (w : Shown) (a : tree.Expression) → view_form e.now.form ≡ tree.Assign a (view_expr b.now)
+        → StepsExpression (view_env env.now) (spec.answer_behind (view_expr e.now) given) w result w }
 {
     let place = need(given)?;
     Ok(Next::Behind(
@@ -161,12 +159,11 @@ fn step<'a>(
 /// A conversion.
 fn cast<'a>(
     env: &Env<'a>,
-    state: &State<'a>,
     token: usize,
     ty: &QType,
     given: Option<Value>,
 ) -> Result<Next<'a>, Stop<'a>>
-    ensures { (a : tree.Expression) → StepsExpression (view_env env.now) (spec.answer_behind (tree.Node token (view_qtype ty.now) (tree.Cast a)) given) (view_state state.now) result (view_state state.now) }
+    ensures { (w : Shown) (a : tree.Expression) → StepsExpression (view_env env.now) (spec.answer_behind (tree.Node token (view_qtype ty.now) (tree.Cast a)) given) w result w }
 {
     let result = pw_interp_acts::cast(env, token, &ty.ty, given)?;
     Ok(Next::Gave(result))
@@ -207,14 +204,13 @@ fn deref<'a>(
 /// A call through a value: its arguments come behind the value.
 fn call_value<'a>(
     env: &Env<'a>,
-    state: &State<'a>,
     token: usize,
     ty: &QType,
     a: &'a TExpr,
     args: &'a [TExpr],
     given: Option<Value>,
 ) -> Result<Next<'a>, Stop<'a>>
-    ensures { StepsExpression (view_env env.now) (spec.answer_behind (tree.Node token (view_qtype ty.now) (tree.CallValue (view_expr a.now) (view_exprs args.now))) given) (view_state state.now) result (view_state state.now) }
+    ensures { (w : Shown) → StepsExpression (view_env env.now) (spec.answer_behind (tree.Node token (view_qtype ty.now) (tree.CallValue (view_expr a.now) (view_exprs args.now))) given) w result w }
 {
     let callee = used(env, token, given)?;
     Ok(Next::Arguments(
@@ -238,17 +234,17 @@ pub fn answer_behind<'a>(
     let token = e.token;
     match &e.form {
         TForm::Unary(op, _) => unary(env, state, token, &e.ty, *op, given),
-        TForm::Binary(_, _, b) => binary(env, state, e, b, given),
+        TForm::Binary(_, _, b) => binary(env, e, b, given),
         TForm::Logic(op, _, b) => logic(env, state, e, *op, b, given),
         TForm::Cond(_, a, b) => cond(env, state, token, &e.ty, a, b, given),
         TForm::Comma(_, b) => Ok(Next::Ask(Asked::Answer(b))),
-        TForm::Assign(_, b) => assign(env, state, e, b, given),
+        TForm::Assign(_, b) => assign(env, e, b, given),
         TForm::Compound(_, working, a, b) => compound(env, state, e, working, a, b, given),
         TForm::Step(op, a) => step(alloc, env, state, token, &e.ty, *op, a, given),
-        TForm::Cast(_) => cast(env, state, token, &e.ty, given),
+        TForm::Cast(_) => cast(env, token, &e.ty, given),
         TForm::Member(_, offset) => member(env, state, token, &e.ty, *offset, given),
         TForm::Deref(_) => deref(env, state, token, &e.ty, given),
-        TForm::CallValue(a, args) => call_value(env, state, token, &e.ty, a, args, given),
+        TForm::CallValue(a, args) => call_value(env, token, &e.ty, a, args, given),
         TForm::Number(_) | TForm::Str(_) | TForm::Local(_) => Err(Stop::Ended(Ending::Wrong)),
         TForm::Global(_) | TForm::Function(_) => Err(Stop::Ended(Ending::Wrong)),
         TForm::Decay(_) | TForm::Address(_) => Err(Stop::Ended(Ending::Wrong)),

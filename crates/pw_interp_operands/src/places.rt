@@ -5,7 +5,7 @@ ghost use Rattle.std.specs.Prelude.{◌≡◌};
 ghost use Rattle.pw_typed.specs.Views.{view_expr, view_form};
 ghost use Rattle.pw_types.specs.TypeTrees as types;
 ghost use Rattle.pw_types.specs.TypedTrees as tree;
-ghost use Rattle.pw_interp_state.specs.Shown.{view_state};
+ghost use Rattle.pw_interp_state.specs.Shown.{Shown, view_state};
 ghost use Rattle.pw_interp_calls.specs.Views.{view_env};
 ghost use Rattle.pw_interp_todo.specs.Operands as spec;
 ghost use Rattle.pw_interp_todo.specs.Steps.{StepsExpression};
@@ -35,11 +35,10 @@ fn member<'a>(
 /// What a pointer points to, behind the pointer.
 fn deref<'a>(
     env: &Env<'a>,
-    state: &State<'a>,
     token: usize,
     given: Option<Value>,
 ) -> Result<Next<'a>, Stop<'a>>
-    ensures { (ty : types.QType) (a : tree.Expression) → StepsExpression (view_env env.now) (spec.place_behind (tree.Node token ty (tree.Deref a)) given) (view_state state.now) result (view_state state.now) }
+    ensures { (w : Shown) (ty : types.QType) (a : tree.Expression) → StepsExpression (view_env env.now) (spec.place_behind (tree.Node token ty (tree.Deref a)) given) w result w }
 {
     let place = used(env, token, given)?;
     Ok(Next::Gave(Some(place)))
@@ -67,13 +66,12 @@ fn cond<'a>(
 /// `=` of structures or unions, whose right operand comes behind the place of the left one.
 fn assign<'a>(
     env: &Env<'a>,
-    state: &State<'a>,
     e: &'a TExpr,
     b: &'a TExpr,
     given: Option<Value>,
 ) -> Result<Next<'a>, Stop<'a>>
-    ensures { (a : tree.Expression) → view_form e.now.form ≡ tree.Assign a (view_expr b.now)
-        → StepsExpression (view_env env.now) (spec.place_behind (view_expr e.now) given) (view_state state.now) result (view_state state.now) }
+    ensures { (w : Shown) (a : tree.Expression) → view_form e.now.form ≡ tree.Assign a (view_expr b.now)
+        → StepsExpression (view_env env.now) (spec.place_behind (view_expr e.now) given) w result w }
 {
     let place = need(given)?;
     Ok(Next::Behind(
@@ -95,10 +93,10 @@ pub fn place_behind<'a>(
     let token = e.token;
     match &e.form {
         TForm::Member(_, offset) => member(env, state, token, *offset, given),
-        TForm::Deref(_) => deref(env, state, token, given),
+        TForm::Deref(_) => deref(env, token, given),
         TForm::Cond(_, a, b) => cond(env, state, token, a, b, given),
         TForm::Comma(_, b) => Ok(Next::Ask(Asked::Place(b))),
-        TForm::Assign(_, b) => assign(env, state, e, b, given),
+        TForm::Assign(_, b) => assign(env, e, b, given),
         TForm::Number(_) | TForm::Str(_) | TForm::Local(_) => Err(Stop::Ended(Ending::Wrong)),
         TForm::Global(_) | TForm::Function(_) => Err(Stop::Ended(Ending::Wrong)),
         TForm::Unary(_, _) | TForm::Binary(_, _, _) => Err(Stop::Ended(Ending::Wrong)),

@@ -6,13 +6,13 @@ use Rattle.pw_interp_operands.proofs.answers.binary.Goals as goal
 
 pub returns-in_err-left : goal.returns-in_err-left
 unfolding right_behind
-returns-in_err-left c op a is bound =
+returns-in_err-left c w op a is bound =
     followed (named (binary_is _ _ _ _ _ _ _ _ is))
     (then_stops _ (c.used.ensures.answers _) c.in_err-left.was (search rules))
 
 pub returns : goal.returns
 unfolding right_behind
-returns c op a is bound =
+returns c w op a is bound =
     followed (named (binary_is _ _ _ _ _ _ _ _ is))
     (then_more _ (c.used.ensures.answers _) c.in_ok-left.was
     (leaves _))
