@@ -64,7 +64,11 @@ fn members<'a>(s: &'a TStmt, i: usize, flow: Flow) -> Going<'a>
 {
     match onward(from_on(members_in(s), i), flow) {
         Onward::Met(at) => {
-            let doing = Doing { part: Part::Members(i), of: s, at };
+            let doing = Doing {
+                part: Part::Members(i),
+                of: s,
+                at,
+            };
             Going::On(Turn::Here, doing)
         }
         Onward::Left(flow) => Going::Left(flow),
@@ -77,7 +81,11 @@ fn later_arms<'a>(s: &'a TStmt, i: usize, flow: Flow) -> Going<'a>
 {
     match behind_arm(from_on(arms_in(s), i), otherwise_in(s), flow) {
         Onward::Met(at) => {
-            let doing = Doing { part: Part::Arms(i), of: s, at };
+            let doing = Doing {
+                part: Part::Arms(i),
+                of: s,
+                at,
+            };
             Going::On(Turn::Here, doing)
         }
         Onward::Left(flow) => Going::Left(flow),
@@ -114,7 +122,11 @@ fn taken<'a>(s: &'a TStmt, flow: Flow) -> Going<'a>
     match taken_by(s, flow) {
         Some(label) => {
             let at = Entry::AtLabel(label);
-            let doing = Doing { part: Part::Taking, of: s, at };
+            let doing = Doing {
+                part: Part::Taking,
+                of: s,
+                at,
+            };
             Going::On(Turn::Back, doing)
         }
         None => Going::Left(flow),

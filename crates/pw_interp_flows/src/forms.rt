@@ -30,10 +30,23 @@ fn switch<'a>(s: &'a TStmt, e: &'a TExpr, body: &'a TStmt, at: Entry) -> Going<'
         → Leaves (λ env n. execution.meaning (view_stmt s.now) (view_entry at) (calls env.world n) env) result }
 {
     match at {
-        Entry::Front => Going::Ask(Asked::Answer(e), Use { purpose: Purpose::Switch(e.token), of: s }),
+        Entry::Front => Going::Ask(
+            Asked::Answer(e),
+            Use {
+                purpose: Purpose::Switch(e.token),
+                of: s,
+            },
+        ),
         Entry::AtLabel(_) => {
-            let doing = Doing { part: Part::Whole, of: body, at };
-            let rest = Remainder { done: Done::Switch, of: s };
+            let doing = Doing {
+                part: Part::Whole,
+                of: body,
+                at,
+            };
+            let rest = Remainder {
+                done: Done::Switch,
+                of: s,
+            };
             Going::Then(doing, rest)
         }
     }
@@ -44,7 +57,13 @@ fn returning<'a>(s: &'a TStmt, e: &'a Option<TExpr>) -> Going<'a>
     ensures { Leaves (λ env n. return_act (view_optional e.now) (calls env.world n) env) result }
 {
     match e {
-        Some(e) => Going::Ask(Asked::Answer(e), Use { purpose: Purpose::Return(e.token), of: s }),
+        Some(e) => Going::Ask(
+            Asked::Answer(e),
+            Use {
+                purpose: Purpose::Return(e.token),
+                of: s,
+            },
+        ),
         None => Going::Left(Flow::Returns(None)),
     }
 }
@@ -56,13 +75,33 @@ fn statement<'a>(s: &'a TStmt, at: Entry) -> Going<'a>
     match &s.form {
         TStmtForm::Empty => Going::Left(Flow::Normal),
         TStmtForm::Expr(e) => {
-            Going::Ask(Asked::Answer(e), Use { purpose: Purpose::Dropped, of: s })
+            Going::Ask(
+                Asked::Answer(e),
+                Use {
+                    purpose: Purpose::Dropped,
+                    of: s,
+                },
+            )
         }
         TStmtForm::Block { .. } => {
-            Going::On(Turn::Here, Doing { part: Part::Locals(0), of: s, at })
+            Going::On(
+                Turn::Here,
+                Doing {
+                    part: Part::Locals(0),
+                    of: s,
+                    at,
+                },
+            )
         }
         TStmtForm::If(_, _) | TStmtForm::Label(_, _) => {
-            Going::On(Turn::Here, Doing { part: Part::Taking, of: s, at })
+            Going::On(
+                Turn::Here,
+                Doing {
+                    part: Part::Taking,
+                    of: s,
+                    at,
+                },
+            )
         }
         TStmtForm::While(_, _) | TStmtForm::Do(_, _) => met(s, at),
         TStmtForm::For(first, _, _, _) => counted(s, first, at),

@@ -107,13 +107,23 @@ fn initialised<'a>(
 {
     match first {
         Initialiser::Value(_, e) => {
-            let given = Use { purpose: Purpose::Initialise(i), of: s };
+            let given = Use {
+                purpose: Purpose::Initialise(i),
+                of: s,
+            };
             Ok(Going::Ask(Asked::Answer(e), given))
         }
         Initialiser::Bytes(local, hidden, _) => {
             initialise_bytes(alloc, env, state, *local, *hidden)?;
             let part = Part::Initialisers(i + 1);
-            Ok(Going::On(Turn::Here, Doing { part, of: s, at: Entry::Front }))
+            Ok(Going::On(
+                Turn::Here,
+                Doing {
+                    part,
+                    of: s,
+                    at: Entry::Front,
+                },
+            ))
         }
     }
 }
@@ -123,7 +133,14 @@ fn list<'a>(s: &'a TStmt, at: Entry) -> Going<'a>
     ensures { Leaves (λ e n. parts.inside [] (any.members_in (view_stmt s.now)) (view_entry at) (calls e.world n) e) result }
 {
     match members_in(s).get(0) {
-        Some(_first) => Going::On(Turn::Here, Doing { part: Part::Taking, of: s, at }),
+        Some(_first) => Going::On(
+            Turn::Here,
+            Doing {
+                part: Part::Taking,
+                of: s,
+                at,
+            },
+        ),
         None => Going::Left(Flow::Normal),
     }
 }

@@ -32,11 +32,22 @@ fn member<'a>(s: &'a TStmt, first: &'a TStmt, rest: usize, at: Entry) -> Going<'
     ensures { Leaves (λ e n. execution.items (OneStatement (view_stmt first.now) (members_from rest (any_members (view_stmt s.now)))) (view_entry at) (calls e.world n) e) result }
 {
     if enters(first, at) {
-        let doing = Doing { part: Part::Whole, of: first, at };
-        let rest = Remainder { done: Done::Member(rest), of: s };
+        let doing = Doing {
+            part: Part::Whole,
+            of: first,
+            at,
+        };
+        let rest = Remainder {
+            done: Done::Member(rest),
+            of: s,
+        };
         Going::Then(doing, rest)
     } else {
-        let doing = Doing { part: Part::Members(rest), of: s, at };
+        let doing = Doing {
+            part: Part::Members(rest),
+            of: s,
+            at,
+        };
         Going::On(Turn::Here, doing)
     }
 }
@@ -57,7 +68,11 @@ fn behind_arms<'a>(s: &'a TStmt, at: Entry) -> Going<'a>
 {
     match otherwise_in(s) {
         Some(last) => {
-            let doing = Doing { part: Part::Whole, of: last, at };
+            let doing = Doing {
+                part: Part::Whole,
+                of: last,
+                at,
+            };
             Going::On(Turn::Here, doing)
         }
         None => Going::Left(Flow::Normal),
@@ -70,11 +85,22 @@ fn arm_at<'a>(s: &'a TStmt, arm: &'a Arm, rest: usize, label: u32) -> Going<'a>
 {
     let at = Entry::AtLabel(label);
     if has_label(&arm.body, label) {
-        let doing = Doing { part: Part::Whole, of: &arm.body, at };
-        let rest = Remainder { done: Done::Arm(rest), of: s };
+        let doing = Doing {
+            part: Part::Whole,
+            of: &arm.body,
+            at,
+        };
+        let rest = Remainder {
+            done: Done::Arm(rest),
+            of: s,
+        };
         Going::Then(doing, rest)
     } else {
-        let doing = Doing { part: Part::Arms(rest), of: s, at };
+        let doing = Doing {
+            part: Part::Arms(rest),
+            of: s,
+            at,
+        };
         Going::On(Turn::Here, doing)
     }
 }
@@ -86,7 +112,10 @@ fn arm<'a>(s: &'a TStmt, first: &'a Arm, i: usize, rest: usize, at: Entry) -> Go
 {
     match at {
         Entry::Front => {
-            let given = Use { purpose: Purpose::Arm(i), of: s };
+            let given = Use {
+                purpose: Purpose::Arm(i),
+                of: s,
+            };
             Going::Ask(Asked::Answer(&first.condition), given)
         }
         Entry::AtLabel(label) => arm_at(s, first, rest, label),
@@ -118,11 +147,23 @@ fn once<'a>(s: &'a TStmt, at: Entry) -> Option<Doing<'a>>
     ensures { OnceOf (view_stmt s.now) (view_entry at) result }
 {
     match &s.form {
-        TStmtForm::Block { .. } => Some(Doing { part: Part::Members(0), of: s, at }),
-        TStmtForm::If(_, _) => Some(Doing { part: Part::Arms(0), of: s, at }),
+        TStmtForm::Block { .. } => Some(Doing {
+            part: Part::Members(0),
+            of: s,
+            at,
+        }),
+        TStmtForm::If(_, _) => Some(Doing {
+            part: Part::Arms(0),
+            of: s,
+            at,
+        }),
         TStmtForm::Label(labels, body) => {
             let at = behind_labels(labels, at);
-            Some(Doing { part: Part::Whole, of: body, at })
+            Some(Doing {
+                part: Part::Whole,
+                of: body,
+                at,
+            })
         }
         TStmtForm::Empty | TStmtForm::Expr(_) | TStmtForm::Switch(_, _, _, _) => None,
         TStmtForm::While(_, _) | TStmtForm::Do(_, _) | TStmtForm::For(_, _, _, _) => None,
@@ -137,7 +178,10 @@ pub fn taking<'a>(s: &'a TStmt, at: Entry) -> Going<'a>
 {
     match once(s, at) {
         Some(doing) => {
-            let rest = Remainder { done: Done::Taking, of: s };
+            let rest = Remainder {
+                done: Done::Taking,
+                of: s,
+            };
             Going::Then(doing, rest)
         }
         None => Going::Left(Flow::Normal),

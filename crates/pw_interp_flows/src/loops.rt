@@ -77,8 +77,15 @@ pub fn turn<'a>(s: &'a TStmt, at: Entry) -> Going<'a>
 {
     match body_in(s) {
         Some(body) => {
-            let doing = Doing { part: Part::Whole, of: body, at };
-            let rest = Remainder { done: Done::Body, of: s };
+            let doing = Doing {
+                part: Part::Whole,
+                of: body,
+                at,
+            };
+            let rest = Remainder {
+                done: Done::Body,
+                of: s,
+            };
             Going::Then(doing, rest)
         }
         None => Going::Left(Flow::Normal),
@@ -89,7 +96,10 @@ pub fn turn<'a>(s: &'a TStmt, at: Entry) -> Going<'a>
 fn test<'a>(s: &'a TStmt, c: &'a TExpr) -> Going<'a>
     ensures { Leaves (λ e n. execution.condition (view_expr c.now) (calls e.world n) e >>= loops.turn_or_leave (view_stmt s.now) e (calls e.world n)) result }
 {
-    let given = Use { purpose: Purpose::Ahead(c.token), of: s };
+    let given = Use {
+        purpose: Purpose::Ahead(c.token),
+        of: s,
+    };
     Going::Ask(Asked::Answer(c), given)
 }
 
@@ -120,7 +130,14 @@ pub fn met<'a>(s: &'a TStmt, at: Entry) -> Going<'a>
     ensures { Leaves (λ e n. met_act (view_stmt s.now) e (view_entry at) (calls e.world n)) result }
 {
     match at {
-        Entry::Front => Going::On(Turn::Here, Doing { part: Part::Top, of: s, at }),
+        Entry::Front => Going::On(
+            Turn::Here,
+            Doing {
+                part: Part::Top,
+                of: s,
+                at,
+            },
+        ),
         Entry::AtLabel(_) => turn(s, at),
     }
 }
@@ -130,7 +147,13 @@ fn counted_front<'a>(s: &'a TStmt, first: &'a Option<TExpr>) -> Going<'a>
     ensures { Leaves (λ e n. counting_act (view_optional first.now) (view_stmt s.now) e execution.Front (calls e.world n)) result }
 {
     match first {
-        Some(a) => Going::Ask(Asked::Answer(a), Use { purpose: Purpose::First, of: s }),
+        Some(a) => Going::Ask(
+            Asked::Answer(a),
+            Use {
+                purpose: Purpose::First,
+                of: s,
+            },
+        ),
         None => met(s, Entry::Front),
     }
 }
@@ -149,7 +172,11 @@ pub fn counted<'a>(s: &'a TStmt, first: &'a Option<TExpr>, at: Entry) -> Going<'
 pub fn back<'a>(s: &'a TStmt) -> Going<'a>
     ensures { Leaves (λ e n. loops.top_act (view_stmt s.now) e (calls e.world n)) result }
 {
-    let doing = Doing { part: Part::Top, of: s, at: Entry::Front };
+    let doing = Doing {
+        part: Part::Top,
+        of: s,
+        at: Entry::Front,
+    };
     Going::On(Turn::Back, doing)
 }
 
@@ -157,7 +184,10 @@ pub fn back<'a>(s: &'a TStmt) -> Going<'a>
 fn tail_test<'a>(s: &'a TStmt, c: &'a TExpr) -> Going<'a>
     ensures { Leaves (λ e n. execution.condition (view_expr c.now) (calls e.world n) e >>= loops.top_or_leave (view_stmt s.now) e (calls e.world n)) result }
 {
-    let given = Use { purpose: Purpose::Tail(c.token), of: s };
+    let given = Use {
+        purpose: Purpose::Tail(c.token),
+        of: s,
+    };
     Going::Ask(Asked::Answer(c), given)
 }
 
@@ -166,7 +196,13 @@ fn tail_third<'a>(s: &'a TStmt, third: &'a Option<TExpr>) -> Going<'a>
     ensures { Leaves (λ e n. (execution.drop_value (view_optional third.now) (calls e.world n) e >> give true) >>= loops.top_or_leave (view_stmt s.now) e (calls e.world n)) result }
 {
     match third {
-        Some(a) => Going::Ask(Asked::Answer(a), Use { purpose: Purpose::Third, of: s }),
+        Some(a) => Going::Ask(
+            Asked::Answer(a),
+            Use {
+                purpose: Purpose::Third,
+                of: s,
+            },
+        ),
         None => back(s),
     }
 }

@@ -23,7 +23,9 @@ use crate::members::{arms_in, initialisers_in};
 use pw_interp_acts::used;
 use pw_interp_calls::{Env, Stop};
 use pw_interp_state::State;
-use pw_interp_todo::{Doing, Done, Entry, Flow, Going, Part, Purpose, Remainder, Turn, Use, tested};
+use pw_interp_todo::{
+    Doing, Done, Entry, Flow, Going, Part, Purpose, Remainder, Turn, Use, tested,
+};
 use pw_typed::{Arm, Case, Initialiser, TStmt, TStmtForm};
 use pw_value::Value;
 use std::alloc::Global;
@@ -34,11 +36,22 @@ fn arm_or_rest<'a>(s: &'a TStmt, arm: &'a Arm, rest: usize, met: bool) -> Going<
 {
     let at = Entry::Front;
     if met {
-        let doing = Doing { part: Part::Whole, of: &arm.body, at };
-        let rest = Remainder { done: Done::Arm(rest), of: s };
+        let doing = Doing {
+            part: Part::Whole,
+            of: &arm.body,
+            at,
+        };
+        let rest = Remainder {
+            done: Done::Arm(rest),
+            of: s,
+        };
         Going::Then(doing, rest)
     } else {
-        let doing = Doing { part: Part::Arms(rest), of: s, at };
+        let doing = Doing {
+            part: Part::Arms(rest),
+            of: s,
+            at,
+        };
         Going::On(Turn::Here, doing)
     }
 }
@@ -77,7 +90,11 @@ fn turn_or_leave<'a>(s: &'a TStmt, more: bool) -> Going<'a>
 fn top_or_leave<'a>(s: &'a TStmt, more: bool) -> Going<'a>
     ensures { Leaves (λ e n. loops.top_or_leave (view_stmt s.now) e (calls e.world n) more) result }
 {
-    if more { back(s) } else { Going::Left(Flow::Normal) }
+    if more {
+        back(s)
+    } else {
+        Going::Left(Flow::Normal)
+    }
 }
 
 /// The condition at the top of a loop gave this.
@@ -147,8 +164,15 @@ fn switch_to<'a>(s: &'a TStmt, label: Option<u32>, body: &'a TStmt) -> Going<'a>
     match label {
         Some(label) => {
             let at = Entry::AtLabel(label);
-            let doing = Doing { part: Part::Whole, of: body, at };
-            let rest = Remainder { done: Done::Switch, of: s };
+            let doing = Doing {
+                part: Part::Whole,
+                of: body,
+                at,
+            };
+            let rest = Remainder {
+                done: Done::Switch,
+                of: s,
+            };
             Going::Then(doing, rest)
         }
         None => Going::Left(Flow::Normal),

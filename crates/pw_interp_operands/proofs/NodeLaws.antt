@@ -47,4 +47,3 @@ module _ (t : ℕ) (ty : QType) (e : Env) (bound : ℕ) (given : Option Value) w
   unfolding place_behind
   store_is a b is =
       subst (λ x. place_behind (Node t ty x) given e bound ≡ (need given >>= λ place. answered b e bound >>= λ right. stored_behind (Node t ty x) place right e bound)) (sym is) refl
-

@@ -111,10 +111,7 @@ fn assign<'a>(
         → StepsExpression (view_env env.now) (spec.answer_behind (view_expr e.now) given) w result w }
 {
     let place = need(given)?;
-    Ok(Next::Behind(
-        Asked::Answer(b),
-        Operand::Assigned(Asked::Answer(e), place),
-    ))
+    Ok(Next::Behind(Asked::Answer(b), Operand::Assigned(Asked::Answer(e), place)))
 }
 
 /// An operator with `=`, which works in a type. The old value is read before the right operand is evaluated.
@@ -132,10 +129,7 @@ fn compound<'a>(
 {
     let place = need(given)?;
     let old = old_value(env, state, e.token, &a.ty.ty, working, place)?;
-    Ok(Next::Behind(
-        Asked::Answer(b),
-        Operand::Updated(e, place, old),
-    ))
+    Ok(Next::Behind(Asked::Answer(b), Operand::Updated(e, place, old)))
 }
 
 /// `++` and `--`.
@@ -213,11 +207,7 @@ fn call_value<'a>(
     ensures { (w : Shown) → StepsExpression (view_env env.now) (spec.answer_behind (tree.Node token (view_qtype ty.now) (tree.CallValue (view_expr a.now) (view_exprs args.now))) given) w result w }
 {
     let callee = used(env, token, given)?;
-    Ok(Next::Arguments(
-        args,
-        token,
-        Callee::Through(token, &a.ty.ty, callee),
-    ))
+    Ok(Next::Arguments(args, token, Callee::Through(token, &a.ty.ty, callee)))
 }
 
 /// What is left of an expression whose result is asked, behind what was evaluated first for it.

@@ -10,8 +10,10 @@ ghost use Rattle.pw_interp_todo.specs.Asking.{view_asked, answered, placed, aske
 ghost use Rattle.pw_interp_todo.specs.Steps.{StepsExpression};
 ghost use Rattle.pw_interp_operands.specs.Groups.{is_leaf, is_alone};
 
-use crate::names::{function, global, local, string};
-use crate::names::{function_place, global_place, no_place, own_place, string_place};
+use crate::names::{
+    function, function_place, global, global_place, local, no_place, own_place, string,
+    string_place,
+};
 use pw_interp_calls::{Env, Stop};
 use pw_interp_state::State;
 use pw_interp_todo::{Asked, Callee, Next, Operand};

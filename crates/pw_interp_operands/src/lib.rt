@@ -3,10 +3,10 @@
 
 mod answers;
 mod asks;
-mod behind;
 mod last;
 mod names;
+mod operand;
 mod places;
 
 pub use asks::ask;
-pub use behind::behind;
+pub use operand::behind;

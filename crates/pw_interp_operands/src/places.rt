@@ -33,11 +33,7 @@ fn member<'a>(
 }
 
 /// What a pointer points to, behind the pointer.
-fn deref<'a>(
-    env: &Env<'a>,
-    token: usize,
-    given: Option<Value>,
-) -> Result<Next<'a>, Stop<'a>>
+fn deref<'a>(env: &Env<'a>, token: usize, given: Option<Value>) -> Result<Next<'a>, Stop<'a>>
     ensures { (w : Shown) (ty : types.QType) (a : tree.Expression) → StepsExpression (view_env env.now) (spec.place_behind (tree.Node token ty (tree.Deref a)) given) w result w }
 {
     let place = used(env, token, given)?;
@@ -74,10 +70,7 @@ fn assign<'a>(
         → StepsExpression (view_env env.now) (spec.place_behind (view_expr e.now) given) w result w }
 {
     let place = need(given)?;
-    Ok(Next::Behind(
-        Asked::Answer(b),
-        Operand::Assigned(Asked::Place(e), place),
-    ))
+    Ok(Next::Behind(Asked::Answer(b), Operand::Assigned(Asked::Place(e), place)))
 }
 
 /// What is left of an lvalue whose place is asked, behind what was evaluated first for it.

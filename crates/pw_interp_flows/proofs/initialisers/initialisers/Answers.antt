@@ -28,15 +28,15 @@ returns-in-None c n =
     let i = c.args.i in
     let past = slice_get_past list i (ltb-false i (length list) (sym c.in-None.ensures.lookup.0)) in
     left_so _ refl (same_lead (λ s.
-        ap (λ l. inside l (members_in (view_stmt c.args.s.now)) (view_entry c.args.at) (calls e.world n) e s) (initialiser_past list i c.initialisers_in.ensures past)
-        ∙ c.list.ensures e n s))
+    ap (λ l. inside l (members_in (view_stmt c.args.s.now)) (view_entry c.args.at) (calls e.world n) e s) (initialiser_past list i c.initialisers_in.ensures past)
+    ∙ c.list.ensures e n s))
 
 pub returns-in-AtLabel : goal.returns-in-AtLabel
 returns-in-AtLabel c n =
     let e = view_env c.args.env.now in
     let S = view_stmt c.args.s.now in
     left_so _ refl (same_lead (λ s.
-        ap (λ at. inside (drop c.args.i (initialisers_in S)) (members_in S) (view_entry at) (calls e.world n) e s) c.in-AtLabel.is
-        ∙ inside_label e n s (drop c.args.i (initialisers_in S)) (members_in S) _
-        ∙ ap (λ at. inside [] (members_in S) (view_entry at) (calls e.world n) e s) (sym c.in-AtLabel.is)
-        ∙ c.list-in-AtLabel.ensures e n s))
+    ap (λ at. inside (drop c.args.i (initialisers_in S)) (members_in S) (view_entry at) (calls e.world n) e s) c.in-AtLabel.is
+    ∙ inside_label e n s (drop c.args.i (initialisers_in S)) (members_in S) _
+    ∙ ap (λ at. inside [] (members_in S) (view_entry at) (calls e.world n) e s) (sym c.in-AtLabel.is)
+    ∙ c.list-in-AtLabel.ensures e n s))
