@@ -1,6 +1,6 @@
 //! The initialisers of a block's locals (ISO C90 6.5.7).
 
-ghost use Rattle.std.specs.Prelude.{◌≡◌, ◌+◌, ◌<◌, ◌^◌, ◌∷◌, [], drop, OnOk};
+ghost use Rattle.std.specs.Prelude.{◌≡◌, ◌∷◌, [], drop, OnOk};
 ghost use Rattle.pw_value.specs.Objects.{object_at, written};
 ghost use Rattle.pw_typed.specs.Views.{view_initialiser, view_stmt};
 ghost use Rattle.pw_cmean.specs.Execution as execution;
@@ -92,38 +92,31 @@ fn initialise_bytes<'a>(
     copy_all(alloc, env, state, source, place)
 }
 
-/// The initialiser of a place: its expression comes, or the local has the bytes of a hidden object.
+/// The initialiser of a place, behind which those from another on follow: its expression comes, or the local has the bytes
+/// of a hidden object.
 fn initialised<'a>(
     alloc: Global,
     env: &Env<'a>,
     state: &mut State<'a>,
     s: &'a TStmt,
     i: usize,
+    rest: usize,
     first: &'a Initialiser,
 ) -> Result<Going<'a>, Stop<'a>>
-    requires { i + 1 < 2 ^ 64 }
-    ensures { drop i (any.initialisers_in (view_stmt s.now)) ≡ view_initialiser first.now ∷ drop (i + 1) (any.initialisers_in (view_stmt s.now))
+    ensures { drop i (any.initialisers_in (view_stmt s.now)) ≡ view_initialiser first.now ∷ drop rest (any.initialisers_in (view_stmt s.now))
         → StepsStatement (view_env env.now) (λ e n. parts.inside (drop i (any.initialisers_in (view_stmt s.now))) (any.members_in (view_stmt s.now)) execution.Front (calls e.world n) e) (view_state state.old) result (view_state state.new) }
 {
     match first {
         Initialiser::Value(_, e) => {
-            let given = Use {
-                purpose: Purpose::Initialise(i),
-                of: s,
-            };
+            let purpose = Purpose::Initialise(i);
+            let given = Use { purpose, of: s };
             Ok(Going::Ask(Asked::Answer(e), given))
         }
         Initialiser::Bytes(local, hidden, _) => {
             initialise_bytes(alloc, env, state, *local, *hidden)?;
-            let part = Part::Initialisers(i + 1);
-            Ok(Going::On(
-                Turn::Here,
-                Doing {
-                    part,
-                    of: s,
-                    at: Entry::Front,
-                },
-            ))
+            let part = Part::Initialisers(rest);
+            let at = Entry::Front;
+            Ok(Going::On(Turn::Here, Doing { part, of: s, at }))
         }
     }
 }
@@ -158,7 +151,7 @@ pub fn initialisers<'a>(
 {
     match at {
         Entry::Front => match initialisers_in(s).get(i) {
-            Some(first) => initialised(alloc, env, state, s, i, first),
+            Some(first) => initialised(alloc, env, state, s, i, i + 1, first),
             None => Ok(list(s, at)),
         },
         Entry::AtLabel(_) => Ok(list(s, at)),
