@@ -1,0 +1,80 @@
+-- A call of a function that the program defines, as what its body leads to.
+use Rattle.std.proofs.Common.{ℕ, zero, suc, ◌+◌, ◌≡◌, refl, sym, ap, subst, ◌∙◌, Bool, true, false, Option, Some, None, List, [], ◌∷◌, length, arith}
+use Rattle.std.proofs.lemmas.Grind.{common_steps}
+use Rattle.std.specs.Prelude.{slice_get}
+use Rattle.pw_value.specs.Objects.{Object, ended, with_object as with_new_object}
+use Rattle.pw_types.specs.TypeTrees.{type_of}
+use Rattle.pw_types.specs.TypedTrees.{LocalValue}
+use Rattle.pw_types.specs.declared.record.Layout.{Layout}
+use Rattle.pw_types.specs.Layouts.{layout_of}
+use Rattle.pw_interp_state.specs.Views.{fresh}
+use Rattle.pw_interp_state.specs.Shown.{Shown, shown}
+use Rattle.pw_cmean.specs.Worlds.{World, depth}
+use Rattle.pw_cmean.specs.Acts.{Act, State, Outcome, Gives, Ends, give, go_on, ◌>>=◌, ◌>>◌, need, wrong, make, end_object, with_object, called, returned, during}
+use Rattle.pw_cmean.specs.Evaluation.{Env, records_of}
+use Rattle.pw_cmean.specs.Execution.{with_locals, with_number}
+use Rattle.pw_interp_todo.specs.Leading.{Leads}
+use Rattle.pw_interp_todo.specs.Resuming.{end_objects}
+use Rattle.pw_interp_todo.proofs.ActLaws.{grouped, follow_same, given_on, needed}
+use Rattle.pw_interp_todo.proofs.LeadLaws.{stays, further, same_lead, in_front}
+use Rattle.pw_interp_machine.specs.Locals.{made}
+use Rattle.pw_interp_machine.specs.Waiting.{leave}
+
+-- while a function is active its body runs, and behind it the functions are active that were before it
+pub during_is : {A B : Type 0} (name : List ℕ) (act : Act A) (next : A → Act B) (s : State)
+    → (during name act >>= next) s ≡ (act >>= λ a. leave name s.active >> next a) (called name s)
+unfolding during returned leave ◌>>=◌ go_on
+during_is {A = A} {B = B} name act next s = by (act (called name s))
+  where
+    by : (o : Outcome A) → go_on (returned name s.active o) next ≡ go_on o (λ a. leave name s.active >> next a)
+    by (Gives a t) = refl
+    by (Ends ending t) = refl
+
+-- what shows in a function that is called
+pub called_shows : (world : World) (name : List ℕ) (s : State) (w : Shown) → shown world s ≡ w → shown world (called name s) ≡ record w { used = world.frame_of name + w.used }
+unfolding called
+called_shows world name s w e = ap {A = Shown} (λ x. record x { used = world.frame_of name + x.used }) e
+
+-- ---- objects of locals
+
+length_more : (o : Object) (objects : List Object) → length (with_new_object o objects) ≡ suc (length objects)
+length_more o objects = grind (arith, common_steps)
+
+-- a local's object is made, and behind the rest it ends
+object_leads : {A : Type 0} {world : World} {w : Shown} (size : ℕ) (writable : Bool) (act : ℕ → Act A)
+    → Leads world (with_object size writable act) w (act (length w.objects) >>= λ a. end_object (length w.objects) >> give a) (record w { objects = with_new_object (fresh size writable) w.objects })
+unfolding with_object make ◌>>=◌ go_on
+object_leads {world = world} {w = w} size writable act = record {
+  leads = λ s e.
+      let count : length s.objects ≡ length w.objects = ap (λ x. length x.objects) e in
+      let t : State = record s { objects = with_new_object (fresh size writable) s.objects } in
+      (t, ap {A = Shown} (λ x. record x { objects = with_new_object (fresh size writable) x.objects }) e, ap (λ n. go_on (act n t) (λ a. end_object n >> give a)) count);
+}
+
+-- what is behind an act whose result is given on
+pub behind_nothing : {A : Type 0} (act : Act A) (s : State) → (act >>= λ a. give tt >> give a) s ≡ act s
+unfolding ◌>>=◌ go_on give
+behind_nothing {A = A} act s = by (act s)
+  where
+    by : (o : Outcome A) → go_on o (λ a t. Gives a t) ≡ o
+    by (Gives a t) = refl
+    by (Ends ending t) = refl
+
+module _ {A : Type 0} (world : World) (act : Env → Act A) where
+  -- one behind the others
+  pub ends_behind : (count number : ℕ) (inner : Act A) (s : State)
+      → ((inner >>= λ a. end_objects count (suc number) >> give a) >>= λ a. end_object number >> give a) s ≡ (inner >>= λ a. end_objects (suc count) number >> give a) s
+  unfolding end_objects
+  ends_behind count number inner s =
+      grouped inner _ _ s
+      ∙ follow_same inner _ _ s (λ a t.
+          grouped (end_objects count (suc number)) (λ _. give a) (λ b. end_object number >> give b) t
+          ∙ follow_same (end_objects count (suc number)) _ _ t (λ d x. given_on a (λ b. end_object number >> give b) x)
+          ∙ sym (grouped (end_objects count (suc number)) (λ _. end_object number) (λ _. give a) t))
+
+  -- So many locals have objects: the act follows where they are in scope, and behind it they end.
+  pub locals_lead : (count first : ℕ) (e inner : Env) (w : Shown) (objects : List Object) → made count first e w.objects ≡ (Some inner, objects)
+      → Leads world (with_locals count first act e) w (act inner >>= λ a. end_objects count (length w.objects) >> give a) (record w { objects = objects })
+  unfolding with_locals need wrong
+  locals_lead zero first e inner w objects is = ?
+  locals_lead (suc count) first e inner w objects is = ?
