@@ -10,14 +10,14 @@ use Rattle.pw_types.specs.Layouts.{layout_of}
 use Rattle.pw_interp_state.specs.Views.{fresh}
 use Rattle.pw_interp_state.specs.Shown.{Shown, shown}
 use Rattle.pw_cmean.specs.Worlds.{World, depth}
-use Rattle.pw_cmean.specs.Acts.{Act, State, Outcome, Gives, Ends, give, go_on, ◌>>=◌, ◌>>◌, need, wrong, make, end_object, with_object, called, returned, during}
+use Rattle.pw_cmean.specs.Acts.{Act, State, Outcome, Gives, Ends, give, go_on, ◌>>=◌, ◌>>◌, need, make, end_object, with_object, called, returned, during}
 use Rattle.pw_cmean.specs.Evaluation.{Env, records_of}
 use Rattle.pw_cmean.specs.Execution.{with_locals, with_number}
 use Rattle.pw_interp_todo.specs.Leading.{Leads}
 use Rattle.pw_interp_todo.specs.Resuming.{end_objects}
 use Rattle.pw_interp_todo.proofs.ActLaws.{grouped, follow_same, given_on, needed}
-use Rattle.pw_interp_todo.proofs.LeadLaws.{stays, further, same_lead, in_front}
-use Rattle.pw_interp_machine.specs.Locals.{made}
+use Rattle.pw_interp_todo.proofs.LeadLaws.{further, same_lead, in_front}
+use Rattle.pw_interp_machine.specs.Locals.{made, made_at, made_by, made_next}
 use Rattle.pw_interp_machine.specs.Waiting.{leave}
 
 -- while a function is active its body runs, and behind it the functions are active that were before it
@@ -72,9 +72,46 @@ module _ {A : Type 0} (world : World) (act : Env → Act A) where
           ∙ follow_same (end_objects count (suc number)) _ _ t (λ d x. given_on a (λ b. end_object number >> give b) x)
           ∙ sym (grouped (end_objects count (suc number)) (λ _. end_object number) (λ _. give a) t))
 
+  -- what an object of a local leads to
+  abbrev others : ℕ → ℕ → Env → Layout → LocalValue → Act A
+  others count first e layout l = with_object layout.size l.writable (λ number. with_locals count (suc first) act (with_number first number e))
+
+  abbrev laid : ℕ → ℕ → Env → LocalValue → Act A
+  laid count first e l = need (layout_of (records_of e) (type_of l.ty)) >>= λ layout. others count first e layout l
+
+  -- the act with its objects ended behind it
+  abbrev ending : ℕ → ℕ → Env → Act A
+  ending count number inner = act inner >>= λ a. end_objects count number >> give a
+
   -- So many locals have objects: the act follows where they are in scope, and behind it they end.
   pub locals_lead : (count first : ℕ) (e inner : Env) (w : Shown) (objects : List Object) → made count first e w.objects ≡ (Some inner, objects)
-      → Leads world (with_locals count first act e) w (act inner >>= λ a. end_objects count (length w.objects) >> give a) (record w { objects = objects })
-  unfolding with_locals need wrong
-  locals_lead zero first e inner w objects is = ?
-  locals_lead (suc count) first e inner w objects is = ?
+      → Leads world (with_locals count first act e) w (ending count (length w.objects) inner) (record w { objects = objects })
+  unfolding with_locals end_objects
+  locals_lead zero first e inner w objects is =
+      let one : e ≡ inner = cc (ap (λ p. p.0) is) in
+      let two : w.objects ≡ objects = ap (λ p. p.1) is in
+      subst (λ o. Leads world (act e) w (ending zero (length w.objects) inner) (record w { objects = o })) two
+      (subst (λ i. Leads world (act e) w (ending zero (length w.objects) i) w) one (same_lead (λ s. sym (behind_nothing (act e) s))))
+  locals_lead (suc count) first e inner w objects is =
+      by (λ more x made_so. locals_lead count (suc first) x inner (record w { objects = more }) objects made_so) (slice_get e.locals first) is
+    where
+      Inside : Type 0
+      Inside = (more : List Object) (x : Env) → made count (suc first) x more ≡ (Some inner, objects)
+          → Leads world (with_locals count (suc first) act x) (record w { objects = more }) (ending count (length more) inner) (record w { objects = objects })
+
+      deep : Inside → (l : LocalValue) (o : Option Layout) → made_next w.objects (made count (suc first)) (made_by first e w.objects l o) ≡ (Some inner, objects)
+          → Leads world (need o >>= λ layout. others count first e layout l) w (ending (suc count) (length w.objects) inner) (record w { objects = objects })
+      deep inside l None is = cc (ap (λ p. p.0) is)
+      deep inside l (Some layout) is =
+          let more = with_new_object (fresh layout.size l.writable) w.objects in
+          let there = in_front (λ a. end_object (length w.objects) >> give a) (inside more (with_number first (length w.objects) e) is) in
+          further (same_lead (λ s. needed layout (λ x. others count first e x l) s))
+          (further (object_leads layout.size l.writable (λ number. with_locals count (suc first) act (with_number first number e)))
+          (further (subst (λ n. Leads world (with_locals count (suc first) act (with_number first (length w.objects) e) >>= λ a. end_object (length w.objects) >> give a) (record w { objects = more })
+              (ending count n inner >>= λ a. end_object (length w.objects) >> give a) (record w { objects = objects })) (length_more (fresh layout.size l.writable) w.objects) there)
+          (same_lead (λ s. ends_behind count (length w.objects) (act inner) s))))
+
+      by : Inside → (o : Option LocalValue) → made_next w.objects (made count (suc first)) (made_at first e w.objects o) ≡ (Some inner, objects)
+          → Leads world (need o >>= laid count first e) w (ending (suc count) (length w.objects) inner) (record w { objects = objects })
+      by inside None is = cc (ap (λ p. p.0) is)
+      by inside (Some l) is = further (same_lead (λ s. needed l (laid count first e) s)) (deep inside l (layout_of (records_of e) (type_of l.ty)) is)
