@@ -1,8 +1,8 @@
 //! What statements do with the values of expressions.
 
-ghost use Rattle.std.specs.Prelude.{◌≡◌, Some, drop};
+ghost use Rattle.std.specs.Prelude.{◌≡◌, ◌∷◌, Some, drop};
 ghost use Rattle.pw_value.specs.declared.value.Value.TheVariants.{Num};
-ghost use Rattle.pw_typed.specs.Views.{view_cases, view_stmt};
+ghost use Rattle.pw_typed.specs.Views.{view_cases, view_initialiser, view_stmt};
 ghost use Rattle.pw_cmean.specs.Acts.{◌>>=◌, give};
 ghost use Rattle.pw_cmean.specs.Evaluation as meaning;
 ghost use Rattle.pw_cmean.specs.Execution as execution;
@@ -218,7 +218,31 @@ fn use_in_return<'a>(
     Ok(Going::Left(Flow::Returns(Some(value))))
 }
 
-/// The initialiser of a place gave this: it is put into the local, and those behind it follow.
+/// An initialiser gave this: it is put into the local, and those from a place on follow.
+fn initialise_with<'a>(
+    alloc: Global,
+    env: &Env<'a>,
+    state: &mut State<'a>,
+    s: &'a TStmt,
+    rest: usize,
+    first: &'a Initialiser,
+    given: Option<Value>,
+) -> Result<Going<'a>, Stop<'a>>
+    ensures { StepsStatement (view_env env.now) (λ e n. spec.initialised (view_initialiser first.now ∷ drop rest (any.initialisers_in (view_stmt s.now))) (any.members_in (view_stmt s.now)) e (calls e.world n) given) (view_state state.old) result (view_state state.new) }
+{
+    match first {
+        Initialiser::Value(local, e) => {
+            let value = used(env, e.token, given)?;
+            set_local(alloc, env, state, e.token, *local, value)?;
+            let part = Part::Initialisers(rest);
+            let at = Entry::Front;
+            Ok(Going::On(Turn::Here, Doing { part, of: s, at }))
+        }
+        Initialiser::Bytes(_, _, _) => Ok(Going::Left(Flow::Normal)),
+    }
+}
+
+/// The initialiser of a place gave this.
 fn use_in_local<'a>(
     alloc: Global,
     env: &Env<'a>,
@@ -230,14 +254,8 @@ fn use_in_local<'a>(
     ensures { StepsStatement (view_env env.now) (λ e n. spec.initialised (drop i (any.initialisers_in (view_stmt s.now))) (any.members_in (view_stmt s.now)) e (calls e.world n) given) (view_state state.old) result (view_state state.new) }
 {
     match initialisers_in(s).get(i) {
-        Some(Initialiser::Value(local, e)) => {
-            let value = used(env, e.token, given)?;
-            set_local(alloc, env, state, e.token, *local, value)?;
-            let part = Part::Initialisers(i + 1);
-            let at = Entry::Front;
-            Ok(Going::On(Turn::Here, Doing { part, of: s, at }))
-        }
-        Some(Initialiser::Bytes(_, _, _)) | None => Ok(Going::Left(Flow::Normal)),
+        Some(first) => initialise_with(alloc, env, state, s, i + 1, first, given),
+        None => Ok(Going::Left(Flow::Normal)),
     }
 }
 
