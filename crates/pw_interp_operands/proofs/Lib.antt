@@ -1,2 +1,1 @@
 mod NodeLaws
-mod PlaceLemmas

@@ -1,34 +1,23 @@
 -- Groups of the forms that expressions have.
 use Rattle.std.specs.Prelude.{Bool, true, false}
-use Rattle.pw_types.specs.TypedTrees.{Form, Number, Str, Local, Global, Function, Cond, Comma, Assign, Member, Deref}
+use Rattle.pw_types.specs.TypedTrees.{Form, Unary, Binary, Logic, Cond, Comma, Assign, Compound, Step, Cast, Member, Deref, CallValue}
 
--- a constant, a string or a name
-abbrev pub is_leaf : Form → Bool
-is_leaf (Number n) = true
-is_leaf (Str number) = true
-is_leaf (Local local) = true
-is_leaf (Global symbol) = true
-is_leaf (Function symbol) = true
-is_leaf _ = false
+-- an operator whose first operand is a value
+abbrev pub is_on_values : Form → Bool
+is_on_values (Unary op a) = true
+is_on_values (Binary op a b) = true
+is_on_values (Logic op a b) = true
+is_on_values (Cond c a b) = true
+is_on_values (Comma a b) = true
+is_on_values (Cast a) = true
+is_on_values (Deref a) = true
+is_on_values (CallValue a args) = true
+is_on_values _ = false
 
--- for whose place no other is evaluated first, or that denotes none
-abbrev pub is_alone : Form → Bool
-is_alone (Cond c a b) = false
-is_alone (Comma a b) = false
-is_alone (Assign a b) = false
-is_alone (Member a offset) = false
-is_alone (Deref a) = false
-is_alone _ = true
-
--- whether expressions of the form denote a place, or may be a structure or union
-abbrev pub denotes : Form → Bool
-denotes (Str number) = true
-denotes (Local local) = true
-denotes (Global symbol) = true
-denotes (Function symbol) = true
-denotes (Member a offset) = true
-denotes (Deref a) = true
-denotes (Cond c a b) = true
-denotes (Comma a b) = true
-denotes (Assign a b) = true
-denotes _ = false
+-- an operator whose first operand is a place
+abbrev pub is_at_place : Form → Bool
+is_at_place (Assign a b) = true
+is_at_place (Compound op working a b) = true
+is_at_place (Step op a) = true
+is_at_place (Member a offset) = true
+is_at_place _ = false

@@ -1,6 +1,6 @@
 //! What is left of an expression whose result is asked, behind what was evaluated first for it.
 
-ghost use Rattle.std.specs.Prelude.{◌≡◌};
+ghost use Rattle.std.specs.Prelude.{◌≡◌, true};
 ghost use Rattle.pw_typed.specs.Views.{view_expr, view_exprs, view_form};
 ghost use Rattle.pw_types.specs.TypedTrees as tree;
 ghost use Rattle.pw_types.specs.Views.{view_qtype, view_type};
@@ -10,6 +10,7 @@ ghost use Rattle.pw_interp_state.specs.Shown.{Shown, view_state};
 ghost use Rattle.pw_interp_calls.specs.Views.{view_env};
 ghost use Rattle.pw_interp_todo.specs.Operands as spec;
 ghost use Rattle.pw_interp_todo.specs.Steps.{StepsExpression};
+ghost use Rattle.pw_interp_operands.specs.Groups.{is_at_place, is_on_values};
 
 use crate::last::word;
 use pw_interp_acts::{advance, old_value, used, value_at};
@@ -210,6 +211,53 @@ fn call_value<'a>(
     Ok(Next::Arguments(args, token, Callee::Through(token, &a.ty.ty, callee)))
 }
 
+/// The same, of an operator on values.
+#[tactic(auto, unfolding(pw_typed::specs::Views::view_form), using(pw_typed::proofs::Rows::call_view, pw_typed::proofs::Rows::call_value_view))]
+fn on_values<'a>(
+    env: &Env<'a>,
+    state: &State<'a>,
+    e: &'a TExpr,
+    given: Option<Value>,
+) -> Result<Next<'a>, Stop<'a>>
+    requires { is_on_values (view_form e.now.form) ≡ true }
+    ensures { StepsExpression (view_env env.now) (spec.answer_behind (view_expr e.now) given) (view_state state.now) result (view_state state.now) }
+{
+    let token = e.token;
+    match &e.form {
+        TForm::Unary(op, _) => unary(env, state, token, &e.ty, *op, given),
+        TForm::Binary(_, _, b) => binary(env, e, b, given),
+        TForm::Logic(op, _, b) => logic(env, state, e, *op, b, given),
+        TForm::Cond(_, a, b) => cond(env, state, token, &e.ty, a, b, given),
+        TForm::Comma(_, b) => Ok(Next::Ask(Asked::Answer(b))),
+        TForm::Cast(_) => cast(env, token, &e.ty, given),
+        TForm::Deref(_) => deref(env, state, token, &e.ty, given),
+        TForm::CallValue(a, args) => call_value(env, token, &e.ty, a, args, given),
+        _ => unreachable!(),
+    }
+}
+
+/// The same, of an operator at a place.
+#[tactic(auto, unfolding(pw_typed::specs::Views::view_form), using(pw_typed::proofs::Rows::call_view, pw_typed::proofs::Rows::call_value_view))]
+fn at_place<'a>(
+    alloc: Global,
+    env: &Env<'a>,
+    state: &mut State<'a>,
+    e: &'a TExpr,
+    given: Option<Value>,
+) -> Result<Next<'a>, Stop<'a>>
+    requires { is_at_place (view_form e.now.form) ≡ true }
+    ensures { StepsExpression (view_env env.now) (spec.answer_behind (view_expr e.now) given) (view_state state.old) result (view_state state.new) }
+{
+    let token = e.token;
+    match &e.form {
+        TForm::Assign(_, b) => assign(env, e, b, given),
+        TForm::Compound(_, working, a, b) => compound(env, state, e, working, a, b, given),
+        TForm::Step(op, a) => step(alloc, env, state, token, &e.ty, *op, a, given),
+        TForm::Member(_, offset) => member(env, state, token, &e.ty, *offset, given),
+        _ => unreachable!(),
+    }
+}
+
 /// What is left of an expression whose result is asked, behind what was evaluated first for it.
 #[tactic(auto, unfolding(pw_typed::specs::Views::view_form), using(pw_typed::proofs::Rows::call_view, pw_typed::proofs::Rows::call_value_view))]
 pub fn answer_behind<'a>(
@@ -221,20 +269,18 @@ pub fn answer_behind<'a>(
 ) -> Result<Next<'a>, Stop<'a>>
     ensures { StepsExpression (view_env env.now) (spec.answer_behind (view_expr e.now) given) (view_state state.old) result (view_state state.new) }
 {
-    let token = e.token;
     match &e.form {
-        TForm::Unary(op, _) => unary(env, state, token, &e.ty, *op, given),
-        TForm::Binary(_, _, b) => binary(env, e, b, given),
-        TForm::Logic(op, _, b) => logic(env, state, e, *op, b, given),
-        TForm::Cond(_, a, b) => cond(env, state, token, &e.ty, a, b, given),
-        TForm::Comma(_, b) => Ok(Next::Ask(Asked::Answer(b))),
-        TForm::Assign(_, b) => assign(env, e, b, given),
-        TForm::Compound(_, working, a, b) => compound(env, state, e, working, a, b, given),
-        TForm::Step(op, a) => step(alloc, env, state, token, &e.ty, *op, a, given),
-        TForm::Cast(_) => cast(env, token, &e.ty, given),
-        TForm::Member(_, offset) => member(env, state, token, &e.ty, *offset, given),
-        TForm::Deref(_) => deref(env, state, token, &e.ty, given),
-        TForm::CallValue(a, args) => call_value(env, token, &e.ty, a, args, given),
+        TForm::Unary(_, _) | TForm::Binary(_, _, _) | TForm::Logic(_, _, _) => {
+            on_values(env, state, e, given)
+        }
+        TForm::Cond(_, _, _) | TForm::Comma(_, _) | TForm::Cast(_) => {
+            on_values(env, state, e, given)
+        }
+        TForm::Deref(_) | TForm::CallValue(_, _) => on_values(env, state, e, given),
+        TForm::Assign(_, _) | TForm::Compound(_, _, _, _) => {
+            at_place(alloc, env, state, e, given)
+        }
+        TForm::Step(_, _) | TForm::Member(_, _) => at_place(alloc, env, state, e, given),
         TForm::Number(_) | TForm::Str(_) | TForm::Local(_) => Err(Stop::Ended(Ending::Wrong)),
         TForm::Global(_) | TForm::Function(_) => Err(Stop::Ended(Ending::Wrong)),
         TForm::Decay(_) | TForm::Address(_) => Err(Stop::Ended(Ending::Wrong)),

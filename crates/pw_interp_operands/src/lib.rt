@@ -1,12 +1,9 @@
-//! The interpreter's steps of expressions: what is left of what is asked, and behind an operand that was evaluated.
+//! The interpreter's steps of expressions behind an operand that was evaluated: what is left of the expression.
 #![tactic(auto)]
 
 mod answers;
-mod asks;
 mod last;
-mod names;
 mod operand;
 mod places;
 
-pub use asks::ask;
 pub use operand::behind;
