@@ -67,7 +67,7 @@ fn after_flush<E: Sink>(
     ensures line { Tells (line_after_flush answer flushed) (E.taken err.old) (E.taken err.new) (E.faults err.old) (E.faults err.new) }
 {
     match flushed {
-        Err(Failed) if is_untold(&answer) => tell(alloc, Answer::WriteFault, 1, err),
+        Err(Failed) if is_untold(&answer) => tell(alloc, Answer::WriteFault, None, err),
         _ => answer,
     }
 }
@@ -118,9 +118,9 @@ fn block_of(at_terminal: bool) -> usize
 /// Where there is no memory for the words or for the output's block, that is told and answered.
 fn without_memory<E: Sink>(alloc: Global, err: &mut E) -> ExitCode
     ensures status { exit_status result ≡ status_of Answer.NoMemory }
-    ensures line { Tells (line_text 1 Answer.NoMemory) (E.taken err.old) (E.taken err.new) (E.faults err.old) (E.faults err.new) }
+    ensures line { Tells (line_text None Answer.NoMemory) (E.taken err.old) (E.taken err.new) (E.faults err.old) (E.faults err.new) }
 {
-    exit_of(&tell(alloc, Answer::NoMemory, 1, err))
+    exit_of(&tell(alloc, Answer::NoMemory, None, err))
 }
 
 fn main(rt: HostRuntime) -> ExitCode {

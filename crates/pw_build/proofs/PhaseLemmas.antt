@@ -4,7 +4,7 @@ use Rattle.std.specs.Prelude.{Option, None}
 use Rattle.pw_value.specs.declared.fault.LinkFault.{LinkFault}
 use Rattle.pw_front_end.specs.declared.refusal.Refusal.{Refusal}
 use Rattle.pw_flow.specs.declared.flow.FlowModule.{FlowModule}
-use Rattle.pw_phase_one.specs.FirstPhase.{Phase, compiled}
+use Rattle.pw_law_main.specs.FromPhaseOne.FirstPhase.{Phase, compiled}
 use Rattle.pw_store_modules.specs.Modules.{Source}
 use Rattle.pw_build.specs.declared.fault.BuildFault.{BuildFault}
 use Rattle.pw_build.specs.declared.fault.BuildFault.TheVariants.{Refused, LinkRefused, StoreFault, NoMemory}
@@ -61,16 +61,16 @@ pub line_turn : (all left rest : List Source) (source : Source) (flow : FlowModu
 line_turn all left rest source flow inv e is =
     ap (λ (p : Phase). line_by source.1 p (refused_line rest)) (sym is) ∙ ap refused_line (sym e) ∙ inv
 
-line_same : (text : List ℕ) (phase : Phase) (refusal : Refusal) (other more : ℕ) → phase ≡ Err refusal → line_by text phase other ≡ line_by text phase more
+line_same : (text : List ℕ) (phase : Phase) (refusal : Refusal) (other more : Option ℕ) → phase ≡ Err refusal → line_by text phase other ≡ line_by text phase more
 line_same text phase refusal other more e =
     ap (λ (p : Phase). line_by text p other) e ∙ ap (λ (p : Phase). line_by text p more) (sym e)
 
-pub line_all : (all left rest : List Source) (source : Source) (fault : BuildFault) (line : ℕ) → LineSoFar all left → left ≡ source ∷ rest → FaultsOfPhase source.0 (compiled source.0 source.1) fault → IsLine (line_by source.1 (compiled source.0 source.1) 1) fault line → IsLine (refused_line all) fault line
+pub line_all : (all left rest : List Source) (source : Source) (fault : BuildFault) (line : Option ℕ) → LineSoFar all left → left ≡ source ∷ rest → FaultsOfPhase source.0 (compiled source.0 source.1) fault → IsLine (line_by source.1 (compiled source.0 source.1) None) fault line → IsLine (refused_line all) fault line
 line_all all left rest source NoMemory line inv e h k = tt
 line_all all left rest source StoreFault line inv e h k = tt
 line_all all left rest source (LinkRefused fault) line inv e h k = tt
 line_all all left rest source (Refused name refusal) line inv e h k =
-    k ∙ line_same source.1 (compiled source.0 source.1) refusal 1 (refused_line rest) h.1 ∙ ap refused_line (sym e) ∙ inv
+    k ∙ line_same source.1 (compiled source.0 source.1) refusal None (refused_line rest) h.1 ∙ ap refused_line (sym e) ∙ inv
 
 -- ---- within the limits
 

@@ -7,7 +7,7 @@ use Rattle.pw_value.specs.declared.fault.LinkFault.TheVariants.{TooMany}
 use Rattle.pw_value.specs.declared.fault.What.TheVariants.{Modules, TextBytes}
 use Rattle.pw_flow.specs.declared.flow.FlowModule.{FlowModule}
 use Rattle.pw_object.specs.declared.object.Object.{Object}
-use Rattle.pw_phase_one.specs.FirstPhase.{Phase, compiled}
+use Rattle.pw_law_main.specs.FromPhaseOne.FirstPhase.{Phase, compiled}
 use Rattle.pw_store_modules.specs.Modules.{Source, Texts}
 use Rattle.pw_build_objects.specs.Programs.{Completes, Parts}
 use Rattle.pw_build_objects.specs.Counting.{MakesAnew}

@@ -1,2 +1,2 @@
--- The definitions of pw_phase_one that crates above name.
-pub use Rattle.pw_phase_one.specs.FirstPhase
+-- The definitions of the first phase that crates above name.
+pub use Rattle.pw_law_main.specs.FromPhaseOne.FirstPhase

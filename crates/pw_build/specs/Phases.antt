@@ -1,24 +1,24 @@
 -- What the code answers for the first phases of modules.
-use Rattle.std.specs.Prelude.{◌≡◌, ℕ, List, [], ◌∷◌, Result, Ok, Err}
+use Rattle.std.specs.Prelude.{◌≡◌, ℕ, List, [], ◌∷◌, Option, Some, None, Result, Ok, Err}
 use Rattle.pw_front_end.specs.Places.{refusal_line}
-use Rattle.pw_phase_one.specs.FirstPhase.{Phase, compiled}
+use Rattle.pw_law_main.specs.FromPhaseOne.FirstPhase.{Phase, compiled}
 use Rattle.pw_store_modules.specs.Modules.{Source}
 use Rattle.pw_build.specs.declared.fault.BuildFault.{BuildFault}
 use Rattle.pw_build.specs.declared.fault.BuildFault.TheVariants.{Refused, LinkRefused, StoreFault, NoMemory}
 
 -- ---- the line on which a module is refused
 
-abbrev pub line_by : List ℕ → Phase → ℕ → ℕ
-line_by text (Err refusal) other = refusal_line text refusal
+abbrev pub line_by : List ℕ → Phase → Option ℕ → Option ℕ
+line_by text (Err refusal) other = Some (refusal_line text refusal)
 line_by text (Ok flow) other = other
 
--- the line of the first module that is refused, in its text
-abbrev pub refused_line : List Source → ℕ
-refused_line [] = 1
+-- the line of the first module that is refused, in its text, where one is
+abbrev pub refused_line : List Source → Option ℕ
+refused_line [] = None
 refused_line (source ∷ sources) = line_by source.1 (compiled source.0 source.1) (refused_line sources)
 
 -- the line, where a module is refused
-abbrev pub IsLine : ℕ → BuildFault → ℕ → Type 0
+abbrev pub IsLine : Option ℕ → BuildFault → Option ℕ → Type 0
 IsLine due (Refused name refusal) line = line ≡ due
 IsLine due _ line = Unit {0}
 

@@ -24,11 +24,11 @@ pub enum BuildFault {
     NoMemory,
 }
 
-/// Why no program was built, and on which line of its text a refused module is refused.
+/// Why no program was built. Where a module is refused, `line` is the line of its text on which it is, counted from 1.
 #[derive(Drop)]
 pub struct Unbuilt {
     pub fault: BuildFault,
-    pub line: usize,
+    pub line: Option<usize>,
 }
 
 impl From<AllocError> for Unbuilt {
@@ -40,7 +40,7 @@ impl From<AllocError> for Unbuilt {
     fn from(_none: AllocError) -> Unbuilt {
         Unbuilt {
             fault: BuildFault::NoMemory,
-            line: 1,
+            line: None,
         }
     }
 }
@@ -56,7 +56,7 @@ impl From<StoreError> for Unbuilt {
             StoreError::Failed => BuildFault::StoreFault,
             StoreError::NoMemory => BuildFault::NoMemory,
         };
-        Unbuilt { fault, line: 1 }
+        Unbuilt { fault, line: None }
     }
 }
 
@@ -70,7 +70,7 @@ impl From<ModulesFault> for Unbuilt {
         match fault {
             ModulesFault::TooMany(count) => Unbuilt {
                 fault: BuildFault::LinkRefused(LinkFault::TooMany(What::Modules, count)),
-                line: 1,
+                line: None,
             },
             ModulesFault::Store(error) => Unbuilt::from(error),
         }

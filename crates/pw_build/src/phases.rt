@@ -1,11 +1,12 @@
 //! The first phases of all modules, in order.
 
-ghost use Rattle.std.specs.Prelude.{◌≡◌, ◌+◌, ◌*◌, ◌≤◌, ◌++◌, ◌∷◌, [], Ok, Err, IfErr, IfOk, IfSome, IsErrAnd, OnErr, OnOk, length, map, sum_by};
+ghost use Rattle.std.specs.Prelude.{◌≡◌, ◌+◌, ◌*◌, ◌≤◌, ◌++◌, ◌∷◌, [], None, Ok, Err, IfErr, IfOk, IfSome, IsErrAnd, OnErr, OnOk, Some, length, map, sum_by};
 ghost use Rattle.std.specs.List.{AllByRecursion};
 ghost use Rattle.pw_value.specs.Limits.{module_limit};
 ghost use Rattle.pw_flow.specs.ValidFlow.{IsValid};
 ghost use Rattle.pw_front_end.specs.Places.{refusal_line};
-ghost use Rattle.pw_phase_one.specs.FirstPhase.{compiled};
+ghost use Rattle.pw_build_objects.specs.Programs.{DeclaresMain};
+ghost use Rattle.pw_law_main.specs.FromPhaseOne.FirstPhase.{compiled};
 ghost use Rattle.pw_store_modules.specs.Views.{source};
 ghost use Rattle.pw_build.specs.Builds.{first_phases, flows_of, limit_passed, text_bytes};
 ghost use Rattle.pw_build.specs.Phases.{FaultsAs, FaultsOfPhase, IsLine, line_by, refused_line};
@@ -13,7 +14,7 @@ ghost use Rattle.pw_build.specs.Phases.{FaultsAs, FaultsOfPhase, IsLine, line_by
 use crate::fault::{BuildFault, Unbuilt};
 use pw_flow::FlowModule;
 use pw_front_end::{FrontEndFault, Refusal, refusal_line};
-use pw_phase_one::phase_one;
+use pw_law_main::{flow_graphs_declare_main, phase_one};
 use pw_store_modules::Module;
 use pw_value::limits::{MODULE_LIMIT, TEXTS_LIMIT};
 use pw_value::{LinkFault, What};
@@ -49,13 +50,13 @@ fn limit_passed(modules: &[Module]) -> Option<LinkFault>
 /// The refusal of a module, with its line.
 fn refused(alloc: Global, which: &Module, refusal: Refusal) -> Result<Unbuilt, AllocError>
     ensures fault { IfOk result (λ unbuilt. unbuilt.fault ≡ BuildFault.Refused which.now.name refusal) }
-    ensures line { IfOk result (λ unbuilt. unbuilt.line ≡ refusal_line which.now.text.items refusal) }
+    ensures line { IfOk result (λ unbuilt. unbuilt.line ≡ Some (refusal_line which.now.text.items refusal)) }
 {
     let line = refusal_line(alloc, which.text.as_slice(), &refusal)?;
     let name = which.name.copy(alloc)?;
     Ok(Unbuilt {
         fault: BuildFault::Refused(name, refusal),
-        line,
+        line: Some(line),
     })
 }
 
@@ -63,15 +64,17 @@ fn refused(alloc: Global, which: &Module, refusal: Refusal) -> Result<Unbuilt, A
 fn flow_of(alloc: Global, which: &Module) -> Result<FlowModule, Unbuilt>
     ensures flow { IfOk result (λ flow. compiled which.now.name which.now.text.items ≡ Ok flow) }
     ensures lawful { IfOk result (λ flow. IsValid flow) }
+    ensures declares { IfOk result (λ flow. DeclaresMain flow) }
     ensures fault { IfErr result (λ unbuilt. FaultsOfPhase which.now.name (compiled which.now.name which.now.text.items) unbuilt.fault) }
-    ensures line { IfErr result (λ unbuilt. IsLine (line_by which.now.text.items (compiled which.now.name which.now.text.items) 1) unbuilt.fault unbuilt.line) }
+    ensures line { IfErr result (λ unbuilt. IsLine (line_by which.now.text.items (compiled which.now.name which.now.text.items) None) unbuilt.fault unbuilt.line) }
 {
+    flow_graphs_declare_main();
     match phase_one(alloc, &which.name, which.text.as_slice()) {
         Ok(flow) => Ok(flow),
         Err(FrontEndFault::Refused(refusal)) => Err(refused(alloc, which, refusal)?),
         Err(FrontEndFault::NoMemory) => Err(Unbuilt {
             fault: BuildFault::NoMemory,
-            line: 1,
+            line: None,
         }),
     }
 }
@@ -88,6 +91,7 @@ fn push_flow(flows: &mut Vec<FlowModule>, flow: FlowModule) -> Result<(), AllocE
 fn flows_of(alloc: Global, modules: &[Module]) -> Result<Vec<FlowModule>, Unbuilt>
     ensures flows { IfOk result (λ flows. flows_of (map source modules.now) ≡ Ok flows.items) }
     ensures lawful { IfOk result (λ flows. AllByRecursion IsValid flows.items) }
+    ensures declares { IfOk result (λ flows. AllByRecursion DeclaresMain flows.items) }
     ensures fault { IfErr result (λ unbuilt. FaultsAs (flows_of (map source modules.now)) unbuilt.fault) }
     ensures line { IfErr result (λ unbuilt. IsLine (refused_line (map source modules.now)) unbuilt.fault unbuilt.line) }
 {
@@ -105,6 +109,7 @@ fn flows_of(alloc: Global, modules: &[Module]) -> Result<Vec<FlowModule>, Unbuil
 pub fn first_phases(alloc: Global, modules: &[Module]) -> Result<Vec<FlowModule>, Unbuilt>
     ensures flows { IfOk result (λ flows. first_phases (map source modules.now) ≡ Ok flows.items) }
     ensures lawful { IfOk result (λ flows. AllByRecursion IsValid flows.items) }
+    ensures declares { IfOk result (λ flows. AllByRecursion DeclaresMain flows.items) }
     ensures limit { IfSome (limit_passed (map source modules.now)) (λ fault. IsErrAnd result (λ unbuilt. unbuilt.fault ≡ BuildFault.LinkRefused fault)) }
     ensures fault { IfErr result (λ unbuilt. FaultsAs (first_phases (map source modules.now)) unbuilt.fault) }
     ensures line { IfErr result (λ unbuilt. IsLine (refused_line (map source modules.now)) unbuilt.fault unbuilt.line) }
@@ -112,7 +117,7 @@ pub fn first_phases(alloc: Global, modules: &[Module]) -> Result<Vec<FlowModule>
     match limit_passed(modules) {
         Some(fault) => Err(Unbuilt {
             fault: BuildFault::LinkRefused(fault),
-            line: 1,
+            line: None,
         }),
         None => flows_of(alloc, modules),
     }

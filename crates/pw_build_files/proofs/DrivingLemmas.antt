@@ -105,7 +105,7 @@ report_streams answer.WriteFault i i' o o' h = tt
 report_streams answer.NoMemory i i' o o' h = tt
 report_streams _ i i' o o' h = absurd h
 
-pub report_line : (due : Files → ℕ) (told : Option Told) (a : Answer) (line : ℕ) → IsPrintAnswer a → IfSome told (λ t. IsLineDue (due t.files) a line)
+pub report_line : (due : Files → Option ℕ) (told : Option Told) (a : Answer) (line : Option ℕ) → IsPrintAnswer a → IfSome told (λ t. IsLineDue (due t.files) a line)
 report_line due None a line h = tt
 report_line due (Some t) answer.Done line h = tt
 report_line due (Some t) answer.WriteFault line h = tt
@@ -190,13 +190,13 @@ fault_writes count fault a e = subst (λ (x : Answer). OutputCount count count x
 pub fault_streams : (fault : BuildFault) (a : Answer) (i o : Option (List ℕ)) → a ≡ fault_answer fault → LeavesStreams a i i o o
 fault_streams fault a i o e = subst (λ (x : Answer). LeavesStreams x i i o o) (sym e) (streams_left fault i o)
 
-line_due : (due : ℕ) (fault : BuildFault) (line : ℕ) → IsLine due fault line → IsLineDue due (fault_answer fault) line
+line_due : (due : Option ℕ) (fault : BuildFault) (line : Option ℕ) → IsLine due fault line → IsLineDue due (fault_answer fault) line
 line_due due (build.Refused name refusal) line h = h
 line_due due (build.LinkRefused fault) line h = tt
 line_due due build.StoreFault line h = tt
 line_due due build.NoMemory line h = tt
 
-pub fault_line : (told : Option Told) (unbuilt : Unbuilt) (a : Answer) (line : ℕ) → a ≡ fault_answer unbuilt.fault → line ≡ unbuilt.line → IfSome told (λ t. IsLineOfBuild t.files (Err unbuilt))
+pub fault_line : (told : Option Told) (unbuilt : Unbuilt) (a : Answer) (line : Option ℕ) → a ≡ fault_answer unbuilt.fault → line ≡ unbuilt.line → IfSome told (λ t. IsLineOfBuild t.files (Err unbuilt))
     → IfSome told (λ t. IsLineDue (refused_line (modules_of t.files)) a line)
 fault_line None unbuilt a line e f h = tt
 fault_line (Some t) unbuilt a line e f h = rw (e, f) (line_due (refused_line (modules_of t.files)) unbuilt.fault unbuilt.line h)

@@ -127,7 +127,7 @@ pub line_late : (first : Option Told) (ms : List Module) (unbuilt : Unbuilt) →
 line_late None ms unbuilt h = tt
 line_late (Some told) ms unbuilt h = λ sources. subst (λ (s : List Source). IsLine (refused_line s) unbuilt.fault unbuilt.line) sources h
 
-pub line_early : (first : Option Told) (unbuilt : Unbuilt) → ((due : ℕ) → IsLine due unbuilt.fault unbuilt.line) → IfSome first (λ told. IsLine (refused_line (modules_of told.files)) unbuilt.fault unbuilt.line)
+pub line_early : (first : Option Told) (unbuilt : Unbuilt) → ((due : Option ℕ) → IsLine due unbuilt.fault unbuilt.line) → IfSome first (λ told. IsLine (refused_line (modules_of told.files)) unbuilt.fault unbuilt.line)
 line_early None unbuilt h = tt
 line_early (Some told) unbuilt h = h (refused_line (modules_of told.files))
 
@@ -141,7 +141,7 @@ pub found_none : (opts : Opts) (first : Option Told) (ms : List Module) (error :
 found_none opts None ms error fault e = tt
 found_none opts (Some told) ms error fault e = λ sources. found_nothing opts (Some told) fault (stored error fault e)
 
-pub line_none : (first : Option Told) (ms : List Module) (error : StoreError) (fault : BuildFault) (line : ℕ) → fault ≡ store_fault error → IfSome first (λ told. map source ms ≡ modules_of told.files → IsLine (refused_line (modules_of told.files)) fault line)
+pub line_none : (first : Option Told) (ms : List Module) (error : StoreError) (fault : BuildFault) (line : Option ℕ) → fault ≡ store_fault error → IfSome first (λ told. map source ms ≡ modules_of told.files → IsLine (refused_line (modules_of told.files)) fault line)
 line_none None ms error fault line e = tt
 line_none (Some told) ms error fault line e = λ sources. no_line (refused_line (modules_of told.files)) fault line (stored error fault e)
 

@@ -30,12 +30,12 @@ no_want_by (modules.Store store.NoMemory) = tt
 pub modules_no_want : (fault : ModulesFault) (other : BuildFault) → other ≡ modules_fault fault → IsNoWant other
 modules_no_want fault other e = subst IsNoWant (sym e) (no_want_by fault)
 
-line_by : (due : ℕ) (fault : ModulesFault) (line : ℕ) → IsLine due (modules_fault fault) line
+line_by : (due : Option ℕ) (fault : ModulesFault) (line : Option ℕ) → IsLine due (modules_fault fault) line
 line_by due (modules.TooMany count) line = tt
 line_by due (modules.Store store.Failed) line = tt
 line_by due (modules.Store store.NoMemory) line = tt
 
-pub modules_line : (due : ℕ) (fault : ModulesFault) (other : BuildFault) (line : ℕ) → other ≡ modules_fault fault → IsLine due other line
+pub modules_line : (due : Option ℕ) (fault : ModulesFault) (other : BuildFault) (line : Option ℕ) → other ≡ modules_fault fault → IsLine due other line
 modules_line due fault other line e = subst (λ (f : BuildFault). IsLine due f line) (sym e) (line_by due fault line)
 
 count_by : (before now : ℕ) (fault : ModulesFault) → HasFaultCause before now fault → StoreCount before now (fault_answer (modules_fault fault))

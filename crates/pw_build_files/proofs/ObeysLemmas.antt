@@ -39,7 +39,7 @@ reported_image outcome (Err unbuilt) reports h = tt
 
 -- ---- the store failed or memory ran out while files were put
 
-stopped_told : OneBuild → (opts : Opts) → opts.colours ≤ colour_limit → (outcome : Outcome) (fault : BuildFault) (line : ℕ) (told : Told) (new : Option Told) → BuildOutcome told.files opts (Ok outcome) → IsOfStore fault → PutsFiles outcome.puts (fault_answer fault) told new →
+stopped_told : OneBuild → (opts : Opts) → opts.colours ≤ colour_limit → (outcome : Outcome) (fault : BuildFault) (line : Option ℕ) (told : Told) (new : Option Told) → BuildOutcome told.files opts (Ok outcome) → IsOfStore fault → PutsFiles outcome.puts (fault_answer fault) told new →
     ObeysBuild opts (Err (record { fault = fault; line = line })) told new
 stopped_told one opts few outcome build.StoreFault line told new comes of puts = record {
   answers = λ c h. tt;
@@ -73,7 +73,7 @@ obeys_put one opts few outcome result (Some told) now new comes same reports of 
 no_puts : (told : Told) (files : List NamedFile) (new : Option Told) → files ≡ [] → new ≡ Some told → new ≡ Some (after_puts told files)
 no_puts told files new e h = h ∙ ap (λ (zs : List NamedFile). Some (after_puts told zs)) (sym e)
 
-refused_told : OneBuild → (opts : Opts) → opts.colours ≤ colour_limit → (fault : BuildFault) (line : ℕ) (told : Told) (new : Option Told) → FaultFound told.files opts fault → new ≡ Some told → ObeysBuild opts (Err (record { fault = fault; line = line })) told new
+refused_told : OneBuild → (opts : Opts) → opts.colours ≤ colour_limit → (fault : BuildFault) (line : Option ℕ) (told : Told) (new : Option Told) → FaultFound told.files opts fault → new ≡ Some told → ObeysBuild opts (Err (record { fault = fault; line = line })) told new
 refused_told one opts few build.StoreFault line told new found e = record {
   answers = λ c h. tt;
   puts = λ c h. record { done = []; more = puts_of c; split = refl; left = none_left told (puts_of c) new e };

@@ -158,7 +158,7 @@ holds_image bytes image h = (record { names = h.0; value = image }, h.1)
 
 -- ---- faults
 
-pub no_line : (due : ℕ) (fault : BuildFault) (line : ℕ) → (fault ≡ build.StoreFault) ⊎ (fault ≡ build.NoMemory) → IsLine due fault line
+pub no_line : (due : Option ℕ) (fault : BuildFault) (line : Option ℕ) → (fault ≡ build.StoreFault) ⊎ (fault ≡ build.NoMemory) → IsLine due fault line
 no_line due fault line (inl e) = subst (λ (f : BuildFault). IsLine due f line) (sym e) tt
 no_line due fault line (inr e) = subst (λ (f : BuildFault). IsLine due f line) (sym e) tt
 

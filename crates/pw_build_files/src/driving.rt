@@ -117,7 +117,7 @@ pub fn build_modules<S: Store, O: Sink>(
     match build_uncounted(alloc, store, opts) {
         Ok(report) => Reply {
             answer: put_report(alloc, &report, out),
-            line: 1,
+            line: None,
         },
         Err(unbuilt) => Reply {
             line: unbuilt.line,

@@ -1,6 +1,6 @@
 //! The program of the modules of a store.
 
-ghost use Rattle.std.specs.Prelude.{◌≡◌, ◌≤◌, ◌+◌, ℕ, Ok, IfErr, IfOk, IfSome, OnOk, count_by, length, map};
+ghost use Rattle.std.specs.Prelude.{◌≡◌, ◌≤◌, ◌+◌, ℕ, Ok, Option, IfErr, IfOk, IfSome, OnOk, count_by, length, map};
 ghost use Rattle.std.specs.List.{AllByRecursion};
 ghost use Rattle.pw_io.specs.Files.{Keeps};
 ghost use Rattle.pw_store_modules.specs.Modules.{modules_of};
@@ -35,7 +35,7 @@ pub fn modules_to_build<S: Store>(alloc: Global, store: &mut S) -> Result<Vec<Mo
     ensures modules { IfSome (S.told store.old) (λ told. IfOk result (λ modules. map source modules.items ≡ modules_of told.files)) }
     ensures fault { IfSome (S.told store.old) (λ told. IfErr result (λ unbuilt. AnswersFault (first_phases (modules_of told.files)) unbuilt.fault)) }
     ensures few { IfSome (S.told store.old) (λ told. OnOk result (length (modules_of told.files) ≤ module_limit)) }
-    ensures line { IfErr result (λ unbuilt. (due : ℕ) → IsLine due unbuilt.fault unbuilt.line) }
+    ensures line { IfErr result (λ unbuilt. (due : Option ℕ) → IsLine due unbuilt.fault unbuilt.line) }
     ensures proper { IfErr result (λ unbuilt. IsNoWant unbuilt.fault) }
     ensures same { Keeps (S.told store.old) (S.told store.new) }
     ensures count { FaultCount (S.faults store.old) (S.faults store.new) result }
@@ -76,11 +76,11 @@ fn built_of<S: Store, L: Ledger>(
         Ok(built) => Ok(built),
         Err(LinkFault::NoMemory) => Err(Unbuilt {
             fault: BuildFault::NoMemory,
-            line: 1,
+            line: None,
         }),
         Err(fault) => Err(Unbuilt {
             fault: BuildFault::LinkRefused(fault),
-            line: 1,
+            line: None,
         }),
     }
 }

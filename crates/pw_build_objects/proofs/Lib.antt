@@ -3,3 +3,5 @@ pub mod OneAnswer
 pub mod GenuineLaws
 pub mod MadeLemmas
 pub mod CountLemmas
+pub mod Databases
+pub mod RoomLaws

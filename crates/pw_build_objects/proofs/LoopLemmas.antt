@@ -1,16 +1,20 @@
 -- The loops over the modules: what was made of the modules so far, with that of those which are left, is that of all.
-use Rattle.std.proofs.Common.{◌≡◌, ℕ, zero, suc, ◌+◌, ◌<◌, ◌≤◌, Bool, true, false, cond, List, [], ◌∷◌, ◌++◌, map, length, get_or, drop, drop-cons, arith, Option, None, refl, sym, ap, ◌∙◌, subst, append_assoc, append-nil, length-append}
+use Rattle.std.proofs.Common.{◌≡◌, ◌⊎◌, inl, inr, ℕ, zero, suc, ◌+◌, ◌<◌, ◌≤◌, Bool, true, false, cond, List, [], ◌∷◌, ◌++◌, map, length, get_or, drop, drop-cons, arith, Option, None, refl, sym, ap, ◌∙◌, subst, append_assoc, append-nil, length-append}
 use Rattle.std.specs.Prelude.{count_by}
-use Rattle.std.specs.List.{AllByRecursion}
+use Rattle.std.specs.List.{AllByRecursion, zip}
 use Rattle.std.proofs.lemmas.List.Sums.{count_by-le-length, sum_by-append}
+use Rattle.pw_value.specs.declared.fault.LinkFault.{LinkFault}
+use Rattle.pw_value.specs.declared.fault.LinkFault.TheVariants as link
 use Rattle.pw_flow.specs.declared.flow.FlowModule.{FlowModule}
+use Rattle.pw_flow.specs.ValidFlow.{IsValid}
+use Rattle.pw_graph.specs.Program.{AreRefused}
 use Rattle.pw_summary.specs.declared.summary.Summary.{Summary}
 use Rattle.pw_summarise.specs.Summarises.{Summarises}
 use Rattle.pw_object.specs.declared.object.Object.{Object}
 use Rattle.pw_build_objects.specs.declared.remade.Made.{Made}
 use Rattle.pw_build_objects.specs.Choosing.{marks_of, objects_of}
 use Rattle.pw_build_objects.specs.Counting.{CountsUpTo}
-use Rattle.pw_build_objects.specs.Programs.{AreObjectsFrom, AreSummariesOf, DirectivesList, IsModuleFrom, first_kept, kept_behind}
+use Rattle.pw_build_objects.specs.Programs.{AreObjectsFrom, AreSummariesOf, BreakRule, DirectivesList, IsModuleFrom, first_kept, kept_behind}
 
 -- ---- summaries
 
@@ -25,10 +29,50 @@ pub summary_end : (flows rest : List FlowModule) (made : List Summary) → lengt
 summary_end flows [] made h inv = subst (AreSummariesOf flows) (append-nil made) (inv [] tt)
 summary_end flows (flow ∷ rest) made h inv = absurd (omega (arith, h))
 
+-- the rule of linking that summaries break, the modules break
+pub breaks_rule : (flows : List FlowModule) (ss : List Summary) (fault : LinkFault) → AreSummariesOf flows ss → (fault ≡ link.NoMemory) ⊎ AreRefused ss fault → (fault ≡ link.NoMemory) ⊎ BreakRule flows fault
+breaks_rule flows ss fault sums (inl none) = inl none
+breaks_rule flows ss fault sums (inr refused) = inr (record { summaries = ss; of_flows = sums; refused = refused })
+
+-- ---- flow graphs with their summaries
+
+abbrev pub Pairs : Type 0
+Pairs = List (FlowModule × Summary)
+
+abbrev pub flows_in : Pairs → List FlowModule
+flows_in pairs = map (λ p. p.0) pairs
+
+-- a lawful flow graph, and its summary
+abbrev pub IsSummarised : FlowModule × Summary → Type 0
+IsSummarised p = IsValid p.0 × Summarises p.0 p.1
+
+pub all_flows : (flows : List FlowModule) (ss : List Summary) → AreSummariesOf flows ss → flows_in (zip flows ss) ≡ flows
+all_flows [] [] sums = refl
+all_flows [] (s ∷ ss) sums = absurd sums
+all_flows (f ∷ fs) [] sums = absurd sums
+all_flows (f ∷ fs) (s ∷ ss) sums = ap (λ (xs : List FlowModule). f ∷ xs) (all_flows fs ss sums.1)
+
+pub as_long : (flows : List FlowModule) (ss : List Summary) → AreSummariesOf flows ss → length (zip flows ss) ≡ length flows
+as_long [] [] sums = refl
+as_long [] (s ∷ ss) sums = absurd sums
+as_long (f ∷ fs) [] sums = absurd sums
+as_long (f ∷ fs) (s ∷ ss) sums = ap suc (as_long fs ss sums.1)
+
+pub all_summarised : (flows : List FlowModule) (ss : List Summary) → AllByRecursion IsValid flows → AreSummariesOf flows ss → AllByRecursion IsSummarised (zip flows ss)
+all_summarised [] [] valid sums = tt
+all_summarised [] (s ∷ ss) valid sums = absurd sums
+all_summarised (f ∷ fs) [] valid sums = absurd sums
+all_summarised (f ∷ fs) (s ∷ ss) valid sums = ((valid.0, sums.0), all_summarised fs ss valid.1 sums.1)
+
 -- ---- objects
 
 abbrev pub MadeSoFar : DirectivesList → List FlowModule → List (Option Object) → List FlowModule → List (Option Object) → List Object → List Bool → Type 0
 MadeSoFar db flows all rest left objects fresh = (os : List Object) (more : List Bool) → AreObjectsFrom db rest left os more → AreObjectsFrom db flows all (objects ++ os) (fresh ++ more)
+
+pub object_start : (db : DirectivesList) (flows : List FlowModule) (ss : List Summary) (all : List (Option Object)) (made : List Made) → AreSummariesOf flows ss → made ≡ [] → MadeSoFar db flows all (flows_in (zip flows ss)) all (objects_of made) (marks_of made)
+object_start db flows ss all made sums e =
+    let start : MadeSoFar db flows all (flows_in (zip flows ss)) all [] [] = λ os more h. subst (λ (fs : List FlowModule). AreObjectsFrom db fs all os more) (all_flows flows ss sums) h in
+    subst (λ (m : List Made). MadeSoFar db flows all (flows_in (zip flows ss)) all (objects_of m) (marks_of m)) (sym e) start
 
 pub object_turn : (db : DirectivesList) (flows : List FlowModule) (all : List (Option Object)) (now rest : List FlowModule) (flow : FlowModule) (left behind : List (Option Object)) (objects objects' : List Object) (fresh fresh' : List Bool) (old : Option Object) (o : Object) (b : Bool) →
     MadeSoFar db flows all now left objects fresh → now ≡ flow ∷ rest → IsModuleFrom db flow old o b → old ≡ first_kept left → behind ≡ kept_behind left → objects' ≡ objects ++ o ∷ [] → fresh' ≡ fresh ++ b ∷ [] → MadeSoFar db flows all rest behind objects' fresh'
@@ -96,6 +140,12 @@ nothing_at (x ∷ xs) (suc i) h = nothing_at xs i (omega (arith, h))
 one_more : (b : Bool) → count_by (λ f. f) (b ∷ []) ≡ cond b 1 0
 one_more true = refl
 one_more false = refl
+
+none_more : (n : ℕ) → n ≡ n + 0
+none_more n = omega arith
+
+pub count_start : (n : ℕ) (made : List Made) → made ≡ [] → n ≡ n + count_by (λ f. f) (marks_of made)
+count_start n made e = subst (λ (m : List Made). n ≡ n + count_by (λ f. f) (marks_of m)) (sym e) (none_more n)
 
 pub count_more : (before steps : ℕ) (xs new : List Bool) (b : Bool) → before ≡ steps + count_by (λ f. f) xs → new ≡ xs ++ b ∷ [] → before + cond b 1 0 ≡ steps + count_by (λ f. f) new
 count_more before steps xs new b inv e =

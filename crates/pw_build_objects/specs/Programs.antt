@@ -7,7 +7,7 @@ use Rattle.pw_flow.specs.declared.flow.FlowModule.{FlowModule}
 use Rattle.pw_flow.specs.ValidFlow.{IsValid}
 use Rattle.pw_flowfile.specs.FlowFile.{IsFlowFile}
 use Rattle.pw_summary.specs.declared.summary.Summary.{Summary}
-use Rattle.pw_summarise.specs.Summarises.{Summarises}
+pub use Rattle.pw_law_shown.specs.Alike.{AreSummariesOf, DeclaresMain}
 use Rattle.pw_graph.specs.Program as graph
 use Rattle.pw_colour.specs.Colours.{IsDatabaseOf}
 use Rattle.pw_db.specs.declared.database.Directives.{Directives}
@@ -21,12 +21,6 @@ abbrev pub DirectivesList : Type 0
 DirectivesList = List (List ℕ × Directives)
 
 -- ---- the database
-
-abbrev pub AreSummariesOf : List FlowModule → List Summary → Type 0
-AreSummariesOf [] [] = Unit {0}
-AreSummariesOf [] (s ∷ ss) = ⊥
-AreSummariesOf (f ∷ fs) [] = ⊥
-AreSummariesOf (f ∷ fs) (s ∷ ss) = Summarises f s × AreSummariesOf fs ss
 
 -- the modules keep the rules of linking, and this is their database for so many registers
 pub record HasDatabase (flows : List FlowModule) (colours : ℕ) (db : DirectivesList) : Type 0 where

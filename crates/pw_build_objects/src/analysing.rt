@@ -1,10 +1,12 @@
 //! The database of modules, by their flow graphs.
 
-ghost use Rattle.std.specs.Prelude.{◌≡◌, ◌⊎◌, ◌≤◌, All, IfErr, IfOk, IfSome};
+ghost use Rattle.std.specs.Prelude.{◌≡◌, ◌⊎◌, ◌≤◌, IfErr, IfOk, OnOk};
 ghost use Rattle.std.specs.List.{AllByRecursion};
 ghost use Rattle.pw_flow.specs.ValidFlow.{IsValid};
 ghost use Rattle.pw_summary.specs.Summary.{IsSummary};
 ghost use Rattle.pw_db.specs.Database.{IsDatabase};
+ghost use Rattle.pw_colour.specs.Colours.{IsDatabaseOf};
+ghost use Rattle.pw_graph.specs.Program.{AreLinked, AreRefused};
 ghost use Rattle.pw_build_objects.specs.Programs.{AreSummariesOf, BreakRule, HasDatabase};
 ghost use Rattle.pw_db.specs.Limits.{colour_limit};
 
@@ -32,15 +34,45 @@ fn summaries_of(alloc: Global, flows: &[FlowModule]) -> Result<Vec<Summary>, All
     Ok(summaries)
 }
 
-/// The database of the modules with these flow graphs, for so many registers; or which rule of linking they break.
-pub fn database_of(alloc: Global, flows: &[FlowModule], colours: u8) -> Result<Database, LinkFault>
-    requires lawful { AllByRecursion IsValid flows.now }
+/// The database of modules with these summaries, for so many registers; or which rule of linking they break.
+fn database_of(alloc: Global, summaries: &[Summary], colours: u8) -> Result<Database, LinkFault>
+    requires lawful { AllByRecursion IsSummary summaries.now }
     requires few { colours ≤ colour_limit }
-    ensures database { IfOk result (λ db. HasDatabase flows.now colours db.functions) }
+    ensures database { IfOk result (λ db. IsDatabaseOf summaries.now colours db.functions) }
+    ensures linked { OnOk result (AreLinked summaries.now) }
     ensures lawful { IfOk result (λ db. IsDatabase db.functions) }
-    ensures refused { IfErr result (λ fault. (fault ≡ LinkFault.NoMemory) ⊎ BreakRule flows.now fault) }
+    ensures refused { IfErr result (λ fault. (fault ≡ LinkFault.NoMemory) ⊎ AreRefused summaries.now fault) }
 {
     databases_are_lawful();
+    analyse(alloc, summaries, colours)
+}
+
+/// What the analyser made of modules, and the summaries by which it did.
+#[derive(Drop)]
+pub struct Analysed {
+    pub database: Database,
+    pub summaries: Vec<Summary>,
+}
+
+/// The database of the modules with these flow graphs, for so many registers, and their summaries; or which rule of linking
+/// they break.
+#[tactic(auto, using(crate::proofs::LoopLemmas::breaks_rule))]
+pub fn analyse_flows(
+    alloc: Global,
+    flows: &[FlowModule],
+    colours: u8,
+) -> Result<Analysed, LinkFault>
+    requires lawful { AllByRecursion IsValid flows.now }
+    requires few { colours ≤ colour_limit }
+    ensures database { IfOk result (λ made. HasDatabase flows.now colours made.database.functions) }
+    ensures summaries { IfOk result (λ made. AreSummariesOf flows.now made.summaries.items) }
+    ensures lawful { IfOk result (λ made. IsDatabase made.database.functions) }
+    ensures refused { IfErr result (λ fault. (fault ≡ LinkFault.NoMemory) ⊎ BreakRule flows.now fault) }
+{
     let summaries = summaries_of(alloc, flows)?;
-    analyse(alloc, &summaries, colours)
+    let database = database_of(alloc, &summaries, colours)?;
+    Ok(Analysed {
+        database,
+        summaries,
+    })
 }

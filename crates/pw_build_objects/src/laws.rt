@@ -1,11 +1,15 @@
 //! Laws of programs. A function here does nothing: its clauses are facts about all values.
 
-ghost use Rattle.std.specs.Prelude.{◌≡◌, ◌≤◌, ℕ, List, [], Option, Result};
+ghost use Rattle.std.specs.Prelude.{◌≡◌, ◌≤◌, ℕ, List, [], Option, Result, Some, map};
 ghost use Rattle.std.specs.List.{AllByRecursion};
 ghost use Rattle.pw_value.specs.declared.fault.LinkFault.{LinkFault};
 ghost use Rattle.pw_flow.specs.declared.flow.FlowModule.{FlowModule};
 ghost use Rattle.pw_object.specs.declared.object.Object.{Object};
-ghost use Rattle.pw_build_objects.specs.Programs.{Completes, Parts};
+ghost use Rattle.pw_link.specs.Linking.{IsRefusal, size_fault};
+ghost use Rattle.pw_link_interface.specs.Interface.{interface};
+ghost use Rattle.pw_link_rules.specs.Linking.{Links};
+ghost use Rattle.pw_law_shown.specs.Alike.{DeclaresMain};
+ghost use Rattle.pw_build_objects.specs.Programs.{AreParts, Completes, Parts};
 ghost use Rattle.pw_build_objects.specs.Counting.{MakesAnew};
 ghost use Rattle.pw_build_objects.specs.Kept.{IsGenuineIfKept, anew};
 ghost use Rattle.pw_db.specs.Limits.{colour_limit};
@@ -15,6 +19,7 @@ use pw_colour::laws::{databases_are_lawful, databases_are_one};
 use pw_db::laws::{databases_and_payloads_are_one_to_one, directives_are_one};
 use pw_flowfile::laws::flow_graphs_and_files_are_one_to_one;
 use pw_law_link::laws::objects_have_one_answer;
+use pw_law_shown::summaries_and_objects_are_refused_alike;
 use pw_link_rules::laws::modules_have_one_answer;
 use pw_phase_two::laws::a_module_has_one_object;
 use pw_summarise::laws::a_module_has_one_summary;
@@ -40,4 +45,16 @@ pub fn genuine_objects_change_nothing()
     databases_and_payloads_are_one_to_one();
     directives_are_one();
     flow_graphs_and_files_are_one_to_one();
+}
+
+/// The objects of a program that the analyser accepted keep the rules of linking where the second phase made all of them, so
+/// they are refused for want of room alone: the text or the memory is too small.
+pub fn objects_are_refused_for_room_alone()
+    ensures links { (flows : List FlowModule) (colours : ℕ) (parts : Parts) →
+        AllByRecursion DeclaresMain flows → AreParts flows [] colours parts → Links (map interface parts.objects) }
+    ensures room { (flows : List FlowModule) (opts : Opts) (parts : Parts) (fault : LinkFault) →
+        AllByRecursion DeclaresMain flows → AreParts flows [] opts.colours parts → IsRefusal parts.objects opts.stack fault → size_fault parts.objects opts.stack ≡ Some fault }
+{
+    modules_have_one_answer();
+    summaries_and_objects_are_refused_alike();
 }

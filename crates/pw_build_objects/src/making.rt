@@ -1,18 +1,22 @@
 //! Programs, by the flow graphs of their modules and what was kept.
 
-ghost use Rattle.std.specs.Prelude.{◌≡◌, ◌+◌, ◌⊎◌, ◌≤◌, Ok, Err, IfErr, IfOk, IfSome, OnErr, OnOk, count_by, length, map};
+ghost use Rattle.std.specs.Prelude.{◌≡◌, ◌+◌, ◌⊎◌, ◌≤◌, Ok, Err, IfErr, IfOk, IfSome, IsTrue, OnOk, count_by, length, map};
 ghost use Rattle.std.specs.List.{AllByRecursion};
 ghost use Rattle.pw_flow.specs.ValidFlow.{IsValid};
 ghost use Rattle.pw_db.specs.Database.{IsDatabase};
 ghost use Rattle.pw_object.specs.Object.{IsObject};
 ghost use Rattle.pw_image.specs.Image.{IsImage};
 ghost use Rattle.pw_link.specs.Linking.{linked, AreLinked, IsRefusal};
+ghost use Rattle.pw_link_interface.specs.Interface.{interface};
+ghost use Rattle.pw_link_rules.specs.Linking.{Links};
+ghost use Rattle.pw_law_shown.specs.Alike.{DeclaresMain};
 ghost use Rattle.pw_build_objects.specs.Programs.{Completes};
 ghost use Rattle.pw_build_objects.specs.Choosing.{marks_of, objects_of, parts_of};
 ghost use Rattle.pw_build_objects.specs.Counting.{CountsAnew, CountsUpTo};
 ghost use Rattle.pw_db.specs.Limits.{colour_limit};
 
-use crate::analysing::database_of;
+use crate::analysing::analyse_flows;
+use crate::laws::objects_are_refused_for_room_alone;
 use crate::objects::all_objects;
 use crate::remade::Made;
 use crate::steps::Steps;
@@ -21,7 +25,7 @@ use pw_db::Database;
 use pw_flow::FlowModule;
 use pw_image::Image;
 use pw_law_link::laws::linked_images_are_lawful;
-use pw_link::link_each;
+use pw_link::{link_checked, link_each};
 use pw_object::Object;
 use pw_value::LinkFault;
 use std::alloc::{AllocError, Global};
@@ -48,14 +52,32 @@ fn objects_in(alloc: Global, made: &[Made]) -> Result<Vec<&Object>, AllocError>
     Ok(objects)
 }
 
-/// The image of the objects of modules.
+/// Whether all objects were made anew, so that none that was kept is linked.
+fn are_new(made: &[Made]) -> bool
+    ensures { IsTrue result → AllByRecursion IsTrue (marks_of made.now) }
+{
+    for one in made {
+        if !one.fresh {
+            return false;
+        }
+    }
+    true
+}
+
+/// The image of the objects of modules, which keep the rules of linking where all of them were made anew: they are looked at
+/// only where one was kept.
 fn image_of(alloc: Global, made: &[Made], stack: u32) -> Result<Image, LinkFault>
+    requires { AllByRecursion IsTrue (marks_of made.now) → Links (map interface (objects_of made.now)) }
     ensures image { IfOk result (λ image. image ≡ linked (objects_of made.now) stack) }
     ensures accepted { OnOk result (AreLinked (objects_of made.now) stack) }
     ensures refused { IfErr result (λ fault. (fault ≡ LinkFault.NoMemory) ⊎ IsRefusal (objects_of made.now) stack fault) }
 {
     let objects = objects_in(alloc, made)?;
-    link_each(alloc, &objects, stack)
+    if are_new(made) {
+        link_checked(alloc, &objects, stack)
+    } else {
+        link_each(alloc, &objects, stack)
+    }
 }
 
 /// Links the objects of a database.
@@ -65,7 +87,8 @@ fn linked(
     made: Vec<Made>,
     stack: u32,
 ) -> Result<Built, LinkFault>
-    requires { AllByRecursion IsObject (objects_of made.items) }
+    requires lawful { AllByRecursion IsObject (objects_of made.items) }
+    requires rules { AllByRecursion IsTrue (marks_of made.items) → Links (map interface (objects_of made.items)) }
     ensures built { IfOk result (λ built. (built.database.functions ≡ database.functions) × (built.made.items ≡ made.items)) }
     ensures image { IfOk result (λ built. built.image ≡ linked (objects_of made.items) stack) }
     ensures lawful { IfOk result (λ built. IsImage built.image) }
@@ -81,10 +104,10 @@ fn linked(
     })
 }
 
-/// The program of modules with these flow graphs, for so many registers and such a stack; or which rule of linking they
-/// break. What was kept of a module stands at its place in `kept`, which may end early: a kept object stays where it was
-/// made of the same flow graph under the same directives. `steps` counts the objects that are made anew, also where they
-/// are refused then.
+/// The program of modules with these flow graphs, each of which declares the `main` that it defines, for so many registers and
+/// such a stack; or which rule of linking they break. What was kept of a module stands at its place in `kept`, which may end
+/// early: a kept object stays where it was made of the same flow graph under the same directives. `steps` counts the objects
+/// that are made anew, also where they are refused then.
 pub fn complete<L: Ledger>(
     alloc: Global,
     flows: Vec<FlowModule>,
@@ -95,6 +118,7 @@ pub fn complete<L: Ledger>(
     requires lawful { AllByRecursion IsValid flows.items }
     requires kept { AllByRecursion (λ old. IfSome old IsObject) kept.items }
     requires few { opts.now.colours ≤ colour_limit }
+    requires declares { AllByRecursion DeclaresMain flows.items }
     ensures built { IfOk result (λ built. Completes flows.items kept.items opts.now (Ok (parts_of built))) }
     ensures refused { IfErr result (λ fault. (fault ≡ LinkFault.NoMemory) ⊎ Completes flows.items kept.items opts.now (Err fault)) }
     ensures image { IfOk result (λ built. built.image ≡ linked (objects_of built.made.items) opts.now.stack) }
@@ -105,7 +129,15 @@ pub fn complete<L: Ledger>(
     ensures counted_fault { IfErr result (λ fault. (fault ≡ LinkFault.NoMemory) ⊎ CountsAnew flows.items kept.items opts.now.colours steps.old steps.new) }
     ensures bound { CountsUpTo (length flows.items) steps.old steps.new }
 {
-    let database = database_of(alloc, &flows, opts.colours)?;
-    let made = all_objects(alloc, flows, kept, &database, steps)?;
-    linked(alloc, database, made, opts.stack)
+    objects_are_refused_for_room_alone();
+    let analysed = analyse_flows(alloc, &flows, opts.colours)?;
+    let made = all_objects(
+        alloc,
+        flows,
+        analysed.summaries,
+        kept,
+        &analysed.database,
+        steps,
+    )?;
+    linked(alloc, analysed.database, made, opts.stack)
 }

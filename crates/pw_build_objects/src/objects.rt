@@ -1,12 +1,13 @@
 //! The objects of all modules.
 
-ghost use Rattle.std.specs.Prelude.{◌≡◌, ◌+◌, ◌++◌, ◌∷◌, [], All, IfOk, IfSome, OnErr, OnOk, count_by, if◌then◌else◌, length};
+ghost use Rattle.std.specs.Prelude.{◌≡◌, ◌+◌, ◌++◌, ◌∷◌, [], IfOk, IfSome, OnErr, OnOk, count_by, if◌then◌else◌, length};
 ghost use Rattle.std.specs.List.{AllByRecursion};
 ghost use Rattle.pw_flow.specs.ValidFlow.{IsValid};
 ghost use Rattle.pw_db.specs.Database.{IsDatabase};
 ghost use Rattle.pw_object.specs.Object.{IsObject};
 ghost use Rattle.pw_build_objects.specs.Counting.{CountsUpTo};
-ghost use Rattle.pw_build_objects.specs.Programs.{AreObjectsFrom, IsModuleFrom, first_kept, kept_behind};
+ghost use Rattle.pw_summarise.specs.Summarises.{Summarises};
+ghost use Rattle.pw_build_objects.specs.Programs.{AreObjectsFrom, AreSummariesOf, IsModuleFrom, first_kept, kept_behind};
 ghost use Rattle.pw_build_objects.specs.Choosing.{marks_of, objects_of};
 
 use crate::remade::{Made, object_from};
@@ -14,7 +15,8 @@ use crate::steps::Steps;
 use pw_db::Database;
 use pw_flow::FlowModule;
 use pw_object::Object;
-use pw_phase_two::directives_for;
+use pw_phase_two::{Interface, directives_for};
+use pw_summary::Summary;
 use std::alloc::{AllocError, Global};
 use std::collections::VecDeque;
 use std::sync::ledger::Ledger;
@@ -30,15 +32,26 @@ fn next_kept(kept: &mut VecDeque<Option<Object>>) -> Option<Object>
     }
 }
 
-/// The object of a module under its directives in a database.
+/// What a module declares and uses, of its summary.
+fn interface_in(summary: Summary) -> Interface
+    ensures declared { result.declared ≡ summary.declared }
+    ensures used { result.used ≡ summary.used }
+{
+    let Summary { declared, used, .. } = summary;
+    Interface { declared, used }
+}
+
+/// The object of a module under its directives in a database, with what its summary says that it declares and uses.
 fn object_under<L: Ledger>(
     alloc: Global,
     flow: FlowModule,
+    summary: Summary,
     db: &Database,
     old: Option<Object>,
     steps: &mut Steps<L>,
 ) -> Result<Made, AllocError>
     requires lawful { IsValid flow }
+    requires summary { Summarises flow summary }
     requires database { IsDatabase db.now.functions }
     requires kept { IfSome old IsObject }
     ensures object { IfOk result (λ made. IsModuleFrom db.now.functions flow old made.object made.fresh) }
@@ -47,7 +60,8 @@ fn object_under<L: Ledger>(
     ensures uncounted { OnErr result (steps.new ≡ steps.old) }
 {
     let directives = directives_for(alloc, &flow, db)?;
-    object_from(alloc, flow, &directives, old, steps)
+    let interface = interface_in(summary);
+    object_from(alloc, flow, interface, &directives, old, steps)
 }
 
 /// Puts what was made of a module behind others.
@@ -58,16 +72,18 @@ fn add_object(made: &mut Vec<Made>, one: Made) -> Result<(), AllocError>
     Ok(())
 }
 
-/// The objects of modules under the directives of their database, each with whether it is made anew. What was kept of a module stands at its place in
-/// `kept`, which may end early. Each flow graph goes when its object is made.
+/// The objects of modules under the directives of their database, each with whether it is made anew. What was kept of a
+/// module stands at its place in `kept`, which may end early. Each flow graph and its summary go when its object is made.
 pub fn all_objects<L: Ledger>(
     alloc: Global,
     flows: Vec<FlowModule>,
+    summaries: Vec<Summary>,
     kept: VecDeque<Option<Object>>,
     db: &Database,
     steps: &mut Steps<L>,
 ) -> Result<Vec<Made>, AllocError>
     requires lawful { AllByRecursion IsValid flows.items }
+    requires summaries { AreSummariesOf flows.items summaries.items }
     requires database { IsDatabase db.now.functions }
     requires kept { AllByRecursion (λ old. IfSome old IsObject) kept.items }
     ensures objects { IfOk result (λ made. AreObjectsFrom db.now.functions flows.items kept.items (objects_of made.items) (marks_of made.items)) }
@@ -77,9 +93,9 @@ pub fn all_objects<L: Ledger>(
 {
     let mut made = Vec::new(alloc);
     let mut kept = kept;
-    for flow in flows {
+    for (flow, summary) in flows.into_iter().zip(summaries) {
         let old = next_kept(&mut kept);
-        let one = object_under(alloc, flow, db, old, steps)?;
+        let one = object_under(alloc, flow, summary, db, old, steps)?;
         add_object(&mut made, one)?;
     }
     Ok(made)

@@ -55,40 +55,40 @@ obeys_made laws (Some told) new name text bytes sum answer are h puts = λ input
 -- ---- a reply in place of files
 
 -- the refusal with its line
-abbrev pub RepliesPhase : List ℕ → List ℕ → Phase → Answer → ℕ → Type 0
+abbrev pub RepliesPhase : List ℕ → List ℕ → Phase → Answer → Option ℕ → Type 0
 RepliesPhase name text (Ok flow) answer line = ⊥
-RepliesPhase name text (Err refusal) answer line = (answer ≡ Refused name refusal) × (line ≡ refusal_line text refusal)
+RepliesPhase name text (Err refusal) answer line = (answer ≡ Refused name refusal) × (line ≡ Some (refusal_line text refusal))
 
 -- want of memory may come in its place
-abbrev pub Replies : List ℕ → List ℕ → Phase → Answer → ℕ → Type 0
+abbrev pub Replies : List ℕ → List ℕ → Phase → Answer → Option ℕ → Type 0
 Replies name text phase NoMemory line = Unit {0}
 Replies name text phase answer line = RepliesPhase name text phase answer line
 
-refused_reply : (name text : List ℕ) (phase : Phase) (answer : Answer) (line : ℕ) → RefusesPhase name phase answer → line ≡ line_of text answer → RepliesPhase name text phase answer line
+refused_reply : (name text : List ℕ) (phase : Phase) (answer : Answer) (line : Option ℕ) → RefusesPhase name phase answer → line ≡ line_of text answer → RepliesPhase name text phase answer line
 refused_reply name text (Ok flow) answer line h e = absurd h
 refused_reply name text (Err refusal) answer line h e = (h, e ∙ ap (line_of text) h)
 
-pub replies : (name text : List ℕ) (phase : Phase) (answer told : Answer) (line : ℕ) → AnswersPhase name phase answer → TellsReply text answer told line → Replies name text phase told line
+pub replies : (name text : List ℕ) (phase : Phase) (answer told : Answer) (line : Option ℕ) → AnswersPhase name phase answer → TellsReply text answer told line → Replies name text phase told line
 replies name text phase answer NoMemory line h t = tt
 replies name text phase answer _ line h t = refused_reply name text phase _ line (subst (AnswersPhase name phase) (sym t.0) h) (t.1 ∙ sym (ap (line_of text) t.0))
 
-phase_replied : (name text : List ℕ) (phase : Phase) (answer : Answer) (line : ℕ) (told : Told) (input : List ℕ) → RepliesPhase name text phase answer line → Obeys (EffectOfPhase name phase input) answer told (Some told)
+phase_replied : (name text : List ℕ) (phase : Phase) (answer : Answer) (line : Option ℕ) (told : Told) (input : List ℕ) → RepliesPhase name text phase answer line → Obeys (EffectOfPhase name phase input) answer told (Some told)
 phase_replied name text (Ok flow) answer line told input h = absurd h
 phase_replied name text (Err refusal) answer line told input h =
     subst (λ (a : Answer). Obeys (EffectOfPhase name (Err refusal) input) a told (Some told)) (sym h.0)
     (obeys_one (EffectOfPhase name (Err refusal) input) (answers_alone (Refused name refusal) input) (Refused name refusal) told (Some told) refl (λ x d. d) refl refl)
 
-so_replied : (name text : List ℕ) (phase : Phase) (answer : Answer) (line : ℕ) (told : Told) (input : List ℕ) → Replies name text phase answer line → Obeys (EffectOfPhase name phase input) answer told (Some told)
+so_replied : (name text : List ℕ) (phase : Phase) (answer : Answer) (line : Option ℕ) (told : Told) (input : List ℕ) → Replies name text phase answer line → Obeys (EffectOfPhase name phase input) answer told (Some told)
 so_replied name text phase NoMemory line told input h = obeys_no_memory (EffectOfPhase name phase input) told (Some told) refl
 so_replied name text phase _ line told input h = phase_replied name text phase _ line told input h
 
-pub obeys_replied : (first : Option Told) (name text : List ℕ) (answer : Answer) (line : ℕ) → Replies name text (compiled name text) answer line
+pub obeys_replied : (first : Option Told) (name text : List ℕ) (answer : Answer) (line : Option ℕ) → Replies name text (compiled name text) answer line
     → IfSome first (λ t. (input : List ℕ) → Obeys (EffectOfPhase name (compiled name text) input) answer t first)
 obeys_replied None name text answer line h = tt
 obeys_replied (Some told) name text answer line h = λ input. so_replied name text (compiled name text) answer line told input h
 
 -- its kind
-phase_kind : (name text : List ℕ) (phase : Phase) (answer : Answer) (line : ℕ) → ((refusal : Refusal) → phase ≡ Err refusal → HoldsNoWant refusal) → RepliesPhase name text phase answer line → IsTextStop answer
+phase_kind : (name text : List ℕ) (phase : Phase) (answer : Answer) (line : Option ℕ) → ((refusal : Refusal) → phase ≡ Err refusal → HoldsNoWant refusal) → RepliesPhase name text phase answer line → IsTextStop answer
 phase_kind name text (Ok flow) answer line law h = absurd h
 phase_kind name text (Err refusal) answer line law h = subst IsTextStop (sym h.0) (law refusal refl)
 
@@ -96,7 +96,7 @@ phase_kind name text (Err refusal) answer line law h = subst IsTextStop (sym h.0
 abbrev pub NoPhaseWants : Type 0
 NoPhaseWants = (name text : List ℕ) (refusal : Refusal) → compiled name text ≡ Err refusal → HoldsNoWant refusal
 
-pub reply_kind : NoPhaseWants → (name text : List ℕ) (answer : Answer) (line : ℕ) → Replies name text (compiled name text) answer line → IsTextStop answer
+pub reply_kind : NoPhaseWants → (name text : List ℕ) (answer : Answer) (line : Option ℕ) → Replies name text (compiled name text) answer line → IsTextStop answer
 reply_kind law name text NoMemory line h = tt
 reply_kind law name text _ line h = phase_kind name text (compiled name text) _ line (law name text) h
 
@@ -110,17 +110,17 @@ text_stop_count n StoreFault h = absurd h
 text_stop_count n _ h = refl
 
 -- its line
-phase_due : (name text : List ℕ) (phase : Phase) (answer : Answer) (line : ℕ) → RepliesPhase name text phase answer line → line ≡ line_in text phase
+phase_due : (name text : List ℕ) (phase : Phase) (answer : Answer) (line : Option ℕ) → RepliesPhase name text phase answer line → line ≡ line_in text phase
 phase_due name text (Ok flow) answer line h = absurd h
 phase_due name text (Err refusal) answer line h = h.1
 
-pub reply_due : (name text : List ℕ) (phase : Phase) (answer : Answer) (line : ℕ) → Replies name text phase answer line → IsLineDue (line_in text phase) answer line
+pub reply_due : (name text : List ℕ) (phase : Phase) (answer : Answer) (line : Option ℕ) → Replies name text phase answer line → IsLineDue (line_in text phase) answer line
 reply_due name text phase (Refused own refusal) line h = phase_due name text phase (Refused own refusal) line h
 reply_due name text phase _ line h = tt
 
 -- ---- answers that name no module
 
-pub put_line : (due : ℕ) (answer : Answer) (line : ℕ) → IsPutAnswer answer → IsLineDue due answer line
+pub put_line : (due : Option ℕ) (answer : Answer) (line : Option ℕ) → IsPutAnswer answer → IsLineDue due answer line
 put_line due (Refused own refusal) line h = absurd h
 put_line due _ line h = tt
 
@@ -136,11 +136,11 @@ file_stop_is NoMemory h = tt
 file_stop_is (BadFile name at) h = tt
 file_stop_is _ h = absurd h
 
-stop_line : (due : ℕ) (answer : Answer) (line : ℕ) → IsFileStop answer → IsLineDue due answer line
+stop_line : (due : Option ℕ) (answer : Answer) (line : Option ℕ) → IsFileStop answer → IsLineDue due answer line
 stop_line due (Refused own refusal) line h = absurd h
 stop_line due _ line h = tt
 
-pub file_stop_line : (first : Option Told) (name : List ℕ) (answer : Answer) (line : ℕ) → IsFileStop answer → IfSome first (λ t. IsLineDue (phase_line t.files name) answer line)
+pub file_stop_line : (first : Option Told) (name : List ℕ) (answer : Answer) (line : Option ℕ) → IsFileStop answer → IfSome first (λ t. IsLineDue (phase_line t.files name) answer line)
 file_stop_line None name answer line h = tt
 file_stop_line (Some t) name answer line h = stop_line (phase_line t.files name) answer line h
 
@@ -178,7 +178,7 @@ obeys_text (Some told) now new name text answer e same h =
     let P : Option Told → Type 0 = λ o. IfSome o (λ t. (input : List ℕ) → Obeys (EffectOfPhase name (compiled name text) input) answer t new) in
     λ input. subst (λ (w : Result (List ℕ) Answer). Obeys (PhaseOneOver name w input) answer told new) (sym e) (subst P same h input)
 
-pub text_line : (first : Option Told) (name text : List ℕ) (answer : Answer) (line : ℕ) → IfSome first (λ t. needed_bytes t.files (text_name name) ≡ Ok text) → IsLineDue (line_in text (compiled name text)) answer line
+pub text_line : (first : Option Told) (name text : List ℕ) (answer : Answer) (line : Option ℕ) → IfSome first (λ t. needed_bytes t.files (text_name name) ≡ Ok text) → IsLineDue (line_in text (compiled name text)) answer line
     → IfSome first (λ t. IsLineDue (phase_line t.files name) answer line)
 text_line None name text answer line e h = tt
 text_line (Some t) name text answer line e h = subst (λ (w : Result (List ℕ) Answer). IsLineDue (line_over name w) answer line) (sym e) h

@@ -1,5 +1,5 @@
 -- What `phase1` comes to: the flow graph of a module's text and its summary.
-use Rattle.std.specs.Prelude.{◌≡◌, ℕ, List, [], ◌∷◌, Result, Ok, Err}
+use Rattle.std.specs.Prelude.{◌≡◌, ℕ, List, [], ◌∷◌, Option, Some, None, Result, Ok, Err}
 use Rattle.pw_io.specs.Files.{Files}
 use Rattle.pw_front_end.specs.Places.{refusal_line}
 use Rattle.pw_flow.specs.declared.flow.FlowModule.{FlowModule}
@@ -48,15 +48,15 @@ PhaseOneOver name (Ok text) input effect = EffectOfPhase name (compiled name tex
 abbrev pub PhaseOneEffect : Files → List ℕ → List ℕ → Effect → Type 0
 PhaseOneEffect files name input effect = PhaseOneOver name (needed_bytes files (text_name name)) input effect
 
--- ---- the line on which the module is refused
+-- ---- the line on which the module is refused, where it is
 
-abbrev pub line_in : List ℕ → Phase → ℕ
-line_in text (Err refusal) = refusal_line text refusal
-line_in text (Ok flow) = 1
+abbrev pub line_in : List ℕ → Phase → Option ℕ
+line_in text (Err refusal) = Some (refusal_line text refusal)
+line_in text (Ok flow) = None
 
-abbrev pub line_over : List ℕ → Result (List ℕ) Answer → ℕ
-line_over name (Err answer) = 1
+abbrev pub line_over : List ℕ → Result (List ℕ) Answer → Option ℕ
+line_over name (Err answer) = None
 line_over name (Ok text) = line_in text (compiled name text)
 
-abbrev pub phase_line : Files → List ℕ → ℕ
+abbrev pub phase_line : Files → List ℕ → Option ℕ
 phase_line files name = line_over name (needed_bytes files (text_name name))

@@ -1,5 +1,5 @@
 -- Inside the commands: what is made of what was read, or the reply in its place.
-use Rattle.std.specs.Prelude.{◌≡◌, ℕ, List, Result, Ok, Err, Vec}
+use Rattle.std.specs.Prelude.{◌≡◌, ℕ, List, Option, Some, None, Result, Ok, Err, Vec}
 use Rattle.std.specs.declared.alloc.Global.{Global}
 use Rattle.pw_front_end.specs.Fronts.{HoldsNoWant}
 use Rattle.pw_front_end.specs.Places.{refusal_line}
@@ -57,12 +57,12 @@ TellsError name front.NoMemory answer = answer ≡ NoMemory
 TellsError name (front.Refused refusal) answer = answer ≡ Refused name refusal
 
 -- the line of an answer, in the text of its module
-abbrev pub line_of : List ℕ → Answer → ℕ
-line_of text (Refused name refusal) = refusal_line text refusal
-line_of text _ = 1
+abbrev pub line_of : List ℕ → Answer → Option ℕ
+line_of text (Refused name refusal) = Some (refusal_line text refusal)
+line_of text _ = None
 
 -- an answer is told with its line; want of memory may come in its place
-abbrev pub TellsReply : List ℕ → Answer → Answer → ℕ → Type 0
+abbrev pub TellsReply : List ℕ → Answer → Answer → Option ℕ → Type 0
 TellsReply text wanted NoMemory line = Unit {0}
 TellsReply text wanted answer line = (answer ≡ wanted) × (line ≡ line_of text wanted)
 

@@ -84,13 +84,13 @@ fn made_of_text(alloc: Global, name: &Name, text: &[u8]) -> Result<MadeFiles, An
     }
 }
 
-/// The line of an answer, in the text of its module.
-fn line_of(alloc: Global, text: &[u8], answer: &Answer) -> Result<usize, AllocError>
+/// The line of an answer, in the text of its module, where the module is refused.
+fn line_of(alloc: Global, text: &[u8], answer: &Answer) -> Result<Option<usize>, AllocError>
     ensures { IfOk result (λ line. line ≡ line_of text.now answer.now) }
 {
     match answer {
-        Answer::Refused(_, refusal) => refusal_line(alloc, text, refusal),
-        _ => Ok(1),
+        Answer::Refused(_, refusal) => Ok(Some(refusal_line(alloc, text, refusal)?)),
+        _ => Ok(None),
     }
 }
 
@@ -102,7 +102,7 @@ fn reply_of(alloc: Global, text: &[u8], answer: Answer) -> Reply
         Ok(line) => Reply { answer, line },
         Err(AllocError) => Reply {
             answer: Answer::NoMemory,
-            line: 1,
+            line: None,
         },
     }
 }
@@ -136,7 +136,7 @@ fn compile_bytes<S: Store>(alloc: Global, store: &mut S, name: &Name, text: &[u8
     match made_of_text(alloc, name, text) {
         Ok(made) => Reply {
             answer: put_made(alloc, store, name, &made),
-            line: 1,
+            line: None,
         },
         Err(answer) => reply_of(alloc, text, answer),
     }
@@ -156,6 +156,6 @@ pub fn compile_text<S: Store>(alloc: Global, store: &mut S, name: &Name) -> Repl
 {
     match module_bytes(alloc, store, name, TEXT_ENDING) {
         Ok(text) => compile_bytes(alloc, store, name, &text),
-        Err(answer) => Reply { answer, line: 1 },
+        Err(answer) => Reply { answer, line: None },
     }
 }

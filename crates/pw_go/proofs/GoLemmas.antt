@@ -106,7 +106,7 @@ pub run_comes : (told new : Option Told) (opts : RunOpts) (report : Report) (a :
 run_comes None new opts report a k b = tt
 run_comes (Some t) new opts report a k b = λ comes h. subst (λ (x : Result Outcome BuildFault). AnswersOutcome x a) (sym (b.answers comes h).1) (no_refusal a k)
 
-pub run_line : (due : Files → ℕ) (told : Option Told) (a : Answer) → IsRunAnswer a → IfSome told (λ t. IsLineDue (due t.files) a 1)
+pub run_line : (due : Files → Option ℕ) (told : Option Told) (a : Answer) → IsRunAnswer a → IfSome told (λ t. IsLineDue (due t.files) a None)
 run_line due None a k = tt
 run_line due (Some t) (answer.Refused name refusal) k = absurd k
 run_line due (Some t) _ k = tt

@@ -76,7 +76,7 @@ pub fn go<S: Store, I: Source, O: Sink>(
     match build_uncounted(alloc, store, &opts.build) {
         Ok(report) => Reply {
             answer: run_built(alloc, &report.image, opts.budget, input, out),
-            line: 1,
+            line: None,
         },
         Err(unbuilt) => Reply {
             line: unbuilt.line,

@@ -42,7 +42,7 @@ module _ (e : Env) (bound : ℕ) (t : ℕ) (ty : QType) where
       ∙ placed_first e bound t a _ s
   split (Compound op working a b) = λ s.
       follow_same (place_of a cs e) _ _ s (λ place u. follow_same (old_value e t (type_of (type_at a)) working place) _ _ u (λ old x.
-          used_last e bound t b (op, working, type_of (type_at a), type_of (type_at b)) (λ p w. update e t p.2 p.1 place p.0 p.3 old w >>= λ result. give (Some result)) x))
+      used_last e bound t b (op, working, type_of (type_at a), type_of (type_at b)) (λ p w. update e t p.2 p.1 place p.0 p.3 old w >>= λ result. give (Some result)) x))
       ∙ placed_first e bound t a _ s
   split (Step op a) = λ s. placed_first e bound t a _ s
   split (Cast a) = λ s. refl
@@ -63,8 +63,8 @@ module _ (e : Env) (bound : ℕ) (t : ℕ) (ty : QType) where
       grouped (answer_of b cs e >>= used (site e t)) (λ v. put Assigning (site e t) (records_of e) target place v >> give place) (λ p. give (Some p)) s
       ∙ follow_same (answer_of b cs e >>= used (site e t)) (λ v. (put Assigning (site e t) (records_of e) target place v >> give place) >>= λ p. give (Some p)) (λ v. put Assigning (site e t) (records_of e) target place v >> give (Some place)) s
       (λ v u.
-          grouped (put Assigning (site e t) (records_of e) target place v) (λ _. give place) (λ p. give (Some p)) u
-          ∙ follow_same (put Assigning (site e t) (records_of e) target place v) (λ _. give place >>= λ p. give (Some p)) (λ _. give (Some place)) u (λ d x. given_on place (λ p. give (Some p)) x))
+      grouped (put Assigning (site e t) (records_of e) target place v) (λ _. give place) (λ p. give (Some p)) u
+      ∙ follow_same (put Assigning (site e t) (records_of e) target place v) (λ _. give place >>= λ p. give (Some p)) (λ _. give (Some place)) u (λ d x. given_on place (λ p. give (Some p)) x))
       ∙ used_last e bound t b target (λ ty' v. put Assigning (site e t) (records_of e) ty' place v >> give (Some place)) s
 
   abbrev SplitPlace : Form → Option Question → Type 0

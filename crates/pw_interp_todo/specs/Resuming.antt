@@ -54,9 +54,9 @@ end_objects (suc count) number = end_objects count (suc number) >> end_object nu
 unfoldable pub after : Todo → Rest → Rest
 after (T.Operand operand) rest e n told = on_value told (λ given. behind operand given e n >>= λ r. rest e n (Gave r))
 after (T.Argument args token) rest e n told = on_value told (λ given. do
-    v ← used (site e token) given
-    vs ← values_of (view_exprs args.now) token (calls e.world n) e
-    rest e n (Listed (v ∷ vs)))
+  v ← used (site e token) given
+  vs ← values_of (view_exprs args.now) token (calls e.world n) e
+  rest e n (Listed (v ∷ vs)))
 after (T.Held v) rest e n told = on_list told (λ vs. rest e n (Listed (v ∷ vs)))
 after (T.Call callee) rest e n told = on_list told (λ vs. call_behind callee vs e n >>= λ r. rest e n (Gave r))
 after (T.Value what bound) rest e n told = on_value told (λ given. use_act what e n given >>= λ flow. rest e bound (Flowed flow))

@@ -19,9 +19,15 @@ pub enum Todo<'a> {
     /// A call, behind its arguments.
     Call(Callee<'a>),
     /// What a statement does with a value.
-    Value { what: Use<'a>, bound: u64 },
+    Value {
+        what: Use<'a>,
+        bound: u64,
+    },
     /// What is left of a statement behind a part of it.
-    Flow { what: Remainder<'a>, bound: u64 },
+    Flow {
+        what: Remainder<'a>,
+        bound: u64,
+    },
     /// The object of a local ends, and the local has what it had before.
     EndLocal {
         local: usize,
@@ -31,7 +37,10 @@ pub enum Todo<'a> {
     /// What comes of a function's body is its result.
     Returned,
     /// The objects of so many parameters end, which have the numbers from one on.
-    EndParameters { count: u32, number: u128 },
+    EndParameters {
+        count: u32,
+        number: u128,
+    },
 }
 
 /// What is done now: what is asked; a part of a statement, behind which the run goes on with a bound; the arguments of a

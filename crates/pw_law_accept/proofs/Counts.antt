@@ -8,7 +8,7 @@ use Rattle.std.proofs.lemmas.List.Concat.{flat_map-cons}
 use Rattle.pw_value.specs.ProgramNames.{times}
 use Rattle.pw_flow.specs.ValidFlow.{AreDistinct}
 use Rattle.pw_files.proofs.Standing.{Has, each_by}
-use Rattle.pw_law_build.proofs.Twice.{Twice}
+use Rattle.pw_law_shown.proofs.Twice.{Twice}
 
 abbrev pub one : List ℕ → List ℕ → ℕ
 one name other = cond (bytes_eq other name) 1 0

@@ -9,7 +9,7 @@ use Rattle.pw_link_rules.specs.declared.interface.Interface.{Interface}
 use Rattle.pw_link_rules.specs.Linking.{library, library_declarations, declared_in, declarations, IsInConflict}
 use Rattle.pw_run_languages.specs.Programs.{Program, Library, Exit, GetChar, PutChar, library_at, library_shape}
 use Rattle.pw_law_source.specs.Lowering.{DeclareAlike}
-use Rattle.pw_law_build.specs.Alike.{shown}
+use Rattle.pw_law_shown.specs.Alike.{shown}
 
 -- ---- the library's functions
 

@@ -15,10 +15,10 @@ use Rattle.pw_link_rules.specs.declared.interface.Interface.{Interface}
 use Rattle.pw_link_rules.specs.Linking.{library, names_in, defined_in, definitions, defined_names, used_names, IsUndefined, IsDefinedTwice}
 use Rattle.pw_run_languages.specs.Programs.{Program, functions_of, globals_of, names_of}
 use Rattle.pw_run_languages.specs.LawfulPrograms.{IsProgram}
-use Rattle.pw_law_build.specs.Alike.{shown}
-use Rattle.pw_law_build.proofs.Names.{both_distinct, across_distinct}
-use Rattle.pw_law_build.proofs.Twice.{Twice, twice_by, twice_split, beside, once_beside}
-use Rattle.pw_law_build.proofs.Tests.{beside_all}
+use Rattle.pw_law_shown.specs.Alike.{shown}
+use Rattle.pw_law_shown.proofs.Names.{both_distinct, across_distinct}
+use Rattle.pw_law_shown.proofs.Twice.{Twice, twice_by, twice_split, beside, once_beside}
+use Rattle.pw_law_shown.proofs.Tests.{beside_all}
 
 -- ---- all names, function by function and module by module
 

@@ -29,7 +29,7 @@ use Rattle.pw_law_checked.proofs.Bodies.{IsWhollyStated, module_stated}
 use Rattle.pw_law_checked.proofs.Laws.{start_lawful}
 use Rattle.pw_law_checked.specs.Names.{HasWord, AreNumbered}
 use Rattle.pw_files.proofs.Standing.{Has, has_map}
-use Rattle.pw_law_build.proofs.Twice.{has_at}
+use Rattle.pw_law_shown.proofs.Twice.{has_at}
 use Rattle.pw_object.specs.declared.object.Object.{Object}
 use Rattle.pw_link_interface.specs.Interface.{interface}
 use Rattle.pw_link_rules.specs.declared.interface.Interface.{Interface}

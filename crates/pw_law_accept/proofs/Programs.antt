@@ -26,7 +26,7 @@ use Rattle.pw_law_lower.specs.Within.{AreLetters, IsNamed}
 use Rattle.pw_law_lower.proofs.Names.{above, named_main, name_ordinary, identifier_ordinary}
 use Rattle.pw_milli.specs.Library.{routines}
 use Rattle.pw_files.proofs.Standing.{Has, has_by, contains_by, has_each, has_left, has_right, has_split, has_map, has_map_back, has_flat, has_flat_back}
-use Rattle.pw_law_build.proofs.Names.{rising_distinct}
+use Rattle.pw_law_shown.proofs.Names.{rising_distinct}
 use Rattle.pw_link_rules.specs.Linking.{library_declarations}
 use Rattle.pw_cmean.specs.Worlds.{Program, ProgramModule, Callable, callable}
 use Rattle.pw_cmean.specs.Worlds as source

@@ -21,8 +21,8 @@ use Rattle.pw_link_rules.specs.Linking.{HasMain, Links, few_functions, few_globa
 use Rattle.pw_run_languages.specs.Programs.{Program, functions_of}
 use Rattle.pw_run_languages.specs.LawfulPrograms.{IsProgram}
 use Rattle.pw_law_source.specs.Lowering.{DeclareAlike}
-use Rattle.pw_law_build.specs.Alike.{shown}
-use Rattle.pw_law_build.proofs.Mains.{main_found}
+use Rattle.pw_law_shown.specs.Alike.{shown}
+use Rattle.pw_law_shown.proofs.Mains.{main_found}
 use Rattle.pw_law_accept.specs.Few.{AreFew}
 use Rattle.pw_law_accept.proofs.Declared.{no_conflict}
 use Rattle.pw_law_accept.proofs.Defined.{no_duplicate, no_undefined}

@@ -4,7 +4,7 @@ ghost use Rattle.std.specs.Prelude.{ℕ, List, map};
 ghost use Rattle.pw_cmean.specs.Worlds.{Program};
 ghost use Rattle.pw_law_source.specs.Lowering.{IsAccepted, flow_program};
 ghost use Rattle.pw_link_rules.specs.Linking.{Links};
-ghost use Rattle.pw_law_build.specs.Alike.{shown};
+ghost use Rattle.pw_law_shown.specs.Alike.{shown};
 ghost use Rattle.pw_law_accept.specs.Few.{AreFew};
 
 /// The flow graphs of an accepted program keep the rules of linking, if there are no more functions and objects than a program

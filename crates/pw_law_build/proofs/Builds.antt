@@ -18,7 +18,7 @@ use Rattle.pw_build_objects.specs.Kept.{IsGenuineIfKept, anew}
 use Rattle.pw_build_files.specs.FromBuild.BuildFault.{BuildFault}
 use Rattle.pw_build_files.specs.FromBuild.BuildFault.TheVariants.{Refused, LinkRefused, StoreFault, NoMemory}
 use Rattle.pw_build_files.specs.FromBuild.Builds.{limit_passed, before_others, flows_of, within, first_phases, CompletesAs, BuildsBy, Builds}
-use Rattle.pw_law_build.specs.Alike.{shown, DeclaresMain}
+use Rattle.pw_law_shown.specs.Alike.{shown, DeclaresMain}
 use Rattle.pw_law_build.specs.Complete.{HasRoom, CanBeBuilt}
 use Rattle.pw_build_opts.specs.declared.opts.Opts.{Opts}
 

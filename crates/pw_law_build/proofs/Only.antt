@@ -21,7 +21,7 @@ use Rattle.pw_build_files.specs.FromBuild.Builds.{first_phases, Builds, BuildsBy
 use Rattle.pw_build_files.specs.Building.{BuildOutcome, Outcome}
 use Rattle.pw_build_files.specs.Full.{BuildsImage, image_of}
 use Rattle.pw_build_files.specs.Genuine.{KeepsGenuine}
-use Rattle.pw_law_build.specs.Alike.{shown, DeclaresMain}
+use Rattle.pw_law_shown.specs.Alike.{shown, DeclaresMain}
 use Rattle.pw_law_build.specs.Complete.{CanBeBuilt}
 use Rattle.pw_build_opts.specs.declared.opts.Opts.{Opts}
 

@@ -7,7 +7,7 @@ use Rattle.pw_link.specs.Linking.{size_fault}
 use Rattle.pw_store_modules.specs.Modules.{Source}
 use Rattle.pw_build_objects.specs.Programs.{AreParts, Parts}
 use Rattle.pw_build_files.specs.FromBuild.Builds.{first_phases}
-use Rattle.pw_law_build.specs.Alike.{shown}
+use Rattle.pw_law_shown.specs.Alike.{shown}
 use Rattle.pw_build_opts.specs.declared.opts.Opts.{Opts}
 
 -- The modules are not too many, their texts not too long, the first phase refuses none of them, and together they keep the

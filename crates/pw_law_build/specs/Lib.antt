@@ -1,4 +1,3 @@
-pub mod Alike
 pub mod Whole
 pub mod Kept
 pub mod Complete

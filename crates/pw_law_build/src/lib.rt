@@ -1,18 +1,13 @@
-//! Laws of builds: what modules show to linking, what a build leaves, and what builds are refused for.
+//! Laws of builds: what a build leaves, and what builds are refused for.
 #![tactic(auto)]
 
 mod left;
-mod linking;
 mod refusals;
 
 pub use left::{
     a_build_again_makes_nothing, a_build_keeps_its_objects, a_build_leaves_its_program,
     a_build_leaves_the_whole_program, a_text_with_the_same_flow_keeps_flows,
     an_edit_that_keeps_flows_makes_nothing,
-};
-pub use linking::{
-    flow_graphs_and_summaries_are_refused_alike, objects_are_refused_for_room_alone,
-    summaries_and_objects_are_refused_alike,
 };
 pub use refusals::{
     a_store_is_built_exactly_where_it_can_be, a_store_that_can_be_built_is_built,

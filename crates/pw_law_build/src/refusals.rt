@@ -24,16 +24,14 @@ ghost use Rattle.pw_build_opts.specs.declared.opts.Opts.{Opts};
 ghost use Rattle.pw_build_files.specs.declared.report.Report.{Report};
 ghost use Rattle.pw_commands.specs.Outcome.{IsFound};
 ghost use Rattle.pw_build_files.specs.Driving.{BuildEffect};
-ghost use Rattle.pw_law_build.specs.Alike.{DeclaresMain};
+ghost use Rattle.pw_law_shown.specs.Alike.{DeclaresMain};
 ghost use Rattle.pw_law_build.specs.Complete.{CanBeBuilt};
 
-use crate::linking::{
-    flow_graphs_and_summaries_are_refused_alike, objects_are_refused_for_room_alone,
+use pw_build_files::{flow_graphs_declare_main, genuine_objects_give_the_full_image};
+use pw_build_objects::laws::{
+    flow_graphs_have_one_answer, genuine_objects_change_nothing, objects_are_refused_for_room_alone,
 };
-use pw_build_files::genuine_objects_give_the_full_image;
-use pw_build_objects::laws::{flow_graphs_have_one_answer, genuine_objects_change_nothing};
-use pw_check_rules::checks_is_exact;
-use pw_law_checked::{accepted_functions_are_typed, accepted_names_are_declared};
+use pw_law_shown::flow_graphs_and_summaries_are_refused_alike;
 use pw_link_rules::laws::modules_have_one_answer;
 
 /// The flow graphs of the modules of a build declare each `main` that they define, since a module that checking accepts
@@ -41,9 +39,7 @@ use pw_link_rules::laws::modules_have_one_answer;
 pub fn first_phases_declare_main()
     ensures { (sources : List Source) (flows : List FlowModule) → first_phases sources ≡ Ok flows → AllByRecursion DeclaresMain flows }
 {
-    checks_is_exact();
-    accepted_functions_are_typed();
-    accepted_names_are_declared();
+    flow_graphs_declare_main();
 }
 
 /// Modules that are accepted one by one and together, and for which text and memory are large enough, are refused nothing

@@ -131,4 +131,5 @@ all_fit fit map p q d functions objects laid =
     record {
       functions = λ m f c h. within (full_name m.name f.name) (room_of m.tree.records f) (laid.rooms.functions m f c h);
       start = λ m c h. within start_name start_room laid.rooms.start;
+      library = subst NoneForLibrary laid.frames frames.library;
     }

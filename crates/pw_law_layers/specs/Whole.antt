@@ -172,12 +172,13 @@ pub record IsLaidOut (p : Program) (q : flows.Program) (d : List (List ℕ × Di
   pub serve : AllServe (directed_functions q d) functions
   pub made : AreObjectsOf q functions objects
 
--- each frame is at most its function's room
+-- Each frame is at most its function's room, and the library's functions take none.
 pub record FramesFit (p : Program) (v : Image) : Type 0 where
   pub functions : (m : ProgramModule) (f : FunctionValue) → Contains p.modules m → Contains m.tree.functions f →
       frame_in v (full_name m.name f.name) ≤ room_of m.tree.records f
   pub start : (m : ProgramModule) → Contains p.modules m → Contains (start_of m.tree.functions) start_function →
       frame_in v start_name ≤ start_room
+  pub library : NoneForLibrary (frame_in v)
 
 -- ---- what follows from the laws of the layers
 

@@ -2,7 +2,7 @@
 use Rattle.std.specs.Prelude.{ℕ, List, Result, Ok, Err}
 use Rattle.pw_store_modules.specs.Modules.{Texts}
 use Rattle.pw_build_opts.specs.declared.opts.Opts.{Opts}
-use Rattle.pw_build.specs.declared.fault.BuildFault.{BuildFault}
+use Rattle.pw_build_files.specs.FromBuild.BuildFault.{BuildFault}
 use Rattle.pw_build_files.specs.Full.{BuildsImage}
 use Rattle.pw_law_meaning.specs.Meaning.{Means, MeansSo}
 

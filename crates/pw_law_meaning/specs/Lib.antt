@@ -1,1 +1,2 @@
+pub mod FromLawWhole
 pub mod Meaning

@@ -1,5 +1,5 @@
 -- What an image has to do with the C program that its texts are.
-use Rattle.std.specs.Prelude.{ℕ, ◌<◌, List, Result, Ok, Err}
+use Rattle.std.specs.Prelude.{ℕ, ◌≢◌, ◌<◌, List, Result, Ok, Err}
 use Rattle.pw_summary.specs.declared.summary.Summary.{Summary}
 use Rattle.pw_image.specs.declared.image.Image.{Image}
 use Rattle.pw_image.specs.Image.{Contents, IsImageFile}
@@ -7,16 +7,18 @@ use Rattle.pw_machine.specs.Run.{run_of, start_state}
 use Rattle.pw_machine.specs.Start.{image_start}
 use Rattle.pw_store_modules.specs.Modules.{Texts}
 use Rattle.pw_build_opts.specs.declared.opts.Opts.{Opts}
-use Rattle.pw_build.specs.declared.fault.BuildFault.{BuildFault}
+use Rattle.pw_build_files.specs.FromBuild.BuildFault.{BuildFault}
 use Rattle.pw_build_files.specs.Full.{BuildsImage}
 use Rattle.pw_cmean.specs.Worlds.{Program}
+use Rattle.pw_cmean.specs.Acts.{Wrong}
+use Rattle.pw_cmean.specs.SourceRun.{source_run}
 use Rattle.pw_run_agreement.specs.Agreement.{Agree, IsDefined, IsMeaningful, SourceRun}
 use Rattle.pw_run_languages.specs.Programs.{AreBytes}
 use Rattle.pw_run_languages.specs.LinkingLaws.{frame_in}
 use Rattle.pw_law_stops.specs.Stops.{Tells}
 use Rattle.pw_law_source.specs.Source.{source_runs}
-use Rattle.pw_law_layers.specs.Whole.{FramesFit}
-use Rattle.pw_law_analysis.specs.ImageTraffic.{Traffic}
+use Rattle.pw_law_whole.specs.FromLayers.Whole.{FramesFit}
+use Rattle.pw_law_whole.specs.FromAnalysis.ImageTraffic.{Traffic}
 use Rattle.pw_law_whole.specs.Programs.{IsProgramOf, Summarise}
 
 -- the runs of the program on an input, by their bound, each call taking the stack that its function takes in the image
@@ -30,6 +32,8 @@ pub record Means (texts : Texts) (opts : Opts) (bytes : List ℕ) : Type 0 where
   pub of_texts : IsProgramOf texts program
   pub contents : Contents Image
   pub file : IsImageFile bytes contents
+  -- no run of the program goes wrong in a way that C does not know: what counts as undefined below is what C leaves undefined
+  pub sense : (input : List ℕ) → AreBytes input → (bound : ℕ) → (source_run program (frame_in contents.value) opts.stack input bound).end ≢ Wrong
   -- on every input the machine does what the program does, until that does what C does not define
   pub agree : (input : List ℕ) → AreBytes input → Agree (runs_of program contents.value opts.stack input) (image_start contents.value.memory) input
   -- so a run of the machine within a budget tells what the program does, where that is defined

@@ -5,14 +5,16 @@ ghost use Rattle.std.specs.Prelude.{ℕ, List, Result};
 ghost use Rattle.pw_io.specs.Files.{Files};
 ghost use Rattle.pw_store_modules.specs.Modules.{module_map};
 ghost use Rattle.pw_build_opts.specs.declared.opts.Opts.{Opts};
-ghost use Rattle.pw_build.specs.declared.fault.BuildFault.{BuildFault};
+ghost use Rattle.pw_build_files.specs.FromBuild.BuildFault.{BuildFault};
 ghost use Rattle.pw_build_files.specs.Full.{BuildsImage};
 ghost use Rattle.pw_build_files.specs.Outcomes.{AreOpts};
 ghost use Rattle.pw_law_meaning.specs.Meaning.{MeansSo};
 
+use pw_law_resolved::source_is_never_wrong;
 use pw_law_stops::stops_are_those_of_the_source;
+pub use pw_law_whole::full_builds_have_a_program;
 use pw_law_whole::{
-    frames_of_full_builds_fit, full_builds_have_a_program, full_builds_hold,
+    frames_of_full_builds_fit, full_builds_are_whole, full_builds_hold,
     modules_of_files_have_plain_names,
 };
 
@@ -21,8 +23,10 @@ pub fn images_mean_their_texts()
     ensures { (files : Files) (opts : Opts) (full : Result (List ℕ) BuildFault) → AreOpts opts → BuildsImage (module_map files) opts full → MeansSo (module_map files) opts full }
 {
     full_builds_have_a_program();
+    full_builds_are_whole();
     full_builds_hold();
     frames_of_full_builds_fit();
     modules_of_files_have_plain_names();
     stops_are_those_of_the_source();
+    source_is_never_wrong();
 }

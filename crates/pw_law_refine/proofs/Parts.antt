@@ -5,7 +5,7 @@ use Rattle.pw_flow.specs.declared.flow.Op.{Op}
 use Rattle.pw_flow.specs.declared.flow.FlowFn.{FlowFn}
 use Rattle.pw_lower.specs.declared.code.Code.{Code}
 use Rattle.pw_lower.specs.declared.code.Numbered.{Numbered}
-use Rattle.pw_run_languages.specs.Programs.{block_at}
+use Rattle.pw_law_source.specs.FromRunLanguages.Programs.{block_at}
 use Rattle.pw_law_lower.specs.Kept.{IsStillFilled, IsClosedNext, Keeps}
 use Rattle.pw_law_refine.specs.Containing.{BeginsWith, ContainsCode}
 

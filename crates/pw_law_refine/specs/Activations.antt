@@ -10,8 +10,8 @@ use Rattle.pw_lower.specs.Statements.{Frame as Lowering}
 use Rattle.pw_lower.specs.Modules.{frame_of, lowered_function}
 use Rattle.pw_cmean.specs.Worlds.{ProgramModule, World}
 use Rattle.pw_cmean.specs.Evaluation.{Env}
-use Rattle.pw_run_languages.specs.Programs as flows
-use Rattle.pw_run_languages.specs.FlowRun as flow
+use Rattle.pw_law_source.specs.FromRunLanguages.Programs as flows
+use Rattle.pw_law_source.specs.FromRunLanguages.FlowRun as flow
 use Rattle.pw_law_source.specs.Lowering.{flow_program}
 use Rattle.pw_law_refine.specs.Lowerable.{IsLowerableWorld}
 

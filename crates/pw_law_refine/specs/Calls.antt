@@ -11,8 +11,8 @@ use Rattle.pw_cmean.specs.Evaluation.{Env, site, call}
 use Rattle.pw_cmean.specs.Execution.{Front, meaning, with_locals}
 use Rattle.pw_cmean.specs.SourceRun as source
 use Rattle.pw_cmean.specs.SourceRun.{set_parameters, result_of, outermost}
-use Rattle.pw_run_languages.specs.FlowRun as flow
-use Rattle.pw_run_languages.specs.FlowRun.{Frame, Machine, step, value_in}
+use Rattle.pw_law_source.specs.FromRunLanguages.FlowRun as flow
+use Rattle.pw_law_source.specs.FromRunLanguages.FlowRun.{Frame, Machine, step, value_in}
 use Rattle.pw_law_refine.specs.Lowerable.{IsLowerableWorld}
 use Rattle.pw_law_refine.specs.Standing.{Spot, Stands}
 use Rattle.pw_law_refine.specs.Activations.{Activation, IsActivation, Numbers, graphs, graph_of}

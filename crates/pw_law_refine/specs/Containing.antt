@@ -5,8 +5,8 @@ use Rattle.pw_flow.specs.declared.flow.Block.{Block}
 use Rattle.pw_flow.specs.declared.flow.FlowFn.{FlowFn}
 use Rattle.pw_lower.specs.declared.code.Code.{Code}
 use Rattle.pw_lower.specs.declared.code.Numbered.{Numbered}
-use Rattle.pw_run_languages.specs.Programs.{block_at}
-use Rattle.pw_run_languages.specs.FlowRun.{Machine}
+use Rattle.pw_law_source.specs.FromRunLanguages.Programs.{block_at}
+use Rattle.pw_law_source.specs.FromRunLanguages.FlowRun.{Machine}
 
 -- ---- code in a graph
 

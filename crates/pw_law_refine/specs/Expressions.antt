@@ -19,8 +19,8 @@ use Rattle.pw_cmean.specs.Acts.{State}
 use Rattle.pw_cmean.specs.Evaluation.{answer_of, place_of, values_of}
 use Rattle.pw_cmean.specs.Execution.{condition}
 use Rattle.pw_cmean.specs.SourceRun.{calls}
-use Rattle.pw_run_languages.specs.Programs.{global_number}
-use Rattle.pw_run_languages.specs.FlowRun.{Machine, value_in}
+use Rattle.pw_law_source.specs.FromRunLanguages.Programs.{global_number}
+use Rattle.pw_law_source.specs.FromRunLanguages.FlowRun.{Machine, value_in}
 use Rattle.pw_law_refine.specs.Standing.{Spot, Stands}
 use Rattle.pw_law_refine.specs.Activations.{Activation, IsActivation, Numbers, graphs, graph_of, home_of, place_in, local_temps, HaveSlots, number_of, env_of}
 use Rattle.pw_law_refine.specs.Matching.{Related, Later}

@@ -3,7 +3,7 @@ use Rattle.std.specs.Prelude.{ℕ, All, List, Contains}
 use Rattle.pw_types.specs.TypedTrees.{ModuleValue}
 use Rattle.pw_law_lower.specs.Within.{AreLetters, AreRecordsWithin, IsFunctionWithin}
 use Rattle.pw_cmean.specs.Worlds.{Program, ProgramModule, World}
-use Rattle.pw_run_languages.specs.Programs.{NoneForLibrary}
+use Rattle.pw_law_source.specs.FromRunLanguages.Programs.{NoneForLibrary}
 use Rattle.pw_law_source.specs.Lowering.{flow_program, IsAccepted}
 use Rattle.pw_law_source.specs.Accepting.{AreFormed, LeadInside}
 

@@ -12,9 +12,9 @@ use Rattle.pw_cmean.specs.Acts.{State}
 use Rattle.pw_cmean.specs.Access.{value_in}
 use Rattle.pw_cmean.specs.Typed.{HoldsBytes}
 use Rattle.pw_run.specs.Runs.{SameIn}
-use Rattle.pw_run_languages.specs.Programs.{globals_of}
-use Rattle.pw_run_languages.specs.FlowRun as flow
-use Rattle.pw_run_languages.specs.FlowRun.{Frame, Machine}
+use Rattle.pw_law_source.specs.FromRunLanguages.Programs.{globals_of}
+use Rattle.pw_law_source.specs.FromRunLanguages.FlowRun as flow
+use Rattle.pw_law_source.specs.FromRunLanguages.FlowRun.{Frame, Machine}
 use Rattle.pw_law_source.specs.Source as source
 use Rattle.pw_law_source.specs.Lowering.{MomentKept}
 use Rattle.pw_law_refine.specs.Standing.{Spot, Nowhere, In, spot_of, Stands, MemoryStands}

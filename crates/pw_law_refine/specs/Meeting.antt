@@ -4,8 +4,8 @@ use Rattle.pw_cmean.specs.Worlds.{World}
 use Rattle.pw_cmean.specs.Acts.{State, Ending, Undefined, StackFull, Exit, Bound, Wrong, Outcome, Gives, Ends}
 use Rattle.pw_run.specs.Runs as run
 use Rattle.pw_run.specs.Runs.{End, Ended}
-use Rattle.pw_run_languages.specs.Programs.{Program}
-use Rattle.pw_run_languages.specs.FlowRun.{Machine, On, Stopped, steps}
+use Rattle.pw_law_source.specs.FromRunLanguages.Programs.{Program}
+use Rattle.pw_law_source.specs.FromRunLanguages.FlowRun.{Machine, On, Stopped, steps}
 use Rattle.pw_law_refine.specs.Activations.{graphs}
 use Rattle.pw_law_refine.specs.Matching.{Shows}
 

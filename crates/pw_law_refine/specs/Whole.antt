@@ -8,9 +8,9 @@ use Rattle.pw_lower.specs.Modules.{start_function}
 use Rattle.pw_cmean.specs.Worlds.{Program, World, Callable, function_named}
 use Rattle.pw_cmean.specs.SourceRun.{start_state}
 use Rattle.pw_run.specs.Runs.{Refines}
-use Rattle.pw_run_languages.specs.Programs as flows
-use Rattle.pw_run_languages.specs.Programs.{AreBytes, NoneForLibrary, start_objects}
-use Rattle.pw_run_languages.specs.FlowRun.{Machine, On, start, flow_run}
+use Rattle.pw_law_source.specs.FromRunLanguages.Programs as flows
+use Rattle.pw_law_source.specs.FromRunLanguages.Programs.{AreBytes, NoneForLibrary, start_objects}
+use Rattle.pw_law_source.specs.FromRunLanguages.FlowRun.{Machine, On, start, flow_run}
 use Rattle.pw_law_source.specs.Source.{source_stages}
 use Rattle.pw_law_source.specs.Lowering.{MomentKept, flow_program, IsAccepted, AreChecked}
 use Rattle.pw_law_refine.specs.Lowerable.{IsLowerable, IsLowerableWorld}

@@ -15,10 +15,10 @@ use Rattle.pw_lower.specs.Places.{addressed_in, addressed_in_statement, addresse
 use Rattle.pw_lower.specs.Expressions.{lower}
 use Rattle.pw_lower.specs.Statements.{lower_statement, lower_arms, lower_otherwise}
 use Rattle.pw_law_source.specs.Accepting.{SuitsLocal, initialisers_in, initialisers_of_arms, initialisers_behind}
-use Rattle.pw_law_refine.specs.Activations.{Activation, Numbers, graph_of, home_of, lowering_of, HaveSlots}
-use Rattle.pw_law_refine.specs.Containing.{ContainsCode}
-use Rattle.pw_law_refine.specs.Statements.{AreLabelled, LieBehind, IsSet, code_behind}
-use Rattle.pw_law_refine.specs.StatementParts.{AreArmsSet}
+use Rattle.pw_law_refine_steps.specs.FromLawRefine.Activations.{Activation, Numbers, graph_of, home_of, lowering_of, HaveSlots}
+use Rattle.pw_law_refine_steps.specs.FromLawRefine.Containing.{ContainsCode}
+use Rattle.pw_law_refine_steps.specs.FromLawRefine.Statements.{AreLabelled, LieBehind, IsSet, code_behind}
+use Rattle.pw_law_refine_steps.specs.FromLawRefine.StatementParts.{AreArmsSet}
 use Rattle.pw_law_refine_code.specs.Ending.{KeepLabels}
 use Rattle.pw_law_refine_code.specs.Behind.{named_blocks}
 use Rattle.pw_law_refine_code.specs.Setting.{code_of_arm, code_between, HasMore}

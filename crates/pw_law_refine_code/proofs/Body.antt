@@ -12,8 +12,8 @@ use Rattle.pw_types.specs.TypedTrees.{ModuleValue}
 use Rattle.pw_lower.specs.Codes.{block_of_label, numbered}
 use Rattle.pw_lower.specs.Modules.{entered, blocks_at_start}
 use Rattle.pw_cmean.specs.Execution.{holds}
-use Rattle.pw_law_refine.specs.Activations.{Activation}
-use Rattle.pw_law_refine.specs.Statements.{IsOpen, AreLabelled}
+use Rattle.pw_law_refine_steps.specs.FromLawRefine.Activations.{Activation}
+use Rattle.pw_law_refine_steps.specs.FromLawRefine.Statements.{IsOpen, AreLabelled}
 use Rattle.pw_law_refine_code.proofs.Totals.{look, holds-append, contained-held, look-same, numbered-other, set-length}
 use Rattle.pw_law_refine_code.proofs.Opening.{split}
 use Rattle.pw_law_refine_code.proofs.Labelling.{apart-contains}

@@ -24,7 +24,7 @@ use Rattle.pw_lower.specs.Expressions.{Home, write, address_of_local, target_of_
 use Rattle.pw_lower.specs.Statements.{begun as begun_labels, Frame, local_type, initialised_by, initialised, initialised_all, lower_statement, lower_statements}
 use Rattle.pw_cmean.specs.Execution.{holds}
 use Rattle.pw_law_lower.specs.Kept.{IsStillFilled, IsClosedNext, Keeps}
-use Rattle.pw_law_refine.specs.Containing.{same, given, times_closed}
+use Rattle.pw_law_refine_steps.specs.FromLawRefine.Containing.{same, given, times_closed}
 use Rattle.pw_law_refine_code.specs.Ending.{StaysThere, IsAtLastLabel, Ends, KeepLabels}
 use Rattle.pw_law_refine_code.proofs.Spreads.{Spread, OfExpressions, one_if, none, times_closed-append, lower-spreads}
 use Rattle.pw_law_refine_code.proofs.Totals.{look, holds-append, holds-contained, contained-held}

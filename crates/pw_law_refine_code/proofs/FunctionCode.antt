@@ -22,7 +22,7 @@ use Rattle.pw_lower.specs.Expressions.{scalar_kind}
 use Rattle.pw_lower.specs.Modules.{parameters_stored, closed_at_start, blocks_at_start, start_code, entered, frame_of, lowered_function}
 use Rattle.pw_cmean.specs.Execution.{holds}
 use Rattle.pw_run_languages.specs.Programs.{block_at}
-use Rattle.pw_law_refine.specs.Containing.{same, given, times_closed, begun, ContainsCode}
+use Rattle.pw_law_refine_steps.specs.FromLawRefine.Containing.{same, given, times_closed, begun, ContainsCode}
 use Rattle.pw_law_refine_code.specs.Functions.{code_of_body, last_block}
 use Rattle.pw_law_refine_code.proofs.Spreads.{Spread, OfExpressions, one_if, none, same_code, and, emits, adds, given-more, times_closed-append}
 use Rattle.pw_law_refine_code.proofs.Totals.{total, look, of_list, holds-append, holds-contained, total-among, total-within, numbered-length, numbered-total}

@@ -8,8 +8,8 @@ use Rattle.std.proofs.lemmas.Map.Keys.{IsDistinct-head, IsDistinct-tail, IsDisti
 use Rattle.pw_lower.specs.declared.code.Code.{Code}
 use Rattle.pw_lower.specs.Codes.{block_of_label}
 use Rattle.pw_cmean.specs.Execution.{holds}
-use Rattle.pw_law_refine.specs.Activations.{Activation}
-use Rattle.pw_law_refine.specs.Statements.{IsOpen, AreLabelled, LieBehind}
+use Rattle.pw_law_refine_steps.specs.FromLawRefine.Activations.{Activation}
+use Rattle.pw_law_refine_steps.specs.FromLawRefine.Statements.{IsOpen, AreLabelled, LieBehind}
 use Rattle.pw_law_refine_code.specs.Ending.{IsAtLastLabel, Ends, KeepLabels}
 use Rattle.pw_law_refine_code.specs.Behind.{named_blocks}
 use Rattle.pw_law_refine_code.proofs.Totals.{look, holds-append, holds-contained, contained-held}

@@ -4,7 +4,7 @@ use Rattle.std.proofs.Common.{◌≡◌, ℕ, ◌+◌, ◌≤◌, ◌==◌, Bool
 use Rattle.std.specs.List.{AllByRecursion, IsDistinct}
 use Rattle.pw_lower.specs.declared.code.Code.{Code}
 use Rattle.pw_cmean.specs.Execution.{holds}
-use Rattle.pw_law_refine.specs.Containing.{same, given, begun}
+use Rattle.pw_law_refine_steps.specs.FromLawRefine.Containing.{same, given, begun}
 use Rattle.pw_law_refine_code.proofs.Spreads.{Spread, none}
 use Rattle.pw_law_refine_code.proofs.Totals.{total, total-append, look, holds-append}
 

@@ -7,7 +7,7 @@ use Rattle.pw_lower.specs.declared.code.Code.{Code}
 use Rattle.pw_lower.specs.declared.code.Numbered.{Numbered}
 use Rattle.pw_lower.specs.Codes.{emit, fresh, reserve, cut, cut_here, leave}
 use Rattle.pw_lower.specs.Expressions.{Home, lower}
-use Rattle.pw_law_refine.specs.Containing.{same, given, times_closed, begun, Spreads}
+use Rattle.pw_law_refine_steps.specs.FromLawRefine.Containing.{same, given, times_closed, begun, Spreads}
 
 -- ---- numbers
 

@@ -26,7 +26,7 @@ use Rattle.pw_lower.specs.Operators.{with, kind_of, bytes_of, unit_of}
 use Rattle.pw_lower.specs.Expressions.{Home, full_name, address_of_global, address_of_local, target_of_local, write, stored, copied, lower}
 use Rattle.pw_lower.specs.Statements.{inserted, labels_of, local_type, initialised_by, copied_from, initialised, initialised_all, effects, test, test_or_go, choose, default_or, chosen, begun as begun_labels, looping, repeating, counting, switching, returning, Frame, lower_statement, lower_arms, lower_otherwise, lower_statements}
 use Rattle.pw_cmean.specs.Execution.{holds}
-use Rattle.pw_law_refine.specs.Containing.{same, given, times, Spreads}
+use Rattle.pw_law_refine_steps.specs.FromLawRefine.Containing.{same, given, times, Spreads}
 use Rattle.pw_law_refine_code.specs.Opening.{open_labels, Fits}
 use Rattle.pw_law_refine_code.proofs.Spreads.{Spread, OfExpressions, none, joins, within, same_code, and, emits, adds, reserves, cuts, turns, leaves, given-more, given-two, given-three, given-four, lower-spreads as spreads_by}
 use Rattle.pw_law_refine_code.proofs.Totals.{total, look, of_list, holds-append, total-among, numbered-length, numbered-other, numbered-total, holds-contained}

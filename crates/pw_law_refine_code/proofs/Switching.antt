@@ -8,8 +8,8 @@ use Rattle.pw_lower.specs.declared.code.Code.{Code}
 use Rattle.pw_lower.specs.Codes.{block_of_label, numbered}
 use Rattle.pw_lower.specs.Statements.{labels_of}
 use Rattle.pw_cmean.specs.Execution.{holds}
-use Rattle.pw_law_refine.specs.Activations.{Activation}
-use Rattle.pw_law_refine.specs.Statements.{IsOpen, AreLabelled, LieBehind}
+use Rattle.pw_law_refine_steps.specs.FromLawRefine.Activations.{Activation}
+use Rattle.pw_law_refine_steps.specs.FromLawRefine.Statements.{IsOpen, AreLabelled, LieBehind}
 use Rattle.pw_law_refine_code.proofs.Totals.{look, holds-contained, contained-held, numbered-length, numbered-other, numbered-among}
 use Rattle.pw_law_refine_code.proofs.Opening.{split}
 use Rattle.pw_law_refine_code.proofs.StatementsSpread.{case_labels, holds-cases}

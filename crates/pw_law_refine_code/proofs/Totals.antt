@@ -10,7 +10,7 @@ use Rattle.std.proofs.lemmas.Map.Keys.{IsDistinct-head, IsDistinct-tail}
 use Rattle.std.proofs.lemmas.Option.{unwrap_or-slice_get}
 use Rattle.pw_lower.specs.Codes.{numbered}
 use Rattle.pw_cmean.specs.Execution.{holds}
-use Rattle.pw_law_refine.specs.Containing.{same, given}
+use Rattle.pw_law_refine_steps.specs.FromLawRefine.Containing.{same, given}
 use Rattle.pw_law_refine_code.proofs.Spreads.{given-more}
 
 -- ---- sums

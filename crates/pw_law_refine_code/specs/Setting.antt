@@ -9,9 +9,9 @@ use Rattle.pw_lower.specs.Codes.{temp_of, reserve, cut, cut_here, named_from}
 use Rattle.pw_lower.specs.Expressions.{lower}
 use Rattle.pw_lower.specs.Modules.{entered}
 use Rattle.pw_lower.specs.Statements.{begun, effects, test, test_or_go, initialised_all, labels_of, choose, chosen}
-use Rattle.pw_law_refine.specs.Activations.{Activation, IsActivation, Numbers, number_of, home_of}
-use Rattle.pw_law_refine.specs.Statements.{IsSet, code_behind}
-use Rattle.pw_law_refine.specs.StatementParts.{AreSet, AreArmsSet, HaveBegun}
+use Rattle.pw_law_refine_steps.specs.FromLawRefine.Activations.{Activation, IsActivation, Numbers, number_of, home_of}
+use Rattle.pw_law_refine_steps.specs.FromLawRefine.Statements.{IsSet, code_behind}
+use Rattle.pw_law_refine_steps.specs.FromLawRefine.StatementParts.{AreSet, AreArmsSet, HaveBegun}
 use Rattle.pw_law_refine_code.specs.Behind.{named_blocks}
 
 -- ---- lists, labels, blocks

@@ -16,15 +16,14 @@ ghost use Rattle.pw_lower.specs.Modules.{lowered_function};
 ghost use Rattle.pw_lower.specs.Statements.{Frame, lower_statement};
 ghost use Rattle.pw_lower.specs.declared.code.Code.{Code};
 ghost use Rattle.pw_lower.specs.declared.place.Ways.{Ways};
-ghost use Rattle.pw_law_refine.specs.Containing.{ContainsCode, Spreads};
+ghost use Rattle.pw_law_refine_steps.specs.FromLawRefine.Containing.{ContainsCode, Spreads};
 ghost use Rattle.pw_law_refine_code.specs.Ending.{Ends, KeepLabels};
 ghost use Rattle.pw_law_refine_code.specs.Functions.{code_of_body, last_block};
 ghost use Rattle.pw_run_languages.specs.Programs.{block_at};
 ghost use Rattle.pw_law_refine_code.specs.Opening.{open_labels, Fits};
 
 use pw_law_lower::later_code_keeps;
-use pw_law_refine::graphs_contain_the_parts;
-use pw_law_refine_steps::expressions_spread;
+use pw_law_refine_steps::{expressions_spread, graphs_contain_the_parts};
 
 /// The code of a well-typed statement begins only blocks whose numbers were given out since, each once, and those of its
 /// labels that are the labels of no case in it.

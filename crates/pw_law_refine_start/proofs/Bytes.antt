@@ -16,7 +16,7 @@ use Rattle.pw_cmean.specs.Worlds.{Program, ProgramModule}
 use Rattle.pw_cmean.specs.Worlds as source
 use Rattle.pw_cmean.specs.Typed.{IsByte}
 use Rattle.pw_run_languages.specs.Programs as flows
-use Rattle.pw_law_refine.specs.Standing.{Spot, Leads, ByteStands}
+use Rattle.pw_law_refine_steps.specs.FromLawRefine.Standing.{Spot, Leads, ByteStands}
 use Rattle.pw_files.proofs.Standing.{Has}
 
 -- ---- lists of which the elements are related, each to each

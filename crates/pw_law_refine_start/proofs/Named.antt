@@ -9,8 +9,8 @@ use Rattle.pw_cmean.specs.Worlds.{Program, ProgramModule, World, Callable, calla
 use Rattle.pw_cmean.specs.Worlds as source
 use Rattle.pw_run_languages.specs.Programs as flows
 use Rattle.pw_run_languages.specs.Programs.{Library, library_at, names_of, globals_of}
-use Rattle.pw_law_refine.specs.Lowerable.{IsLowerableWorld}
-use Rattle.pw_law_refine.specs.Activations.{graphs}
+use Rattle.pw_law_refine_steps.specs.FromLawRefine.Lowerable.{IsLowerableWorld}
+use Rattle.pw_law_refine_steps.specs.FromLawRefine.Activations.{graphs}
 use Rattle.pw_files.proofs.Standing.{Has, has_each, contains_by, has_split, has_map, has_map_back, has_flat_back}
 use Rattle.pw_law_refine_start.specs.Named.{IsOfLibrary, IsFoundAs}
 use Rattle.pw_law_refine_start.proofs.Lists.{found, finds, left_distinct, one_named, differs}

@@ -16,8 +16,8 @@ use Rattle.pw_cmean.specs.Worlds.{ProgramModule, World, Callable, callable, libr
 use Rattle.pw_cmean.specs.Worlds as source
 use Rattle.pw_run_languages.specs.Programs as flows
 use Rattle.pw_run_languages.specs.Programs.{names_of}
-use Rattle.pw_law_refine.specs.Lowerable.{IsLowerableWorld}
-use Rattle.pw_law_refine.specs.Activations.{graphs}
+use Rattle.pw_law_refine_steps.specs.FromLawRefine.Lowerable.{IsLowerableWorld}
+use Rattle.pw_law_refine_steps.specs.FromLawRefine.Activations.{graphs}
 use Rattle.pw_files.proofs.Standing.{Has, has_left, has_right, has_split, has_map, has_map_back, has_flat_back}
 use Rattle.pw_law_refine_start.proofs.Lists.{found, finds, bit}
 use Rattle.pw_law_refine_start.proofs.Functions.{called, name_in, calls_in, graph_there, full, same_number}

@@ -34,9 +34,9 @@ use Rattle.pw_run_languages.specs.Programs as flows
 use Rattle.pw_run_languages.specs.Programs.{globals_of, names_of}
 use Rattle.pw_law_lower.specs.Within.{AreLetters}
 use Rattle.pw_law_source.specs.Lowering.{flow_program}
-use Rattle.pw_law_refine.specs.Lowerable.{IsLowerable}
-use Rattle.pw_law_refine.specs.Standing.{Spot, Leads, ByteStands, Holds, MemoryStands}
-use Rattle.pw_law_refine.specs.Matching.{AreSmall, IsGlobalAt}
+use Rattle.pw_law_refine_steps.specs.FromLawRefine.Lowerable.{IsLowerable}
+use Rattle.pw_law_refine_steps.specs.FromLawRefine.Standing.{Spot, Leads, ByteStands, Holds, MemoryStands}
+use Rattle.pw_law_refine_steps.specs.FromLawRefine.Matching.{AreSmall, IsGlobalAt}
 use Rattle.pw_files.proofs.Standing.{Has, has_by, has_each, each_by, contains_by, has_left, has_split, has_map, has_map_back, has_flat}
 use Rattle.pw_law_refine_start.specs.Start.{in_order, start_spots}
 use Rattle.pw_law_refine_start.proofs.Lists.{has_place, first_at, none_at, position_map}

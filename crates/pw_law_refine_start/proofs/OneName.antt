@@ -12,8 +12,8 @@ use Rattle.pw_cmean.specs.Worlds.{ProgramModule, World, LibraryFunction, ExitRun
 use Rattle.pw_cmean.specs.Worlds as source
 use Rattle.pw_run_languages.specs.Programs as flows
 use Rattle.pw_run_languages.specs.Programs.{Library, names_of, globals_of}
-use Rattle.pw_law_refine.specs.Lowerable.{IsLowerableWorld}
-use Rattle.pw_law_refine.specs.Activations.{graphs}
+use Rattle.pw_law_refine_steps.specs.FromLawRefine.Lowerable.{IsLowerableWorld}
+use Rattle.pw_law_refine_steps.specs.FromLawRefine.Activations.{graphs}
 use Rattle.pw_files.proofs.Standing.{Has, has_each, has_split, has_map, has_map_back, has_flat_back}
 use Rattle.pw_law_refine_start.specs.Named.{flow_library}
 use Rattle.pw_law_refine_start.proofs.Lists.{found, finds, bit, left_distinct, once_counted}

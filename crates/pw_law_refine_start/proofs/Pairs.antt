@@ -6,8 +6,8 @@ use Rattle.std.proofs.lemmas.Simd.{map-map}
 use Rattle.std.proofs.lemmas.List.{map-append, length-map}
 use Rattle.std.proofs.lemmas.List.Concat.{flat_map-cons}
 use Rattle.pw_value.specs.Objects.{Object, object_at, no_object}
-use Rattle.pw_law_refine.specs.Standing.{Spot, In, spot_of, Holds, MemoryStands}
-use Rattle.pw_law_refine.specs.Matching.{IsGlobalAt}
+use Rattle.pw_law_refine_steps.specs.FromLawRefine.Standing.{Spot, In, spot_of, Holds, MemoryStands}
+use Rattle.pw_law_refine_steps.specs.FromLawRefine.Matching.{IsGlobalAt}
 use Rattle.pw_files.proofs.Standing.{Has, has_map_back, has_flat_back}
 use Rattle.pw_law_refine_start.specs.Start.{in_order}
 use Rattle.pw_law_refine_start.proofs.Lists.{at_place}

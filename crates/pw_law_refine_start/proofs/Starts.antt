@@ -8,10 +8,10 @@ use Rattle.pw_run.specs.Runs.{none}
 use Rattle.pw_value.specs.ProgramNames.{start_name}
 use Rattle.pw_run_languages.specs.Programs.{AreBytes, function_named}
 use Rattle.pw_run_languages.specs.FlowRun.{On, start}
-use Rattle.pw_law_refine.specs.Lowerable.{IsLowerableWorld}
-use Rattle.pw_law_refine.specs.Activations.{graphs}
-use Rattle.pw_law_refine.specs.Matching.{Matches}
-use Rattle.pw_law_refine.specs.Whole.{start_machine, StartsMatch}
+use Rattle.pw_law_refine_steps.specs.FromLawRefine.Lowerable.{IsLowerableWorld}
+use Rattle.pw_law_refine_steps.specs.FromLawRefine.Activations.{graphs}
+use Rattle.pw_law_refine_steps.specs.FromLawRefine.Matching.{Matches}
+use Rattle.pw_law_refine_steps.specs.FromLawRefine.Whole.{start_machine, StartsMatch}
 use Rattle.pw_law_refine_start.specs.Start.{start_spots}
 use Rattle.pw_law_refine_start.proofs.Functions.{start_named, main_takes_nothing}
 use Rattle.pw_law_refine_start.proofs.Objects.{stand, globals_at, all_bytes, all_small}

@@ -5,7 +5,7 @@ use Rattle.pw_lower.specs.Modules.{lowered_function}
 use Rattle.pw_cmean.specs.Worlds.{ProgramModule, World, LibraryFunction, ExitRun, GetChar, PutChar, Callable, callable, library_callable}
 use Rattle.pw_run_languages.specs.Programs as flows
 use Rattle.pw_run_languages.specs.Programs.{Library, library_at}
-use Rattle.pw_law_refine.specs.Activations.{graphs}
+use Rattle.pw_law_refine_steps.specs.FromLawRefine.Activations.{graphs}
 
 -- what the flow run has of the library
 abbrev pub flow_library : LibraryFunction → Library

@@ -1,7 +1,7 @@
 -- Where the objects of a program stand at the start.
 use Rattle.std.specs.Prelude.{ℕ, suc, List, [], ◌∷◌, map}
 use Rattle.pw_run_languages.specs.Programs.{Program, globals_of}
-use Rattle.pw_law_refine.specs.Standing.{Spot, In}
+use Rattle.pw_law_refine_steps.specs.FromLawRefine.Standing.{Spot, In}
 
 -- objects of these sizes stand each in the object of its own number, from a number on
 abbrev pub in_order : ℕ → List ℕ → List Spot

@@ -9,12 +9,12 @@ ghost use Rattle.pw_cmean.specs.Worlds.{World, Callable, function_number, functi
 ghost use Rattle.pw_cmean.specs.Typed.{IsByte};
 ghost use Rattle.pw_run_languages.specs.Programs as flows;
 ghost use Rattle.pw_run_languages.specs.FlowRun.{On, start};
-ghost use Rattle.pw_law_refine.specs.Lowerable.{IsLowerableWorld};
-ghost use Rattle.pw_law_refine.specs.Activations.{graphs};
-ghost use Rattle.pw_law_refine.specs.Standing.{MemoryStands};
-ghost use Rattle.pw_law_refine.specs.Matching.{IsGlobalAt, global_size};
-ghost use Rattle.pw_law_refine.specs.Calls.{FitShape};
-ghost use Rattle.pw_law_refine.specs.Whole.{AllPartsKeep, ProgramsKeepRuns, StartsMatch, start_machine};
+ghost use Rattle.pw_law_refine_steps.specs.FromLawRefine.Lowerable.{IsLowerableWorld};
+ghost use Rattle.pw_law_refine_steps.specs.FromLawRefine.Activations.{graphs};
+ghost use Rattle.pw_law_refine_steps.specs.FromLawRefine.Standing.{MemoryStands};
+ghost use Rattle.pw_law_refine_steps.specs.FromLawRefine.Matching.{IsGlobalAt, global_size};
+ghost use Rattle.pw_law_refine_steps.specs.FromLawRefine.Calls.{FitShape};
+ghost use Rattle.pw_law_refine_steps.specs.FromLawRefine.Whole.{AllPartsKeep, ProgramsKeepRuns, StartsMatch, start_machine};
 ghost use Rattle.pw_law_refine_start.specs.Named.{IsFoundAs};
 ghost use Rattle.pw_law_refine_start.specs.Start.{start_spots};
 

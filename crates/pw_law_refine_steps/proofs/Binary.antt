@@ -26,10 +26,10 @@ use Rattle.pw_cmean.specs.Operators as source
 use Rattle.pw_cmean.specs.Evaluation.{site, used, answer_of}
 use Rattle.pw_cmean.specs.SourceRun.{calls}
 use Rattle.pw_cmean.specs.Typed.{IsValueOf}
-use Rattle.pw_run_languages.specs.Commands.{command}
-use Rattle.pw_run_languages.specs.Values as flow
-use Rattle.pw_run_languages.specs.FlowRun.{Machine, value_in, obeys, steps}
-use Rattle.pw_run_languages.specs.FlowRun as run
+use Rattle.pw_law_source.specs.FromRunLanguages.Commands.{command}
+use Rattle.pw_law_source.specs.FromRunLanguages.Values as flow
+use Rattle.pw_law_source.specs.FromRunLanguages.FlowRun.{Machine, value_in, obeys, steps}
+use Rattle.pw_law_source.specs.FromRunLanguages.FlowRun as run
 use Rattle.pw_law_refine.specs.Standing.{Spot, Stands}
 use Rattle.pw_law_refine.specs.Activations.{Activation, Numbers, graphs, graph_of, home_of, env_of, local_temps, HaveSlots}
 use Rattle.pw_law_refine.specs.Containing.{ContainsCode}

@@ -19,8 +19,8 @@ use Rattle.pw_law_lower.specs.Kept.{Keeps}
 use Rattle.pw_cmean.specs.Acts.{State, give, ◌>>=◌}
 use Rattle.pw_cmean.specs.Evaluation.{answer_of}
 use Rattle.pw_cmean.specs.SourceRun.{calls}
-use Rattle.pw_run_languages.specs.Commands.{command}
-use Rattle.pw_run_languages.specs.FlowRun.{Machine, On, value_in, obeys, steps}
+use Rattle.pw_law_source.specs.FromRunLanguages.Commands.{command}
+use Rattle.pw_law_source.specs.FromRunLanguages.FlowRun.{Machine, On, value_in, obeys, steps}
 use Rattle.pw_law_refine.specs.Standing.{Spot, Stands}
 use Rattle.pw_law_refine.specs.Activations.{Activation, Numbers, graphs, graph_of, home_of, env_of}
 use Rattle.pw_law_refine.specs.Matching.{Related}

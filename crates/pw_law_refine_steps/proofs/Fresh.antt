@@ -16,8 +16,8 @@ use Rattle.pw_lower.specs.declared.place.LocalPlace.TheVariants.{Temp, Slot}
 use Rattle.pw_lower.specs.Places.{is_kept, places_from, places_of, temps_from, addressed_in_statement}
 use Rattle.pw_cmean.specs.Acts.{State}
 use Rattle.pw_cmean.specs.Access as source
-use Rattle.pw_run_languages.specs.Commands.{command}
-use Rattle.pw_run_languages.specs.FlowRun.{Machine, value_in, obeys, step}
+use Rattle.pw_law_source.specs.FromRunLanguages.Commands.{command}
+use Rattle.pw_law_source.specs.FromRunLanguages.FlowRun.{Machine, value_in, obeys, step}
 use Rattle.pw_law_refine.specs.Standing.{Spot, Stands}
 use Rattle.pw_law_refine.specs.Activations.{Activation, Numbers, graphs, place_in, local_temps}
 use Rattle.pw_law_refine.specs.Matching.{StandsAt, Related}

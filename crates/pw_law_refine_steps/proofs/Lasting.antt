@@ -4,7 +4,7 @@ use Rattle.std.proofs.lemmas.Bool.{cases_order}
 use Rattle.std.proofs.lemmas.List.{get_or_append_left, get_or_past}
 use Rattle.pw_value.specs.Objects.{Object, no_object, object_at}
 use Rattle.pw_cmean.specs.Acts.{State}
-use Rattle.pw_run_languages.specs.FlowRun.{Machine}
+use Rattle.pw_law_source.specs.FromRunLanguages.FlowRun.{Machine}
 use Rattle.pw_value.specs.declared.value.Value.{Value}
 use Rattle.pw_value.specs.declared.value.Value.TheVariants as V
 use Rattle.pw_value.specs.declared.value.Pointer.{Pointer}

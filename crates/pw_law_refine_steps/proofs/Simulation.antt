@@ -4,7 +4,7 @@ use Rattle.pw_cmean.specs.Worlds.{World}
 use Rattle.pw_cmean.specs.Acts as source
 use Rattle.pw_cmean.specs.Acts.{State, Outcome, Gives, Ends, Act, go_on}
 use Rattle.pw_run.specs.Runs.{End}
-use Rattle.pw_run_languages.specs.FlowRun.{Machine, Step, On, steps}
+use Rattle.pw_law_source.specs.FromRunLanguages.FlowRun.{Machine, Step, On, steps}
 use Rattle.pw_law_refine.specs.Activations.{graphs}
 use Rattle.pw_law_refine.specs.Meeting.{Stops, Counts, Meets}
 use Rattle.pw_law_refine_steps.proofs.Steps.{steps-more, events-rise}

@@ -11,11 +11,11 @@ use Rattle.pw_cmean.specs.Evaluation.{bounded_call, take_room, call_body, call}
 use Rattle.pw_cmean.specs.SourceRun.{run_body, callee, calls, finish, run_main, start_state}
 use Rattle.pw_run.specs.Runs as run
 use Rattle.pw_run.specs.Runs.{Stage, Met}
-use Rattle.pw_run_languages.specs.Commands.{command}
-use Rattle.pw_run_languages.specs.Programs as flows
-use Rattle.pw_run_languages.specs.Programs.{AreBytes, NoneForLibrary}
-use Rattle.pw_run_languages.specs.FlowRun as flow
-use Rattle.pw_run_languages.specs.FlowRun.{Machine, Step, On, Stopped, steps, goes_on, start, flow_run}
+use Rattle.pw_law_source.specs.FromRunLanguages.Commands.{command}
+use Rattle.pw_law_source.specs.FromRunLanguages.Programs as flows
+use Rattle.pw_law_source.specs.FromRunLanguages.Programs.{AreBytes, NoneForLibrary}
+use Rattle.pw_law_source.specs.FromRunLanguages.FlowRun as flow
+use Rattle.pw_law_source.specs.FromRunLanguages.FlowRun.{Machine, Step, On, Stopped, steps, goes_on, start, flow_run}
 use Rattle.pw_law_source.specs.Source.{staged, source_stages}
 use Rattle.pw_law_source.specs.Lowering.{MomentKept}
 use Rattle.pw_law_refine.specs.Lowerable.{IsLowerableWorld}

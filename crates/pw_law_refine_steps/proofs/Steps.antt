@@ -9,11 +9,11 @@ use Rattle.pw_flow.specs.declared.flow.End.TheVariants.{Jump, Branch, Return}
 use Rattle.pw_flow.specs.declared.flow.Block.{Block}
 use Rattle.pw_flow.specs.declared.flow.FlowFn.{FlowFn}
 use Rattle.pw_run.specs.Runs as run
-use Rattle.pw_run_languages.specs.Values.{binary, is_somewhere}
-use Rattle.pw_run_languages.specs.Memory.{look, poke, copy}
-use Rattle.pw_run_languages.specs.Programs.{Program, Library, GetChar, PutChar, Exit, library_at, function_named, block_at}
-use Rattle.pw_run_languages.specs.Commands.{Command, Give, Combine, Look, Poke, Copied, GetGlobal, PutGlobal, Enter, Fail, command}
-use Rattle.pw_run_languages.specs.FlowRun.{Frame, Machine, Step, On, Stopped, Astray, value_in, gives, changes, counted, get_global, put_global, depth, takes_result, calls_library, entered, calls_defined, calls, jumps, branches, returns, ends, obeys, step, goes_on, steps}
+use Rattle.pw_law_source.specs.FromRunLanguages.Values.{binary, is_somewhere}
+use Rattle.pw_law_source.specs.FromRunLanguages.Memory.{look, poke, copy}
+use Rattle.pw_law_source.specs.FromRunLanguages.Programs.{Program, Library, GetChar, PutChar, Exit, library_at, function_named, block_at}
+use Rattle.pw_law_source.specs.FromRunLanguages.Commands.{Command, Give, Combine, Look, Poke, Copied, GetGlobal, PutGlobal, Enter, Fail, command}
+use Rattle.pw_law_source.specs.FromRunLanguages.FlowRun.{Frame, Machine, Step, On, Stopped, Astray, value_in, gives, changes, counted, get_global, put_global, depth, takes_result, calls_library, entered, calls_defined, calls, jumps, branches, returns, ends, obeys, step, goes_on, steps}
 
 -- ---- steps add up
 

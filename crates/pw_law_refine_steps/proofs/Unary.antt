@@ -22,10 +22,10 @@ use Rattle.pw_cmean.specs.Operators.{outcome_of, negation, unary, unary_number}
 use Rattle.pw_cmean.specs.Evaluation.{Env, site, used, answer_of}
 use Rattle.pw_cmean.specs.SourceRun.{calls}
 use Rattle.pw_cmean.specs.Typed.{IsValueOf, IsResultOf, IsWellTyped, HoldsBytes, IfGives}
-use Rattle.pw_run_languages.specs.Commands as commands
-use Rattle.pw_run_languages.specs.Commands.{command}
-use Rattle.pw_run_languages.specs.Values as flow
-use Rattle.pw_run_languages.specs.FlowRun.{Machine, value_in, obeys, steps}
+use Rattle.pw_law_source.specs.FromRunLanguages.Commands as commands
+use Rattle.pw_law_source.specs.FromRunLanguages.Commands.{command}
+use Rattle.pw_law_source.specs.FromRunLanguages.Values as flow
+use Rattle.pw_law_source.specs.FromRunLanguages.FlowRun.{Machine, value_in, obeys, steps}
 use Rattle.pw_law_refine.specs.Standing.{Spot, Stands}
 use Rattle.pw_law_refine.specs.Activations.{Activation, IsActivation, Numbers, graphs, graph_of, home_of, env_of}
 use Rattle.pw_law_refine.specs.Containing.{ContainsCode}

@@ -11,7 +11,7 @@ use Rattle.pw_types.specs.declared.tree.BinaryOperator.{BinaryOperator}
 use Rattle.pw_types.specs.declared.tree.BinaryOperator.TheVariants.{Add, Subtract, Multiply, Divide, Remainder, ShiftLeft, ShiftRight, Less, Greater, LessEqual, GreaterEqual, Equal, NotEqual, And, ExclusiveOr, Or}
 use Rattle.pw_cmean.specs.Operators.{arithmetic, negation, number_for}
 use Rattle.pw_flow.specs.declared.flow.UnKind.TheVariants.{Neg}
-use Rattle.pw_run_languages.specs.Values as flow
+use Rattle.pw_law_source.specs.FromRunLanguages.Values as flow
 use Rattle.pw_law_refine_steps.specs.Operations.{operated}
 
 -- ---- results

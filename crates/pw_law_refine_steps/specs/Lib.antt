@@ -1,3 +1,4 @@
 pub mod Operations
 pub mod Results
 pub mod Stretches
+pub mod FromLawRefine

@@ -4,7 +4,7 @@ use Rattle.pw_value.specs.declared.value.Value.{Value}
 use Rattle.pw_types.specs.declared.tree.BinaryOperator.{BinaryOperator}
 use Rattle.pw_flow.specs.declared.flow.ExtKind.{ExtKind}
 use Rattle.pw_lower.specs.Operators.{operation_of, is_turned}
-use Rattle.pw_run_languages.specs.Values as flow
+use Rattle.pw_law_source.specs.FromRunLanguages.Values as flow
 
 -- by whether the left operand's type is signed; `>` and `>=` are done in the other order
 abbrev pub operated : BinaryOperator → Bool → ℕ → ℕ → Option Value

@@ -9,8 +9,8 @@ use Rattle.pw_lower.specs.declared.code.Code.{Code}
 use Rattle.pw_lower.specs.declared.place.LocalPlace.TheVariants.{Temp}
 use Rattle.pw_lower.specs.Codes.{emit, fresh}
 use Rattle.pw_cmean.specs.Acts.{State}
-use Rattle.pw_run_languages.specs.Commands.{command}
-use Rattle.pw_run_languages.specs.FlowRun.{Machine, On, value_in, with_temp, obeys, step}
+use Rattle.pw_law_source.specs.FromRunLanguages.Commands.{command}
+use Rattle.pw_law_source.specs.FromRunLanguages.FlowRun.{Machine, On, value_in, with_temp, obeys, step}
 use Rattle.pw_law_refine.specs.Standing.{Spot, Stands}
 use Rattle.pw_law_refine.specs.Activations.{Activation, Numbers, graphs, graph_of, place_in, local_temps}
 use Rattle.pw_law_refine.specs.Matching.{Lasts, Related}

@@ -15,9 +15,9 @@ ghost use Rattle.pw_cmean.specs.Operators.{arithmetic, is_piece, negation};
 ghost use Rattle.pw_cmean.specs.Typed.{IsNumberOf};
 ghost use Rattle.pw_lower.specs.Operators.{extension, kind_of_int};
 ghost use Rattle.pw_flow.specs.declared.flow.UnKind.TheVariants.{Neg};
-ghost use Rattle.pw_run_languages.specs.FlowRun.{Machine, On, Step, steps};
-ghost use Rattle.pw_run_languages.specs.Programs.{Program};
-ghost use Rattle.pw_run_languages.specs.Values.{unary};
+ghost use Rattle.pw_law_source.specs.FromRunLanguages.FlowRun.{Machine, On, Step, steps};
+ghost use Rattle.pw_law_source.specs.FromRunLanguages.Programs.{Program};
+ghost use Rattle.pw_law_source.specs.FromRunLanguages.Values.{unary};
 ghost use Rattle.pw_lower.specs.Expressions.{Home, lower};
 ghost use Rattle.pw_lower.specs.declared.code.Code.{Code};
 ghost use Rattle.pw_law_refine.specs.Activations.{Activation, HaveSlots, home_of};
@@ -32,7 +32,7 @@ ghost use Rattle.pw_law_refine_steps.specs.Stretches.{AreNext, StepsObey, PutsSt
 
 use pw_cmean::laws::values_have_types;
 use pw_law_lower::later_code_keeps;
-use pw_law_refine::graphs_contain_the_parts;
+pub use pw_law_refine::graphs_contain_the_parts;
 
 /// The program's law follows from the promises of its parts, where the runs start in states that match.
 pub fn programs_rest_on_parts()

@@ -23,7 +23,7 @@ use Rattle.pw_law_refine.specs.Meeting.{Meets}
 use Rattle.pw_law_refine.specs.Statements.{IsSet, IsReturning, GoesOut, HasLeft, StatementsKeep}
 use Rattle.pw_law_refine.specs.StatementParts.{HasInitialised, HaveBegun}
 use Rattle.pw_law_refine.specs.Calls.{FitShape, FirstStand, HasRun, none_in_scope, runs_body, FunctionsKeep}
-use Rattle.pw_law_refine_code.specs.Functions.{code_of_body, last_block}
+use Rattle.pw_law_refine_stmts.specs.FromLawRefineCode.Functions.{code_of_body, last_block}
 use Rattle.pw_law_refine_locals.specs.Scopes.{IsLeaving}
 use Rattle.pw_law_refine_whole.proofs.Laws.{Laws}
 use Rattle.pw_law_refine_whole.proofs.Simulation.{meets-then, meets-less, meets-here}

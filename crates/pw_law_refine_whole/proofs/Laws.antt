@@ -13,9 +13,9 @@ use Rattle.pw_run_languages.specs.Programs.{Program, block_at}
 use Rattle.pw_run_languages.specs.FlowRun.{Machine, Step, On, steps}
 use Rattle.pw_law_refine.specs.Containing.{ContainsCode}
 use Rattle.pw_law_refine_steps.specs.Stretches.{FreshOperationsReach, LastsTwice, StandsLater}
-use Rattle.pw_law_refine_code.specs.Functions.{code_of_body, last_block}
-use Rattle.pw_law_refine_code.specs.Setting.{BodiesAreSet}
-use Rattle.pw_law_refine_forms.specs.Accesses.{WritesThroughKeep, WritesStay}
+use Rattle.pw_law_refine_stmts.specs.FromLawRefineCode.Functions.{code_of_body, last_block}
+use Rattle.pw_law_refine_stmts.specs.FromLawRefineCode.Setting.{BodiesAreSet}
+use Rattle.pw_law_refine_exprs.specs.FromLawRefineForms.Accesses.{WritesThroughKeep, WritesStay}
 use Rattle.pw_law_refine_locals.specs.Scopes.{LocalsLeave}
 
 pub record Laws : Type 0 where

@@ -36,7 +36,7 @@ use Rattle.pw_law_refine.specs.Expressions.{IsReady, HasValue}
 use Rattle.pw_law_refine.specs.StatementParts.{HasInitialised}
 use Rattle.pw_law_refine.specs.Calls.{FirstStand}
 use Rattle.pw_law_refine_steps.specs.Stretches.{moved_on, StandsLater}
-use Rattle.pw_law_refine_forms.specs.Accesses.{HasStayed}
+use Rattle.pw_law_refine_exprs.specs.FromLawRefineForms.Accesses.{HasStayed}
 use Rattle.pw_law_refine_whole.proofs.Laws.{Laws}
 use Rattle.pw_law_refine_whole.proofs.Simulation.{meets-from, meets-then, meets-less, meets-here}
 use Rattle.pw_law_refine_whole.proofs.Fitting.{Fit, temps-least}

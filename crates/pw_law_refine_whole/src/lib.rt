@@ -8,13 +8,12 @@ ghost use Rattle.pw_law_refine.specs.Whole.{AllPartsKeep, ProgramsKeepRuns};
 
 use pw_law_refine::graphs_contain_the_parts;
 use pw_law_refine_calls::calls_keep;
-use pw_law_refine_code::{functions_end, parts_are_set, slots_stand};
-use pw_law_refine_exprs::expressions_rest_on_calls;
-use pw_law_refine_forms::{accesses_keep, initialisers_keep};
+use pw_law_refine_exprs::{
+    accesses_keep, expressions_rest_on_calls, initialisers_keep, parts_make_programs,
+};
 use pw_law_refine_locals::locals_keep;
-use pw_law_refine_start::parts_make_programs;
 use pw_law_refine_steps::{machines_step_on, operations_step, stretches_last};
-use pw_law_refine_stmts::statements_keep;
+use pw_law_refine_stmts::{functions_end, parts_are_set, slots_stand, statements_keep};
 
 /// Functions keep their promise at a bound where statements do: the arguments become the parameters, and the body runs.
 pub fn functions_keep()

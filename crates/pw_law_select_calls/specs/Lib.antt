@@ -1,3 +1,4 @@
 pub mod Webs
 pub mod GoingIn
 pub mod GoingBack
+pub mod FromLawSelectOps

@@ -11,6 +11,7 @@ use pw_law_select_frames::{
     webs_are_in_order,
 };
 use pw_law_select_known::webs_keep_shape;
+pub use pw_law_select_ops::operations_do;
 use pw_law_select_ops::webs_do;
 use pw_law_select_places::{places_stand, rows_pass};
 use pw_law_select_rows::{operands_are_loaded, straight_words_run};

@@ -12,11 +12,11 @@ use Rattle.pw_alloc.specs.declared.located.Place.TheVariants.{Slot, Reg}
 use Rattle.pw_alloc.specs.declared.located.Located.{Located}
 use Rattle.pw_alloc.specs.Frames.{head_size, below, temp_offset, slots_begin, last_reach, most_arguments, ops_of}
 use Rattle.pw_alloc.specs.Allocation.{slots_from, in_frame}
-use Rattle.pw_run_languages.specs.Programs.{globals_of}
-use Rattle.pw_run_languages.specs.Serving.{slots_alone, Serves}
-use Rattle.pw_run_languages.specs.Addresses.{Addresses, AreLawful}
-use Rattle.pw_run_languages.specs.Acts.{is_open}
-use Rattle.pw_run_languages.specs.LineRun.{LineProgram}
+use Rattle.pw_law_select_memory.specs.FromRunLanguages.Programs.{globals_of}
+use Rattle.pw_law_select_memory.specs.FromRunLanguages.Serving.{slots_alone, Serves}
+use Rattle.pw_law_select_memory.specs.FromRunLanguages.Addresses.{Addresses, AreLawful}
+use Rattle.pw_law_select_memory.specs.FromRunLanguages.Acts.{is_open}
+use Rattle.pw_law_select_memory.specs.FromRunLanguages.LineRun.{LineProgram}
 use Rattle.pw_law_select_rows.specs.Frames.{IsFrameWord}
 use Rattle.pw_law_select_states.specs.Frames.{words_size}
 

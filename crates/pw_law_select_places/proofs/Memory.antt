@@ -1,6 +1,6 @@
 -- The laws of words in memory, together; and what does not change where memory does not.
 use Rattle.std.proofs.Common.{ℕ, zero, suc, ◌≡◌, ◌+◌, ◌*◌, ◌^◌, ◌<◌, ◌≤◌, refl, ap₂, arith}
-use Rattle.pw_run_languages.specs.Acts.{number_at}
+use Rattle.pw_law_select_memory.specs.FromRunLanguages.Acts.{number_at}
 use Rattle.pw_law_select_memory.specs.Numbers.{StoredNumbersAreRead, OtherBytesStay, OtherNumbersStay, NumbersAreBounded, BytesStayBytes}
 use Rattle.pw_law_select_memory.specs.Stand.{NewBytesStand, OldBytesStand}
 

@@ -8,12 +8,12 @@ use Rattle.pw_value.specs.declared.value.Pointer.{Pointer}
 use Rattle.pw_value.specs.Objects.{Object, object_at, no_object, with_bytes, written}
 use Rattle.pw_inst.specs.Computing.{offset_by}
 use Rattle.pw_alloc.specs.declared.located.Place.TheVariants.{Slot}
-use Rattle.pw_run_languages.specs.Serving.{IsTempRegister}
-use Rattle.pw_run_languages.specs.Addresses.{Addresses}
-use Rattle.pw_run_languages.specs.Acts.{Core, register, number_at}
-use Rattle.pw_run_languages.specs.Standing.{ValueStands}
-use Rattle.pw_run_languages.specs.LineRun.{LineProgram}
-use Rattle.pw_run_languages.specs.PlacedRun.{Machine}
+use Rattle.pw_law_select_memory.specs.FromRunLanguages.Serving.{IsTempRegister}
+use Rattle.pw_law_select_memory.specs.FromRunLanguages.Addresses.{Addresses}
+use Rattle.pw_law_select_memory.specs.FromRunLanguages.Acts.{Core, register, number_at}
+use Rattle.pw_law_select_memory.specs.FromRunLanguages.Standing.{ValueStands}
+use Rattle.pw_law_select_memory.specs.FromRunLanguages.LineRun.{LineProgram}
+use Rattle.pw_law_select_memory.specs.FromRunLanguages.PlacedRun.{Machine}
 use Rattle.pw_law_select_memory.specs.Stand.{BytesStand}
 use Rattle.pw_law_select_states.specs.Laid.{address, Lives, size_of, AreLaid, Avoid}
 use Rattle.pw_law_select_states.specs.Frames.{words_size}

@@ -16,13 +16,13 @@ use Rattle.pw_inst.specs.Computing.{offset_by}
 use Rattle.pw_alloc.specs.declared.located.Place.{Place}
 use Rattle.pw_alloc.specs.declared.located.Place.TheVariants.{Slot, Reg}
 use Rattle.pw_alloc.specs.declared.located.Located.{Located}
-use Rattle.pw_run_languages.specs.Programs.{Program, function_at, function_number, names_of}
-use Rattle.pw_run_languages.specs.Serving.{IsTempRegister, Serves}
-use Rattle.pw_run_languages.specs.Addresses.{Addresses, AreLawful}
-use Rattle.pw_run_languages.specs.Acts.{Core, register, put, number_at, with_number}
-use Rattle.pw_run_languages.specs.Standing.{ValueStands, pointer_address}
-use Rattle.pw_run_languages.specs.LineRun.{LineProgram}
-use Rattle.pw_run_languages.specs.PlacedRun.{Frame, Machine, value_in, with_temp, with_register}
+use Rattle.pw_law_select_memory.specs.FromRunLanguages.Programs.{Program, function_at, function_number, names_of}
+use Rattle.pw_law_select_memory.specs.FromRunLanguages.Serving.{IsTempRegister, Serves}
+use Rattle.pw_law_select_memory.specs.FromRunLanguages.Addresses.{Addresses, AreLawful}
+use Rattle.pw_law_select_memory.specs.FromRunLanguages.Acts.{Core, register, put, number_at, with_number}
+use Rattle.pw_law_select_memory.specs.FromRunLanguages.Standing.{ValueStands, pointer_address}
+use Rattle.pw_law_select_memory.specs.FromRunLanguages.LineRun.{LineProgram}
+use Rattle.pw_law_select_memory.specs.FromRunLanguages.PlacedRun.{Frame, Machine, value_in, with_temp, with_register}
 use Rattle.pw_select_lines.specs.Registers.{place_of}
 use Rattle.pw_law_select_memory.specs.Numbers.{HoldsBytes}
 use Rattle.pw_law_select_memory.specs.Stand.{BytesStand, AreWords}

@@ -4,10 +4,10 @@ use Rattle.std.proofs.lemmas.Bool.{cases_lt}
 use Rattle.pw_delay.specs.declared.items.Word.{Word}
 use Rattle.pw_delay.specs.declared.items.Item.{Item}
 use Rattle.pw_delay.specs.declared.items.Item.TheVariants.{Plain}
-use Rattle.pw_run_languages.specs.Traces.{Event}
-use Rattle.pw_run_languages.specs.Addresses.{Addresses}
-use Rattle.pw_run_languages.specs.Acts.{Core, Act, Acts, Full, Fails, acts, settled}
-use Rattle.pw_run_languages.specs.LineRun.{LineProgram, Frame, Machine, Step, On, Stopped, Astray, accesses, left_behind, went_on, and_then, does, step, steps}
+use Rattle.pw_law_select_memory.specs.FromRunLanguages.Traces.{Event}
+use Rattle.pw_law_select_memory.specs.FromRunLanguages.Addresses.{Addresses}
+use Rattle.pw_law_select_memory.specs.FromRunLanguages.Acts.{Core, Act, Acts, Full, Fails, acts, settled}
+use Rattle.pw_law_select_memory.specs.FromRunLanguages.LineRun.{LineProgram, Frame, Machine, Step, On, Stopped, Astray, accesses, left_behind, went_on, and_then, does, step, steps}
 use Rattle.pw_law_select_rows.specs.Straight.{act_then, ran, noted, behind_words, StraightWordsRun}
 use Rattle.pw_law_select_rows.specs.Results.{GoThrough}
 use Rattle.pw_law_select_states.specs.Passes.{IsAmid, further, Passes}

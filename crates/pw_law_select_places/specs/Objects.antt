@@ -2,10 +2,10 @@
 use Rattle.std.specs.Prelude.{ℕ, false, ◌≡◌, ◌+◌, ◌<◌, ◌≤◌, ◌⊎◌, List, length}
 use Rattle.pw_value.specs.declared.value.Byte.{Byte}
 use Rattle.pw_value.specs.Objects.{Object, written}
-use Rattle.pw_run_languages.specs.Addresses.{Addresses}
-use Rattle.pw_run_languages.specs.Acts.{Core, register}
-use Rattle.pw_run_languages.specs.LineRun.{LineProgram}
-use Rattle.pw_run_languages.specs.PlacedRun.{Machine}
+use Rattle.pw_law_select_memory.specs.FromRunLanguages.Addresses.{Addresses}
+use Rattle.pw_law_select_memory.specs.FromRunLanguages.Acts.{Core, register}
+use Rattle.pw_law_select_memory.specs.FromRunLanguages.LineRun.{LineProgram}
+use Rattle.pw_law_select_memory.specs.FromRunLanguages.PlacedRun.{Machine}
 use Rattle.pw_law_select_memory.specs.Numbers.{HoldsBytes}
 use Rattle.pw_law_select_memory.specs.Stand.{BytesStand}
 use Rattle.pw_law_select_rows.specs.Results.{IsSteady}

@@ -4,12 +4,12 @@ use Rattle.pw_value.specs.declared.value.Value.{Value}
 use Rattle.pw_value.specs.declared.value.Pointer.{Pointer}
 use Rattle.pw_webflow.specs.ValidWebs.{HasRegister}
 use Rattle.pw_alloc.specs.declared.located.Place.TheVariants.{Reg}
-use Rattle.pw_run_languages.specs.Serving.{IsTempRegister, Serves}
-use Rattle.pw_run_languages.specs.Addresses.{Addresses, AreLawful}
-use Rattle.pw_run_languages.specs.Acts.{Core}
-use Rattle.pw_run_languages.specs.Standing.{ValueStands}
-use Rattle.pw_run_languages.specs.LineRun.{LineProgram}
-use Rattle.pw_run_languages.specs.PlacedRun.{Machine, value_in, with_temp, with_register}
+use Rattle.pw_law_select_memory.specs.FromRunLanguages.Serving.{IsTempRegister, Serves}
+use Rattle.pw_law_select_memory.specs.FromRunLanguages.Addresses.{Addresses, AreLawful}
+use Rattle.pw_law_select_memory.specs.FromRunLanguages.Acts.{Core}
+use Rattle.pw_law_select_memory.specs.FromRunLanguages.Standing.{ValueStands}
+use Rattle.pw_law_select_memory.specs.FromRunLanguages.LineRun.{LineProgram}
+use Rattle.pw_law_select_memory.specs.FromRunLanguages.PlacedRun.{Machine, value_in, with_temp, with_register}
 use Rattle.pw_select_lines.specs.Registers.{place_of}
 use Rattle.pw_law_select_memory.specs.Stand.{AreWords}
 use Rattle.pw_law_select_rows.specs.Places.{place_word}

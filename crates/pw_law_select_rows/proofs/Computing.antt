@@ -24,10 +24,10 @@ use Rattle.pw_inst.specs.declared.relocation.Symbol.{Symbol}
 use Rattle.pw_inst.specs.Registers.{stack_pointer}
 use Rattle.pw_delay.specs.declared.items.Word.{Word}
 use Rattle.pw_delay.specs.Items.{bare}
-use Rattle.pw_run_languages.specs.Values.{truth, unary, extension, number_of, on_numbers}
-use Rattle.pw_run_languages.specs.Addresses.{Addresses}
-use Rattle.pw_run_languages.specs.Acts.{Core, Acts, executed, register, with_register, symbol_address, loaded_at, stored_at}
-use Rattle.pw_run_languages.specs.LineRun.{LineProgram}
+use Rattle.pw_law_select_memory.specs.FromRunLanguages.Values.{truth, unary, extension, number_of, on_numbers}
+use Rattle.pw_law_select_memory.specs.FromRunLanguages.Addresses.{Addresses}
+use Rattle.pw_law_select_memory.specs.FromRunLanguages.Acts.{Core, Acts, executed, register, with_register, symbol_address, loaded_at, stored_at}
+use Rattle.pw_law_select_memory.specs.FromRunLanguages.LineRun.{LineProgram}
 use Rattle.pw_select_lines.specs.Registers.{word, as_word, is_near, constant, copied, address_of, frame_address}
 use Rattle.pw_select_lines.specs.Arithmetic.{unary_word, compared, binary_lines, extension_word, routine_of}
 use Rattle.pw_law_select_rows.specs.Straight.{words_of}

@@ -10,11 +10,11 @@ use Rattle.pw_inst.specs.Setting.{left_part, right_part}
 use Rattle.pw_inst.specs.Registers.{help, stack_pointer}
 use Rattle.pw_delay.specs.declared.items.Word.{Word}
 use Rattle.pw_delay.specs.Items.{bare}
-use Rattle.pw_run_languages.specs.Traces.{Event, touches}
-use Rattle.pw_run_languages.specs.Programs.{globals_of}
-use Rattle.pw_run_languages.specs.Addresses.{Addresses}
-use Rattle.pw_run_languages.specs.Acts.{Core, Act, Acts, Fails, acts, register, with_register, number_at, with_number, is_open, loads, stores}
-use Rattle.pw_run_languages.specs.LineRun.{LineProgram, accesses}
+use Rattle.pw_law_select_memory.specs.FromRunLanguages.Traces.{Event, touches}
+use Rattle.pw_law_select_memory.specs.FromRunLanguages.Programs.{globals_of}
+use Rattle.pw_law_select_memory.specs.FromRunLanguages.Addresses.{Addresses}
+use Rattle.pw_law_select_memory.specs.FromRunLanguages.Acts.{Core, Act, Acts, Fails, acts, register, with_register, number_at, with_number, is_open, loads, stores}
+use Rattle.pw_law_select_memory.specs.FromRunLanguages.LineRun.{LineProgram, accesses}
 use Rattle.pw_select_lines.specs.Registers.{Reach, word, long_constant, as_word, is_near, load_from, store_to}
 use Rattle.pw_law_select_rows.specs.Straight.{act_then, ran, noted_by, noted, words_of}
 use Rattle.pw_law_select_rows.specs.Making.{Makes}

@@ -16,11 +16,11 @@ use Rattle.pw_inst.specs.declared.relocation.Symbol.{Symbol}
 use Rattle.pw_delay.specs.declared.items.Word.{Word}
 use Rattle.pw_delay.specs.Items.{bare}
 use Rattle.pw_flow.specs.declared.flow.FlowGlobal.{FlowGlobal}
-use Rattle.pw_run_languages.specs.Traces.{Event, Loaded, Stored, touches}
-use Rattle.pw_run_languages.specs.Programs.{globals_of}
-use Rattle.pw_run_languages.specs.Addresses.{Addresses}
-use Rattle.pw_run_languages.specs.Acts.{Core, Act, Acts, acts, executed, register, put, with_register, with_address, settled, symbol_address, loaded_at, stored_at}
-use Rattle.pw_run_languages.specs.LineRun.{LineProgram, accesses}
+use Rattle.pw_law_select_memory.specs.FromRunLanguages.Traces.{Event, Loaded, Stored, touches}
+use Rattle.pw_law_select_memory.specs.FromRunLanguages.Programs.{globals_of}
+use Rattle.pw_law_select_memory.specs.FromRunLanguages.Addresses.{Addresses}
+use Rattle.pw_law_select_memory.specs.FromRunLanguages.Acts.{Core, Act, Acts, acts, executed, register, put, with_register, with_address, settled, symbol_address, loaded_at, stored_at}
+use Rattle.pw_law_select_memory.specs.FromRunLanguages.LineRun.{LineProgram, accesses}
 use Rattle.pw_select_lines.specs.Registers.{word, constant, long_constant, address_of, is_near}
 use Rattle.pw_law_select_rows.specs.Straight.{act_then, ran, noted_by, noted, words_of}
 use Rattle.pw_law_select_rows.specs.Making.{Puts, Makes}

@@ -11,10 +11,10 @@ use Rattle.pw_delay.specs.declared.items.Word.{Word}
 use Rattle.pw_delay.specs.Items.{bare}
 use Rattle.pw_alloc.specs.declared.located.Place.{Place}
 use Rattle.pw_alloc.specs.declared.located.Place.TheVariants.{Slot, Reg}
-use Rattle.pw_run_languages.specs.Traces.{Event}
-use Rattle.pw_run_languages.specs.Addresses.{Addresses}
-use Rattle.pw_run_languages.specs.Acts.{Core, Act, Acts, acts, executed, settled, register, put, number_at, with_number, loaded_at, stored_at}
-use Rattle.pw_run_languages.specs.LineRun.{LineProgram, accesses}
+use Rattle.pw_law_select_memory.specs.FromRunLanguages.Traces.{Event}
+use Rattle.pw_law_select_memory.specs.FromRunLanguages.Addresses.{Addresses}
+use Rattle.pw_law_select_memory.specs.FromRunLanguages.Acts.{Core, Act, Acts, acts, executed, settled, register, put, number_at, with_number, loaded_at, stored_at}
+use Rattle.pw_law_select_memory.specs.FromRunLanguages.LineRun.{LineProgram, accesses}
 use Rattle.pw_select_lines.specs.Registers.{operand_register, operand_lines, result_register, result_lines}
 use Rattle.pw_select_lines.specs.Arithmetic.{with_none, with_one, with_two}
 use Rattle.pw_law_select_rows.specs.Straight.{act_then, ran, noted_by, noted, words_of}

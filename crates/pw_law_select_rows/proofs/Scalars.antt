@@ -16,10 +16,10 @@ use Rattle.pw_inst.specs.declared.relocation.Symbol.TheVariants.{Named}
 use Rattle.pw_alloc.specs.declared.located.Place.{Place}
 use Rattle.pw_delay.specs.declared.items.Word.{Word}
 use Rattle.pw_delay.specs.Items.{bare}
-use Rattle.pw_run_languages.specs.Traces.{Event}
-use Rattle.pw_run_languages.specs.Addresses.{Addresses}
-use Rattle.pw_run_languages.specs.Acts.{Core, Act, Acts, Fails, acts, executed, settled, register, with_register, number_at, with_number, is_open, loads, stores}
-use Rattle.pw_run_languages.specs.LineRun.{LineProgram, accesses}
+use Rattle.pw_law_select_memory.specs.FromRunLanguages.Traces.{Event}
+use Rattle.pw_law_select_memory.specs.FromRunLanguages.Addresses.{Addresses}
+use Rattle.pw_law_select_memory.specs.FromRunLanguages.Acts.{Core, Act, Acts, Fails, acts, executed, settled, register, with_register, number_at, with_number, is_open, loads, stores}
+use Rattle.pw_law_select_memory.specs.FromRunLanguages.LineRun.{LineProgram, accesses}
 use Rattle.pw_select_lines.specs.Registers.{word, operand_register, operand_lines, load_scalar, store_scalar, sign_spread, read_global, write_global}
 use Rattle.pw_law_select_memory.specs.Stand.{word_of_kind}
 use Rattle.pw_law_select_rows.specs.Straight.{act_then, ran, noted_by, noted, words_of}

@@ -9,10 +9,10 @@ use Rattle.pw_delay.specs.declared.items.Word.{Word}
 use Rattle.pw_delay.specs.declared.items.Item.{Item}
 use Rattle.pw_delay.specs.declared.items.Item.TheVariants.{Plain}
 use Rattle.pw_delay.specs.Items.{bare, slotted, plain_item}
-use Rattle.pw_run_languages.specs.Traces.{Event}
-use Rattle.pw_run_languages.specs.Addresses.{Addresses}
-use Rattle.pw_run_languages.specs.Acts.{Core, Act, Acts, Full, Fails, acts, settled}
-use Rattle.pw_run_languages.specs.LineRun.{LineProgram, Machine, On, accesses, left_behind, went_on, does, step, steps}
+use Rattle.pw_law_select_memory.specs.FromRunLanguages.Traces.{Event}
+use Rattle.pw_law_select_memory.specs.FromRunLanguages.Addresses.{Addresses}
+use Rattle.pw_law_select_memory.specs.FromRunLanguages.Acts.{Core, Act, Acts, Full, Fails, acts, settled}
+use Rattle.pw_law_select_memory.specs.FromRunLanguages.LineRun.{LineProgram, Machine, On, accesses, left_behind, went_on, does, step, steps}
 use Rattle.pw_law_select_rows.specs.Straight.{act_then, ran, noted_by, noted, IsStraight, words_of, behind_words}
 
 pub joined : (w : Addresses) (xs ys : List Word) (c : Core) → ran w (xs ++ ys) c ≡ act_then (ran w xs c) (ran w ys)

@@ -5,10 +5,10 @@ use Rattle.pw_flow.specs.declared.flow.UnKind.{UnKind}
 use Rattle.pw_flow.specs.declared.flow.BinKind.{BinKind}
 use Rattle.pw_flow.specs.declared.flow.ExtKind.{ExtKind}
 use Rattle.pw_inst.specs.Registers.{help, result}
-use Rattle.pw_run_languages.specs.Values.{unary, extension, on_numbers}
-use Rattle.pw_run_languages.specs.Addresses.{Addresses}
-use Rattle.pw_run_languages.specs.Acts.{Core, register, symbol_address}
-use Rattle.pw_run_languages.specs.LineRun.{LineProgram}
+use Rattle.pw_law_select_memory.specs.FromRunLanguages.Values.{unary, extension, on_numbers}
+use Rattle.pw_law_select_memory.specs.FromRunLanguages.Addresses.{Addresses}
+use Rattle.pw_law_select_memory.specs.FromRunLanguages.Acts.{Core, register, symbol_address}
+use Rattle.pw_law_select_memory.specs.FromRunLanguages.LineRun.{LineProgram}
 use Rattle.pw_select_lines.specs.Registers.{word, constant, copied, address_of, frame_address}
 use Rattle.pw_select_lines.specs.Arithmetic.{unary_word, binary_lines, extension_word, routine_of}
 use Rattle.pw_inst.specs.declared.relocation.Symbol.{Symbol}

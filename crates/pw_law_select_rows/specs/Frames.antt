@@ -5,11 +5,11 @@ use Rattle.pw_flow.specs.declared.flow.FlowGlobal.{FlowGlobal}
 use Rattle.pw_inst.specs.Registers.{help, stack_pointer}
 use Rattle.pw_inst.specs.Computing.{offset_by}
 use Rattle.pw_delay.specs.declared.items.Word.{Word}
-use Rattle.pw_run_languages.specs.Traces.{Event}
-use Rattle.pw_run_languages.specs.Programs.{globals_of}
-use Rattle.pw_run_languages.specs.Addresses.{Addresses}
-use Rattle.pw_run_languages.specs.Acts.{Core, Acts, register, number_at, with_number, is_open}
-use Rattle.pw_run_languages.specs.LineRun.{LineProgram}
+use Rattle.pw_law_select_memory.specs.FromRunLanguages.Traces.{Event}
+use Rattle.pw_law_select_memory.specs.FromRunLanguages.Programs.{globals_of}
+use Rattle.pw_law_select_memory.specs.FromRunLanguages.Addresses.{Addresses}
+use Rattle.pw_law_select_memory.specs.FromRunLanguages.Acts.{Core, Acts, register, number_at, with_number, is_open}
+use Rattle.pw_law_select_memory.specs.FromRunLanguages.LineRun.{LineProgram}
 use Rattle.pw_select_lines.specs.Registers.{load_from, store_to}
 use Rattle.pw_law_select_rows.specs.Straight.{ran, words_of, noted}
 

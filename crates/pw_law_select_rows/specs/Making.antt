@@ -3,10 +3,10 @@ use Rattle.std.specs.Prelude.{ℕ, false, ◌≡◌, ◌≢◌, ◌+◌, ◌%◌
 use Rattle.pw_inst.specs.declared.Inst.{Inst}
 use Rattle.pw_inst.specs.declared.relocation.Symbol.{Symbol}
 use Rattle.pw_delay.specs.declared.items.Word.{Word}
-use Rattle.pw_run_languages.specs.Traces.{Event}
-use Rattle.pw_run_languages.specs.Addresses.{Addresses}
-use Rattle.pw_run_languages.specs.Acts.{Core, Acts, register, symbol_address, loaded_at, stored_at}
-use Rattle.pw_run_languages.specs.LineRun.{LineProgram, accesses}
+use Rattle.pw_law_select_memory.specs.FromRunLanguages.Traces.{Event}
+use Rattle.pw_law_select_memory.specs.FromRunLanguages.Addresses.{Addresses}
+use Rattle.pw_law_select_memory.specs.FromRunLanguages.Acts.{Core, Acts, register, symbol_address, loaded_at, stored_at}
+use Rattle.pw_law_select_memory.specs.FromRunLanguages.LineRun.{LineProgram, accesses}
 use Rattle.pw_select_lines.specs.Registers.{constant, address_of}
 use Rattle.pw_law_select_rows.specs.Straight.{ran, words_of, noted}
 

@@ -2,9 +2,9 @@
 use Rattle.std.specs.Prelude.{ℕ, false, ◌≡◌, ◌≢◌}
 use Rattle.pw_alloc.specs.declared.located.Place.{Place}
 use Rattle.pw_alloc.specs.declared.located.Place.TheVariants.{Slot, Reg}
-use Rattle.pw_run_languages.specs.Addresses.{Addresses}
-use Rattle.pw_run_languages.specs.Acts.{Core, register, number_at}
-use Rattle.pw_run_languages.specs.LineRun.{LineProgram}
+use Rattle.pw_law_select_memory.specs.FromRunLanguages.Addresses.{Addresses}
+use Rattle.pw_law_select_memory.specs.FromRunLanguages.Acts.{Core, register, number_at}
+use Rattle.pw_law_select_memory.specs.FromRunLanguages.LineRun.{LineProgram}
 use Rattle.pw_select_lines.specs.Registers.{operand_register, operand_lines, loaded}
 use Rattle.pw_law_select_rows.specs.Straight.{words_of}
 use Rattle.pw_law_select_rows.specs.Frames.{frame_word, IsFrameWord, LoadsWord}

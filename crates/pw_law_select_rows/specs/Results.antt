@@ -5,11 +5,11 @@ use Rattle.pw_inst.specs.declared.line.Line.{Line}
 use Rattle.pw_delay.specs.declared.items.Word.{Word}
 use Rattle.pw_alloc.specs.declared.located.Place.{Place}
 use Rattle.pw_alloc.specs.declared.located.Place.TheVariants.{Slot, Reg}
-use Rattle.pw_run_languages.specs.Traces.{Event}
-use Rattle.pw_run_languages.specs.Serving.{IsTempRegister}
-use Rattle.pw_run_languages.specs.Addresses.{Addresses}
-use Rattle.pw_run_languages.specs.Acts.{Core, Acts, register, put, with_number}
-use Rattle.pw_run_languages.specs.LineRun.{LineProgram}
+use Rattle.pw_law_select_memory.specs.FromRunLanguages.Traces.{Event}
+use Rattle.pw_law_select_memory.specs.FromRunLanguages.Serving.{IsTempRegister}
+use Rattle.pw_law_select_memory.specs.FromRunLanguages.Addresses.{Addresses}
+use Rattle.pw_law_select_memory.specs.FromRunLanguages.Acts.{Core, Acts, register, put, with_number}
+use Rattle.pw_law_select_memory.specs.FromRunLanguages.LineRun.{LineProgram}
 use Rattle.pw_select_lines.specs.Registers.{operand_register, result_register}
 use Rattle.pw_select_lines.specs.Arithmetic.{with_none, with_one, with_two}
 use Rattle.pw_law_select_rows.specs.Straight.{ran, words_of, noted}

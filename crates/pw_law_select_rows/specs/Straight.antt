@@ -8,10 +8,10 @@ use Rattle.pw_delay.specs.declared.items.Word.{Word}
 use Rattle.pw_delay.specs.declared.items.Item.{Item}
 use Rattle.pw_delay.specs.declared.items.Item.TheVariants.{Plain}
 use Rattle.pw_delay.specs.Items.{bare, slotted}
-use Rattle.pw_run_languages.specs.Traces.{Event}
-use Rattle.pw_run_languages.specs.Addresses.{Addresses}
-use Rattle.pw_run_languages.specs.Acts.{Core, Act, Acts, Full, Fails, acts, settled}
-use Rattle.pw_run_languages.specs.LineRun.{LineProgram, Machine, On, accesses, left_behind, steps}
+use Rattle.pw_law_select_memory.specs.FromRunLanguages.Traces.{Event}
+use Rattle.pw_law_select_memory.specs.FromRunLanguages.Addresses.{Addresses}
+use Rattle.pw_law_select_memory.specs.FromRunLanguages.Acts.{Core, Act, Acts, Full, Fails, acts, settled}
+use Rattle.pw_law_select_memory.specs.FromRunLanguages.LineRun.{LineProgram, Machine, On, accesses, left_behind, steps}
 
 -- ---- words
 

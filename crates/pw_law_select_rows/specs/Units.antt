@@ -7,9 +7,9 @@ use Rattle.pw_inst.specs.Registers.{help, second, first}
 use Rattle.pw_inst.specs.declared.Inst.TheVariants as i
 use Rattle.pw_inst.specs.declared.line.Line.{Line}
 use Rattle.pw_inst.specs.declared.line.Line.TheVariants.{Plain}
-use Rattle.pw_run_languages.specs.Addresses.{Addresses}
-use Rattle.pw_run_languages.specs.Acts.{Core, register, number_at, with_number, is_open}
-use Rattle.pw_run_languages.specs.LineRun.{LineProgram}
+use Rattle.pw_law_select_memory.specs.FromRunLanguages.Addresses.{Addresses}
+use Rattle.pw_law_select_memory.specs.FromRunLanguages.Acts.{Core, register, number_at, with_number, is_open}
+use Rattle.pw_law_select_memory.specs.FromRunLanguages.LineRun.{LineProgram}
 use Rattle.pw_select_lines.specs.Operations.{unit_copied}
 use Rattle.pw_law_select_rows.specs.Straight.{words_of}
 use Rattle.pw_law_select_rows.specs.Results.{GoThrough, IsSteady}

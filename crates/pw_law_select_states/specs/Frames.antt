@@ -9,10 +9,10 @@ use Rattle.pw_alloc.specs.declared.located.Located.{Located}
 use Rattle.pw_alloc.specs.Frames.{head_size, slots_begin}
 use Rattle.pw_alloc.specs.Allocation.{in_frame}
 use Rattle.pw_select.specs.Selection.{slot_offsets}
-use Rattle.pw_run_languages.specs.Addresses.{Addresses}
-use Rattle.pw_run_languages.specs.Acts.{number_at}
-use Rattle.pw_run_languages.specs.Standing.{ValueStands}
-use Rattle.pw_run_languages.specs.PlacedRun.{Frame}
+use Rattle.pw_law_select_memory.specs.FromRunLanguages.Addresses.{Addresses}
+use Rattle.pw_law_select_memory.specs.FromRunLanguages.Acts.{number_at}
+use Rattle.pw_law_select_memory.specs.FromRunLanguages.Standing.{ValueStands}
+use Rattle.pw_law_select_memory.specs.FromRunLanguages.PlacedRun.{Frame}
 use Rattle.pw_law_select_states.specs.Laid.{Avoid}
 
 -- the bytes of a frame above its slots: the head, the saved registers, the temporaries

@@ -3,9 +3,9 @@ use Rattle.std.specs.Prelude.{ℕ, true, ◌≡◌, ◌≢◌, ◌+◌, ◌%◌,
 use Rattle.pw_value.specs.declared.value.Pointer.{Pointer}
 use Rattle.pw_value.specs.Objects.{Object, object_at}
 use Rattle.pw_flow.specs.declared.flow.FlowGlobal.{FlowGlobal}
-use Rattle.pw_run_languages.specs.Programs.{Program, globals_of}
-use Rattle.pw_run_languages.specs.Addresses.{Addresses}
-use Rattle.pw_run_languages.specs.Standing.{pointer_address, GlobalsAreNamed}
+use Rattle.pw_law_select_memory.specs.FromRunLanguages.Programs.{Program, globals_of}
+use Rattle.pw_law_select_memory.specs.FromRunLanguages.Addresses.{Addresses}
+use Rattle.pw_law_select_memory.specs.FromRunLanguages.Standing.{pointer_address, GlobalsAreNamed}
 use Rattle.pw_law_select_memory.specs.Stand.{BytesStand}
 
 -- the word of a pointer

@@ -9,15 +9,15 @@ use Rattle.pw_alloc.specs.declared.located.Place.TheVariants.{Slot, Reg}
 use Rattle.pw_alloc.specs.declared.located.Located.{Located}
 use Rattle.pw_delay.specs.declared.items.Item.{Item}
 use Rattle.pw_run.specs.Runs.{AreAlike}
-use Rattle.pw_run_languages.specs.Traces.{Event}
-use Rattle.pw_run_languages.specs.Programs.{Program}
-use Rattle.pw_run_languages.specs.Addresses.{Addresses}
-use Rattle.pw_run_languages.specs.Acts.{Core, register}
-use Rattle.pw_run_languages.specs.Standing.{EventInWords}
-use Rattle.pw_run_languages.specs.LineRun.{LineProgram, Frame, Machine, On}
-use Rattle.pw_run_languages.specs.LineRun as run
-use Rattle.pw_run_languages.specs.Links.{IsFunctionCall}
-use Rattle.pw_run_languages.specs.PlacedRun as placed
+use Rattle.pw_law_select_memory.specs.FromRunLanguages.Traces.{Event}
+use Rattle.pw_law_select_memory.specs.FromRunLanguages.Programs.{Program}
+use Rattle.pw_law_select_memory.specs.FromRunLanguages.Addresses.{Addresses}
+use Rattle.pw_law_select_memory.specs.FromRunLanguages.Acts.{Core, register}
+use Rattle.pw_law_select_memory.specs.FromRunLanguages.Standing.{EventInWords}
+use Rattle.pw_law_select_memory.specs.FromRunLanguages.LineRun.{LineProgram, Frame, Machine, On}
+use Rattle.pw_law_select_memory.specs.FromRunLanguages.LineRun as run
+use Rattle.pw_law_select_memory.specs.FromRunLanguages.Links.{IsFunctionCall}
+use Rattle.pw_law_select_memory.specs.FromRunLanguages.PlacedRun as placed
 use Rattle.pw_law_select_states.specs.Laid.{Lives, size_of}
 use Rattle.pw_law_select_states.specs.States.{Stands}
 

@@ -9,8 +9,8 @@ use Rattle.pw_value.specs.declared.value.Byte.TheVariants as B
 use Rattle.pw_value.specs.declared.value.Pointer.{Pointer}
 use Rattle.pw_value.specs.declared.value.Pointer.TheVariants as P
 use Rattle.pw_value.specs.Objects.{Object, object_at, byte_at}
-use Rattle.pw_run_languages.specs.Programs.{Program, function_at}
-use Rattle.pw_run_languages.specs.PlacedRun.{Frame, Machine}
+use Rattle.pw_law_select_memory.specs.FromRunLanguages.Programs.{Program, function_at}
+use Rattle.pw_law_select_memory.specs.FromRunLanguages.PlacedRun.{Frame, Machine}
 
 -- by how many objects there have been
 abbrev pub IsKnown : Program → ℕ → Pointer → Type 0

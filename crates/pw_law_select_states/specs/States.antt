@@ -3,12 +3,12 @@ use Rattle.std.specs.Prelude.{ℕ, false, ◌≡◌, ◌^◌, ◌<◌}
 use Rattle.pw_value.specs.declared.value.Value.{Value}
 use Rattle.pw_value.specs.declared.value.Pointer.{Pointer}
 use Rattle.pw_inst.specs.Registers.{stack_pointer}
-use Rattle.pw_run_languages.specs.Programs.{Program}
-use Rattle.pw_run_languages.specs.Serving.{IsTempRegister}
-use Rattle.pw_run_languages.specs.Addresses.{Addresses}
-use Rattle.pw_run_languages.specs.Acts.{Core, register}
-use Rattle.pw_run_languages.specs.Standing.{ValueStands}
-use Rattle.pw_run_languages.specs.PlacedRun.{Machine}
+use Rattle.pw_law_select_memory.specs.FromRunLanguages.Programs.{Program}
+use Rattle.pw_law_select_memory.specs.FromRunLanguages.Serving.{IsTempRegister}
+use Rattle.pw_law_select_memory.specs.FromRunLanguages.Addresses.{Addresses}
+use Rattle.pw_law_select_memory.specs.FromRunLanguages.Acts.{Core, register}
+use Rattle.pw_law_select_memory.specs.FromRunLanguages.Standing.{ValueStands}
+use Rattle.pw_law_select_memory.specs.FromRunLanguages.PlacedRun.{Machine}
 use Rattle.pw_law_select_memory.specs.Numbers.{HoldsBytes}
 use Rattle.pw_law_select_states.specs.Laid.{address, AreLaid, BytesAreThere}
 use Rattle.pw_law_select_states.specs.Frames.{HasFrame, FrameHolds}

@@ -28,7 +28,7 @@ use Rattle.pw_run_languages.specs.Direction.{directives_of, directed_by, directe
 use Rattle.pw_run_languages.specs.Serving.{Serves, AllServe}
 use Rattle.pw_run_languages.specs.SelectionLaws.{FramesAre}
 use Rattle.pw_law_select_known.specs.Laws.{StandsIn}
-use Rattle.pw_law_select_ops.specs.Operations.{NamesAreRight}
+use Rattle.pw_law_select_calls.specs.FromLawSelectOps.Operations.{NamesAreRight}
 
 -- a function whose places serve one of the program's, as it is directed
 pub record IsFine (p : Program) (d : List (List ℕ × Directives)) (l : Located) : Type 0 where

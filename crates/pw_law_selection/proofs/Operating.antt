@@ -26,7 +26,7 @@ use Rattle.pw_run_languages.specs.SelectionLaws.{line_program}
 use Rattle.pw_law_select_states.specs.Passes.{Follows, further}
 use Rattle.pw_law_select_states.specs.Pointers.{AreKnown}
 use Rattle.pw_law_select_known.specs.Laws.{IsAccess, IsOfProgram, KeepsShape, OperationsKeepShape, OperationsNeverStop, EndsNeverStop}
-use Rattle.pw_law_select_ops.specs.Operations.{OperationsFollow}
+use Rattle.pw_law_select_calls.specs.FromLawSelectOps.Operations.{OperationsFollow}
 use Rattle.pw_law_select_frames.proofs.Amid.{behind_head}
 use Rattle.pw_law_select_frames.specs.Amid.{BothAmid, StaysInFrame, LinesGoOn, WholeStatesAreAmid, StatesAmidAreWhole, OperationsAreNext, left_of}
 use Rattle.pw_law_select_frames.specs.Extending.{KeepsObjects, FramesAreKnown}

@@ -7,7 +7,7 @@ ghost use Rattle.pw_law_selection.specs.Linking.{PassagesCome, StatesHaveLinks};
 ghost use Rattle.pw_law_selection.specs.Words.{RegistersHoldWords};
 
 use pw_law_code::code::selected_lines_are_ready;
-use pw_law_select_calls::{functions_go_in, returns_are_reached};
+use pw_law_select_calls::{functions_go_in, operations_do, returns_are_reached};
 use pw_law_select_frames::{
     answers_are_taken, block_ends_go_on, calls_are_noted_alike, calls_are_reached,
     frames_are_laid_out, functions_are_entered, functions_come_back, library_does_alike,
@@ -22,7 +22,6 @@ use pw_law_select_known::{
     operations_keep_shape, pointers_are_known,
 };
 use pw_law_select_memory::numbers_are_stored;
-use pw_law_select_ops::operations_do;
 use pw_law_select_start::runs_start;
 
 /// A whole state has return addresses in memory, and so has each state on the way through lines that call nothing.

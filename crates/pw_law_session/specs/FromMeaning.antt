@@ -1,2 +1,3 @@
 -- The definitions of pw_law_meaning that crates above name.
+pub use Rattle.pw_law_meaning.specs.FromLawWhole
 pub use Rattle.pw_law_meaning.specs.Meaning

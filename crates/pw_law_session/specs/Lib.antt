@@ -1,4 +1,6 @@
 pub mod FromMeaning
+pub mod FromBuildLaws
 pub mod Full
 pub mod Whole
 pub mod History
+pub mod FromSession

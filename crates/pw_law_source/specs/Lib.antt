@@ -1,3 +1,4 @@
 pub mod Source
 pub mod Lowering
 pub mod Accepting
+pub mod FromRunLanguages

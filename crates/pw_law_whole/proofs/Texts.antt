@@ -10,7 +10,7 @@ use Rattle.pw_check_rules.specs.Checks.{Checks, checked}
 use Rattle.pw_check_walk.specs.declared.constraints.CheckFault.{CheckFault}
 use Rattle.pw_front_end.specs.Fronts.{FrontEnd, FrontEndAnswers, front_end_of}
 use Rattle.pw_lower.specs.Modules.{lowered}
-use Rattle.pw_phase_one.specs.FirstPhase.{Phase, CompilesTo, Compiles, compiled}
+use Rattle.pw_build.specs.FromPhaseOne.FirstPhase.{Phase, CompilesTo, Compiles, compiled}
 use Rattle.pw_object.specs.declared.object.Object.{Object}
 use Rattle.pw_store_modules.specs.Modules.{Source}
 use Rattle.pw_build_opts.specs.declared.opts.Opts.{Opts}

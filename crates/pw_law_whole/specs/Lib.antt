@@ -1,1 +1,3 @@
+pub mod FromAnalysis
+pub mod FromLayers
 pub mod Programs

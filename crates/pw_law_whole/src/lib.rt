@@ -13,6 +13,7 @@ ghost use Rattle.pw_cmean.specs.Worlds.{Program};
 ghost use Rattle.pw_law_layers.specs.Whole.{FramesFit, image_of};
 ghost use Rattle.pw_law_whole.specs.Programs.{HavePlainNames, HoldsWith, IsProgramOf, IsWholeWith};
 
+use pw_build::phase_one_is_exact;
 use pw_check_rules::checks_is_exact;
 use pw_colour::laws::databases_are_lawful;
 use pw_db::laws::directives_are_one;
@@ -22,7 +23,6 @@ use pw_law_direction::first_places_serve;
 use pw_law_layers::{frames_are_within_rooms, lowered_have_rooms, lowering_implements};
 use pw_law_lowering::{checked_is_accepted, lowering_keeps_runs};
 use pw_law_selection::selection_keeps_runs;
-use pw_phase_one::laws::phase_one_is_exact;
 use pw_store_modules::modules_are_exact;
 
 /// The texts of a full build that gives parts have a program, and texts have at most one.

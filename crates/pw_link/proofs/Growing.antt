@@ -9,8 +9,8 @@ use Rattle.pw_link_interface.specs.Interface.{interface}
 use Rattle.pw_inst.specs.Limits.{routine_count}
 use Rattle.pw_inst.specs.declared.relocation.Fix.{Fix}
 use Rattle.pw_flow.specs.declared.flow.FlowGlobal.{FlowGlobal}
-use Rattle.pw_object.specs.declared.functions.ObjectFn.{ObjectFn}
-use Rattle.pw_object.specs.declared.object.Object.{Object}
+use Rattle.pw_link_interface.specs.FromObject.ObjectFn.{ObjectFn}
+use Rattle.pw_link_interface.specs.FromObject.Object.{Object}
 use Rattle.pw_milli.specs.declared.routine.Routine.{Routine}
 use Rattle.pw_value.specs.Names.{IsNameLength}
 use Rattle.pw_milli.specs.Library.{listed, routines}

@@ -16,7 +16,7 @@ use Rattle.pw_inst.specs.declared.relocation.Symbol.{Symbol}
 use Rattle.pw_inst.specs.declared.relocation.Symbol.TheVariants.{Named, Word, StackLimit, Routine}
 use Rattle.pw_flow.specs.declared.flow.Item.{Item}
 use Rattle.pw_flow.specs.declared.flow.Item.TheVariants.{Bytes, Address}
-use Rattle.pw_object.specs.declared.object.Object.{Object}
+use Rattle.pw_link_interface.specs.FromObject.Object.{Object}
 use Rattle.pw_image.specs.declared.image.DataItem.{DataItem}
 use Rattle.pw_image.specs.declared.image.Memory.{Memory}
 use Rattle.pw_image.specs.declared.image.Image.{Image}

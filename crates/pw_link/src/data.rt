@@ -9,7 +9,7 @@ ghost use Rattle.pw_flow.specs.ValidFlow.{global_room};
 ghost use Rattle.pw_link.specs.Views.{standing_view};
 
 use pw_flow::FlowGlobal;
-use pw_object::Object;
+use pw_link_interface::Object;
 use pw_value::slot_room;
 use std::alloc::{AllocError, Global};
 

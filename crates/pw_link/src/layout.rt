@@ -21,7 +21,7 @@ use pw_flow::FlowGlobal;
 use pw_image::{Image, Memory, data_start};
 use pw_inst::ROUTINE_COUNT;
 use pw_items::Items;
-use pw_object::Object;
+use pw_link_interface::Object;
 use pw_value::limits::{MEMORY_SIZE, WORD_LIMIT};
 use pw_value::program_names::START;
 use pw_value::{LinkFault, stack_start};

@@ -7,9 +7,8 @@ ghost use Rattle.pw_link.specs.Linking.{linked, AreLinked, IsRefusal};
 
 use crate::layout::laid_out;
 use pw_image::Image;
-use pw_link_interface::interfaces;
+use pw_link_interface::{Object, interfaces};
 use pw_link_rules::check_program;
-use pw_object::Object;
 use pw_value::LinkFault;
 use std::alloc::{AllocError, Global};
 

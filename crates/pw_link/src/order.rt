@@ -5,7 +5,7 @@ ghost use Rattle.std.specs.List.{position_or_len};
 ghost use Rattle.pw_value.specs.Names.{is_before};
 ghost use Rattle.pw_link.specs.Layout.{inserted, in_order};
 
-use pw_object::Object;
+use pw_link_interface::Object;
 use std::alloc::{AllocError, Global};
 
 /// How many of the objects stand before the first whose module's name is behind that of `object`.

@@ -9,8 +9,8 @@ ghost use Rattle.pw_link.specs.Layout.{piece_of, routine_piece, routine_pieces, 
 ghost use Rattle.pw_link.specs.Views.{piece_view, placed_view};
 
 use pw_inst::Fix;
+use pw_link_interface::{Object, ObjectFn};
 use pw_milli::library;
-use pw_object::{Object, ObjectFn};
 use pw_value::Name;
 use pw_value::limits::TEXT_START;
 use std::alloc::{AllocError, Global};

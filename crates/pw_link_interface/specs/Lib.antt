@@ -1,1 +1,2 @@
+pub mod FromObject
 pub mod Interface

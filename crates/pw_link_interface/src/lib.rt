@@ -7,3 +7,4 @@ mod objects;
 mod used;
 
 pub use objects::interfaces;
+pub use pw_object::{Object, ObjectFn};

@@ -1,6 +1,6 @@
 -- What stands in a memory over which items of data are written, byte by byte.
 use Rattle.std.proofs.Common.{ℕ, ◌+◌, ◌-◌, ◌<◌, ◌≤◌, ◌≡◌, inl, inr, List, [], ◌∷◌, ◌++◌, length, take, drop, get_or, sym, ap, subst, ◌∙◌, refl, arith, length-append, length-drop}
-use Rattle.std.proofs.lemmas.List.{take-append-drop, length-take, length-take-le, get_or-take, get_or-append-add, get_or-replicate, length-replicate}
+use Rattle.std.proofs.lemmas.List.{take-append-drop, length-take, length-take-le, get_or-take, get_or-append-add, get_or-replicate}
 use Rattle.std.proofs.Math.ListN.{get_or-append}
 use Rattle.std.specs.List.{AllByRecursion}
 use Rattle.pw_value.specs.Limits.{text_start, memory_size}
@@ -9,7 +9,7 @@ use Rattle.pw_image.specs.declared.image.Memory.{Memory}
 use Rattle.pw_image.specs.Image.{IsMemory, AreItems, free_behind}
 use Rattle.pw_machine.specs.Core.{word_at}
 use Rattle.pw_machine.specs.Start.{overwritten, with_items, bytes_of, zeros, data_start_of, start_memory, IsOutside}
-use Rattle.pw_machine.proofs.Memories.{length-bytes_of}
+use Rattle.pw_machine.proofs.Memories.{length-bytes_of, length-zeros}
 
 -- ---- bytes that are written over a memory
 
@@ -97,10 +97,6 @@ inside_items memory a size free (j ∷ before) after i k are room within =
 zero_at : (n p : ℕ) → p < n → get_or (zeros n) p 0 ≡ 0
 unfolding zeros
 zero_at n p lt = get_or-replicate n p 0 0 lt
-
-length-zeros : (n : ℕ) → length (zeros n) ≡ n
-unfolding zeros
-length-zeros n = length-replicate n 0
 
 item_placed : (blank : List ℕ) (m : Memory) (before after : List DataItem) (i : DataItem) (k : ℕ) → length blank ≡ memory_size → IsMemory m → m.items ≡ before ++ i ∷ after → k < length i.bytes
     → get_or (with_items (overwritten blank text_start (bytes_of m.words)) (data_start_of m.words) m.items) (data_start_of m.words + i.offset + k) 0 ≡ get_or i.bytes k 0

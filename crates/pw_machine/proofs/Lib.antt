@@ -6,3 +6,4 @@ pub mod Memories
 pub mod Loaded
 pub mod Items
 pub mod Data
+pub mod Text

@@ -1,6 +1,6 @@
 -- Words that stand in a memory.
-use Rattle.std.proofs.Common.{ℕ, zero, suc, ◌+◌, ◌*◌, ◌^◌, ◌<◌, ◌≤◌, ◌≡◌, List, [], ◌∷◌, ◌++◌, length, take, drop, get_or, refl, sym, ap, subst, ◌∙◌, arith, length-append, length-drop}
-use Rattle.std.proofs.lemmas.List.{take-append-drop, length-take-le, get_or-append-add, length-replicate}
+use Rattle.std.proofs.Common.{ℕ, zero, suc, ◌+◌, ◌*◌, ◌^◌, ◌<◌, ◌≤◌, ◌≡◌, List, [], ◌∷◌, ◌++◌, length, take, drop, get_or, refl, sym, ap, subst, ◌∙◌, arith, length-append}
+use Rattle.std.proofs.lemmas.List.{take-append-drop, length-take-le, get_or-append-add}
 use Rattle.std.proofs.Math.ListN.{get_or-append}
 use Rattle.std.specs.Int.{to_be_bytes, w32}
 use Rattle.pw_value.specs.Limits.{text_start, word_limit, memory_size}
@@ -8,7 +8,8 @@ use Rattle.pw_machine.specs.Core.{word_at}
 use Rattle.pw_image.specs.declared.image.DataItem.{DataItem}
 use Rattle.pw_machine.specs.Start.{overwritten, with_items, bytes_of, start_memory, zeros, data_start_of}
 use Rattle.pw_machine.proofs.Data.{word_below_items}
-use Rattle.pw_machine.proofs.Memories.{length-bytes_of}
+use Rattle.pw_machine.proofs.Memories.{length-bytes_of, length-zeros}
+pub use Rattle.pw_pages.proofs.Overwriting.{length-overwritten}
 
 pub word_at_front : (xs ys : List ℕ) (k : ℕ) → k + 4 ≤ length xs → word_at (xs ++ ys) k ≡ word_at xs k
 word_at_front xs ys k fits =
@@ -28,11 +29,6 @@ word_at_back xs ys k =
     let c : get_or (xs ++ ys) (n + k + 2) 0 ≡ get_or ys (k + 2) 0 = at (k + 2) (n + k + 2) (omega arith) in
     let d : get_or (xs ++ ys) (n + k + 2 + 1) 0 ≡ get_or ys (k + 2 + 1) 0 = at (k + 2 + 1) (n + k + 2 + 1) (omega arith) in
     cc
-
-pub length-overwritten : (memory : List ℕ) (a : ℕ) (bytes : List ℕ) → a + length bytes ≤ length memory → length (overwritten memory a bytes) ≡ length memory
-length-overwritten memory a bytes fits =
-    let le : a ≤ length memory = omega arith in
-    omega (arith, length-append (take a memory ++ bytes) (drop (a + length bytes) memory), length-append (take a memory) bytes, length-take-le a memory le, length-drop (a + length bytes) memory)
 
 -- a word among the bytes that were written
 pub word_at_inside : (memory : List ℕ) (a : ℕ) (bytes : List ℕ) (k : ℕ) → a ≤ length memory → k + 4 ≤ length bytes → word_at (overwritten memory a bytes) (a + k) ≡ word_at bytes k
@@ -80,10 +76,6 @@ word_at_bytes_of (word ∷ words) (suc i) lt small =
     let less : i < length words = omega arith in
     subst (λ (n : ℕ). word_at (to_be_bytes w32 word ++ bytes_of words) n ≡ get_or words i 0) place
     (word_at_back (to_be_bytes w32 word) (bytes_of words) (4 * i) ∙ word_at_bytes_of words i less small)
-
-length-zeros : (n : ℕ) → length (zeros n) ≡ n
-unfolding zeros
-length-zeros n = length-replicate n 0
 
 placed : (words : List ℕ) (items : List DataItem) (i : ℕ) (memory : List ℕ) → length memory ≡ memory_size → length words ≤ word_limit → i < length words → get_or words i 0 < 2 ^ 32 → word_at (with_items (overwritten memory text_start (bytes_of words)) (data_start_of words) items) (text_start + 4 * i) ≡ get_or words i 0
 placed words items i memory size few lt small =

@@ -1,7 +1,9 @@
 -- The state of the machine, apart from its input and output: registers, the two program counters, the
 -- nullify bit, the shift amount register and the memory, as PA-RISC 1.1 has them.
-use Rattle.std.specs.Prelude.{ℕ, ◌+◌, ◌*◌, ◌/◌, ◌%◌, ◌^◌, List, Option, Bool, false, ◌==◌, slice_index, slice_set, if◌then◌else◌}
+use Rattle.std.specs.Prelude.{ℕ, ◌+◌, ◌%◌, ◌^◌, List, Option, Bool, false, ◌==◌, slice_index, slice_set, if◌then◌else◌}
 use Rattle.pw_machine.specs.declared.ends.End.{End}
+-- memory, big-endian
+pub use Rattle.pw_pages.specs.Bytes.{byte_at, half_at, word_at, with_byte, with_half, with_word}
 
 pub record Core : Type 0 where
   -- the 32 general registers, each a word
@@ -45,25 +47,3 @@ moved core after nullify = record core { front = core.back; back = after; nullif
 -- the same with no branch
 abbrev pub advanced : Core → Core
 advanced core = moved core (next core) false
-
--- ---- memory, big-endian: the byte at the lowest address is the highest
-
-abbrev pub byte_at : List ℕ → ℕ → ℕ
-byte_at memory a = slice_index memory a
-
-abbrev pub half_at : List ℕ → ℕ → ℕ
-half_at memory a = byte_at memory a * 2 ^ 8 + byte_at memory (a + 1)
-
-abbrev pub word_at : List ℕ → ℕ → ℕ
-word_at memory a = half_at memory a * 2 ^ 16 + half_at memory (a + 2)
-
--- the memory after the low byte, the low half word or the whole of a word is stored at an address
-
-abbrev pub with_byte : List ℕ → ℕ → ℕ → List ℕ
-with_byte memory a value = slice_set memory a (value % 2 ^ 8)
-
-abbrev pub with_half : List ℕ → ℕ → ℕ → List ℕ
-with_half memory a value = with_byte (with_byte memory a (value / 2 ^ 8)) (a + 1) value
-
-abbrev pub with_word : List ℕ → ℕ → ℕ → List ℕ
-with_word memory a value = with_half (with_half memory a (value / 2 ^ 16)) (a + 2) value

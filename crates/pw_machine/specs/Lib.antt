@@ -3,10 +3,12 @@
 -- Run: one step over input and output, and runs of many steps.
 -- Start: the state in which a program begins.
 -- Stops: what a call of `run` answers.
+-- Decoded: the text of a memory, decoded once.
 -- Outcomes: what the code of a step answers.
 pub mod Core
 pub mod Effect
 pub mod Start
 pub mod Run
 pub mod Stops
+pub mod Decoded
 pub mod Outcomes

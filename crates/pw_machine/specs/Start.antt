@@ -1,6 +1,5 @@
 -- The state in which a program begins: its words as text, its data, and a stack above them.
-use Rattle.std.specs.Prelude.{ℕ, ◌+◌, ◌%◌, ◌^◌, ◌<◌, ◌≤◌, ◌⊎◌, List, [], ◌∷◌, ◌++◌, length, take, drop, replicate, None, false, slice_set}
-use Rattle.std.specs.Int.{to_be_bytes, w32}
+use Rattle.std.specs.Prelude.{ℕ, ◌+◌, ◌%◌, ◌^◌, ◌<◌, ◌≤◌, ◌⊎◌, List, [], ◌∷◌, length, replicate, None, false, slice_set}
 use Rattle.pw_inst.specs.Registers.{stack_pointer}
 use Rattle.pw_value.specs.Limits.{text_start, memory_size}
 use Rattle.pw_value.specs.Rounding.{stack_start}
@@ -8,14 +7,9 @@ use Rattle.pw_image.specs.declared.image.DataItem.{DataItem}
 use Rattle.pw_image.specs.declared.image.Memory.{Memory}
 use Rattle.pw_image.specs.Image.{data_start}
 use Rattle.pw_machine.specs.Core.{Core}
-
--- n zeros
-unfoldable pub zeros : ℕ → List ℕ
-zeros n = replicate n 0
-
--- a list with bytes written over it from an address on
-abbrev pub overwritten : List ℕ → ℕ → List ℕ → List ℕ
-overwritten memory a bytes = take a memory ++ bytes ++ drop (a + length bytes) memory
+-- bytes and words that are written over a memory
+pub use Rattle.pw_pages.specs.Bytes.{overwritten, bytes_of}
+unfoldable pub use Rattle.pw_pages.specs.Bytes.{zeros}
 
 -- a list with items of data written over it, each at its offset from an address
 abbrev pub with_items : List ℕ → ℕ → List DataItem → List ℕ
@@ -25,11 +19,6 @@ with_items memory a (i ∷ items) = with_items (overwritten memory (a + i.offset
 -- a place outside an item, whose offset is from an address
 abbrev pub IsOutside : ℕ → ℕ → DataItem → Type 0
 IsOutside a place i = (place < a + i.offset) ⊎ (a + i.offset + length i.bytes ≤ place)
-
--- the bytes of words, one word after another, the highest byte of a word first
-abbrev pub bytes_of : List ℕ → List ℕ
-bytes_of [] = []
-bytes_of (word ∷ words) = to_be_bytes w32 word ++ bytes_of words
 
 -- The data begin at the first multiple of 8 after the text.
 abbrev pub data_start_of : List ℕ → ℕ

@@ -7,9 +7,9 @@ ghost use Rattle.pw_machine.specs.Outcomes.{Does};
 
 use crate::ends::Halt;
 use crate::processor::{Outcome, Processor};
-use pw_inst::{Inst, decode};
+use pw_inst::Inst;
 
-/// One step: looks at front, and does what the word there says. One word is decoded, and no memory is taken.
+/// One step: looks at front, and does what the word there says. No memory is taken.
 #[tactic(auto, unfolding(crate::specs::Effect::effect_of))]
 #[inline(always)]
 pub(crate) fn step(p: &mut Processor) -> Outcome
@@ -23,7 +23,7 @@ pub(crate) fn step(p: &mut Processor) -> Outcome
         p.advance();
         return Outcome::Goes;
     }
-    match decode(p.word_at(front)) {
+    match p.instruction_at(front) {
         None => p.halt(Halt::Illegal),
         Some(inst) => execute(p, inst),
     }

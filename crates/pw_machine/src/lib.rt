@@ -11,7 +11,6 @@ mod ends;
 mod execute;
 mod laws;
 mod machine;
-mod memory;
 mod processor;
 mod run;
 mod start;

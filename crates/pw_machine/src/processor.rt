@@ -1,15 +1,18 @@
-// The processor: the machine apart from its input and output. One step of it is `step`.
+// The processor: the machine apart from its input and output. One step of it is `step`. The text is decoded once,
+// when a program starts: no store reaches it.
 
-ghost use Rattle.std.specs.Prelude.{◌≡◌, ◌+◌, ◌-◌, ◌*◌, ◌^◌, ◌%◌, ◌<◌, ◌≤◌, IfNone, IfOk, length};
+ghost use Rattle.std.specs.Prelude.{◌≡◌, ◌+◌, ◌-◌, ◌*◌, ◌^◌, ◌%◌, ◌<◌, ◌≤◌, IfNone, IfOk, IfSome, length};
 ghost use Rattle.std.specs.Bool.{OnTrue};
-ghost use Rattle.pw_value.specs.Limits.{word_limit, memory_size};
+ghost use Rattle.pw_value.specs.Limits.{word_limit, text_start, memory_size};
 ghost use Rattle.pw_inst.specs.Registers.{argument_register};
+ghost use Rattle.pw_inst.specs.InstructionTable.{IsInRange, decoded};
 
 use crate::ends::{End, Halt};
-use crate::{bits, memory, start};
+use crate::{bits, start};
 use pw_image::{DataItem, data_start};
 use pw_inst::{ANSWER, ARGUMENT, Inst, ROUTINE_LINK, STACK_POINTER};
 use pw_io::NoMemory;
+use pw_pages::{PAGE_BYTES, Pages};
 use pw_value::limits::{MEMORY_SIZE, TEXT_START};
 use std::alloc::Global;
 use std::marker::Model;
@@ -30,22 +33,25 @@ pub struct Processor {
     back: u32,
     nullify: bool,
     shift: u32,
-    memory: Vec<u8>,
+    memory: Pages,
+    // what stands for each word of the text
+    code: Vec<Option<Inst>>,
     text: u32,
     data_start: u32,
     stopped: Option<End>,
 }
 
 impl Model for Processor {
-    ghost use Rattle.std.specs.Prelude.{◌≡◌, ◌<◌, ◌≤◌, vec_len, slice_index};
-    ghost use Rattle.pw_value.specs.Limits.{word_limit, memory_size};
+    ghost use Rattle.std.specs.Prelude.{◌≡◌, ◌+◌, ◌*◌, ◌<◌, ◌≤◌, length, vec_len, slice_index};
+    ghost use Rattle.pw_value.specs.Limits.{word_limit, text_start, memory_size};
     ghost use Rattle.pw_machine.specs.Core.{Core};
+    ghost use Rattle.pw_machine.specs.Decoded.{IsTextOf};
 
     ghost Value = { Core };
 
-    ghost view = { λ p. record { registers = p.registers; front = p.front; back = p.back; nullify = p.nullify; shift = p.shift; memory = p.memory.items; text = p.text; data_start = p.data_start; stopped = p.stopped } };
+    ghost view = { λ p. record { registers = p.registers; front = p.front; back = p.back; nullify = p.nullify; shift = p.shift; memory = p.memory; text = p.text; data_start = p.data_start; stopped = p.stopped } };
 
-    ghost invariant = { λ p. (slice_index p.registers 0 ≡ 0) × (p.shift < 32) × (vec_len p.memory ≡ memory_size) × (p.text ≤ word_limit) };
+    ghost invariant = { λ p. (slice_index p.registers 0 ≡ 0) × (p.shift < 32) × (length p.memory ≡ memory_size) × (p.text ≤ word_limit) × (vec_len p.code ≡ p.text) × (text_start + 4 * p.text ≤ p.data_start) × IsTextOf p.memory p.code.items };
 }
 
 impl Processor {
@@ -71,8 +77,9 @@ impl Processor {
         let data_start = data_start(text) as u32;
         let mut registers = [0; 32];
         registers[STACK_POINTER as usize] = start::stack_start(data_start + data_size);
-        let mut memory = start::blank(alloc, MEMORY_SIZE as usize)?;
-        start::put_words(&mut memory, TEXT_START as usize, words);
+        let code = start::decoded(alloc, words)?;
+        let mut memory = Pages::blank(alloc, MEMORY_SIZE as usize / PAGE_BYTES)?;
+        memory.put_words(TEXT_START as usize, words);
         start::put_items(&mut memory, data_start as usize, data_size, items);
         Ok(Processor {
             registers,
@@ -81,6 +88,7 @@ impl Processor {
             nullify: false,
             shift: 0,
             memory,
+            code,
             text,
             data_start,
             stopped: None,
@@ -173,7 +181,9 @@ impl Processor {
         requires small { size ≤ 4 }
         requires positive { 0 < size }
         ensures fault { result ≡ access_fault self.now a size stores }
+        ensures aligned { IfNone result (a % size ≡ 0) }
         ensures within { IfNone result (a + size ≤ memory_size) }
+        ensures above_text { IfNone result (OnTrue stores (self.now.data_start ≤ a)) }
     {
         if a % size != 0 {
             return Some(Halt::Unaligned);
@@ -191,9 +201,23 @@ impl Processor {
     #[inline(always)]
     pub(crate) fn is_in_text(&self, a: u32) -> bool
         ensures inside { result ≡ is_in_text self.now a }
-        ensures within { OnTrue result (a + 4 ≤ memory_size) }
+        ensures aligned { OnTrue result (a % 4 ≡ 0) }
+        ensures above { OnTrue result (text_start ≤ a) }
+        ensures below { OnTrue result (a < text_start + 4 * self.now.text) }
     {
         a % 4 == 0 && TEXT_START <= a && a < TEXT_START + 4 * self.text
+    }
+
+    /// The instruction of the word at an address of the text, if it is one.
+    #[inline(always)]
+    pub(crate) fn instruction_at(&self, a: u32) -> Option<Inst>
+        requires aligned { a % 4 ≡ 0 }
+        requires above { text_start ≤ a }
+        requires below { a < text_start + 4 * self.now.text }
+        ensures table { result ≡ decoded (word_at self.now.memory a) }
+        ensures in_range { IfSome result IsInRange }
+    {
+        self.code[(a - TEXT_START) as usize / 4]
     }
 
     /// The byte at an address.
@@ -202,52 +226,59 @@ impl Processor {
         requires { a < memory_size }
         ensures { result ≡ byte_at self.now.memory a }
     {
-        memory::byte_at(&self.memory, a as usize)
+        self.memory.byte_at(a as usize)
     }
 
-    /// The half word at an address.
+    /// The half word at an even address.
     #[inline(always)]
     fn half_at(&self, a: u32) -> u32
-        requires { a + 2 ≤ memory_size }
+        requires aligned { a % 2 ≡ 0 }
+        requires within { a + 2 ≤ memory_size }
         ensures { result ≡ half_at self.now.memory a }
     {
-        memory::half_at(&self.memory, a as usize)
+        self.memory.half_at(a as usize)
     }
 
-    /// The word at an address.
+    /// The word at an address that is a multiple of 4.
     #[inline(always)]
     pub(crate) fn word_at(&self, a: u32) -> u32
-        requires { a + 4 ≤ memory_size }
+        requires aligned { a % 4 ≡ 0 }
+        requires within { a + 4 ≤ memory_size }
         ensures { result ≡ word_at self.now.memory a }
     {
-        memory::word_at(&self.memory, a as usize)
+        self.memory.word_at(a as usize)
     }
 
-    /// Puts the low byte of a word at an address.
+    /// Puts the low byte of a word at an address behind the text.
     #[inline(always)]
     fn put_byte(&mut self, a: u32, value: u32)
-        requires { a < memory_size }
+        requires within { a < memory_size }
+        requires above_text { self.old.data_start ≤ a }
         ensures { self.new ≡ record self.old { memory = with_byte self.old.memory a value } }
     {
-        memory::put_byte(&mut self.memory, a as usize, value);
+        self.memory.put_byte(a as usize, value);
     }
 
-    /// Puts the low half word of a word at an address.
+    /// Puts the low half word of a word at an even address behind the text.
     #[inline(always)]
     fn put_half(&mut self, a: u32, value: u32)
-        requires { a + 2 ≤ memory_size }
+        requires aligned { a % 2 ≡ 0 }
+        requires within { a + 2 ≤ memory_size }
+        requires above_text { self.old.data_start ≤ a }
         ensures { self.new ≡ record self.old { memory = with_half self.old.memory a value } }
     {
-        memory::put_half(&mut self.memory, a as usize, value);
+        self.memory.put_half(a as usize, value);
     }
 
-    /// Puts a word at an address.
+    /// Puts a word at an address behind the text that is a multiple of 4.
     #[inline(always)]
     fn put_word(&mut self, a: u32, value: u32)
-        requires { a + 4 ≤ memory_size }
+        requires aligned { a % 4 ≡ 0 }
+        requires within { a + 4 ≤ memory_size }
+        requires above_text { self.old.data_start ≤ a }
         ensures { self.new ≡ record self.old { memory = with_word self.old.memory a value } }
     {
-        memory::put_word(&mut self.memory, a as usize, value);
+        self.memory.put_word(a as usize, value);
     }
 
     /// LDB.

@@ -1,58 +1,39 @@
-// The start of a program: its words and its data in the memory.
+// The start of a program: its words decoded, and its data in the memory.
 
-ghost use Rattle.std.specs.Prelude.{◌≡◌, ◌+◌, ◌*◌, ◌≤◌, length, vec_len, IfOk};
+ghost use Rattle.std.specs.Prelude.{◌≡◌, ◌+◌, ◌≤◌, length, vec_len, IfOk};
 ghost use Rattle.pw_value.specs.Limits.{memory_size};
 ghost use Rattle.pw_value.specs.Rounding.{stack_start};
 ghost use Rattle.pw_image.specs.Image.{AreItems};
-ghost use Rattle.pw_machine.specs.Start.{zeros, overwritten, with_items, bytes_of};
+ghost use Rattle.pw_machine.specs.Start.{with_items};
+ghost use Rattle.pw_machine.specs.Decoded.{AreDecoded};
 
 use pw_image::DataItem;
+use pw_inst::{Inst, decode};
 use pw_io::NoMemory;
+use pw_pages::Pages;
 use std::alloc::Global;
 
-/// As many bytes of 0 are laid at once: a program that is compiled without proofs checks each byte that is put alone.
-const BLOCK: usize = 4096;
-
-/// `size` bytes of 0.
-pub(crate) fn blank(alloc: Global, size: usize) -> Result<Vec<u8>, NoMemory>
-    ensures zeros { IfOk result (λ memory. memory.items ≡ zeros size) }
-    ensures size { IfOk result (λ memory. vec_len memory ≡ size) }
+/// The words of a text, each decoded.
+pub(crate) fn decoded(alloc: Global, words: &[u32]) -> Result<Vec<Option<Inst>>, NoMemory>
+    ensures entries { IfOk result (λ code. AreDecoded words.now code.items) }
+    ensures count { IfOk result (λ code. vec_len code ≡ length words.now) }
 {
-    let mut memory = Vec::with_capacity(alloc, size)?;
-    let block = [0u8; BLOCK];
-    for _ in 0..size / BLOCK {
-        memory.extend_from_slice(&block)?;
+    let mut code = Vec::with_capacity(alloc, words.len())?;
+    for word in words {
+        code.push(decode(*word))?;
     }
-    memory.extend_from_slice(&block[..size % BLOCK])?;
-    Ok(memory)
-}
-
-/// Puts bytes at a place.
-fn put(memory: &mut [u8], at: usize, bytes: &[u8])
-    requires { at + length bytes.now ≤ length memory.old }
-    ensures { memory.new ≡ overwritten memory.old at bytes.now }
-{
-    memory[at..at + bytes.len()].copy_from_slice(bytes);
-}
-
-/// Puts the bytes of words at a place, one word after another.
-pub(crate) fn put_words(memory: &mut [u8], at: usize, words: &[u32])
-    requires { at + 4 * length words.now ≤ length memory.old }
-    ensures { memory.new ≡ overwritten memory.old at (bytes_of words.now) }
-{
-    for (i, word) in words.iter().enumerate() {
-        put(memory, at + 4 * i, &word.to_be_bytes());
-    }
+    Ok(code)
 }
 
 /// Puts the items of `size` bytes of data at their offsets from a place.
-pub(crate) fn put_items(memory: &mut [u8], at: usize, size: u32, items: &[DataItem])
+pub(crate) fn put_items(memory: &mut Pages, at: usize, size: u32, items: &[DataItem])
     requires room { at + size ≤ length memory.old }
+    requires reached { at + size ≤ memory_size }
     requires items { AreItems size 0 items.now }
     ensures { memory.new ≡ with_items memory.old at items.now }
 {
     for item in items {
-        put(memory, at + item.offset as usize, item.bytes.as_slice());
+        memory.put_bytes(at + item.offset as usize, item.bytes.as_slice());
     }
 }
 

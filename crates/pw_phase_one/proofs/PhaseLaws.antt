@@ -1,6 +1,9 @@
 -- The function gives the one answer of each module.
 use Rattle.std.proofs.Common.{◌≡◌, ◌≢◌, ℕ, List, Result, Ok, Err, refl, sym, ap, ◌∙◌, subst}
-use Rattle.std.specs.Prelude.{◌↔◌}
+use Rattle.std.specs.Prelude.{◌↔◌, IfOk}
+use Rattle.pw_token.specs.Tokenization.{IsLexed}
+use Rattle.pw_token.specs.declared.token.Token.{Token}
+use Rattle.pw_tree.specs.Grammar.{IsTreeOf, spelled_all}
 use Rattle.pw_tree.specs.Trees.{Module}
 use Rattle.pw_front_end.specs.Fronts.{FrontEnd, FrontEndAnswers, HasTree, front_end_of}
 use Rattle.pw_front_end.specs.AnswersTree as front
@@ -13,6 +16,7 @@ use Rattle.pw_check_walk.specs.declared.constraints.CheckKind.{CheckKind}
 use Rattle.pw_check_walk.specs.declared.constraints.CheckKind.TheVariants as check
 use Rattle.pw_check_rules.specs.Checks.{Checks, checked}
 use Rattle.pw_types.specs.TypedTrees.{ModuleValue}
+use Rattle.pw_flow.specs.ValidFlow.{IsValid}
 use Rattle.pw_flow.specs.declared.flow.FlowModule.{FlowModule}
 use Rattle.pw_lower.specs.Modules.{lowered}
 use Rattle.pw_phase_one.specs.FirstPhase.{Compiles, AnswersPhaseOne, Phase, by_checking, by_front_end, compiled, error_of, told, told_kind}
@@ -127,3 +131,18 @@ by_kind view exact tree fault (check.Limit which number) e h = fault_told exact 
 pub checked_err : {V : Type 0} (view : V → ModuleValue) → ChecksExact → (tree : Module) (fault : CheckFault) (error : FrontEndFault) → error ≡ error_of fault → (fault.kind ≢ check.NoMemory → Checks tree (Err fault))
     → AnswersPhaseOne view (told (checked tree)) (Err error)
 checked_err view exact tree fault error e h = subst (λ (x : FrontEndFault). AnswersPhaseOne view (told (checked tree)) (Err x)) (sym e) (by_kind view exact tree fault fault.kind refl h)
+
+-- ---- lawful flow graphs
+
+-- what accepted texts come to is lawful
+abbrev pub AreLawful : Type 0
+AreLawful = (home text : List ℕ) (tokens : List Token) (tree : Module) (m : ModuleValue) → IsLexed text tokens → IsTreeOf (spelled_all text tokens) tree → Checks tree (Ok m) → IsValid (lowered home m)
+
+pub compiles_lawful : AreLawful → (name text : List ℕ) (flow : FlowModule) → Compiles name text (Ok flow) → IsValid flow
+compiles_lawful lawful name text flow h =
+    let t = h.has_tree in
+    subst IsValid (sym h.is) (lawful name text t.tokens h.tree h.typed t.shallow.supported.lexed t.reads h.checks)
+
+pub phase_lawful : (name text : List ℕ) → ((flow : FlowModule) → compiled name text ≡ Ok flow → IsValid flow) → (result : Result FlowModule FrontEndFault) → AnswersPhaseOne (λ flow. flow) (compiled name text) result → IfOk result (λ flow. IsValid flow)
+phase_lawful name text lawful (Ok flow) h = lawful flow h
+phase_lawful name text lawful (Err error) h = tt

@@ -1,12 +1,15 @@
 //! Laws of the first phase.
 
-ghost use Rattle.std.specs.Prelude.{◌≡◌, ◌↔◌, ℕ, List, Err};
+ghost use Rattle.std.specs.Prelude.{◌≡◌, ◌↔◌, ℕ, List, Err, Ok};
 ghost use Rattle.pw_front_end.specs.Fronts.{HoldsNoWant};
 ghost use Rattle.pw_front_end.specs.declared.refusal.Refusal.{Refusal};
+ghost use Rattle.pw_flow.specs.ValidFlow.{IsValid};
+ghost use Rattle.pw_flow.specs.declared.flow.FlowModule.{FlowModule};
 ghost use Rattle.pw_phase_one.specs.FirstPhase.{Compiles, Phase, compiled};
 
 use pw_check_rules::checks_is_exact;
 use pw_front_end::front_is_exact;
+use pw_law_valid::accepted_texts_are_lawful;
 
 /// A module has one answer, and it is that of the function.
 pub fn phase_one_is_exact()
@@ -22,4 +25,12 @@ pub fn no_refusal_is_want_of_memory()
 {
     front_is_exact();
     phase_one_is_exact();
+}
+
+/// The flow graph of a module that is accepted is lawful.
+pub fn flow_graphs_are_lawful()
+    ensures { (name text : List ℕ) (flow : FlowModule) → compiled name text ≡ Ok flow → IsValid flow }
+{
+    phase_one_is_exact();
+    accepted_texts_are_lawful();
 }

@@ -2,22 +2,21 @@
 
 ghost use Rattle.std.specs.Prelude.{◌≡◌, IfOk};
 ghost use Rattle.pw_flow.specs.ValidFlow.{IsValid};
-ghost use Rattle.pw_lower.specs.Modules.{lowered};
 ghost use Rattle.pw_phase_one.specs.FirstPhase.{AnswersPhaseOne, by_checking, compiled, error_of, told};
 ghost use Rattle.pw_check_rules.specs.Checks.{checked};
 ghost use Rattle.pw_tree.specs.Views.{view_module};
 ghost use Rattle.pw_typed.specs.Views as typed;
 
+use crate::laws::flow_graphs_are_lawful;
 use pw_check::check;
 use pw_check_rules::checks_is_exact;
 use pw_check_walk::{CheckFault, CheckKind};
 use pw_flow::FlowModule;
-use pw_flow_valid::is_valid;
 use pw_front_end::{FrontEndFault, Refusal, front};
 use pw_lstmt::lower_module;
 use pw_tree::Module;
 use pw_typed::TModule;
-use pw_value::{Name, NoMemory};
+use pw_value::Name;
 use std::alloc::Global;
 
 /// Why the first phase gives no flow graph: the text is refused, or memory ran out.
@@ -49,27 +48,12 @@ fn typed_tree(alloc: Global, tree: &Module) -> Result<TModule, PhaseError>
     }
 }
 
-/// The flow graph of a typed tree. One that is not lawful is never made of an accepted module; it is told as want of
-/// memory.
-fn flow_graph(alloc: Global, name: &Name, module: &TModule) -> Result<FlowModule, NoMemory>
-    ensures flow { IfOk result (λ flow. flow ≡ lowered name.now (typed.view_module «module».now)) }
-    ensures lawful { IfOk result (λ flow. IsValid flow) }
-{
-    let flow = lower_module(alloc, name, module)?;
-    if is_valid(alloc, &flow)? {
-        Ok(flow)
-    } else {
-        Err(NoMemory)
-    }
-}
-
 /// The flow graph of a module, by its name and its tree.
 fn compile(alloc: Global, name: &Name, tree: &Module) -> Result<FlowModule, PhaseError>
-    ensures function { AnswersPhaseOne (λ flow. flow) (by_checking name.now (checked (view_module tree.now))) result }
-    ensures lawful { IfOk result (λ flow. IsValid flow) }
+    ensures { AnswersPhaseOne (λ flow. flow) (by_checking name.now (checked (view_module tree.now))) result }
 {
     match typed_tree(alloc, tree) {
-        Ok(typed) => match flow_graph(alloc, name, &typed) {
+        Ok(typed) => match lower_module(alloc, name, &typed) {
             Ok(flow) => Ok(flow),
             Err(_none) => Err(FrontEndFault::NoMemory),
         },
@@ -90,6 +74,7 @@ pub fn phase_one(alloc: Global, name: &Name, text: &[u8]) -> Result<FlowModule, 
     // A flow graph that is given is lawful.
     ensures lawful { IfOk result (λ flow. IsValid flow) }
 {
+    flow_graphs_are_lawful();
     match front(alloc, text) {
         Ok(tree) => compile(alloc, name, &tree),
         Err(error) => Err(error),

@@ -12,3 +12,4 @@ mod phases;
 pub use directives::directives_for;
 pub use origin::{Origin, origin_of};
 pub use phases::{object_of, phase_two};
+pub use pw_summarise::Interface;

@@ -21,46 +21,38 @@ use pw_summarise::{Interface, interface_of};
 use pw_value::Name;
 use std::alloc::{AllocError, Global};
 
-/// What the second phase makes of a module, beside what it takes over from it.
-#[derive(Drop)]
-struct Parts {
-    interface: Interface,
-    functions: Items<ObjectFn>,
-}
-
-/// What a lawful module declares and uses, and its functions as words.
-fn parts_of(
+/// The functions of a lawful module as words, under their directives.
+fn functions_of(
     alloc: Global,
     flow: &FlowModule,
     directives: &[(Name, Directives)],
-) -> Result<Parts, AllocError>
+) -> Result<Items<ObjectFn>, AllocError>
     requires lawful { IsValid flow.now }
     requires directives { AreDirectivesOf flow.now directives.now }
-    ensures declared { IfOk result (λ made. IsOrdered (λ d. d.0) flow.now.declared made.interface.declared) }
-    ensures used { IfOk result (λ made. IsOrdered (λ name. name) (named_in flow.now) made.interface.used) }
-    ensures functions { IfOk result (λ made. made.functions ≡ all_compiled flow.now.functions directives.now) }
-    ensures lawful { IfOk result (λ made. AllByRecursion object.IsFunction made.functions) }
+    ensures functions { IfOk result (λ made. made ≡ all_compiled flow.now.functions directives.now) }
+    ensures lawful { IfOk result (λ made. AllByRecursion object.IsFunction made) }
 {
-    let interface = interface_of(alloc, flow)?;
-    let functions = compile_all(alloc, flow.functions.as_slice(), directives)?;
-    Ok(Parts {
-        interface,
-        functions,
-    })
+    compile_all(alloc, flow.functions.as_slice(), directives)
 }
 
-/// The object of a module of this name with these global objects.
-fn object_with(name: Name, globals: Items<FlowGlobal>, parts: Parts, origin: Origin) -> Object
+/// The object of a module of this name, with its parts.
+fn object_with(
+    name: Name,
+    interface: Interface,
+    globals: Items<FlowGlobal>,
+    functions: Items<ObjectFn>,
+    origin: Origin,
+) -> Object
     ensures version { result.version ≡ object_version }
     ensures of_module { result.«module» ≡ name }
     ensures flow { result.flow ≡ origin.flow.items }
     ensures directives { result.directives ≡ origin.directives.items }
-    ensures declared { result.declared ≡ parts.interface.declared }
-    ensures used { result.used ≡ parts.interface.used }
+    ensures declared { result.declared ≡ interface.declared }
+    ensures used { result.used ≡ interface.used }
     ensures globals { result.globals ≡ globals }
-    ensures functions { result.functions ≡ parts.functions }
+    ensures functions { result.functions ≡ functions }
 {
-    let Interface { declared, used } = parts.interface;
+    let Interface { declared, used } = interface;
     Object {
         version: VERSION,
         module: name,
@@ -69,28 +61,31 @@ fn object_with(name: Name, globals: Items<FlowGlobal>, parts: Parts, origin: Ori
         declared,
         used,
         globals,
-        functions: parts.functions,
+        functions,
     }
 }
 
 /// The object of a lawful module under the directives of its functions, which keeps the rules of its file. The module's name
-/// and its global objects go over into the object. Its origin is made by the caller, who may have compared it with what
-/// stands in another object.
+/// and its global objects go over into the object. What it declares and uses, and its origin, are made by the caller: a build
+/// has the one from the module's summary, and has compared the other with what stands in a kept object.
 pub fn object_of(
     alloc: Global,
     flow: FlowModule,
+    interface: Interface,
     directives: &[(Name, Directives)],
     origin: Origin,
 ) -> Result<Object, AllocError>
     requires lawful { IsValid flow }
+    requires declared { IsOrdered (λ d. d.0) flow.declared interface.declared }
+    requires used { IsOrdered (λ name. name) (named_in flow) interface.used }
     requires directives { AreDirectivesOf flow directives.now }
     requires origin { IsOriginOf flow directives.now origin }
     ensures object { IfOk result (λ o. IsObjectOf flow directives.now o) }
     ensures lawful { IfOk result (λ o. IsObject o) }
 {
-    let parts = parts_of(alloc, &flow, directives)?;
+    let functions = functions_of(alloc, &flow, directives)?;
     let FlowModule { name, globals, .. } = flow;
-    Ok(object_with(name, globals, parts, origin))
+    Ok(object_with(name, interface, globals, functions, origin))
 }
 
 /// The object of a lawful module under the directives of its functions, which keeps the rules of its file. The module stays
@@ -106,8 +101,9 @@ pub fn phase_two(
     ensures lawful { IfOk result (λ o. IsObject o) }
 {
     let origin = origin_of(alloc, flow, directives)?;
-    let parts = parts_of(alloc, flow, directives)?;
+    let interface = interface_of(alloc, flow)?;
+    let functions = functions_of(alloc, flow, directives)?;
     let name = flow.name.copy(alloc)?;
     let globals = copy_globals(alloc, flow.globals.as_slice())?;
-    Ok(object_with(name, globals, parts, origin))
+    Ok(object_with(name, interface, globals, functions, origin))
 }

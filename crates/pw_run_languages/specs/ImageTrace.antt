@@ -12,7 +12,7 @@ use Rattle.pw_flow.specs.ValidFlow.{kind_size}
 use Rattle.pw_inst.specs.declared.Inst.{Inst}
 use Rattle.pw_inst.specs.InstructionTable.{decoded}
 use Rattle.pw_inst.specs.Computing.{Action, action}
-use Rattle.pw_milli.specs.Library.{routines}
+use Rattle.pw_link.specs.FromMilli.Library.{routines}
 use Rattle.pw_image.specs.declared.image.Image.{Image}
 use Rattle.pw_link.specs.Layout.{address_in}
 use Rattle.pw_machine.specs.Core.{Core, register, word_at}

@@ -2,14 +2,14 @@
 use Rattle.std.specs.Prelude.{ℕ, ◌≡◌, ◌++◌, None, List, map}
 use Rattle.std.specs.List.{flat_map, AllByRecursion}
 use Rattle.pw_flow.specs.ValidFlow.{AreDistinct}
-use Rattle.pw_milli.specs.Library.{routines}
+use Rattle.pw_link.specs.FromMilli.Library.{routines}
 use Rattle.pw_db.specs.declared.database.Directives.{Directives}
 use Rattle.pw_db.specs.Database.{IsDirectives}
 use Rattle.pw_alloc.specs.declared.located.Located.{Located}
 use Rattle.pw_select.specs.Selection.{selected}
 use Rattle.pw_delay.specs.Placement.{placed}
-use Rattle.pw_object.specs.declared.object.Object.{Object}
-use Rattle.pw_object.specs.declared.functions.ObjectFn.{ObjectFn}
+use Rattle.pw_link.specs.FromLinkInterface.Object.{Object}
+use Rattle.pw_link.specs.FromLinkInterface.ObjectFn.{ObjectFn}
 use Rattle.pw_image.specs.declared.image.Image.{Image}
 use Rattle.pw_link.specs.Layout.{address_in}
 use Rattle.pw_link.specs.Linking.{linked, size_fault}

@@ -142,7 +142,7 @@ refused_is (build.LinkRefused fault) proper h = proper
 refused_is build.StoreFault proper h = absurd (no_fault h)
 refused_is build.NoMemory proper h = tt
 
-pub refused_at : (number : ℕ) (fault : BuildFault) (line : ℕ) (files : Files) → files ≡ bench_files number → IsLine (refused_line (modules_of files)) fault line → IsBenchLine number (fault_answer fault) line
+pub refused_at : (number : ℕ) (fault : BuildFault) (line : Option ℕ) (files : Files) → files ≡ bench_files number → IsLine (refused_line (modules_of files)) fault line → IsBenchLine number (fault_answer fault) line
 refused_at number (build.Refused name refusal) line files e h = h ∙ ap (λ (f : Files). refused_line (modules_of f)) e
 refused_at number (build.LinkRefused fault) line files e h = tt
 refused_at number build.StoreFault line files e h = tt
@@ -154,7 +154,7 @@ said_is WriteFault k = tt
 said_is NoMemory k = tt
 said_is _ k = absurd k
 
-pub said_at : (number : ℕ) (answer : Answer) (line : ℕ) → IsPrintAnswer answer → IsBenchLine number answer line
+pub said_at : (number : ℕ) (answer : Answer) (line : Option ℕ) → IsPrintAnswer answer → IsBenchLine number answer line
 said_at number (Refused name refusal) line k = absurd k
 said_at number _ line k = tt
 

@@ -59,8 +59,8 @@ does_part output file text (Some told) new taken taken' e same =
 
 -- ---- a build
 
-pub fault_line : (fault : BuildFault) (due line : ℕ) → IsLine due fault line → line_text line (fault_answer fault) ≡ line_text due (fault_answer fault)
-fault_line (build.Refused name refusal) due line e = ap (λ (n : ℕ). line_text n (Refused name refusal)) e
+pub fault_line : (fault : BuildFault) (due line : Option ℕ) → IsLine due fault line → line_text line (fault_answer fault) ≡ line_text due (fault_answer fault)
+fault_line (build.Refused name refusal) due line e = ap (λ (n : Option ℕ). line_text n (Refused name refusal)) e
 fault_line (build.LinkRefused fault) due line e = refl
 fault_line build.StoreFault due line e = refl
 fault_line build.NoMemory due line e = refl
@@ -117,14 +117,14 @@ fault_act s unbuilt comes new answer taken taken' h puts line said = by_fault un
     stopped y e same stop made = subst (λ (a : Answer). DoesEffect (builds_as s comes).output (builds_as s comes).changes a s.told new taken taken') (sym e)
         (record { said = puts_alone (builds_as s comes).output y taken taken' stop same; made = subst (λ (cs : List Change). MakesChanges cs y s.told new) (sym (act_changes s comes)) made })
 
-    refused : (fault : BuildFault) (at : ℕ) → comes ≡ Err fault → new ≡ Some s.told → IsLine (refused_line (modules_of s.told.files)) fault at → PutsOut (line_text at (fault_answer fault)) answer taken taken' → DoesEffect (builds_as s comes).output (builds_as s comes).changes answer s.told new taken taken'
+    refused : (fault : BuildFault) (at : Option ℕ) → comes ≡ Err fault → new ≡ Some s.told → IsLine (refused_line (modules_of s.told.files)) fault at → PutsOut (line_text at (fault_answer fault)) answer taken taken' → DoesEffect (builds_as s comes).output (builds_as s comes).changes answer s.told new taken taken'
     refused fault at e none due out = subst (λ (c : Result Outcome BuildFault). DoesEffect (builds_as s c).output (builds_as s c).changes answer s.told new taken taken') (sym e)
         (record { said = subst (λ (t : List ℕ). PutsOut t answer taken taken') (fault_line fault (refused_line (modules_of s.told.files)) at due) out; made = makes_all [] answer s.told new none })
 
     nothing : (fault : BuildFault) (y : Answer) → comes ≡ Err fault → PutsFiles (puts_of comes) y s.told new → PutsFiles [] y s.told new
     nothing fault y e p = subst (λ (c : Result Outcome BuildFault). PutsFiles (puts_of c) y s.told new) e p
 
-    by_fault : (fault : BuildFault) (at : ℕ) → AnswersFault comes fault → PutsFiles (puts_of comes) (fault_answer fault) s.told new → IsLine (refused_line (modules_of s.told.files)) fault at → SaysFault fault at answer taken taken'
+    by_fault : (fault : BuildFault) (at : Option ℕ) → AnswersFault comes fault → PutsFiles (puts_of comes) (fault_answer fault) s.told new → IsLine (refused_line (modules_of s.told.files)) fault at → SaysFault fault at answer taken taken'
         → DoesEffect (builds_as s comes).output (builds_as s comes).changes answer s.told new taken taken'
     by_fault build.StoreFault at c p l q = stopped StoreFault q.0 q.1 (λ more. tt) (puts_make (puts_of comes) StoreFault s.told new p)
     by_fault build.NoMemory at c p l q = stopped NoMemory q.0 q.1 (λ more. tt) (puts_make (puts_of comes) NoMemory s.told new p)
@@ -138,21 +138,21 @@ memory_is_no_done : ◌≡◌ {A = Answer} NoMemory Done → ⊥
 memory_is_no_done e = cc
 
 -- where the line of a fault was told, or could not be put out, it is what the build comes to
-fault_found : (files : Files) (opts : Opts) (fault : BuildFault) (line : ℕ) (answer : Answer) (taken taken' : Option (List ℕ)) → IsFaultFound files opts fault → SaysFault fault line answer taken taken' → IsLineObeyed answer → BuildsTo files opts (Err fault)
+fault_found : (files : Files) (opts : Opts) (fault : BuildFault) (line : Option ℕ) (answer : Answer) (taken taken' : Option (List ℕ)) → IsFaultFound files opts fault → SaysFault fault line answer taken taken' → IsLineObeyed answer → BuildsTo files opts (Err fault)
 fault_found files opts build.StoreFault line answer taken taken' f q d = absurd (subst IsLineObeyed q.0 d)
 fault_found files opts build.NoMemory line answer taken taken' f q d = absurd (subst IsLineObeyed q.0 d)
 fault_found files opts (build.Refused name refusal) line answer taken taken' f q d = f
 fault_found files opts (build.LinkRefused fault) line answer taken taken' f q d = f
 
 -- and nothing was put
-fault_made : (told : Told) (fault : BuildFault) (line : ℕ) (new : Option Told) (answer : Answer) (taken taken' : Option (List ℕ)) → SaysFault fault line answer taken taken' → IsLineObeyed answer → PutsFiles [] (fault_answer fault) told new → new ≡ Some told
+fault_made : (told : Told) (fault : BuildFault) (line : Option ℕ) (new : Option Told) (answer : Answer) (taken taken' : Option (List ℕ)) → SaysFault fault line answer taken taken' → IsLineObeyed answer → PutsFiles [] (fault_answer fault) told new → new ≡ Some told
 fault_made told build.StoreFault line new answer taken taken' q d puts = absurd (subst IsLineObeyed q.0 d)
 fault_made told build.NoMemory line new answer taken taken' q d puts = absurd (subst IsLineObeyed q.0 d)
 fault_made told (build.Refused name refusal) line new answer taken taken' q d puts = puts
 fault_made told (build.LinkRefused fault) line new answer taken taken' q d puts = puts
 
 -- a refusal leaves the image
-fault_image : (s : SessionState) (fault : BuildFault) (line : ℕ) (comes : Result Outcome BuildFault) (answer : Answer) (taken taken' : Option (List ℕ)) → AnswersFault comes fault → SaysFault fault line answer taken taken' → answer ≡ Done → s.image ≡ (builds_as s comes).image
+fault_image : (s : SessionState) (fault : BuildFault) (line : Option ℕ) (comes : Result Outcome BuildFault) (answer : Answer) (taken taken' : Option (List ℕ)) → AnswersFault comes fault → SaysFault fault line answer taken taken' → answer ≡ Done → s.image ≡ (builds_as s comes).image
 fault_image s build.StoreFault line comes answer taken taken' c q d = absurd (store_is_no_done (sym q.0 ∙ d))
 fault_image s build.NoMemory line comes answer taken taken' c q d = absurd (memory_is_no_done (sym q.0 ∙ d))
 fault_image s (build.Refused name refusal) line comes answer taken taken' c q d = ap (λ (r : Result Outcome BuildFault). (builds_as s r).image) (sym c)
@@ -174,7 +174,7 @@ pub line_refused : (opts : RunOpts) (built : Option (List ℕ)) (unbuilt : Unbui
 line_refused opts built unbuilt None new answer taken taken' image obeys line said e = tt
 line_refused opts built unbuilt (Some told) new answer taken taken' image obeys line said e = fault_said opts (record { told = told; image = built }) unbuilt new answer taken taken' image (does_build opts.build (Err unbuilt) told new obeys) line said e
 
-some_refused : (may : List ℕ → Type 0) (told : Told) (fault : BuildFault) (line : ℕ) (new : Option Told) (answer : Answer) (taken taken' : Option (List ℕ)) → PutsSome (fault_answer fault) told new → SaysFault fault line answer taken taken' → MakesSome may answer told new
+some_refused : (may : List ℕ → Type 0) (told : Told) (fault : BuildFault) (line : Option ℕ) (new : Option Told) (answer : Answer) (taken taken' : Option (List ℕ)) → PutsSome (fault_answer fault) told new → SaysFault fault line answer taken taken' → MakesSome may answer told new
 some_refused may told build.StoreFault line new answer taken taken' some q = subst (λ (a : Answer). MakesSome may a told new) (sym q.0) (map Puts some.0, own_puts may some.0 some.1, put_part some.0 told new some.2)
 some_refused may told build.NoMemory line new answer taken taken' some q = puts_some may some.0 answer told new some.1 some.2
 some_refused may told (build.Refused name refusal) line new answer taken taken' some q = makes_some may [] answer told new tt (makes_all [] answer told new some)
@@ -302,13 +302,13 @@ error_is store.NoMemory answer e = subst IsLineAnswer (sym e) tt
 
 -- ---- faults of a build
 
-pub says_refusal : (fault : BuildFault) (line : ℕ) (answer : Answer) (taken taken' : Option (List ℕ)) → (fault ≡ build.StoreFault → ⊥) → (fault ≡ build.NoMemory → ⊥) → PutsOut (line_text line (fault_answer fault)) answer taken taken' → IsPrintAnswer answer → SaysFault fault line answer taken taken'
+pub says_refusal : (fault : BuildFault) (line : Option ℕ) (answer : Answer) (taken taken' : Option (List ℕ)) → (fault ≡ build.StoreFault → ⊥) → (fault ≡ build.NoMemory → ⊥) → PutsOut (line_text line (fault_answer fault)) answer taken taken' → IsPrintAnswer answer → SaysFault fault line answer taken taken'
 says_refusal build.StoreFault line answer taken taken' a b out k = absurd (a refl)
 says_refusal build.NoMemory line answer taken taken' a b out k = absurd (b refl)
 says_refusal (build.Refused name refusal) line answer taken taken' a b out k = (out, k)
 says_refusal (build.LinkRefused fault) line answer taken taken' a b out k = (out, k)
 
-pub fault_count : (fault : BuildFault) (line : ℕ) (answer : Answer) (taken taken' : Option (List ℕ)) (before now : ℕ) → SaysFault fault line answer taken taken' → StoreCount before now (fault_answer fault) → StoreCount before now answer
+pub fault_count : (fault : BuildFault) (line : Option ℕ) (answer : Answer) (taken taken' : Option (List ℕ)) (before now : ℕ) → SaysFault fault line answer taken taken' → StoreCount before now (fault_answer fault) → StoreCount before now answer
 fault_count build.StoreFault line answer taken taken' before now q h = subst (StoreCount before now) (sym q.0) h
 fault_count build.NoMemory line answer taken taken' before now q h = subst (StoreCount before now) (sym q.0) h
 fault_count (build.Refused name refusal) line answer taken taken' before now q h = say_store answer before now q.1 h

@@ -92,7 +92,7 @@ IsBenchAnswer NoMemory = Unit {0}
 IsBenchAnswer _ = ⊥
 
 -- the line on which a module is refused, where one is
-abbrev pub IsBenchLine : ℕ → Answer → ℕ → Type 0
+abbrev pub IsBenchLine : ℕ → Answer → Option ℕ → Type 0
 IsBenchLine number answer line = IsLineDue (refused_line (modules_of (bench_files number))) answer line
 
 -- ---- inside

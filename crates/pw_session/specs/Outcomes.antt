@@ -178,7 +178,7 @@ IsReadAnswer (BadScript at) = Unit {0}
 IsReadAnswer _ = ⊥
 
 -- what is told of a fault of a build: the line of a refusal; a fault of the store, and want of memory, are the answer
-abbrev pub SaysFault : BuildFault → ℕ → Answer → Option (List ℕ) → Option (List ℕ) → Type 0
+abbrev pub SaysFault : BuildFault → Option ℕ → Answer → Option (List ℕ) → Option (List ℕ) → Type 0
 SaysFault build.StoreFault line answer taken taken' = (answer ≡ StoreFault) × (taken' ≡ taken)
 SaysFault build.NoMemory line answer taken taken' = (answer ≡ NoMemory) × (taken' ≡ taken)
 SaysFault fault line answer taken taken' = PutsOut (line_text line (fault_answer fault)) answer taken taken' × IsPrintAnswer answer

@@ -148,13 +148,13 @@ pub fn bench<O: Sink>(alloc: Global, number: u32, opts: &RunOpts, out: &mut O) -
     let Ok(mut store) = made_store(alloc, number, BENCH_MODULES) else {
         return Reply {
             answer: Answer::NoMemory,
-            line: 1,
+            line: None,
         };
     };
     match build_uncounted(alloc, &mut store, &opts.build) {
         Ok(report) => Reply {
             answer: run_report(alloc, number, &report, opts.budget, out),
-            line: 1,
+            line: None,
         },
         Err(unbuilt) => Reply {
             line: unbuilt.line,

@@ -66,7 +66,7 @@ fn remove_text<S: Store, O: Sink>(alloc: Global, store: &mut S, out: &mut O, fil
 }
 
 /// Puts the line of an answer out.
-fn say_line<O: Sink>(alloc: Global, out: &mut O, answer: &Answer, line: usize) -> Answer
+fn say_line<O: Sink>(alloc: Global, out: &mut O, answer: &Answer, line: Option<usize>) -> Answer
     ensures output { PutsOut (line_text line answer.now) result (O.taken out.old) (O.taken out.new) }
     ensures write { OutputCount (O.faults out.old) (O.faults out.new) result }
     ensures answer { IsPrintAnswer result }

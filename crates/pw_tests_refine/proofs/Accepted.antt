@@ -39,7 +39,7 @@ use Rattle.pw_tests_refine.proofs.ExampleStates.{world, x}
 
 -- ---- lists whose elements are all known
 
-each : {X : Type 0} (P : X → Type 0) (xs : List X) → AllByRecursion P xs → (y : X) → Contains xs y → P y
+pub each : {X : Type 0} (P : X → Type 0) (xs : List X) → AllByRecursion P xs → (y : X) → Contains xs y → P y
 each P xs h y there = All-contains P xs y (All-from_recursion P xs h) there
 
 abbrev EachPair : {X : Type 0} → (X → X → Type 0) → List X → Type 0
@@ -221,7 +221,7 @@ agree (External name) ty f is e =
         let shape : codes "fi" ≡ f.shape = ap shape_or found in
         subst (λ (s : List ℕ). Agree (shape_of [] (type_of ty) (is_volatile ty)) s) shape (turned (codes "fi") (shape_of [] (type_of ty) (is_volatile ty)) a)
 
-typed : IsWellTyped program
+pub typed : IsWellTyped program
 typed = record {
   modules = All-from_recursion (λ (m : ProgramModule). WellTyped m.tree) program.modules (well_typed, tt);
   functions = λ m there. each (λ (m : ProgramModule). (symbol : Symbol) (ty : QType) (f : Callable) → IsFunctionOf m.tree symbol ty

@@ -3,3 +3,4 @@ mod ExampleStates
 mod ShortBytes
 mod NoElements
 mod Accepted
+mod Resolved

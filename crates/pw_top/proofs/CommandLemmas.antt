@@ -17,9 +17,9 @@ use Rattle.pw_top_answer.specs.Outcomes.{Answers, InputCount, IsLineDue, LeavesI
 use Rattle.pw_go.specs.Ends.{EndsIn}
 use Rattle.pw_build_opts.specs.declared.opts.Opts.{Opts}
 use Rattle.pw_build_opts.specs.declared.opts.RunOpts.{RunOpts}
-use Rattle.pw_session.specs.FromBuild.BuildFault.{BuildFault}
-use Rattle.pw_session.specs.FromBuildFiles.Building.{Outcome}
-use Rattle.pw_session.specs.FromBuildFiles.Driving.{BuildEffect, IsBuildAnswer, built_effect}
+use Rattle.pw_law_session.specs.FromSession.FromBuild.BuildFault.{BuildFault}
+use Rattle.pw_law_session.specs.FromSession.FromBuildFiles.Building.{Outcome}
+use Rattle.pw_law_session.specs.FromSession.FromBuildFiles.Driving.{BuildEffect, IsBuildAnswer, built_effect}
 use Rattle.pw_go.specs.Going.{GoEffect, IsGoAnswer}
 use Rattle.pw_commands.specs.Analysing.{AnalyseEffect, AnalyseOver, summaries_of}
 use Rattle.pw_commands.specs.Linking.{LinkEffect, LinkOver, objects_of}
@@ -27,7 +27,7 @@ use Rattle.pw_commands.specs.Needed.{needed, needed_bytes}
 use Rattle.pw_commands.specs.Outcome.{IsStoreAnswer, Obeys}
 use Rattle.pw_commands.specs.Running.{IsRunOrStop, core_in, run_effect, runs}
 use Rattle.pw_commands.specs.Showing.{DatabaseEffect, IsShowAnswer, ListEffect, ListOver, Shows, database_text, image_in, printed}
-use Rattle.pw_session.specs.Bench.{BenchEffect}
+use Rattle.pw_law_session.specs.FromSession.Bench.{BenchEffect}
 use Rattle.pw_top_words.specs.declared.commands.Command.{Command}
 use Rattle.pw_top_words.specs.declared.commands.Command.TheVariants.{Go, Build as BuildAll, Session, PhaseOne, Analyse, PhaseTwo, Link, Run, List as ListImage, Db, Bench}
 use Rattle.pw_commands_phases.specs.First.{EffectOfPhase, PhaseOneEffect, PhaseOneOver}
@@ -295,12 +295,12 @@ usage_apart command answer h e = absurd (subst IsNoUsage e h)
 pub no_command : (command : Command) (answer : Answer) → Some command ≡ None → (answer ≡ Usage) ⊎ (answer ≡ NoMemory)
 no_command command answer e = absurd (none_and_some (Some command) command e refl)
 
-first_line : (answer : Answer) → IsLineDue 1 answer 1
+first_line : (answer : Answer) → IsLineDue None answer None
 first_line (Refused name refusal) = refl
 first_line _ = tt
 
 -- an answer of a command that refuses no module
-pub plain_line : (told : Option Told) (answer : Answer) → IfSome told (λ t. IsLineDue 1 answer 1)
+pub plain_line : (told : Option Told) (answer : Answer) → IfSome told (λ t. IsLineDue None answer None)
 plain_line None answer = tt
 plain_line (Some t) answer = first_line answer
 

@@ -11,13 +11,13 @@ use Rattle.pw_top_answer.specs.Effects.{NamedFile, PutPart}
 use Rattle.pw_build_objects.specs.Kept.{IsGenuine}
 use Rattle.pw_commands.specs.Others.{IsNoneOf, IsOneOf, KeepsOthers, PutsOnly}
 use Rattle.pw_store_kept.specs.Kept.{counted, object_in}
-use Rattle.pw_session.specs.FromBuildFiles.Genuine.{IsGenuineFile, KeepsGenuine}
+use Rattle.pw_law_session.specs.FromSession.FromBuildFiles.Genuine.{IsGenuineFile, KeepsGenuine}
 use Rattle.pw_commands_phases.specs.First.{phase_one_puts}
 use Rattle.pw_commands_phases.specs.Second.{IsMade, IsMadeFile, PutsMade}
-use Rattle.pw_session.specs.FromBuildFiles.Driving.{KeepsUnput}
+use Rattle.pw_law_session.specs.FromSession.FromBuildFiles.Driving.{KeepsUnput}
 use Rattle.pw_top_words.specs.declared.commands.Command.{Command}
 use Rattle.pw_top_words.specs.declared.commands.Command.TheVariants.{Go, Build as BuildAll, Session, PhaseOne, Analyse, PhaseTwo, Link}
-use Rattle.pw_session.specs.Removals.{MayRemove}
+use Rattle.pw_law_session.specs.FromSession.Removals.{MayRemove}
 use Rattle.pw_top.specs.Commands.{KeepsTheRest, files_put}
 use Rattle.pw_top.proofs.SessionLemmas.{changes_none, rest_none}
 

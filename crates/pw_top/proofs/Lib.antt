@@ -4,5 +4,6 @@ pub mod ToldLemmas
 pub mod GenuineLemmas
 pub mod SessionLemmas
 pub mod WholeLemmas
+pub mod CompleteLemmas
 pub mod ProperLemmas
 pub mod RestLemmas

@@ -8,10 +8,10 @@ use Rattle.pw_commands.specs.Outcome.{IsStoreAnswer}
 use Rattle.pw_commands.specs.Running.{IsRunOrStop}
 use Rattle.pw_commands.specs.Showing.{IsShowAnswer}
 use Rattle.pw_commands_phases.specs.Made.{IsPhaseAnswer}
-use Rattle.pw_session.specs.FromBuildFiles.Driving.{IsBuildAnswer}
+use Rattle.pw_law_session.specs.FromSession.FromBuildFiles.Driving.{IsBuildAnswer}
 use Rattle.pw_go.specs.Going.{IsGoAnswer}
-use Rattle.pw_session.specs.Bench.{IsBenchAnswer}
-use Rattle.pw_session.specs.Outcomes.{IsSessionAnswer}
+use Rattle.pw_law_session.specs.FromSession.Bench.{IsBenchAnswer}
+use Rattle.pw_law_session.specs.FromSession.Outcomes.{IsSessionAnswer}
 use Rattle.pw_top.specs.Answers.{HoldsNoLinkWant, HoldsNoWantOfMemory}
 
 link_proper : (fault : LinkFault) → fault ≢ link.NoMemory → HoldsNoLinkWant fault

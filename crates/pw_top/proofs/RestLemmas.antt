@@ -8,7 +8,7 @@ use Rattle.pw_top_answer.specs.declared.answer.Answer.{Answer}
 use Rattle.pw_top_answer.specs.declared.answer.Answer.TheVariants.{StoreFault}
 use Rattle.pw_top_answer.specs.Effects.{NamedFile}
 use Rattle.pw_commands.specs.Others.{IsNoneOf}
-use Rattle.pw_session.specs.Changes.{AreOwnChanges, Change, ChangePart, IsChanged, MakesSome, Puts, Removes, after_changes}
+use Rattle.pw_law_session.specs.FromSession.Changes.{AreOwnChanges, Change, ChangePart, IsChanged, MakesSome, Puts, Removes, after_changes}
 use Rattle.pw_top.specs.Rest.{IsPutName, LeavesRest}
 
 -- a change of one file is none of any other

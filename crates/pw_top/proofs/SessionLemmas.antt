@@ -8,16 +8,16 @@ use Rattle.pw_top_answer.specs.Answers.{NeedsMemory}
 use Rattle.pw_top_answer.specs.Effects.{Effect, NamedFile, PutsFiles}
 use Rattle.pw_top_answer.specs.Outcomes.{InputCount, IsLineDue, StoreCount}
 use Rattle.pw_store_modules.specs.Modules.{modules_of}
-use Rattle.pw_session.specs.FromBuild.Phases.{refused_line}
-use Rattle.pw_session.specs.FromBuild.BuildFault.{BuildFault}
-use Rattle.pw_session.specs.FromBuildFiles.Building.{Outcome}
+use Rattle.pw_law_session.specs.FromSession.FromBuild.Phases.{refused_line}
+use Rattle.pw_law_session.specs.FromSession.FromBuild.BuildFault.{BuildFault}
+use Rattle.pw_law_session.specs.FromSession.FromBuildFiles.Building.{Outcome}
 use Rattle.pw_commands.specs.Outcome.{IsFound}
 use Rattle.pw_build_opts.specs.declared.opts.RunOpts.{RunOpts}
-use Rattle.pw_session.specs.Bench.{BenchEffect, BenchOver, IsBenchAnswer, IsBenchFound, IsBenchLine, ObeysBench, bench_files}
-use Rattle.pw_session.specs.Changes.{Change, ChangePrefix, MakesChanges, MakesSome}
+use Rattle.pw_law_session.specs.FromSession.Bench.{BenchEffect, BenchOver, IsBenchAnswer, IsBenchFound, IsBenchLine, ObeysBench, bench_files}
+use Rattle.pw_law_session.specs.FromSession.Changes.{Change, ChangePrefix, MakesChanges, MakesSome}
 use Rattle.pw_top.specs.Answers.{IsNoUsage}
 use Rattle.pw_top.specs.Rest.{LeavesRest}
-use Rattle.pw_session.specs.Outcomes.{IsSessionAnswer, LeavesScript, ObeysSession}
+use Rattle.pw_law_session.specs.FromSession.Outcomes.{IsSessionAnswer, LeavesScript, ObeysSession}
 use Rattle.pw_top.specs.Does.{Does, DoesSession}
 use Rattle.pw_top.proofs.DoesLemmas.{Prints, left_so, none_out_yet, nothing_put, out_part}
 
@@ -152,10 +152,10 @@ pub bench_stores : (count : ℕ) (answer : Answer) → IsBenchAnswer answer → 
 bench_stores count StoreFault h = absurd h
 bench_stores count _ h = refl
 
-bench_due : (number : ℕ) (answer : Answer) (line : ℕ) → IsBenchLine number answer line → IsLineDue (refused_line (modules_of (bench_files number))) answer line
+bench_due : (number : ℕ) (answer : Answer) (line : Option ℕ) → IsBenchLine number answer line → IsLineDue (refused_line (modules_of (bench_files number))) answer line
 bench_due number (Refused name refusal) line h = h
 bench_due number _ line h = tt
 
-pub bench_line : (told : Option Told) (number : ℕ) (answer : Answer) (line : ℕ) → IsBenchLine number answer line → IfSome told (λ t. IsLineDue (refused_line (modules_of (bench_files number))) answer line)
+pub bench_line : (told : Option Told) (number : ℕ) (answer : Answer) (line : Option ℕ) → IsBenchLine number answer line → IfSome told (λ t. IsLineDue (refused_line (modules_of (bench_files number))) answer line)
 bench_line None number answer line h = tt
 bench_line (Some t) number answer line h = bench_due number answer line h

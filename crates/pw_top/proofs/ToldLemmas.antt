@@ -10,13 +10,13 @@ use Rattle.pw_top_answer.specs.Effects.{Effect, NamedFile, PutsFiles, PutPrefix}
 use Rattle.pw_top_answer.specs.Outcomes.{Answers, InputCount, IsLineDue, LeavesInput, LeavesStreams, OutputCount, StoreCount, ToldAs, WasReadInPart}
 use Rattle.pw_go.specs.Ends.{EndsIn}
 use Rattle.pw_commands.specs.Others.{KeepsOthers}
-use Rattle.pw_session.specs.FromBuild.BuildFault.{BuildFault}
-use Rattle.pw_session.specs.FromBuildFiles.Building.{Outcome}
-use Rattle.pw_session.specs.FromBuildFiles.Outcomes.{AnswersOutcome}
+use Rattle.pw_law_session.specs.FromSession.FromBuild.BuildFault.{BuildFault}
+use Rattle.pw_law_session.specs.FromSession.FromBuildFiles.Building.{Outcome}
+use Rattle.pw_law_session.specs.FromSession.FromBuildFiles.Outcomes.{AnswersOutcome}
 use Rattle.pw_top_words.specs.declared.commands.Command.{Command}
 use Rattle.pw_top_words.specs.declared.commands.Command.TheVariants.{Go, Build as BuildAll, Session}
-use Rattle.pw_session.specs.FromBuildFiles.Driving.{KeepsUnput, Unput}
-use Rattle.pw_session.specs.Removals.{MayRemove}
+use Rattle.pw_law_session.specs.FromSession.FromBuildFiles.Driving.{KeepsUnput, Unput}
+use Rattle.pw_law_session.specs.FromSession.Removals.{MayRemove}
 use Rattle.pw_top.specs.Answers.{HoldsNoWantOfMemory}
 use Rattle.pw_top.specs.Commands.{EndsScript, KeepsTheRest, RefusesAsBuilt, files_put}
 use Rattle.pw_top.specs.Does.{Does, DoesAs}
@@ -204,7 +204,7 @@ rest_told command script old new answer last t h = told_by (λ a. KeepsTheRest c
 
 -- ---- the line
 
-same_line : (due : ℕ) (answer last : Answer) (line : ℕ) → IsLineDue due answer line → ToldAs answer last → line_text line last ≡ line_text due last
+same_line : (due : Option ℕ) (answer last : Answer) (line : Option ℕ) → IsLineDue due answer line → ToldAs answer last → line_text line last ≡ line_text due last
 same_line due answer (Refused name refusal) line l t =
     ⊎_elim
     (λ e. let P : Answer → Type 0 = λ a. IsLineDue due a line in ap (λ n. line_text n (Refused name refusal)) (subst P (sym e) l))
@@ -212,7 +212,7 @@ same_line due answer (Refused name refusal) line l t =
     t
 same_line due answer _ line l t = refl
 
-pub told_line : (due : Files → ℕ) (first : Option Told) (answer last : Answer) (line : ℕ) (Q : List ℕ → Type 0) → ToldAs answer last → IfSome first (λ t. IsLineDue (due t.files) answer line) → Q (line_text line last)
+pub told_line : (due : Files → Option ℕ) (first : Option Told) (answer last : Answer) (line : Option ℕ) (Q : List ℕ → Type 0) → ToldAs answer last → IfSome first (λ t. IsLineDue (due t.files) answer line) → Q (line_text line last)
     → IfSome first (λ t. Q (line_text (due t.files) last))
 told_line due None answer last line Q t l h = tt
 told_line due (Some now) answer last line Q t l h = subst Q (same_line (due now.files) answer last line l t) h

@@ -7,13 +7,13 @@ use Rattle.pw_top_answer.specs.declared.answer.Answer.{Answer}
 use Rattle.pw_top_answer.specs.declared.answer.Answer.TheVariants.{StoreFault, NoMemory}
 use Rattle.pw_top_answer.specs.Effects.{Effect, after_puts}
 use Rattle.pw_top_answer.specs.Outcomes.{Answers, LeavesInput, PutsOut}
-use Rattle.pw_session.specs.FromBuild.BuildFault.{BuildFault}
-use Rattle.pw_session.specs.FromBuildFiles.Building.{BuildOutcome, Outcome}
-use Rattle.pw_session.specs.FromBuildFiles.Genuine.{KeepsGenuine}
-use Rattle.pw_session.specs.FromBuildFiles.Outcomes.{AreOpts}
-use Rattle.pw_session.specs.FromBuildFiles.Driving.{BuildEffect, built_effect}
+use Rattle.pw_law_session.specs.FromSession.FromBuild.BuildFault.{BuildFault}
+use Rattle.pw_law_session.specs.FromSession.FromBuildFiles.Building.{BuildOutcome, Outcome}
+use Rattle.pw_law_session.specs.FromSession.FromBuildFiles.Genuine.{KeepsGenuine}
+use Rattle.pw_law_session.specs.FromSession.FromBuildFiles.Outcomes.{AreOpts}
+use Rattle.pw_law_session.specs.FromSession.FromBuildFiles.Driving.{BuildEffect, built_effect}
 use Rattle.pw_go.specs.Going.{GoEffect, GoOver}
-use Rattle.pw_session.specs.Bench.{BenchEffect}
+use Rattle.pw_law_session.specs.FromSession.Bench.{BenchEffect}
 use Rattle.pw_build_opts.specs.declared.opts.Opts.{Opts}
 use Rattle.pw_law_session.specs.Whole.{IsBuiltInFull, LeavesFull}
 use Rattle.pw_law_session.specs.Full.{BenchBuildsInFull, SessionBuildsInFull}

@@ -1,20 +1,23 @@
 -- Kinds of commands, and what each leaves alone.
-use Rattle.std.specs.Prelude.{ℕ, Bool, true, false, List, [], ◌∷◌, Option, Some, IfSome, IsSomeAnd, Result}
+use Rattle.std.specs.Prelude.{ℕ, Bool, true, false, List, [], ◌∷◌, Option, Some, None, IfSome, IsSomeAnd, Result, ◌↔◌}
 use Rattle.pw_io.specs.Files.{Files, Told}
 use Rattle.pw_store_modules.specs.FileNames.{database_name, image_name}
 use Rattle.pw_top_answer.specs.declared.answer.Answer.{Answer}
+use Rattle.pw_top_answer.specs.Outcomes.{IsNoRefusal}
 use Rattle.pw_store_modules.specs.Modules.{modules_of}
-use Rattle.pw_session.specs.FromBuild.Phases as phases
-use Rattle.pw_session.specs.FromBuild.BuildFault.{BuildFault}
-use Rattle.pw_session.specs.FromBuildFiles.Building.{BuildOutcome, Outcome}
-use Rattle.pw_session.specs.FromBuildFiles.Outcomes.{AnswersOutcome}
+use Rattle.pw_law_session.specs.FromSession.FromBuild.Phases as phases
+use Rattle.pw_law_session.specs.FromSession.FromBuild.BuildFault.{BuildFault}
+use Rattle.pw_law_session.specs.FromSession.FromBuildFiles.Building.{BuildOutcome, Outcome}
+use Rattle.pw_law_session.specs.FromSession.FromBuildFiles.Outcomes.{AnswersOutcome}
 use Rattle.pw_commands.specs.Others.{KeepsOthers}
-use Rattle.pw_session.specs.FromBuildFiles.Genuine.{KeepsGenuine}
-use Rattle.pw_session.specs.Bench.{bench_files}
-use Rattle.pw_session.specs.Changes.{MakesSome}
-use Rattle.pw_session.specs.Outcomes.{EndsAs}
-use Rattle.pw_session.specs.Removals.{MayRemove}
-use Rattle.pw_session.specs.FromBuildFiles.Driving.{KeepsUnput}
+use Rattle.pw_law_session.specs.FromSession.FromBuildFiles.Genuine.{KeepsGenuine}
+use Rattle.pw_law_session.specs.FromSession.Bench.{bench_files}
+use Rattle.pw_law_session.specs.FromSession.Changes.{MakesSome}
+use Rattle.pw_law_session.specs.FromSession.Outcomes.{EndsAs}
+use Rattle.pw_law_session.specs.FromSession.Removals.{MayRemove}
+use Rattle.pw_law_session.specs.FromSession.FromBuildFiles.Driving.{KeepsUnput}
+use Rattle.pw_build_opts.specs.declared.opts.Opts.{Opts}
+use Rattle.pw_law_session.specs.FromBuildLaws.Complete.{CanBeBuilt}
 use Rattle.pw_law_session.specs.Full.{SessionBuildsInFull}
 use Rattle.pw_top.specs.Rest.{LeavesRest}
 use Rattle.pw_top.specs.Whole.{BenchesFull, ComesInFull, IfMade, ReportsFull, RunsFull}
@@ -87,6 +90,18 @@ RefusesAsBuilt (Some (Go opts)) files answer = (comes : Result Outcome BuildFaul
 RefusesAsBuilt (Some (Build opts)) files answer = (comes : Result Outcome BuildFault) → BuildOutcome files opts comes → AnswersOutcome comes answer
 RefusesAsBuilt _ files answer = Unit {0}
 
+-- Where the kept objects are genuine, nothing is refused exactly where the modules can be built: they are accepted one by one and
+-- together, and text and memory are large enough. So it is of every answer but a fault of the store and want of memory, which may
+-- come in the place of either.
+abbrev pub BuildsWhereItCan : Files → Opts → Answer → Type 0
+BuildsWhereItCan files opts answer = KeepsGenuine files → IfMade answer (IsNoRefusal answer ↔ CanBeBuilt (modules_of files) opts)
+
+-- `build` and `go` do so
+abbrev pub IsComplete : Option Command → Files → Answer → Type 0
+IsComplete (Some (Go opts)) files answer = BuildsWhereItCan files opts.build answer
+IsComplete (Some (Build opts)) files answer = BuildsWhereItCan files opts answer
+IsComplete _ files answer = Unit {0}
+
 -- Where the kept objects were genuine, `build` and `go` come to the report and to the run of the full build's image, or to its
 -- refusal, and leave its database and its image; and each build of a session, whatever ended it, is the full build of the
 -- modules as they were then. `bench` builds in full whatever the store keeps.
@@ -105,9 +120,9 @@ EndsScript (Some (Session opts)) script answer = IfSome script (λ bytes. EndsAs
 EndsScript _ script answer = Unit {0}
 
 -- the line on which a module is refused
-abbrev pub line_of : Option Command → Files → ℕ
+abbrev pub line_of : Option Command → Files → Option ℕ
 line_of (Some (Go opts)) files = phases.refused_line (modules_of files)
 line_of (Some (Build opts)) files = phases.refused_line (modules_of files)
 line_of (Some (Bench number opts)) files = phases.refused_line (modules_of (bench_files number))
 line_of (Some (PhaseOne name)) files = phase_line files name
-line_of _ files = 1
+line_of _ files = None

@@ -14,10 +14,10 @@ use Rattle.pw_commands.specs.Running.{run_effect}
 use Rattle.pw_commands.specs.Showing.{DatabaseEffect, ListEffect}
 use Rattle.pw_commands_phases.specs.First.{PhaseOneEffect}
 use Rattle.pw_commands_phases.specs.Second.{PhaseTwoEffect}
-use Rattle.pw_session.specs.FromBuildFiles.Driving.{BuildEffect}
+use Rattle.pw_law_session.specs.FromSession.FromBuildFiles.Driving.{BuildEffect}
 use Rattle.pw_build_opts.specs.declared.opts.RunOpts.{RunOpts}
-use Rattle.pw_session.specs.Bench.{BenchEffect}
-use Rattle.pw_session.specs.Outcomes.{LeavesScript, ObeysSession}
+use Rattle.pw_law_session.specs.FromSession.Bench.{BenchEffect}
+use Rattle.pw_law_session.specs.FromSession.Outcomes.{LeavesScript, ObeysSession}
 use Rattle.pw_top_words.specs.declared.commands.Command.{Command}
 use Rattle.pw_top_words.specs.declared.commands.Command.TheVariants.{Go, Build, Session, PhaseOne, Analyse, PhaseTwo, Link, Run, List as ListImage, Db, Bench}
 

@@ -4,3 +4,4 @@ pub mod Does
 pub mod Obeying
 pub mod Rest
 pub mod Whole
+pub mod FromLawSession

@@ -3,7 +3,7 @@ use Rattle.std.specs.Prelude.{ℕ, List, Option, IfSome}
 use Rattle.pw_io.specs.Files.{Told, Keeps}
 use Rattle.pw_top_answer.specs.declared.answer.Answer.{Answer}
 use Rattle.pw_top_answer.specs.Outcomes.{InputCount, IsLineDue, LeavesStreams, OutputCount, StoreCount}
-use Rattle.pw_session.specs.FromBuildFiles.Genuine.{KeepsGenuine}
+use Rattle.pw_law_session.specs.FromSession.FromBuildFiles.Genuine.{KeepsGenuine}
 use Rattle.pw_top_words.specs.declared.commands.Command.{Command}
 use Rattle.pw_top.specs.Answers.{HoldsNoWantOfMemory}
 use Rattle.pw_top.specs.Commands.{EndsScript, IsNoSession, KeepsTheRest, OnlyReads, RefusesAsBuilt, line_of}
@@ -23,7 +23,7 @@ outside_of told rest taken store input output =
     record { told = told; rest = rest; taken = taken; store_faults = store; input_faults = input; output_faults = output }
 
 -- The call did what the command comes to, and nothing besides; its line is the one on which a module is refused.
-pub record CarriesOut (command : Option Command) (answer : Answer) (number : ℕ) (old new : Outside) : Type 0 where
+pub record CarriesOut (command : Option Command) (answer : Answer) (number : Option ℕ) (old new : Outside) : Type 0 where
   pub does : IfSome old.told (λ told. IfSome old.rest (λ rest. DoesAs command answer told new.told rest new.rest old.taken new.taken))
   pub ends : EndsScript command old.rest answer
   pub refusal : IfSome old.told (λ told. RefusesAsBuilt command told.files answer)

@@ -5,7 +5,7 @@ use Rattle.pw_io.specs.Files.{Told}
 use Rattle.pw_store_modules.specs.Modules.{IsModuleFile}
 use Rattle.pw_top_answer.specs.declared.answer.Answer.{Answer}
 use Rattle.pw_top_answer.specs.declared.answer.Answer.TheVariants.{StoreFault}
-use Rattle.pw_session.specs.FromBuildFiles.Genuine.{IsBuiltName}
+use Rattle.pw_law_session.specs.FromSession.FromBuildFiles.Genuine.{IsBuiltName}
 use Rattle.pw_commands.specs.Others.{IsSameBut}
 
 -- a file of a module, or one of a build's

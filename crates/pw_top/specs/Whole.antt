@@ -11,12 +11,12 @@ use Rattle.pw_top_answer.specs.Effects.{Effect}
 use Rattle.pw_top_answer.specs.Outcomes.{Answers, LeavesInput, PutsOut}
 use Rattle.pw_build_opts.specs.declared.opts.Opts.{Opts}
 use Rattle.pw_build_opts.specs.declared.opts.RunOpts.{RunOpts}
-use Rattle.pw_session.specs.FromBuild.BuildFault.{BuildFault}
-use Rattle.pw_session.specs.FromBuildFiles.Building.{Outcome}
+use Rattle.pw_law_session.specs.FromSession.FromBuild.BuildFault.{BuildFault}
+use Rattle.pw_law_session.specs.FromSession.FromBuildFiles.Building.{Outcome}
 use Rattle.pw_law_session.specs.FromMeaning.Meaning.{BuildsAndMeans}
-use Rattle.pw_session.specs.FromBuildFiles.Outcomes.{fault_answer}
+use Rattle.pw_law_session.specs.FromSession.FromBuildFiles.Outcomes.{fault_answer}
 use Rattle.pw_commands.specs.MachineRun.{run_answer, run_output, run_rest}
-use Rattle.pw_session.specs.FromBuildFiles.Driving.{outcome_lines}
+use Rattle.pw_law_session.specs.FromSession.FromBuildFiles.Driving.{outcome_lines}
 use Rattle.pw_go.specs.Going.{run_from}
 use Rattle.pw_law_session.specs.Full.{BenchBuildsInFull}
 use Rattle.pw_law_session.specs.Whole.{LeavesFull}

@@ -3,5 +3,6 @@
 
 mod top;
 
+pub use pw_law_session::full_builds_have_a_program;
 pub use pw_top_answer::{Answer, status};
 pub use top::pawc_top;

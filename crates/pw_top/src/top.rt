@@ -4,9 +4,9 @@ ghost use Rattle.std.specs.Prelude.{◌≡◌, ◌⊎◌, ℕ, IfSome, List, Non
 ghost use Rattle.pw_io.specs.Files.{Keeps};
 ghost use Rattle.pw_top_answer.specs.Answers.{line_text};
 ghost use Rattle.pw_top_answer.specs.Outcomes.{InputCount, LeavesStreams, OutputCount, StoreCount, Tells, TellsSome};
-ghost use Rattle.pw_session.specs.FromBuildFiles.Genuine.{KeepsGenuine};
+ghost use Rattle.pw_law_session.specs.FromSession.FromBuildFiles.Genuine.{KeepsGenuine};
 ghost use Rattle.pw_top.specs.Answers.{HoldsNoWantOfMemory, IsNoUsage};
-ghost use Rattle.pw_top.specs.Commands.{BuildsWhole, EndsScript, IsNoSession, KeepsTheRest, OnlyReads, RefusesAsBuilt, is_builder, is_phase, is_reader, line_of};
+ghost use Rattle.pw_top.specs.Commands.{BuildsWhole, EndsScript, IsComplete, IsNoSession, KeepsTheRest, OnlyReads, RefusesAsBuilt, is_builder, is_phase, is_reader, line_of};
 ghost use Rattle.pw_top.specs.Does.{DoesAs};
 ghost use Rattle.pw_top.specs.Obeying.{CarriesOut, outside_of};
 ghost use Rattle.pw_top_words.specs.CommandLine.{command_of};
@@ -18,8 +18,10 @@ use pw_go::go;
 use pw_go::laws::runs_leave_an_end;
 use pw_io::laws::other_files;
 use pw_io::{Sink, Source, Store};
-use pw_law_session::{bench_builds_in_full, builds_are_full, sessions_build_in_full};
-use pw_session::{bench, build_modules, genuine_files_keep_genuine, run_session};
+use pw_law_session::{
+    a_store_is_built_exactly_where_it_can_be, bench, bench_builds_in_full, build_modules,
+    builds_are_full, genuine_files_keep_genuine, run_session, sessions_build_in_full,
+};
 use pw_top_answer::{Answer, Reply, tell};
 use pw_top_words::laws::commands_are_within;
 use pw_top_words::{Command, WordsFault, command};
@@ -37,15 +39,15 @@ fn obey_phase<S: Store>(alloc: Global, command: &Command, store: &mut S) -> Repl
         Command::PhaseOne(name) => compile_text(alloc, store, name),
         Command::Analyse { colours } => Reply {
             answer: analyse_modules(alloc, store, *colours),
-            line: 1,
+            line: None,
         },
         Command::PhaseTwo(name) => Reply {
             answer: compile_flow(alloc, store, name),
-            line: 1,
+            line: None,
         },
         Command::Link { stack } => Reply {
             answer: link_modules(alloc, store, *stack),
-            line: 1,
+            line: None,
         },
         _ => unreachable!(),
     }
@@ -66,15 +68,15 @@ fn obey_reader<S: Store, I: Source, O: Sink>(
     match command {
         Command::Run { steps } => Reply {
             answer: run_image(alloc, store, input, out, *steps),
-            line: 1,
+            line: None,
         },
         Command::List => Reply {
             answer: list_image(alloc, store, out),
-            line: 1,
+            line: None,
         },
         Command::Db => Reply {
             answer: show_database(alloc, store, out),
-            line: 1,
+            line: None,
         },
         _ => unreachable!(),
     }
@@ -99,7 +101,7 @@ fn obey_builder<S: Store, I: Source, O: Sink>(
         Command::Build(opts) => build_modules(alloc, store, out, opts),
         Command::Session(opts) => Reply {
             answer: run_session(alloc, store, input, out, opts),
-            line: 1,
+            line: None,
         },
         Command::Bench { number, opts } => bench(alloc, *number, opts, out),
         _ => unreachable!(),
@@ -149,11 +151,11 @@ fn obey_words<S: Store, I: Source, O: Sink>(
         Ok(command) => obey(alloc, &command, store, input, out),
         Err(WordsFault::Usage) => Reply {
             answer: Answer::Usage,
-            line: 1,
+            line: None,
         },
         Err(WordsFault::NoMemory) => Reply {
             answer: Answer::NoMemory,
-            line: 1,
+            line: None,
         },
     }
 }
@@ -183,6 +185,9 @@ pub fn pawc_top<S: Store, I: Source, O: Sink, E: Sink>(
     ensures ends_script { EndsScript (command_of (map string_bytes words.now)) (I.rest input.old) result }
     ensures builds_whole { IfSome (S.told store.old) (λ told. IfSome (I.rest input.old) (λ rest. BuildsWhole (command_of (map string_bytes words.now)) result told (S.told store.new) rest (I.rest input.new) (O.taken out.old) (O.taken out.new))) }
 
+    // where nothing is refused
+    ensures complete { IfSome (S.told store.old) (λ told. IfSome (I.rest input.old) (λ rest. IsComplete (command_of (map string_bytes words.now)) told.files result)) }
+
     // no refusal is one for want of memory
     ensures no_want_refused { HoldsNoWantOfMemory result }
 
@@ -204,6 +209,7 @@ pub fn pawc_top<S: Store, I: Source, O: Sink, E: Sink>(
     ensures line { IfSome (S.told store.old) (λ told. Tells (line_text (line_of (command_of (map string_bytes words.now)) told.files) result) (E.taken err.old) (E.taken err.new) (E.faults err.old) (E.faults err.new)) }
     ensures some_line { TellsSome result (E.taken err.old) (E.taken err.new) (E.faults err.old) (E.faults err.new) }
 {
+    a_store_is_built_exactly_where_it_can_be();
     bench_builds_in_full();
     builds_are_full();
     commands_are_within();

@@ -134,12 +134,17 @@ is_untold Done = true
 is_untold (Ended status) = true
 is_untold answer = false
 
+-- where in a text a refusal stands, where that is known
+abbrev pub at_line : Option ℕ → List ℕ
+at_line None = []
+at_line (Some line) = codes ":" ++ decimal line
+
 -- The line of an answer, where a refused module is refused on this line of its text. A command that is done and a run that ended have none.
-abbrev pub line_text : ℕ → Answer → List ℕ
+abbrev pub line_text : Option ℕ → Answer → List ℕ
 line_text line Done = []
 line_text line (Ended status) = []
 line_text line Usage = codes "usage" ++ newline
-line_text line (Refused name refusal) = text_name name ++ codes ":" ++ decimal line ++ codes ": " ++ refusal_text refusal ++ newline
+line_text line (Refused name refusal) = text_name name ++ at_line line ++ codes ": " ++ refusal_text refusal ++ newline
 line_text line (LinkRefused fault) = codes "link: " ++ link_text fault ++ newline
 line_text line StackStop = codes "StackStop" ++ newline
 line_text line Spent = codes "Spent" ++ newline

@@ -45,7 +45,7 @@ RefusesAs refusal WriteFault = ⊥
 RefusesAs refusal answer = Answers refusal answer
 
 -- the line, where the answer names a module
-abbrev pub IsLineDue : ℕ → Answer → ℕ → Type 0
+abbrev pub IsLineDue : Option ℕ → Answer → Option ℕ → Type 0
 IsLineDue due (Refused name refusal) line = line ≡ due
 IsLineDue due _ line = Unit {0}
 
@@ -127,9 +127,9 @@ Tells line old new before now =
 abbrev pub ToldAs : Answer → Answer → Type 0
 ToldAs answer told = (told ≡ answer) ⊎ (NeedsMemory answer × (told ≡ NoMemory))
 
--- What is told of an answer, whatever the store tells: its line, with some number where a module is refused.
+-- What is told of an answer, whatever the store tells: its line, with some number or none where a module is refused.
 abbrev pub TellsSome : Answer → Option (List ℕ) → Option (List ℕ) → ℕ → ℕ → Type 0
-TellsSome answer old new before now = (line : ℕ) × Tells (line_text line answer) old new before now
+TellsSome answer old new before now = (line : Option ℕ) × Tells (line_text line answer) old new before now
 
 -- A refusal, a file that is bad, a fault of the store and a wrong command line leave what the input and the output tell as it was.
 abbrev pub LeavesStreams : Answer → (input input' output output' : Option (List ℕ)) → Type 0

@@ -45,11 +45,11 @@ pub enum Answer {
     BadScript(u64),
 }
 
-/// What came of a command, and the line on which a refused module is refused.
+/// What came of a command. Where a module is refused, `line` is the line of its text on which it is, counted from 1.
 #[derive(Drop)]
 pub struct Reply {
     pub answer: Answer,
-    pub line: usize,
+    pub line: Option<usize>,
 }
 
 impl From<AllocError> for Answer {

@@ -2,7 +2,7 @@
 
 ghost use Rattle.std.specs.Prelude.{◌≡◌, IfOk, OnOk, OnErr, ◌++◌, ◌<◌, ◌^◌, codes};
 ghost use Rattle.std.specs.Fmt.{decimal};
-ghost use Rattle.pw_top_answer.specs.Answers.{feature_name, what_name, which_name, kind_text, bad_file_text, halt_name, lex_text, link_text, parse_text, refusal_text, line_text, NeedsMemory};
+ghost use Rattle.pw_top_answer.specs.Answers.{feature_name, what_name, which_name, kind_text, bad_file_text, halt_name, lex_text, link_text, parse_text, refusal_text, line_text, at_line, NeedsMemory};
 ghost use Rattle.pw_top_answer.specs.Lines.{line_bytes};
 
 use crate::answer::Answer;
@@ -224,19 +224,28 @@ fn link_text(alloc: Global, fault: &LinkFault) -> Result<Vec<u8>, AllocError>
     Ok(text)
 }
 
-/// The line of a module that is refused on line `line` of its text.
+/// Puts behind the name of a text on which of its lines it is refused, where that is known.
+fn push_line(text: &mut Vec<u8>, line: Option<usize>) -> Result<(), AllocError>
+    ensures { OnOk result (text.new.items ≡ text.old.items ++ at_line line) }
+{
+    if let Some(number) = line {
+        push_numbered(text, b":", number)?;
+    }
+    Ok(())
+}
+
+/// The line of a module that is refused, on line `line` of its text.
 fn refused_line(
     alloc: Global,
     name: &Name,
     refusal: &Refusal,
-    line: usize,
+    line: Option<usize>,
 ) -> Result<Vec<u8>, AllocError>
     ensures { IfOk result (λ text. text.items ≡ line_text line (Answer.Refused name.now refusal.now)) }
 {
     let mut text = Vec::from_slice(alloc, name.as_bytes())?;
     text.extend_from_slice(TEXT_ENDING.as_bytes())?;
-    text.extend_from_slice(b":")?;
-    push_decimal(&mut text, line as u64)?;
+    push_line(&mut text, line)?;
     text.extend_from_slice(b": ")?;
     push_refusal(&mut text, refusal)?;
     text.extend_from_slice(b"\n")?;
@@ -310,9 +319,9 @@ impl Line {
     }
 }
 
-/// The line of an answer, where a refused module is refused on line `line` of its text. Only the answers that name
-/// something need memory.
-pub fn line_of(alloc: Global, answer: &Answer, line: usize) -> Result<Line, AllocError>
+/// The line of an answer; where a module is refused, it is on line `line` of its text, where that is known. Only the answers
+/// that name something need memory.
+pub fn line_of(alloc: Global, answer: &Answer, line: Option<usize>) -> Result<Line, AllocError>
     ensures text { IfOk result (λ made. line_bytes made ≡ line_text line answer.now) }
     ensures memory { OnErr result (NeedsMemory answer.now) }
 {

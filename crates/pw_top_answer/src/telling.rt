@@ -15,9 +15,9 @@ fn put_line<E: Sink>(err: &mut E, line: &[u8])
     let _ = err.put(line);
 }
 
-/// Tells an answer in its line, where a refused module is refused on line `line` of its text. Where there is no memory
-/// for the line, the answer is that. A fault of `err` changes nothing.
-pub fn tell<E: Sink>(alloc: Global, answer: Answer, line: usize, err: &mut E) -> Answer
+/// Tells an answer in its line; where a module is refused, it is on line `line` of its text, where that is known. Where there
+/// is no memory for the line, the answer is that. A fault of `err` changes nothing.
+pub fn tell<E: Sink>(alloc: Global, answer: Answer, line: Option<usize>, err: &mut E) -> Answer
     ensures answer { ToldAs answer result }
     ensures line { Tells (line_text line result) (E.taken err.old) (E.taken err.new) (E.faults err.old) (E.faults err.new) }
 {

@@ -1,3 +1,4 @@
+use Rattle.std.proofs.Common.{None}
 use Rattle.pw_phase_one.specs.FirstPhase.{compiled}
 use Rattle.pw_commands_phases.specs.First.{line_in}
 use Rattle.pw_commands_phases.specs.First.{phase_one_puts, two_files}
@@ -12,7 +13,7 @@ returns-in-Ok-clause-obeys g c =
     c.in-Ok.ensures c.put_made.ensures.answer c.put_made.ensures.put
 
 pub returns-in-Ok-clause-line : goal.returns-in-Ok-clause-line
-returns-in-Ok-clause-line g c = put_line (line_in c.args.text.now (compiled c.args.name.now c.args.text.now)) c.put_made.result 1 c.put_made.ensures.answer
+returns-in-Ok-clause-line g c = put_line (line_in c.args.text.now (compiled c.args.name.now c.args.text.now)) c.put_made.result None c.put_made.ensures.answer
 
 pub returns-in-Ok-clause-answer : goal.returns-in-Ok-clause-answer
 returns-in-Ok-clause-answer g c = put_is_phase c.put_made.result c.put_made.ensures.answer

@@ -1,3 +1,4 @@
+use Rattle.std.proofs.Common.{None}
 use Rattle.pw_commands_phases.specs.First.{phase_one_puts}
 use Rattle.pw_commands.proofs.OthersLemmas.{kept_others, then_others}
 use Rattle.pw_commands_phases.proofs.FirstLemmas.{file_stop_is, file_stop_line, obeys_stopped, obeys_text, text_line}
@@ -18,7 +19,7 @@ returns-in-Err-clause-obeys g c =
     obeys_stopped (g.S.Store.told c.args.store.now) _ c.args.name.now c.in-Err.answer c.in-Err.ensures.bytes c.module_bytes.ensures.same c.in-Err.ensures.stop
 
 pub returns-in-Err-clause-line : goal.returns-in-Err-clause-line
-returns-in-Err-clause-line g c = file_stop_line (g.S.Store.told c.args.store.now) c.args.name.now c.in-Err.answer 1 c.in-Err.ensures.stop
+returns-in-Err-clause-line g c = file_stop_line (g.S.Store.told c.args.store.now) c.args.name.now c.in-Err.answer None c.in-Err.ensures.stop
 
 pub returns-in-Err-clause-answer : goal.returns-in-Err-clause-answer
 returns-in-Err-clause-answer g c = file_stop_is c.in-Err.answer c.in-Err.ensures.stop

@@ -3,7 +3,7 @@ use Rattle.std.specs.Borrow.{Bor}
 use Rattle.std.specs.List.{flat_map}
 use Rattle.std.specs.Prelude.{IfOk}
 use Rattle.pw_flow.specs.declared.flow.FlowGlobal.{FlowGlobal}
-use Rattle.pw_object.specs.declared.object.Object.{Object}
+use Rattle.pw_link_interface.specs.FromObject.Object.{Object}
 use Rattle.pw_image.specs.declared.image.Image.{Image}
 use Rattle.pw_link.specs.Layout.{function_pieces, routine_pieces}
 use Rattle.pw_link.specs.Views.{piece_view}

@@ -2,7 +2,7 @@ use Rattle.std.proofs.Common.{List, ap, map, subst, ◌∙◌}
 use Rattle.std.specs.Borrow.{Bor}
 use Rattle.std.specs.Prelude.{IfErr, IfOk, OnOk, ◌⊎◌, ◌≡◌}
 use Rattle.pw_value.specs.declared.fault.LinkFault.TheVariants as link
-use Rattle.pw_object.specs.declared.object.Object.{Object}
+use Rattle.pw_link_interface.specs.FromObject.Object.{Object}
 use Rattle.pw_link.specs.Linking.{linked, AreLinked, IsRefusal}
 use Rattle.pw_link.proofs.linking.link.Goals as goal
 

@@ -1,6 +1,6 @@
 use Rattle.std.proofs.Common.{sym, ap, ◌∙◌}
 use Rattle.std.specs.Borrow.{Bor}
-use Rattle.pw_object.specs.declared.object.Object.{Object}
+use Rattle.pw_link_interface.specs.FromObject.Object.{Object}
 use Rattle.pw_value.specs.Names.{is_before}
 use Rattle.pw_link.proofs.Growing.{first_place}
 use Rattle.pw_link.proofs.order.place_of.Goals as goal

@@ -14,18 +14,18 @@ returns c =
     let ds = c.args.directives.now in
     let o = c.object_with.result in
     let w = c.object_with.ensures in
-    let parts = c.in_ok-parts.ensures in
+    let made = c.in_ok-functions.ensures in
     let is : IsObjectOf m ds o = made_object m ds c.args.origin o c.requires.origin (record {
       version = w.version;
       of_module = w.of_module;
       flow = w.flow;
       directives = w.directives;
-      declared = subst (λ (v : List (List ℕ × List ℕ)). IsOrdered (λ d. d.0) m.declared v) (sym w.declared) parts.declared;
-      used = subst (λ (v : List (List ℕ)). IsOrdered (λ name. name) (named_in m) v) (sym w.used) parts.used;
+      declared = subst (λ (v : List (List ℕ × List ℕ)). IsOrdered (λ d. d.0) m.declared v) (sym w.declared) c.requires.declared;
+      used = subst (λ (v : List (List ℕ)). IsOrdered (λ name. name) (named_in m) v) (sym w.used) c.requires.used;
       globals = w.globals;
-      functions = w.functions ∙ parts.functions;
+      functions = w.functions ∙ made.functions;
     }) in
     record {
       object = is;
-      lawful = object_lawful m ds o c.requires.lawful c.requires.directives is (subst (λ (v : List ObjectFn). AllByRecursion object.IsFunction v) (sym w.functions) parts.lawful);
+      lawful = object_lawful m ds o c.requires.lawful c.requires.directives is (subst (λ (v : List ObjectFn). AllByRecursion object.IsFunction v) (sym w.functions) made.lawful);
     }

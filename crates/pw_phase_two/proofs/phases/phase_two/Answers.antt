@@ -14,18 +14,19 @@ returns c =
     let ds = c.args.directives.now in
     let o = c.object_with.result in
     let w = c.object_with.ensures in
-    let parts = c.in_ok-parts.ensures in
+    let made = c.in_ok-functions.ensures in
+    let shown = c.in_ok-interface.ensures in
     let is : IsObjectOf m ds o = made_object m ds c.in_ok-origin.origin o c.in_ok-origin.ensures (record {
       version = w.version;
       of_module = w.of_module ∙ c.in_ok-name.ensures;
       flow = w.flow;
       directives = w.directives;
-      declared = subst (λ (v : List (List ℕ × List ℕ)). IsOrdered (λ d. d.0) m.declared v) (sym w.declared) parts.declared;
-      used = subst (λ (v : List (List ℕ)). IsOrdered (λ name. name) (named_in m) v) (sym w.used) parts.used;
+      declared = subst (λ (v : List (List ℕ × List ℕ)). IsOrdered (λ d. d.0) m.declared v) (sym w.declared) shown.declared;
+      used = subst (λ (v : List (List ℕ)). IsOrdered (λ name. name) (named_in m) v) (sym w.used) shown.used;
       globals = w.globals ∙ c.in_ok-globals.ensures ∙ c.as_slice.ensures;
-      functions = w.functions ∙ parts.functions;
+      functions = w.functions ∙ made.functions;
     }) in
     record {
       object = is;
-      lawful = object_lawful m ds o c.requires.lawful c.requires.directives is (subst (λ (v : List ObjectFn). AllByRecursion object.IsFunction v) (sym w.functions) parts.lawful);
+      lawful = object_lawful m ds o c.requires.lawful c.requires.directives is (subst (λ (v : List ObjectFn). AllByRecursion object.IsFunction v) (sym w.functions) made.lawful);
     }

@@ -1,4 +1,4 @@
-use Rattle.std.proofs.Common.{ap}
+use Rattle.std.proofs.Common.{None, ap}
 use Rattle.pw_io.specs.Files.{Told}
 use Rattle.pw_session.specs.Bench.{BenchEffect}
 use Rattle.pw_session.proofs.BenchLemmas.{alone_streams, bench_built, bench_none, bench_refused, fault_write, refused_at, refused_is, said_at, said_is, said_streams}
@@ -13,7 +13,7 @@ returns-in-Ok-build_uncounted-clause-obeys g c = λ input.
     c.run_report.ensures.answer c.run_report.ensures.run
 
 pub returns-in-Ok-build_uncounted-clause-line : goal.returns-in-Ok-build_uncounted-clause-line
-returns-in-Ok-build_uncounted-clause-line g c = said_at c.args.number c.run_report.result 1 c.run_report.ensures.answer
+returns-in-Ok-build_uncounted-clause-line g c = said_at c.args.number c.run_report.result None c.run_report.ensures.answer
 
 pub returns-in-Ok-build_uncounted-clause-streams : goal.returns-in-Ok-build_uncounted-clause-streams
 returns-in-Ok-build_uncounted-clause-streams g c = λ input. said_streams c.run_report.result input (g.O.Sink.taken c.args.out.now) (g.O.Sink.taken c.run_report.new.out) c.run_report.ensures.answer

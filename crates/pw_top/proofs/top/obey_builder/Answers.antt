@@ -1,4 +1,4 @@
-use Rattle.pw_session.specs.Removals.{MayRemove}
+use Rattle.pw_law_session.specs.FromSession.Removals.{MayRemove}
 use Rattle.pw_top.proofs.CommandLemmas.{build_does, build_no_usage, build_reads, go_does, go_no_usage, kept_alone, none_due, plain_line}
 use Rattle.pw_top.proofs.GenuineLemmas.{genuine_alone, others_alone}
 use Rattle.pw_top.proofs.ProperLemmas.{bench_proper, build_proper, go_proper, session_proper}

@@ -3,6 +3,7 @@ use Rattle.std.specs.Prelude.{None, string_bytes}
 use Rattle.pw_top_answer.specs.Outcomes.{Tells}
 use Rattle.pw_top_words.specs.CommandLine.{command_of}
 use Rattle.pw_top.specs.Commands.{IsNoSession, line_of}
+use Rattle.pw_top.proofs.CompleteLemmas.{is_complete}
 use Rattle.pw_top.proofs.ToldLemmas.{ends_told, input_told, output_told, rest_told, store_told, streams_told, told_does, told_line, told_proper, told_refuses, usage_comes, usage_is}
 use Rattle.pw_top.proofs.WholeLemmas.{are_within, builds_whole}
 use Rattle.pw_top.proofs.top.pawc_top.Goals as goal
@@ -67,3 +68,9 @@ returns-clause-keeps_genuine g c = c.obey_words-reply.ensures.obeys.genuine
 
 pub returns-clause-store_after : goal.returns-clause-store_after
 returns-clause-store_after g c = c.obey_words-reply.ensures.obeys.reads
+
+pub returns-clause-complete : goal.returns-clause-complete
+returns-clause-complete g c =
+    is_complete c.a_store_is_built_exactly_where_it_can_be.ensures (command_of (map string_bytes c.args.words.now)) (g.S.Store.told c.args.store.now) _ (g.I.Source.rest c.args.input.now) _ (g.O.Sink.taken c.args.out.now) _ c.tell.result
+    (are_within (command_of (map string_bytes c.args.words.now)) (c.commands_are_within.ensures (map string_bytes c.args.words.now)))
+    (returns-clause-does g c) (returns-clause-refuses g c)

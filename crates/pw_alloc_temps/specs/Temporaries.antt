@@ -1,0 +1,42 @@
+-- Allocation in its second form: temporaries have registers, and those that get none a word of the frame.
+use Rattle.std.specs.Prelude.{ℕ, suc, ◌||◌, Option, None, Some, List, [], ◌∷◌, length, map}
+use Rattle.std.specs.List.{filter, list_any}
+use Rattle.pw_db.specs.Limits.{kept_registers}
+use Rattle.pw_webflow.specs.declared.web.WebFn.{WebFn}
+use Rattle.pw_webflow.specs.WebOutline.{web_outline}
+use Rattle.pw_alloc.specs.declared.located.Place.{Place}
+use Rattle.pw_alloc.specs.declared.located.Place.TheVariants.{Slot, Reg}
+use Rattle.pw_alloc.specs.declared.located.Located.{Located}
+use Rattle.pw_alloc.specs.Frames.{head_size, temp_offset, slots_begin, last_reach}
+use Rattle.pw_alloc.specs.Allocation.{is_entered, in_frame}
+use Rattle.pw_live.specs.Liveness.{is_that}
+use Rattle.pw_alloc_temps.specs.Registers.{registers}
+
+-- the register of each temporary, beside those of the function's webs
+abbrev pub registers_in : WebFn → List (Option ℕ)
+registers_in f = registers (web_outline f) (map (λ w. w.0.reg) f.directives.webs)
+
+-- the registers that a function saves: of those that a callee keeps, those of the webs that it enters and those of its
+-- temporaries
+abbrev pub saved_in : WebFn → List (Option ℕ) → List ℕ
+saved_in f regs = filter (λ r. is_entered f.directives.webs r || list_any (λ o. is_that o r) regs) kept_registers
+
+-- a register, or else the next word of the frame for temporaries
+abbrev pub placed : ℕ → ℕ → ℕ → List (Option ℕ) → List Place
+placed head saved i [] = []
+placed head saved i (Some r ∷ rest) = Reg r ∷ placed head saved i rest
+placed head saved i (None ∷ rest) = Slot (temp_offset head saved i) ∷ placed head saved (suc i) rest
+
+abbrev pub located : WebFn → List ℕ → List Place → Located
+located f saved places = record {
+  body = f;
+  places = places;
+  saved = saved;
+  frame = last_reach (slots_begin (head_size f) (length saved) (in_frame places)) f.slots;
+}
+
+unfoldable pub allocated : WebFn → Located
+allocated f =
+    let regs = registers_in f in
+    let saved = saved_in f regs in
+    located f saved (placed (head_size f) (length saved) 0 regs)

@@ -1,0 +1,56 @@
+-- What the objects of a program are refused for.
+use Rattle.std.proofs.Common.{◌≡◌, ◌↔◌, ℕ, Bool, true, false, List, [], ◌∷◌, map, Option, None, Some}
+use Rattle.std.specs.List.{AllByRecursion}
+use Rattle.std.specs.Prelude.{IsTrue}
+use Rattle.pw_value.specs.declared.fault.LinkFault.{LinkFault}
+use Rattle.pw_flow.specs.declared.flow.FlowModule.{FlowModule}
+use Rattle.pw_flow.specs.ValidFlow.{IsValid}
+use Rattle.pw_summary.specs.declared.summary.Summary.{Summary}
+use Rattle.pw_object.specs.declared.object.Object.{Object}
+use Rattle.pw_graph.specs.Program as graph
+use Rattle.pw_link_rules.specs.declared.interface.Interface.{Interface}
+use Rattle.pw_link_rules.specs.Linking.{Links, Refusal}
+use Rattle.pw_link_interface.specs.Interface.{interface}
+use Rattle.pw_link.specs.Linking.{size_fault, IsRefusal, no_program, too_large}
+use Rattle.pw_law_shown.specs.Alike.{AreObjectsIn, DeclaresMain}
+use Rattle.pw_build_objects.specs.Programs.{AreObjectsFrom, AreParts, AreSummariesOf, DirectivesList, IsModuleFrom, IsObjectFrom, Parts, first_kept, kept_behind}
+use Rattle.pw_build_objects.proofs.Databases.{parts_in}
+use Rattle.pw_build_opts.specs.declared.opts.Opts.{Opts}
+
+-- the law on which it stands: summaries and objects are refused alike
+abbrev pub LinkedAlike : Type 0
+LinkedAlike = (flows : List FlowModule) (ss : List Summary) (objects : List Object)
+    → AllByRecursion IsValid flows → AllByRecursion DeclaresMain flows → AreSummariesOf flows ss → AreObjectsIn flows flows objects → graph.AreLinked ss ↔ Links (map interface objects)
+
+pub parts_link : LinkedAlike → (flows : List FlowModule) (colours : ℕ) (parts : Parts) → AllByRecursion DeclaresMain flows → AreParts flows [] colours parts → Links (map interface parts.objects)
+parts_link alike flows colours parts declares are =
+    (alike flows are.database.summaries parts.objects are.lawful declares are.database.of_flows (parts_in flows colours parts are)).0 are.database.linked
+
+pub room_alone : LinkedAlike → ((modules : List Interface) (fault : LinkFault) → Links modules → ¬ Refusal modules fault)
+    → (flows : List FlowModule) (opts : Opts) (parts : Parts) (fault : LinkFault) → AllByRecursion DeclaresMain flows → AreParts flows [] opts.colours parts → IsRefusal parts.objects opts.stack fault → size_fault parts.objects opts.stack ≡ Some fault
+room_alone alike not_both flows opts parts fault declares are (no_program refusal) = absurd (not_both (map interface parts.objects) fault (parts_link alike flows opts.colours parts declares are) refusal)
+room_alone alike not_both flows opts parts fault declares are (too_large links large) = large
+
+-- ---- objects of which none stayed
+
+new_object : (flow : FlowModule) (ds : DirectivesList) (old : Option Object) (o : Object) (b : Bool) → IsTrue b → IsObjectFrom flow ds old o b → IsObjectFrom flow ds None o b
+new_object flow ds old o true t is = (λ stays. stays, is.1)
+new_object flow ds old o false t is = absurd cc
+
+new_module : (db : DirectivesList) (flow : FlowModule) (old : Option Object) (o : Object) (b : Bool) → IsTrue b → IsModuleFrom db flow old o b → IsModuleFrom db flow None o b
+new_module db flow old o b t is = record { directives = is.directives; in_database = is.in_database; object = new_object flow is.directives old o b t is.object }
+
+-- are those that the second phase makes where nothing is kept
+pub new_objects : (db : DirectivesList) (flows : List FlowModule) (kept : List (Option Object)) (os : List Object) (fresh : List Bool) → AllByRecursion IsTrue fresh → AreObjectsFrom db flows kept os fresh → AreObjectsFrom db flows [] os fresh
+new_objects db [] kept [] [] t h = tt
+new_objects db [] kept [] (b ∷ bs) t h = absurd h
+new_objects db [] kept (o ∷ os) bs t h = absurd h
+new_objects db (f ∷ fs) kept [] bs t h = absurd h
+new_objects db (f ∷ fs) kept (o ∷ os) [] t h = absurd h
+new_objects db (f ∷ fs) kept (o ∷ os) (b ∷ bs) t h = (new_module db f (first_kept kept) o b t.0 h.0, new_objects db fs (kept_behind kept) os bs t.1 h.1)
+
+-- so they keep the rules of linking
+pub new_objects_link : ((flows : List FlowModule) (colours : ℕ) (parts : Parts) → AllByRecursion DeclaresMain flows → AreParts flows [] colours parts → Links (map interface parts.objects))
+    → (flows : List FlowModule) (kept : List (Option Object)) (colours : ℕ) (parts : Parts) → AllByRecursion DeclaresMain flows → AreParts flows kept colours parts → AllByRecursion IsTrue parts.fresh → Links (map interface parts.objects)
+new_objects_link links flows kept colours parts declares are t =
+    links flows colours parts declares (record { lawful = are.lawful; database = are.database; objects = new_objects parts.database flows kept parts.objects parts.fresh t are.objects })

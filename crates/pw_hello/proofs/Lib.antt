@@ -1,0 +1,3 @@
+mod Typing
+mod Reading
+mod Running

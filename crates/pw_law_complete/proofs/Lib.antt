@@ -1,0 +1,3 @@
+mod Builds
+mod Parts
+mod Phases

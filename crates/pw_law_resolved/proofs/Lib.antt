@@ -1,0 +1,5 @@
+pub mod Flows
+pub mod Symbols
+pub mod Trees
+pub mod Main
+pub mod Whole

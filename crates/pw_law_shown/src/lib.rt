@@ -1,0 +1,8 @@
+//! Laws of what modules show to linking: their flow graphs, their summaries and their objects come to the same.
+#![tactic(auto)]
+
+mod linking;
+
+pub use linking::{
+    flow_graphs_and_summaries_are_refused_alike, summaries_and_objects_are_refused_alike,
+};

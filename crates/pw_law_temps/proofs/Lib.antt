@@ -1,0 +1,4 @@
+mod Lists
+mod Words
+mod Serving
+mod Programs

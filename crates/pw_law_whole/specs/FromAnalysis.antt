@@ -1,0 +1,2 @@
+-- The definitions of pw_law_analysis that crates above name.
+pub use Rattle.pw_law_analysis.specs.ImageTraffic

@@ -1,0 +1,3 @@
+mod Levels
+pub mod Paths
+mod Beside

@@ -1,0 +1,4 @@
+pub mod Chunks
+pub mod InWords
+pub mod Memory
+pub mod Overwriting

@@ -1,0 +1,31 @@
+//! What stays of items where words move into the slots of the branches behind them.
+
+ghost use Rattle.std.specs.Prelude.{ℕ, Bool, List, ◌≡◌, ◌≤◌, ◌∷◌, ◌++◌};
+ghost use Rattle.std.specs.List.{flat_map, AllByRecursion};
+ghost use Rattle.pw_delay.specs.declared.items.Item.{Item};
+ghost use Rattle.pw_delay.specs.declared.items.Item.TheVariants.{Mark};
+ghost use Rattle.pw_delay.specs.Placement.{sizes};
+ghost use Rattle.pw_delay.specs.Lawful.{AreItems};
+ghost use Rattle.pw_slots.specs.Filling.{filled};
+ghost use Rattle.pw_slots.specs.Parts.{words_of, blocks_of, turns_of, compared_by, IsFilledFrom};
+
+/// Each word stays once, in the order of the others; so do the places where blocks begin and the turns of control, but for
+/// how far a branch goes back. Words do not become more, and what could be placed still can.
+pub fn filling_keeps_parts()
+    ensures words { (behind : Bool) (items : List Item) → flat_map words_of (filled behind items) ≡ flat_map words_of items }
+    ensures blocks { (behind : Bool) (items : List Item) → flat_map blocks_of (filled behind items) ≡ flat_map blocks_of items }
+    ensures turns { (behind : Bool) (items : List Item) → flat_map turns_of (filled behind items) ≡ flat_map turns_of items }
+    ensures sizes { (long behind : Bool) (items : List Item) → sizes long (filled behind items) ≤ sizes long items }
+    ensures lawful { (behind : Bool) (items : List Item) → AreItems items → AreItems (filled behind items) }
+{}
+
+/// Each item is one that was there, or a turn with the word in its slot that stood before it and may move there.
+pub fn slots_are_filled_from_items()
+    ensures { (behind : Bool) (items : List Item) → AllByRecursion (IsFilledFrom items) (filled behind items) }
+{}
+
+/// No word moves over the beginning of a block: what stands behind it is filled by itself.
+pub fn blocks_are_filled_alone()
+    ensures { (behind : Bool) (before after : List Item) (b : ℕ) →
+        filled behind (before ++ Mark b ∷ after) ≡ filled behind before ++ Mark b ∷ filled (compared_by behind before) after }
+{}
