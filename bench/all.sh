@@ -10,7 +10,7 @@ summary=
 failed=0
 for script in "$bench"/*.sh "$bench/checks.py" "$bench/cruns.py"; do
     name=$(basename "$script")
-    case $name in all.sh | common.sh) continue ;; esac
+    case $name in all.sh | common.sh | quick.sh) continue ;; esac
     case $name in
         *.py) command=(python3 "$script") ;;
         *) command=(bash "$script" "$@") ;;

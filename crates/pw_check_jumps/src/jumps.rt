@@ -18,7 +18,7 @@ use pw_tree::{Expr, Word};
 use pw_typed::{TExpr, TStmt, TStmtForm};
 use std::alloc::Global;
 
-/// C90 6.6.6.1
+/// What a `goto` asks: that its function has the label. It is the jump to it (C90 6.6.6.1).
 #[tactic(auto, unfolding(pw_check_walk::specs::Walks::bind, pw_check_walk::specs::Walks::outcome, pw_check_rules::specs::Statements::goto_rule, pw_typed::specs::Views::view_stmt_form))]
 pub fn goto_rule(state: &State<'_>, token: usize, word: &Word) -> Result<TStmt, CheckFault>
     ensures follows { Follows view_stmt (spec.goto_rule token (view_word word.now)) (view_state state.now) result }
@@ -33,7 +33,7 @@ pub fn goto_rule(state: &State<'_>, token: usize, word: &Word) -> Result<TStmt, 
     })
 }
 
-/// C90 6.6.6.2
+/// What `continue` asks: that it stands in a loop (C90 6.6.6.2).
 #[tactic(auto, unfolding(pw_check_walk::specs::Walks::bind, pw_check_walk::specs::Walks::outcome, pw_check_rules::specs::Statements::continue_rule, pw_typed::specs::Views::view_stmt_form))]
 pub fn continue_rule(state: &State<'_>, token: usize) -> Result<TStmt, CheckFault>
     ensures follows { Follows view_stmt (spec.continue_rule token) (view_state state.now) result }
@@ -48,7 +48,7 @@ pub fn continue_rule(state: &State<'_>, token: usize) -> Result<TStmt, CheckFaul
     })
 }
 
-/// C90 6.6.6.3
+/// What `break` asks: that it stands in a loop or a `switch` (C90 6.6.6.3).
 #[tactic(auto, unfolding(pw_check_walk::specs::Walks::bind, pw_check_walk::specs::Walks::outcome, pw_check_rules::specs::Statements::break_rule, pw_typed::specs::Views::view_stmt_form))]
 pub fn break_rule(state: &State<'_>, token: usize) -> Result<TStmt, CheckFault>
     ensures follows { Follows view_stmt (spec.break_rule token) (view_state state.now) result }
@@ -84,7 +84,7 @@ fn returned(
     })
 }
 
-/// C90 6.6.6.4
+/// What `return` asks: that the function's result takes the value, where it has one (C90 6.6.6.4).
 pub fn return_rule<'a, P: BodyParts<'a>>(
     alloc: Global,
     parts: &P,

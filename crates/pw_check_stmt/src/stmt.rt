@@ -145,7 +145,7 @@ fn in_loop<'a, P: BodyParts<'a>>(
     Ok(made)
 }
 
-/// C90 6.6.5.1
+/// A `while` statement: its condition, and its body in a loop (C90 6.6.5.1).
 fn while_stmt<'a, P: BodyParts<'a>>(
     alloc: Global,
     parts: &P,
@@ -165,7 +165,7 @@ fn while_stmt<'a, P: BodyParts<'a>>(
     })
 }
 
-/// C90 6.6.5.2
+/// A `do` statement: its body in a loop, and its condition (C90 6.6.5.2).
 fn do_stmt<'a, P: BodyParts<'a>>(
     alloc: Global,
     parts: &P,
@@ -195,7 +195,7 @@ fn unboxed(held: Option<Box<TExpr>>) -> Option<TExpr>
     }
 }
 
-/// C90 6.6.5.3
+/// A `for` statement: its three expressions, each of which may be left out, and its body in a loop (C90 6.6.5.3).
 fn for_stmt<'a, P: BodyParts<'a>>(
     alloc: Global,
     parts: &P,

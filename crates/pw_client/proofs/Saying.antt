@@ -1,6 +1,5 @@
 -- What the main theorem says of `hello`.
 use Rattle.std.specs.Prelude.{◌≡◌, ℕ, suc, ◌+◌, ◌≤◌, List, [], ◌∷◌, ◌++◌, Option, None, Some, IfSome, Result, Ok, Err}
-use Rattle.std.specs.FinMap as finite
 use Rattle.std.proofs.Common.{arith, ap, refl, subst, sym, ◌∙◌}
 use Rattle.std.proofs.lemmas.List.{append-nil}
 use Rattle.pw_value.specs.Limits.{stack_least}
@@ -41,7 +40,7 @@ use Rattle.pw_top_words.specs.declared.commands.Command.TheVariants.{Go}
 use Rattle.pw_top_words.specs.Limits.{IsWithin}
 use Rattle.pw_top.specs.Commands.{BuildsWhole}
 use Rattle.pw_top.specs.Whole.{ComesInFull, IfMade, RunsFull}
-use Rattle.pw_hello.specs.Hello.{hello, hello_main, hello_module, hello_output, hello_run, hello_syntax, hello_text, hello_tree}
+use Rattle.pw_hello.specs.Hello.{hello, hello_main, hello_module, hello_run, hello_syntax, hello_text, hello_tree}
 use Rattle.pw_client.specs.Saying.{HoldsHello, SaysHi}
 
 -- ---- the program of the texts
@@ -80,7 +79,7 @@ tells_hello runs one texts opts bytes means of least input are budget =
     let same : means.program ≡ hello = one texts means.program hello means.of_texts of in
     let fit : FramesFit hello v = subst (λ p. FramesFit p v) same means.fit in
     let run : runs_of means.program v opts.stack input (suc budget) ≡ hello_source =
-        ap (λ p. runs_of p v opts.stack input (suc budget)) same ∙ runs_in runs v opts.stack input budget fit least in
+    ap (λ p. runs_of p v opts.stack input (suc budget)) same ∙ runs_in runs v opts.stack input budget fit least in
     subst (λ r. Tells input (run_of budget (start_state (image_start v.memory) input)) r) run
     (means.tells input are budget (suc budget) (omega arith) (subst (λ (r : SourceRun). IsMeaningful r.end) (sym run) tt))
 
@@ -160,8 +159,8 @@ says_image : Runs → OneProgram → OneImage → (texts : Texts) (opts : RunOpt
 says_image runs one images texts opts bytes means of least input are answer input' taken taken' ran =
     let progress = run_of opts.budget (start_state (image_start ran.0.value.memory) input) in
     let tells : Tells input progress hello_source =
-        subst (λ (c : Contents Image). Tells input (run_of opts.budget (start_state (image_start c.value.memory) input)) hello_source) (images bytes means.contents ran.0 means.file ran.1)
-        (tells_hello runs one texts opts.build bytes means of least input are opts.budget) in
+    subst (λ (c : Contents Image). Tells input (run_of opts.budget (start_state (image_start c.value.memory) input)) hello_source) (images bytes means.contents ran.0 means.file ran.1)
+    (tells_hello runs one texts opts.build bytes means of least input are opts.budget) in
     by_answer (run_answer progress) answer taken taken' ran.2 (λ e.
     subst (λ a. SaysHi a taken taken') e (says_run input progress taken taken' tells (subst (λ a. PutsOut (run_output progress) a taken taken') (sym e) ran.3)))
 

@@ -18,7 +18,7 @@ pub mod writing;
 
 pub use fault::FieldFault;
 
-/// A byte.
+/// Reads a byte, and what is left behind it; a fault where no byte is there.
 #[tactic(auto, unfolding(crate::specs::Fields::u8_at))]
 pub fn read_u8(bytes: &[u8]) -> Result<(u8, &[u8]), FieldFault>
     ensures found { AnswersField (λ x. (x.0, x.1.now)) result (u8_at bytes.now) }
@@ -30,7 +30,7 @@ pub fn read_u8(bytes: &[u8]) -> Result<(u8, &[u8]), FieldFault>
     }
 }
 
-/// A number of four bytes, the highest first.
+/// Reads a number of four bytes, the highest first, and what is left behind it; a fault where fewer are there.
 #[tactic(auto, unfolding(crate::specs::Fields::u32_at))]
 pub fn read_u32(bytes: &[u8]) -> Result<(u32, &[u8]), FieldFault>
     ensures found { AnswersField (λ x. (x.0, x.1.now)) result (u32_at bytes.now) }
@@ -86,7 +86,7 @@ pub fn read_text_in_place(bytes: &[u8]) -> Result<(&[u8], &[u8]), FieldFault>
     Ok(rest.split_at(count))
 }
 
-/// A text, copied.
+/// Reads a text, which is copied: the count of its bytes and the bytes; a fault at the count where fewer are there.
 pub fn read_text(alloc: Global, bytes: &[u8]) -> Result<(Vec<u8>, &[u8]), FieldFault>
     ensures { AnswersField (λ x. (x.0.items, x.1.now)) result (text_at bytes.now) }
 {

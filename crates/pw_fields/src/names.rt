@@ -109,7 +109,7 @@ pub fn push_name(out: &mut Vec<u8>, names: &[Name], name: &Name) -> Result<(), A
     }
 }
 
-/// The table of names.
+/// Adds the table of names: their count, and each as a text.
 #[tactic(auto, unfolding(crate::specs::FieldNames::name_table))]
 pub fn push_names(out: &mut Vec<u8>, names: &[Name]) -> Result<(), AllocError>
     requires { IsNameTable names.now }

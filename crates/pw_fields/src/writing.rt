@@ -5,7 +5,7 @@ ghost use Rattle.pw_fields.specs.Fields.{u8, u32, u64, text, flag, FitsText};
 
 use std::alloc::AllocError;
 
-/// A byte.
+/// Adds a byte.
 pub fn push_u8(out: &mut Vec<u8>, number: u8) -> Result<(), AllocError>
     ensures { OnOk result (out.new.items ≡ out.old.items ++ u8 number) }
 {

@@ -149,7 +149,7 @@ fn read_shape_items(
     Ok((items, rest))
 }
 
-/// The count of names, and the names.
+/// Reads a list of names in byte order without repeats: their count, and the place of each in the table.
 #[tactic(auto, unfolding(crate::specs::Rising::rising_at))]
 pub fn read_name_list<'a>(
     alloc: Global,
@@ -163,7 +163,7 @@ pub fn read_name_list<'a>(
     read_name_items(alloc, names, start, count, rest)
 }
 
-/// The count of names, and the names with their shapes.
+/// Reads a list of names with their shapes, in byte order of the names without repeats: their count, and each.
 #[tactic(auto, unfolding(crate::specs::Rising::rising_at))]
 pub fn read_shaped_list<'a>(
     alloc: Global,
@@ -177,7 +177,7 @@ pub fn read_shaped_list<'a>(
     read_shaped_items(alloc, names, start, count, rest)
 }
 
-/// The count of shapes, and the shapes.
+/// Reads a list of shapes in byte order without repeats: their count, and each as a text.
 #[tactic(auto, unfolding(crate::specs::Rising::rising_at))]
 pub fn read_shape_list(alloc: Global, bytes: &[u8]) -> Result<(Items<Shape>, &[u8]), FieldFault>
     ensures { AnswersField (λ x. (x.0, x.1.now)) result (text_list_at bytes.now) }

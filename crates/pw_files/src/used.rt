@@ -5,7 +5,7 @@ ghost use Rattle.std.specs.Prelude.{◌≡◌, ◌++◌, map, OnOk};
 use pw_value::{Name, Shape};
 use std::alloc::AllocError;
 
-/// Adds names.
+/// Adds names behind those that are used so far, with repeats.
 pub fn add_names<'a>(used: &mut Vec<&'a Name>, names: &'a [Name]) -> Result<(), AllocError>
     ensures { OnOk result (map (λ name. name.now) used.new.items ≡ map (λ name. name.now) used.old.items ++ names.now) }
 {

@@ -67,7 +67,7 @@ pub fn push_bytes(out: &mut Vec<u8>, bytes: &[u8]) -> Result<(), AllocError>
     push_text(out, bytes)
 }
 
-/// A name with its shape.
+/// Adds a name, by its place in the table, and its shape as a text.
 pub fn push_shaped(
     out: &mut Vec<u8>,
     names: &[Name],
@@ -95,7 +95,7 @@ fn push_name_items(out: &mut Vec<u8>, names: &[Name], items: &[Name]) -> Result<
     Ok(())
 }
 
-/// A list of names.
+/// Adds a list of names: their count, and the place of each in the table.
 #[tactic(auto, unfolding(crate::specs::Rising::counted))]
 pub fn push_name_list(out: &mut Vec<u8>, names: &[Name], items: &[Name]) -> Result<(), AllocError>
     requires table { IsNameTable names.now }
@@ -118,7 +118,7 @@ fn push_shape_items(out: &mut Vec<u8>, items: &[Shape]) -> Result<(), AllocError
     Ok(())
 }
 
-/// A list of shapes.
+/// Adds a list of shapes: their count, and each as a text.
 #[tactic(auto, unfolding(crate::specs::Rising::counted))]
 pub fn push_shape_list(out: &mut Vec<u8>, items: &[Shape]) -> Result<(), AllocError>
     ensures fits { OnOk result (FitsList FitsText items.now) }

@@ -30,6 +30,7 @@ pub enum EndCode {
     Return,
 }
 
+/// Each operation at the number that it has in files, from 0.
 pub const OP_CODES: [OpCode; 15] = [
     OpCode::Const,
     OpCode::Copy,
@@ -48,10 +49,13 @@ pub const OP_CODES: [OpCode; 15] = [
     OpCode::CallInd,
 ];
 
+/// Each end of a block at the number that it has in files, from 0.
 pub const END_CODES: [EndCode; 3] = [EndCode::Jump, EndCode::Branch, EndCode::Return];
 
+/// Each operator of one operand at the number that it has in files, from 0.
 pub const UN_KINDS: [UnKind; 2] = [UnKind::Neg, UnKind::Not];
 
+/// Each operator of two operands at the number that it has in files, from 0.
 pub const BIN_KINDS: [BinKind; 19] = [
     BinKind::Add,
     BinKind::Sub,
@@ -74,4 +78,5 @@ pub const BIN_KINDS: [BinKind; 19] = [
     BinKind::LeU,
 ];
 
+/// Each cut of a number to eight or sixteen bits at the number that it has in files, from 0.
 pub const EXT_KINDS: [ExtKind; 4] = [ExtKind::S8, ExtKind::U8, ExtKind::S16, ExtKind::U16];

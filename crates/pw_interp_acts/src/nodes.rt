@@ -98,7 +98,7 @@ pub fn binary<'a>(
     settle(env, token, answer)
 }
 
-/// A conversion to a type.
+/// A value converted to a type, or the end of a run that meets an undefined operation there.
 pub fn convert<'a>(env: &Env<'a>, token: usize, ty: &CType, v: Value) -> Result<Value, Stop<'a>>
     ensures answers { (s : Shown) → Answers (λ x. x) (view_env env.now).world (operators.convert (site (view_env env.now) token) (view_type ty.now) v) s result s }
     ensures no_memory { IfErr result (λ stop. stop ≢ Stop.NoMemory) }

@@ -17,7 +17,7 @@ use pw_types::QType;
 use pw_value::Value;
 use std::alloc::Global;
 
-/// A call of a function that is named.
+/// A call of a function that is named: its arguments from left to right, and then the call.
 pub fn call_named<'a, P: Expressions<'a>, C: Calls<'a>>(
     alloc: Global,
     parts: &P,

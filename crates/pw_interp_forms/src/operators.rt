@@ -20,7 +20,7 @@ use pw_types::{BinaryOperator, LogicOperator, QType, UnaryOperator};
 use pw_value::Value;
 use std::alloc::Global;
 
-/// A unary operator.
+/// What a unary operator makes of its operand, which was evaluated before.
 pub fn unary<'a>(
     env: &Env<'a>,
     state: &State<'a>,
@@ -77,7 +77,7 @@ fn word(holds: bool) -> u32
     u32::from(holds)
 }
 
-/// `&&` or `||`.
+/// `&&` or `||`, whose left operand was evaluated before; the right one is evaluated where the left does not decide.
 pub fn logic<'a, P: Expressions<'a>>(
     alloc: Global,
     parts: &P,
@@ -142,7 +142,7 @@ pub fn comma<'a, P: Expressions<'a>>(
     parts.answer_of(alloc, env, state, bound, b)
 }
 
-/// A conversion.
+/// What a cast makes of its operand, which was evaluated before.
 pub fn cast<'a>(
     env: &Env<'a>,
     token: usize,

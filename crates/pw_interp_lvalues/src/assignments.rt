@@ -103,7 +103,7 @@ pub fn compound<'a, P: Expressions<'a>>(
     Ok(Some(result))
 }
 
-/// `++` and `--`.
+/// `++` or `--`, before or behind its operand, whose place was found before: the store, and the old or the new value.
 pub fn step<'a>(
     alloc: Global,
     env: &Env<'a>,

@@ -84,6 +84,7 @@ pub struct CurrentFolder<'a, R> {
 }
 
 impl<'a, R> CurrentFolder<'a, R> {
+    /// The folder in which the program runs. No call of it has failed so far.
     pub fn new(rt: &'a R) -> Self
         ensures { result.last_fault ≡ None }
     {

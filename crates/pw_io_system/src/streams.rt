@@ -95,6 +95,7 @@ pub struct StdSource<R> {
 }
 
 impl<R: Read> StdSource<R> {
+    /// A source over a reader, of which nothing is read ahead so far.
     pub fn new(reader: R) -> Self
         ensures reader { result.reader ≡ reader }
         ensures block { result.block ≡ [] }
@@ -136,6 +137,7 @@ pub struct StdSink<W> {
 }
 
 impl<W: Write> StdSink<W> {
+    /// A sink over a writer. It has no fault so far.
     pub fn new(writer: W) -> Self
         ensures writer { result.writer ≡ writer }
         ensures faults { result.faults ≡ 0 }

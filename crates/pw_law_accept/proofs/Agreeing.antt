@@ -1,137 +1,10 @@
--- Whether two shapes agree can be told.
-use Rattle.std.proofs.Common.{◌≡◌, ◌⊎◌, ℕ, ◌<◌, Bool, true, false, List, [], ◌∷◌, ◌++◌, length, refl, sym, ap, subst, ◌∙◌, arith, IsTrue, inl, inr}
-use Rattle.std.specs.Char.{is_ascii_digit}
-use Rattle.std.specs.List.{list_all}
-use Rattle.std.specs.Str.{bytes_eq}
-use Rattle.std.proofs.lemmas.Slice.Eq.{bytes_eq-Decides}
-use Rattle.pw_value.specs.Shapes.{Agree, Begins, GivesDigits, GivesLength}
-
-abbrev Or : Type 0 → Type 0
-Or P = P ⊎ (P → ⊥)
-
-clash : (b : Bool) → b ≡ true → b ≡ false → ⊥
-clash b d e = cc
-
-same_by : (a c : List ℕ) (b : Bool) → bytes_eq a c ≡ b → Or (a ≡ c)
-same_by a c true e = inl ((bytes_eq-Decides a c).0 e)
-same_by a c false e = inr (λ d. clash (bytes_eq a c) ((bytes_eq-Decides a c).1 d) e)
-
-pub same_or_not : (a c : List ℕ) → Or (a ≡ c)
-same_or_not a c = same_by a c (bytes_eq a c) refl
-
--- some digits, or none, and then the closing text
-abbrev Digits : List ℕ → List ℕ → Type 0
-Digits closing text = (count : List ℕ) × IsTrue (list_all is_ascii_digit count) × (text ≡ count ++ closing)
-
-abbrev tail : List ℕ → List ℕ
-tail [] = []
-tail (x ∷ xs) = xs
-
-abbrev head : List ℕ → ℕ
-head [] = 0
-head (x ∷ xs) = x
-
-pub digit_first : (c : ℕ) (count : List ℕ) → IsTrue (list_all is_ascii_digit (c ∷ count)) → is_ascii_digit c ≡ true
-digit_first c count h = by (is_ascii_digit c) refl h
-  where
-    by : (b : Bool) → is_ascii_digit c ≡ b → IsTrue (list_all is_ascii_digit (c ∷ count)) → is_ascii_digit c ≡ true
-    by true e h = e
-    by false e h = grind arith
-
-pub digit_rest : (c : ℕ) (count : List ℕ) → IsTrue (list_all is_ascii_digit (c ∷ count)) → IsTrue (list_all is_ascii_digit count)
-digit_rest c count h = grind arith
-
-digit_more : (c : ℕ) (count : List ℕ) → is_ascii_digit c ≡ true → IsTrue (list_all is_ascii_digit count) → IsTrue (list_all is_ascii_digit (c ∷ count))
-digit_more c count e h = grind arith
-
--- what is left where a digit stands in front
-next_digits : (closing : List ℕ) (x : ℕ) (text : List ℕ) → (x ∷ text ≡ closing → ⊥) → Digits closing (x ∷ text) → (is_ascii_digit x ≡ true) × Digits closing text
-next_digits closing x text other ([], all, is) = absurd (other is)
-next_digits closing x text other (c ∷ count, all, is) =
-    let h : x ≡ c = ap head is in
-    (ap is_ascii_digit h ∙ digit_first c count all, (count, digit_rest c count all, ap tail is))
-
-digits_by : (closing : List ℕ) (x : ℕ) (text : List ℕ) (b : Bool) → is_ascii_digit x ≡ b → (x ∷ text ≡ closing → ⊥) → Or (Digits closing text) → Or (Digits closing (x ∷ text))
-digits_by closing x text true e other (inl (count, all, is)) = inl (x ∷ count, digit_more x count e all, ap (λ (t : List ℕ). x ∷ t) is)
-digits_by closing x text true e other (inr none) = inr (λ d. none (next_digits closing x text other d).1)
-digits_by closing x text false e other rest = inr (λ d. clash (is_ascii_digit x) (next_digits closing x text other d).0 e)
-
-digits_here : (closing : List ℕ) (x : ℕ) (text : List ℕ) → Or (x ∷ text ≡ closing) → Or (Digits closing text) → Or (Digits closing (x ∷ text))
-digits_here closing x text (inl e) rest = inl ([], refl, e)
-digits_here closing x text (inr other) rest = digits_by closing x text (is_ascii_digit x) refl other rest
-
-digits_empty : (closing : List ℕ) → Or (Digits closing [])
-digits_empty [] = inl ([], refl, refl)
-digits_empty (c ∷ closing) = inr (λ d. no d.0 d.2)
-  where
-    no : (count : List ℕ) → [] ≡ count ++ c ∷ closing → ⊥
-    no [] e = absurd cc
-    no (x ∷ count) e = absurd cc
-
-digits_or_not : (closing text : List ℕ) → Or (Digits closing text)
-digits_or_not closing [] = digits_empty closing
-digits_or_not closing (x ∷ text) = digits_here closing x text (same_or_not (x ∷ text) closing) (digits_or_not closing text)
-
--- ---- one digit or more
-
-first_digit : (closing : List ℕ) (x : ℕ) (text : List ℕ) → GivesDigits closing (x ∷ text) → (is_ascii_digit x ≡ true) × Digits closing text
-first_digit closing x text ([], ((some, all), is)) = absurd (omega (arith, some))
-first_digit closing x text (c ∷ count, ((some, all), is)) =
-    let h : x ≡ c = ap head is in
-    (ap is_ascii_digit h ∙ digit_first c count all, (count, digit_rest c count all, ap tail is))
-
-number_by : (closing : List ℕ) (x : ℕ) (text : List ℕ) (b : Bool) → is_ascii_digit x ≡ b → Or (Digits closing text) → Or (GivesDigits closing (x ∷ text))
-number_by closing x text true e (inl (count, all, is)) = inl (x ∷ count, ((omega arith, digit_more x count e all), ap (λ (t : List ℕ). x ∷ t) is))
-number_by closing x text true e (inr none) = inr (λ d. none (first_digit closing x text d).1)
-number_by closing x text false e rest = inr (λ d. clash (is_ascii_digit x) (first_digit closing x text d).0 e)
-
-no_number : (closing count : List ℕ) → 0 < length count → [] ≡ count ++ closing → ⊥
-no_number closing [] some e = omega (arith, some)
-no_number closing (x ∷ count) some e = absurd cc
-
-number_or_not : (closing text : List ℕ) → Or (GivesDigits closing text)
-number_or_not closing [] = inr (λ d. no_number closing d.0 d.1.0.0 d.1.1)
-number_or_not closing (x ∷ text) = number_by closing x text (is_ascii_digit x) refl (digits_or_not closing text)
-
--- ---- a length at the beginning
-
-begins_by : (n x : ℕ) (rest : List ℕ) → Or (x ∷ [] ≡ n ∷ []) → Or (Begins n (x ∷ rest))
-begins_by n x rest (inl e) = let h : x ≡ n = ap head e in inl (rest, ap (λ (y : ℕ). y ∷ rest) h)
-begins_by n x rest (inr other) = inr (λ b. let h : x ≡ n = ap head b.1 in other (ap (λ (y : ℕ). y ∷ []) h))
-
-begins_or_not : (n : ℕ) (text : List ℕ) → Or (Begins n text)
-begins_or_not n [] = inr (λ b. absurd cc)
-begins_or_not n (x ∷ rest) = begins_by n x rest (same_or_not (x ∷ []) (n ∷ []))
-
-length_by : (without given : List ℕ) → Or (Begins 91 without) → Or (Begins 93 (tail without)) → Or (Begins 91 given) → Or (GivesDigits (93 ∷ tail (tail without)) (tail given)) → Or (GivesLength without given)
-length_by without given (inr none) b c d = inr (λ g. none (93 ∷ g.0, g.2.0))
-length_by without given (inl a) (inr none) c d = inr (λ g. none (g.0, ap tail g.2.0))
-length_by without given (inl a) (inl b) (inr none) d = inr (λ g. none (g.1, g.2.1))
-length_by without given (inl a) (inl b) (inl c) (inl d) =
-    let two : without ≡ 91 ∷ tail without = a.1 ∙ ap (λ (t : List ℕ). 91 ∷ t) (sym (ap tail a.1)) in
-    let three : tail without ≡ 93 ∷ tail (tail without) = b.1 ∙ ap (λ (t : List ℕ). 93 ∷ t) (sym (ap tail b.1)) in
-    let other : given ≡ 91 ∷ tail given = c.1 ∙ ap (λ (t : List ℕ). 91 ∷ t) (sym (ap tail c.1)) in
-    inl (tail (tail without), tail given, (two ∙ ap (λ (t : List ℕ). 91 ∷ t) three, other, d))
-length_by without given (inl a) (inl b) (inl c) (inr none) = inr (λ g.
-    let element : tail (tail without) ≡ g.0 = ap (λ (t : List ℕ). tail (tail t)) g.2.0 in
-    let rest : tail given ≡ g.1 = ap tail g.2.1 in
-    none (subst (λ (t : List ℕ). GivesDigits (93 ∷ t) (tail given)) (sym element) (subst (λ (t : List ℕ). GivesDigits (93 ∷ g.0) t) (sym rest) g.2.2)))
-
-length_or_not : (without given : List ℕ) → Or (GivesLength without given)
-length_or_not without given =
-    length_by without given (begins_or_not 91 without) (begins_or_not 93 (tail without)) (begins_or_not 91 given) (number_or_not (93 ∷ tail (tail without)) (tail given))
-
-agree_by : (a b : List ℕ) → Or (a ≡ b) → Or (GivesLength a b) → Or (GivesLength b a) → Or (Agree a b)
-agree_by a b (inl e) f g = inl (inl e)
-agree_by a b (inr d) (inl f) g = inl (inr (inl f))
-agree_by a b (inr d) (inr e) (inl g) = inl (inr (inr g))
-agree_by a b (inr d) (inr e) (inr f) = inr (λ h. elim h [ inl i ↦ d i | inr i ↦ elim i [ inl j ↦ e j | inr j ↦ f j ] ])
-
-pub agree_or_not : (a b : List ℕ) → Or (Agree a b)
-agree_or_not a b = agree_by a b (same_or_not a b) (length_or_not a b) (length_or_not b a)
+-- Shapes that agree, and shapes of functions.
+use Rattle.std.proofs.Common.{◌≡◌, ◌⊎◌, ℕ, List, ◌∷◌, sym, ◌∙◌, arith, inl, inr}
+use Rattle.pw_value.specs.Shapes.{Agree, Begins}
+use Rattle.pw_law_answers.proofs.Agreeing.{told_agree}
 
 pub agree_unless : (a b : List ℕ) → (¬ Agree a b → ⊥) → Agree a b
-agree_unless a b h = elim (agree_or_not a b) [ inl k ↦ k | inr none ↦ absurd (h none) ]
+agree_unless a b h = elim (told_agree a b) [ inl k ↦ k | inr none ↦ absurd (h none) ]
 
 pub agree_back : (a b : List ℕ) → Agree a b → Agree b a
 agree_back a b (inl e) = inl (sym e)
@@ -141,7 +14,7 @@ agree_back a b (inr (inr g)) = inr (inl g)
 -- ---- shapes of functions agree only with themselves
 
 other_first : (n k : ℕ) (s rest more : List ℕ) → s ≡ n ∷ rest → s ≡ k ∷ more → n ≡ k
-other_first n k s rest more e d = ap head (sym e ∙ d)
+other_first n k s rest more e d = let same : n ∷ rest ≡ k ∷ more = sym e ∙ d in cc
 
 pub function_agree : (a b : List ℕ) → Agree a b → Begins 102 b → a ≡ b
 function_agree a b (inl e) f = e

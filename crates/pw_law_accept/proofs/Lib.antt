@@ -6,7 +6,6 @@ mod Modules
 mod Programs
 mod Given
 mod Checked
-mod Numbered
 mod Whole
 mod FunctionShapes
 mod References

@@ -36,7 +36,8 @@ use Rattle.pw_law_source.specs.Lowering.{flow_program, DeclareAlike}
 use Rattle.pw_run_languages.specs.LinkingLaws.{AreNamesApart}
 use Rattle.pw_law_accept.specs.Linked.{AreLinked, HasNoColon}
 use Rattle.pw_law_accept.proofs.Counts.{times_append, times_less, there, distinct_counted}
-use Rattle.pw_law_accept.proofs.Agreeing.{same_or_not, agree_back, function_agree}
+use Rattle.pw_law_answers.proofs.Telling.{told_bytes}
+use Rattle.pw_law_accept.proofs.Agreeing.{agree_back, function_agree}
 use Rattle.pw_law_accept.proofs.Linking.{all_functions, all_globals, once, defined, agree, agree_library, main_there}
 use Rattle.pw_law_accept.proofs.Names.{letters_no_colon, own_is_not, one_colon, named_external, dollars, dollar_apart, start_no_dollar, library_no_dollar, dollars_once}
 use Rattle.pw_law_accept.proofs.Modules.{all_has, IsGiven, Known, of_tree, full, shape_is, function_by, global_by, declared_back, declared_has, start_there, none_counted, start_less, declared_letters, global_shared, function_ordinary, begins, same_shape, declared_shape}
@@ -195,7 +196,7 @@ module _ (p : Program) (frame_of : List ℕ → ℕ) (stack : ℕ) (known : (m :
       omega (arith, a, b, c, d)
 
   names_once : (name : List ℕ) → times name library_functions + (times name (all_functions ms) + times name (all_globals ms)) ≤ 1
-  names_once name = elim (same_or_not name start_name) [
+  names_once name = elim (told_bytes name start_name) [
     | inl e ↦ subst (λ (n : List ℕ). times n library_functions + (times n (all_functions ms) + times n (all_globals ms)) ≤ 1) (sym e) start_once
     | inr other ↦ once ms linked.objects linked.show linked.links name other
   ]

@@ -19,7 +19,7 @@ use Rattle.pw_types.specs.Shapes.{shape_of, shape_of_record, unknown_shape, reco
 use Rattle.pw_types.specs.TypeTrees.{CType, Void, Int, Pointer, Array, Function, Record, Qualified, ContentValue, RecordValue}
 use Rattle.pw_law_checked.proofs.Lists.{some_same, never_some}
 use Rattle.pw_law_checked.proofs.Composite.{decimal_is}
-use Rattle.pw_law_accept.proofs.Agreeing.{digit_first, digit_rest}
+use Rattle.pw_law_answers.proofs.Agreeing.{digit_first, digit_rest}
 
 abbrev tail : List ℕ → List ℕ
 tail [] = []

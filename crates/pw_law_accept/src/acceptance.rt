@@ -33,6 +33,7 @@ use pw_law_checked::{
 };
 use pw_law_lower::modules_are_lawful;
 use pw_law_refine::layers_rest_on_programs;
+use pw_law_valid::accepted_objects_are_numbered;
 use pw_law_words::accepted_texts_are_well_typed;
 use pw_tree::words_spell_what_they_are;
 
@@ -85,13 +86,13 @@ pub fn checked_functions_are_formed()
     accepted_functions_are_formed();
 }
 
-/// Checked modules whose objects link are within the limits for which their flow graphs are lawful: a program has few objects, so
-/// those without a name have numbers of 32 bits.
+/// Checked modules whose objects link are within the limits for which their flow graphs are lawful.
 pub fn linked_modules_are_within()
     ensures { (p : Program) (frame_of : List ℕ → ℕ) (stack : ℕ) → AreChecked p → AreLinked (flow_program p frame_of stack).modules → (m : ProgramModule) → Contains p.modules m → IsWithin m.tree }
 {
     strings_of_texts();
     words_spell_what_they_are();
+    accepted_objects_are_numbered();
     accepted_is_within();
 }
 

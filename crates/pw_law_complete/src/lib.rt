@@ -18,6 +18,7 @@ ghost use Rattle.pw_build_opts.specs.declared.opts.Opts.{Opts};
 ghost use Rattle.pw_law_answers.specs.Held.{HasFile};
 ghost use Rattle.pw_law_build.specs.Complete.{CanBeBuilt};
 
+use pw_build_files::build_laws::modules_have_one_build;
 use pw_build_objects::laws::objects_are_refused_for_room_alone;
 use pw_db::laws::one_list_is_stored;
 use pw_flowfile::laws::flow_graphs_and_files_are_one_to_one;
@@ -58,15 +59,16 @@ pub fn parts_of_accepted_modules_are_their_build()
     objects_are_refused_for_room_alone();
 }
 
-/// The full build of modules has an answer, whatever they are, where files can hold their flow graphs: the program's parts, or why
-/// there are none.
+/// The full build of modules has exactly one answer, whatever they are, where files can hold their flow graphs: the program's parts, or
+/// why there are none.
 pub fn builds_have_an_answer()
     ensures { (sources : List Source) (opts : Opts) → opts.colours ≤ colour_limit →
         ((flows : List FlowModule) → first_phases sources ≡ Ok flows → AllByRecursion HasFile flows) →
-        (answer : Result Parts BuildFault) × Builds sources [] opts answer }
+        (answer : Result Parts BuildFault) × Builds sources [] opts answer × ((other : Result Parts BuildFault) → Builds sources [] opts other → other ≡ answer) }
 {
     first_phases_are_lawful();
     first_phases_declare_main();
+    modules_have_one_build();
     modules_have_summaries();
     modules_link_or_are_refused();
     objects_are_refused_for_room_alone();

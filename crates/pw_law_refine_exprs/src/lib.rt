@@ -21,6 +21,7 @@ use pw_cmean::laws::values_have_types;
 use pw_law_lower::later_code_keeps;
 use pw_law_refine::graphs_contain_the_parts;
 use pw_law_refine_forms::{addresses_keep, expressions_rest_on_functions, tests_keep};
+pub use pw_law_refine_forms::{accesses_keep, initialisers_keep};
 pub use pw_law_refine_start::parts_make_programs;
 use pw_law_refine_start::{functions_are_found, names_have_one_number};
 use pw_law_refine_steps::{

@@ -13,7 +13,8 @@ ghost use Rattle.pw_law_refine_stmts.specs.Bounds.{UpTo};
 use pw_cmean::laws::values_have_types;
 use pw_law_lower::{functions_stay_in_range, later_code_keeps};
 use pw_law_refine::graphs_contain_the_parts;
-use pw_law_refine_code::{parts_are_set, statements_end};
+use pw_law_refine_code::statements_end;
+pub use pw_law_refine_code::{functions_end, parts_are_set, slots_stand};
 use pw_law_refine_steps::{
     expressions_spread, machines_step_on, operations_step, results_are_new, stretches_last,
 };

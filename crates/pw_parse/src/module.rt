@@ -102,7 +102,7 @@ fn external_named<'a>(
     external_with(alloc, tokens, limit, specifiers, declared)
 }
 
-/// C90 6.7
+/// Reads an external declaration: a function's definition or a declaration (C90 6.7).
 #[tactic(auto, unfolding(pw_parse_grammar::specs::Modules::external, pw_parse_grammar::specs::Modules::external_behind))]
 fn external<'a>(alloc: Global, tokens: &mut Tokens<'a>, limit: usize) -> Result<External, Stop>
     ensures { Reads external_first (spec.external limit tokens.old) result tokens.new }

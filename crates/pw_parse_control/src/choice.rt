@@ -91,7 +91,7 @@ fn alternatives<'a, P: StmtParts<'a>>(
     Err(Stop::Fault)
 }
 
-/// C90 6.6.4.1
+/// Reads an `if` statement with the `else if`s and the `else` directly behind it (C90 6.6.4.1).
 #[tactic(auto, unfolding(pw_parse_grammar::specs::Statements::if_stmt))]
 pub fn if_stmt<'a, P: StmtParts<'a>>(
     alloc: Global,
@@ -118,7 +118,7 @@ pub fn if_stmt<'a, P: StmtParts<'a>>(
     })
 }
 
-/// C90 6.6.4.2
+/// Reads a `switch` statement (C90 6.6.4.2).
 #[tactic(auto, unfolding(pw_parse_grammar::specs::Statements::switch_stmt, pw_tree::specs::Views::view_stmt))]
 pub fn switch_stmt<'a, P: StmtParts<'a>>(
     alloc: Global,

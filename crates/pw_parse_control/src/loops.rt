@@ -19,7 +19,7 @@ struct ForHead {
     step: Option<Box<Expr>>,
 }
 
-/// C90 6.6.5.1
+/// Reads a `while` statement (C90 6.6.5.1).
 #[tactic(auto, unfolding(pw_parse_grammar::specs::Statements::while_stmt, pw_tree::specs::Views::view_stmt))]
 pub fn while_stmt<'a, P: StmtParts<'a>>(
     alloc: Global,
@@ -39,7 +39,7 @@ pub fn while_stmt<'a, P: StmtParts<'a>>(
     })
 }
 
-/// C90 6.6.5.2
+/// Reads a `do` statement with its `while` and its semicolon (C90 6.6.5.2).
 #[tactic(auto, unfolding(pw_parse_grammar::specs::Statements::do_stmt, pw_tree::specs::Views::view_stmt))]
 pub fn do_stmt<'a, P: StmtParts<'a>>(
     alloc: Global,
@@ -82,7 +82,7 @@ fn for_head<'a, P: StmtParts<'a>>(
     })
 }
 
-/// C90 6.6.5.3
+/// Reads a `for` statement, of whose expressions each may be left out (C90 6.6.5.3).
 pub fn for_stmt<'a, P: StmtParts<'a>>(
     alloc: Global,
     parts: &P,

@@ -54,6 +54,7 @@ fn same_keyword(a: Keyword, b: Keyword) -> bool
 }
 
 impl<'a> Tokens<'a> {
+    /// The tokens from the first one on, with no name in scope. There are no more than a module may have.
     pub fn new(alloc: Global, lexemes: &'a [Lexeme<'a>]) -> Self
         requires { length lexemes.now ≤ token_limit }
         ensures { result ≡ record { names = []; rest = map view_lexeme lexemes.now; next = 1 } }
@@ -150,6 +151,7 @@ impl<'a> Tokens<'a> {
         }
     }
 
+    /// Whether this mark stands next.
     #[tactic(auto, unfolding(pw_parse_grammar::specs::Input::sees))]
     pub fn sees(&self, mark: Mark) -> bool
         ensures { result ≡ spec.sees mark self.now }
@@ -160,6 +162,7 @@ impl<'a> Tokens<'a> {
         }
     }
 
+    /// Whether this mark stands behind the next token.
     #[tactic(auto, unfolding(pw_parse_grammar::specs::Input::sees))]
     pub fn sees_second(&self, mark: Mark) -> bool
         ensures { result ≡ spec.sees mark (spec.step self.now) }
@@ -170,6 +173,7 @@ impl<'a> Tokens<'a> {
         }
     }
 
+    /// Whether this keyword stands next.
     #[tactic(auto, unfolding(pw_parse_grammar::specs::Input::sees_keyword))]
     pub fn sees_keyword(&self, keyword: Keyword) -> bool
         ensures { result ≡ spec.sees_keyword keyword self.now }
@@ -206,6 +210,7 @@ impl<'a> Tokens<'a> {
         found
     }
 
+    /// Reads a mark, or stops with a fault where it does not stand next. Takes no memory.
     #[tactic(auto, unfolding(pw_parse_grammar::specs::Input::expect))]
     pub fn expect(&mut self, mark: Mark) -> Result<(), Stop>
         ensures reads { Reads unit (spec.expect mark self.old) result self.new }
@@ -219,6 +224,7 @@ impl<'a> Tokens<'a> {
         }
     }
 
+    /// Reads a keyword, or stops with a fault where it does not stand next. Takes no memory.
     #[tactic(auto, unfolding(pw_parse_grammar::specs::Input::expect_keyword))]
     pub fn expect_keyword(&mut self, keyword: Keyword) -> Result<(), Stop>
         ensures reads { Reads unit (spec.expect_keyword keyword self.old) result self.new }
@@ -273,6 +279,7 @@ impl<'a> Tokens<'a> {
         self.names.leave(mark);
     }
 
+    /// Declares a name in the innermost scope, as a typedef name or as another one, or stops for want of memory.
     pub fn declare(&mut self, name: &'a [u8], is_typedef: bool) -> Result<(), Stop>
         ensures { Reads unit (spec.declare (name.now, is_typedef) self.old) result self.new }
     {

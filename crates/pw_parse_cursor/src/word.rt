@@ -126,6 +126,7 @@ pub fn opens_parameters(tokens: &Tokens<'_>) -> bool
         || lexeme_begins_specifier(tokens, true, tokens.peek_second())
 }
 
+/// The type qualifier that a token is (C90 6.5.3), or none.
 pub fn qualifier_word(lexeme: Lexeme<'_>) -> Option<Qualifier>
     ensures { result ≡ test.qualifier_word (view_lexeme lexeme.entry) }
 {
@@ -136,7 +137,7 @@ pub fn qualifier_word(lexeme: Lexeme<'_>) -> Option<Qualifier>
     }
 }
 
-/// C90 6.3.3
+/// The unary operator that a mark is before its operand, or none (C90 6.3.3).
 pub fn prefix_operator(mark: Mark) -> Option<UnaryOperator>
     ensures { result ≡ test.prefix_operator mark }
 {
@@ -163,7 +164,7 @@ pub fn operand_level(operator: UnaryOperator) -> u8
     }
 }
 
-/// C90 6.3.5 to 6.3.14, 6.3.17
+/// The operator that a mark is between two operands, the comma among them, or none (C90 6.3.5 to 6.3.14, 6.3.17).
 pub fn binary_operator(mark: Mark) -> Option<BinaryOperator>
     ensures { result ≡ test.binary_operator mark }
 {

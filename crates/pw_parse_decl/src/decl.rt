@@ -203,7 +203,7 @@ pub fn declaration_with<'a, P: DeclParts<'a>>(
     })
 }
 
-/// C90 6.5
+/// Reads a declaration: specifiers, declarators with their initializers, and the semicolon (C90 6.5).
 #[tactic(auto, unfolding(pw_parse_grammar::specs::Declarations::declaration, pw_parse_grammar::specs::Expressions::some_specifiers))]
 fn declaration<'a, P: DeclParts<'a>>(
     alloc: Global,

@@ -260,7 +260,7 @@ fn sized_array<'a, P: SmallerParts<'a>>(
     })
 }
 
-/// C90 6.5.4.2
+/// Reads the brackets of an array with its length, which may be left out (C90 6.5.4.2).
 #[tactic(auto, unfolding(pw_parse_grammar::specs::Declarators::array, crate::specs::Rests::sized, pw_tree::specs::Views::view_expr))]
 fn array<'a, P: SmallerParts<'a>>(
     alloc: Global,
@@ -280,7 +280,7 @@ fn array<'a, P: SmallerParts<'a>>(
     sized_array(alloc, parts, tokens, token)
 }
 
-/// C90 6.5.4.3
+/// Reads a parameter: specifiers, and a declarator that may have no name (C90 6.5.4.3).
 #[tactic(auto, unfolding(pw_parse_grammar::specs::Declarators::parameter))]
 fn parameter<'a, P: SmallerParts<'a>>(
     alloc: Global,
@@ -535,7 +535,7 @@ fn core<'a, P: SmallerParts<'a>>(
     }
 }
 
-/// C90 6.5.4, 6.5.5
+/// Reads a declarator: pointers, a name or what stands in parentheses, and suffixes (C90 6.5.4, 6.5.5).
 #[tactic(auto, unfolding(pw_parse_grammar::specs::Declarators::declarator_of))]
 pub fn declarator_of<'a, P: SmallerParts<'a>>(
     alloc: Global,

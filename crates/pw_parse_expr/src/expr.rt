@@ -102,7 +102,7 @@ fn is_unary(expr: &Expr) -> bool
     }
 }
 
-/// C90 6.5.5
+/// Reads a type name: specifiers, and a declarator without a name (C90 6.5.5).
 #[tactic(auto, unfolding(pw_parse_grammar::specs::Expressions::type_name))]
 fn type_name<'a, P: SmallerParts<'a>>(
     alloc: Global,
@@ -138,7 +138,7 @@ fn enclosed_type_name<'a, P: SmallerParts<'a>>(
     Ok(named)
 }
 
-/// C90 6.3.1
+/// Reads an expression in parentheses (C90 6.3.1).
 #[tactic(auto, unfolding(pw_parse_grammar::specs::Expressions::parenthesized, pw_tree::specs::Views::view_expr))]
 fn parenthesized<'a, P: SmallerParts<'a>>(
     alloc: Global,
@@ -154,7 +154,7 @@ fn parenthesized<'a, P: SmallerParts<'a>>(
     Ok(Expr::Paren { token, inner })
 }
 
-/// C90 6.3.1
+/// Reads a primary expression: an identifier, a constant, strings, or an expression in parentheses (C90 6.3.1).
 #[tactic(auto, unfolding(pw_parse_grammar::specs::Expressions::primary, pw_tree::specs::Views::view_expr))]
 fn primary<'a, P: SmallerParts<'a>>(
     alloc: Global,
@@ -312,7 +312,7 @@ fn postfixes<'a, P: SmallerParts<'a>>(
     Err(Stop::Fault)
 }
 
-/// C90 6.3.2
+/// Reads a primary expression and what stands behind it: subscripts, calls, members, `++` and `--` (C90 6.3.2).
 #[tactic(auto, unfolding(pw_parse_grammar::specs::Expressions::postfix_expr))]
 fn postfix_expr<'a, P: SmallerParts<'a>>(
     alloc: Global,
@@ -386,7 +386,7 @@ fn operated_or_postfix<'a, P: SmallerParts<'a>>(
     }
 }
 
-/// C90 6.3.3
+/// Reads a prefix operator with its operand, or a postfix expression (C90 6.3.3).
 #[tactic(auto, unfolding(pw_parse_grammar::specs::Expressions::unary_expr))]
 fn unary_expr<'a, P: SmallerParts<'a>>(
     alloc: Global,
@@ -423,7 +423,7 @@ fn cast_to<'a, P: SmallerParts<'a>>(
     })
 }
 
-/// C90 6.3.4
+/// Reads a cast with its operand, or a unary expression (C90 6.3.4).
 #[tactic(auto, unfolding(pw_parse_grammar::specs::Expressions::cast_expr))]
 fn cast_expr<'a, P: SmallerParts<'a>>(
     alloc: Global,
@@ -506,7 +506,7 @@ fn conditional_behind<'a, P: SmallerParts<'a>>(
     })
 }
 
-/// C90 6.3.15
+/// Reads what stands behind a condition: a `?` with its two expressions, or nothing (C90 6.3.15).
 #[tactic(auto, unfolding(pw_parse_grammar::specs::Expressions::condition_of))]
 fn condition_of<'a, P: SmallerParts<'a>>(
     alloc: Global,
@@ -546,7 +546,7 @@ fn assigned<'a, P: SmallerParts<'a>>(
     })
 }
 
-/// C90 6.3.16
+/// Reads what stands behind a left side: an assignment operator with the right side, or nothing (C90 6.3.16).
 #[tactic(auto, unfolding(pw_parse_grammar::specs::Expressions::assignment_to))]
 fn assignment_to<'a, P: SmallerParts<'a>>(
     alloc: Global,

@@ -281,7 +281,7 @@ fn enumerators<'a, P: SmallerParts<'a>>(
     Ok(found)
 }
 
-/// C90 6.5.2.2
+/// Reads what stands behind `enum`: a tag, enumerators in braces, or both (C90 6.5.2.2).
 #[tactic(auto, unfolding(pw_parse_grammar::specs::Specifiers::enum_specifier, pw_tree::specs::Views::view_expr, pw_parse_grammar::specs::Specifiers::tagged_enum))]
 fn enum_specifier<'a, P: SmallerParts<'a>>(
     alloc: Global,

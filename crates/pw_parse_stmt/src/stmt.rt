@@ -15,7 +15,7 @@ use pw_parse_cursor::{COMMA, CONDITIONAL, Stop, Tokens};
 use pw_tree::{Block, Keyword, Label, Lexeme, Mark, Stmt, statements_show_their_lists};
 use std::alloc::Global;
 
-/// C90 6.6.1
+/// Reads what stands behind `case`: its expression and the `:` (C90 6.6.1).
 #[tactic(auto, unfolding(pw_parse_grammar::specs::Statements::case_label))]
 fn case_label<'a, P: StmtParts<'a>>(
     alloc: Global,
@@ -95,7 +95,7 @@ fn labels<'a, P: StmtParts<'a>>(
     Err(Stop::Fault)
 }
 
-/// C90 6.6.3
+/// Reads an expression, which may be left out, and a semicolon (C90 6.6.3).
 #[tactic(auto, unfolding(pw_parse_grammar::specs::Statements::expression_stmt, pw_tree::specs::Views::view_stmt))]
 fn expression_stmt<'a, P: StmtParts<'a>>(
     alloc: Global,
@@ -148,7 +148,7 @@ fn empty_stmt(tokens: &mut Tokens<'_>) -> Stmt
     Stmt::Empty { token }
 }
 
-/// C90 6.6.6.4
+/// Reads a `return` with its value, which may be left out, and its semicolon (C90 6.6.6.4).
 #[tactic(auto, unfolding(pw_parse_grammar::specs::Statements::return_stmt, pw_tree::specs::Views::view_stmt))]
 fn return_stmt<'a, P: StmtParts<'a>>(
     alloc: Global,
@@ -286,7 +286,7 @@ fn unlabeled<'a, P: StmtParts<'a>>(
     }
 }
 
-/// C90 6.6
+/// Reads a statement by its first token (C90 6.6).
 #[tactic(auto, unfolding(pw_parse_grammar::specs::Statements::stmt_of))]
 pub fn stmt_of<'a, P: StmtParts<'a>>(
     alloc: Global,

@@ -187,7 +187,7 @@ pub fn put_loaded(out: &mut Items<Line>, place: Place, d: u8) -> Result<(), Allo
     }
 }
 
-/// The register in which a result is made.
+/// The register in which a result is made: that of its place, or the one from which it is stored into the frame.
 pub fn result_register(place: Place) -> u8
     ensures { result ≡ result_register place }
 {
@@ -209,7 +209,8 @@ pub fn put_result(out: &mut Items<Line>, place: Place) -> Result<(), AllocError>
 
 // ---- scalars in memory
 
-/// The load of a scalar of a kind.
+/// The load of a scalar of a kind into register `t`, from so many bytes behind register `b`; a signed one comes without
+/// its sign.
 pub fn load_scalar(kind: Kind, im: i32, b: u8, t: u8) -> Inst
     ensures { result ≡ load_scalar kind im b t }
 {
@@ -220,7 +221,7 @@ pub fn load_scalar(kind: Kind, im: i32, b: u8, t: u8) -> Inst
     }
 }
 
-/// The store of a scalar of a kind.
+/// The store of register `r` as a scalar of a kind, so many bytes behind register `b`.
 pub fn store_scalar(kind: Kind, r: u8, im: i32, b: u8) -> Inst
     ensures { result ≡ store_scalar kind r im b }
 {

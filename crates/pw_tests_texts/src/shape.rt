@@ -39,6 +39,7 @@ impl Shape {
         }
     }
 
+    /// A piece, behind a blank where one is due.
     pub fn piece(&mut self, piece: &[u8]) {
         self.blank();
         self.push(piece);
@@ -56,6 +57,7 @@ impl Shape {
         self.push(b"(");
     }
 
+    /// The end of a node or of a list.
     pub fn close(&mut self) {
         self.push(b")");
     }
@@ -71,14 +73,17 @@ impl Shape {
         self.piece(b"-");
     }
 
+    /// A keyword as a piece.
     pub fn keyword(&mut self, keyword: Keyword) {
         self.piece(keyword.text());
     }
 
+    /// An operator or punctuator as a piece.
     pub fn mark(&mut self, mark: Mark) {
         self.piece(mark.text());
     }
 
+    /// The bytes of an identifier, constant or string as a piece.
     pub fn word(&mut self, word: &Word) {
         self.piece(&word.text);
     }

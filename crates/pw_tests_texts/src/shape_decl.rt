@@ -4,12 +4,14 @@ use crate::shape::Shape;
 use pw_tree::{Decl, Init, InitDeclarator};
 
 impl Shape {
+    /// The shapes of declarations, one behind another.
     pub fn decls(&mut self, decls: &[Decl]) {
         for decl in decls {
             self.decl(decl);
         }
     }
 
+    /// The shape of a declaration: its specifiers, and its declarators with their initializers.
     pub fn decl(&mut self, decl: &Decl) {
         self.open(b"declare");
         self.specifiers(&decl.specifiers);

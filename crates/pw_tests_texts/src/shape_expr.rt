@@ -19,6 +19,7 @@ fn unary_text(operator: UnaryOperator) -> &'static [u8] {
 }
 
 impl Shape {
+    /// The shape of an expression.
     #[cycle(shape)]
     pub fn expr(&mut self, e: &Expr) {
         match e {

@@ -5,6 +5,7 @@ ghost use Rattle.pw_token.specs.Scanning as spec;
 
 use crate::bytes::{Class, byte_at, is_either, is_nondigit, run_of, text_from};
 
+/// The length of the identifier or keyword (C90 6.1.1, 6.1.2) that begins the text.
 pub fn word_len(text: &[u8]) -> usize
     ensures value { result ≡ spec.word_len text.now }
     ensures within { result ≤ length text.now }
@@ -65,6 +66,7 @@ fn digits_len(text: &[u8]) -> usize
     }
 }
 
+/// The length of the integer constant (C90 6.1.3.2), suffix included, that begins the text.
 #[tactic(auto, unfolding(crate::specs::Scanning::integer_len))]
 pub fn integer_len(text: &[u8]) -> usize
     ensures value { result ≡ spec.integer_len text.now }
@@ -138,6 +140,7 @@ fn scaled_len(mantissa: usize, wanted: bool, text: &[u8]) -> usize
     end + floating_suffix_len(text_from(text, end))
 }
 
+/// The length of the floating constant (C90 6.1.3.1), suffix included, that begins the text.
 #[tactic(auto, unfolding(crate::specs::Scanning::floating_len))]
 pub fn floating_len(text: &[u8]) -> usize
     ensures value { result ≡ spec.floating_len text.now }

@@ -54,6 +54,7 @@ impl Levels {
     ghost use Rattle.pw_token.specs.Nesting.{opened, with_expression, with_control, without_expressions, ended, outer_of, without_questions, without_bracket, start, innermost_is, is_question, is_do};
     ghost use Rattle.std.specs.List.{list_any};
 
+    /// The level of the text itself, in which nothing is open.
     pub fn new() -> Self
         ensures sound { IsSound result }
         ensures levels { levels_of result ≡ start.levels }
@@ -66,6 +67,7 @@ impl Levels {
         }
     }
 
+    /// Opens a level inside the innermost one. The nesting rises by one.
     pub fn open(&mut self, opener: Opener)
         requires sound { IsSound self.old }
         requires room { self.old.nest < level_room }
@@ -83,6 +85,7 @@ impl Levels {
         self.nest += 1;
     }
 
+    /// Closes the innermost level, with what its expressions and its control words add.
     pub fn close(&mut self)
         requires sound { IsSound self.old }
         requires inside { 0 < self.old.depth }
@@ -96,6 +99,7 @@ impl Levels {
         self.innermost = self.outer[self.depth];
     }
 
+    /// Counts a prefix operator or an assignment of the innermost level. The nesting rises by one.
     pub fn add_expression(&mut self)
         requires sound { IsSound self.old }
         requires room { self.old.nest < level_room }
@@ -107,6 +111,7 @@ impl Levels {
         self.nest += 1;
     }
 
+    /// Counts a control word of the innermost level, behind which a statement stands. The nesting rises by one.
     pub fn add_control(&mut self)
         requires sound { IsSound self.old }
         requires room { self.old.nest < level_room }
@@ -118,6 +123,7 @@ impl Levels {
         self.nest += 1;
     }
 
+    /// Forgets the expressions of the innermost level, as behind a comma or a semicolon.
     pub fn clear_expressions(&mut self)
         requires sound { IsSound self.old }
         ensures sound { IsSound self.new }
@@ -142,12 +148,14 @@ impl Levels {
         }
     }
 
+    /// Whether a `?` that waits for its `:` opened the innermost level.
     pub fn is_in_question(&self) -> bool
         ensures { result ≡ innermost_is is_question (levels_of self.now) }
     {
         matches!(self.innermost.opener, Opener::Question)
     }
 
+    /// Whether a `do` that waits for its `while` opened the innermost level.
     pub fn is_in_do(&self) -> bool
         ensures { result ≡ innermost_is is_do (levels_of self.now) }
     {
@@ -160,6 +168,7 @@ impl Levels {
         is_bracket(self.innermost.opener)
     }
 
+    /// Closes the levels of `?` that stand innermost, up to one that something else opened.
     pub fn close_questions(&mut self)
         requires { IsSound self.old }
         ensures sound { IsSound self.new }
@@ -192,6 +201,7 @@ impl Levels {
         self.is_in_bracket() || self.has_outer_bracket()
     }
 
+    /// Closes the innermost level that a bracket opened and all inside it; where no bracket is open, nothing.
     pub fn close_bracket(&mut self)
         requires { IsSound self.old }
         ensures sound { IsSound self.new }

@@ -85,6 +85,8 @@ fn closing(quote: u8, text: &[u8]) -> usize
     0
 }
 
+/// The length of the character constant or string literal (C90 6.1.3.4, 6.1.4) with this quote that begins the text,
+/// 0 where none does.
 #[tactic(auto, unfolding(crate::specs::Scanning::literal_len))]
 pub fn literal_len(quote: u8, text: &[u8]) -> usize
     ensures value { result ≡ spec.literal_len quote text.now }
@@ -97,6 +99,8 @@ pub fn literal_len(quote: u8, text: &[u8]) -> usize
     }
 }
 
+/// The length of the wide character constant or wide string literal that begins the text, its `L` included, 0 where
+/// none does.
 #[tactic(auto, unfolding(crate::specs::Scanning::wide_len))]
 pub fn wide_len(text: &[u8]) -> usize
     ensures value { result ≡ spec.wide_len text.now }
@@ -115,6 +119,7 @@ pub fn wide_len(text: &[u8]) -> usize
     if len == 0 { 0 } else { len + 1 }
 }
 
+/// The length of the comment (C90 6.1.9) whose first two bytes begin the text, 0 where it does not end.
 #[tactic(auto, unfolding(crate::specs::Scanning::comment_len))]
 pub fn comment_len(text: &[u8]) -> usize
     ensures value { result ≡ spec.comment_len text.now }

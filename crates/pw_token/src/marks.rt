@@ -6,6 +6,7 @@ ghost use Rattle.pw_token.specs.Words.{all_marks, is_keyword, mark_text, marks};
 
 use crate::symbol::{Keyword, MARKS};
 
+/// Whether a word is a keyword (C90 6.1.1).
 pub fn is_keyword(word: &[u8]) -> bool
     ensures { result ≡ is_keyword word.now }
 {
@@ -39,6 +40,7 @@ fn longest_mark(text: &[u8]) -> usize
     longest
 }
 
+/// The length of the longest operator or punctuator that begins the text, `#` and `##` among them, 0 where none does.
 #[tactic(auto, using(crate::proofs::WordLaws::longest_append))]
 pub fn mark_len(text: &[u8]) -> usize
     ensures value { result ≡ longest_in 0 marks text.now }

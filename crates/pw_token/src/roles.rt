@@ -94,6 +94,7 @@ pub fn spelling<'a>(text: &'a [u8], token: &Token) -> &'a [u8]
     &rest[..token.len]
 }
 
+/// What the rules of nesting know a token of the text as.
 pub fn role_in(text: &[u8], token: &Token) -> Role
     requires { token.now.at + token.now.len ≤ length text.now }
     ensures { result ≡ spec.role_in text.now token.now }

@@ -72,6 +72,7 @@ impl Writer {
         }
     }
 
+    /// The tokens of a declaration, its semicolon included.
     pub fn decl(&mut self, decl: &Decl)
         ensures { Writes (spell.spell_decl (view.view_decl decl.now)) self.old self.new }
     {
@@ -80,6 +81,7 @@ impl Writer {
         self.mark(Mark::Semicolon);
     }
 
+    /// The tokens of declarations, one behind another.
     pub fn decls(&mut self, decls: &[Decl])
         ensures { Writes (spell.spell_decls (view.view_decls decls.now)) self.old self.new }
     {

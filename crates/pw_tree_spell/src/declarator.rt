@@ -9,6 +9,7 @@ use crate::spelled::Writer;
 use pw_tree::{Core, Declarator, Mark, Parameter, Suffix, declarators_show_their_lists};
 
 impl Writer {
+    /// The tokens of a declarator: its pointers, its core and its suffixes.
     #[cycle(spell)]
     #[tactic(auto, unfolding(pw_tree::specs::Views::view_expr, pw_tree::specs::Spelling::spell_expr))]
     pub fn declarator(&mut self, declarator: &Declarator)

@@ -31,6 +31,7 @@ impl Writer {
         }
     }
 
+    /// The tokens of an expression.
     #[cycle(spell)]
     #[tactic(auto, unfolding(pw_tree::specs::Views::view_expr, pw_tree::specs::Spelling::spell_expr))]
     pub fn expr(&mut self, e: &Expr)

@@ -11,6 +11,7 @@ use pw_tree::{
 };
 
 impl Writer {
+    /// The tokens of a list of specifiers, in their order.
     #[cycle(spell)]
     #[tactic(auto, unfolding(pw_tree::specs::Views::view_expr, pw_tree::specs::Spelling::spell_expr))]
     pub fn specifiers(&mut self, specifiers: &[Specifier])

@@ -52,18 +52,21 @@ impl Writer {
         }
     }
 
+    /// A keyword as a token.
     pub fn keyword(&mut self, keyword: Keyword)
         ensures { Writes (λ z. spec.Reserved keyword ∷ z) self.old self.new }
     {
         self.push(TokenKind::Keyword, keyword.text());
     }
 
+    /// An operator or punctuator as a token.
     pub fn mark(&mut self, mark: Mark)
         ensures { Writes (λ z. spec.Sign mark ∷ z) self.old self.new }
     {
         self.push(TokenKind::Mark, mark.text());
     }
 
+    /// An identifier with its bytes as a token.
     pub fn identifier(&mut self, word: &Word)
         ensures { Writes (λ z. identifier (view_word word.now) ∷ z) self.old self.new }
     {

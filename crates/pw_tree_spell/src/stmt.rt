@@ -191,6 +191,7 @@ impl Writer {
         }
     }
 
+    /// The tokens of a block: its declarations and its statements in braces.
     #[cycle(stmt)]
     #[tactic(auto, unfolding(pw_tree::specs::Views::view_stmt, pw_tree::specs::Spelling::spell_stmt))]
     pub fn block(&mut self, block: &Block)

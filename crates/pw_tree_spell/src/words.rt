@@ -10,6 +10,7 @@ use pw_token::TokenKind;
 use pw_tree::{Mark, Pointer, Qualifier, Word};
 
 impl Writer {
+    /// The tokens of adjacent string literals.
     pub fn strings(&mut self, pieces: &[Word])
         ensures { Writes (spell.spell_strings (view.view_words pieces.now)) self.old self.new }
     {
@@ -18,6 +19,7 @@ impl Writer {
         }
     }
 
+    /// The tokens of a list of identifiers, with commas between them.
     pub fn identifiers(&mut self, names: &[Word])
         ensures { Writes (spell.spell_identifiers true (view.view_words names.now)) self.old self.new }
     {
@@ -29,6 +31,7 @@ impl Writer {
         }
     }
 
+    /// The token of a tag, where there is one.
     pub fn tag(&mut self, tag: &Option<Word>)
         ensures { Writes (spell.spell_tag (view.view_tag tag.now)) self.old self.new }
     {
@@ -37,6 +40,7 @@ impl Writer {
         }
     }
 
+    /// The tokens of type qualifiers, in their order.
     pub fn qualifiers(&mut self, qualifiers: &[Qualifier])
         ensures { Writes (spell.spell_qualifiers qualifiers.now) self.old self.new }
     {
@@ -45,6 +49,7 @@ impl Writer {
         }
     }
 
+    /// The tokens of pointers: a `*` for each, and its qualifiers behind it.
     pub fn pointers(&mut self, pointers: &[Pointer])
         ensures { Writes (spell.spell_pointers (view.view_pointers pointers.now)) self.old self.new }
     {

@@ -86,35 +86,35 @@ pub fn magnitude(negative: bool, a: u32) -> u64
     }
 }
 
-/// The sum of unsigned ints.
+/// The sum of unsigned ints, modulo 2^32 (C90 6.1.2.5).
 pub fn unsigned_sum(a: u32, b: u32) -> u32
     ensures { result ≡ spec.unsigned_sum a b }
 {
     a.wrapping_add(b)
 }
 
-/// The difference of unsigned ints.
+/// The difference of unsigned ints, modulo 2^32 (C90 6.1.2.5).
 pub fn unsigned_difference(a: u32, b: u32) -> u32
     ensures { result ≡ spec.unsigned_difference a b }
 {
     a.wrapping_sub(b)
 }
 
-/// The product of unsigned ints.
+/// The product of unsigned ints, modulo 2^32 (C90 6.1.2.5).
 pub fn unsigned_product(a: u32, b: u32) -> u32
     ensures { result ≡ spec.unsigned_product a b }
 {
     a.wrapping_mul(b)
 }
 
-/// The negation of an unsigned int.
+/// The negation of an unsigned int, modulo 2^32 (C90 6.1.2.5).
 pub fn unsigned_negation(a: u32) -> u32
     ensures { result ≡ spec.unsigned_negation a }
 {
     unsigned_difference(0, a)
 }
 
-/// The quotient of unsigned ints.
+/// The quotient of unsigned ints, or the fault of a zero divisor (C90 6.3.5).
 pub fn unsigned_quotient(a: u32, b: u32) -> Result<u32, WordFault>
     ensures { result ≡ spec.unsigned_quotient a b }
 {
@@ -124,7 +124,7 @@ pub fn unsigned_quotient(a: u32, b: u32) -> Result<u32, WordFault>
     Ok(a / b)
 }
 
-/// The remainder of unsigned ints.
+/// The remainder of unsigned ints, or the fault of a zero divisor (C90 6.3.5).
 pub fn unsigned_remainder(a: u32, b: u32) -> Result<u32, WordFault>
     ensures { result ≡ spec.unsigned_remainder a b }
 {
@@ -148,7 +148,7 @@ pub fn unsigned_at_most(a: u32, b: u32) -> bool
     a <= b
 }
 
-/// The sum of ints.
+/// The sum of ints in two's complement, or the fault of an overflow (C90 6.3).
 pub fn signed_sum(a: u32, b: u32) -> Result<u32, WordFault>
     ensures { result ≡ spec.signed_sum a b }
 {
@@ -158,7 +158,7 @@ pub fn signed_sum(a: u32, b: u32) -> Result<u32, WordFault>
     }
 }
 
-/// The difference of ints.
+/// The difference of ints in two's complement, or the fault of an overflow (C90 6.3).
 pub fn signed_difference(a: u32, b: u32) -> Result<u32, WordFault>
     ensures { result ≡ spec.signed_difference a b }
 {
@@ -168,7 +168,7 @@ pub fn signed_difference(a: u32, b: u32) -> Result<u32, WordFault>
     }
 }
 
-/// The product of ints.
+/// The product of ints in two's complement, or the fault of an overflow (C90 6.3).
 pub fn signed_product(a: u32, b: u32) -> Result<u32, WordFault>
     ensures { result ≡ spec.signed_product a b }
 {
@@ -178,7 +178,7 @@ pub fn signed_product(a: u32, b: u32) -> Result<u32, WordFault>
     }
 }
 
-/// The negation of an int.
+/// The negation of an int in two's complement, or the fault of an overflow: that of the least int (C90 6.3).
 pub fn signed_negation(a: u32) -> Result<u32, WordFault>
     ensures { result ≡ spec.signed_negation a }
 {
@@ -188,7 +188,7 @@ pub fn signed_negation(a: u32) -> Result<u32, WordFault>
     }
 }
 
-/// The quotient of ints, toward zero.
+/// The quotient of ints, toward zero, or the fault of a zero divisor or of an overflow (C90 6.3.5).
 pub fn signed_quotient(a: u32, b: u32) -> Result<u32, WordFault>
     ensures { result ≡ spec.signed_quotient a b }
 {
