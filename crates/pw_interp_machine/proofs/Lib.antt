@@ -1,3 +1,6 @@
+mod Callers
 mod Entering
+mod Opening
 mod Pushing
+mod Rooms
 mod Standings

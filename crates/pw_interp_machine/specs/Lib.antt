@@ -1,3 +1,4 @@
+pub mod Bodies
 pub mod Locals
 pub mod Waiting
 pub mod Standing

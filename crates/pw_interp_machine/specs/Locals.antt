@@ -1,21 +1,13 @@
 -- The objects of locals (ISO C90 6.1.2.4).
-use Rattle.std.specs.Prelude.{ℕ, zero, suc, Bool, Option, Some, None, List, length, slice_get}
-use Rattle.pw_value.specs.Objects.{Object, with_object}
+use Rattle.std.specs.Prelude.{ℕ, zero, suc, Option, Some, None, List, length, slice_get}
+use Rattle.pw_value.specs.Objects.{Object, ended, with_object}
 use Rattle.pw_types.specs.TypeTrees.{type_of}
 use Rattle.pw_types.specs.TypedTrees.{LocalValue}
 use Rattle.pw_types.specs.declared.record.Layout.{Layout}
 use Rattle.pw_types.specs.Layouts.{layout_of}
 use Rattle.pw_interp_state.specs.Views.{fresh}
-use Rattle.pw_cmean.specs.Acts.{Act, ◌>>=◌, give, need}
 use Rattle.pw_cmean.specs.Evaluation.{Env, records_of}
 use Rattle.pw_cmean.specs.Execution.{with_number}
-
--- its size, and whether it may be written
-unfoldable pub object_for : ℕ → Env → Act (ℕ × Bool)
-object_for k e = do
-  l ← need (slice_get e.locals k)
-  layout ← need (layout_of (records_of e) (type_of l.ty))
-  give (layout.size, l.writable)
 
 -- with a local's object behind the others: the environment and the objects; None where it has no layout
 abbrev pub made_by : ℕ → Env → List Object → LocalValue → Option Layout → Option (Env × List Object)
@@ -39,3 +31,8 @@ made_next objects others (Some (e, more)) = others e more
 abbrev pub made : ℕ → ℕ → Env → List Object → Option Env × List Object
 made zero first e objects = (Some e, objects)
 made (suc count) first e objects = made_next objects (made count (suc first)) (made_one first e objects)
+
+-- so many objects from a number on end, the last one first
+abbrev pub all_ended : ℕ → ℕ → List Object → List Object
+all_ended zero number objects = objects
+all_ended (suc count) number objects = ended number (all_ended count (suc number) objects)

@@ -1,19 +1,18 @@
-//! The locals of blocks: each has an object of its own while the block runs (ISO C90 6.1.2.4).
+//! The locals of blocks and the parameters of functions: each has an object of its own (ISO C90 6.1.2.4).
 
-ghost use Rattle.std.specs.Prelude.{◌≡◌, ◌+◌, ◌<◌, option_and_then, slice_get, slice_set};
+ghost use Rattle.std.specs.Prelude.{◌≡◌, ◌+◌, ◌<◌, false, IfOk, None, Some, if◌then◌else◌, option_and_then, option_map, slice_get, slice_set};
 ghost use Rattle.pw_value.specs.Objects.{ended};
 ghost use Rattle.pw_typed.specs.Views.{view_stmt};
 ghost use Rattle.pw_cmean.specs.Acts.{◌>>=◌};
-ghost use Rattle.pw_interp_calls.specs.Answers.{Answers};
 ghost use Rattle.pw_interp_calls.specs.Views.{view_env};
-ghost use Rattle.pw_interp_state.specs.Shown.{Shown, view_state};
+ghost use Rattle.pw_interp_state.specs.Shown.{view_state};
 ghost use Rattle.pw_interp_todo.specs.Flows.{view_entry};
 ghost use Rattle.pw_interp_todo.specs.Members as any;
 ghost use Rattle.pw_interp_todo.specs.Parts.{part_act};
 ghost use Rattle.pw_interp_todo.specs.Resuming as resuming;
 ghost use Rattle.pw_interp_todo.specs.Resuming.{put_back};
 ghost use Rattle.pw_interp_machine.specs.Locals as spec;
-ghost use Rattle.pw_interp_machine.specs.Stepping.{StepsCall, all_ended};
+ghost use Rattle.pw_interp_machine.specs.Stepping.{StepsCall};
 
 use crate::machine::Call;
 use pw_interp_calls::{Ending, Env, Stop};
@@ -46,7 +45,7 @@ fn number_of(numbers: &[Option<u128>], local: usize) -> Option<u128>
 
 /// Notes what object a local has; what is no local has none.
 #[tactic(auto, using(std::proofs::lemmas::List::set_past))]
-pub(crate) fn set_number(numbers: &mut [Option<u128>], local: usize, number: Option<u128>)
+fn set_number(numbers: &mut [Option<u128>], local: usize, number: Option<u128>)
     ensures { numbers.new ≡ slice_set numbers.old local number }
 {
     if local < numbers.len() {
@@ -54,17 +53,46 @@ pub(crate) fn set_number(numbers: &mut [Option<u128>], local: usize, number: Opt
     }
 }
 
-/// What the object of a local is: its size, and whether it may be written; where it has a layout.
-pub(crate) fn object_of<'a>(env: &Env<'a>, local: usize) -> Result<(u32, bool), Stop<'a>>
-    ensures { (w : Shown) → Answers (λ o. o) (view_env env.now).world (spec.object_for local (view_env env.now)) w result w }
+/// Makes the object of a local, where it has a layout.
+fn make_local<'a>(
+    alloc: Global,
+    env: &mut Env<'a>,
+    objects: &mut Objects,
+    local: usize,
+) -> Result<bool, AllocError>
+    ensures made { IfOk result (λ done. spec.made_one local (view_env env.old) objects.old ≡ (if done then Some (view_env env.new, objects.new) else None)) }
+    ensures unmade { IfOk result (λ done. done ≡ false → objects.new ≡ objects.old) }
+    ensures world { (view_env env.new).world ≡ (view_env env.old).world }
 {
     let Some(declared) = env.locals.get(local) else {
-        return Err(Stop::Ended(Ending::Wrong));
+        return Ok(false);
     };
     let Some(layout) = exact_layout(&env.home.tree.types, &declared.ty.ty)? else {
-        return Err(Stop::Ended(Ending::Wrong));
+        return Ok(false);
     };
-    Ok((layout.size, declared.writable))
+    let number = objects.make(alloc, layout.size, declared.writable)?;
+    set_number(&mut env.numbers, local, Some(number));
+    Ok(true)
+}
+
+/// Makes the objects of so many locals from the first one on, and answers where they are in scope; None where one of them
+/// has no layout, behind those before it.
+pub fn make_locals<'a>(
+    alloc: Global,
+    env: Env<'a>,
+    objects: &mut Objects,
+    count: u32,
+) -> Result<Option<Env<'a>>, AllocError>
+    ensures { IfOk result (λ inner. spec.made count 0 (view_env env.entry) objects.old ≡ (option_map view_env inner, objects.new)) }
+{
+    let mut inner = env;
+    for i in 0..count {
+        let made = make_local(alloc, &mut inner, objects, i as usize)?;
+        if !made {
+            return Ok(None);
+        }
+    }
+    Ok(Some(inner))
 }
 
 /// The next local of a block gets an object of its own, behind which the others come, and behind the block the local has
@@ -83,20 +111,20 @@ fn open_one<'a>(
     requires place { local ≡ any.first_in (view_stmt of.now) + made }
     ensures { StepsCall call.old (λ rest. part_act (Part.Locals made) (view_stmt of.now) (view_entry at) (view_env call.old.env) call.old.bound >>= λ flow. rest (view_env call.old.env) bound (resuming.Flowed flow)) (view_state state.old) result call.new (view_state state.new) }
 {
-    let (size, writable) = object_of(&call.env, local)?;
     let before = number_of(&call.env.numbers, local);
-    let number = state.objects.make(alloc, size, writable)?;
-    set_number(&mut call.env.numbers, local, Some(number));
-    call.todo.push(Todo::EndLocal {
-        local,
-        number,
-        before,
-    })?;
-    let part = Part::Locals(made + 1);
-    Ok(Control::Do {
-        what: Doing { part, of, at },
-        bound,
-    })
+    let number = state.objects.count() as u128;
+    if make_local(alloc, &mut call.env, &mut state.objects, local)? {
+        call.todo.push(Todo::EndLocal {
+            local,
+            number,
+            before,
+        })?;
+        let part = Part::Locals(made + 1);
+        let what = Doing { part, of, at };
+        Ok(Control::Do { what, bound })
+    } else {
+        Err(Stop::Ended(Ending::Wrong))
+    }
 }
 
 /// A block, so many of whose locals have their objects: the next gets its own, or where all have theirs the inside comes.
@@ -117,10 +145,8 @@ pub fn open<'a>(
         open_one(alloc, call, state, of, made, local, at, bound)
     } else {
         let part = Part::Initialisers(0);
-        Ok(Control::Do {
-            what: Doing { part, of, at },
-            bound,
-        })
+        let what = Doing { part, of, at };
+        Ok(Control::Do { what, bound })
     }
 }
 
@@ -134,7 +160,9 @@ pub fn end_local<'a>(
 )
     ensures objects { objects.new ≡ ended number objects.old }
     ensures env { view_env call.new.env ≡ put_back local before (view_env call.old.env) }
-    ensures rest { (call.new.bound ≡ call.old.bound) × (call.new.todo.items ≡ call.old.todo.items) × (call.new.before ≡ call.old.before) }
+    ensures bound { call.new.bound ≡ call.old.bound }
+    ensures todo { call.new.todo.items ≡ call.old.todo.items }
+    ensures before { call.new.before ≡ call.old.before }
 {
     objects.end(number);
     set_number(&mut call.env.numbers, local, before);
@@ -142,7 +170,7 @@ pub fn end_local<'a>(
 
 /// The objects of so many parameters end, which have the numbers from one on.
 pub fn end_parameters(objects: &mut Objects, count: u32, number: u128)
-    ensures { objects.new ≡ all_ended count number objects.old }
+    ensures { objects.new ≡ spec.all_ended count number objects.old }
 {
     let mut left = count;
     while left > 0 {

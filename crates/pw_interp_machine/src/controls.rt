@@ -19,6 +19,7 @@ ghost use Rattle.pw_interp_machine.specs.Stepping.{StepsCall};
 
 use crate::arguments::push_arguments;
 use crate::blocks::{end_local, end_parameters, open};
+use crate::calls::given;
 use crate::machine::Call;
 use crate::pushes::{push_going, push_next};
 use pw_interp_acts::used;
@@ -33,7 +34,7 @@ use pw_value::Value;
 use std::alloc::Global;
 
 /// What is asked.
-fn ask_step<'a>(
+pub fn ask_step<'a>(
     alloc: Global,
     call: &mut Call<'a>,
     state: &State<'a>,
@@ -47,7 +48,7 @@ fn ask_step<'a>(
 }
 
 /// A part of a statement.
-fn do_step<'a>(
+pub fn do_step<'a>(
     alloc: Global,
     call: &mut Call<'a>,
     state: &mut State<'a>,
@@ -135,74 +136,67 @@ fn result_of<'a>(flow: Flow) -> Result<Option<Value>, Stop<'a>>
     }
 }
 
-/// A result was given: the last of the list takes it.
-fn gave_step<'a>(
+/// A result was given, which the last of the list takes.
+pub fn gave_step<'a>(
     alloc: Global,
     call: &mut Call<'a>,
     state: &mut State<'a>,
+    first: Todo<'a>,
     given: Option<Value>,
 ) -> Result<Control<'a>, Stop<'a>>
-    ensures { StepsCall call.old (λ rest. rest (view_env call.old.env) call.old.bound (spec.Gave given)) (view_state state.old) result call.new (view_state state.new) }
+    ensures { StepsCall call.old (λ rest. spec.after first.entry rest (view_env call.old.env) call.old.bound (spec.Gave given)) (view_state state.old) result call.new (view_state state.new) }
 {
-    match call.todo.pop() {
-        Some(Todo::Operand(operand)) => operand_step(alloc, call, state, operand, given),
-        Some(Todo::Argument(args, token)) => argument_step(call, args, token, given),
-        Some(Todo::Value { what, bound }) => value_step(alloc, call, state, what, bound, given),
-        Some(Todo::EndLocal { local, number, before }) => {
+    match first {
+        Todo::Operand(operand) => operand_step(alloc, call, state, operand, given),
+        Todo::Argument(args, token) => argument_step(call, args, token, given),
+        Todo::Value { what, bound } => value_step(alloc, call, state, what, bound, given),
+        Todo::EndLocal { local, number, before } => {
             end_local(call, &mut state.objects, local, number, before);
             Ok(Control::Gave(given))
         }
-        Some(Todo::EndParameters { count, number }) => {
+        Todo::EndParameters { count, number } => {
             end_parameters(&mut state.objects, count, number);
             Ok(Control::Gave(given))
         }
-        Some(Todo::Held(_) | Todo::Call(_) | Todo::Flow { .. } | Todo::Returned) | None => {
+        Todo::Held(_) | Todo::Call(_) | Todo::Flow { .. } | Todo::Returned => {
             Err(Stop::Ended(Ending::Wrong))
         }
     }
 }
 
-/// A part of a statement left something: the last of the list takes it.
-fn flowed_step<'a>(
+/// A part of a statement left something, which the last of the list takes.
+pub fn flowed_step<'a>(
     call: &mut Call<'a>,
     state: &mut State<'a>,
+    first: Todo<'a>,
     flow: Flow,
 ) -> Result<Control<'a>, Stop<'a>>
-    ensures { StepsCall call.old (λ rest. rest (view_env call.old.env) call.old.bound (spec.Flowed (view_flow flow))) (view_state state.old) result call.new (view_state state.new) }
+    ensures { StepsCall call.old (λ rest. spec.after first.entry rest (view_env call.old.env) call.old.bound (spec.Flowed (view_flow flow))) (view_state state.old) result call.new (view_state state.new) }
 {
-    match call.todo.pop() {
-        Some(Todo::Flow { what, bound }) => flow_step(call, what, bound, flow),
-        Some(Todo::EndLocal { local, number, before }) => {
+    match first {
+        Todo::Flow { what, bound } => flow_step(call, what, bound, flow),
+        Todo::EndLocal { local, number, before } => {
             end_local(call, &mut state.objects, local, number, before);
             Ok(Control::Flowed(flow))
         }
-        Some(Todo::Returned) => Ok(Control::Gave(result_of(flow)?)),
-        Some(Todo::EndParameters { count, number }) => {
+        Todo::Returned => given(result_of(flow)),
+        Todo::EndParameters { count, number } => {
             end_parameters(&mut state.objects, count, number);
             Ok(Control::Flowed(flow))
         }
-        Some(Todo::Operand(_) | Todo::Argument(_, _) | Todo::Held(_)) => {
-            Err(Stop::Ended(Ending::Wrong))
-        }
-        Some(Todo::Call(_) | Todo::Value { .. }) | None => Err(Stop::Ended(Ending::Wrong)),
+        Todo::Operand(_) | Todo::Argument(_, _) | Todo::Held(_) => Err(Stop::Ended(Ending::Wrong)),
+        Todo::Call(_) | Todo::Value { .. } => Err(Stop::Ended(Ending::Wrong)),
     }
 }
 
-/// A step that stays in the call; behind the last that it has to do there is none.
-pub fn call_step<'a>(
-    alloc: Global,
+/// The arguments of a call that are left.
+pub fn arguments_step<'a>(
     call: &mut Call<'a>,
-    state: &mut State<'a>,
-    control: Control<'a>,
+    args: &'a [TExpr],
+    token: usize,
 ) -> Result<Control<'a>, Stop<'a>>
-    ensures { StepsCall call.old (λ rest. spec.control_act control.entry (view_env call.old.env) call.old.bound rest) (view_state state.old) result call.new (view_state state.new) }
+    ensures { (w : Shown) → StepsCall call.old (λ rest. meaning.values_of (view_exprs args.now) token (runs.calls (view_env call.old.env).world call.old.bound) (view_env call.old.env) >>= λ vs. rest (view_env call.old.env) call.old.bound (spec.Listed vs)) w result call.new w }
 {
-    match control {
-        Control::Ask(asked) => ask_step(alloc, call, state, asked),
-        Control::Do { what, bound } => do_step(alloc, call, state, what, bound),
-        Control::Arguments(args, token) => Ok(push_arguments(&mut call.todo, args, token)?),
-        Control::Gave(given) => gave_step(alloc, call, state, given),
-        Control::Flowed(flow) => flowed_step(call, state, flow),
-        Control::Listed => Err(Stop::Ended(Ending::Wrong)),
-    }
+    let control = push_arguments(&mut call.todo, args, token)?;
+    Ok(control)
 }

@@ -10,6 +10,7 @@ mod controls;
 mod machine;
 mod parameters;
 mod pushes;
+mod results;
 mod steps;
 
 pub use machine::{Call, Machine};

@@ -1,9 +1,18 @@
-//! The parameters of functions: objects that a call makes (ISO C90 6.1.2.4, 6.3.2.2).
+//! Where a function begins, and its parameters (ISO C90 6.3.2.2).
 
-use crate::blocks::{object_of, set_number};
+ghost use Rattle.std.specs.Prelude.{◌≡◌, IfOk};
+ghost use Rattle.pw_typed.specs.Views.{view_function};
+ghost use Rattle.pw_cmean.specs.Evaluation.{site};
+ghost use Rattle.pw_cmean.specs.SourceRun as runs;
+ghost use Rattle.pw_interp_calls.specs.Answers.{Answers};
+ghost use Rattle.pw_interp_calls.specs.Views.{view_env};
+ghost use Rattle.pw_interp_calls.specs.WorldViews.{view_world};
+ghost use Rattle.pw_interp_state.specs.Shown.{view_state};
+ghost use Rattle.pw_interp_world.specs.Views.{view_part};
+
 use pw_interp_calls::{Env, Stop, World};
 use pw_interp_flows::set_local;
-use pw_interp_state::{Objects, State};
+use pw_interp_state::State;
 use pw_interp_world::Part;
 use pw_typed::TFunction;
 use pw_value::Value;
@@ -11,7 +20,7 @@ use pw_value::words::word_of;
 use std::alloc::{AllocError, Global};
 
 /// Where no local is in scope.
-fn outermost<'a>(
+pub fn outermost<'a>(
     alloc: Global,
     world: &'a World<'a>,
     home: Part<'a>,
@@ -27,34 +36,6 @@ fn outermost<'a>(
         locals: &f.locals,
         numbers,
     })
-}
-
-/// Makes the objects of the first locals of a function.
-fn make_objects<'a>(
-    alloc: Global,
-    env: &mut Env<'a>,
-    objects: &mut Objects,
-    count: u32,
-) -> Result<(), Stop<'a>> {
-    for local in 0..count as usize {
-        let (size, writable) = object_of(env, local)?;
-        let number = objects.make(alloc, size, writable)?;
-        set_number(&mut env.numbers, local, Some(number));
-    }
-    Ok(())
-}
-
-/// Where a function stands whose parameters have objects.
-pub fn with_parameters<'a>(
-    alloc: Global,
-    world: &'a World<'a>,
-    home: Part<'a>,
-    f: &'a TFunction,
-    objects: &mut Objects,
-) -> Result<Env<'a>, Stop<'a>> {
-    let mut env = outermost(alloc, world, home, f)?;
-    make_objects(alloc, &mut env, objects, f.params)?;
-    Ok(env)
 }
 
 /// Puts the arguments of a call into the parameters, at the node of a token. Of more than 32 bits can count there is

@@ -1,0 +1,43 @@
+//! How a run ends in which main returned (ISO C90 5.1.2.2.3).
+
+ghost use Rattle.std.specs.Prelude.{◌≡◌, None, Some};
+ghost use Rattle.pw_cmean.specs.Acts.{stop};
+ghost use Rattle.pw_cmean.specs.SourceRun as runs;
+ghost use Rattle.pw_cmean.specs.Worlds as worlds;
+ghost use Rattle.pw_interp_calls.specs.Endings.{view_ending};
+ghost use Rattle.pw_interp_calls.specs.Functions.{callable_of};
+
+use pw_cmean::Undef;
+use pw_interp_calls::Ending;
+use pw_interp_world::Body;
+use pw_value::Value;
+
+/// How a run ends in which main returned this value: its low eight bits are the status.
+fn ended_with<'a>(value: Value) -> Ending<'a>
+    ensures { (main : worlds.Body) → runs.finish main (Some value) ≡ stop (view_ending result) }
+{
+    match value {
+        Value::Num(n) => Ending::Exit((n % 256) as u8),
+        _ => Ending::Wrong,
+    }
+}
+
+/// How a run ends in which main returned no result: its name meets that.
+fn unreturned<'a>(main: Body<'a>) -> Ending<'a>
+    ensures { runs.finish (callable_of main.entry).body None ≡ stop (view_ending result) }
+{
+    match main {
+        Body::Defined(home, f) => Ending::Undefined(Undef::MissingResult, home.name, f.token),
+        Body::Library(_) => Ending::Wrong,
+    }
+}
+
+/// How a run ends in which main returned so.
+pub fn finish<'a>(main: Body<'a>, given: Option<Value>) -> Ending<'a>
+    ensures { runs.finish (callable_of main.entry).body given ≡ stop (view_ending result) }
+{
+    match given {
+        Some(value) => ended_with(value),
+        None => unreturned(main),
+    }
+}
