@@ -10,7 +10,7 @@ use Rattle.pw_types.specs.Layouts.{layout_of}
 use Rattle.pw_interp_state.specs.Views.{fresh}
 use Rattle.pw_interp_state.specs.Shown.{Shown, shown}
 use Rattle.pw_interp_state.specs.Runs.{Runs}
-use Rattle.pw_interp_state.proofs.RunLaws.{ends, active_shows, room_shows, full_shows, goes_on as runs_on}
+use Rattle.pw_interp_state.proofs.RunLaws.{ends, stopped, active_shows, room_shows, full_shows, goes_on as runs_on}
 use Rattle.pw_cmean.specs.Worlds.{World, ProgramModule, Callable, callable, full_name}
 use Rattle.pw_cmean.specs.Acts.{Act, State, Wrong, StackFull, Bound, give, stop, ◌>>=◌, ◌>>◌, end_object, called, during}
 use Rattle.pw_cmean.specs.Evaluation.{Env, Calls, site, records_of, bounded_call, take_room}
@@ -39,8 +39,8 @@ use Rattle.pw_interp_machine.specs.Bodies.{with_arguments}
 use Rattle.pw_interp_machine.specs.Locals.{made, made_one, made_at, made_by, made_next}
 use Rattle.pw_interp_machine.specs.Waiting.{Active, leave, ended}
 use Rattle.pw_interp_machine.specs.Standing.{InCall}
-use Rattle.pw_interp_machine.specs.Stepping.{Opened, body_first}
-use Rattle.pw_interp_machine.proofs.Entering.{during_is, called_shows, ending, one_leads, one_stops, locals_lead}
+use Rattle.pw_interp_machine.specs.Stepping.{Opened, Opens, Begins, body_first}
+use Rattle.pw_interp_machine.proofs.Entering.{during_is, called_shows, one_leads, one_stops, locals_lead}
 
 -- what the rest of an act answers the whole does
 pub answers_so : {A B : Type 0} {view : B → A} {world : World} {act rest : Act A} {w u v : Shown} {r : Result B Stop} → Leads world act w rest u → Answers view world rest u r v → Answers view world act w r v
@@ -62,6 +62,24 @@ set_back (n ∷ more) (suc k) new = ap (λ rest. n ∷ rest) (set_back more k ne
 pub put_back_is : (k number : ℕ) (before : Option ℕ) (e : Env) → before ≡ option_and_then (λ n. n) (slice_get e.numbers k) → put_back k before (with_number k number e) ≡ e
 put_back_is k number before e is =
     ap (λ (old : Option ℕ). put_back k old (with_number k number e)) is ∙ ap (λ (numbers : List (Option ℕ)). record e { numbers = numbers }) (set_back e.numbers k (Some number))
+
+-- of a local that has its object
+pub noted_is : (k number : ℕ) (before : Option ℕ) (e inner : Env) (objects more : List Object) → made_one k e objects ≡ Some (inner, more) → number ≡ length objects
+    → before ≡ option_and_then (λ n. n) (slice_get e.numbers k) → put_back k before inner ≡ e
+noted_is k number before e inner objects more made_so numbered is =
+    ap (put_back k before) (sym (by (slice_get e.locals k) made_so)) ∙ put_back_is k (length objects) before e is
+  where
+    deep : (l : LocalValue) (o : Option Layout) → made_by k e objects l o ≡ Some (inner, more) → with_number k (length objects) e ≡ inner
+    deep l None none = cc none
+    deep l (Some layout) found =
+        let here : Env × List Object = (with_number k (length objects) e, with_new_object (fresh layout.size l.writable) objects) in
+        let wanted : Env × List Object = (inner, more) in
+        let pair : here ≡ wanted = cc found in
+        ap (λ (p : Env × List Object). p.0) pair
+
+    by : (o : Option LocalValue) → made_at k e objects o ≡ Some (inner, more) → with_number k (length objects) e ≡ inner
+    by None none = cc none
+    by (Some l) found = deep l (layout_of (records_of e) (type_of l.ty)) found
 
 -- the inside of a block
 abbrev inner_act : Statement → execution.Entry → World → ℕ → Env → Act execution.Flow
@@ -163,11 +181,37 @@ module _ (world : World) (m : ℕ) (f : FunctionValue) (args : List Value) (oute
           ∙ ap (λ x. (meaning f.body Front (calls x call.bound) inner >>= λ flow. resume call.todo.items given inner call.bound (Flowed flow)) s) (sym home)
           ∙ ap (λ x. (meaning f.body Front (calls x.world call.bound) x >>= λ flow. resume call.todo.items given x call.bound (Flowed flow)) s) (sym env))))
 
+  -- where the arguments end the run
+  pub active_stops : {w v : Shown} {objects : List Object} (stop : Stop) → made f.params 0 outer w.objects ≡ (Some inner, objects)
+      → Stops world (set_parameters (site inner f.token) 0 args inner) (record w { objects = objects }) stop v → Stops world active_act w stop v
+  unfolding with_arguments
+  active_stops {w = w} {v = v} {objects = objects} (S.Ended ending) made_so run =
+      let u = record w { objects = objects } in
+      runs_so (locals_lead world (with_arguments f (calls world m) args) f.params 0 outer inner w objects made_so)
+      (ends world (with_arguments f (calls world m) args inner) (λ a. end_objects f.params (length w.objects) >> give a) u v (view_ending ending)
+      (ends world (set_parameters (site inner f.token) 0 args inner) (λ _. meaning f.body Front (calls world m) inner >>= result_of) u v (view_ending ending) run))
+  active_stops S.NoMemory made_so run = tt
+
+-- what code answers
+pub opens_so : {world : World} {act : Act (Option Value)} {body : Statement} {room : ℕ} {w v : Shown} (call : Call) → Opened world act body room w call v → Opens world act body room w (Ok call) v
+opens_so call o = record { opened = o; stopped = tt }
+
+pub opens_stopped : {world : World} {act : Act (Option Value)} {body : Statement} {room : ℕ} {w v : Shown} {r : Result Call Stop} (stop : Stop) → r ≡ Err stop → Stops world act w stop v → Opens world act body room w r v
+opens_stopped {world = world} {act = act} {body = body} {room = room} {w = w} {v = v} stop is s = subst (λ x. Opens world act body room w x v) (sym is) (record { opened = tt; stopped = s })
+
+pub begins_err : {world : World} {act : Act (Option Value)} {body : Statement} {w v : Shown} {r : Result Call Stop} (stop : Stop) → r ≡ Err stop → Stops world act w stop v → Begins world act body w r v
+begins_err {world = world} {act = act} {body = body} {w = w} {v = v} stop is s = subst (λ x. Begins world act body w x v) (sym is) (record { begun = tt; stopped = s })
+
 -- ---- calls within a bound
 
 pub bound_none : (world : World) (n : ℕ) (f : Callable) (args : List Value) → n ≡ 0 → bounded_call (calls world n) f args ≡ stop Bound
 unfolding bounded_call calls
 bound_none world n f args none = ap (λ k. bounded_call (calls world k) f args) none
+
+pub bound_ends : {w : Shown} (world : World) (n : ℕ) (f : Callable) (args : List Value) (s : Stop) → n ≡ 0 → s ≡ S.Ended E.Bound → Stops world (bounded_call (calls world n) f args) w s w
+bound_ends {w = w} world n f args s none is =
+    subst (λ x. Stops world (bounded_call (calls world n) f args) w x w) (sym is)
+    (subst (λ act. Runs world act w (Err Bound) w) (sym (bound_none world n f args none)) (stopped world Bound w))
 
 pub bound_more : (world : World) (n m : ℕ) (f : Callable) (args : List Value) → n ≡ m + 1 → bounded_call (calls world n) f args ≡ callee world (calls world m) f args
 unfolding bounded_call calls
@@ -210,3 +254,20 @@ module _ (world : World) (n m : ℕ) (home : ProgramModule) (f : FunctionValue) 
 
   pub begins_full : {w : Shown} → nat_lt world.stack (world.frame_of name + w.used) ≡ true → Stops world (bounded_call (calls world n) (callable home f) args) w (S.Ended E.StackFull) w
   begins_full {w = w} full = subst (λ act. Runs world act w (Err StackFull) w) (sym begins_by) (ends world (take_room world name) (λ _. during name its_body) w w StackFull (full_shows world name w full))
+
+  -- the call that is opened where there is room begins
+  pub begins_opened : {w v : Shown} {r : Result Call Stop} → nat_lt world.stack (world.frame_of name + w.used) ≡ false
+      → Opens world its_body f.body w.used (record w { used = world.frame_of name + w.used }) r v → Begins world (bounded_call (calls world n) (callable home f) args) f.body w r v
+  begins_opened {w = w} {v = v} {r = r} room opens = by r opens
+    where
+      by : (x : Result Call Stop) → Opens world its_body f.body w.used (record w { used = world.frame_of name + w.used }) x v → Begins world (bounded_call (calls world n) (callable home f) args) f.body w x v
+      by (Ok call) o = record { begun = begins_so call room o.opened; stopped = tt }
+      by (Err stop) o = record { begun = tt; stopped = begins_stopped stop room o.stopped }
+
+  -- the call that is opened, by what the code holds
+  pub framed : {w v : Shown} {r : Result Call Stop} (outer : Env) (used : ℕ) → outer ≡ outermost world home f → used ≡ world.frame_of name + w.used
+      → Opens outer.world (with_locals f.params 0 (with_arguments f (calls outer.world m) args) outer) f.body w.used (record w { used = used }) r v
+      → Opens world its_body f.body w.used (record w { used = world.frame_of name + w.used }) r v
+  framed {w = w} {v = v} {r = r} outer used there room o =
+      subst (λ u. Opens world its_body f.body w.used (record w { used = u }) r v) room
+      (subst (λ (x : Env). Opens x.world (with_locals f.params 0 (with_arguments f (calls x.world m) args) x) f.body w.used (record w { used = used }) r v) there o)

@@ -1,33 +1,71 @@
 -- Steps in a call, of calls and of returns, as steps of the machine.
-use Rattle.std.proofs.Common.{ℕ, ◌≡◌, refl, sym, ap, subst, ◌∙◌, Option, List, [], ◌∷◌, ◌++◌, Result, Ok, Err}
+use Rattle.std.proofs.Common.{ℕ, ◌≡◌, refl, sym, ap, subst, ◌∙◌, Option, Some, List, [], ◌∷◌, ◌++◌, Result, Ok, Err}
+use Rattle.std.specs.Prelude.{IfOk, IfErr}
 use Rattle.pw_value.specs.declared.value.Value.{Value}
 use Rattle.pw_types.specs.TypedTrees.{Statement}
 use Rattle.pw_cmean.specs.Worlds.{World, Body, depth}
+use Rattle.pw_cmean.specs.Acts as acts
 use Rattle.pw_cmean.specs.Acts.{Act, Outcome, State, Returned, stop, wrong, go_on, ◌>>=◌}
 use Rattle.pw_cmean.specs.Evaluation.{Env}
 use Rattle.pw_cmean.specs.Execution as execution
 use Rattle.pw_cmean.specs.SourceRun.{finish}
 use Rattle.pw_interp_state.specs.Shown.{Shown, shown}
-use Rattle.pw_interp_state.specs.Runs.{Shows}
+use Rattle.pw_interp_state.specs.Runs.{Shows, Runs}
+use Rattle.pw_interp_state.proofs.RunLaws.{ends, stopped}
 use Rattle.pw_interp_calls.specs.declared.ending.Ending.{Ending}
 use Rattle.pw_interp_calls.specs.declared.ending.Ending.TheVariants as E
 use Rattle.pw_interp_calls.specs.declared.ending.Stop.{Stop}
 use Rattle.pw_interp_calls.specs.declared.ending.Stop.TheVariants as S
-use Rattle.pw_interp_calls.specs.Answers.{Stops}
-use Rattle.pw_interp_calls.specs.Endings.{view_ending}
+use Rattle.pw_interp_calls.specs.Answers.{Answers, Stops}
+use Rattle.pw_interp_calls.specs.Endings.{told_stop, view_ending}
 use Rattle.pw_interp_calls.specs.Views.{view_env}
 use Rattle.pw_interp_todo.specs.declared.todo.Control.{Control}
 use Rattle.pw_interp_todo.specs.declared.todo.Control.TheVariants as C
 use Rattle.pw_interp_todo.specs.declared.todo.Todo.{Todo}
-use Rattle.pw_interp_todo.specs.Leading.{Leads}
+use Rattle.pw_interp_todo.specs.Leading.{Leads, Continues}
 use Rattle.pw_interp_todo.specs.Resuming.{Rest, Told, Gave, Flowed, after, resume, on_value, control_act}
+use Rattle.pw_interp_todo.proofs.LeadLaws.{behind_given, named}
 use Rattle.pw_interp_todo.proofs.Resumes.{resume_last}
 use Rattle.pw_interp_machine.specs.declared.machine.Call.{Call}
 use Rattle.pw_interp_machine.specs.declared.machine.Machine.{Machine}
 use Rattle.pw_interp_machine.specs.Waiting.{Active, leave, ended, goes_on, callers_act}
 use Rattle.pw_interp_machine.specs.Standing.{IsCall, AreCalls, InCall, StandsAt, Stands}
-use Rattle.pw_interp_machine.specs.Stepping.{StepsCall, Begins, EndsSo, StepsAt, body_first}
+use Rattle.pw_interp_machine.specs.Stepping.{StepsCall, Begins, EndsSo, Starts, Steps, StepsAt, body_first}
 use Rattle.pw_interp_machine.proofs.Callers.{Last, callers_last, calls_last, last_of}
+
+-- ---- what code answers that does the first steps of an act
+
+-- what an answer leaves is what follows it
+pub gives_next : {A B C : Type 0} {seen : C → A} {world : World} {first : Act A} {w u : Shown} {r : Result C Stop} (next : A → Act B)
+    → Answers seen world first w r u → Continues (λ made. next (seen made)) world (first >>= next) w r u
+gives_next {C = C} {seen = seen} {world = world} {first = first} {w = w} {u = u} {r = r} next a = by r a
+  where
+    by : (x : Result C Stop) → Answers seen world first w x u → Continues (λ made. next (seen made)) world (first >>= next) w x u
+    by (Ok made) o = record { goes = behind_given next o.given; stopped = tt }
+    by (Err (S.Ended ending)) o = record { goes = tt; stopped = ends world first next w u (view_ending ending) o.stopped }
+    by (Err S.NoMemory) o = record { goes = tt; stopped = tt }
+
+-- behind what stops
+pub stops_on : {A B : Type 0} {world : World} {first : Act A} {w u : Shown} (stop : Stop) (next : A → Act B) → Stops world first w stop u → Stops world (first >>= next) w stop u
+stops_on {world = world} {first = first} {w = w} {u = u} (S.Ended ending) next run = ends world first next w u (view_ending ending) run
+stops_on S.NoMemory next run = tt
+
+-- what code answered that did the first steps
+pub goes_by : {A B : Type 0} {left : B → Act A} {world : World} {act : Act A} {made : B} {w u : Shown} {r : Result B Stop} → Continues left world act w r u → r ≡ Ok made → Leads world act w (left made) u
+goes_by {left = left} {world = world} {act = act} {w = w} {u = u} c is = subst (λ x. IfOk x (λ b. Leads world act w (left b) u)) is c.goes
+
+pub stops_by : {A B : Type 0} {left : B → Act A} {world : World} {act : Act A} {stop : Stop} {w u : Shown} {r : Result B Stop} → Continues left world act w r u → r ≡ Err stop → Stops world act w stop u
+stops_by {world = world} {act = act} {w = w} {u = u} c is = subst (λ x. IfErr x (λ s. Stops world act w s u)) is c.stopped
+
+-- how a run ends
+pub ends_continue : {A B : Type 0} {left : B → Act A} {world : World} {w : Shown} {ending : acts.Ending} {s : Stop} → told_stop s ≡ Some ending → Continues left world (acts.stop ending) w (Err s) w
+ends_continue {left = left} {world = world} {w = w} {ending = ending} {s = s} e = by s e
+  where
+    by : (x : Stop) → told_stop x ≡ Some ending → Continues left world (acts.stop ending) w (Err x) w
+    by (S.Ended y) e =
+        let is : ending ≡ view_ending y = cc e in
+        record { goes = tt; stopped = subst (λ q. Runs world (acts.stop ending) w (Err q) w) is (stopped world ending w) }
+    by S.NoMemory e = cc e
 
 module _ {main : Body} {world : World} {call : Call} {callers : List Call} where
   -- what the act leads to
@@ -51,11 +89,12 @@ module _ {main : Body} {world : World} {call : Call} {callers : List Call} where
       by (Err stop) o = record { goes = tt; stopped = λ end at. o.stopped end (stands_further leads at) }
 
   -- where the act ends the run
-  pub steps_stop : {act : Rest → Act (Unit {0})} {before behind : Shown} {new : Machine} (stop : Stop)
-      → ((rest : Rest) → Stops world (act rest) before stop behind) → StepsAt main world call callers act before (Err stop) new behind
-  steps_stop {act = act} {behind = behind} stop stops = record { goes = tt; stopped = λ end at. by stop stops end at }
+  pub steps_stop : {act : Rest → Act (Unit {0})} {before behind : Shown} {r : Result (Unit {0}) Stop} {new : Machine} (stop : Stop) → r ≡ Err stop
+      → ((rest : Rest) → Stops world (act rest) before stop behind) → StepsAt main world call callers act before r new behind
+  steps_stop {act = act} {before = before} {behind = behind} {new = new} stop is stops =
+      subst (λ x. StepsAt main world call callers act before x new behind) (sym is) (record { goes = tt; stopped = λ end at. by stop stops end at })
     where
-      by : (x : Stop) → ((rest : Rest) → Stops world (act rest) _ x behind) → (end : Outcome (Unit {0})) → StandsAt main world call callers act _ end → EndsSo world end x behind
+      by : (x : Stop) → ((rest : Rest) → Stops world (act rest) before x behind) → (end : Outcome (Unit {0})) → StandsAt main world call callers act before end → EndsSo world end x behind
       by (S.Ended ending) run end at =
           let here = at.in_call in
           subst (λ o. Shows world o (Err (view_ending ending)) behind) (sym here.comes)
@@ -65,6 +104,11 @@ module _ {main : Body} {world : World} {call : Call} {callers : List Call} where
   pub steps_no_memory : {act : Rest → Act (Unit {0})} {before behind : Shown} {r : Result (Unit {0}) Stop} {new : Machine} → r ≡ Err S.NoMemory → StepsAt main world call callers act before r new behind
   steps_no_memory {act = act} {before = before} {behind = behind} {new = new} e =
       subst (λ x. StepsAt main world call callers act before x new behind) (sym e) (record { goes = tt; stopped = λ end at. tt })
+
+-- an act by another name
+pub steps_named : {main : Body} {world : World} {call : Call} {callers : List Call} {act other : Rest → Act (Unit {0})} {before behind : Shown} {r : Result (Unit {0}) Stop} {new : Machine}
+    → ((rest : Rest) → act rest ≡ other rest) → StepsAt main world call callers other before r new behind → StepsAt main world call callers act before r new behind
+steps_named same s = steps_further (λ rest. named (same rest)) s
 
 -- ---- a step that stays in the call
 
@@ -90,17 +134,15 @@ steps_in {main = main} {old = old} m s = record {
 
 pub steps_out : {main : Body} {old new : Call} {callers : List Call} {act : Rest → Act (Unit {0})} {before behind : Shown} {m : Machine} {r : Result (Unit {0}) Stop} (stop : Stop)
     → StepsCall old act before (Err stop) new behind → r ≡ Err stop → StepsAt main (view_env old.env).world old callers act before r m behind
-steps_out {main = main} {old = old} {callers = callers} {act = act} {before = before} {behind = behind} {m = m} stop s is =
-    subst (λ x. StepsAt main (view_env old.env).world old callers act before x m behind) (sym is) (steps_stop stop (λ rest. (s.steps rest).stopped))
+steps_out stop s is = steps_stop stop is (λ rest. (s.steps rest).stopped)
 
--- ---- the last of the list
+-- ---- a call with another list
 
-module _ {main : Body} {world : World} {callers : List Call} {before : Shown} (call popped : Call) (first : Todo) (e : Env) (n : ℕ) (told : Told) where
-  stands_popped : {end : Outcome (Unit {0})} → call.todo.items ≡ popped.todo.items ++ first ∷ [] → popped.before ≡ call.before → (view_env popped.env).world ≡ (view_env call.env).world
-      → StandsAt main world call callers (λ rest. rest e n told) before end → StandsAt main world popped callers (λ rest. after first rest e n told) before end
-  stands_popped items room stands at =
+module _ {main : Body} {world : World} {callers : List Call} {before : Shown} (old new : Call) (act other : Rest → Act (Unit {0}))
+    (same : (rest : Rest) → act (resume old.todo.items rest) ≡ other (resume new.todo.items rest)) (room : new.before ≡ old.before) (stands : (view_env new.env).world ≡ (view_env old.env).world) where
+  stands_reached : {end : Outcome (Unit {0})} → StandsAt main world old callers act before end → StandsAt main world new callers other before end
+  stands_reached at =
       let here = at.in_call in
-      let rest = ended here.active (callers_act callers at.waiting (finish main)) in
       record {
         waiting = at.waiting;
         are_calls = at.are_calls;
@@ -109,17 +151,20 @@ module _ {main : Body} {world : World} {callers : List Call} {before : Shown} (c
           state = here.state;
           is_call = record { room = here.is_call.room ∙ sym room; stands = stands ∙ here.is_call.stands };
           shows = here.shows;
-          comes = here.comes ∙ ap (λ todo. resume todo rest e n told here.state) items ∙ ap (λ r. r e n told here.state) (resume_last popped.todo.items first rest);
+          comes = here.comes ∙ ap (λ (a : Act (Unit {0})). a here.state) (same (ended here.active (callers_act callers at.waiting (finish main))));
         };
       }
 
-  pub steps_popped : {behind : Shown} {r : Result (Unit {0}) Stop} {new : Machine} → call.todo.items ≡ popped.todo.items ++ first ∷ [] → popped.before ≡ call.before → (view_env popped.env).world ≡ (view_env call.env).world
-      → StepsAt main world popped callers (λ rest. after first rest e n told) before r new behind → StepsAt main world call callers (λ rest. rest e n told) before r new behind
-  steps_popped {behind = behind} {r = r} {new = new} items room stands s = by r s
+  pub steps_reached : {behind : Shown} {r : Result (Unit {0}) Stop} {m : Machine} → StepsAt main world new callers other before r m behind → StepsAt main world old callers act before r m behind
+  steps_reached {behind = behind} {r = r} {m = m} s = by r s
     where
-      by : (x : Result (Unit {0}) Stop) → StepsAt main world popped callers (λ rest. after first rest e n told) before x new behind → StepsAt main world call callers (λ rest. rest e n told) before x new behind
-      by (Ok d) o = record { goes = λ end at. o.goes end (stands_popped items room stands at); stopped = tt }
-      by (Err stop) o = record { goes = tt; stopped = λ end at. o.stopped end (stands_popped items room stands at) }
+      by : (x : Result (Unit {0}) Stop) → StepsAt main world new callers other before x m behind → StepsAt main world old callers act before x m behind
+      by (Ok d) o = record { goes = λ end at. o.goes end (stands_reached at); stopped = tt }
+      by (Err stop) o = record { goes = tt; stopped = λ end at. o.stopped end (stands_reached at) }
+
+-- the last of the list
+pub popped_is : (todo : List Todo) (first : Todo) (items : List Todo) (e : Env) (n : ℕ) (told : Told) → items ≡ todo ++ first ∷ [] → (rest : Rest) → resume items rest e n told ≡ after first (resume todo rest) e n told
+popped_is todo first items e n told is rest = ap (λ all. resume all rest e n told) is ∙ ap (λ (r : Rest). r e n told) (resume_last todo first rest)
 
 -- a call that has nothing left to do is left by no flow
 pub steps_unleft : {main : Body} {world : World} {callers : List Call} {before : Shown} {m : Machine} (call : Call) (e : Env) (n : ℕ) (flow : execution.Flow) → call.todo.items ≡ []
@@ -217,3 +262,23 @@ module _ {main : Body} {world : World} {before : Shown} (old : Call) (e : Env) (
         (sym (here.comes ∙ ended_is here.active (finish main) here.state ∙ ap (λ act. act (left_now here.active here.state)) is))
         (refl, ended_shows here.active here.state here.is_call here.shows);
   }
+
+-- ---- a machine that starts
+
+pub starts_stopped : {main : Body} {world : World} {act : Act (Unit {0})} {before behind : Shown} {r : Result Machine Stop} (stop : Stop) → r ≡ Err stop → Stops world act before stop behind → Starts main world act before r behind
+starts_stopped {main = main} {world = world} {act = act} {before = before} {behind = behind} stop is s = subst (λ x. Starts main world act before x behind) (sym is) (record { starts = tt; stopped = s })
+
+-- a step of the machine that stands in this world
+pub run_goes : {main : Body} {world : World} {old new : Machine} {before behind : Shown} {r : Result (Unit {0}) Stop} {end : Outcome (Unit {0})}
+    → Steps main (view_env old.call.env).world old before r new behind → r ≡ Ok tt → Stands main world old before end → Stands main world new behind end
+run_goes {main = main} {world = world} {old = old} {new = new} {before = before} {behind = behind} {end = end} s is at =
+    let there : Steps main world old before (Ok tt) new behind =
+        subst (λ r. Steps main world old before r new behind) is (subst (λ w. Steps main w old before _ new behind) at.in_call.is_call.stands s) in
+    there.goes end at
+
+pub run_ends : {main : Body} {world : World} {old new : Machine} {before behind : Shown} {r : Result (Unit {0}) Stop} {end : Outcome (Unit {0})} (stop : Stop)
+    → Steps main (view_env old.call.env).world old before r new behind → r ≡ Err stop → Stands main world old before end → EndsSo world end stop behind
+run_ends {main = main} {world = world} {old = old} {new = new} {before = before} {behind = behind} {end = end} stop s is at =
+    let there : Steps main world old before (Err stop) new behind =
+        subst (λ r. Steps main world old before r new behind) is (subst (λ w. Steps main w old before _ new behind) at.in_call.is_call.stands s) in
+    there.stopped end at

@@ -1,4 +1,5 @@
 pub mod Bodies
+pub mod Ends
 pub mod Locals
 pub mod Waiting
 pub mod Standing

@@ -67,3 +67,10 @@ pub record StepsAt (main : Body) (world : World) (call : Call) (callers : List C
 -- From where the machine stood.
 abbrev pub Steps : Body → World → Machine → Shown → Result (Unit {0}) Stop → Machine → Shown → Type 0
 Steps main world old = StepsAt main world old.call old.callers.items (control_act old.control (view_env old.call.env) old.call.bound)
+
+-- ---- a machine that starts
+
+-- What a run comes to by an act it comes to from where the machine stands, or it has ended.
+pub record Starts (main : Body) (world : World) (act : Act (Unit {0})) (before : Shown) (result : Result Machine Stop) (behind : Shown) : Type 0 where
+  pub starts : IfOk result (λ m. (s : State) → shown world s ≡ before → Stands main world m behind (act s))
+  pub stopped : IfErr result (λ stop. Stops world act before stop behind)

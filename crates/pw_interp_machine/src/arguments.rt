@@ -1,12 +1,13 @@
 //! The arguments of calls: they are evaluated from left to right, and each value is held on the list of what is left to do.
 
-ghost use Rattle.std.specs.Prelude.{◌≡◌, ◌++◌, ℕ, IfOk};
-ghost use Rattle.pw_cmean.specs.Acts.{State as AnyState};
-ghost use Rattle.pw_cmean.specs.Evaluation.{Env};
+ghost use Rattle.std.specs.Prelude.{◌≡◌, ◌++◌, ◌∷◌, [], ℕ, IfOk, List, MatchOption};
+ghost use Rattle.pw_value.specs.declared.value.Value as value;
+ghost use Rattle.pw_typed.specs.Views.{view_exprs};
+ghost use Rattle.pw_cmean.specs.Acts.{State as AnyState, ◌>>=◌};
+ghost use Rattle.pw_cmean.specs.Evaluation.{Env, values_of};
+ghost use Rattle.pw_cmean.specs.SourceRun.{calls};
 ghost use Rattle.pw_interp_todo.specs.Resuming as spec;
 ghost use Rattle.pw_interp_todo.specs.Resuming.{Rest, control_act, resume};
-ghost use Rattle.pw_value.specs.declared.value.Value as value;
-ghost use Rattle.std.specs.Prelude.{List};
 
 use pw_interp_todo::{Asked, Control, Todo};
 use pw_typed::TExpr;
@@ -32,15 +33,26 @@ pub fn push_arguments<'a>(
     }
 }
 
+/// The value that is held last, where one is, which leaves the list.
+fn pop_held<'a>(todo: &mut Vec<Todo<'a>>) -> Option<Value>
+    ensures { MatchOption result (todo.new.items ≡ todo.old.items) (λ v. todo.old.items ≡ todo.new.items ++ Todo.Held v ∷ []) }
+{
+    let Some(Todo::Held(value)) = todo.last() else {
+        return None;
+    };
+    let value = *value;
+    todo.pop();
+    Some(value)
+}
+
 /// The values that are held, from the first argument's to the last's; they leave the list.
 pub fn held<'a>(alloc: Global, todo: &mut Vec<Todo<'a>>) -> Result<Vec<Value>, AllocError>
-    ensures { IfOk result (λ values. (e : Env) (bound : ℕ) (rest : Rest) (vs : List value.Value) →
-        resume todo.old.items rest e bound (spec.Listed vs) ≡ resume todo.new.items rest e bound (spec.Listed (values.items ++ vs))) }
+    ensures { IfOk result (λ values. (e : Env) (bound : ℕ) (rest : Rest) →
+        resume todo.old.items rest e bound (spec.Listed []) ≡ resume todo.new.items rest e bound (spec.Listed values.items)) }
 {
     let mut values = Vec::new(alloc);
-    while let Some(Todo::Held(value)) = todo.last() {
-        values.push(*value)?;
-        todo.pop();
+    while let Some(value) = pop_held(todo) {
+        values.push(value)?;
     }
     values.reverse();
     Ok(values)

@@ -113,7 +113,8 @@ fn open_one<'a>(
 {
     let before = number_of(&call.env.numbers, local);
     let number = state.objects.count() as u128;
-    if make_local(alloc, &mut call.env, &mut state.objects, local)? {
+    let opened = make_local(alloc, &mut call.env, &mut state.objects, local)?;
+    if opened {
         call.todo.push(Todo::EndLocal {
             local,
             number,

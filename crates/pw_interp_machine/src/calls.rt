@@ -76,7 +76,8 @@ fn open_call<'a>(
     ensures { Opens (view_env outer.entry).world (with_locals f.now.params 0 (with_arguments (view_function f.now) (runs.calls (view_env outer.entry).world bound) args.now) (view_env outer.entry)) (view_function f.now).body before (view_state state.old) result (view_state state.new) }
 {
     let number = state.objects.count() as u128;
-    match make_locals(alloc, outer, &mut state.objects, f.params)? {
+    let inner = make_locals(alloc, outer, &mut state.objects, f.params)?;
+    match inner {
         Some(env) => {
             set_parameters(alloc, &env, state, f.token, args)?;
             let call = begun(alloc, env, bound, before, f.params, number)?;
@@ -117,8 +118,9 @@ fn begin_call<'a>(
     ensures { (n : ℕ) → n ≡ bound + 1 → Begins (view_world world.now) (meaning.bounded_call (runs.calls (view_world world.now) n) (callable_of (Body.Defined home.entry f.entry)) args.now) (view_function f.now).body (view_state state.old) result (view_state state.new) }
 {
     let full = full_name(alloc, home.name, &f.name)?;
+    let name = full.as_bytes();
     let outer = outermost(alloc, world, home, f)?;
-    let frame = world.frame(full.as_bytes());
+    let frame = world.frame(name);
     if has_room(state, frame, world.stack) {
         let used = frame + state.used;
         open_framed(alloc, outer, state, bound, used, f, args)
@@ -153,9 +155,9 @@ fn enter<'a>(
         → StepsAt main world machine.old.call machine.old.callers.items (λ rest. act >>= λ r. rest (view_env machine.old.call.env) machine.old.call.bound (spec.Gave r)) before result machine.new behind }
 {
     let call = begun?;
-    let bound = call.bound;
     let caller = std::mem::replace(&mut machine.call, call);
     machine.callers.push(caller)?;
+    let bound = machine.call.bound;
     let (part, at) = (Part::Whole, Entry::Front);
     let what = Doing { part, of: &f.body, at };
     machine.control = Control::Do { what, bound };
@@ -192,7 +194,8 @@ pub(crate) fn given<'a>(answer: Result<Option<Value>, Stop<'a>>) -> Result<Contr
     ensures { (call : calls.Call) (act : _) (before behind : Shown) → Answers (λ v. v) (view_env call.env).world act before answer.entry behind
         → StepsCall call (λ rest. act >>= λ r. rest (view_env call.env) call.bound (spec.Gave r)) before result call behind }
 {
-    Ok(Control::Gave(answer?))
+    let value = answer?;
+    Ok(Control::Gave(value))
 }
 
 /// A call of what is called with its arguments.

@@ -1,6 +1,6 @@
 //! Steps that stay in the call of the function that runs.
 
-ghost use Rattle.std.specs.Prelude.{◌∷◌};
+ghost use Rattle.std.specs.Prelude.{◌≡◌, ◌∷◌, MatchOption, true};
 ghost use Rattle.pw_typed.specs.Views.{view_exprs};
 ghost use Rattle.pw_cmean.specs.Acts.{◌>>=◌};
 ghost use Rattle.pw_cmean.specs.Evaluation as meaning;
@@ -15,6 +15,7 @@ ghost use Rattle.pw_interp_todo.specs.Going.{remainder_act, use_act};
 ghost use Rattle.pw_interp_todo.specs.Operands as operands;
 ghost use Rattle.pw_interp_todo.specs.Parts.{doing_act};
 ghost use Rattle.pw_interp_todo.specs.Resuming as spec;
+ghost use Rattle.pw_interp_flows.specs.Entering.{has_objects};
 ghost use Rattle.pw_interp_machine.specs.Stepping.{StepsCall};
 
 use crate::arguments::push_arguments;
@@ -47,6 +48,31 @@ pub fn ask_step<'a>(
     Ok(control)
 }
 
+/// How many locals of a block have their objects, where a part is a block before its inside.
+fn locals_of(part: Part) -> Option<u32>
+    ensures { MatchOption result (has_objects part ≡ true) (λ made. part ≡ Part.Locals made) }
+{
+    match part {
+        Part::Locals(made) => Some(made),
+        _ => None,
+    }
+}
+
+/// A part of a statement whose locals have their objects.
+fn begin_step<'a>(
+    alloc: Global,
+    call: &mut Call<'a>,
+    state: &mut State<'a>,
+    what: Doing<'a>,
+    bound: u64,
+) -> Result<Control<'a>, Stop<'a>>
+    requires { has_objects what.entry.part ≡ true }
+    ensures { StepsCall call.old (λ rest. doing_act what.entry (view_env call.old.env) call.old.bound >>= λ flow. rest (view_env call.old.env) bound (spec.Flowed flow)) (view_state state.old) result call.new (view_state state.new) }
+{
+    let going = begin(alloc, &call.env, state, what)?;
+    push_going(&mut call.todo, &mut call.bound, going, bound)
+}
+
 /// A part of a statement.
 pub fn do_step<'a>(
     alloc: Global,
@@ -57,12 +83,9 @@ pub fn do_step<'a>(
 ) -> Result<Control<'a>, Stop<'a>>
     ensures { StepsCall call.old (λ rest. doing_act what.entry (view_env call.old.env) call.old.bound >>= λ flow. rest (view_env call.old.env) bound (spec.Flowed flow)) (view_state state.old) result call.new (view_state state.new) }
 {
-    match what.part {
-        Part::Locals(made) => open(alloc, call, state, what.of, made, what.at, bound),
-        _ => {
-            let going = begin(alloc, &call.env, state, what)?;
-            push_going(&mut call.todo, &mut call.bound, going, bound)
-        }
+    match locals_of(what.part) {
+        Some(made) => open(alloc, call, state, what.of, made, what.at, bound),
+        None => begin_step(alloc, call, state, what, bound),
     }
 }
 
@@ -158,9 +181,10 @@ pub fn gave_step<'a>(
             end_parameters(&mut state.objects, count, number);
             Ok(Control::Gave(given))
         }
-        Todo::Held(_) | Todo::Call(_) | Todo::Flow { .. } | Todo::Returned => {
-            Err(Stop::Ended(Ending::Wrong))
-        }
+        Todo::Held(_) => Err(Stop::Ended(Ending::Wrong)),
+        Todo::Call(_) => Err(Stop::Ended(Ending::Wrong)),
+        Todo::Flow { .. } => Err(Stop::Ended(Ending::Wrong)),
+        Todo::Returned => Err(Stop::Ended(Ending::Wrong)),
     }
 }
 
@@ -184,8 +208,11 @@ pub fn flowed_step<'a>(
             end_parameters(&mut state.objects, count, number);
             Ok(Control::Flowed(flow))
         }
-        Todo::Operand(_) | Todo::Argument(_, _) | Todo::Held(_) => Err(Stop::Ended(Ending::Wrong)),
-        Todo::Call(_) | Todo::Value { .. } => Err(Stop::Ended(Ending::Wrong)),
+        Todo::Operand(_) => Err(Stop::Ended(Ending::Wrong)),
+        Todo::Argument(_, _) => Err(Stop::Ended(Ending::Wrong)),
+        Todo::Held(_) => Err(Stop::Ended(Ending::Wrong)),
+        Todo::Call(_) => Err(Stop::Ended(Ending::Wrong)),
+        Todo::Value { .. } => Err(Stop::Ended(Ending::Wrong)),
     }
 }
 

@@ -11,7 +11,9 @@ mod machine;
 mod parameters;
 mod pushes;
 mod results;
+mod runs;
 mod steps;
 
 pub use machine::{Call, Machine};
+pub use runs::{run, start};
 pub use steps::step;

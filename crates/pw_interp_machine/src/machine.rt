@@ -36,6 +36,7 @@ pub(crate) fn settle<'a>(
     ensures { (main : worlds.Body) (old : code.Call) (act : _) (before behind : Shown) → StepsCall old act before answer.entry machine.old.call behind
         → StepsAt main (view_env old.env).world old machine.old.callers.items act before result machine.new behind }
 {
-    machine.control = answer?;
+    let control = answer?;
+    machine.control = control;
     Ok(())
 }

@@ -1,6 +1,6 @@
 //! What is left of an expression or a statement, put on the list of what is left to do.
 
-ghost use Rattle.std.specs.Prelude.{◌≡◌, IfOk};
+ghost use Rattle.std.specs.Prelude.{◌≡◌, ◌+◌, ℕ, IfErr, IfOk};
 ghost use Rattle.pw_cmean.specs.Acts.{State as AnyState, ◌>>=◌};
 ghost use Rattle.pw_cmean.specs.Evaluation.{Env};
 ghost use Rattle.pw_interp_state.specs.Shown.{Shown};

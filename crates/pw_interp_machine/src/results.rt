@@ -1,11 +1,9 @@
 //! How a run ends in which main returned (ISO C90 5.1.2.2.3).
 
-ghost use Rattle.std.specs.Prelude.{◌≡◌, None, Some};
-ghost use Rattle.pw_cmean.specs.Acts.{stop};
-ghost use Rattle.pw_cmean.specs.SourceRun as runs;
-ghost use Rattle.pw_cmean.specs.Worlds as worlds;
+ghost use Rattle.std.specs.Prelude.{◌≡◌};
 ghost use Rattle.pw_interp_calls.specs.Endings.{view_ending};
 ghost use Rattle.pw_interp_calls.specs.Functions.{callable_of};
+ghost use Rattle.pw_interp_machine.specs.Ends as spec;
 
 use pw_cmean::Undef;
 use pw_interp_calls::Ending;
@@ -14,7 +12,7 @@ use pw_value::Value;
 
 /// How a run ends in which main returned this value: its low eight bits are the status.
 fn ended_with<'a>(value: Value) -> Ending<'a>
-    ensures { (main : worlds.Body) → runs.finish main (Some value) ≡ stop (view_ending result) }
+    ensures { view_ending result ≡ spec.ended_with value }
 {
     match value {
         Value::Num(n) => Ending::Exit((n % 256) as u8),
@@ -24,7 +22,7 @@ fn ended_with<'a>(value: Value) -> Ending<'a>
 
 /// How a run ends in which main returned no result: its name meets that.
 fn unreturned<'a>(main: Body<'a>) -> Ending<'a>
-    ensures { runs.finish (callable_of main.entry).body None ≡ stop (view_ending result) }
+    ensures { view_ending result ≡ spec.unreturned (callable_of main.entry).body }
 {
     match main {
         Body::Defined(home, f) => Ending::Undefined(Undef::MissingResult, home.name, f.token),
@@ -34,7 +32,7 @@ fn unreturned<'a>(main: Body<'a>) -> Ending<'a>
 
 /// How a run ends in which main returned so.
 pub fn finish<'a>(main: Body<'a>, given: Option<Value>) -> Ending<'a>
-    ensures { runs.finish (callable_of main.entry).body given ≡ stop (view_ending result) }
+    ensures { view_ending result ≡ spec.finished (callable_of main.entry).body given }
 {
     match given {
         Some(value) => ended_with(value),

@@ -1,0 +1,23 @@
+use Rattle.std.proofs.Common.{refl, ap, sym, ◌≤◌, ◌∙◌, arith}
+use Rattle.pw_typed.specs.Views.{view_stmt}
+use Rattle.pw_cmean.specs.Acts.{◌>>=◌}
+use Rattle.pw_interp_calls.specs.Views.{view_env}
+use Rattle.pw_interp_todo.specs.Flows.{view_entry}
+use Rattle.pw_interp_todo.specs.Members.{count_in, first_in}
+use Rattle.pw_interp_todo.specs.Resuming.{Flowed, control_act, resume}
+use Rattle.pw_interp_todo.proofs.LeadLaws.{left_so, named}
+use Rattle.pw_interp_machine.proofs.Opening.{opened_is}
+use Rattle.pw_interp_machine.proofs.blocks.open.Goals as goal
+
+pub returns-else-made-lt-count : goal.returns-else-made-lt-count
+unfolding control_act
+returns-else-made-lt-count c =
+    let call = c.args.call.now in
+    let e = view_env call.env in
+    let s = view_stmt c.args.of.now in
+    let all : count_in s ≤ c.args.made = omega (arith, ap (λ p. p.1) c.locals_in.ensures) in
+    record {
+      steps = λ rest. left_so _ refl (named (ap (λ act. act >>= λ flow. resume call.todo.items rest e c.args.bound (Flowed flow)) (opened_is s (view_entry c.args.at) e call.bound c.args.made all)));
+      room = refl;
+      stands = refl;
+    }

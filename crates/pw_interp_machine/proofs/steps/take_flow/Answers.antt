@@ -1,0 +1,21 @@
+use Rattle.std.proofs.Common.{refl}
+use Rattle.pw_interp_calls.specs.Views.{view_env}
+use Rattle.pw_interp_state.specs.Shown.{view_state}
+use Rattle.pw_interp_todo.specs.Flows.{view_flow}
+use Rattle.pw_interp_todo.specs.Resuming.{Flowed, after}
+use Rattle.pw_interp_machine.proofs.Standings.{popped_is, steps_reached, steps_unleft}
+use Rattle.pw_interp_machine.proofs.steps.take_flow.Goals as goal
+
+pub returns-in-Some : goal.returns-in-Some
+returns-in-Some c main =
+    let call = c.args.machine.now.call in
+    let e = view_env call.env in
+    let told = Flowed (view_flow c.args.flow) in
+    steps_reached call _ (λ rest. rest e call.bound told) (λ rest. after c.in-Some.first rest e call.bound told)
+    (popped_is _ c.in-Some.first _ e call.bound told c.in-Some.ensures.items) refl refl
+    (c.settle.ensures main _ _ (view_state c.args.state.now) _ c.flowed_step-answer.ensures)
+
+pub returns-in-None : goal.returns-in-None
+returns-in-None c main =
+    let call = c.args.machine.now.call in
+    steps_unleft call (view_env call.env) call.bound (view_flow c.args.flow) c.in-None.ensures.items
