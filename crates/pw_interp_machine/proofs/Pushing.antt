@@ -1,5 +1,5 @@
 -- What goes on the list of what is left to do is done behind what comes first.
-use Rattle.std.proofs.Common.{ℕ, ◌+◌, ◌≡◌, refl, sym, ap, subst, add-one, ◌∙◌, Option, List, [], ◌∷◌, ◌++◌, Err}
+use Rattle.std.proofs.Common.{ℕ, ◌+◌, ◌≡◌, refl, sym, ap, subst, add-one, ◌∙◌, Option, List, [], ◌∷◌, ◌++◌, Result, Err}
 use Rattle.std.specs.Borrow.{Bor}
 use Rattle.pw_value.specs.declared.value.Value.{Value}
 use Rattle.pw_typed.specs.declared.tree.TExpr.{TExpr}
@@ -18,10 +18,14 @@ use Rattle.pw_interp_todo.specs.declared.statements.Remainder.{Remainder}
 use Rattle.pw_interp_todo.specs.declared.statements.Use.{Use}
 use Rattle.pw_interp_todo.specs.declared.todo.Todo.{Todo}
 use Rattle.pw_interp_todo.specs.declared.todo.Todo.TheVariants as T
+use Rattle.pw_interp_calls.specs.declared.ending.Ending.TheVariants as E
+use Rattle.pw_interp_calls.specs.declared.ending.Stop.{Stop}
+use Rattle.pw_interp_calls.specs.declared.ending.Stop.TheVariants as S
 use Rattle.pw_interp_state.specs.Shown.{Shown}
 use Rattle.pw_interp_state.specs.Runs.{Runs}
 use Rattle.pw_interp_state.proofs.RunLaws.{ends, stopped}
 use Rattle.pw_interp_todo.specs.Asking.{asked_act, answered}
+use Rattle.pw_interp_todo.specs.Leading.{Continues}
 use Rattle.pw_interp_todo.specs.Going.{remainder_act, use_act}
 use Rattle.pw_interp_todo.specs.Operands.{behind, call_behind}
 use Rattle.pw_interp_todo.specs.Parts.{back_act, doing_act}
@@ -96,3 +100,8 @@ back_more what e n m is = ap (back_act what e) (is ∙ add-one m)
 pub back_none : (world : World) (w : Shown) (what : Doing) (e : Env) (n : ℕ) (next : Flow → Act (Unit {0})) → n ≡ 0 → Runs world (back_act what e n >>= next) w (Err Bound) w
 unfolding back_act
 back_none world w what e n next none = subst (λ k. Runs world (back_act what e k >>= next) w (Err Bound) w) (sym none) (ends world (stop {A = Flow} Bound) next w w Bound (stopped world Bound w))
+
+pub back_stopped : {B : Type 0} {left : B → Act (Unit {0})} {world : World} {r : Result B Stop} (w : Shown) (what : Doing) (e : Env) (n : ℕ) (s : Stop) (next : Flow → Act (Unit {0}))
+    → n ≡ 0 → s ≡ S.Ended E.Bound → r ≡ Err s → Continues left world (back_act what e n >>= next) w r w
+back_stopped {left = left} {world = world} w what e n s next none is answer =
+    subst (λ x. Continues left world (back_act what e n >>= next) w x w) (sym (answer ∙ ap Err is)) (record { goes = tt; stopped = back_none world w what e n next none })

@@ -11,7 +11,7 @@ ghost use Rattle.pw_interp_todo.specs.Resuming as spec;
 ghost use Rattle.pw_interp_todo.specs.Resuming.{Rest, control_act, resume};
 
 use pw_interp_calls::{Ending, Stop};
-use pw_interp_todo::{Control, Going, Next, Todo, Turn};
+use pw_interp_todo::{Control, Doing, Going, Next, Todo, Turn};
 use std::alloc::AllocError;
 
 /// What is left of an expression: what is done now, and what comes behind it goes on the list.
@@ -44,6 +44,27 @@ pub(crate) fn lower<'a>(bound: u64) -> Result<u64, Stop<'a>>
     }
 }
 
+/// A part of a statement in its place, with the bound of now or with one that is one smaller.
+fn push_on<'a>(
+    bound: &mut u64,
+    turn: Turn,
+    what: Doing<'a>,
+    after: u64,
+) -> Result<Control<'a>, Stop<'a>>
+    ensures { (e : Env) (rest : Rest) (w : Shown) →
+        Continues (λ control. control_act control e bound.new rest) e.world
+        (going_act (Going.On turn what.entry) e bound.old >>= λ flow. rest e after (spec.Flowed flow)) w result w }
+{
+    match turn {
+        Turn::Here => Ok(Control::Do { what, bound: after }),
+        Turn::Back => {
+            let lowered = lower(*bound)?;
+            *bound = lowered;
+            Ok(Control::Do { what, bound: after })
+        }
+    }
+}
+
 /// What is left of a statement behind which the run goes on with the bound `after`: what is done now, with the bound of now, and
 /// what comes behind it goes on the list.
 pub fn push_going<'a>(
@@ -61,11 +82,7 @@ pub fn push_going<'a>(
             *bound = after;
             Ok(Control::Flowed(flow))
         }
-        Going::On(Turn::Here, what) => Ok(Control::Do { what, bound: after }),
-        Going::On(Turn::Back, what) => {
-            *bound = lower(*bound)?;
-            Ok(Control::Do { what, bound: after })
-        }
+        Going::On(turn, what) => push_on(bound, turn, what, after),
         Going::Then(what, rest) => {
             todo.push(Todo::Flow { what: rest, bound: after })?;
             Ok(Control::Do { what, bound: *bound })
