@@ -1,5 +1,5 @@
 //! The interpreter of C programs: each expression, statement and call as the definitions of the meaning have it, within
-//! a bound. It nests as the program does, and serves shallow runs.
+//! a bound. What is left to do stands on the heap, however deep a program nests and calls.
 #![tactic(auto)]
 
 mod run;

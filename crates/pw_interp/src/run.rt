@@ -14,14 +14,13 @@ ghost use Rattle.pw_interp.specs.Ends as spec;
 ghost use Rattle.pw_interp.specs.Ends.{view_end, view_run};
 
 use pw_cmean::Undef;
-use pw_interp_acts::call;
 use pw_interp_calls::{Ending, Stop, World};
-use pw_interp_knot::Knot;
+use pw_interp_machine::{run, start};
 use pw_interp_start::start_objects;
 use pw_interp_state::State;
-use pw_interp_world::{Body, Callable, Part, World as Names, callables, global_names};
+use pw_interp_world::{Callable, Part, World as Names, callables, global_names};
 use pw_value::program_names::{MAIN, START};
-use pw_value::{Name, Value};
+use pw_value::Name;
 use std::alloc::{AllocError, Global};
 
 /// How a run ended: at an undefined operation, by the module and the token of the node that met it; because the stack
@@ -43,51 +42,19 @@ pub struct PlainRun {
     pub read: usize,
 }
 
-/// How a run ends in which main returned this value: its low eight bits are the status.
-fn ended_with<'a>(value: Value) -> Ending<'a>
-    ensures { view_ending result ≡ spec.ended_with value }
-{
-    match value {
-        Value::Num(n) => Ending::Exit((n % 256) as u8),
-        _ => Ending::Wrong,
-    }
-}
-
-/// How a run ends in which main returned no result: its name meets that.
-fn unreturned<'a>(main: Body<'a>) -> Ending<'a>
-    ensures { view_ending result ≡ spec.unreturned (callable_of main.entry).body }
-{
-    match main {
-        Body::Defined(home, f) => Ending::Undefined(Undef::MissingResult, home.name, f.token),
-        Body::Library(_) => Ending::Wrong,
-    }
-}
-
-/// How a run ends in which main returned so.
-fn finish<'a>(main: Body<'a>, answer: Option<Value>) -> Ending<'a>
-    ensures { view_ending result ≡ spec.finished (callable_of main.entry).body answer }
-{
-    match answer {
-        Some(value) => ended_with(value),
-        None => unreturned(main),
-    }
-}
-
 /// The call of main, within a bound.
 fn run_main<'a>(
     alloc: Global,
     world: &'a World<'a>,
     state: &mut State<'a>,
     bound: u64,
-    depth: usize,
 ) -> Result<(), Stop<'a>>
     ensures { Answers (λ done. tt) (view_world world.now) (runs.run_main (view_world world.now) bound) (view_state state.old) result (view_state state.new) }
 {
     match world.function_named(MAIN) {
         Some(main) => {
-            let knot = Knot { depth };
-            let answer = call(alloc, &knot, world, state, bound, main, &[])?;
-            Err(Stop::Ended(finish(main, answer)))
+            let machine = start(alloc, world, state, bound, main)?;
+            Err(run(alloc, machine, state, main))
         }
         None => Err(Stop::Ended(Ending::Wrong)),
     }
@@ -139,12 +106,11 @@ fn run_world<'a>(
     world: &'a World<'a>,
     input: &'a [u8],
     bound: u64,
-    depth: usize,
 ) -> Result<PlainRun, AllocError>
     ensures { IfOk result (λ r. view_run r ≡ runs.seen (runs.run_main (view_world world.now) bound (runs.start_state (view_world world.now).program input.now))) }
 {
     let mut state = start(alloc, world, input)?;
-    let made = run_main(alloc, world, &mut state, bound, depth);
+    let made = run_main(alloc, world, &mut state, bound);
     let end = end_of(alloc, made)?;
     Ok(PlainRun {
         end,
@@ -161,12 +127,11 @@ fn run_named<'a>(
     stack: u32,
     input: &'a [u8],
     bound: u64,
-    depth: usize,
 ) -> Result<PlainRun, AllocError>
     ensures { IfOk result (λ r. view_run r ≡ runs.source_run (view_program names.now.parts.now) (frame_among frames.now) stack input.now bound) }
 {
     let world = World::new(alloc, names, frames, stack)?;
-    run_world(alloc, &world, input, bound, depth)
+    run_world(alloc, &world, input, bound)
 }
 
 /// The run of a program by the tables of its names, which are given up.
@@ -177,11 +142,10 @@ fn run_owned<'a>(
     stack: u32,
     input: &'a [u8],
     bound: u64,
-    depth: usize,
 ) -> Result<PlainRun, AllocError>
     ensures { IfOk result (λ r. view_run r ≡ runs.source_run (view_program names.entry.parts.now) (frame_among frames.now) stack input.now bound) }
 {
-    run_named(alloc, &names, frames, stack, input, bound, depth)
+    run_named(alloc, &names, frames, stack, input, bound)
 }
 
 /// The run of a program by its functions and the names of its objects.
@@ -194,23 +158,22 @@ fn run_listed<'a>(
     stack: u32,
     input: &'a [u8],
     bound: u64,
-    depth: usize,
 ) -> Result<PlainRun, AllocError>
     requires functions { view_callables callables.now ≡ worlds.functions_of (view_program parts.now) }
     requires objects { globals.now ≡ worlds.global_names (view_program parts.now) }
     ensures { IfOk result (λ r. view_run r ≡ runs.source_run (view_program parts.now) (frame_among frames.now) stack input.now bound) }
 {
     let names = Names::new(alloc, parts, callables, globals)?;
-    run_owned(alloc, names, frames, stack, input, bound, depth)
+    run_owned(alloc, names, frames, stack, input, bound)
 }
 
 /// The run of a program within a bound, with the frames by their functions' full names (of a function that is not named
-/// 0 bytes), the room of the stack, and the input. What nests deeper than `depth` is want of memory.
+/// 0 bytes), the room of the stack, and the input.
 ///
 /// # Errors
 ///
-/// `AllocError` where there is no memory, where the program nests deeper than `depth`, and at a layout that 32 bits
-/// cannot tell or a function whose type is volatile, which no accepted program has.
+/// `AllocError` where there is no memory, after 2^64 steps, and at a layout that 32 bits cannot tell or a function whose
+/// type is volatile, which no accepted program has.
 pub fn interpret_plain<'a>(
     alloc: Global,
     parts: &'a [Part<'a>],
@@ -218,13 +181,12 @@ pub fn interpret_plain<'a>(
     stack: u32,
     input: &'a [u8],
     bound: u64,
-    depth: usize,
 ) -> Result<PlainRun, AllocError>
     ensures { IfOk result (λ r. view_run r ≡ runs.source_run (view_program parts.now) (frame_among frames.now) stack input.now bound) }
 {
     let callables = callables(alloc, parts)?;
     let globals = global_names(alloc, parts)?;
     run_listed(
-        alloc, parts, &callables, &globals, frames, stack, input, bound, depth,
+        alloc, parts, &callables, &globals, frames, stack, input, bound,
     )
 }

@@ -4,4 +4,5 @@ mod Forming
 mod LabelLemmas
 mod Listing
 mod LocalLaws
+mod SwitchLaws
 mod Turning

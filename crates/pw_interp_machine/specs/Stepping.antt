@@ -38,13 +38,13 @@ unfoldable pub body_first : Statement → Call → Rest → Act (Unit {0})
 body_first body c rest = meaning body Front (calls (view_env c.env).world c.bound) (view_env c.env) >>= λ flow. rest (view_env c.env) c.bound (Flowed flow)
 
 -- What a function does while it is active, and then the return from it, comes from its body in this call.
-pub record Opened (world : World) (act : Act (Option Value)) (body : Statement) (room : ℕ) (before : Shown) (call : Call) (behind : Shown) : Type 0 where
+pub record Opened (world : World) (act : Act (Option Value)) (body : Statement) (taken : ℕ) (before : Shown) (call : Call) (behind : Shown) : Type 0 where
   pub leads : (a : Active) (next : Option Value → Act (Unit {0})) → Leads world (act >>= λ v. leave a >> next v) before (body_first body call (resume call.todo.items (ended a next))) behind
-  pub room : call.before ≡ room
+  pub room : call.before ≡ taken
   pub stands : (view_env call.env).world ≡ world
 
-pub record Opens (world : World) (act : Act (Option Value)) (body : Statement) (room : ℕ) (before : Shown) (result : Result Call Stop) (behind : Shown) : Type 0 where
-  pub opened : IfOk result (λ call. Opened world act body room before call behind)
+pub record Opens (world : World) (act : Act (Option Value)) (body : Statement) (taken : ℕ) (before : Shown) (result : Result Call Stop) (behind : Shown) : Type 0 where
+  pub opened : IfOk result (λ call. Opened world act body taken before call behind)
   pub stopped : IfErr result (λ stop. Stops world act before stop behind)
 
 -- What a call of a function comes to, whoever waits for its result, comes from its body in this call.

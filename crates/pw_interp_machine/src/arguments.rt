@@ -1,7 +1,6 @@
 //! The arguments of calls: they are evaluated from left to right, and each value is held on the list of what is left to do.
 
-ghost use Rattle.std.specs.Prelude.{◌≡◌, ◌++◌, ◌∷◌, [], ℕ, IfOk, List, MatchOption};
-ghost use Rattle.pw_value.specs.declared.value.Value as value;
+ghost use Rattle.std.specs.Prelude.{◌≡◌, ◌++◌, ◌∷◌, [], ℕ, IfOk, MatchOption};
 ghost use Rattle.pw_typed.specs.Views.{view_exprs};
 ghost use Rattle.pw_cmean.specs.Acts.{State as AnyState, ◌>>=◌};
 ghost use Rattle.pw_cmean.specs.Evaluation.{Env, values_of};

@@ -1,33 +1,29 @@
 //! Calls of functions and returns from them (ISO C90 6.3.2.2, 6.6.6.4).
 
-ghost use Rattle.std.specs.Prelude.{◌≡◌, ◌∷◌, [], ◌++◌, ℕ, IfOk, Result};
-ghost use Rattle.pw_types.specs.TypedTrees as tree;
-ghost use Rattle.pw_value.specs.declared.value.Value as values;
-ghost use Rattle.pw_typed.specs.Views.{view_function, view_stmt};
+ghost use Rattle.std.specs.Prelude.{◌≡◌, ◌+◌, ◌∷◌, [], ◌++◌, ℕ, IfErr, IfOk};
+ghost use Rattle.pw_typed.specs.Views.{view_function};
 ghost use Rattle.pw_cmean.specs.Acts.{◌>>=◌};
 ghost use Rattle.pw_cmean.specs.Evaluation as meaning;
 ghost use Rattle.pw_cmean.specs.Execution.{with_locals};
 ghost use Rattle.pw_cmean.specs.SourceRun as runs;
 ghost use Rattle.pw_cmean.specs.Worlds as worlds;
-ghost use Rattle.pw_interp_calls.specs.Answers.{Answers};
 ghost use Rattle.pw_interp_calls.specs.Functions.{callable_of};
 ghost use Rattle.pw_interp_calls.specs.Views.{view_env};
 ghost use Rattle.pw_interp_calls.specs.WorldViews.{view_world};
 ghost use Rattle.pw_interp_state.specs.Shown.{Shown, view_state};
 ghost use Rattle.pw_interp_todo.specs.Operands.{call_behind};
 ghost use Rattle.pw_interp_todo.specs.Resuming as spec;
-ghost use Rattle.pw_interp_world.specs.Views.{view_part};
 ghost use Rattle.pw_interp_machine.specs.Bodies.{with_arguments};
-ghost use Rattle.pw_interp_machine.specs.Stepping.{Begins, Opens, StepsAt, StepsCall};
-ghost use Rattle.pw_interp_machine.specs.declared.machine.Call as calls;
+ghost use Rattle.pw_interp_machine.specs.Stepping.{Begins, Opens, StepsAt};
 
 use crate::arguments::held;
 use crate::blocks::make_locals;
 use crate::callees::{call_library, callee_of};
-use crate::machine::{Call, Machine, settle};
+use crate::machine::{Call, Machine};
 use crate::parameters::{outermost, set_parameters};
 use crate::pushes::lower;
 use crate::results::finish;
+use crate::settling::{given, settle};
 use pw_interp_calls::{Ending, Env, Stop, World};
 use pw_interp_state::{State, has_room};
 use pw_interp_todo::{Callee, Control, Doing, Entry, Part, Todo};
@@ -187,15 +183,6 @@ fn call_function<'a>(
             enter(machine, begun, f)
         }
     }
-}
-
-/// What goes on where an act of the call gave this.
-pub(crate) fn given<'a>(answer: Result<Option<Value>, Stop<'a>>) -> Result<Control<'a>, Stop<'a>>
-    ensures { (call : calls.Call) (act : _) (before behind : Shown) → Answers (λ v. v) (view_env call.env).world act before answer.entry behind
-        → StepsCall call (λ rest. act >>= λ r. rest (view_env call.env) call.bound (spec.Gave r)) before result call behind }
-{
-    let value = answer?;
-    Ok(Control::Gave(value))
 }
 
 /// A call of what is called with its arguments.

@@ -20,9 +20,9 @@ ghost use Rattle.pw_interp_machine.specs.Stepping.{StepsCall};
 
 use crate::arguments::push_arguments;
 use crate::blocks::{end_local, end_parameters, open};
-use crate::calls::given;
 use crate::machine::Call;
 use crate::pushes::{push_going, push_next};
+use crate::settling::given;
 use pw_interp_acts::used;
 use pw_interp_calls::{Ending, Stop};
 use pw_interp_flows::{begin, remainder, use_value};

@@ -12,6 +12,7 @@ mod parameters;
 mod pushes;
 mod results;
 mod runs;
+mod settling;
 mod steps;
 
 pub use machine::{Call, Machine};

@@ -1,12 +1,6 @@
 //! What a run is while it goes on.
 
-ghost use Rattle.pw_cmean.specs.Worlds as worlds;
-ghost use Rattle.pw_interp_calls.specs.Views.{view_env};
-ghost use Rattle.pw_interp_state.specs.Shown.{Shown};
-ghost use Rattle.pw_interp_machine.specs.declared.machine.Call as code;
-ghost use Rattle.pw_interp_machine.specs.Stepping.{StepsAt, StepsCall};
-
-use pw_interp_calls::{Env, Stop};
+use pw_interp_calls::Env;
 use pw_interp_todo::{Control, Todo};
 
 /// A call of a function that is not over: where the function stands, the bound with which it goes on, what it has left to do,
@@ -26,17 +20,4 @@ pub struct Machine<'a> {
     pub call: Call<'a>,
     pub callers: Vec<Call<'a>>,
     pub control: Control<'a>,
-}
-
-/// Goes on where a step in the call that runs came to this.
-pub(crate) fn settle<'a>(
-    machine: &mut Machine<'a>,
-    answer: Result<Control<'a>, Stop<'a>>,
-) -> Result<(), Stop<'a>>
-    ensures { (main : worlds.Body) (old : code.Call) (act : _) (before behind : Shown) → StepsCall old act before answer.entry machine.old.call behind
-        → StepsAt main (view_env old.env).world old machine.old.callers.items act before result machine.new behind }
-{
-    let control = answer?;
-    machine.control = control;
-    Ok(())
 }

@@ -10,7 +10,8 @@ ghost use Rattle.pw_interp_machine.specs.Stepping.{Steps, StepsAt};
 
 use crate::calls::{call_listed, give_back};
 use crate::controls::{arguments_step, ask_step, do_step, flowed_step, gave_step};
-use crate::machine::{Machine, settle};
+use crate::machine::Machine;
+use crate::settling::settle;
 use pw_interp_calls::{Ending, Stop};
 use pw_interp_state::State;
 use pw_interp_todo::{Control, Flow};

@@ -21,3 +21,12 @@ is_at_place (Compound op working a b) = true
 is_at_place (Step op a) = true
 is_at_place (Member a offset) = true
 is_at_place _ = false
+
+-- whose place is found behind that of an operand, or behind its value
+abbrev pub has_place_behind : Form → Bool
+has_place_behind (Member a offset) = true
+has_place_behind (Deref a) = true
+has_place_behind (Cond c a b) = true
+has_place_behind (Comma a b) = true
+has_place_behind (Assign a b) = true
+has_place_behind _ = false

@@ -1,16 +1,20 @@
 //! What is left of an expression whose result is asked, behind what was evaluated first for it.
 
-ghost use Rattle.std.specs.Prelude.{◌≡◌, true};
+ghost use Rattle.std.specs.Prelude.{◌≡◌, ℕ, None, Option, true};
+ghost use Rattle.pw_value.specs.declared.value.Value as value;
 ghost use Rattle.pw_typed.specs.Views.{view_expr, view_exprs, view_form};
+ghost use Rattle.pw_types.specs.TypeTrees as types;
 ghost use Rattle.pw_types.specs.TypedTrees as tree;
 ghost use Rattle.pw_types.specs.Views.{view_qtype, view_type};
 ghost use Rattle.pw_cmean.specs.Evaluation as meaning;
 ghost use Rattle.pw_cmean.specs.Operators.{number_for};
 ghost use Rattle.pw_interp_state.specs.Shown.{Shown, view_state};
 ghost use Rattle.pw_interp_calls.specs.Views.{view_env};
+ghost use Rattle.pw_interp_todo.specs.Asking.{answer_first};
 ghost use Rattle.pw_interp_todo.specs.Operands as spec;
 ghost use Rattle.pw_interp_todo.specs.Steps.{StepsExpression};
 ghost use Rattle.pw_interp_operands.specs.Groups.{is_at_place, is_on_values};
+ghost use Rattle.pw_interp_operands.specs.Behind.{IsGroup};
 
 use crate::last::word;
 use pw_interp_acts::{advance, old_value, used, value_at};
@@ -182,7 +186,7 @@ fn member<'a>(
 }
 
 /// What a pointer points to, behind the pointer.
-fn deref<'a>(
+fn through<'a>(
     env: &Env<'a>,
     state: &State<'a>,
     token: usize,
@@ -230,7 +234,7 @@ fn on_values<'a>(
         TForm::Cond(_, a, b) => cond(env, state, token, &e.ty, a, b, given),
         TForm::Comma(_, b) => Ok(Next::Ask(Asked::Answer(b))),
         TForm::Cast(_) => cast(env, token, &e.ty, given),
-        TForm::Deref(_) => deref(env, state, token, &e.ty, given),
+        TForm::Deref(_) => through(env, state, token, &e.ty, given),
         TForm::CallValue(a, args) => call_value(env, token, &e.ty, a, args, given),
         _ => unreachable!(),
     }
@@ -258,8 +262,42 @@ fn at_place<'a>(
     }
 }
 
-/// What is left of an expression whose result is asked, behind what was evaluated first for it.
+/// Behind what expressions of a form go on.
+#[derive(Clone, Copy)]
+enum Group {
+    /// The value of the first operand.
+    Value,
+    /// Its place.
+    Place,
+    /// Nothing: none is evaluated first.
+    Nothing,
+}
+
 #[tactic(auto, unfolding(pw_typed::specs::Views::view_form), using(pw_typed::proofs::Rows::call_view, pw_typed::proofs::Rows::call_value_view))]
+fn group_of(e: &TExpr) -> Group
+    ensures { IsGroup (view_form e.now.form) result }
+{
+    match &e.form {
+        TForm::Unary(_, _) | TForm::Binary(_, _, _) | TForm::Logic(_, _, _) => Group::Value,
+        TForm::Cond(_, _, _) | TForm::Comma(_, _) | TForm::Cast(_) => Group::Value,
+        TForm::Deref(_) | TForm::CallValue(_, _) => Group::Value,
+        TForm::Assign(_, _) | TForm::Compound(_, _, _, _) => Group::Place,
+        TForm::Step(_, _) | TForm::Member(_, _) => Group::Place,
+        TForm::Number(_) | TForm::Str(_) | TForm::Local(_) => Group::Nothing,
+        TForm::Global(_) | TForm::Function(_) | TForm::Call(_, _) => Group::Nothing,
+        TForm::Decay(_) | TForm::Address(_) => Group::Nothing,
+    }
+}
+
+/// Behind nothing no accepted program goes on.
+fn nothing<'a>() -> Result<Next<'a>, Stop<'a>>
+    ensures { (e : meaning.Env) (token : ℕ) (ty : types.QType) (form : tree.Form) (given : Option value.Value) (w : Shown) → answer_first form ≡ None
+        → StepsExpression e (spec.answer_behind (tree.Node token ty form) given) w result w }
+{
+    Err(Stop::Ended(Ending::Wrong))
+}
+
+/// What is left of an expression whose result is asked, behind what was evaluated first for it.
 pub fn answer_behind<'a>(
     alloc: Global,
     env: &Env<'a>,
@@ -269,21 +307,9 @@ pub fn answer_behind<'a>(
 ) -> Result<Next<'a>, Stop<'a>>
     ensures { StepsExpression (view_env env.now) (spec.answer_behind (view_expr e.now) given) (view_state state.old) result (view_state state.new) }
 {
-    match &e.form {
-        TForm::Unary(_, _) | TForm::Binary(_, _, _) | TForm::Logic(_, _, _) => {
-            on_values(env, state, e, given)
-        }
-        TForm::Cond(_, _, _) | TForm::Comma(_, _) | TForm::Cast(_) => {
-            on_values(env, state, e, given)
-        }
-        TForm::Deref(_) | TForm::CallValue(_, _) => on_values(env, state, e, given),
-        TForm::Assign(_, _) | TForm::Compound(_, _, _, _) => {
-            at_place(alloc, env, state, e, given)
-        }
-        TForm::Step(_, _) | TForm::Member(_, _) => at_place(alloc, env, state, e, given),
-        TForm::Number(_) | TForm::Str(_) | TForm::Local(_) => Err(Stop::Ended(Ending::Wrong)),
-        TForm::Global(_) | TForm::Function(_) => Err(Stop::Ended(Ending::Wrong)),
-        TForm::Decay(_) | TForm::Address(_) => Err(Stop::Ended(Ending::Wrong)),
-        TForm::Call(_, _) => Err(Stop::Ended(Ending::Wrong)),
+    match group_of(e) {
+        Group::Value => on_values(env, state, e, given),
+        Group::Place => at_place(alloc, env, state, e, given),
+        Group::Nothing => nothing(),
     }
 }

@@ -1,14 +1,17 @@
 //! What is left of an lvalue whose place is asked, behind what was evaluated first for it; of another structure or union
 //! its value, which is a place.
 
-ghost use Rattle.std.specs.Prelude.{◌≡◌};
+ghost use Rattle.std.specs.Prelude.{◌≡◌, ℕ, Option, false, true};
+ghost use Rattle.pw_value.specs.declared.value.Value as value;
 ghost use Rattle.pw_typed.specs.Views.{view_expr, view_form};
 ghost use Rattle.pw_types.specs.TypeTrees as types;
 ghost use Rattle.pw_types.specs.TypedTrees as tree;
+ghost use Rattle.pw_cmean.specs.Evaluation as meaning;
 ghost use Rattle.pw_interp_state.specs.Shown.{Shown, view_state};
 ghost use Rattle.pw_interp_calls.specs.Views.{view_env};
 ghost use Rattle.pw_interp_todo.specs.Operands as spec;
 ghost use Rattle.pw_interp_todo.specs.Steps.{StepsExpression};
+ghost use Rattle.pw_interp_operands.specs.Groups as groups;
 
 use pw_interp_acts::{advance, used};
 use pw_interp_calls::{Ending, Env, Stop};
@@ -33,7 +36,7 @@ fn member<'a>(
 }
 
 /// What a pointer points to, behind the pointer.
-fn deref<'a>(env: &Env<'a>, token: usize, given: Option<Value>) -> Result<Next<'a>, Stop<'a>>
+fn through<'a>(env: &Env<'a>, token: usize, given: Option<Value>) -> Result<Next<'a>, Stop<'a>>
     ensures { (w : Shown) (ty : types.QType) (a : tree.Expression) → StepsExpression (view_env env.now) (spec.place_behind (tree.Node token ty (tree.Deref a)) given) w result w }
 {
     let place = used(env, token, given)?;
@@ -73,8 +76,52 @@ fn assign<'a>(
     Ok(Next::Behind(Asked::Answer(b), Operand::Assigned(Asked::Place(e), place)))
 }
 
-/// What is left of an lvalue whose place is asked, behind what was evaluated first for it.
+/// Whether the place of an expression is found behind that of an operand, or behind its value.
 #[tactic(auto, unfolding(pw_typed::specs::Views::view_form), using(pw_typed::proofs::Rows::call_view, pw_typed::proofs::Rows::call_value_view))]
+fn has_place_behind(e: &TExpr) -> bool
+    ensures { result ≡ groups.has_place_behind (view_form e.now.form) }
+{
+    matches!(
+        &e.form,
+        TForm::Comma(_, _)
+            | TForm::Member(_, _)
+            | TForm::Deref(_)
+            | TForm::Cond(_, _, _)
+            | TForm::Assign(_, _)
+    )
+}
+
+/// Behind nothing no accepted program goes on.
+fn nothing<'a>() -> Result<Next<'a>, Stop<'a>>
+    ensures { (e : meaning.Env) (token : ℕ) (ty : types.QType) (form : tree.Form) (given : Option value.Value) (w : Shown) → groups.has_place_behind form ≡ false
+        → StepsExpression e (spec.place_behind (tree.Node token ty form) given) w result w }
+{
+    Err(Stop::Ended(Ending::Wrong))
+}
+
+/// What is left of an lvalue by its form.
+#[tactic(auto, unfolding(pw_typed::specs::Views::view_form), using(pw_typed::proofs::Rows::call_view, pw_typed::proofs::Rows::call_value_view))]
+fn by_form<'a>(
+    env: &Env<'a>,
+    state: &State<'a>,
+    e: &'a TExpr,
+    given: Option<Value>,
+) -> Result<Next<'a>, Stop<'a>>
+    requires { groups.has_place_behind (view_form e.now.form) ≡ true }
+    ensures { StepsExpression (view_env env.now) (spec.place_behind (view_expr e.now) given) (view_state state.now) result (view_state state.now) }
+{
+    let token = e.token;
+    match &e.form {
+        TForm::Comma(_, b) => Ok(Next::Ask(Asked::Place(b))),
+        TForm::Member(_, offset) => member(env, state, token, *offset, given),
+        TForm::Deref(_) => through(env, token, given),
+        TForm::Cond(_, a, b) => cond(env, state, token, a, b, given),
+        TForm::Assign(_, b) => assign(env, e, b, given),
+        _ => unreachable!(),
+    }
+}
+
+/// What is left of an lvalue whose place is asked, behind what was evaluated first for it.
 pub fn place_behind<'a>(
     env: &Env<'a>,
     state: &State<'a>,
@@ -83,19 +130,9 @@ pub fn place_behind<'a>(
 ) -> Result<Next<'a>, Stop<'a>>
     ensures { StepsExpression (view_env env.now) (spec.place_behind (view_expr e.now) given) (view_state state.now) result (view_state state.now) }
 {
-    let token = e.token;
-    match &e.form {
-        TForm::Member(_, offset) => member(env, state, token, *offset, given),
-        TForm::Deref(_) => deref(env, token, given),
-        TForm::Cond(_, a, b) => cond(env, state, token, a, b, given),
-        TForm::Comma(_, b) => Ok(Next::Ask(Asked::Place(b))),
-        TForm::Assign(_, b) => assign(env, e, b, given),
-        TForm::Number(_) | TForm::Str(_) | TForm::Local(_) => Err(Stop::Ended(Ending::Wrong)),
-        TForm::Global(_) | TForm::Function(_) => Err(Stop::Ended(Ending::Wrong)),
-        TForm::Unary(_, _) | TForm::Binary(_, _, _) => Err(Stop::Ended(Ending::Wrong)),
-        TForm::Logic(_, _, _) | TForm::Step(_, _) => Err(Stop::Ended(Ending::Wrong)),
-        TForm::Compound(_, _, _, _) | TForm::Cast(_) => Err(Stop::Ended(Ending::Wrong)),
-        TForm::Decay(_) | TForm::Address(_) => Err(Stop::Ended(Ending::Wrong)),
-        TForm::Call(_, _) | TForm::CallValue(_, _) => Err(Stop::Ended(Ending::Wrong)),
+    if has_place_behind(e) {
+        by_form(env, state, e, given)
+    } else {
+        nothing()
     }
 }

@@ -64,7 +64,6 @@ fn push_run_of(text: &mut Text, job: &Job, parts: &[Part<'_>]) {
         job.stack,
         &job.input,
         job.bound,
-        job.depth,
     ) {
         Ok(run) => push_answer(text, &run),
         Err(AllocError) => text.push(b"no memory"),

@@ -28,7 +28,6 @@ pub struct Job {
     pub frames: Vec<(Name, u32)>,
     pub stack: u32,
     pub bound: u64,
-    pub depth: usize,
     pub input: Vec<u8>,
     /// Where it is not 0, the last function of each module returns the sum of so many ones in place of its body.
     pub ones: u32,
@@ -43,7 +42,6 @@ impl Job {
             frames: Vec::new(alloc),
             stack: STACK_LIMIT,
             bound: 100000,
-            depth: 4000,
             input: Vec::new(alloc),
             ones: 0,
         }
@@ -109,7 +107,6 @@ impl Job {
         match word {
             "stack" => self.stack = value.parse::<u32>().unwrap_or(0),
             "bound" => self.bound = value.parse::<u64>().unwrap_or(0),
-            "depth" => self.depth = value.parse::<usize>().unwrap_or(0),
             "ones" => self.ones = value.parse::<u32>().unwrap_or(0),
             "input" => self.input = text.spelled(value),
             _ => self.add_frame(text, value),

@@ -3,9 +3,8 @@
 //!
 //! A line that is empty or begins with `#` is a heading and is printed as it is. Other lines are:
 //!
-//! - `=stack N`, `=bound N`, `=input BYTES` (in hexadecimal), `=frame NAME N`, `=depth N`: for the next program alone;
-//!   with none the stack is the greatest that there is, the bound is 100,000, there is no input, a frame takes no room,
-//!   and what nests deeper than 4,000 levels is want of memory.
+//! - `=stack N`, `=bound N`, `=input BYTES` (in hexadecimal), `=frame NAME N`: for the next program alone; with none
+//!   the stack is the greatest that there is, the bound is 100,000, there is no input, and a frame takes no room.
 //! - `=ones N`: in the next program the last function of each module returns `1 + 1 + ..` of so many operands in place of
 //!   its body, as a tree: no text may be so long.
 //! - `:NAME TEXT`: a module of the next program; modules come in byte order of their names.

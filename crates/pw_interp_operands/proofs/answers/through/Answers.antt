@@ -1,7 +1,7 @@
 use Rattle.std.proofs.Common.{refl, rules}
 use Rattle.pw_interp_todo.specs.Operands.{answer_behind}
 use Rattle.pw_interp_todo.proofs.LeadLaws.{last_gives, last_stops, then_more, then_stops}
-use Rattle.pw_interp_operands.proofs.answers.deref.Goals as goal
+use Rattle.pw_interp_operands.proofs.answers.through.Goals as goal
 
 pub returns-in_err-place : goal.returns-in_err-place
 unfolding answer_behind

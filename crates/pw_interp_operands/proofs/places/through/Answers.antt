@@ -1,7 +1,7 @@
 use Rattle.std.proofs.Common.{rules}
 use Rattle.pw_interp_todo.specs.Operands.{place_behind}
 use Rattle.pw_interp_todo.proofs.LeadLaws.{leaves, then_more, then_stops}
-use Rattle.pw_interp_operands.proofs.places.deref.Goals as goal
+use Rattle.pw_interp_operands.proofs.places.through.Goals as goal
 
 pub returns-in_err-place : goal.returns-in_err-place
 unfolding place_behind
