@@ -1,5 +1,6 @@
 -- What a run of a program is seen as.
 use Rattle.std.proofs.Common.{ℕ, ◌+◌, ◌≡◌, refl, sym, ap, subst, ◌∙◌, List, [], ◌∷◌, drop, Result, Ok, Err, Option, Some, None, arith}
+use Rattle.std.specs.Prelude.{IfErr}
 use Rattle.pw_value.specs.Objects.{Object}
 use Rattle.pw_value.specs.ProgramNames.{start_name, main_name}
 use Rattle.pw_value.specs.declared.value.Value.{Value}
@@ -14,8 +15,10 @@ use Rattle.pw_interp_state.specs.Runs.{Runs, Shows}
 use Rattle.pw_interp_calls.specs.declared.ending.Stop.{Stop}
 use Rattle.pw_interp_calls.specs.declared.ending.Stop.TheVariants as S
 use Rattle.pw_interp_calls.specs.Endings.{view_ending}
-use Rattle.pw_interp_calls.specs.Answers.{Answers}
-use Rattle.pw_interp.specs.Ends.{end_of, finished}
+use Rattle.pw_interp_calls.specs.Answers.{Answers, Stops}
+use Rattle.pw_interp_machine.specs.declared.machine.Machine.{Machine}
+use Rattle.pw_interp_machine.specs.Stepping.{EndsSo, Starts}
+use Rattle.pw_interp.specs.Ends.{end_of}
 
 pub run_seen : {world : World} {act : Act (Unit {0})} {w u : Shown} {r : Result (Unit {0}) Stop} (s : State) (end : acts.Ending)
     → Answers (λ d. tt) world act w r u → w ≡ shown world s → end_of r ≡ Some end → record { end = end; out = u.out; read = u.read } ≡ seen (act s)
@@ -36,16 +39,15 @@ run_seen {world = world} {act = act} {w = w} {u = u} {r = r} s end a start told 
     by (Err (S.Ended ending)) o e = let is : view_ending ending ≡ end = cc e in ended (view_ending ending) (act s) (o.stopped.comes s (sym start)) is
     by (Err S.NoMemory) o e = cc e
 
--- a run always ends where main returned
-pub finish_is : (body : Body) (answer : Option Value) → finish body answer ≡ stop (finished body answer)
-unfolding finish wrong undefined
-finish_is body (Some (V.Num n)) = refl
-finish_is body (Some V.Undefined) = refl
-finish_is body (Some V.Null) = refl
-finish_is body (Some (V.At p)) = refl
-finish_is body (Some (V.Piece p i)) = refl
-finish_is (Defined home f) None = refl
-finish_is (Library g) None = refl
+-- what the machine answers
+pub starts_stop : {main : Body} {world : World} {act : Act (Unit {0})} {w u : Shown} {r : Result Machine Stop} {q : Result (Unit {0}) Stop} (stop : Stop)
+    → Starts main world act w r u → r ≡ Err stop → q ≡ Err stop → Answers (λ d. tt) world act w q u
+starts_stop {world = world} {act = act} {w = w} {u = u} stop s is answer =
+    subst (λ x. Answers (λ d. tt) world act w x u) (sym answer) (record { given = tt; stopped = subst (λ x. IfErr x (λ y. Stops world act w y u)) is s.stopped })
+
+pub ends_always : {world : World} {act : Act (Unit {0})} {w u : Shown} (stop : Stop) → ((s : State) → shown world s ≡ w → EndsSo world (act s) stop u) → Answers {B = Unit {0}} (λ d. tt) world act w (Err stop) u
+ends_always (S.Ended ending) so = record { given = tt; stopped = record { comes = so } }
+ends_always S.NoMemory so = record { given = tt; stopped = tt }
 
 -- ---- the start
 

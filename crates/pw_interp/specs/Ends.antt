@@ -1,9 +1,5 @@
 -- How a run ended, as the meaning has it.
-use Rattle.std.specs.Prelude.{◌%◌, Option, Some, None, Result, Ok, Err}
-use Rattle.pw_value.specs.declared.value.Value.{Value}
-use Rattle.pw_value.specs.declared.value.Value.TheVariants as V
-use Rattle.pw_cmean.specs.declared.undefined.Undef.TheVariants.{MissingResult}
-use Rattle.pw_cmean.specs.Worlds.{Body, Defined, Library}
+use Rattle.std.specs.Prelude.{Option, Some, None, Result, Ok, Err}
 use Rattle.pw_cmean.specs.Acts as acts
 use Rattle.pw_interp_calls.specs.Endings.{view_ending}
 use Rattle.pw_interp_calls.specs.declared.ending.Stop.{Stop}
@@ -28,21 +24,3 @@ abbrev pub end_of : Result (Unit {0}) Stop → Option acts.Ending
 end_of (Ok done) = Some (acts.Exit 0)
 end_of (Err (S.Ended ending)) = Some (view_ending ending)
 end_of (Err S.NoMemory) = None
-
--- how a run ends in which main returned this value: its low eight bits are the status
-abbrev pub ended_with : Value → acts.Ending
-ended_with (V.Num n) = acts.Exit (n % 256)
-ended_with V.Undefined = acts.Wrong
-ended_with V.Null = acts.Wrong
-ended_with (V.At p) = acts.Wrong
-ended_with (V.Piece p i) = acts.Wrong
-
--- how a run ends in which main returned no result
-abbrev pub unreturned : Body → acts.Ending
-unreturned (Defined home f) = acts.Undefined MissingResult home.name f.token
-unreturned (Library g) = acts.Wrong
-
--- how a run ends in which main returned so
-abbrev pub finished : Body → Option Value → acts.Ending
-finished body (Some v) = ended_with v
-finished body None = unreturned body
