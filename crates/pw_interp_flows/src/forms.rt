@@ -103,7 +103,8 @@ fn statement<'a>(s: &'a TStmt, at: Entry) -> Going<'a>
                 },
             )
         }
-        TStmtForm::While(_, _) | TStmtForm::Do(_, _) => met(s, at),
+        TStmtForm::While(_, _) => met(s, at),
+        TStmtForm::Do(_, _) => met(s, at),
         TStmtForm::For(first, _, _, _) => counted(s, first, at),
         TStmtForm::Switch(e, _, _, body) => switch(s, e, body, at),
         TStmtForm::Goto(label) => Going::Left(Flow::Goes(*label)),

@@ -112,9 +112,10 @@ fn open_one<'a>(
     ensures { StepsCall call.old (λ rest. part_act (Part.Locals made) (view_stmt of.now) (view_entry at) (view_env call.old.env) call.old.bound >>= λ flow. rest (view_env call.old.env) bound (resuming.Flowed flow)) (view_state state.old) result call.new (view_state state.new) }
 {
     let before = number_of(&call.env.numbers, local);
-    let number = state.objects.count() as u128;
+    let count = state.objects.count();
     let opened = make_local(alloc, &mut call.env, &mut state.objects, local)?;
     if opened {
+        let number = count as u128;
         call.todo.push(Todo::EndLocal {
             local,
             number,

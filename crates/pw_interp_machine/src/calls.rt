@@ -71,12 +71,12 @@ fn open_call<'a>(
 ) -> Result<Call<'a>, Stop<'a>>
     ensures { Opens (view_env outer.entry).world (with_locals f.now.params 0 (with_arguments (view_function f.now) (runs.calls (view_env outer.entry).world bound) args.now) (view_env outer.entry)) (view_function f.now).body before (view_state state.old) result (view_state state.new) }
 {
-    let number = state.objects.count() as u128;
+    let count = state.objects.count();
     let inner = make_locals(alloc, outer, &mut state.objects, f.params)?;
     match inner {
         Some(env) => {
             set_parameters(alloc, &env, state, f.token, args)?;
-            let call = begun(alloc, env, bound, before, f.params, number)?;
+            let call = begun(alloc, env, bound, before, f.params, count as u128)?;
             Ok(call)
         }
         None => Err(Stop::Ended(Ending::Wrong)),

@@ -25,11 +25,11 @@ returns-then-opened c =
     let k = c.args.local in
     let objects = c.args.state.now.objects in
     let made = c.in_ok-opened.ensures.made ∙ ap (λ b. if b then Some (inner, c.make_local.new.objects) else None) c.if-opened.true in
-    let back = noted_is k c.count-number.result c.number_of-before.result e inner objects c.make_local.new.objects made c.count-number.ensures c.number_of-before.ensures in
+    let back = noted_is k c.count-count.result c.number_of-before.result e inner objects c.make_local.new.objects made c.count-count.ensures c.number_of-before.ensures in
     record {
       steps = λ rest. left_so _ refl
-          (subst _ _ (local_leads (view_stmt c.args.of.now) (view_entry c.args.at) e call.bound c.args.bound c.args.made k call.todo.items rest inner c.make_local.new.objects c.count-number.result c.number_of-before.result
-          c.requires.next c.requires.place made c.count-number.ensures back c.make_local.ensures.world));
+          (subst _ _ (local_leads (view_stmt c.args.of.now) (view_entry c.args.at) e call.bound c.args.bound c.args.made k call.todo.items rest inner c.make_local.new.objects c.count-count.result c.number_of-before.result
+          c.requires.next c.requires.place made c.count-count.ensures back c.make_local.ensures.world));
       room = refl;
       stands = c.make_local.ensures.world;
     }

@@ -53,7 +53,7 @@ returns-in_ok-call-in-Some c =
     let b = c.in_ok-call-in-Some.ensures in
     let answers = subst (λ (x : World). Answers (λ d. tt) x (set_parameters (site inner f.token) 0 c.args.args.now inner) _ _ _) home c.set_parameters.ensures in
     opens_so call (record {
-      leads = λ a next. active_leads e.world c.args.bound f c.args.args.now e inner _ call a next made_so c.count-number.ensures (given_by answers c.in_ok-set_parameters-in-Some.was) b.env home b.bound b.todo;
+      leads = λ a next. active_leads e.world c.args.bound f c.args.args.now e inner _ call a next made_so c.count-count.ensures (given_by answers c.in_ok-set_parameters-in-Some.was) b.env home b.bound b.todo;
       room = b.before;
       stands = ap (λ x. x.world) b.env ∙ home;
     })
