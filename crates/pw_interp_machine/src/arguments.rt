@@ -1,14 +1,16 @@
 //! The arguments of calls: they are evaluated from left to right, and each value is held on the list of what is left to do.
 
-ghost use Rattle.std.specs.Prelude.{◌≡◌, ◌++◌, ◌∷◌, [], ℕ, IfOk, MatchOption};
+ghost use Rattle.std.specs.Prelude.{◌≡◌, [], ℕ, IfErr, IfOk};
 ghost use Rattle.pw_typed.specs.Views.{view_exprs};
 ghost use Rattle.pw_cmean.specs.Acts.{State as AnyState, ◌>>=◌};
 ghost use Rattle.pw_cmean.specs.Evaluation.{Env, values_of};
 ghost use Rattle.pw_cmean.specs.SourceRun.{calls};
+ghost use Rattle.pw_interp_todo.specs.Operands.{call_behind};
 ghost use Rattle.pw_interp_todo.specs.Resuming as spec;
 ghost use Rattle.pw_interp_todo.specs.Resuming.{Rest, control_act, resume};
 
-use pw_interp_todo::{Asked, Control, Todo};
+use pw_interp_calls::Stop;
+use pw_interp_todo::{Asked, Callee, Control, Todo};
 use pw_typed::TExpr;
 use pw_value::Value;
 use std::alloc::{AllocError, Global};
@@ -32,27 +34,26 @@ pub fn push_arguments<'a>(
     }
 }
 
-/// The value that is held last, where one is, which leaves the list.
-fn pop_held<'a>(todo: &mut Vec<Todo<'a>>) -> Option<Value>
-    ensures { MatchOption result (todo.new.items ≡ todo.old.items) (λ v. todo.old.items ≡ todo.new.items ++ Todo.Held v ∷ []) }
-{
-    let Some(Todo::Held(value)) = todo.last() else {
-        return None;
-    };
-    let value = *value;
-    todo.pop();
-    Some(value)
-}
-
-/// The values that are held, from the first argument's to the last's; they leave the list.
-pub fn held<'a>(alloc: Global, todo: &mut Vec<Todo<'a>>) -> Result<Vec<Value>, AllocError>
-    ensures { IfOk result (λ values. (e : Env) (bound : ℕ) (rest : Rest) →
-        resume todo.old.items rest e bound (spec.Listed []) ≡ resume todo.new.items rest e bound (spec.Listed values.items)) }
+/// The values that are held, from the first argument's to the last's, and what is called with them; they leave the list. No
+/// list of a machine has anything else behind the arguments of a call: of another, want of memory says nothing.
+pub fn take_arguments<'a>(
+    alloc: Global,
+    todo: &mut Vec<Todo<'a>>,
+) -> Result<(Vec<Value>, Callee<'a>), Stop<'a>>
+    ensures taken { IfOk result (λ r. (e : Env) (bound : ℕ) (rest : Rest) →
+        resume todo.old.items rest e bound (spec.Listed []) ≡ (call_behind r.1 r.0.items e bound >>= λ given. resume todo.new.items rest e bound (spec.Gave given))) }
+    ensures no_memory { IfErr result (λ stop. stop ≡ Stop.NoMemory) }
 {
     let mut values = Vec::new(alloc);
-    while let Some(value) = pop_held(todo) {
-        values.push(value)?;
+    while let Some(last) = todo.pop() {
+        match last {
+            Todo::Held(value) => values.push(value)?,
+            Todo::Call(callee) => {
+                values.reverse();
+                return Ok((values, callee));
+            }
+            _ => return Err(Stop::NoMemory),
+        }
     }
-    values.reverse();
-    Ok(values)
+    Err(Stop::NoMemory)
 }

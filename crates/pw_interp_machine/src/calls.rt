@@ -1,6 +1,6 @@
 //! Calls of functions and returns from them (ISO C90 6.3.2.2, 6.6.6.4).
 
-ghost use Rattle.std.specs.Prelude.{◌≡◌, ◌+◌, ◌∷◌, [], ◌++◌, ℕ, IfErr, IfOk};
+ghost use Rattle.std.specs.Prelude.{◌≡◌, ◌+◌, ◌∷◌, [], ℕ, IfOk};
 ghost use Rattle.pw_typed.specs.Views.{view_function};
 ghost use Rattle.pw_cmean.specs.Acts.{◌>>=◌};
 ghost use Rattle.pw_cmean.specs.Evaluation as meaning;
@@ -16,7 +16,7 @@ ghost use Rattle.pw_interp_todo.specs.Resuming as spec;
 ghost use Rattle.pw_interp_machine.specs.Bodies.{with_arguments};
 ghost use Rattle.pw_interp_machine.specs.Stepping.{Begins, Opens, StepsAt};
 
-use crate::arguments::held;
+use crate::arguments::take_arguments;
 use crate::blocks::make_locals;
 use crate::callees::{call_library, callee_of};
 use crate::machine::{Call, Machine};
@@ -201,19 +201,7 @@ fn call_with<'a>(
     call_function(alloc, machine, state, function, args)
 }
 
-/// The call that is the last of a list; another says nothing of what is called.
-fn last_callee<'a>(todo: &mut Vec<Todo<'a>>) -> Result<Callee<'a>, Stop<'a>>
-    ensures { IfOk result (λ callee. todo.old.items ≡ todo.new.items ++ Todo.Call callee ∷ []) }
-    ensures no_memory { IfErr result (λ stop. stop ≡ Stop.NoMemory) }
-{
-    match todo.pop() {
-        Some(Todo::Call(callee)) => Ok(callee),
-        _ => Err(Stop::NoMemory),
-    }
-}
-
-/// All arguments of a call have their values: the function is called. No list of a machine has anything else behind the
-/// arguments, of which want of memory says nothing.
+/// All arguments of a call have their values: the function is called.
 pub fn call_listed<'a>(
     alloc: Global,
     machine: &mut Machine<'a>,
@@ -222,8 +210,7 @@ pub fn call_listed<'a>(
     ensures { (main : worlds.Body) → StepsAt main (view_env machine.old.call.env).world machine.old.call machine.old.callers.items
         (λ rest. rest (view_env machine.old.call.env) machine.old.call.bound (spec.Listed [])) (view_state state.old) result machine.new (view_state state.new) }
 {
-    let args = held(alloc, &mut machine.call.todo)?;
-    let callee = last_callee(&mut machine.call.todo)?;
+    let (args, callee) = take_arguments(alloc, &mut machine.call.todo)?;
     call_with(alloc, machine, state, callee, &args)
 }
 

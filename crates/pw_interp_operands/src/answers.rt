@@ -273,6 +273,7 @@ enum Group {
     Nothing,
 }
 
+/// Behind what an expression goes on.
 #[tactic(auto, unfolding(pw_typed::specs::Views::view_form), using(pw_typed::proofs::Rows::call_view, pw_typed::proofs::Rows::call_value_view))]
 fn group_of(e: &TExpr) -> Group
     ensures { IsGroup (view_form e.now.form) result }
