@@ -82,9 +82,9 @@ module _ {main : Body} {world : World} {call : Call} {callers : List Call} where
 
   pub steps_further : {act rest_act : Rest → Act (Unit {0})} {before between behind : Shown} {r : Result (Unit {0}) Stop} {new : Machine}
       → ((rest : Rest) → Leads world (act rest) before (rest_act rest) between) → StepsAt main world call callers rest_act between r new behind → StepsAt main world call callers act before r new behind
-  steps_further {rest_act = rest_act} {between = between} {behind = behind} {r = r} {new = new} leads s = by r s
+  steps_further {act = act} {rest_act = rest_act} {before = before} {between = between} {behind = behind} {r = r} {new = new} leads s = by r s
     where
-      by : (x : Result (Unit {0}) Stop) → StepsAt main world call callers rest_act between x new behind → StepsAt main world call callers _ _ x new behind
+      by : (x : Result (Unit {0}) Stop) → StepsAt main world call callers rest_act between x new behind → StepsAt main world call callers act before x new behind
       by (Ok d) o = record { goes = λ end at. o.goes end (stands_further leads at); stopped = tt }
       by (Err stop) o = record { goes = tt; stopped = λ end at. o.stopped end (stands_further leads at) }
 
@@ -271,14 +271,14 @@ starts_stopped {main = main} {world = world} {act = act} {before = before} {behi
 -- a step of the machine that stands in this world
 pub run_goes : {main : Body} {world : World} {old new : Machine} {before behind : Shown} {r : Result (Unit {0}) Stop} {end : Outcome (Unit {0})}
     → Steps main (view_env old.call.env).world old before r new behind → r ≡ Ok tt → Stands main world old before end → Stands main world new behind end
-run_goes {main = main} {world = world} {old = old} {new = new} {before = before} {behind = behind} {end = end} s is at =
+run_goes {main = main} {world = world} {old = old} {new = new} {before = before} {behind = behind} {r = r} {end = end} s is at =
     let there : Steps main world old before (Ok tt) new behind =
-        subst (λ r. Steps main world old before r new behind) is (subst (λ w. Steps main w old before _ new behind) at.in_call.is_call.stands s) in
+        subst (λ x. Steps main world old before x new behind) is (subst (λ w. Steps main w old before r new behind) at.in_call.is_call.stands s) in
     there.goes end at
 
 pub run_ends : {main : Body} {world : World} {old new : Machine} {before behind : Shown} {r : Result (Unit {0}) Stop} {end : Outcome (Unit {0})} (stop : Stop)
     → Steps main (view_env old.call.env).world old before r new behind → r ≡ Err stop → Stands main world old before end → EndsSo world end stop behind
-run_ends {main = main} {world = world} {old = old} {new = new} {before = before} {behind = behind} {end = end} stop s is at =
+run_ends {main = main} {world = world} {old = old} {new = new} {before = before} {behind = behind} {r = r} {end = end} stop s is at =
     let there : Steps main world old before (Err stop) new behind =
-        subst (λ r. Steps main world old before r new behind) is (subst (λ w. Steps main w old before _ new behind) at.in_call.is_call.stands s) in
+        subst (λ x. Steps main world old before x new behind) is (subst (λ w. Steps main w old before r new behind) at.in_call.is_call.stands s) in
     there.stopped end at

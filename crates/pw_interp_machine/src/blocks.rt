@@ -1,6 +1,6 @@
 //! The locals of blocks and the parameters of functions: each has an object of its own (ISO C90 6.1.2.4).
 
-ghost use Rattle.std.specs.Prelude.{◌≡◌, ◌+◌, ◌<◌, false, IfOk, None, Some, if◌then◌else◌, option_and_then, option_map, slice_get, slice_set};
+ghost use Rattle.std.specs.Prelude.{◌≡◌, ◌+◌, ◌<◌, ◌∷◌, ◌++◌, [], ℕ, false, IfOk, None, Some, if◌then◌else◌, option_and_then, option_map, slice_get, slice_set};
 ghost use Rattle.pw_value.specs.Objects.{ended};
 ghost use Rattle.pw_typed.specs.Views.{view_stmt};
 ghost use Rattle.pw_cmean.specs.Acts.{◌>>=◌};
@@ -10,7 +10,8 @@ ghost use Rattle.pw_interp_todo.specs.Flows.{view_entry};
 ghost use Rattle.pw_interp_todo.specs.Members as any;
 ghost use Rattle.pw_interp_todo.specs.Parts.{part_act};
 ghost use Rattle.pw_interp_todo.specs.Resuming as resuming;
-ghost use Rattle.pw_interp_todo.specs.Resuming.{put_back};
+ghost use Rattle.pw_interp_todo.specs.Resuming.{Rest, control_act, put_back, resume};
+ghost use Rattle.pw_cmean.specs.Evaluation.{Env as AnyEnv};
 ghost use Rattle.pw_interp_machine.specs.Locals as spec;
 ghost use Rattle.pw_interp_machine.specs.Stepping.{StepsCall};
 
@@ -95,6 +96,24 @@ pub fn make_locals<'a>(
     Ok(Some(inner))
 }
 
+/// Behind the object of a local the others of its block come, and behind the block it ends.
+fn note_local<'a>(
+    todo: &mut Vec<Todo<'a>>,
+    of: &'a TStmt,
+    opened: u32,
+    at: Entry,
+    bound: u64,
+    end: Todo<'a>,
+) -> Result<Control<'a>, AllocError>
+    ensures { IfOk result (λ control. (e : AnyEnv) (n : ℕ) (rest : Rest) → control_act control e n (resume todo.new.items rest)
+        ≡ (part_act (Part.Locals opened) (view_stmt of.now) (view_entry at) e n >>= λ flow. resume (todo.old.items ++ end.entry ∷ []) rest e bound (resuming.Flowed flow))) }
+{
+    todo.push(end)?;
+    let part = Part::Locals(opened);
+    let what = Doing { part, of, at };
+    Ok(Control::Do { what, bound })
+}
+
 /// The next local of a block gets an object of its own, behind which the others come, and behind the block the local has
 /// what it had before.
 fn open_one<'a>(
@@ -114,19 +133,17 @@ fn open_one<'a>(
     let before = number_of(&call.env.numbers, local);
     let count = state.objects.count();
     let opened = make_local(alloc, &mut call.env, &mut state.objects, local)?;
-    if opened {
-        let number = count as u128;
-        call.todo.push(Todo::EndLocal {
-            local,
-            number,
-            before,
-        })?;
-        let part = Part::Locals(made + 1);
-        let what = Doing { part, of, at };
-        Ok(Control::Do { what, bound })
-    } else {
-        Err(Stop::Ended(Ending::Wrong))
+    if !opened {
+        return Err(Stop::Ended(Ending::Wrong));
     }
+    let number = count as u128;
+    let end = Todo::EndLocal {
+        local,
+        number,
+        before,
+    };
+    let control = note_local(&mut call.todo, of, made + 1, at, bound, end)?;
+    Ok(control)
 }
 
 /// A block, so many of whose locals have their objects: the next gets its own, or where all have theirs the inside comes.
