@@ -11,7 +11,7 @@ use Rattle.pw_cmean.specs.Execution as execution
 use Rattle.pw_cmean.specs.SourceRun.{finish}
 use Rattle.pw_interp_state.specs.Shown.{Shown, shown}
 use Rattle.pw_interp_state.specs.Runs.{Shows, Runs}
-use Rattle.pw_interp_state.proofs.RunLaws.{ends, stopped}
+use Rattle.pw_interp_state.proofs.RunLaws.{ends, stopped, goes_on as runs_on}
 use Rattle.pw_interp_calls.specs.declared.ending.Ending.{Ending}
 use Rattle.pw_interp_calls.specs.declared.ending.Ending.TheVariants as E
 use Rattle.pw_interp_calls.specs.declared.ending.Stop.{Stop}
@@ -24,6 +24,7 @@ use Rattle.pw_interp_todo.specs.declared.todo.Control.TheVariants as C
 use Rattle.pw_interp_todo.specs.declared.todo.Todo.{Todo}
 use Rattle.pw_interp_todo.specs.Leading.{Leads, Continues}
 use Rattle.pw_interp_todo.specs.Resuming.{Rest, Told, Gave, Flowed, after, resume, on_value, control_act}
+use Rattle.pw_interp_calls.proofs.AnswerLaws.{given_by}
 use Rattle.pw_interp_todo.proofs.LeadLaws.{behind_given, named}
 use Rattle.pw_interp_todo.proofs.Resumes.{resume_last}
 use Rattle.pw_interp_machine.specs.declared.machine.Call.{Call}
@@ -282,3 +283,18 @@ run_ends {main = main} {world = world} {old = old} {new = new} {before = before}
     let there : Steps main world old before (Err stop) new behind =
         subst (λ x. Steps main world old before x new behind) is (subst (λ w. Steps main w old before r new behind) at.in_call.is_call.stands s) in
     there.stopped end at
+
+pub starts_named : {main : Body} {world : World} {act other : Act (Unit {0})} {before behind : Shown} {r : Result Machine Stop} → act ≡ other → Starts main world other before r behind → Starts main world act before r behind
+starts_named {main = main} {world = world} {before = before} {behind = behind} {r = r} same s = subst (λ a. Starts main world a before r behind) (sym same) s
+
+pub answer_stops : {A C : Type 0} {seen : C → A} {world : World} {act : Act A} {stop : Stop} {w u : Shown} {r : Result C Stop} → Answers seen world act w r u → r ≡ Err stop → Stops world act w stop u
+answer_stops {world = world} {act = act} {w = w} {u = u} a is = subst (λ x. IfErr x (λ s. Stops world act w s u)) is a.stopped
+
+-- a run whose main gave this at once
+pub finished_so : {world : World} {act : Act (Option Value)} {before behind : Shown} {r : Result (Option Value) Stop} (main : Body) (v : Option Value) (ending : Ending)
+    → Answers (λ x. x) world act before r behind → r ≡ Ok v → finish main v ≡ stop (view_ending ending) → Starts main world (act >>= finish main) before (Err (S.Ended ending)) behind
+finished_so {world = world} {act = act} {before = before} {behind = behind} main v ending a is ends_as = record {
+  starts = tt;
+  stopped = runs_on world act (finish main) before behind behind v (Err (view_ending ending)) (given_by a is)
+      (subst (λ x. Runs world x behind (Err (view_ending ending)) behind) (sym ends_as) (stopped world (view_ending ending) behind));
+}

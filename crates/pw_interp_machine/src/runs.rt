@@ -92,8 +92,9 @@ pub fn run<'a>(
 {
     let mut machine = machine;
     for _ in 0..u64::MAX {
-        if let Err(stop) = step(alloc, &mut machine, state, main) {
-            return stop;
+        match step(alloc, &mut machine, state, main) {
+            Ok(()) => {}
+            Err(stop) => return stop,
         }
     }
     Stop::NoMemory
