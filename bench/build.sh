@@ -1,8 +1,9 @@
 #!/usr/bin/env bash
 # Times `build` over the 65 modules of the program that the generator makes from the number 1: the full build by pawc
 # beside `gcc -O0 -c`, the same of clang, tcc and gcc for hppa, each module by a process of its own, and the link but for
-# hppa; the rebuild after one module's edit, and where nothing changed, beside the full build; and twice the modules beside
-# so many. Prints processor seconds and their quotients. The image that is run has to end with the status of the programs
+# hppa; the rebuild after one module's edit, and where nothing changed, beside the full build; and twice the modules, and 256
+# modules of nearly 16 MiB together, each of which declares all others' globals, beside so many, by the bytes of their texts.
+# Prints processor seconds and their quotients. The image that is run has to end with the status of the programs
 # that the compilers make, the rebuild has to make one object anew, and `bench 1` has to tell the length and the digest of
 # the image of its 65 modules. Usage: bench/build.sh [small]
 . "$(dirname "$0")/common.sh"
@@ -11,9 +12,10 @@ find_compilers
 pawc_program
 count=$(size 64 2)
 turns=$(size 100 2)
-for folder in once twice "${compilers[@]}"; do mkdir "$work/$folder"; done
+for folder in once twice many "${compilers[@]}"; do mkdir "$work/$folder"; done
 for folder in once "${compilers[@]}"; do python3 "$top/bench/made.py" "$work/$folder" "$count" "$turns"; done
 python3 "$top/bench/made.py" "$work/twice" $((2 * count)) "$turns"
+python3 "$top/bench/made.py" "$work/many" "$(size 255 6)" "$turns" 9
 
 again() { cd "$1"; "$pawc" build; }
 anew() { rm -f "$1"/*.obj "$1"/prog.db "$1"/prog.img; again "$1"; }
@@ -44,6 +46,14 @@ nothing=$(seconds again "$work/once")
 grep -q "^built 0 of " "$work/told" || { cat "$work/told"; exit 1; }
 echo "where nothing changed $nothing s, of the full build $(ratio "$nothing" "$p")"
 
-d=$(seconds anew "$work/twice")
-cat "$work/told"
-echo "$((2 * count + 1)) modules: $d s, ratio $(ratio "$d" "$p")"
+# The quotient of two times by the bytes of what was built. Usage: by_bytes TIME FOLDER TIME FOLDER
+by_bytes() {
+    awk -v a="$1" -v m="$(cat "$2"/*.i | wc -c)" -v b="$3" -v n="$(cat "$4"/*.i | wc -c)" \
+        'BEGIN { if (b > 0) printf "%.2f\n", (a / m) / (b / n); else print "-" }'
+}
+
+for folder in twice many; do
+    d=$(seconds anew "$work/$folder")
+    cat "$work/told"
+    echo "$(ls "$work/$folder" | grep -c '\.i$') modules of $(cat "$work/$folder"/*.i | wc -c) bytes: $d s, ratio $(ratio "$d" "$p"), by bytes $(by_bytes "$d" "$work/$folder" "$p" "$work/once")"
+done

@@ -1,9 +1,10 @@
 -- What the main theorem says of `hello`.
-use Rattle.std.specs.Prelude.{◌≡◌, ℕ, suc, ◌+◌, ◌≤◌, List, [], ◌∷◌, ◌++◌, Option, None, Some, IfSome, Result, Ok, Err}
+use Rattle.std.specs.Prelude.{◌≡◌, ◌↔◌, ℕ, suc, ◌+◌, ◌≤◌, List, [], ◌∷◌, ◌++◌, Option, None, Some, IfSome, Result, Ok, Err, IsOk}
 use Rattle.std.proofs.Common.{arith, ap, refl, subst, sym, ◌∙◌}
-use Rattle.std.proofs.lemmas.List.{append-nil}
+use Rattle.std.proofs.lemmas.List.{append-nil, append_assoc}
 use Rattle.pw_value.specs.Limits.{stack_least}
 use Rattle.pw_value.specs.ProgramNames.{main_name, putchar_name, start_name}
+use Rattle.pw_value.specs.declared.fault.LinkFault.{LinkFault}
 use Rattle.pw_io.specs.Files.{Files, Told}
 use Rattle.pw_io.specs.Streams.{Appends}
 use Rattle.pw_image.specs.declared.image.Image.{Image}
@@ -12,14 +13,18 @@ use Rattle.pw_machine.specs.declared.ends.End.TheVariants as end
 use Rattle.pw_machine.specs.Run.{Progress, Running, Stopped, run_of, start_state}
 use Rattle.pw_machine.specs.Start.{image_start}
 use Rattle.pw_front_end.specs.Fronts.{HasTree}
+use Rattle.pw_front_end.specs.declared.refusal.Refusal.{Refusal}
 use Rattle.pw_check_rules.specs.Checks.{Checks}
 use Rattle.pw_cmean.specs.Worlds.{Program}
 use Rattle.pw_cmean.specs.SourceRun.{source_run}
 use Rattle.pw_store_modules.specs.Modules.{Texts, module_map}
 use Rattle.pw_build_opts.specs.declared.opts.Opts.{Opts}
 use Rattle.pw_build_opts.specs.declared.opts.RunOpts.{RunOpts}
+use Rattle.pw_build.specs.Builds.{BuildsBy, before_others, flows_of, limit_passed, within}
+use Rattle.pw_build.specs.FromPhaseOne.FirstPhase.{Compiles, CompilesTo, Phase, compiled}
 use Rattle.pw_top.specs.FromLawSession.FromSession.FromBuild.BuildFault.{BuildFault}
 use Rattle.pw_top.specs.FromLawSession.FromSession.FromBuild.BuildFault.TheVariants as build
+use Rattle.pw_top.specs.FromLawSession.FromSession.FromBuildFiles.Full.{BuildsImage}
 use Rattle.pw_top.specs.FromLawSession.FromSession.FromBuildFiles.Outcomes.{fault_answer}
 use Rattle.pw_top.specs.FromLawSession.FromSession.FromBuildFiles.Genuine.{KeepsGenuine}
 use Rattle.pw_run_agreement.specs.Agreement.{SourceEnd, SourceRun, Ends, Stack, Bound, Undefined, IsMeaningful}
@@ -28,26 +33,57 @@ use Rattle.pw_run_languages.specs.LinkingLaws.{frame_in}
 use Rattle.pw_law_stops.specs.Stops.{Tells}
 use Rattle.pw_law_source.specs.Source as source
 use Rattle.pw_top.specs.FromLawSession.FromMeaning.FromLawWhole.FromLayers.Whole.{FramesFit}
-use Rattle.pw_top.specs.FromLawSession.FromMeaning.FromLawWhole.Programs.{AreModulesOf, IsProgramOf}
-use Rattle.pw_top.specs.FromLawSession.FromMeaning.Meaning.{Means, MeansSo, runs_of}
+use Rattle.pw_top.specs.FromLawSession.FromMeaning.FromLawWhole.Programs.{AreModulesOf, IsProgramOf, flow_of}
+use Rattle.pw_top.specs.FromLawSession.FromMeaning.Meaning.{BuildsAndMeans, Means, runs_of}
 use Rattle.pw_commands.specs.MachineRun.{run_answer, run_output}
 use Rattle.pw_top_answer.specs.declared.answer.Answer.{Answer}
 use Rattle.pw_top_answer.specs.declared.answer.Answer.TheVariants.{Done, Ended, Usage, Refused, LinkRefused, StackStop, Spent, Halted, ReadFault, WriteFault, StoreFault, NoMemory, BadFile, BadScript}
-use Rattle.pw_top_answer.specs.Outcomes.{Answers, PutsOut}
+use Rattle.pw_top_answer.specs.Outcomes.{Answers, LeavesStreams, PutsOut}
 use Rattle.pw_top_words.specs.CommandLine.{command_of}
 use Rattle.pw_top_words.specs.declared.commands.Command.{Command}
 use Rattle.pw_top_words.specs.declared.commands.Command.TheVariants.{Go}
 use Rattle.pw_top_words.specs.Limits.{IsWithin}
-use Rattle.pw_top.specs.Commands.{BuildsWhole}
+use Rattle.pw_top.specs.Commands.{BuildsWhole, IsNoSession}
 use Rattle.pw_top.specs.Whole.{ComesInFull, IfMade, RunsFull}
-use Rattle.pw_hello.specs.Hello.{hello, hello_main, hello_module, hello_run, hello_syntax, hello_text, hello_tree}
-use Rattle.pw_client.specs.Saying.{HoldsHello, SaysHi}
+use Rattle.pw_hello.specs.Hello.{hello, hello_main, hello_module, hello_name, hello_output, hello_run, hello_syntax, hello_text, hello_tree}
+use Rattle.pw_client.specs.Saying.{HoldsHello, PutsPrefix, SaysHi}
 
 -- ---- the program of the texts
 
 texts_are_hello : HasTree hello_text hello_syntax → Checks hello_syntax (Ok hello_tree) → (files : Files) → HoldsHello files → IsProgramOf (module_map files) hello
 texts_are_hello tree checks files holds =
     subst (λ entries. AreModulesOf entries (hello_module ∷ [])) (sym holds) (record { name = refl; tree = hello_syntax; has_tree = tree; checks = checks }, tt)
+
+-- a module has one answer of the first phase, which is that of the function
+abbrev Compiling : Type 0
+Compiling = (name text : List ℕ) (answer : Phase) → Compiles name text answer ↔ (answer ≡ compiled name text)
+
+-- the answer refuses a module
+abbrev RefusesModule : {T : Type 0} → Result T BuildFault → Type 0
+RefusesModule (Ok x) = ⊥
+RefusesModule (Err (build.Refused who refusal)) = Unit {0}
+RefusesModule (Err fault) = ⊥
+
+-- a full build of one module that the first phase accepts refuses no module
+no_refusal : (limit : Option LinkFault) (name : List ℕ) (phase : Phase) → IsOk phase → (opts : Opts) (who : List ℕ) (refusal : Refusal)
+    → BuildsBy (within limit (before_others name phase (Ok []))) [] opts (Err (build.Refused who refusal)) → ⊥
+no_refusal (Some fault) name phase accepted opts who refusal built = subst RefusesModule built tt
+no_refusal None name (Err other) accepted opts who refusal built = cc
+no_refusal None name (Ok flow) accepted opts who refusal built = built
+
+-- the first phase accepts it
+accepted_alone : Compiling → HasTree hello_text hello_syntax → Checks hello_syntax (Ok hello_tree) → IsOk (compiled hello_name hello_text)
+accepted_alone exact tree checks =
+    let comes : CompilesTo hello_name hello_text (flow_of hello_module) = record { tree = hello_syntax; typed = hello_tree; has_tree = tree; checks = checks; is = refl } in
+    subst (λ (phase : Phase). IsOk phase) ((exact hello_name hello_text (Ok (flow_of hello_module))).0 comes) refl
+
+abbrev NotRefused : Texts → Opts → Type 0
+NotRefused texts opts = (who : List ℕ) (refusal : Refusal) → BuildsImage texts opts (Err (build.Refused who refusal)) → ⊥
+
+not_refused : Compiling → HasTree hello_text hello_syntax → Checks hello_syntax (Ok hello_tree) → (files : Files) → HoldsHello files → (opts : Opts) → NotRefused (module_map files) opts
+not_refused exact tree checks files holds opts who refusal built =
+    no_refusal (limit_passed ((hello_name, hello_text) ∷ [])) hello_name (compiled hello_name hello_text) (accepted_alone exact tree checks) opts who refusal
+    (subst (λ sources. BuildsBy (within (limit_passed sources) (flows_of sources)) [] opts (Err (build.Refused who refusal))) holds built)
 
 -- texts have one program
 abbrev OneProgram : Type 0
@@ -110,44 +146,68 @@ says_run input (Stopped (end.Ended status) last) taken taken' tells puts =
 says_run input (Stopped end.StackStop last) taken taken' tells puts = absurd (subst IsEnd tells.end tt)
 says_run input (Stopped (end.Halted halt at) last) taken taken' tells puts = absurd tells
 
-says_fault : (fault : BuildFault) (taken taken' : Option (List ℕ)) → SaysHi (fault_answer fault) taken taken'
-says_fault (build.Refused name refusal) taken taken' = tt
-says_fault (build.LinkRefused fault) taken taken' = tt
-says_fault build.StoreFault taken taken' = tt
-says_fault build.NoMemory taken taken' = tt
+-- ---- a prefix of it
+
+-- of a prefix
+part_put : (wanted rest : List ℕ) (answer : Answer) (taken taken' : Option (List ℕ)) → hello_output ≡ wanted ++ rest → PutsOut wanted answer taken taken' → PutsPrefix taken taken'
+part_put wanted rest answer taken taken' e puts =
+    (puts.output, puts.more ++ rest, e ∙ (ap (λ l. l ++ rest) puts.front ∙ append_assoc puts.output puts.more rest), puts.taken)
+
+part_run : (input : List ℕ) (progress : Progress) (answer : Answer) (taken taken' : Option (List ℕ)) → Tells input progress hello_source
+    → PutsOut (run_output progress) answer taken taken' → PutsPrefix taken taken'
+part_run input (Running last) answer taken taken' tells puts = part_put last.output tells.more answer taken taken' tells.output puts
+part_run input (Stopped (end.Ended status) last) answer taken taken' tells puts =
+    part_put last.output [] answer taken taken' (tells.output ∙ sym (append-nil last.output)) puts
+part_run input (Stopped end.StackStop last) answer taken taken' tells puts = absurd (subst IsEnd tells.end tt)
+part_run input (Stopped (end.Halted halt at) last) answer taken taken' tells puts = absurd tells
+
+-- nothing was put out
+nothing_put : (taken taken' : Option (List ℕ)) → taken' ≡ taken → Appends taken taken' []
+nothing_put taken None e = tt
+nothing_put None (Some after) e = absurd cc
+nothing_put (Some before) (Some after) e = let same : after ≡ before = cc in same ∙ sym (append-nil before)
+
+-- ---- what is answered in its place
+
+says_fault : (texts : Texts) (opts : Opts) → NotRefused texts opts → (fault : BuildFault) → BuildsImage texts opts (Err fault)
+    → (taken taken' : Option (List ℕ)) → PutsPrefix taken taken' → SaysHi (fault_answer fault) taken taken'
+says_fault texts opts accepted (build.Refused name refusal) built taken taken' part = accepted name refusal built
+says_fault texts opts accepted (build.LinkRefused fault) built taken taken' part = part
+says_fault texts opts accepted build.StoreFault built taken taken' part = part
+says_fault texts opts accepted build.NoMemory built taken taken' part = tt
 
 -- what is answered is what is wanted, or a fault
-by_answer : (wanted answer : Answer) (taken taken' : Option (List ℕ)) → Answers wanted answer → (wanted ≡ answer → SaysHi answer taken taken') → SaysHi answer taken taken'
-by_answer wanted Done taken taken' e says = says e
-by_answer wanted (Ended status) taken taken' e says = says e
-by_answer wanted Usage taken taken' e says = says e
-by_answer wanted (Refused name refusal) taken taken' e says = tt
-by_answer wanted (LinkRefused fault) taken taken' e says = tt
-by_answer wanted StackStop taken taken' e says = says e
-by_answer wanted Spent taken taken' e says = says e
-by_answer wanted (Halted halt at) taken taken' e says = says e
-by_answer wanted ReadFault taken taken' e says = tt
-by_answer wanted WriteFault taken taken' e says = tt
-by_answer wanted StoreFault taken taken' e says = tt
-by_answer wanted NoMemory taken taken' e says = tt
-by_answer wanted (BadFile name at) taken taken' e says = says e
-by_answer wanted (BadScript at) taken taken' e says = says e
+by_answer : (wanted answer : Answer) (taken taken' : Option (List ℕ)) → Answers wanted answer → PutsPrefix taken taken' → (wanted ≡ answer → SaysHi answer taken taken') → SaysHi answer taken taken'
+by_answer wanted Done taken taken' e part says = says e
+by_answer wanted (Ended status) taken taken' e part says = says e
+by_answer wanted Usage taken taken' e part says = says e
+by_answer wanted (Refused name refusal) taken taken' e part says = says e
+by_answer wanted (LinkRefused fault) taken taken' e part says = part
+by_answer wanted StackStop taken taken' e part says = says e
+by_answer wanted Spent taken taken' e part says = part
+by_answer wanted (Halted halt at) taken taken' e part says = says e
+by_answer wanted ReadFault taken taken' e part says = part
+by_answer wanted WriteFault taken taken' e part says = part
+by_answer wanted StoreFault taken taken' e part says = part
+by_answer wanted NoMemory taken taken' e part says = tt
+by_answer wanted (BadFile name at) taken taken' e part says = says e
+by_answer wanted (BadScript at) taken taken' e part says = says e
 
-if_made : (answer : Answer) (P : Type 0) (taken taken' : Option (List ℕ)) → IfMade answer P → (P → SaysHi answer taken taken') → SaysHi answer taken taken'
-if_made Done P taken taken' h says = says h
-if_made (Ended status) P taken taken' h says = says h
-if_made Usage P taken taken' h says = says h
-if_made (Refused name refusal) P taken taken' h says = tt
-if_made (LinkRefused fault) P taken taken' h says = tt
-if_made StackStop P taken taken' h says = says h
-if_made Spent P taken taken' h says = says h
-if_made (Halted halt at) P taken taken' h says = says h
-if_made ReadFault P taken taken' h says = tt
-if_made WriteFault P taken taken' h says = tt
-if_made StoreFault P taken taken' h says = tt
-if_made NoMemory P taken taken' h says = tt
-if_made (BadFile name at) P taken taken' h says = says h
-if_made (BadScript at) P taken taken' h says = says h
+if_made : (answer : Answer) (P : Type 0) (input input' taken taken' : Option (List ℕ)) → LeavesStreams answer input input' taken taken' → IfMade answer P → (P → SaysHi answer taken taken') → SaysHi answer taken taken'
+if_made Done P input input' taken taken' left h says = says h
+if_made (Ended status) P input input' taken taken' left h says = says h
+if_made Usage P input input' taken taken' left h says = says h
+if_made (Refused name refusal) P input input' taken taken' left h says = says h
+if_made (LinkRefused fault) P input input' taken taken' left h says = says h
+if_made StackStop P input input' taken taken' left h says = says h
+if_made Spent P input input' taken taken' left h says = says h
+if_made (Halted halt at) P input input' taken taken' left h says = says h
+if_made ReadFault P input input' taken taken' left h says = says h
+if_made WriteFault P input input' taken taken' left h says = says h
+if_made StoreFault P input input' taken taken' left h says = ([], hello_output, refl, nothing_put taken taken' left.1)
+if_made NoMemory P input input' taken taken' left h says = tt
+if_made (BadFile name at) P input input' taken taken' left h says = says h
+if_made (BadScript at) P input input' taken taken' left h says = says h
 
 -- ---- the call
 
@@ -161,40 +221,44 @@ says_image runs one images texts opts bytes means of least input are answer inpu
     let tells : Tells input progress hello_source =
     subst (λ (c : Contents Image). Tells input (run_of opts.budget (start_state (image_start c.value.memory) input)) hello_source) (images bytes means.contents ran.0 means.file ran.1)
     (tells_hello runs one texts opts.build bytes means of least input are opts.budget) in
-    by_answer (run_answer progress) answer taken taken' ran.2 (λ e.
+    by_answer (run_answer progress) answer taken taken' ran.2 (part_run input progress answer taken taken' tells ran.3) (λ e.
     subst (λ a. SaysHi a taken taken') e (says_run input progress taken taken' tells (subst (λ a. PutsOut (run_output progress) a taken taken') (sym e) ran.3)))
 
-says_full : Runs → OneProgram → OneImage → (texts : Texts) (opts : RunOpts) (full : Result (List ℕ) BuildFault) → MeansSo texts opts.build full → IsProgramOf texts hello → stack_least ≤ opts.build.stack
+says_full : Runs → OneProgram → OneImage → (texts : Texts) (opts : RunOpts) → NotRefused texts opts.build → (full : Result (List ℕ) BuildFault) → BuildsAndMeans texts opts.build full → IsProgramOf texts hello → stack_least ≤ opts.build.stack
     → (input : List ℕ) → AreBytes input → (answer : Answer) (input' taken taken' : Option (List ℕ)) → RunsFull opts.budget input full answer input' taken taken' → SaysHi answer taken taken'
-says_full runs one images texts opts (Ok bytes) means of least input are answer input' taken taken' ran =
-    says_image runs one images texts opts bytes means of least input are answer input' taken taken' ran
-says_full runs one images texts opts (Err fault) means of least input are answer input' taken taken' ran =
-    by_answer (fault_answer fault) answer taken taken' ran.0 (λ e. subst (λ a. SaysHi a taken taken') e (says_fault fault taken taken'))
+says_full runs one images texts opts accepted (Ok bytes) built of least input are answer input' taken taken' ran =
+    says_image runs one images texts opts bytes built.1 of least input are answer input' taken taken' ran
+says_full runs one images texts opts accepted (Err fault) built of least input are answer input' taken taken' ran =
+    let part = part_put [] hello_output answer taken taken' refl ran.1 in
+    by_answer (fault_answer fault) answer taken taken' ran.0 part (λ e. subst (λ a. SaysHi a taken taken') e (says_fault texts opts.build accepted fault built.0 taken taken' part))
 
-says_built : Runs → OneProgram → OneImage → (told : Told) (new : Option Told) (opts : RunOpts) → IsProgramOf (module_map told.files) hello → stack_least ≤ opts.build.stack
-    → (input : List ℕ) → AreBytes input → (answer : Answer) (input' taken taken' : Option (List ℕ))
+says_built : Runs → OneProgram → OneImage → (told : Told) (new : Option Told) (opts : RunOpts) → NotRefused (module_map told.files) opts.build → IsProgramOf (module_map told.files) hello → stack_least ≤ opts.build.stack
+    → (input : List ℕ) → AreBytes input → (answer : Answer) (input' taken taken' : Option (List ℕ)) → LeavesStreams answer (Some input) input' taken taken'
     → IfMade answer (ComesInFull opts.build told new (λ full. RunsFull opts.budget input full answer input' taken taken')) → SaysHi answer taken taken'
-says_built runs one images told new opts of least input are answer input' taken taken' made =
-    if_made answer (ComesInFull opts.build told new (λ full. RunsFull opts.budget input full answer input' taken taken')) taken taken' made (λ comes.
-    says_full runs one images (module_map told.files) opts comes.0 comes.1.1 of least input are answer input' taken taken' comes.2)
+says_built runs one images told new opts accepted of least input are answer input' taken taken' left made =
+    if_made answer (ComesInFull opts.build told new (λ full. RunsFull opts.budget input full answer input' taken taken')) (Some input) input' taken taken' left made (λ comes.
+    says_full runs one images (module_map told.files) opts accepted comes.0 comes.1 of least input are answer input' taken taken' comes.2)
 
 -- of a store and an input that tell what they hold
-says_told : Runs → OneProgram → OneImage → HasTree hello_text hello_syntax → Checks hello_syntax (Ok hello_tree)
+says_told : Runs → OneProgram → OneImage → Compiling → HasTree hello_text hello_syntax → Checks hello_syntax (Ok hello_tree)
     → (command : Option Command) (opts : RunOpts) → command ≡ Some (Go opts) → stack_least ≤ opts.build.stack
     → (old new : Option Told) (input input' taken taken' : Option (List ℕ)) (answer : Answer)
+    → (IsNoSession command → LeavesStreams answer input input' taken taken')
     → IfSome old (λ told. IfSome input (λ rest. BuildsWhole command answer told new rest input' taken taken'))
     → IfSome old (λ told. HoldsHello told.files → KeepsGenuine told.files → IfSome input (λ rest. AreBytes rest → SaysHi answer taken taken'))
-says_told runs one images tree checks command opts e least None new input input' taken taken' answer whole = tt
-says_told runs one images tree checks command opts e least (Some told) new None input' taken taken' answer whole = λ holds genuine. tt
-says_told runs one images tree checks command opts e least (Some told) new (Some rest) input' taken taken' answer whole = λ holds genuine are.
-    says_built runs one images told new opts (texts_are_hello tree checks told.files holds) least rest are answer input' taken taken'
+says_told runs one images exact tree checks command opts e least None new input input' taken taken' answer left whole = tt
+says_told runs one images exact tree checks command opts e least (Some told) new None input' taken taken' answer left whole = λ holds genuine. tt
+says_told runs one images exact tree checks command opts e least (Some told) new (Some rest) input' taken taken' answer left whole = λ holds genuine are.
+    says_built runs one images told new opts (not_refused exact tree checks told.files holds opts.build) (texts_are_hello tree checks told.files holds) least rest are answer input' taken taken'
+    (left (subst (λ (c : Option Command). IsNoSession c) (sym e) tt))
     (subst (λ (c : Option Command). BuildsWhole c answer told new rest input' taken taken') e whole genuine)
 
-pub says_hi : Runs → OneProgram → OneImage → HasTree hello_text hello_syntax → Checks hello_syntax (Ok hello_tree)
+pub says_hi : Runs → OneProgram → OneImage → Compiling → HasTree hello_text hello_syntax → Checks hello_syntax (Ok hello_tree)
     → ((words : List (List ℕ)) (command : Command) → command_of words ≡ Some command → IsWithin command)
     → (words : List (List ℕ)) (old new : Option Told) (input input' taken taken' : Option (List ℕ)) (answer : Answer)
+    → (IsNoSession (command_of words) → LeavesStreams answer input input' taken taken')
     → IfSome old (λ told. IfSome input (λ rest. BuildsWhole (command_of words) answer told new rest input' taken taken'))
     → (opts : RunOpts) → command_of words ≡ Some (Go opts)
     → IfSome old (λ told. HoldsHello told.files → KeepsGenuine told.files → IfSome input (λ rest. AreBytes rest → SaysHi answer taken taken'))
-says_hi runs one images tree checks within words old new input input' taken taken' answer whole opts e =
-    says_told runs one images tree checks (command_of words) opts e (within words (Go opts) e).1.0 old new input input' taken taken' answer whole
+says_hi runs one images exact tree checks lawful words old new input input' taken taken' answer left whole opts e =
+    says_told runs one images exact tree checks (command_of words) opts e (lawful words (Go opts) e).1.0 old new input input' taken taken' answer left whole

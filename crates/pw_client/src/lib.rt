@@ -9,6 +9,7 @@ ghost use Rattle.pw_top_words.specs.CommandLine.{command_of};
 ghost use Rattle.pw_top_words.specs.declared.commands.Command.TheVariants.{Go};
 ghost use Rattle.pw_client.specs.Saying.{HoldsHello, SaysHi};
 
+use pw_build::phase_one_is_exact;
 use pw_hello::{hello_is_a_module, hello_says_hi};
 use pw_image::laws::images_and_files_are_one_to_one;
 use pw_io::{Sink, Source, Store};
@@ -18,7 +19,8 @@ use std::alloc::Global;
 
 /// Compiles, links and runs the module `hello` of a store. By the contract of the compiler alone, whatever registers and stack the
 /// words ask for and whatever stands on the input, its image puts out "Hi" and ends with the status 0, unless the budget is spent
-/// before that.
+/// before that, linking refuses the program, or memory runs out or a store or stream fails; and but for want of memory, nothing is
+/// put out that is no prefix of "Hi".
 pub fn go_hello<S: Store, I: Source, O: Sink, E: Sink>(
     alloc: Global,
     words: &[String],
@@ -35,5 +37,6 @@ pub fn go_hello<S: Store, I: Source, O: Sink, E: Sink>(
     images_and_files_are_one_to_one();
     full_builds_have_a_program();
     commands_are_within();
+    phase_one_is_exact();
     pawc_top(alloc, words, store, input, out, err)
 }

@@ -1,6 +1,6 @@
 -- The laws of the layers and those of the analyser together.
-use Rattle.std.specs.Prelude.{ℕ, ◌≡◌, None, List, ◌++◌, map}
-use Rattle.std.proofs.Common.{subst}
+use Rattle.std.specs.Prelude.{ℕ, ◌≡◌, ◌==◌, Some, None, List, [], ◌++◌, map, find}
+use Rattle.std.proofs.Common.{ap, subst, ◌∙◌}
 use Rattle.pw_value.specs.declared.value.Kind.{Kind}
 use Rattle.pw_files.proofs.Standing.{Has, has_by, contains_by}
 use Rattle.pw_db.specs.declared.database.Directives.{Directives}
@@ -9,6 +9,7 @@ use Rattle.pw_graph.specs.declared.graph.CallGraph.{CallGraph}
 use Rattle.pw_milli.specs.Library.{routines}
 use Rattle.pw_alloc.specs.declared.located.Located.{Located}
 use Rattle.pw_object.specs.declared.object.Object.{Object}
+use Rattle.pw_image.specs.declared.image.Image.{Image}
 use Rattle.pw_link.specs.Linking.{linked}
 use Rattle.pw_machine.specs.Core.{Core}
 use Rattle.pw_machine.specs.Start.{image_start}
@@ -21,8 +22,9 @@ use Rattle.pw_run_languages.specs.Programs.{functions_of, globals_of}
 use Rattle.pw_run_languages.specs.LawfulPrograms.{IsProgram, graph_of, eligible_of}
 use Rattle.pw_run_languages.specs.Direction.{directed_functions}
 use Rattle.pw_run_languages.specs.Serving.{AllServe}
-use Rattle.pw_run_languages.specs.ImageTrace.{Symbols, traced, start_state, trace_of}
-use Rattle.pw_run_languages.specs.MachineRun.{Map, traced_run, symbols_in}
+use Rattle.pw_run_languages.specs.ImageTrace as image
+use Rattle.pw_run_languages.specs.ImageTrace.{Symbols, traced, start_state, address_of, symbols_of, trace_of}
+use Rattle.pw_run_languages.specs.MachineRun.{Map, function_at, traced_run, symbols_in}
 use Rattle.pw_run_languages.specs.LinkingLaws.{AreObjectsOf, map_of, image_run}
 use Rattle.pw_law_layers.specs.Whole.{image_of, Holds, LayersCompose}
 use Rattle.pw_law_analysis.specs.SummaryGraphs.{named_graph}
@@ -30,6 +32,7 @@ use Rattle.pw_law_analysis.specs.ImageTraffic.{IsPlaced}
 use Rattle.pw_law_analysis.specs.OwedLaws.{Serves, AnalysesCompose, AllLawsCompose}
 use Rattle.pw_law_analysis.proofs.Symbols.{symbols_are}
 use Rattle.pw_law_analysis.proofs.ImageTraffic.{of_fewer}
+use Rattle.pw_law_analysis.proofs.ImageRegisters.{kept_over_call, members_alone}
 
 -- what holds of logs of which another thing holds
 notes : {M : Type 0} → (P Q : List M → Type 0) → ((l : List M) → P l → Q l) → (s : Stage M) → Notes P s → Notes Q s
@@ -57,6 +60,11 @@ forth ss g q same v k h = has_by (v, k) (eligible_of q) ((same.eligible v k).0 (
 back : (ss : List Summary) (g : CallGraph) (q : flows.Program) → SayTheSame (named_graph ss g) (graph_of q) → (v : List ℕ) (k : Kind) → Has (v, k) (eligible_of q) → Has (v, k) g.globals
 unfolding named_graph graph_of
 back ss g q same v k h = has_by (v, k) g.globals ((same.eligible v k).1 (contains_by (v, k) (eligible_of q) h))
+
+-- the function that an image has at an address is the one that the run finds there
+found : (q : flows.Program) (functions : List Located) (v : Image) (scalars : List (List ℕ × Kind)) → symbols_in (map_of q functions v) ≡ symbols_of v scalars
+    → (a : ℕ) (f : List ℕ) → image.function_at (symbols_of v []) a ≡ Some f → function_at (map_of q functions v) a ≡ Some f
+found q functions v scalars same a f e = ap (λ (s : Symbols). find (λ g. address_of v g == a) s.functions) same ∙ e
 
 pub joined : LayersCompose → AnalysesCompose → Names → TraceObeys → AllLawsCompose
 joined layers analyses names tells selection link lawful sound covered p q ss colours db functions objects input built bytes direction places =
@@ -92,4 +100,8 @@ joined layers analyses names tells selection link lawful sound covered p q ss co
             (tells g db (map_of q functions v) (image_start v.memory) input
             (λ k. notes (ObeysTraffic (graph_of q) db) (ObeysTraffic g db) s.traffic (image_run q functions v input k) (h.traffic defined k)) n));
       };
+      registers = λ defined f n m a b call r low high others.
+          kept_over_call db (map_of q functions v) (image_start v.memory) input (h.registers defined) f n m a b call.called_after
+          (found q functions v i.graph.globals same a.core.front f call.stands_at) call.goes call.later call.returned_after call.back call.first
+          r low high (λ change. others (members_alone i f r change));
     }

@@ -11,6 +11,7 @@ mod Same
 mod Composition
 mod Symbols
 mod ImageTraffic
+mod ImageRegisters
 mod Joined
 mod Naming
 mod Covering

@@ -31,6 +31,7 @@ use Rattle.pw_law_layers.specs.Whole.{Implements, Holds, image_of}
 use Rattle.pw_law_analysis.specs.SummaryGraphs.{named_graph}
 use Rattle.pw_law_analysis.specs.PlacedGlobals.{AreColoured}
 use Rattle.pw_law_analysis.specs.ImageTraffic.{Traffic}
+use Rattle.pw_law_analysis.specs.ImageRegisters.{CallsKeepRegisters}
 
 -- ---- the laws
 
@@ -93,10 +94,12 @@ pub record IsAnalysed (p : Program) (q : flows.Program) (ss : List Summary) (col
   pub made : AreObjectsOf q functions objects
   pub fits : size_fault objects q.stack ≡ None
 
--- What holds of a built program; and the law of traffic of its image, where the source is defined.
+-- What holds of a built program; and where the source is defined, the law of traffic of its image, and that calls keep registers
+-- there.
 pub record HoldsOver (p : Program) (q : flows.Program) (ss : List Summary) (colours : ℕ) (db : List (List ℕ × Directives)) (functions : List Located) (objects : List Object) (input : List ℕ) : Type 0 where
   pub holds : Holds p q db functions objects input
   pub traffic : IsDefined (source_runs p (frame_in (image_of objects q.stack)) q.stack input) → Traffic ss colours (image_of objects q.stack) input
+  pub registers : IsDefined (source_runs p (frame_in (image_of objects q.stack)) q.stack input) → CallsKeepRegisters db (image_of objects q.stack) input
 
 abbrev pub AllLawsCompose : Type 0
 AllLawsCompose =

@@ -1,13 +1,14 @@
 //! Laws of completeness, without code: each build has an answer, and modules that can be built have a program.
 #![tactic(auto)]
 
-ghost use Rattle.std.specs.Prelude.{◌≡◌, ◌≤◌, ℕ, List, [], Option, Result, Ok};
+ghost use Rattle.std.specs.Prelude.{◌≡◌, ◌≤◌, ℕ, List, [], map, Option, Result, Ok};
 ghost use Rattle.std.specs.List.{AllByRecursion};
 ghost use Rattle.pw_flow.specs.ValidFlow.{IsValid};
 ghost use Rattle.pw_flow.specs.declared.flow.FlowModule.{FlowModule};
 ghost use Rattle.pw_summary.specs.Summary.{IsSummary};
 ghost use Rattle.pw_summary.specs.declared.summary.Summary.{Summary};
 ghost use Rattle.pw_graph.specs.Program.{AreLinked};
+ghost use Rattle.pw_link_rules.specs.Linking.{Links};
 ghost use Rattle.pw_object.specs.declared.object.Object.{Object};
 ghost use Rattle.pw_db.specs.Limits.{colour_limit};
 ghost use Rattle.pw_store_modules.specs.Modules.{Source};
@@ -17,6 +18,7 @@ ghost use Rattle.pw_build_files.specs.FromBuild.Builds.{Builds, first_phases};
 ghost use Rattle.pw_build_opts.specs.declared.opts.Opts.{Opts};
 ghost use Rattle.pw_law_answers.specs.Held.{HasFile};
 ghost use Rattle.pw_law_build.specs.Complete.{CanBeBuilt};
+ghost use Rattle.pw_law_shown.specs.Alike.{shown};
 
 use pw_build_files::build_laws::modules_have_one_build;
 use pw_build_objects::laws::objects_are_refused_for_room_alone;
@@ -59,15 +61,16 @@ pub fn parts_of_accepted_modules_are_their_build()
     objects_are_refused_for_room_alone();
 }
 
-/// The full build of modules has exactly one answer, whatever they are, where files can hold their flow graphs: the program's parts, or
-/// why there are none.
+/// The full build of modules has exactly one answer, whatever they are: the program's parts, or why there are none. Where they keep the
+/// rules of linking, files have to hold their flow graphs.
 pub fn builds_have_an_answer()
     ensures { (sources : List Source) (opts : Opts) → opts.colours ≤ colour_limit →
-        ((flows : List FlowModule) → first_phases sources ≡ Ok flows → AllByRecursion HasFile flows) →
+        ((flows : List FlowModule) → first_phases sources ≡ Ok flows → Links (map shown flows) → AllByRecursion HasFile flows) →
         (answer : Result Parts BuildFault) × Builds sources [] opts answer × ((other : Result Parts BuildFault) → Builds sources [] opts other → other ≡ answer) }
 {
     first_phases_are_lawful();
     first_phases_declare_main();
+    flow_graphs_and_summaries_are_refused_alike();
     modules_have_one_build();
     modules_have_summaries();
     modules_link_or_are_refused();

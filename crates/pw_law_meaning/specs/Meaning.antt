@@ -19,7 +19,9 @@ use Rattle.pw_law_stops.specs.Stops.{Tells}
 use Rattle.pw_law_source.specs.Source.{source_runs}
 use Rattle.pw_law_whole.specs.FromLayers.Whole.{FramesFit}
 use Rattle.pw_law_whole.specs.FromAnalysis.ImageTraffic.{Traffic}
-use Rattle.pw_law_whole.specs.Programs.{IsProgramOf, Summarise}
+use Rattle.pw_law_whole.specs.FromAnalysis.ImageRegisters.{CallsKeepRegisters}
+use Rattle.pw_law_whole.specs.FromAnalysis.ImagePlaces.{GlobalsHavePlaces}
+use Rattle.pw_law_whole.specs.Programs.{DirectivesList, IsDatabaseOf, IsProgramOf, Summarise}
 
 -- the runs of the program on an input, by their bound, each call taking the stack that its function takes in the image
 abbrev pub runs_of : Program → Image → ℕ → List ℕ → ℕ → SourceRun
@@ -45,6 +47,14 @@ pub record Means (texts : Texts) (opts : Opts) (bytes : List ℕ) : Type 0 where
   pub summaries : List Summary
   pub summarise : Summarise program summaries
   pub traffic : (input : List ℕ) → AreBytes input → IsDefined (runs_of program contents.value opts.stack input) → Traffic summaries opts.colours contents.value input
+  -- the webs that have a register, by function: over each call the registers that a callee keeps stay as they were, but those of
+  -- webs in which the function is a member
+  pub database : DirectivesList
+  pub directives : IsDatabaseOf summaries opts.colours database
+  pub registers : (input : List ℕ) → AreBytes input → IsDefined (runs_of program contents.value opts.stack input) → CallsKeepRegisters database contents.value input
+  -- at each call and return of the program each global has its value in its place: in memory, in the register of a web, or where
+  -- that was saved
+  pub places : (input : List ℕ) → AreBytes input → GlobalsHavePlaces program database contents.value opts.stack input
 
 -- of what a full build comes to: an image means what the texts mean; of a fault nothing is said
 abbrev pub MeansSo : Texts → Opts → Result (List ℕ) BuildFault → Type 0

@@ -11,6 +11,8 @@ use Rattle.pw_summary.specs.declared.summary.Summary.{Summary}
 use Rattle.pw_flow.specs.declared.flow.FlowModule.{FlowModule}
 use Rattle.pw_lower.specs.Modules.{lowered}
 use Rattle.pw_build_objects.specs.Programs.{AreSummariesOf, Parts}
+pub use Rattle.pw_build_objects.specs.Programs.{DirectivesList}
+pub use Rattle.pw_colour.specs.Colours.{IsDatabaseOf}
 use Rattle.pw_run_languages.specs.Programs as flows
 use Rattle.pw_run_languages.specs.Programs.{AreBytes}
 use Rattle.pw_run_languages.specs.LinkingLaws.{frame_in}
@@ -70,8 +72,10 @@ pub record IsWholeWith (p : Program) (parts : Parts) (colours stack : ℕ) : Typ
   pub summarise : Summarise p summaries
   pub analysed : LoweringKeepsRuns → IsAnalysed p (flows_in p parts stack) summaries colours parts.database (functions_under p parts stack) parts.objects
 
--- What holds of a built program and of its image's traffic, on every input, over the summaries of its flow graphs.
+-- What holds of a built program and of its image's traffic and registers, on every input, over the summaries of its flow graphs
+-- and the database that they have.
 pub record HoldsWith (p : Program) (parts : Parts) (colours stack : ℕ) : Type 0 where
   pub summaries : List Summary
   pub summarise : Summarise p summaries
+  pub database : IsDatabaseOf summaries colours parts.database
   pub holds : (input : List ℕ) → AreBytes input → HoldsOver p (flows_in p parts stack) summaries colours parts.database (functions_under p parts stack) parts.objects input

@@ -70,7 +70,8 @@ pub fn frames_of_full_builds_fit()
 
 /// Of each full build that gives parts, and on every input: the program of
 /// its texts agrees with the machine that runs its image; each global has its value in its place at each call and return; and where
-/// the program is defined, each return keeps the registers, and the law of traffic holds.
+/// the program is defined, each call keeps the registers, and the law of traffic holds; all by the database that the analyser makes
+/// of the summaries of its flow graphs.
 pub fn full_builds_hold()
     ensures { (texts : Texts) (opts : Opts) (parts : Parts) (p : Program) → FullBuild texts opts (Ok parts) → IsProgramOf texts p →
         HavePlainNames texts → opts.colours ≤ colour_limit → stack_least ≤ opts.stack → opts.stack ≤ stack_limit → HoldsWith p parts opts.colours opts.stack }

@@ -1,5 +1,5 @@
 -- What stays of items where words move into slots.
-use Rattle.std.proofs.Common.{◌≡◌, ◌≤◌, ℕ, suc, ◌+◌, Bool, true, false, if◌then◌else◌, None, Some, List, [], ◌∷◌, ◌++◌, inl, inr, refl, ap, ◌∙◌, append_assoc, arith}
+use Rattle.std.proofs.Common.{◌≡◌, ◌≤◌, suc, ◌+◌, Bool, true, false, if◌then◌else◌, None, Some, List, [], ◌∷◌, ◌++◌, inl, inr, refl, ap, ◌∙◌, append_assoc, arith}
 use Rattle.std.specs.Prelude.{negsuc, not, ◌&&◌, Contains}
 use Rattle.std.specs.List.{flat_map, AllByRecursion}
 use Rattle.std.proofs.lemmas.Int.{ints}
@@ -15,7 +15,7 @@ use Rattle.pw_delay.specs.declared.items.Item.TheVariants.{Plain, Turns, Mark}
 use Rattle.pw_delay.specs.Lawful.{IsTurn, IsItem, AreItems}
 use Rattle.pw_delay.specs.Placement.{turn_size, size, sizes}
 use Rattle.pw_slots.specs.Filling.{moves, drawn_near, compared, with_slot, filled}
-use Rattle.pw_slots.specs.Parts.{words_of, blocks_of, turns_of, led_anywhere, compared_by, IsFilledFrom}
+use Rattle.pw_slots.specs.Parts.{words_of, blocks_of, turns_of, led_anywhere, compared_by, takes_first, IsFilledFrom}
 
 -- ---- parts of items, in order
 
@@ -159,21 +159,39 @@ lawful_moves w turn plain turns free = (turn_lawful turn turns.0, plain)
 pub lawful_stays : (behind : Bool) (items : List Item) → AreItems items → AreItems (filled behind items)
 lawful_stays behind items h = properties_stay IsItem behind items lawful_moves h
 
--- ---- blocks
+-- ---- parts
 
-before_mark : (behind : Bool) (item : Item) (xs : List Item) (b : ℕ) (ys : List Item)
-    → with_slot behind item (xs ++ Mark b ∷ ys) ≡ with_slot behind item xs ++ Mark b ∷ ys
-before_mark behind (Plain w) (Turns turn None ∷ xs) b ys = by (not behind && moves w.inst turn)
+-- what begins with a turn whose slot is empty began with it before
+with_slot_takes : (behind : Bool) (item : Item) (rest : List Item) → takes_first (item ∷ []) ≡ false → takes_first (with_slot behind item rest) ≡ false
+with_slot_takes behind (Plain w) (Turns turn None ∷ rest) none = by (not behind && moves w.inst turn)
   where
-    by : (t : Bool) → (if t then Turns (drawn_near turn) (Some w) ∷ (xs ++ Mark b ∷ ys) else Plain w ∷ Turns turn None ∷ (xs ++ Mark b ∷ ys))
-        ≡ (if t then Turns (drawn_near turn) (Some w) ∷ xs else Plain w ∷ Turns turn None ∷ xs) ++ Mark b ∷ ys
+    by : (t : Bool) → takes_first (if t then Turns (drawn_near turn) (Some w) ∷ rest else Plain w ∷ Turns turn None ∷ rest) ≡ false
     by true = refl
     by false = refl
-before_mark behind item xs b ys = refl
+with_slot_takes behind (Plain w) rest none = refl
+with_slot_takes behind (Turns turn (Some w)) rest none = refl
+with_slot_takes behind (Turns turn None) rest none = none
+with_slot_takes behind (Mark b) rest none = refl
 
-pub marks_part : (behind : Bool) (xs ys : List Item) (b : ℕ)
-    → filled behind (xs ++ Mark b ∷ ys) ≡ filled behind xs ++ Mark b ∷ filled (compared_by behind xs) ys
-marks_part behind [] ys b = refl
-marks_part behind (item ∷ xs) ys b =
-    ap (λ l. with_slot behind item l) (marks_part (compared behind item) xs ys b)
-    ∙ before_mark behind item (filled (compared behind item) xs) b (filled (compared_by (compared behind item) xs) ys)
+filled_takes : (behind : Bool) (ys : List Item) → takes_first ys ≡ false → takes_first (filled behind ys) ≡ false
+filled_takes behind [] none = refl
+filled_takes behind (Turns turn None ∷ rest) none = none
+filled_takes behind (Turns turn (Some w) ∷ rest) none = refl
+filled_takes behind (Plain w ∷ rest) none = with_slot_takes behind (Plain w) (filled (compared behind (Plain w)) rest) refl
+filled_takes behind (Mark b ∷ rest) none = refl
+
+before_others : (behind : Bool) (item : Item) (xs ys : List Item) → takes_first ys ≡ false → with_slot behind item (xs ++ ys) ≡ with_slot behind item xs ++ ys
+before_others behind (Plain w) (Turns turn None ∷ xs) ys none = by (not behind && moves w.inst turn)
+  where
+    by : (t : Bool) → (if t then Turns (drawn_near turn) (Some w) ∷ (xs ++ ys) else Plain w ∷ Turns turn None ∷ (xs ++ ys))
+        ≡ (if t then Turns (drawn_near turn) (Some w) ∷ xs else Plain w ∷ Turns turn None ∷ xs) ++ ys
+    by true = refl
+    by false = refl
+before_others behind (Plain w) [] (Turns turn None ∷ ys) none = absurd cc
+before_others behind item xs ys none = refl
+
+pub parts_alone : (behind : Bool) (xs ys : List Item) → takes_first ys ≡ false → filled behind (xs ++ ys) ≡ filled behind xs ++ filled (compared_by behind xs) ys
+parts_alone behind [] ys none = refl
+parts_alone behind (item ∷ xs) ys none =
+    ap (λ l. with_slot behind item l) (parts_alone (compared behind item) xs ys none)
+    ∙ before_others behind item (filled (compared behind item) xs) (filled (compared_by (compared behind item) xs) ys) (filled_takes (compared_by (compared behind item) xs) ys none)

@@ -1,2 +1,3 @@
 pub mod Filling
 pub mod Parts
+pub mod Steps

@@ -1,5 +1,5 @@
 -- What items are made of: their words, their blocks and their turns of control, in order.
-use Rattle.std.specs.Prelude.{ℕ, pos, ◌≡◌, ◌⊎◌, Bool, true, None, Some, List, [], ◌∷◌, Contains}
+use Rattle.std.specs.Prelude.{ℕ, pos, ◌≡◌, ◌⊎◌, Bool, true, false, None, Some, List, [], ◌∷◌, Contains}
 use Rattle.pw_inst.specs.declared.Inst.TheVariants.{Combf}
 use Rattle.pw_delay.specs.declared.items.Word.{Word}
 use Rattle.pw_delay.specs.declared.items.Turn.{Turn}
@@ -47,3 +47,8 @@ pub record HasTaken (items : List Item) (item : Item) : Type 0 where
 -- an item as it was, or such a turn
 abbrev pub IsFilledFrom : List Item → Item → Type 0
 IsFilledFrom items item = Contains items item ⊎ HasTaken items item
+
+-- items that begin with a turn whose slot is empty, so that a word before them may move there
+abbrev pub takes_first : List Item → Bool
+takes_first (Turns turn None ∷ rest) = true
+takes_first items = false

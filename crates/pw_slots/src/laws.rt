@@ -1,13 +1,13 @@
 //! What stays of items where words move into the slots of the branches behind them.
 
-ghost use Rattle.std.specs.Prelude.{ℕ, Bool, List, ◌≡◌, ◌≤◌, ◌∷◌, ◌++◌};
+ghost use Rattle.std.specs.Prelude.{ℕ, Bool, false, List, ◌≡◌, ◌≤◌, ◌∷◌, ◌++◌};
 ghost use Rattle.std.specs.List.{flat_map, AllByRecursion};
 ghost use Rattle.pw_delay.specs.declared.items.Item.{Item};
 ghost use Rattle.pw_delay.specs.declared.items.Item.TheVariants.{Mark};
 ghost use Rattle.pw_delay.specs.Placement.{sizes};
 ghost use Rattle.pw_delay.specs.Lawful.{AreItems};
 ghost use Rattle.pw_slots.specs.Filling.{filled};
-ghost use Rattle.pw_slots.specs.Parts.{words_of, blocks_of, turns_of, compared_by, IsFilledFrom};
+ghost use Rattle.pw_slots.specs.Parts.{words_of, blocks_of, turns_of, compared_by, takes_first, IsFilledFrom};
 
 /// Each word stays once, in the order of the others; so do the places where blocks begin and the turns of control, but for
 /// how far a branch goes back. Words do not become more, and what could be placed still can.
@@ -24,8 +24,11 @@ pub fn slots_are_filled_from_items()
     ensures { (behind : Bool) (items : List Item) → AllByRecursion (IsFilledFrom items) (filled behind items) }
 {}
 
-/// No word moves over the beginning of a block: what stands behind it is filled by itself.
-pub fn blocks_are_filled_alone()
-    ensures { (behind : Bool) (before after : List Item) (b : ℕ) →
+/// Where what is behind does not begin with a turn whose slot is empty, it is filled by itself: so no word moves over the
+/// beginning of a block, and none but the word directly before a turn moves.
+pub fn parts_are_filled_alone()
+    ensures parts { (behind : Bool) (before after : List Item) → takes_first after ≡ false →
+        filled behind (before ++ after) ≡ filled behind before ++ filled (compared_by behind before) after }
+    ensures blocks { (behind : Bool) (before after : List Item) (b : ℕ) →
         filled behind (before ++ Mark b ∷ after) ≡ filled behind before ++ Mark b ∷ filled (compared_by behind before) after }
 {}

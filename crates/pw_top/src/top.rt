@@ -168,6 +168,10 @@ fn obey_words<S: Store, I: Source, O: Sink>(
 /// comes. Want of memory may come in place of an answer, and so may a fault of the store, the input or the output:
 /// only where that object's count of faults rose, and every other answer leaves the counts as they were. Whatever the
 /// answer, each file but those that the command puts is as before.
+///
+/// Where what is kept of earlier builds was made by this compiler, each image that is built is the full build's, and the machine
+/// does with it what the modules mean in C (`builds_whole`): in output, end and count of bytes read. Of globals that have
+/// registers the clause says where they stand, which registers calls keep, and when the memory is loaded and stored.
 pub fn pawc_top<S: Store, I: Source, O: Sink, E: Sink>(
     alloc: Global,
     words: &[String],

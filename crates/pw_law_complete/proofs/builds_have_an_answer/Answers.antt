@@ -9,6 +9,7 @@ returns c = λ sources opts few files.
       lawful = c.first_phases_are_lawful.ensures;
       declares = c.first_phases_declare_main.ensures;
       summaries = summaries_exist c.modules_have_summaries.ensures.one;
+      alike = λ flows ss valid of linked. (c.flow_graphs_and_summaries_are_refused_alike.ensures.linked flows ss valid of).1 linked;
       link = c.modules_link_or_are_refused.ensures;
       links = c.objects_are_refused_for_room_alone.ensures.links;
       parts = c.programs_have_parts.ensures;

@@ -30,5 +30,9 @@ returns c = λ files opts full are.
       summaries = holds.summaries;
       summarise = holds.summarise;
       traffic = λ input bytes defined. (holds.holds input bytes).traffic defined;
+      database = parts.database;
+      directives = holds.database;
+      registers = λ input bytes defined. (holds.holds input bytes).registers defined;
+      places = λ input bytes. (holds.holds input bytes).holds.places;
     })
     full

@@ -1,0 +1,4 @@
+pub mod Blocks
+pub mod Flowing
+pub mod Exposing
+pub mod LiveFronts
