@@ -121,8 +121,9 @@ fn answer_alone<'a>(
     match &e.form {
         TForm::Number(_) | TForm::Str(_) | TForm::Local(_) => leaf_value(alloc, env, state, e),
         TForm::Global(_) | TForm::Function(_) => leaf_value(alloc, env, state, e),
-        TForm::Decay(a) | TForm::Address(a) => Ok(Next::Ask(Asked::Place(a))),
         TForm::Call(symbol, args) => Ok(Next::Arguments(args, e.token, Callee::Named(symbol))),
+        TForm::Decay(a) => Ok(Next::Ask(Asked::Place(a))),
+        TForm::Address(a) => Ok(Next::Ask(Asked::Place(a))),
         _ => unreachable!(),
     }
 }
