@@ -16,8 +16,8 @@ returns-in-Decay c bound =
     let e = view_env c.args.env.now in
     let n = c.args.e.now in
     left_so _ refl (named (
-        ap (λ f. answered (tree.Node n.token (view_qtype n.ty) f) e bound) (ap view_form c.in-Decay.is)
-        ∙ ap (λ x. placed (view_expr x) e bound) (sym c.deref-in-Decay.ensures)))
+    ap (λ f. answered (tree.Node n.token (view_qtype n.ty) f) e bound) (ap view_form c.in-Decay.is)
+    ∙ ap (λ x. placed (view_expr x) e bound) (sym c.deref-in-Decay.ensures)))
 
 pub returns-in-Address : goal.returns-in-Address
 unfolding answer_of view_form
@@ -25,8 +25,8 @@ returns-in-Address c bound =
     let e = view_env c.args.env.now in
     let n = c.args.e.now in
     left_so _ refl (named (
-        ap (λ f. answered (tree.Node n.token (view_qtype n.ty) f) e bound) (ap view_form c.in-Address.is)
-        ∙ ap (λ x. placed (view_expr x) e bound) (sym c.deref-in-Address.ensures)))
+    ap (λ f. answered (tree.Node n.token (view_qtype n.ty) f) e bound) (ap view_form c.in-Address.is)
+    ∙ ap (λ x. placed (view_expr x) e bound) (sym c.deref-in-Address.ensures)))
 
 pub returns-in-Call : goal.returns-in-Call
 unfolding answer_of call_behind
