@@ -15,7 +15,7 @@ turns=$(size 100 2)
 for folder in once twice many "${compilers[@]}"; do mkdir "$work/$folder"; done
 for folder in once "${compilers[@]}"; do python3 "$top/bench/made.py" "$work/$folder" "$count" "$turns"; done
 python3 "$top/bench/made.py" "$work/twice" $((2 * count)) "$turns"
-python3 "$top/bench/made.py" "$work/many" "$(size 255 6)" "$turns" 9
+python3 "$top/bench/made.py" "$work/many" "$(size 255 6)" "$turns" 9 3
 
 again() { cd "$1"; "$pawc" build; }
 anew() { rm -f "$1"/*.obj "$1"/prog.db "$1"/prog.img; again "$1"; }

@@ -1,13 +1,15 @@
 #!/usr/bin/env python3
 """Writes the program that the generator makes from the number 1, by the rules of docs/COMMANDS.md, written a second time.
 
-Usage: made.py FOLDER COUNT TURNS [MORE]: COUNT modules beside `main`, whose loop has TURNS turns; the command `bench 1` has
-64 and 100. Each module has MORE further globals, which nothing uses and all other modules declare; the generator knows none.
+Usage: made.py FOLDER COUNT TURNS [MORE [EACH]]: COUNT modules beside `main`, whose loop has TURNS turns; the command
+`bench 1` has 64 and 100. Each module has MORE further globals, which nothing uses and all other modules declare, and EACH
+functions; the generator knows no further globals, and eight functions.
 """
 import sys
 from pathlib import Path
 
 STATE = 1
+EACH = int(sys.argv[5]) if len(sys.argv) > 5 else 8
 
 
 def draw(bound):
@@ -21,7 +23,7 @@ def declared(k, j):
 
 
 def given(k, j, count):
-    if j + 1 < 8:
+    if j + 1 < EACH:
         return f"f{k}_{j + 1}(x+g{k})"
     return f"f{k + 1}_0(x+g{k})" if k + 1 < count else "x"
 
@@ -32,9 +34,9 @@ def module(k, count, more):
         text += "".join(f"{'' if o == k else 'extern '}unsigned h{o}_{i};\n" for i in range(more))
     if k + 1 < count:
         text += declared(k + 1, 0)
-    for j in range(8):
+    for j in range(EACH):
         factor, mask, other = draw(1000), draw(1000), draw(count)
-        if j + 1 < 8:
+        if j + 1 < EACH:
             text += declared(k, j + 1)
         text += f"unsigned f{k}_{j}(unsigned x){{g{k}=g{k}*{factor}u+x; g{other}=g{other}^{mask}u; return {given(k, j, count)};}}\n"
     return text

@@ -86,9 +86,10 @@ frame_fits f saved temps h few below =
     let e = reach_of_rooms (slots_begin (head_size f) saved temps) (4 * f.temps) f.slots in
     record { words = omega arith; reach = omega arith }
 
-pub frame_reach : (f : WebFn) (begin head saved : ℕ) (slots : List ℕ) → IsWebFn f → begin ≡ slots_begin head saved f.temps → head ≡ head_size f → saved ≤ register_count → slots ≡ f.slots → last_reach begin slots < 2 ^ 31
-frame_reach f begin head saved slots h b e few s =
-    let fits = frame_fits f saved f.temps h few (omega arith) in
-    let start : begin ≡ slots_begin (head_size f) saved f.temps = b ∙ ap (λ n. slots_begin n saved f.temps) e in
-    let same : last_reach begin slots ≡ last_reach (slots_begin (head_size f) saved f.temps) f.slots = λ i. last_reach (start i) (s i) in
+pub frame_reach : (f : WebFn) (begin head saved temps : ℕ) (slots : List ℕ) → IsWebFn f → begin ≡ slots_begin head saved temps → head ≡ head_size f → saved ≤ register_count → temps ≤ f.temps → slots ≡ f.slots
+    → last_reach begin slots < 2 ^ 31
+frame_reach f begin head saved temps slots h b e few below s =
+    let fits = frame_fits f saved temps h few below in
+    let start : begin ≡ slots_begin (head_size f) saved temps = b ∙ ap (λ n. slots_begin n saved temps) e in
+    let same : last_reach begin slots ≡ last_reach (slots_begin (head_size f) saved temps) f.slots = λ i. last_reach (start i) (s i) in
     omega arith

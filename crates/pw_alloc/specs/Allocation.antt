@@ -1,5 +1,5 @@
--- Allocation in its first form: each temporary has a place of its own in the frame.
-use Rattle.std.specs.Prelude.{ℕ, zero, suc, ◌+◌, ◌==◌, ◌&&◌, Bool, true, false, if◌then◌else◌, List, [], ◌∷◌, length}
+-- The registers that a function saves of its webs, and words of the frame for temporaries.
+use Rattle.std.specs.Prelude.{ℕ, zero, suc, ◌+◌, ◌==◌, ◌&&◌, Bool, true, false, if◌then◌else◌, List, [], ◌∷◌}
 use Rattle.pw_db.specs.Limits.{first_register, register_count}
 use Rattle.pw_db.specs.declared.database.Web.{Web}
 use Rattle.pw_db.specs.declared.database.Role.{Role}
@@ -7,8 +7,7 @@ use Rattle.pw_db.specs.declared.database.Role.TheVariants.{Entry, Member}
 use Rattle.pw_webflow.specs.declared.web.WebFn.{WebFn}
 use Rattle.pw_alloc.specs.declared.located.Place.{Place}
 use Rattle.pw_alloc.specs.declared.located.Place.TheVariants.{Slot, Reg}
-use Rattle.pw_alloc.specs.declared.located.Located.{Located}
-use Rattle.pw_alloc.specs.Frames.{head_size, temp_offset, slots_begin, last_reach}
+use Rattle.pw_alloc.specs.Frames.{temp_offset}
 
 abbrev pub is_entry : Role → Bool
 is_entry Entry = true
@@ -33,14 +32,6 @@ saved_of f = entered_from f.directives.webs first_register register_count
 abbrev pub slots_from : ℕ → ℕ → ℕ → ℕ → List Place
 slots_from head saved i zero = []
 slots_from head saved i (suc more) = Slot (temp_offset head saved i) ∷ slots_from head saved (suc i) more
-
-unfoldable pub allocated : WebFn → Located
-allocated f = record {
-  body = f;
-  places = slots_from (head_size f) (length (saved_of f)) 0 f.temps;
-  saved = saved_of f;
-  frame = last_reach (slots_begin (head_size f) (length (saved_of f)) f.temps) f.slots;
-}
 
 -- the temporaries that stand in the frame
 abbrev pub in_frame : List Place → ℕ

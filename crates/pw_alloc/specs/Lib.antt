@@ -1,4 +1,3 @@
 pub mod Frames
 pub mod Allocation
 pub mod ValidPlaces
-pub mod Room

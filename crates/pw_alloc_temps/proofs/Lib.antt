@@ -1,1 +1,5 @@
 mod Registers
+pub mod Lists
+pub mod Places
+mod Entered
+pub mod Lawful

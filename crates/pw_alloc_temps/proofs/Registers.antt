@@ -12,10 +12,10 @@ use Rattle.pw_alloc_temps.specs.Registers.{allowed, is_taken, with_register, giv
 
 -- ---- tests
 
-same_test : (x y : Bool) → (x ≡ true → y ≡ true) → (y ≡ true → x ≡ true) → x ≡ y
-same_test true y there back = sym (there refl)
-same_test false true there back = back refl
-same_test false false there back = refl
+both_ways : (x y : Bool) → (x ≡ true → y ≡ true) → (y ≡ true → x ≡ true) → x ≡ y
+both_ways true y there back = sym (there refl)
+both_ways false true there back = back refl
+both_ways false false there back = refl
 
 either_way : (x y : Bool) → (x || y) ≡ (y || x)
 either_way true true = refl
@@ -45,7 +45,7 @@ found p (y ∷ ys) x e = elim (found_step (p y) y x (find p ys) e) [
 -- ---- interference goes both ways
 
 same_numbers : (a b : ℕ) → (a == b) ≡ (b == a)
-same_numbers a b = same_test (a == b) (b == a) (λ e. eq-eqb b a (sym (eqb-true a b e))) (λ e. eq-eqb a b (sym (eqb-true b a e)))
+same_numbers a b = both_ways (a == b) (b == a) (λ e. eq-eqb b a (sym (eqb-true a b e))) (λ e. eq-eqb a b (sym (eqb-true b a e)))
 
 interfere_back : (f : Outline) (a b : ℕ) → interfere f a b ≡ interfere f b a
 interfere_back f a b =

@@ -1,4 +1,4 @@
--- Allocation in its second form: temporaries have registers, and those that get none a word of the frame.
+-- Allocation: temporaries have registers, and those that get none a word of the frame.
 use Rattle.std.specs.Prelude.{ℕ, suc, ◌||◌, Option, None, Some, List, [], ◌∷◌, length, map}
 use Rattle.std.specs.List.{filter, list_any}
 use Rattle.pw_db.specs.Limits.{kept_registers}

@@ -1,4 +1,4 @@
-//! Allocation in its second form, in definitions: temporaries have registers by weight, and those that get none a word of
+//! Allocation, in definitions: temporaries have registers by weight, and those that get none a word of
 //! the frame.
 #![tactic(auto)]
 

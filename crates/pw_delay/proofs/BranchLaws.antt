@@ -16,7 +16,9 @@ use Rattle.pw_delay.specs.declared.items.Item.TheVariants.{Plain, Turns, Mark}
 use Rattle.pw_delay.specs.Items.{begins_next, plain_item, item_of, before, slotted}
 use Rattle.pw_delay.specs.Placement.{size, sizes, displacement, in_slot, turn_words, item_words, words_from, mark_at, code_of, laid, short_limit, placed_items, placed}
 use Rattle.pw_delay.specs.Branches.{IsSent, IsWordSent, HasNoCall, AreSent, Reaches}
+use Rattle.pw_delay.specs.Filling.{drawn_near, filled}
 use Rattle.pw_delay.proofs.Sizes.{item_length}
+use Rattle.pw_delay.proofs.Keeping.{PropertiesMove, properties_stay}
 
 -- ---- sent
 
@@ -89,15 +91,24 @@ slotted_sent (line.CallTo s r ∷ rest) h = ((tt, tt), slotted_sent rest h.1)
 slotted_sent (line.CallReg ∷ rest) h = ((tt, tt), slotted_sent rest h.1)
 slotted_sent (line.Leave ∷ rest) h = ((tt, tt), slotted_sent rest h.1)
 
+near_sent : (turn : Turn) → TurnSent turn → TurnSent (drawn_near turn)
+unfolding TurnSent
+near_sent (Back (i.Combf c r1 r2 disp)) h = tt
+near_sent turn h = h
+
+sent_moves : PropertiesMove ItemSent
+unfolding ItemSent TurnSent SlotSent
+sent_moves w turn plain turns free = (near_sent turn turns.0, plain)
+
 pub calls_sent : (lines : List Line) → AllByRecursion HasNoCall lines → AreSent lines
 unfolding placed laid
 calls_sent lines h =
-    let items = slotted lines in
-    let long = nat_lt short_limit (sizes false items) in
+    let items = filled false (slotted lines) in
+    let long = nat_lt short_limit (sizes false (slotted lines)) in
     record {
       words = words_from long (mark_at long 0 items) 0 items;
       code = refl;
-      sent = words_sent long (mark_at long 0 items) 0 items (slotted_sent lines h);
+      sent = words_sent long (mark_at long 0 items) 0 items (properties_stay ItemSent false (slotted lines) sent_moves (slotted_sent lines h));
     }
 
 -- ---- resolved

@@ -1,4 +1,7 @@
 pub mod Items
+pub mod Filling
+pub mod Parts
+pub mod Steps
 pub mod Placement
 pub mod Marks
 pub mod Lines

@@ -16,8 +16,9 @@ use Rattle.pw_delay.specs.declared.items.Turn.TheVariants.{Back, Goto, If, CallT
 use Rattle.pw_delay.specs.declared.items.Item.{Item}
 use Rattle.pw_delay.specs.declared.items.Item.TheVariants.{Plain, Turns, Mark}
 use Rattle.pw_delay.specs.Items.{bare, slotted}
+use Rattle.pw_delay.specs.Filling.{filled}
 
--- an empty slot has the instruction that does nothing
+-- a slot that is empty still has the instruction that does nothing
 abbrev pub in_slot : Option Word → Word
 in_slot None = bare nop
 in_slot (Some w) = w
@@ -122,9 +123,9 @@ short_limit = 2040
 abbrev pub function_word_limit : ℕ
 function_word_limit = 2 ^ 32 - 4
 
--- Conditional branches are long where the words with short ones are too many.
+-- Conditional branches are long where the words with short ones are too many, counted before words move into slots.
 abbrev pub placed_items : List Item → Code
-placed_items items = laid (nat_lt short_limit (sizes false items)) items
+placed_items items = laid (nat_lt short_limit (sizes false items)) (filled false items)
 
 unfoldable pub placed : List Line → Code
 placed lines = placed_items (slotted lines)

@@ -2,11 +2,13 @@
 #![tactic(auto)]
 
 mod code;
+mod filling;
 mod items;
 pub mod laws;
 mod laying;
 mod marking;
 mod placing;
+mod registers;
 mod slotting;
 
 pub use code::Code;

@@ -1,16 +1,18 @@
 //! Placement.
 
-ghost use Rattle.std.specs.Prelude.{true, ◌≡◌, ◌≤◌, IfOk, OkIff};
+ghost use Rattle.std.specs.Prelude.{true, false, ◌≡◌, ◌≤◌, IfOk, OkIff};
 ghost use Rattle.pw_delay.specs.Lines.{AreLines};
-ghost use Rattle.pw_delay.specs.Placement.{laid, placed_items, placed, short_limit, function_word_limit};
+ghost use Rattle.pw_delay.specs.Placement.{sizes, laid, placed_items, placed, short_limit, function_word_limit};
 ghost use Rattle.pw_delay.specs.Lawful.{AreItems};
 
 use crate::code::Code;
+use crate::filling::fill;
 use crate::items::Item;
 use crate::laying::lay;
 use crate::marking::count_words;
 use crate::slotting::slot;
 use pw_inst::Line;
+use pw_items::Items;
 use std::alloc::{AllocError, Global};
 
 /// How many words short conditional branches can reach over.
@@ -44,17 +46,29 @@ fn lay_long(alloc: Global, items: &[Item]) -> Result<Code, AllocError>
     lay(alloc, true, items, count)
 }
 
-/// The words and relocations of items. Conditional branches are long where the words with short ones are
-/// too many.
-fn place_items(alloc: Global, items: &[Item]) -> Result<Code, AllocError>
-    requires { AreItems items.now }
-    ensures { IfOk result (λ code. code ≡ placed_items items.now) }
+/// The words and relocations of items with short conditional branches, which reach over so few words.
+fn lay_short(alloc: Global, items: &[Item]) -> Result<Code, AllocError>
+    requires lawful { AreItems items.now }
+    requires near { sizes false items.now ≤ short_limit }
+    ensures { IfOk result (λ code. code ≡ laid false items.now) }
 {
     let count = count_words(false, items);
-    if count > SHORT_LIMIT {
-        lay_long(alloc, items)
+    lay(alloc, false, items, count as u32)
+}
+
+/// The words and relocations of items, once words have moved into the slots of the branches behind them. Conditional branches
+/// are long where the words with short ones, counted before, are too many.
+#[tactic(auto, using(crate::proofs::Keeping::sizes_shrink, crate::proofs::Keeping::lawful_stays))]
+fn place_items(alloc: Global, items: Items<Item>) -> Result<Code, AllocError>
+    requires { AreItems items }
+    ensures { IfOk result (λ code. code ≡ placed_items items) }
+{
+    let long = count_words(false, items.as_slice()) > SHORT_LIMIT;
+    let filled = fill(alloc, items)?;
+    if long {
+        lay_long(alloc, filled.as_slice())
     } else {
-        lay(alloc, false, items, count as u32)
+        lay_short(alloc, filled.as_slice())
     }
 }
 
@@ -65,6 +79,6 @@ pub fn place(alloc: Global, lines: &[Line]) -> Result<Code, AllocError>
     ensures { IfOk result (λ code. code ≡ placed lines.now) }
 {
     let items = slot(alloc, lines)?;
-    let code = place_items(alloc, items.as_slice())?;
+    let code = place_items(alloc, items)?;
     Ok(code)
 }

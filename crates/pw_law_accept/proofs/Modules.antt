@@ -1,6 +1,6 @@
 -- What the flow graphs of modules have by name, and what follows where their objects link: the declarations of a name agree, and
 -- each name is defined once.
-use Rattle.std.proofs.Common.{◌≡◌, ◌⊎◌, ℕ, ◌≤◌, Bool, true, false, if◌then◌else◌, List, [], ◌∷◌, ◌++◌, map, refl, sym, ap, subst, ◌∙◌, arith, inl, inr}
+use Rattle.std.proofs.Common.{◌≡◌, ℕ, ◌≤◌, Bool, true, false, if◌then◌else◌, List, [], ◌∷◌, ◌++◌, map, refl, sym, ap, subst, ◌∙◌, arith, inl, inr}
 use Rattle.std.specs.Prelude.{Contains, All}
 use Rattle.std.proofs.lemmas.Bool.{cases_lt}
 use Rattle.std.proofs.lemmas.List.{map-append}
@@ -14,13 +14,13 @@ use Rattle.pw_types.specs.TypeTrees.{CType, type_of, is_volatile, RecordValue}
 use Rattle.pw_types.specs.TypedTrees.{Symbol, External, Internal, Hidden, FunctionValue, GlobalValue, DeclaredValue, ModuleValue}
 use Rattle.pw_types.specs.TypedModules.{IsFunctionTyped, IsDeclaredIfExternal}
 use Rattle.pw_types.specs.WellTyped.{IsDeclared}
-use Rattle.pw_flow.specs.declared.flow.FlowGlobal.{FlowGlobal}
 use Rattle.pw_flow.specs.declared.flow.FlowFn.{FlowFn}
-use Rattle.pw_flow.specs.FlowGraph.{function_names, global_names}
-use Rattle.pw_lower.specs.Modules.{lowered_function, start_function, is_main, start_of, lowered_global, lowered_declared, lowered}
+use Rattle.pw_flow.specs.FlowGraph.{function_names}
+use Rattle.pw_lower.specs.Modules.{lowered_function, start_function, is_main, start_of, lowered_declared, lowered}
 use Rattle.pw_law_lower.specs.Within.{AreLetters, IsNamed}
 use Rattle.pw_law_lower.proofs.Names.{IsShared, shared, named_main, name_ordinary}
-use Rattle.pw_files.proofs.Standing.{Has, has_by, has_each, has_right, has_split, has_map, has_map_back}
+use Rattle.pw_files.proofs.Standing.{Has, has_by, has_each, has_right, has_map, has_map_back}
+use Rattle.pw_law_lower_walk.proofs.Made.{function_by}
 use Rattle.pw_law_accept.proofs.Counts.{times_cons, times_append, one, one_least, one_self, there}
 use Rattle.pw_law_accept.proofs.Agreeing.{function_agree}
 
@@ -44,45 +44,9 @@ pub record Known (m : ModuleValue) : Type 0 where
 
 -- ---- the functions of a flow graph
 
-start_by : (b : Bool) (f : FlowFn) (rest : List FlowFn) → (Has f rest → start_function ≡ f) → Has f (if b then start_function ∷ [] else rest) → start_function ≡ f
-start_by true f rest later (inl e) = e
-start_by true f rest later (inr k) = absurd k
-start_by false f rest later k = later k
-
-start_only : (fs : List FunctionValue) (f : FlowFn) → Has f (start_of fs) → start_function ≡ f
-start_only [] f h = absurd h
-start_only (g ∷ fs) f h = start_by (is_main g.name) f (start_of fs) (start_only fs f) h
-
-pub of_tree : (home : List ℕ) (m : ModuleValue) (f : FlowFn) → Has f (lowered home m).functions → ((g : FunctionValue) × Has g m.functions × (lowered_function home m.records g ≡ f)) ⊎ (start_function ≡ f)
-unfolding lowered
-of_tree home m f h = elim (has_split f (map (lowered_function home m.records) m.functions) (start_of m.functions) h) [
-  | inl k ↦ inl (has_map_back (lowered_function home m.records) f m.functions k)
-  | inr k ↦ inr (start_only m.functions f k)
-]
-
-pub full : (home : List ℕ) (records : List RecordValue) (g : FunctionValue) → (lowered_function home records g).name ≡ full_name home g.name
-unfolding lowered_function
-full home records g = refl
-
 pub shape_is : (home : List ℕ) (records : List RecordValue) (g : FunctionValue) → (lowered_function home records g).shape ≡ shape_of records (type_of g.ty) (is_volatile g.ty)
 unfolding lowered_function
 shape_is home records g = refl
-
--- a function's name is that of one of the tree, or that of what the program starts with
-pub function_by : (home : List ℕ) (m : ModuleValue) (name : List ℕ) → Has name (function_names (lowered home m)) → ((g : FunctionValue) × Has g m.functions × (full_name home g.name ≡ name)) ⊎ (start_name ≡ name)
-function_by home m name h =
-    let f = has_map_back (λ (f : FlowFn). f.name) name (lowered home m).functions h in
-    elim (of_tree home m f.0 f.1) [
-      | inl g ↦ inl (g.0, g.1, sym (full home m.records g.0) ∙ (ap (λ (f : FlowFn). f.name) g.2 ∙ f.2))
-      | inr e ↦ inr (ap (λ (f : FlowFn). f.name) e ∙ f.2)
-    ]
-
-pub global_by : (home : List ℕ) (m : ModuleValue) (name : List ℕ) → Has name (global_names (lowered home m)) → (g : GlobalValue) × Has g m.globals × (full_name home g.name ≡ name)
-unfolding lowered
-global_by home m name h =
-    let f = has_map_back (λ (v : FlowGlobal). v.name) name (map (lowered_global home m.records) m.globals) h in
-    let g = has_map_back (lowered_global home m.records) f.0 m.globals f.1 in
-    (g.0, g.1, ap (λ (v : FlowGlobal). v.name) g.2 ∙ f.2)
 
 pub declared_back : (home : List ℕ) (m : ModuleValue) (e : List ℕ × List ℕ) → Has e (lowered home m).declared → (d : DeclaredValue) × Has d m.declared × (lowered_declared m.records d ≡ e)
 unfolding lowered

@@ -40,7 +40,8 @@ use Rattle.pw_law_answers.proofs.Telling.{told_bytes}
 use Rattle.pw_law_accept.proofs.Agreeing.{agree_back, function_agree}
 use Rattle.pw_law_accept.proofs.Linking.{all_functions, all_globals, once, defined, agree, agree_library, main_there}
 use Rattle.pw_law_accept.proofs.Names.{letters_no_colon, own_is_not, one_colon, named_external, dollars, dollar_apart, start_no_dollar, library_no_dollar, dollars_once}
-use Rattle.pw_law_accept.proofs.Modules.{all_has, IsGiven, Known, of_tree, full, shape_is, function_by, global_by, declared_back, declared_has, start_there, none_counted, start_less, declared_letters, global_shared, function_ordinary, begins, same_shape, declared_shape}
+use Rattle.pw_law_lower_walk.proofs.Made.{of_tree, full, function_by, global_by}
+use Rattle.pw_law_accept.proofs.Modules.{all_has, IsGiven, Known, shape_is, declared_back, declared_has, start_there, none_counted, start_less, declared_letters, global_shared, function_ordinary, begins, same_shape, declared_shape}
 
 -- ---- lists
 

@@ -39,7 +39,8 @@ use Rattle.pw_law_accept.specs.Linked.{AreLinked, HasNoColon}
 use Rattle.pw_law_accept.proofs.Agreeing.{agree_back, function_agree}
 use Rattle.pw_law_accept.proofs.Linking.{all_functions, all_globals, defined, main_there}
 use Rattle.pw_law_accept.proofs.Names.{letters_no_colon, own_is_not, one_colon, named_external}
-use Rattle.pw_law_accept.proofs.Modules.{all_has, Known, of_tree, declared_has, global_by, declared_letters, global_shared, begins, declared_shape}
+use Rattle.pw_law_lower_walk.proofs.Made.{of_tree, global_by}
+use Rattle.pw_law_accept.proofs.Modules.{all_has, Known, declared_has, declared_letters, global_shared, begins, declared_shape}
 use Rattle.pw_law_accept.proofs.FunctionShapes.{begins_function}
 use Rattle.pw_law_accept.proofs.Programs.{functions_are, globals_are, library_plain, function_sort, all_agree, library_agrees, same_module, names_distinct}
 

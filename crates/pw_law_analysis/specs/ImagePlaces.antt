@@ -7,7 +7,7 @@ use Rattle.pw_run.specs.Runs.{Refines}
 use Rattle.pw_cmean.specs.Worlds.{Program}
 use Rattle.pw_run_languages.specs.Traces.{calls_of}
 use Rattle.pw_run_languages.specs.LinkingLaws.{address_of, frame_in, image_run}
-use Rattle.pw_law_direction.specs.Laws.{first_places}
+use Rattle.pw_law_temps.specs.Laws.{allocated_functions}
 use Rattle.pw_law_source.specs.Source.{source_stages}
 use Rattle.pw_law_source.specs.Lowering.{flow_program}
 use Rattle.pw_law_layers.specs.Whole.{InMachine}
@@ -17,4 +17,4 @@ use Rattle.pw_law_layers.specs.Whole.{InMachine}
 abbrev pub GlobalsHavePlaces : Program → List (List ℕ × Directives) → Image → ℕ → List ℕ → Type 0
 GlobalsHavePlaces p d v stack input =
     let q = flow_program p (frame_in v) stack in
-    Refines (InMachine q (address_of v)) (source_stages p (frame_in v) stack input) (calls_of (image_run q (first_places q d) v input))
+    Refines (InMachine q (address_of v)) (source_stages p (frame_in v) stack input) (calls_of (image_run q (allocated_functions q d) v input))

@@ -73,7 +73,7 @@ parameter_placed ps depth (LocalObject k q register) deep h = ((parameter_local 
 parameter_placed ps depth (StaticObject k q) deep h = tt
 parameter_placed ps depth (Linked place q) deep h = tt
 
-body_placed : (s : State) (q : QType) (b : Bindings) (names : List (List ℕ)) → ArePlaced s → s.scopes.depth ≡ 0 → IsLawful s → IsBoundThere s b → ArePlaced (enter_body q b names s)
+pub body_placed : (s : State) (q : QType) (b : Bindings) (names : List (List ℕ)) → ArePlaced s → s.scopes.depth ≡ 0 → IsLawful s → IsBoundThere s b → ArePlaced (enter_body q b names s)
 body_placed s q b names ready outer l bound = placed
   where
     placed : ArePlaced (enter_body q b names s)
@@ -118,7 +118,7 @@ here_bound n name place q b linked bound = by (entry_here n name) refl
             ap (λ o. option_and_then (Rattle.pw_check_rules.specs.States.entity_at n) o) same ∙ subst (λ k. slice_get n.scopes.entities k ≡ Some x.0) f.0 x.1 in
             absurd (never x.0 (sym (ap (λ o. option_map_or is_linked o true) found) ∙ linked) x.2)
 
-declared_bound : (s : State) (name : List ℕ) (token : ℕ) (tag : Option ℕ) (asking : Asking) (q : QType) (b : Bindings) → option_map_or is_linked (entity_here s name) true ≡ true → IsBoundThere s b
+pub declared_bound : (s : State) (name : List ℕ) (token : ℕ) (tag : Option ℕ) (asking : Asking) (q : QType) (b : Bindings) → option_map_or is_linked (entity_here s name) true ≡ true → IsBoundThere s b
     → Post (declare_linked name token tag asking q s) (λ r. Adds s r.1 × IsBoundThere r.1 b)
 unfolding declare_linked bind
 declared_bound s name token tag asking q b linked bound = (declared_adds s name token tag asking q, by (linked_before s name))
@@ -128,7 +128,7 @@ declared_bound s name token tag asking q b linked bound = (declared_adds s name 
     by None = here_bound (add_linked (linked_anew name (is_internal_by s name asking) q token tag) s) name (place_for s name) q b linked bound
     by (Some l) = here_bound (put_linked (place_for s name) (linked_again q l) s) name (place_for s name) q b linked bound
 
-defined_bound : (s : State) (place : ℕ) (b : Bindings) → IsBoundThere s b → IsBoundThere (define_function place s) b
+pub defined_bound : (s : State) (place : ℕ) (b : Bindings) → IsBoundThere s b → IsBoundThere (define_function place s) b
 defined_bound s place b bound = by (linked_at s place)
   where
     by : (o : Option LinkedName) → IsBoundThere (option_map_or (λ x. put_linked place (record x { defined = true }) s) o s) b

@@ -51,6 +51,7 @@ pub mod Items
 pub mod Leading
 pub mod InitialiserParts
 pub mod LimitFunctions
+pub mod Untouched
 pub mod Quiet
 pub mod Linked
 pub mod Names

@@ -8,23 +8,21 @@ use Rattle.pw_tree.specs.declared.operator.UnaryOperator.TheVariants as P
 use Rattle.pw_tree.specs.FirstTokens.{first_of_expr}
 use Rattle.pw_tree.specs.Trees.{Expr, Postfixes, Arguments, Operations, Specifiers, Members, MemberDeclarators, Enumerators, Declarator, Core, Suffixes, Parameters, Word, Init, Inits}
 use Rattle.pw_tree.specs.Trees as S
-use Rattle.pw_types.specs.declared.record.RecordKind.{RecordKind}
 use Rattle.pw_types.specs.TypeTrees.{QType, MemberValue, type_of}
 use Rattle.pw_types.specs.TypedTrees.{Expression}
 use Rattle.pw_check_walk.specs.Walks.{Walk, bind}
 use Rattle.pw_check_rules.specs.Operands.{Operand}
 use Rattle.pw_check_rules.specs.Operators.{value_rule}
-use Rattle.pw_check_rules.specs.Leaves.{string_rule, string_point, new_record, new_tag, reference_by, reference_rule, opening_by, opening_rule, member_rule, closing_rule, enumerating_rule, enumerator_name, enumerator_rule, parameter_rule, enter_parameter, record_kind, record_spot, first_of_list, first_of_declaration, texts_of}
+use Rattle.pw_check_rules.specs.Leaves.{string_rule, string_point, record_kind, record_spot, first_of_list, first_of_declaration, texts_of}
 use Rattle.pw_check_rules.specs.Phrases.{expr_rule, postfixes_rule, arguments_rule, operations_rule, specifiers_rule, members_rule, member_declarators_rule, enumerators_rule, declarator_rule, core_rule, suffixes_rule, parameters_rule}
 use Rattle.pw_check_rules.specs.SpecifierLists.{Gathered, nothing_gathered, gather_storage, gather_qualifier, gather_word, gather_type, Specified}
-use Rattle.pw_check_rules.specs.Derivations.{Declared, ParameterValue, built}
+use Rattle.pw_check_rules.specs.Derivations.{ParameterValue}
 use Rattle.pw_check_rules.specs.Initialisers.{Context, Filled, Cursor, Target, Initialised, StringForm, IsString, IsOther, string_form, braced_string, words_in, target_at, frame_of, nothing_filled, string_filled, listed_expression, listed_by, listed_form, meets_characters, braced_by, inits_rule, init_rule, object_string, object_value, object_list, object_by, object_rule, fills_characters}
 use Rattle.pw_check_rules.specs.Kinds.{int_type}
-use Rattle.pw_check_rules.specs.States.{State, Rule, Entity, scoped, uncounted, one_deeper, records_in, tag_of, tag_here, with_made}
-use Rattle.pw_check_rules.specs.declared.names.Tag.{Tag}
-use Rattle.pw_check_rules.specs.declared.names.Tag.TheVariants as G
+use Rattle.pw_check_rules.specs.States.{State, Rule, scoped, uncounted, one_deeper, records_in, with_made}
 use Rattle.pw_law_checked.proofs.Walking.{Post, post_bind, post_weaken}
-use Rattle.pw_law_checked.proofs.Still.{Still, address_still, arrow_still, assignment_still, bindings_still, braced_target_still, built_still, call_still, cast_still, character_still, conditional_still, deref_still, dot_still, enumeration_still, enumerator_name_still, enumerator_value_still, identifier_still, index_still, length_still, listed_string_still, listed_value_still, named_still, number_still, operation_still, sign_still, size_still, specified_still, step_still, storage_still, string_filled_still, type_size_still, typedef_still, value_filled_still, value_still}
+use Rattle.pw_law_checked.proofs.Untouched.{Untouched, reference_untouched, opening_untouched, member_untouched, closing_untouched, enumerating_untouched, enumerator_untouched, parameter_untouched}
+use Rattle.pw_law_checked.proofs.Still.{Still, address_still, arrow_still, assignment_still, bindings_still, braced_target_still, call_still, cast_still, character_still, conditional_still, deref_still, dot_still, enumeration_still, enumerator_name_still, enumerator_value_still, identifier_still, index_still, length_still, listed_string_still, listed_value_still, named_still, number_still, operation_still, sign_still, size_still, specified_still, step_still, storage_still, string_filled_still, type_size_still, typedef_still, value_filled_still, value_still}
 
 -- the names with linkage are the same
 abbrev pub Same : {A : Type 0} → State → A × State → Type 0
@@ -49,55 +47,8 @@ string_same ws s = λ met. by s.made.counting
 
 -- ---- types
 
-new_tag_same : (kind : RecordKind) (w : Word) (s : State) → Post (new_tag kind w s) (Same s)
-unfolding new_tag new_record bind
-new_tag_same kind w s = λ met. refl
-
-reference_by_same : (kind : RecordKind) (w : Word) (o : Option Tag) (s : State) → Post (reference_by kind w o s) (Same s)
-unfolding reference_by bind
-reference_by_same kind w None s = then_same s (new_tag kind w s) _ (new_tag_same kind w s) (λ r. refl)
-reference_by_same kind w (Some (G.Record n)) s = λ met. refl
-reference_by_same kind w (Some G.Enumeration) s = tt
-
-reference_same : (kind : RecordKind) (w : Word) (s : State) → Post (reference_rule kind w s) (Same s)
-unfolding reference_rule bind
-reference_same kind w s = reference_by_same kind w (tag_of s w.text) s
-
-opening_by_same : (kind : RecordKind) (w : Word) (o : Option Tag) (s : State) → Post (opening_by kind w o s) (Same s)
-unfolding opening_by bind
-opening_by_same kind w None s = new_tag_same kind w s
-opening_by_same kind w (Some (G.Record n)) s = λ met. refl
-opening_by_same kind w (Some G.Enumeration) s = tt
-
-opening_same : (kind : RecordKind) (o : Option Word) (s : State) → Post (opening_rule kind o s) (Same s)
-unfolding opening_rule new_record bind
-opening_same kind None s = refl
-opening_same kind (Some w) s = then_same s (opening_by kind w (tag_here s w.text) s) _ (opening_by_same kind w (tag_here s w.text) s) (λ r. refl)
-
-member_same : (b : Specified) (d : Declared) (ms : List MemberValue) (s : State) → Post (member_rule b d ms s) (Same s)
-unfolding member_rule bind
-member_same b d ms s = then_same s (built _ d.derivations b.ty s) _ (still_same s _ (built_still _ d.derivations b.ty s)) (λ r met. refl)
-
-closing_same : (kind : RecordKind) (token n : ℕ) (ms : List MemberValue) (s : State) → Post (closing_rule kind token n ms s) (Same s)
-unfolding closing_rule bind
-closing_same kind token n ms s = λ met. refl
-
-enumerating_same : (o : Option Word) (s : State) → Post (enumerating_rule o s) (Same s)
-unfolding enumerating_rule bind
-enumerating_same None s = refl
-enumerating_same (Some w) s = λ met. refl
-
-enumerator_same : (w : Word) (value : Option ℕ) (s : State) → Post (enumerator_rule w value s) (Same s)
-unfolding enumerator_rule enumerator_name bind
-enumerator_same w value s = λ met counted. refl
-
-entered_same : (o : Option Word) (x : Entity) (s : State) → (enter_parameter o x s).types.linked ≡ s.types.linked
-entered_same None x s = refl
-entered_same (Some w) x s = refl
-
-parameter_same : (sole : Bool) (b : Specified) (d : Declared) (ps : List ParameterValue) (s : State) → Post (parameter_rule sole b d ps s) (Same s)
-unfolding parameter_rule bind
-parameter_same sole b d ps s = then_same s (built _ d.derivations b.ty s) _ (still_same s _ (built_still _ d.derivations b.ty s)) (λ r met. entered_same d.name _ r.1)
+left_same : {A : Type 0} (s : State) (w : Walk (A × State)) → Post w (Untouched s) → Post w (Same s)
+left_same s w h = post_weaken w (Untouched s) (Same s) h (λ r e. e.0)
 
 scoped_same : {A : Type 0} (inside : Rule A) (s : State) → ((t : State) → Post (inside t) (Same t)) → Post (scoped inside s) (Same s)
 unfolding scoped bind
@@ -184,14 +135,14 @@ mutual
   specifiers_same (S.Basic t W.Signed rest) first g s = specifiers_same rest first (gather_word W.Signed g) s
   specifiers_same (S.Basic t W.Unsigned rest) first g s = specifiers_same rest first (gather_word W.Unsigned g) s
   specifiers_same (S.TypedefName w rest) first g s = then_same s _ _ (still_same s _ (typedef_still w s)) (λ r. specifiers_same rest first (gather_type r.0 None g) r.1)
-  specifiers_same (S.RecordTag t kind w rest) first g s = then_same s _ _ (reference_same (record_kind kind) w s) (λ r. specifiers_same rest first (gather_type r.0.0 r.0.1 g) r.1)
+  specifiers_same (S.RecordTag t kind w rest) first g s = then_same s _ _ (left_same s _ (reference_untouched (record_kind kind) w s)) (λ r. specifiers_same rest first (gather_type r.0.0 r.0.1 g) r.1)
   specifiers_same (S.Record t kind w members rest) first g s =
-      then_same s _ _ (opening_same (record_kind kind) w s) (λ r1.
+      then_same s _ _ (left_same s _ (opening_untouched (record_kind kind) w s)) (λ r1.
       then_same r1.1 _ _ (members_same members [] r1.1) (λ r2.
-      then_same r2.1 _ _ (closing_same (record_kind kind) (record_spot w first) r1.0 r2.0 r2.1) (λ r3. specifiers_same rest first (gather_type r3.0 None g) r3.1)))
+      then_same r2.1 _ _ (left_same r2.1 _ (closing_untouched (record_kind kind) (record_spot w first) r1.0 r2.0 r2.1)) (λ r3. specifiers_same rest first (gather_type r3.0 None g) r3.1)))
   specifiers_same (S.EnumTag t w rest) first g s = then_same s _ _ (still_same s _ (enumeration_still w s)) (λ r. specifiers_same rest first (gather_type r.0 None g) r.1)
   specifiers_same (S.Enum t w enumerators rest) first g s =
-      then_same s _ _ (then_same s _ _ (enumerating_same w s) (λ r. enumerators_same enumerators (Some 0) r.1)) (λ r. specifiers_same rest first (gather_type int_type None g) r.1)
+      then_same s _ _ (then_same s _ _ (left_same s _ (enumerating_untouched w s)) (λ r. enumerators_same enumerators (Some 0) r.1)) (λ r. specifiers_same rest first (gather_type int_type None g) r.1)
 
   members_same : (members : Members) (ms : List MemberValue) (s : State) → Post (members_rule members ms s) (Same s)
   members_same S.NoMember ms s = refl
@@ -203,17 +154,17 @@ mutual
   member_declarators_same : (ds : MemberDeclarators) (b : Specified) (ms : List MemberValue) (s : State) → Post (member_declarators_rule ds b ms s) (Same s)
   member_declarators_same S.NoMemberDeclarator b ms s = refl
   member_declarators_same (S.PlainMember d rest) b ms s =
-      then_same s _ _ (declarator_same d s) (λ r1. then_same r1.1 _ _ (member_same b r1.0 ms r1.1) (λ r2. member_declarators_same rest b r2.0 r2.1))
+      then_same s _ _ (declarator_same d s) (λ r1. then_same r1.1 _ _ (left_same r1.1 _ (member_untouched b r1.0 ms r1.1)) (λ r2. member_declarators_same rest b r2.0 r2.1))
   member_declarators_same (S.BitField d t e rest) b ms s = then_same s _ _ (declarator_same d s) (λ r. tt)
   member_declarators_same (S.Padding t e rest) b ms s = tt
 
   enumerators_same : (enumerators : Enumerators) (value : Option ℕ) (s : State) → Post (enumerators_rule enumerators value s) (Same s)
   enumerators_same S.NoEnumerator value s = refl
-  enumerators_same (S.PlainEnumerator w rest) value s = then_same s _ _ (enumerator_same w value s) (λ r. enumerators_same rest r.0 r.1)
+  enumerators_same (S.PlainEnumerator w rest) value s = then_same s _ _ (left_same s _ (enumerator_untouched w value s)) (λ r. enumerators_same rest r.0 r.1)
   enumerators_same (S.ValuedEnumerator w e rest) value s =
       then_same s _ _ (still_same s _ (enumerator_name_still w s)) (λ r0.
       valued_same r0.1 _ _ (expr_same e r0.1) (λ r1.
-      then_same r1.1 _ _ (still_same r1.1 _ (enumerator_value_still (first_of_expr e) r1.0 r1.1)) (λ r2. then_same r2.1 _ _ (enumerator_same w (Some r2.0) r2.1) (λ r3. enumerators_same rest r3.0 r3.1))))
+      then_same r1.1 _ _ (still_same r1.1 _ (enumerator_value_still (first_of_expr e) r1.0 r1.1)) (λ r2. then_same r2.1 _ _ (left_same r2.1 _ (enumerator_untouched w (Some r2.0) r2.1)) (λ r3. enumerators_same rest r3.0 r3.1))))
 
   pub declarator_same : (d : Declarator) (s : State) → Post (declarator_rule d s) (Same s)
   declarator_same (S.Declaring pointers core suffixes) s = then_same s _ _ (core_same core s) (λ r1. then_same r1.1 _ _ (suffixes_same suffixes r1.1) (λ r2. refl))
@@ -239,7 +190,7 @@ mutual
       then_same s _ _ (specifiers_same specifiers (first_of_declaration specifiers d) nothing_gathered s) (λ r1.
       then_same r1.1 _ _ (still_same r1.1 _ (specified_still (first_of_declaration specifiers d) r1.0 r1.1)) (λ r2.
       then_same r2.1 _ _ (then_same r2.1 _ _ (still_same r2.1 _ (storage_still r2.0 r2.1)) (λ r. declarator_same d r.1)) (λ r3.
-      then_same r3.1 _ _ (parameter_same _ r2.0 r3.0 ps r3.1) (λ r4. parameters_same rest r4.0 r4.1))))
+      then_same r3.1 _ _ (left_same r3.1 _ (parameter_untouched _ r2.0 r3.0 ps r3.1)) (λ r4. parameters_same rest r4.0 r4.1))))
 
 -- ---- initialisers
 

@@ -18,7 +18,14 @@ use Rattle.pw_db.specs.declared.database.Directives.{Directives}
 use Rattle.pw_webflow.specs.Direction.{directed}
 use Rattle.pw_alloc.specs.declared.located.Located.{Located}
 use Rattle.pw_select.specs.Selection.{selected}
-use Rattle.pw_delay.specs.Placement.{laid, placed}
+use Rattle.pw_inst.specs.InstructionTable.{word_of}
+use Rattle.pw_delay.specs.declared.items.Word.{Word}
+use Rattle.pw_delay.specs.declared.items.Item.{Item}
+use Rattle.pw_delay.specs.declared.items.Item.TheVariants.{Plain}
+use Rattle.pw_delay.specs.Items.{slotted}
+use Rattle.pw_delay.specs.Filling.{compares, filled}
+use Rattle.pw_delay.specs.Placement.{words_from, mark_at, laid, placed}
+use Rattle.pw_delay.proofs.Keeping.{parts_alone}
 use Rattle.pw_object.specs.declared.object.Object.{Object}
 use Rattle.pw_milli.specs.Library.{routines}
 use Rattle.pw_value.specs.Names.{is_before}
@@ -33,6 +40,8 @@ use Rattle.pw_run_languages.specs.LawfulPrograms.{IsProgram}
 use Rattle.pw_run_languages.specs.Direction.{directed_by, directed_functions}
 use Rattle.pw_run_languages.specs.Serving.{AllServe}
 use Rattle.pw_run_languages.specs.Addresses.{AreLawful}
+use Rattle.pw_run_languages.specs.CodeStands.{is_long}
+use Rattle.pw_run_languages.specs.SelectionLaws.{arranged}
 use Rattle.pw_run_languages.specs.LinkingLaws.{compiled, AreObjectsOf, AreNamesApart, address_of}
 use Rattle.pw_law_code.specs.LinkedAddresses.{linked_addresses}
 use Rattle.pw_law_code.proofs.NamedAddresses.{piece_names, function_found, any_named, one_function, behind_functions, global_names, offset_of, global_found, Stands, global_stands, globals_apart, name_there, others_before}
@@ -107,9 +116,19 @@ map_names_globals p functions objects is of =
 
 -- ---- each piece has words
 
+-- selected code begins with two words, of which the first stays where it is
+two_words : (l : Located) → (w v : Word) × (rest : List Item) × (slotted (selected l) ≡ Plain w ∷ Plain v ∷ rest)
+unfolding selected
+two_words l = (_, _, _, refl)
+
 has_words : (l : Located) → 0 < length (placed (selected l)).words
-unfolding placed laid selected
-has_words l = omega arith
+unfolding placed laid
+has_words l =
+    let h = two_words l in
+    let long = is_long (selected l) in
+    let first : arranged (selected l) ≡ Plain h.0 ∷ filled (compares h.0.inst) (Plain h.1 ∷ h.2) =
+    ap (filled false) h.3 ∙ parts_alone false (Plain h.0 ∷ []) (Plain h.1 ∷ h.2) refl in
+    subst (λ (items : List Item). 0 < length (map (λ (w : Word). word_of w.inst) (words_from long (mark_at long 0 items) 0 items))) (sym first) (omega arith)
 
 compiled_words : (ls : List Located) → AllByRecursion (λ p. 0 < length p.words) (pieces ls)
 compiled_words [] = tt

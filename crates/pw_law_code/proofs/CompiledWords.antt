@@ -22,7 +22,6 @@ use Rattle.pw_delay.specs.declared.items.Turn.{Turn}
 use Rattle.pw_delay.specs.declared.items.Turn.TheVariants.{Back, Goto, If, CallTo, CallReg, Leave}
 use Rattle.pw_delay.specs.declared.items.Item.{Item}
 use Rattle.pw_delay.specs.declared.items.Item.TheVariants.{Plain, Turns, Mark}
-use Rattle.pw_delay.specs.Items.{slotted}
 use Rattle.pw_delay.specs.Placement.{size, displacement, in_slot, turn_words, item_words, words_from, mark_at, laid, placed}
 use Rattle.pw_object.specs.declared.object.Object.{Object}
 use Rattle.pw_object.specs.declared.functions.ObjectFn.{ObjectFn}
@@ -35,7 +34,8 @@ use Rattle.pw_run_languages.specs.Direction.{directives_of, directed_by, directe
 use Rattle.pw_run_languages.specs.Serving.{AllServe}
 use Rattle.pw_run_languages.specs.LinkingLaws.{compiled, AreObjectsOf}
 use Rattle.pw_run_languages.specs.CodeStands.{IsReady}
-use Rattle.pw_law_code.proofs.ReadyItems.{IsReadyWord, IsReadySlot, IsReadyTurn, IsReadyItem, slotted_ready}
+use Rattle.pw_run_languages.specs.SelectionLaws.{arranged}
+use Rattle.pw_law_code.proofs.ReadyItems.{IsReadyWord, IsReadySlot, IsReadyTurn, IsReadyItem, arranged_ready}
 use Rattle.pw_law_code.proofs.ServedLines.{served_ready}
 use Rattle.pw_law_code.proofs.Addresses.{served_names}
 
@@ -152,7 +152,7 @@ laid_fits long items ready =
 
 pub placed_fits : (lines : List Line) → AllByRecursion IsReady lines → AllByRecursion FitsU32 (placed lines).words
 unfolding placed
-placed_fits lines ready = laid_fits _ (slotted lines) (slotted_ready lines ready)
+placed_fits lines ready = laid_fits _ (arranged lines) (arranged_ready lines ready)
 
 -- ---- the functions of a program
 

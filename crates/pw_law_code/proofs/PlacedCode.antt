@@ -24,6 +24,7 @@ use Rattle.pw_delay.specs.declared.items.Item.{Item}
 use Rattle.pw_delay.specs.declared.items.Item.TheVariants.{Plain, Turns, Mark}
 use Rattle.pw_delay.specs.Items.{slotted}
 use Rattle.pw_delay.specs.Placement.{size, sizes, turn_size, displacement, in_slot, turn_words, item_words, words_from, mark_at, short_limit, laid, placed}
+use Rattle.pw_delay.proofs.Keeping.{sizes_shrink}
 use Rattle.pw_delay.proofs.Sizes.{item_length}
 use Rattle.pw_delay.proofs.MarkLaws.{mark_at_within}
 use Rattle.pw_link.specs.Layout.{Sites}
@@ -32,10 +33,11 @@ use Rattle.pw_run_languages.specs.Acts as lines
 use Rattle.pw_run_languages.specs.LineRun.{turns, IsCalling}
 use Rattle.pw_run_languages.specs.Words.{Text, JumpsTo, TestsShort, Tests, CallsSymbol, SlotStands, TurnStands, StandsAt}
 use Rattle.pw_run_languages.specs.CodeStands.{IsOfProgram, AreApart, AreReady, is_long, Reaches, IsKnown, StandAt, PlacedCodeStands}
+use Rattle.pw_run_languages.specs.SelectionLaws.{arranged}
 use Rattle.pw_law_code.proofs.Branching.{hop, lands, text_end}
 use Rattle.pw_law_code.proofs.Taking.{taken}
 use Rattle.pw_law_code.proofs.LinkedWords.{fixes_act, WordHolds, WordsHold, hold_from, hold_split}
-use Rattle.pw_law_code.proofs.ReadyItems.{IsReadyBy, IsReadyWord, IsReadySlot, IsReadyTurn, IsReadyItem, slotted_ready, marks_of, marks_are_labels}
+use Rattle.pw_law_code.proofs.ReadyItems.{IsReadyBy, IsReadyWord, IsReadySlot, IsReadyTurn, IsReadyItem, arranged_ready, marks_of, arranged_marks}
 
 -- ---- single words
 
@@ -312,10 +314,10 @@ pub record Laid (t : Text) (sites : Sites) (own : ℕ) (items : List Item) (long
   ground : Ground t own long (mark_at long 0 items) (sizes long items)
   left : Left t sites own long (mark_at long 0 items) (sizes long items) 0 items
 
-laid_so : (ls : List Line) (t : Text) (sites : Sites) (own : ℕ) → AreReady ls → StandAt t sites own ls → Laid t sites own (slotted ls) (is_long ls)
+laid_so : (ls : List Line) (t : Text) (sites : Sites) (own : ℕ) → AreReady ls → StandAt t sites own ls → Laid t sites own (arranged ls) (is_long ls)
 unfolding placed laid
 laid_so ls t sites own ready at =
-    let items = slotted ls in
+    let items = arranged ls in
     let long = is_long ls in
     let begins = mark_at long 0 items in
     let ws = words_from long begins 0 items in
@@ -328,7 +330,8 @@ laid_so ls t sites own ready at =
         below = omega (arith, at.below, count);
         marks = at.marks;
         begun = λ b. omega (arith, mark_at_within long 0 items b);
-        short = λ e. subst (λ (b : Bool). sizes b items ≤ short_limit) (sym e) (ltb-false short_limit (sizes false items) e);
+        short = λ e. subst (λ (b : Bool). sizes b items ≤ short_limit) (sym e)
+            (omega (arith, sizes_shrink false false (slotted ls), ltb-false short_limit (sizes false (slotted ls)) e));
       };
       left = record {
         words = hold_from t sites own 0 ws
@@ -337,9 +340,9 @@ laid_so ls t sites own ready at =
             ∙ at.words i (omega (arith, lt, total, count))
             ∙ ap (λ (l : List ℕ). decoded (get_or l i 0)) (fixes_act sites own [] 0 ws refl))
             at.symbols;
-        ready = slotted_ready ls ready.each;
+        ready = arranged_ready ls ready.each;
         marks = each_is long items (marks_of items);
-        apart = subst AreApart (sym (marks_are_labels ls)) ready.labels;
+        apart = subst AreApart (sym (arranged_marks ls)) ready.labels;
         behind = λ before rest item calling e. omega (arith, at.behind before rest item calling e);
         within = omega arith;
       };
@@ -347,7 +350,7 @@ laid_so ls t sites own ready at =
 
 pub placed_code_stands : PlacedCodeStands
 placed_code_stands ls t sites own ready at =
-    let items = slotted ls in
+    let items = arranged ls in
     let l = subst (Laid t sites own items) (sym at.long) (laid_so ls t sites own ready at) in
     subst (λ (a : ℕ). StandsAt t a items) (omega arith)
     (stands t sites own (mark_at t.long 0 items) (sizes t.long items) l.ground 0 items l.left)

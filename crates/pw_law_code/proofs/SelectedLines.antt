@@ -18,7 +18,7 @@ use Rattle.pw_delay.specs.Lines.{IsLine, AreLines}
 use Rattle.pw_select_lines.specs.Operations.{layout, web_op_lines}
 use Rattle.pw_select.specs.Selection.{slot_offsets, prologue, end_lines, block_lines, blocks_lines, selected}
 use Rattle.pw_select.proofs.PlaceableFn.{lawful_lines}
-use Rattle.pw_law_select_walk.specs.Rows.{TakesAddress, IsAddressed, IsRow, KnowsBlock, KnowsWeb}
+use Rattle.pw_law_select_walk.specs.Rows.{TakesAddress, IsAddressed, IsAlone, IsRow, KnowsBlock, KnowsWeb}
 use Rattle.pw_law_select_walk.proofs.EachLine.{Anything, AreRows, anything, prologue_rows, block_rows, each_selected}
 use Rattle.pw_run_languages.specs.Acts.{with_address}
 use Rattle.pw_run_languages.specs.CodeStands.{IsOfProgram, IsReady, labels, AreApart, AreReady}
@@ -49,8 +49,12 @@ fixed_no_call (i.Bl disp t n) kind.Im14 s a takes = absurd takes
 fixed_no_call (i.Bl disp t n) kind.Bl s a takes = absurd takes
 fixed_no_call x k s n takes = tt
 
+alone_sent : (x : Inst) → IsAlone x → IsSent x None
+alone_sent (i.Combf c r1 r2 disp) h = tt
+alone_sent x h = h
+
 row_no_call : (l : Line) → IsRow Anything Anything l → HasNoCall l
-row_no_call (Plain x) h = h
+row_no_call (Plain x) h = alone_sent x h
 row_no_call (Fixed x k s n) h = fixed_no_call x k s n h.0
 row_no_call l h = tt
 

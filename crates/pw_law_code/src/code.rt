@@ -1,4 +1,4 @@
-//! Laws of selection, placement and the linker's addresses.
+//! Laws of selection, of placed words and of the linker's addresses.
 
 ghost use Rattle.std.specs.Prelude.{ℕ, ◌≡◌, ◌<◌, ◌^◌, None, List, ◌++◌, map};
 ghost use Rattle.pw_db.specs.declared.database.Directives.{Directives};
@@ -20,10 +20,8 @@ ghost use Rattle.pw_alloc.specs.ValidPlaces.{IsLocated};
 ghost use Rattle.pw_select.specs.Selection.{selected};
 ghost use Rattle.pw_delay.specs.Branches.{AreSent};
 ghost use Rattle.pw_run_languages.specs.CodeStands.{AreReady, SelectionIsReady, PlacedCodeStands};
-ghost use Rattle.pw_run_languages.specs.SelectionLaws.{PlacementKeepsRuns};
 
 use pw_delay::laws::calls_and_jumps_are_relocated;
-use pw_run_languages::late_logs_compose;
 
 /// The code of selected lines is made of words of which each call and each jump has its relocation.
 pub fn selected_calls_are_relocated()
@@ -45,13 +43,6 @@ pub fn selected_lines_are_ready()
 pub fn placed_code_stands()
     ensures { PlacedCodeStands }
 {}
-
-/// The items that are placed run as the lines' own items do: they are the same, since no word moves into a slot.
-pub fn placement_keeps_runs()
-    ensures { PlacementKeepsRuns }
-{
-    late_logs_compose();
-}
 
 /// The addresses that the linker gives to the objects of a program are a lawful argument of the run of lines: each
 /// global has a multiple of 8 and bytes of its own between the beginning of the data and the 64 bytes before the

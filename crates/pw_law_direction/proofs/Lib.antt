@@ -13,7 +13,7 @@ pub mod Banks
 mod Likeness
 mod Stepping
 mod Webless
-mod Elements
+pub mod Elements
 mod Names
 mod Tame
 mod Memory
@@ -28,7 +28,7 @@ mod ByName
 mod Library
 mod StoresByName
 mod Runs
-mod Entered
+pub mod Entered
 mod Saving
 mod Callees
 mod Standing
@@ -42,6 +42,3 @@ mod Leaving
 mod Returning
 mod Starting
 mod Refining
-pub mod FirstForm
-mod Words
-mod Keeping

@@ -4,4 +4,3 @@ pub mod UndirectedLaws
 pub mod Pairs
 pub mod Alike
 pub mod SideBySide
-pub mod Laws

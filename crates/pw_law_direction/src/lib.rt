@@ -1,16 +1,10 @@
-//! Laws of direction and allocation: the run of a program under directives, alone and beside the run of its flow
-//! graphs, and places that serve.
+//! Laws of direction: the run of a program under directives, alone and beside the run of its flow graphs.
 #![tactic(auto)]
 
-pub mod allocation;
 pub mod directed;
 pub mod side_by_side;
 pub mod undirected;
 
-pub use allocation::{
-    first_allocation_serves, first_places_keep, first_places_run, first_places_serve,
-    one_allocation, without_registers,
-};
 pub use directed::{
     directed_calls_are_of_the_graph, directed_runs_keep_registers, directed_runs_obey_traffic,
     directed_values_are_fine, direction_rests_on_runs, operations_call_by_the_graph,

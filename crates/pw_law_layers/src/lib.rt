@@ -6,9 +6,9 @@ ghost use Rattle.pw_law_layers.specs.Rooms.{PlacesFit, MapHasFrames};
 ghost use Rattle.pw_law_layers.specs.Whole.{AllFramesFit, LayersCompose, LayersHold, LoweredHaveRooms, LoweredImplements, RefinementGoesThrough};
 
 use pw_db_sound::callers_leave_free_registers_alone;
-use pw_law_code::code::placement_keeps_runs;
 use pw_law_link::laws::modules_stand_in_order;
 use pw_law_lower::frames_fit;
+use pw_law_slots::placement_keeps_runs;
 
 /// Where each run from the source to the machine refines the one before it, the machine's refines the source's.
 pub fn refinement_goes_through()

@@ -1,5 +1,5 @@
 -- A function whose items keep the stack pointer is leveled.
-use Rattle.std.specs.Prelude.{ℕ, zero, suc, ◌≡◌, ◌≢◌, ◌+◌, ◌-◌, ◌<◌, ◌≤◌, ◌⊎◌, ◌^◌, nat_le, Bool, true, false, if◌then◌else◌, Option, Some, None, List, [], ◌∷◌, ◌++◌, length, take}
+use Rattle.std.specs.Prelude.{ℕ, zero, suc, ◌≡◌, ◌≢◌, ◌+◌, ◌-◌, ◌<◌, ◌≤◌, ◌⊎◌, ◌^◌, nat_le, Bool, true, false, if◌then◌else◌, Option, Some, None, List, [], ◌∷◌, ◌++◌, length}
 use Rattle.std.specs.List.{list_all}
 use Rattle.std.proofs.Common.{arith, subst, sym, ap, refl, ◌∙◌, inl, inr, length-append}
 use Rattle.std.proofs.lemmas.Bool.{le-leb, lt-leb, cases_lt}
@@ -17,8 +17,9 @@ use Rattle.pw_law_link_run.specs.Steps.{Setting}
 use Rattle.pw_law_link_run.specs.Placing.{name_in, words_of, Parts}
 use Rattle.pw_law_link_run.specs.Meeting.{IsTurning}
 use Rattle.pw_law_link_run.specs.Leveled.{IsRaised, Level, HoldsAt, IsCold, IsApart, IsLeveled}
+use Rattle.pw_law_slots.specs.Found.{GoesOver}
 use Rattle.pw_law_levels.specs.Bodies.{Leads, Raises, first_level, LeavesPointer, StartsLeave, Keeps, BlockFirst, IsPointed}
-use Rattle.pw_law_levels.proofs.Splits.{Behind, behind, Within, within, loops_over}
+use Rattle.pw_law_levels.proofs.Splits.{Behind, behind, Within, within}
 use Rattle.pw_law_levels.proofs.Cold.{more, joined, cold_behind, AreWords, cold_first}
 
 -- ---- levels
@@ -35,7 +36,8 @@ abbrev body_level : List Item → Level
 body_level [] = up
 body_level (Plain w ∷ rest) = up
 body_level (Mark b ∷ rest) = up
-body_level (Turns Leave slot ∷ rest) = open_level
+body_level (Turns Leave None ∷ rest) = open_level
+body_level (Turns Leave (Some w) ∷ rest) = up
 body_level (Turns (Back i) slot ∷ rest) = up
 body_level (Turns (Goto b) slot ∷ rest) = up
 body_level (Turns (If r b) slot ∷ rest) = up
@@ -84,7 +86,8 @@ body_holds : (x : Setting) (f : LineFn) (left : List Item) (stack : ℕ) (c : li
 body_holds x f [] stack c r = up_holds x f stack c r
 body_holds x f (Plain w ∷ rest) stack c r = up_holds x f stack c r
 body_holds x f (Mark b ∷ rest) stack c r = up_holds x f stack c r
-body_holds x f (Turns Leave slot ∷ rest) stack c r = open_holds x f stack c (let high = r.bounds.high in omega (arith, high))
+body_holds x f (Turns Leave None ∷ rest) stack c r = open_holds x f stack c (let high = r.bounds.high in omega (arith, high))
+body_holds x f (Turns Leave (Some w) ∷ rest) stack c r = up_holds x f stack c r
 body_holds x f (Turns (Back i) slot ∷ rest) stack c r = up_holds x f stack c r
 body_holds x f (Turns (Goto b) slot ∷ rest) stack c r = up_holds x f stack c r
 body_holds x f (Turns (If r' b) slot ∷ rest) stack c r = up_holds x f stack c r
@@ -111,7 +114,8 @@ keeps_behind : (x : Setting) (word : Bool) (mid left : List Item) → Keeps x wo
 keeps_behind x word [] left h = record { word = word; keeps = h }
 keeps_behind x word (Plain w ∷ mid) left h = keeps_behind x true mid left h.1
 keeps_behind x word (Mark b ∷ mid) left h = keeps_behind x false mid left h
-keeps_behind x word (Turns Leave slot ∷ mid) left h = keeps_behind x false mid left h.2
+keeps_behind x word (Turns Leave None ∷ mid) left h = keeps_behind x false mid left h.1
+keeps_behind x word (Turns Leave (Some w) ∷ mid) left h = keeps_behind x false mid left h
 keeps_behind x word (Turns (Back i) None ∷ mid) left h = keeps_behind x false mid left h
 keeps_behind x word (Turns (Back i) (Some w) ∷ mid) left h = keeps_behind x false mid left h.1
 keeps_behind x word (Turns (Goto b) None ∷ mid) left h = keeps_behind x false mid left h
@@ -150,43 +154,42 @@ flag_other : (i : Item) (mid : List Item) → FlagOr false mid → WordBefore (i
 flag_other i [] h = absurd cc
 flag_other i (j ∷ mid) h = word_more i (j ∷ mid) h
 
-leave_before : (x : Setting) (word : Bool) (mid rest : List Item) (slot : Option Word) → Keeps x word (mid ++ Turns Leave slot ∷ rest) → FlagOr word mid × (slot ≡ None)
-leave_before x word [] rest slot h = (h.0, h.1)
-leave_before x word (Plain w ∷ mid) rest slot h = let later = leave_before x true mid rest slot h.1 in (flag_word w mid later.0, later.1)
-leave_before x word (Mark b ∷ mid) rest slot h = let later = leave_before x false mid rest slot h in (flag_other (Mark b) mid later.0, later.1)
-leave_before x word (Turns Leave s ∷ mid) rest slot h = let later = leave_before x false mid rest slot h.2 in (flag_other (Turns Leave s) mid later.0, later.1)
-leave_before x word (Turns (Back i) None ∷ mid) rest slot h = let later = leave_before x false mid rest slot h in (flag_other (Turns (Back i) None) mid later.0, later.1)
-leave_before x word (Turns (Back i) (Some w) ∷ mid) rest slot h = let later = leave_before x false mid rest slot h.1 in (flag_other (Turns (Back i) (Some w)) mid later.0, later.1)
-leave_before x word (Turns (Goto b) None ∷ mid) rest slot h = let later = leave_before x false mid rest slot h in (flag_other (Turns (Goto b) None) mid later.0, later.1)
-leave_before x word (Turns (Goto b) (Some w) ∷ mid) rest slot h = let later = leave_before x false mid rest slot h.1 in (flag_other (Turns (Goto b) (Some w)) mid later.0, later.1)
-leave_before x word (Turns (If r b) None ∷ mid) rest slot h = let later = leave_before x false mid rest slot h in (flag_other (Turns (If r b) None) mid later.0, later.1)
-leave_before x word (Turns (If r b) (Some w) ∷ mid) rest slot h = let later = leave_before x false mid rest slot h.1 in (flag_other (Turns (If r b) (Some w)) mid later.0, later.1)
-leave_before x word (Turns (CallTo s link) None ∷ mid) rest slot h = let later = leave_before x false mid rest slot h in (flag_other (Turns (CallTo s link) None) mid later.0, later.1)
-leave_before x word (Turns (CallTo s link) (Some w) ∷ mid) rest slot h = let later = leave_before x false mid rest slot h.1 in (flag_other (Turns (CallTo s link) (Some w)) mid later.0, later.1)
-leave_before x word (Turns CallReg None ∷ mid) rest slot h = let later = leave_before x false mid rest slot h in (flag_other (Turns CallReg None) mid later.0, later.1)
-leave_before x word (Turns CallReg (Some w) ∷ mid) rest slot h = let later = leave_before x false mid rest slot h.1 in (flag_other (Turns CallReg (Some w)) mid later.0, later.1)
+leave_before : (x : Setting) (word : Bool) (mid rest : List Item) → Keeps x word (mid ++ Turns Leave None ∷ rest) → FlagOr word mid
+leave_before x word [] rest h = h.0
+leave_before x word (Plain w ∷ mid) rest h = flag_word w mid (leave_before x true mid rest h.1)
+leave_before x word (Mark b ∷ mid) rest h = flag_other (Mark b) mid (leave_before x false mid rest h)
+leave_before x word (Turns Leave None ∷ mid) rest h = flag_other (Turns Leave None) mid (leave_before x false mid rest h.1)
+leave_before x word (Turns Leave (Some w) ∷ mid) rest h = flag_other (Turns Leave (Some w)) mid (leave_before x false mid rest h)
+leave_before x word (Turns (Back i) None ∷ mid) rest h = flag_other (Turns (Back i) None) mid (leave_before x false mid rest h)
+leave_before x word (Turns (Back i) (Some w) ∷ mid) rest h = flag_other (Turns (Back i) (Some w)) mid (leave_before x false mid rest h.1)
+leave_before x word (Turns (Goto b) None ∷ mid) rest h = flag_other (Turns (Goto b) None) mid (leave_before x false mid rest h)
+leave_before x word (Turns (Goto b) (Some w) ∷ mid) rest h = flag_other (Turns (Goto b) (Some w)) mid (leave_before x false mid rest h.1)
+leave_before x word (Turns (If r b) None ∷ mid) rest h = flag_other (Turns (If r b) None) mid (leave_before x false mid rest h)
+leave_before x word (Turns (If r b) (Some w) ∷ mid) rest h = flag_other (Turns (If r b) (Some w)) mid (leave_before x false mid rest h.1)
+leave_before x word (Turns (CallTo s link) None ∷ mid) rest h = flag_other (Turns (CallTo s link) None) mid (leave_before x false mid rest h)
+leave_before x word (Turns (CallTo s link) (Some w) ∷ mid) rest h = flag_other (Turns (CallTo s link) (Some w)) mid (leave_before x false mid rest h.1)
+leave_before x word (Turns CallReg None ∷ mid) rest h = flag_other (Turns CallReg None) mid (leave_before x false mid rest h)
+leave_before x word (Turns CallReg (Some w) ∷ mid) rest h = flag_other (Turns CallReg (Some w)) mid (leave_before x false mid rest h.1)
 
 flag_false : (mid : List Item) → FlagOr false mid → WordBefore mid
 flag_false [] h = absurd cc
 flag_false (i ∷ mid) h = h
 
--- no call leads to a return, nor behind it
-leave_cold : (x : Setting) (f : LineFn) (p : IsPointed x f) (before rest : List Item) (slot : Option Word) → Parts f before (Turns Leave slot ∷ rest) → InBody x f p (Turns Leave slot ∷ rest)
+-- no call leads to a return without a word in its slot, nor behind it
+leave_cold : (x : Setting) (f : LineFn) (p : IsPointed x f) (before rest : List Item) → Parts f before (Turns Leave None ∷ rest) → InBody x f p (Turns Leave None ∷ rest)
     → IsCold x f (words_of x f before) × IsCold x f (words_of x f before + 1)
-leave_cold x f p before rest slot parts le =
+leave_cold x f p before rest parts le =
     let long = x.long (name_in f) in
-    let item = Turns Leave slot in
+    let item = Turns Leave None in
     let b = place x f p before (item ∷ rest) parts le in
-    let both = leave_before x false b.mid rest slot (subst (λ items. Keeps x false items) b.body_is p.keeps) in
-    let w = flag_false b.mid both.0 in
+    let w = flag_false b.mid (leave_before x false b.mid rest (subst (λ items. Keeps x false items) b.body_is p.keeps)) in
     let first = p.entry ++ w.before in
     let before_is : before ≡ first ++ Plain w.word ∷ [] = b.before_is ∙ (ap (λ m. p.entry ++ m) w.is ∙ sym (append_assoc p.entry w.before (Plain w.word ∷ []))) in
     let parts_word : f.items ≡ first ++ Plain w.word ∷ (item ∷ rest) =
     parts ∙ (ap (λ b. b ++ item ∷ rest) before_is ∙ append_assoc first (Plain w.word ∷ []) (item ∷ rest)) in
-    let bare : f.items ≡ before ++ Turns Leave None ∷ rest = parts ∙ ap (λ s. before ++ Turns Leave s ∷ rest) both.1 in
-    let one : words_of x f before + 1 ≡ words_of x f (before ++ Turns Leave None ∷ []) = omega (arith, joined long before (Turns Leave None ∷ []), more long (Turns Leave None) []) in (
+    let one : words_of x f before + 1 ≡ words_of x f (before ++ item ∷ []) = omega (arith, joined long before (item ∷ []), more long item []) in (
       cold_behind x f first (item ∷ rest) (Plain w.word) (words_of x f before) parts_word (λ call. call) (omega arith) (ap (words_of x f) before_is),
-      cold_behind x f before rest (Turns Leave None) (words_of x f before + 1) bare (λ call. call) (omega arith) one,
+      cold_behind x f before rest item (words_of x f before + 1) parts (λ call. call) (omega arith) one,
     )
 
 -- ---- places in the entry
@@ -263,7 +266,8 @@ entry_goes x f p before rest w stack c d parts lt holds act =
 behind_word : (x : Setting) (f : LineFn) (w : Word) (rest : List Item) (stack : ℕ) (c d : lines.Core) → LeavesPointer x w ⊎ StartsLeave rest → IsRaised x f stack c
     → acts x.addresses (settled x.addresses w) c ≡ Acts d → HoldsAt x f (body_level rest) stack d
 behind_word x f w rest stack c d (inl leaves) r act = body_holds x f rest stack d (record { bounds = r.bounds; pointer = leaves c d act ∙ r.pointer })
-behind_word x f w (Turns Leave slot ∷ rest) stack c d (inr starts) r act = open_holds x f stack d (let high = r.bounds.high in omega (arith, high))
+behind_word x f w (Turns Leave None ∷ rest) stack c d (inr starts) r act = open_holds x f stack d (let high = r.bounds.high in omega (arith, high))
+behind_word x f w (Turns Leave (Some v) ∷ rest) stack c d (inr starts) r act = absurd starts
 behind_word x f w [] stack c d (inr starts) r act = absurd starts
 behind_word x f w (Plain v ∷ rest) stack c d (inr starts) r act = absurd starts
 behind_word x f w (Mark b ∷ rest) stack c d (inr starts) r act = absurd starts
@@ -335,21 +339,18 @@ slot_leaves x word Leave w rest t h = absurd t
 
 -- ---- loops
 
+-- what pw_law_slots promises of branches back
+abbrev pub BackGoesOver : Type 0
+BackGoesOver = (items before here from : List Item) (n : ℕ) → items ≡ before ++ here → back_over n here items ≡ Some from → GoesOver before here from n
+
 -- words alone lead to a turn only where no block begins first
-words_no_block : (words here : List Item) (item : Item) (rest : List Item) (n : ℕ) → length words ≡ n → here ≡ item ∷ rest → IsTurning item → list_all is_plain (take n (words ++ here)) ≡ true
-    → BlockFirst (words ++ here) → ⊥
-words_no_block [] here item rest n count is turning plain first =
-    turn_no_block item rest turning (subst (λ items. BlockFirst items) is first)
-  where
-    turn_no_block : (item : Item) (rest : List Item) → IsTurning item → BlockFirst (item ∷ rest) → ⊥
-    turn_no_block (Turns turn slot) rest t b = b
-    turn_no_block (Plain w) rest t b = t
-    turn_no_block (Mark b') rest t b = t
-words_no_block (Plain w ∷ words) here item rest zero count is turning plain first = absurd (omega (arith, count))
-words_no_block (Plain w ∷ words) here item rest (suc n) count is turning plain first = words_no_block words here item rest n (omega (arith, count)) is turning plain first
-words_no_block (Mark b ∷ words) here item rest zero count is turning plain first = absurd (omega (arith, count))
-words_no_block (Mark b ∷ words) here item rest (suc n) count is turning plain first = absurd cc
-words_no_block (Turns turn slot ∷ words) here item rest n count is turning plain first = absurd first
+words_no_block : (words rest : List Item) (item : Item) → IsTurning item → list_all is_plain words ≡ true → BlockFirst (words ++ item ∷ rest) → ⊥
+words_no_block [] rest (Turns turn slot) turning plain first = first
+words_no_block [] rest (Plain w) turning plain first = turning
+words_no_block [] rest (Mark b) turning plain first = turning
+words_no_block (Plain w ∷ words) rest item turning plain first = words_no_block words rest item turning plain first
+words_no_block (Mark b ∷ words) rest item turning plain first = absurd cc
+words_no_block (Turns turn slot ∷ words) rest item turning plain first = absurd first
 
 block_first : (x : Setting) (f : LineFn) (l : Level) (entry body : List Item) → Raises x f l entry → BlockFirst body → BlockFirst (entry ++ body)
 block_first x f l [] body h first = first
@@ -365,18 +366,19 @@ entry_rest x f l (Mark b ∷ before) rest body h first = absurd h
 entry_rest x f l (Turns turn slot ∷ before) rest body h first = absurd h
 
 -- a loop goes back to a place in the body
-loop_place : (x : Setting) (f : LineFn) (p : IsPointed x f) (before rest from : List Item) (item : Item) (n : ℕ) → Parts f before (item ∷ rest) → IsTurning item
+loop_place : BackGoesOver → (x : Setting) (f : LineFn) (p : IsPointed x f) (before rest from : List Item) (item : Item) (n : ℕ) → Parts f before (item ∷ rest) → IsTurning item
     → back_over n (item ∷ rest) f.items ≡ Some from → InBody x f p from
-loop_place x f p before rest from item n parts turning e =
-    let o = loops_over f.items before (item ∷ rest) from n parts e in
+loop_place over x f p before rest from item n parts turning e =
+    let o = over f.items before (item ∷ rest) from n parts e in
+    let items_are : f.items ≡ o.start ++ from =
+    parts ∙ ap (λ (b : List Item). b ++ item ∷ rest) o.parts ∙ append_assoc o.start o.words (item ∷ rest) ∙ ap (λ (l : List Item). o.start ++ l) (sym o.from_is) in
     elim (cases_lt (length p.body) (length from)) [
       | inl lt ↦
-          let here = within p.entry p.body o.before from (sym p.items ∙ o.items_are) lt in
+          let here = within p.entry p.body o.start from (sym p.items ∙ items_are) lt in
           let first : BlockFirst from =
           subst (λ items. BlockFirst items) (sym here.left_is)
-          (entry_rest x f first_level o.before (here.item ∷ here.rest) p.body (subst (λ entry. Raises x f first_level entry) here.entry_is p.raises) p.first) in
-          absurd (words_no_block o.words (item ∷ rest) item rest n o.count refl turning
-          (subst (λ items. list_all is_plain (take n items) ≡ true) o.from_is o.plain) (subst (λ items. BlockFirst items) o.from_is first))
+          (entry_rest x f first_level o.start (here.item ∷ here.rest) p.body (subst (λ entry. Raises x f first_level entry) here.entry_is p.raises) p.first) in
+          absurd (words_no_block o.words rest item turning o.plain (subst (λ items. BlockFirst items) o.from_is first))
       | inr le ↦ omega (arith, le)
     ]
 
@@ -390,7 +392,8 @@ quiet_up x f p before stack c r =
 
 quiet_body : (x : Setting) (f : LineFn) (p : IsPointed x f) (before left : List Item) (stack : ℕ) (c : lines.Core) → Parts f before left → InBody x f p left
     → HoldsAt x f (body_level left) stack c → IsApart x f (words_of x f before) stack c
-quiet_body x f p before (Turns Leave slot ∷ rest) stack c parts le holds = inr (leave_cold x f p before rest slot parts le).0
+quiet_body x f p before (Turns Leave None ∷ rest) stack c parts le holds = inr (leave_cold x f p before rest parts le).0
+quiet_body x f p before (Turns Leave (Some w) ∷ rest) stack c parts le holds = quiet_up x f p before stack c (up_raised x f stack c holds)
 quiet_body x f p before [] stack c parts le holds = quiet_up x f p before stack c (up_raised x f stack c holds)
 quiet_body x f p before (Plain w ∷ rest) stack c parts le holds = quiet_up x f p before stack c (up_raised x f stack c holds)
 quiet_body x f p before (Mark b ∷ rest) stack c parts le holds = quiet_up x f p before stack c (up_raised x f stack c holds)
@@ -433,8 +436,18 @@ mark_no_word b w e = cc
 leave_no_word : (slot : Option Word) (w : Word) → Turns Leave slot ≢ Plain w
 leave_no_word slot w e = cc
 
-pub leveled : (x : Setting) (f : LineFn) → IsPointed x f → IsLeveled x f
-leveled x f p = record {
+-- at a return with a word in its slot the pointer is still at the end of the frame
+left_apart : (x : Setting) (f : LineFn) (p : IsPointed x f) (before rest : List Item) (slot : Option Word) (stack : ℕ) (c : lines.Core) → Parts f before (Turns Leave slot ∷ rest)
+    → InBody x f p (Turns Leave slot ∷ rest) → HoldsAt x f (level_at x f p (Turns Leave slot ∷ rest)) stack c → IsApart x f (words_of x f before + 1) stack c
+left_apart x f p before rest None stack c parts le holds = inr (leave_cold x f p before rest parts le).1
+left_apart x f p before rest (Some w) stack c parts le holds =
+    let raised = raised_in x f p (Turns Leave (Some w) ∷ rest) stack c le refl holds in
+    let some = p.frame in
+    let pointer = raised.pointer in
+    inl (omega (arith, some, pointer))
+
+pub leveled : BackGoesOver → (x : Setting) (f : LineFn) → IsPointed x f → IsLeveled x f
+leveled over x f p = record {
   at = level_at x f p;
   entry = enters x f p;
   word = word_goes x f p;
@@ -444,11 +457,11 @@ leveled x f p = record {
   behind_block = λ before rest b stack c parts raised. behind_in x f p rest stack c (shorter x f p (Mark b) rest (not_word x f p before rest (Mark b) parts (mark_no_word b))) raised;
   behind_turn = λ before rest item stack c parts turning raised.
       behind_in x f p rest stack c (shorter x f p item rest (not_word x f p before rest item parts (turning_no_word item turning))) raised;
-  loop = λ before rest from item n stack c parts turning e raised. behind_in x f p from stack c (loop_place x f p before rest from item n parts turning e) raised;
+  loop = λ before rest from item n stack c parts turning e raised. behind_in x f p from stack c (loop_place over x f p before rest from item n parts turning e) raised;
   slot = λ before rest turn w stack c d parts turning raised run act.
       let k = kept x f p before (Turns turn (Some w) ∷ rest) parts (not_word x f p before rest (Turns turn (Some w)) parts (turning_no_word (Turns turn (Some w)) turning)) in
       slot_leaves x k.word turn w rest turning k.keeps c d act;
-  leave = λ before rest slot stack c parts holds. inr (leave_cold x f p before rest slot parts (not_word x f p before rest (Turns Leave slot) parts (leave_no_word slot))).1;
+  leave = λ before rest slot stack c parts holds. left_apart x f p before rest slot stack c parts (not_word x f p before rest (Turns Leave slot) parts (leave_no_word slot)) holds;
   quiet = quiet_at x f p;
 }
 
@@ -464,16 +477,15 @@ turning_size long (Plain v) h = absurd h
 turning_size long (Mark b) h = absurd h
 
 -- a loop does not begin where the function does, and words stand behind its beginning
-pub loops : (x : Setting) (f : LineFn) → IsPointed x f → (before rest from : List Item) (item : Item) (n : ℕ) → Parts f before (item ∷ rest) → IsTurning item
+pub loops : BackGoesOver → (x : Setting) (f : LineFn) → IsPointed x f → (before rest from : List Item) (item : Item) (n : ℕ) → Parts f before (item ∷ rest) → IsTurning item
     → back_over n (item ∷ rest) f.items ≡ Some from → (from ≢ f.items) × (1 ≤ words_of x f from)
-loops x f p before rest from item n parts turning e =
+loops over x f p before rest from item n parts turning e =
     let long = x.long (name_in f) in
-    let o = loops_over f.items before (item ∷ rest) from n parts e in
+    let o = over f.items before (item ∷ rest) from n parts e in
     let whole : words_of x f from ≡ words_of x f o.words + words_of x f (item ∷ rest) = ap (words_of x f) o.from_is ∙ joined long o.words (item ∷ rest) in
     let some = turning_size long item turning in (
       λ same.
           let first : BlockFirst from = subst (λ items. BlockFirst items) (sym (same ∙ p.items)) (block_first x f first_level p.entry p.body p.raises p.first) in
-          words_no_block o.words (item ∷ rest) item rest n o.count refl turning
-          (subst (λ items. list_all is_plain (take n items) ≡ true) o.from_is o.plain) (subst (λ items. BlockFirst items) o.from_is first),
+          words_no_block o.words rest item turning o.plain (subst (λ items. BlockFirst items) o.from_is first),
       omega (arith, whole, more long item rest, some),
     )

@@ -1,5 +1,5 @@
 -- The items of a selected function keep the stack pointer.
-use Rattle.std.specs.Prelude.{ℕ, ℤ, ◌≡◌, ◌+◌, ◌≤◌, nat_lt, Bool, true, false, if◌then◌else◌, Some, None, List, [], ◌∷◌, ◌++◌, length}
+use Rattle.std.specs.Prelude.{ℕ, ℤ, ◌≡◌, ◌+◌, ◌≤◌, ◌⊎◌, nat_lt, ◌&&◌, not, Bool, true, false, if◌then◌else◌, Some, None, List, [], ◌∷◌, ◌++◌, length}
 use Rattle.std.specs.List.{AllByRecursion, flat_map}
 use Rattle.std.proofs.Common.{arith, subst, sym, ap, refl, ◌∙◌, inl, inr}
 use Rattle.std.proofs.lemmas.List.{append_assoc}
@@ -16,13 +16,19 @@ use Rattle.pw_alloc.specs.Frames.{head_size, below, link_place}
 use Rattle.pw_select_lines.specs.Registers.{word, constant, load_from, store_to, place_of, operand_register, operand_lines, loaded}
 use Rattle.pw_select_lines.specs.Operations.{layout, web_op_lines}
 use Rattle.pw_select.specs.Selection.{slot_offsets, saved_lines, webs_loaded, webs_stored, parameters_in, entry_lines, prologue, frame_left, epilogue, end_lines, blocks_lines, selected}
-use Rattle.pw_delay.specs.declared.items.Turn.TheVariants.{Goto, CallTo, CallReg, Leave}
+use Rattle.pw_delay.specs.declared.items.Word.{Word}
+use Rattle.pw_delay.specs.declared.items.Turn.{Turn}
+use Rattle.pw_delay.specs.declared.items.Turn.TheVariants.{Back, Goto, If, CallTo, CallReg, Leave}
 use Rattle.pw_delay.specs.declared.items.Item.{Item}
-use Rattle.pw_delay.specs.declared.items.Item.TheVariants.{Plain, Turns}
+use Rattle.pw_delay.specs.declared.items.Item.TheVariants.{Plain, Turns, Mark}
 use Rattle.pw_delay.specs.Items.{bare, link_moved, begins_next, plain_item, before, slotted}
+use Rattle.pw_delay.specs.Filling.{moves, drawn_near, compares, with_slot, filled}
+use Rattle.pw_delay.specs.Parts.{compared_by, takes_first, PartsAlone}
 use Rattle.pw_run_languages.specs.LineRun.{LineFn}
+use Rattle.pw_run_languages.specs.SelectionLaws.{arranged}
 use Rattle.pw_law_link_run.specs.Steps.{Setting}
-use Rattle.pw_law_levels.specs.Bodies.{LeavesPointer, Keeps, BlockFirst, IsPointed}
+use Rattle.pw_law_link_run.specs.Leveled.{Level}
+use Rattle.pw_law_levels.specs.Bodies.{Raises, first_level, LeavesPointer, StartsLeave, Keeps, BlockFirst, IsPointed}
 use Rattle.pw_law_levels.specs.Sparing.{SparesOp, IsSparing}
 use Rattle.pw_law_levels.proofs.Pointer.{TargetsAre, word_leaves}
 use Rattle.pw_law_levels.proofs.Rows.{AreSparing, joined, constant_in, load_in, operand_in, loaded_in, ops_in, webs_loaded_in, webs_stored_in, saved_stored_in, saved_loaded_in, parameters_are_in}
@@ -67,6 +73,40 @@ blocks_first : (f : Located) (slots : List ℤ) (n : ℕ) (blocks : List WebBloc
 blocks_first f slots n [] some = absurd (omega (arith, some))
 blocks_first f slots n (b ∷ rest) some = tt
 
+-- ---- with words in slots
+
+none_takes : (items : List Item) → BlockFirst items → takes_first items ≡ false
+none_takes [] first = refl
+none_takes (Plain w ∷ rest) first = refl
+none_takes (Mark b ∷ rest) first = refl
+none_takes (Turns turn slot ∷ rest) first = absurd first
+
+first_alone : (behind : Bool) (item : Item) (rest : List Item) → BlockFirst rest → with_slot behind item rest ≡ item ∷ rest
+first_alone behind (Plain w) (Turns turn None ∷ rest) first = absurd first
+first_alone behind item rest first = refl
+
+filled_first : (behind : Bool) (items : List Item) → BlockFirst items → BlockFirst (filled behind items)
+filled_first behind [] first = absurd first
+filled_first behind (Plain w ∷ rest) first =
+    let later = filled_first (compares w.inst) rest first in
+    subst (λ (l : List Item). BlockFirst l) (sym (first_alone behind (Plain w) (filled (compares w.inst) rest) later)) later
+filled_first behind (Mark b ∷ rest) first = tt
+filled_first behind (Turns turn slot ∷ rest) first = absurd first
+
+-- words alone stay as they are
+words_alone : (x : Setting) (f : LineFn) (l : Level) (behind : Bool) (w : Word) (rest : List Item) → Raises x f l rest → with_slot behind (Plain w) rest ≡ Plain w ∷ rest
+words_alone x f l behind w [] raises = refl
+words_alone x f l behind w (Plain v ∷ rest) raises = refl
+words_alone x f l behind w (Mark b ∷ rest) raises = absurd raises
+words_alone x f l behind w (Turns turn slot ∷ rest) raises = absurd raises
+
+raises_alone : (x : Setting) (f : LineFn) (l : Level) (behind : Bool) (entry : List Item) → Raises x f l entry → filled behind entry ≡ entry
+raises_alone x f l behind [] raises = refl
+raises_alone x f l behind (Plain w ∷ rest) raises =
+    ap (λ (r : List Item). with_slot behind (Plain w) r) (raises_alone x f raises.0 (compares w.inst) rest raises.2) ∙ words_alone x f raises.0 behind w rest raises.2
+raises_alone x f l behind (Mark b ∷ rest) raises = absurd raises
+raises_alone x f l behind (Turns turn slot ∷ rest) raises = absurd raises
+
 -- ---- what keeps the pointer
 
 module _ (targets : TargetsAre) (x : Setting) where
@@ -100,7 +140,7 @@ module _ (targets : TargetsAre) (x : Setting) where
   -- the word before a return
   leave_keeps : (rest : List Line) (y : Inst) → IsStill y → KeepsOn rest → KeepsOn (line.Plain y ∷ line.Leave ∷ rest)
   leave_keeps rest y still k w =
-      subst (λ item. Keeps x w (item ∷ Turns Leave None ∷ slotted rest)) (sym (word_item y still)) (inr tt, (refl, refl, k false))
+      subst (λ item. Keeps x w (item ∷ Turns Leave None ∷ slotted rest)) (sym (word_item y still)) (inr tt, (refl, k false))
 
   left_by : (frame : ℕ) (t : Bool) (rest : List Line) → KeepsOn rest
       → KeepsOn ((if t then constant frame 1 ++ word (i.Sub 30 1 30) else word (i.Ldo (below frame) 30 30)) ++ line.Leave ∷ rest)
@@ -149,11 +189,61 @@ module _ (targets : TargetsAre) (x : Setting) where
   blocks_keep f h slots n [] own w = tt
   blocks_keep f h slots n (b ∷ rest) own w = block_keeps f h slots b own.0 (blocks_lines f slots (n + 1) rest) (blocks_keep f h slots (n + 1) rest own.1) false
 
+  -- ---- with words in slots
+
+  -- a word that stays before what is filled
+  still_leaves : (w : Word) (behind : Bool) (rest : List Item) → LeavesPointer x w ⊎ StartsLeave rest → LeavesPointer x w ⊎ StartsLeave (filled behind rest)
+  still_leaves w behind rest (inl h) = inl h
+  still_leaves w behind (Turns Leave None ∷ rest) (inr h) = inr tt
+  still_leaves w behind [] (inr h) = absurd h
+  still_leaves w behind (Plain v ∷ rest) (inr h) = absurd h
+  still_leaves w behind (Mark b ∷ rest) (inr h) = absurd h
+  still_leaves w behind (Turns Leave (Some v) ∷ rest) (inr h) = absurd h
+  still_leaves w behind (Turns (Back y) slot ∷ rest) (inr h) = absurd h
+  still_leaves w behind (Turns (Goto b) slot ∷ rest) (inr h) = absurd h
+  still_leaves w behind (Turns (If r b) slot ∷ rest) (inr h) = absurd h
+  still_leaves w behind (Turns (CallTo s link) slot ∷ rest) (inr h) = absurd h
+  still_leaves w behind (Turns CallReg slot ∷ rest) (inr h) = absurd h
+
+  -- it may move as well
+  moved_keeps : (word : Bool) (w : Word) (turn : Turn) (rest : List Item) → LeavesPointer x w ⊎ StartsLeave (Turns turn None ∷ rest) → Keeps x true (Turns turn None ∷ rest)
+      → Keeps x word (Turns (drawn_near turn) (Some w) ∷ rest)
+  moved_keeps word w Leave rest leaves k = k.1
+  moved_keeps word w (Back (i.Combf c r1 r2 disp)) rest (inl leaves) k = (leaves, k)
+  moved_keeps word w turn rest (inl leaves) k = (leaves, k)
+  moved_keeps word w turn rest (inr starts) k = absurd starts
+
+  word_keeps : (word behind : Bool) (w : Word) (rest : List Item) → LeavesPointer x w ⊎ StartsLeave rest → Keeps x true rest → Keeps x word (with_slot behind (Plain w) rest)
+  word_keeps word behind w (Turns turn None ∷ rest) leaves k = by (not behind && moves w.inst turn)
+    where
+      by : (t : Bool) → Keeps x word (if t then Turns (drawn_near turn) (Some w) ∷ rest else Plain w ∷ Turns turn None ∷ rest)
+      by true = moved_keeps word w turn rest leaves k
+      by false = (leaves, k)
+  word_keeps word behind w rest leaves k = (leaves, k)
+
+  filled_keeps : (word behind : Bool) (items : List Item) → Keeps x word items → Keeps x word (filled behind items)
+  filled_keeps word behind [] k = tt
+  filled_keeps word behind (Plain w ∷ rest) k =
+      word_keeps word behind w (filled (compares w.inst) rest) (still_leaves w (compares w.inst) rest k.0) (filled_keeps true (compares w.inst) rest k.1)
+  filled_keeps word behind (Mark b ∷ rest) k = filled_keeps false behind rest k
+  filled_keeps word behind (Turns Leave None ∷ rest) k = (k.0, filled_keeps false false rest k.1)
+  filled_keeps word behind (Turns Leave (Some w) ∷ rest) k = filled_keeps false false rest k
+  filled_keeps word behind (Turns (Back y) None ∷ rest) k = filled_keeps false false rest k
+  filled_keeps word behind (Turns (Back y) (Some w) ∷ rest) k = (k.0, filled_keeps false false rest k.1)
+  filled_keeps word behind (Turns (Goto b) None ∷ rest) k = filled_keeps false false rest k
+  filled_keeps word behind (Turns (Goto b) (Some w) ∷ rest) k = (k.0, filled_keeps false false rest k.1)
+  filled_keeps word behind (Turns (If r b) None ∷ rest) k = filled_keeps false false rest k
+  filled_keeps word behind (Turns (If r b) (Some w) ∷ rest) k = (k.0, filled_keeps false false rest k.1)
+  filled_keeps word behind (Turns (CallTo s link) None ∷ rest) k = filled_keeps false false rest k
+  filled_keeps word behind (Turns (CallTo s link) (Some w) ∷ rest) k = (k.0, filled_keeps false false rest k.1)
+  filled_keeps word behind (Turns CallReg None ∷ rest) k = filled_keeps false false rest k
+  filled_keeps word behind (Turns CallReg (Some w) ∷ rest) k = (k.0, filled_keeps false false rest k.1)
+
   -- ---- the function
 
-  pub pointed : (g : LineFn) (f : Located) → g.located ≡ f → g.items ≡ slotted (selected f) → IsSparing f → IsPointed x g
+  pub pointed : PartsAlone → (g : LineFn) (f : Located) → g.located ≡ f → g.items ≡ arranged (selected f) → IsSparing f → IsPointed x g
   unfolding selected
-  pointed g f is items h =
+  pointed alone g f is items h =
       let entry = entry_lines f.frame in
       let saves = saved_lines store_to (head_size f.body) 0 f.saved in
       let webs = webs_loaded f.body.directives.webs in
@@ -163,18 +253,24 @@ module _ (targets : TargetsAre) (x : Setting) where
       let one : prologue f ≡ entry ++ rows =
       append_assoc (entry ++ saves) webs params ∙ append_assoc entry saves (webs ++ params) in
       let two : selected f ≡ entry ++ (rows ++ blocks) = ap (λ r. r ++ blocks) one ∙ append_assoc entry rows blocks in
+      let body = slotted (rows ++ blocks) in
+      let whole : slotted (selected f) ≡ slotted entry ++ body = ap slotted two ∙ slotted_joined entry (rows ++ blocks) (words.entry_in f.frame) in
+      let first : BlockFirst body = block_behind rows blocks
+      (words.joined saves (webs ++ params) (words.saved_stored_in (head_size f.body) 0 f.saved)
+      (words.joined webs params (words.webs_loaded_in f.body.directives.webs) (words.parameters_are_in f.frame f.places 0 f.body.params)))
+      (blocks_first f (slot_offsets f) 0 f.body.blocks h.start) in
+      let raises = entry_raises x g f.frame (ap (λ (l : Located). l.frame) is) h.frame in
+      let behind = compared_by false (slotted entry) in
       record {
         entry = slotted entry;
-        body = slotted (rows ++ blocks);
-        items = items ∙ (ap slotted two ∙ slotted_joined entry (rows ++ blocks) (words.entry_in f.frame));
-        raises = entry_raises x g f.frame (ap (λ (l : Located). l.frame) is) h.frame;
-        keeps = rows_keep rows blocks
+        body = filled behind body;
+        items = items ∙ ap (filled false) whole ∙ alone false (slotted entry) body (none_takes body first)
+            ∙ ap (λ l. l ++ filled behind body) (raises_alone x g first_level false (slotted entry) raises);
+        raises = raises;
+        keeps = filled_keeps false behind body (rows_keep rows blocks
             (joined saves (webs ++ params) (saved_stored_in (head_size f.body) 0 f.saved)
             (joined webs params (webs_loaded_in f.body.directives.webs h.webs) (parameters_are_in f.frame f.places 0 f.body.params h.places)))
-            (blocks_keep f h (slot_offsets f) 0 f.body.blocks h.ops) false;
-        first = block_behind rows blocks
-            (words.joined saves (webs ++ params) (words.saved_stored_in (head_size f.body) 0 f.saved)
-            (words.joined webs params (words.webs_loaded_in f.body.directives.webs) (words.parameters_are_in f.frame f.places 0 f.body.params)))
-            (blocks_first f (slot_offsets f) 0 f.body.blocks h.start);
+            (blocks_keep f h (slot_offsets f) 0 f.body.blocks h.ops) false);
+        first = filled_first behind body first;
         frame = let size = ap (λ (l : Located). l.frame) is in omega (arith, size, h.some);
       }

@@ -36,17 +36,19 @@ abbrev pub LeavesPointer : Setting → Word → Type 0
 LeavesPointer x word =
     (c d : lines.Core) → acts x.addresses (settled x.addresses word) c ≡ Acts d → lines.register d 30 ≡ lines.register c 30
 
+-- a return without a word in its slot
 abbrev pub StartsLeave : List Item → Type 0
-StartsLeave (Turns Leave slot ∷ rest) = Unit {0}
+StartsLeave (Turns Leave None ∷ rest) = Unit {0}
 StartsLeave _ = ⊥
 
--- Each word but one right before a return leaves the pointer, also in a slot; a word stands before each return, in whose
--- slot there is none. The flag says whether the item before is a word.
+-- Each word but one right before a return leaves the pointer, also in a slot, but for the slot of a return; a word stands
+-- before each return in whose slot there is none. The flag says whether the item before is a word.
 abbrev pub Keeps : Setting → Bool → List Item → Type 0
 Keeps x word [] = Unit {0}
 Keeps x word (Plain w ∷ rest) = (LeavesPointer x w ⊎ StartsLeave rest) × Keeps x true rest
 Keeps x word (Mark b ∷ rest) = Keeps x false rest
-Keeps x word (Turns Leave slot ∷ rest) = (word ≡ true) × (slot ≡ None) × Keeps x false rest
+Keeps x word (Turns Leave None ∷ rest) = (word ≡ true) × Keeps x false rest
+Keeps x word (Turns Leave (Some w) ∷ rest) = Keeps x false rest
 Keeps x word (Turns turn None ∷ rest) = Keeps x false rest
 Keeps x word (Turns turn (Some w) ∷ rest) = LeavesPointer x w × Keeps x false rest
 

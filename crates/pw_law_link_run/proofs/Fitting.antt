@@ -1,7 +1,8 @@
 -- Lines that words can be made of, with the links of the calling convention, are items that fit.
 use Rattle.std.specs.Prelude.{ℕ, pos, ◌≡◌, ◌+◌, ◌/◌, ◌%◌, ◌^◌, ◌<◌, bit_or, Bool, true, false, if◌then◌else◌, Option, Some, None, List, [], ◌∷◌}
 use Rattle.std.specs.List.{AllByRecursion}
-use Rattle.std.proofs.Common.{arith, subst, sym, refl, ◌∙◌}
+use Rattle.std.proofs.Common.{arith, subst, sym, ap, refl, ◌∙◌}
+use Rattle.std.proofs.lemmas.Bool.{and_parts}
 use Rattle.std.proofs.lemmas.Int.{ints}
 use Rattle.pw_inst.specs.declared.Inst.{Inst}
 use Rattle.pw_inst.specs.declared.Inst.TheVariants as i
@@ -12,13 +13,19 @@ use Rattle.pw_inst.specs.declared.relocation.FixKind.{FixKind}
 use Rattle.pw_inst.specs.declared.relocation.FixKind.TheVariants as kind
 use Rattle.pw_inst.specs.declared.relocation.Symbol.TheVariants as symbol
 use Rattle.pw_delay.specs.declared.items.Relocation.{Relocation}
+use Rattle.pw_delay.specs.declared.items.Word.{Word}
+use Rattle.pw_delay.specs.declared.items.Turn.{Turn}
 use Rattle.pw_delay.specs.declared.items.Turn.TheVariants as turn
 use Rattle.pw_delay.specs.declared.items.Item.{Item}
 use Rattle.pw_delay.specs.declared.items.Item.TheVariants.{Plain, Turns, Mark}
 use Rattle.pw_delay.specs.Items.{link_moved, begins_next, plain_item, item_of, before, slotted}
+use Rattle.pw_delay.specs.Filling.{may_move, are_apart, branch, moves, drawn_near}
+use Rattle.pw_delay.proofs.Keeping.{PropertiesMove, properties_stay, turn_lawful}
 use Rattle.pw_run_languages.specs.Acts as lines
 use Rattle.pw_run_languages.specs.Acts.{Acts, Full, acts, with_address, settled, symbol_address}
 use Rattle.pw_run_languages.specs.CodeStands.{IsReady}
+use Rattle.pw_run_languages.specs.SelectionLaws.{arranged}
+use Rattle.pw_law_slots.specs.Moving.{MovedNeverStop, MovedPassNothing, MovedLeaveLinks}
 use Rattle.pw_law_link_run.specs.Steps.{Setting}
 use Rattle.pw_law_link_run.specs.Slots.{IsSlotWord}
 use Rattle.pw_law_link_run.specs.Simulating.{IsFit}
@@ -102,6 +109,37 @@ line_fits z (line.CallTo (symbol.Word k) r) rest ready conv item e = absurd conv
 line_fits z line.CallReg rest ready conv item e = fit_same z (Turns turn.CallReg (Some link_moved)) item e (moved_fits z)
 line_fits z line.Leave rest ready conv item e = fit_same z (Turns turn.Leave None) item e tt
 
-pub lines_fit : (z : Setting) (lines : List Line) → AllByRecursion IsReady lines → AllByRecursion IsConventional lines → AllByRecursion (IsFit z) (slotted lines)
+lines_fit : (z : Setting) (lines : List Line) → AllByRecursion IsReady lines → AllByRecursion IsConventional lines → AllByRecursion (IsFit z) (slotted lines)
 lines_fit z [] ready conv = tt
 lines_fit z (l ∷ rest) ready conv = before_all z (item_of l rest) (slotted rest) (line_fits z l rest ready.0 conv.0) (lines_fit z rest ready.1 conv.1)
+
+-- ---- with words in slots
+
+-- what is known of words that move
+pub record Moved : Type 0 where
+  pub stays : MovedNeverStop
+  pub runs : MovedPassNothing
+  pub links : MovedLeaveLinks
+
+turn_fits : Moved → (z : Setting) (w : Word) (t : Turn) → IsFit z (Turns t None) → moves w.inst t ≡ true → IsSlotWord z w → IsFit z (Turns (drawn_near t) (Some w))
+turn_fits m z w (turn.Back (i.Combf c r1 r2 disp)) h free word = (turn_lawful (turn.Back (i.Combf c r1 r2 disp)) h.0, word)
+turn_fits m z w (turn.Goto b) h free word = word
+turn_fits m z w (turn.If r b) h free word = word
+turn_fits m z w (turn.CallTo (symbol.Named f) link) h free word = (h.0, word)
+turn_fits m z w (turn.CallTo (symbol.Routine k) link) h free word =
+    (h.0, word, (λ c d run e. m.links z.addresses w (turn.CallTo (symbol.Routine k) link) 31 c d free (ap (λ (r : ℕ). r ∷ []) h.0) refl run e), h.3)
+turn_fits m z w turn.CallReg h free word = word
+turn_fits m z w turn.Leave h free word = word
+turn_fits m z w t h free word = absurd h
+
+fit_moves : Moved → (z : Setting) → PropertiesMove (IsFit z)
+fit_moves m z w t plain turns free =
+    let movable = (and_parts (may_move w.inst) (are_apart w.inst (branch t)) free).0 in
+    turn_fits m z w t turns free (record {
+      range = plain;
+      stays = λ c run e. m.stays z.addresses w c movable run e;
+      runs = λ c d run e. m.runs z.addresses w c d movable run e;
+    })
+
+pub arranged_fit : Moved → (z : Setting) (lines : List Line) → AllByRecursion IsReady lines → AllByRecursion IsConventional lines → AllByRecursion (IsFit z) (arranged lines)
+arranged_fit m z lines ready conv = properties_stay (IsFit z) false (slotted lines) (fit_moves m z) (lines_fit z lines ready conv)

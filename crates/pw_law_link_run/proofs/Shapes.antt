@@ -1,7 +1,7 @@
 -- How the items of a selected function begin and end, and what its frame holds.
-use Rattle.std.specs.Prelude.{ℕ, ℤ, ◌≡◌, ◌≢◌, ◌+◌, ◌*◌, ◌/◌, ◌≤◌, Bool, Option, Some, None, List, [], ◌∷◌, ◌++◌, length}
+use Rattle.std.specs.Prelude.{ℕ, ℤ, ◌≡◌, ◌≢◌, ◌+◌, ◌*◌, ◌/◌, ◌≤◌, ◌&&◌, not, Bool, true, false, if◌then◌else◌, Option, Some, None, List, [], ◌∷◌, ◌++◌, length}
 use Rattle.std.specs.List.{flat_map}
-use Rattle.std.proofs.Common.{arith, subst, sym, ap, refl, ◌∙◌, append-nil}
+use Rattle.std.proofs.Common.{arith, subst, sym, refl, ◌∙◌, append-nil}
 use Rattle.pw_flow.specs.declared.flow.End.{End}
 use Rattle.pw_flow.specs.declared.flow.End.TheVariants as end
 use Rattle.pw_inst.specs.declared.line.Line.{Line}
@@ -13,12 +13,15 @@ use Rattle.pw_select_lines.specs.Registers.{place_of, operand_register, operand_
 use Rattle.pw_select_lines.specs.Operations.{layout, web_op_lines}
 use Rattle.pw_select.specs.Selection.{slot_offsets, saved_lines, webs_stored, frame_left, prologue, epilogue, end_lines, block_lines, blocks_lines, selected}
 use Rattle.pw_delay.specs.declared.items.Word.{Word}
+use Rattle.pw_delay.specs.declared.items.Turn.{Turn}
 use Rattle.pw_delay.specs.declared.items.Turn.TheVariants.{Back, Goto, If, CallTo, CallReg, Leave}
 use Rattle.pw_delay.specs.declared.items.Item.{Item}
 use Rattle.pw_delay.specs.declared.items.Item.TheVariants.{Plain, Turns, Mark}
 use Rattle.pw_delay.specs.Items.{item_of, before, slotted}
+use Rattle.pw_delay.specs.Filling.{moves, drawn_near, compares, compared, with_slot, filled}
 use Rattle.pw_delay.specs.Placement.{size, sizes}
 use Rattle.pw_run_languages.specs.LineRun.{LineFn}
+use Rattle.pw_run_languages.specs.SelectionLaws.{arranged}
 use Rattle.pw_law_link_run.specs.Steps.{Setting}
 use Rattle.pw_law_link_run.specs.Placing.{name_in, words_of, Parts}
 use Rattle.pw_law_link_run.specs.Leveled.{IsPassing}
@@ -125,26 +128,79 @@ selected_ends f b rest e =
     ends_joined (prologue f) (blocks_lines f (slot_offsets f) 0 f.body.blocks)
     (subst (λ bs. EndsOff (slotted (blocks_lines f (slot_offsets f) 0 bs))) (sym e) (blocks_end f (slot_offsets f) 0 b rest))
 
-pub words_go_on : (x : Setting) (g : LineFn) (f : Located) (b : WebBlock) (blocks : List WebBlock) → g.items ≡ slotted (selected f) → f.body.blocks ≡ b ∷ blocks
+-- and so they do with words in slots
+ends_too : (item : Item) (rest : List Item) → EndsOff rest → EndsOff (item ∷ rest)
+ends_too item [] h = absurd h
+ends_too item (y ∷ rest) h = h
+
+off_too : (turn : Turn) (w : Word) → IsOff (Turns turn None) → IsOff (Turns (drawn_near turn) (Some w))
+off_too (Goto b) w h = tt
+off_too Leave w h = tt
+off_too (Back i) w h = absurd h
+off_too (If r b) w h = absurd h
+off_too (CallTo s link) w h = absurd h
+off_too CallReg w h = absurd h
+
+slot_ends : (behind : Bool) (item : Item) (rest : List Item) → EndsOff (item ∷ rest) → EndsOff (with_slot behind item rest)
+slot_ends behind (Plain w) (Turns turn None ∷ []) h = by (not behind && moves w.inst turn)
+  where
+    by : (t : Bool) → EndsOff (if t then Turns (drawn_near turn) (Some w) ∷ [] else Plain w ∷ Turns turn None ∷ [])
+    by true = off_too turn w h
+    by false = h
+slot_ends behind (Plain w) (Turns turn None ∷ y ∷ rest) h = by (not behind && moves w.inst turn)
+  where
+    by : (t : Bool) → EndsOff (if t then Turns (drawn_near turn) (Some w) ∷ y ∷ rest else Plain w ∷ Turns turn None ∷ y ∷ rest)
+    by true = h
+    by false = h
+slot_ends behind item rest h = h
+
+filled_ends : (behind : Bool) (items : List Item) → EndsOff items → EndsOff (filled behind items)
+filled_ends behind [] h = absurd h
+filled_ends behind (item ∷ []) h = slot_ends behind item [] h
+filled_ends behind (item ∷ y ∷ rest) h =
+    slot_ends behind item (filled (compared behind item) (y ∷ rest)) (ends_too item (filled (compared behind item) (y ∷ rest)) (filled_ends (compared behind item) (y ∷ rest) h))
+
+pub words_go_on : (x : Setting) (g : LineFn) (f : Located) (b : WebBlock) (blocks : List WebBlock) → g.items ≡ arranged (selected f) → f.body.blocks ≡ b ∷ blocks
     → (before rest : List Item) (item : Item) → Parts g before (item ∷ rest) → IsPassing item → 1 ≤ words_of x g rest
 words_go_on x g f b blocks is some before rest item parts passes =
-    let all = subst EndsOff (sym is ∙ parts) (selected_ends f b blocks some) in
+    let all = subst EndsOff (sym is ∙ parts) (filled_ends false (slotted (selected f)) (selected_ends f b blocks some)) in
     ends_some (x.long (name_in g)) rest (passing_ends item rest (ends_behind before (item ∷ rest) all (some_item item rest)) passes)
 
--- ---- the beginning: the first item is a word
-
-head_same : (x y : Item) (xs ys : List Item) → x ∷ xs ≡ y ∷ ys → x ≡ y
-head_same x y xs ys e = cc
+-- ---- the beginning: the first item is a word, or a turn with it in its slot
 
 first_word : (f : Located) → (w : Word) × (rest : List Item) × (slotted (selected f) ≡ Plain w ∷ rest)
 unfolding selected
 first_word f = (_, _, refl)
 
-pub words_begin : (x : Setting) (g : LineFn) (f : Located) → g.items ≡ slotted (selected f) → (before left : List Item) → Parts g before left → before ≢ []
+filled_size : (long : Bool) (turn : Turn) (w : Word) → 1 ≤ size long (Turns turn (Some w))
+filled_size long (Back i) w = omega arith
+filled_size long (Goto b) w = omega arith
+filled_size true (If r b) w = omega arith
+filled_size false (If r b) w = omega arith
+filled_size long (CallTo s link) w = omega arith
+filled_size long CallReg w = omega arith
+filled_size long Leave w = omega arith
+
+-- the first of them has a size
+abbrev BeginsWith : Bool → List Item → Type 0
+BeginsWith long [] = ⊥
+BeginsWith long (y ∷ rest) = 1 ≤ size long y
+
+slot_begins : (long behind : Bool) (w : Word) (rest : List Item) → BeginsWith long (with_slot behind (Plain w) rest)
+slot_begins long behind w (Turns turn None ∷ rest) = by (not behind && moves w.inst turn)
+  where
+    by : (t : Bool) → BeginsWith long (if t then Turns (drawn_near turn) (Some w) ∷ rest else Plain w ∷ Turns turn None ∷ rest)
+    by true = filled_size long (drawn_near turn) w
+    by false = omega arith
+slot_begins long behind w rest = omega arith
+
+pub words_begin : (x : Setting) (g : LineFn) (f : Located) → g.items ≡ arranged (selected f) → (before left : List Item) → Parts g before left → before ≢ []
     → 1 ≤ words_of x g before
 words_begin x g f is [] left parts some = absurd (some refl)
 words_begin x g f is (y ∷ before) left parts some =
+    let long = x.long (name_in g) in
     let h = first_word f in
-    let same : y ≡ Plain h.0 = head_same y (Plain h.0) (before ++ left) h.1 (sym parts ∙ (is ∙ h.2)) in
-    let one : size (x.long (name_in g)) y ≡ 1 = ap (size (x.long (name_in g))) same in
-    omega (arith, more (x.long (name_in g)) y before, one)
+    let begins : BeginsWith long (arranged (selected f)) =
+    subst (λ (l : List Item). BeginsWith long (filled false l)) (sym h.2) (slot_begins long false h.0 (filled (compares h.0.inst) h.1)) in
+    let one : 1 ≤ size long y = subst (λ (l : List Item). BeginsWith long l) (sym is ∙ parts) begins in
+    omega (arith, more long y before, one)

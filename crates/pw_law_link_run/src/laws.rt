@@ -28,11 +28,11 @@ ghost use Rattle.pw_milli.specs.Calls.{Enters};
 ghost use Rattle.pw_run_languages.specs.MachineRun.{start_state, traced_run};
 ghost use Rattle.pw_run_languages.specs.CodeStands.{IsReady};
 ghost use Rattle.pw_inst.specs.declared.line.Line.{Line};
-ghost use Rattle.pw_delay.specs.Items.{slotted};
 ghost use Rattle.pw_alloc.specs.declared.located.Located.{Located};
 ghost use Rattle.pw_select.specs.Selection.{selected};
 ghost use Rattle.pw_alloc.specs.Frames.{head_size, slots_begin, last_reach};
 ghost use Rattle.pw_webflow.specs.declared.web.WebBlock.{WebBlock};
+ghost use Rattle.pw_run_languages.specs.SelectionLaws.{arranged};
 ghost use Rattle.pw_law_link_run.specs.Showing.{Shows, DoesSo};
 ghost use Rattle.pw_law_link_run.specs.Steps.{Setting, map_in, IsSetting, Arrives, is_back, AreInData};
 ghost use Rattle.pw_law_link_run.specs.Placing.{name_in, own_address, words_of, Parts};
@@ -46,6 +46,7 @@ ghost use Rattle.pw_law_link_run.specs.Starting.{IsStart, HasData};
 ghost use Rattle.pw_law_link_run.specs.Conventional.{IsConventional};
 
 use pw_law_code::{runs_keep_lawful_states, words_of_the_text_stay};
+use pw_law_slots::moved_words_go_on;
 use pw_machine::{runs_add_up, runs_go_on};
 use pw_milli::{divs_divides, divu_divides, mul_multiplies, rems_divides, remu_divides};
 
@@ -160,10 +161,12 @@ pub fn lawful_starts_are_settings()
     runs_go_on();
 }
 
-/// Lines that words can be made of, and that call as the convention has it, are items that fit.
+/// Lines that words can be made of, and that call as the convention has it, are items that fit, with words in their slots.
 pub fn ready_lines_fit()
-    ensures { (x : Setting) (lines : List Line) → AllByRecursion IsReady lines → AllByRecursion IsConventional lines → AllByRecursion (IsFit x) (slotted lines) }
-{}
+    ensures { (x : Setting) (lines : List Line) → AllByRecursion IsReady lines → AllByRecursion IsConventional lines → AllByRecursion (IsFit x) (arranged lines) }
+{
+    moved_words_go_on();
+}
 
 /// What is selected of a function calls by the convention: functions by register 2, routines by register 31.
 pub fn selected_calls_are_conventional()
@@ -193,11 +196,11 @@ pub fn images_start_as_lines()
         m.entry ≡ own_address x f → x.addresses.base ≡ stack_start_of m.words m.data_size → x.addresses.base < 2 ^ 32 → HasData x m → IsStart x f input }
 {}
 
-/// The items of a selected function begin with a word, and go on behind all but jumps and returns; its frame holds the
+/// The items of a selected function begin with words, and go on behind all but jumps and returns; its frame holds the
 /// saved registers and what stands nearest to the stack pointer.
 pub fn selected_items_are_shaped()
-    ensures begin { (x : Setting) (g : LineFn) (f : Located) → g.items ≡ slotted (selected f) → (before left : List Item) → Parts g before left → before ≢ [] → 1 ≤ words_of x g before }
-    ensures go_on { (x : Setting) (g : LineFn) (f : Located) (b : WebBlock) (blocks : List WebBlock) → g.items ≡ slotted (selected f) → f.body.blocks ≡ b ∷ blocks →
+    ensures begin { (x : Setting) (g : LineFn) (f : Located) → g.items ≡ arranged (selected f) → (before left : List Item) → Parts g before left → before ≢ [] → 1 ≤ words_of x g before }
+    ensures go_on { (x : Setting) (g : LineFn) (f : Located) (b : WebBlock) (blocks : List WebBlock) → g.items ≡ arranged (selected f) → f.body.blocks ≡ b ∷ blocks →
         (before rest : List Item) (item : Item) → Parts g before (item ∷ rest) → IsPassing item → 1 ≤ words_of x g rest }
     ensures frame { (f : Located) (n : ℕ) → f.frame ≡ last_reach (slots_begin (head_size f.body) (length f.saved) n) f.body.slots → 4 * length f.saved + head_size f.body ≤ f.frame }
 {}

@@ -17,7 +17,9 @@ use Rattle.pw_delay.specs.declared.items.Turn.TheVariants.{Back, Goto, If, CallT
 use Rattle.pw_delay.specs.declared.items.Item.{Item}
 use Rattle.pw_delay.specs.declared.items.Item.TheVariants.{Plain, Turns, Mark}
 use Rattle.pw_delay.specs.Items.{begins_next, plain_item, item_of, before, slotted}
+use Rattle.pw_delay.specs.Filling.{drawn_near, filled}
 use Rattle.pw_delay.specs.Placement.{size, sizes, in_slot, turn_words, item_words, words_from, mark_at, fix_at, fixes_from, laid, short_limit, placed}
+use Rattle.pw_delay.proofs.Keeping.{PropertiesMove, properties_stay}
 use Rattle.pw_law_select_walk.specs.Rows.{TakesAddress, IsSelected}
 use Rattle.pw_law_linked.specs.Relocations.{IsRelocation}
 
@@ -120,9 +122,17 @@ module _ (Known Called : List ℕ → Type 0) where
   of_lines (line.CallReg ∷ rest) h = ((tt, tt), of_lines rest h.1)
   of_lines (line.Leave ∷ rest) h = ((tt, tt), of_lines rest h.1)
 
+  near_in : (turn : Turn) → OfTurn turn → OfTurn (drawn_near turn)
+  near_in (Back (i.Combf c r1 r2 disp)) h = tt
+  near_in turn h = h
+
+  moves_in : PropertiesMove OfItem
+  moves_in w turn plain turns free = (near_in turn turns.0, plain)
+
   pub placed_fixes : (lines : List Line) → AllByRecursion (IsSelected Known Called) lines → AllByRecursion OfFix (placed lines).fixes
   unfolding placed laid
   placed_fixes lines h =
-      let items = slotted lines in
-      let long = nat_lt short_limit (sizes false items) in
-      of_words 0 (words_from long (mark_at long 0 items) 0 items) (of_items long (mark_at long 0 items) 0 items (of_lines lines h))
+      let items = filled false (slotted lines) in
+      let long = nat_lt short_limit (sizes false (slotted lines)) in
+      of_words 0 (words_from long (mark_at long 0 items) 0 items)
+      (of_items long (mark_at long 0 items) 0 items (properties_stay OfItem false (slotted lines) moves_in (of_lines lines h)))

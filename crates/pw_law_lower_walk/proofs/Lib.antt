@@ -5,3 +5,4 @@ pub mod Folds
 pub mod Both
 pub mod Typed
 mod Among
+pub mod Made

@@ -1,4 +1,3 @@
-pub mod Flows
 pub mod Symbols
 pub mod Trees
 pub mod Main

@@ -19,7 +19,7 @@ use Rattle.pw_lower.specs.Modules.{lowered, lowered_function, start_of, start_fu
 use Rattle.pw_cmean.specs.Worlds.{Program, ProgramModule, Callable, callable, function_named}
 use Rattle.pw_run_languages.specs.Programs as flows
 use Rattle.pw_law_source.specs.Lowering.{IsAccepted, flow_program}
-use Rattle.pw_law_resolved.proofs.Flows.{function_by}
+use Rattle.pw_law_lower_walk.proofs.Made.{function_by}
 use Rattle.pw_law_resolved.proofs.Symbols.{functions, module_valid, own_function, function_found}
 
 -- ---- the first function of the name, and the first flow graph

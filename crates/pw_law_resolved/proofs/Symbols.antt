@@ -26,7 +26,7 @@ use Rattle.pw_run_languages.specs.Programs as flows
 use Rattle.pw_run_languages.specs.Programs.{globals_of, names_of}
 use Rattle.pw_run_languages.specs.LawfulPrograms.{NamesRightly, ops_of}
 use Rattle.pw_law_source.specs.Lowering.{IsAccepted, flow_program}
-use Rattle.pw_law_resolved.proofs.Flows.{of_tree, full, global_by}
+use Rattle.pw_law_lower_walk.proofs.Made.{of_tree, full, global_by}
 use Rattle.pw_law_never.proofs.Symbols.{object-numbered, object-placed}
 
 -- ---- the meaning's side

@@ -1,30 +1,30 @@
 -- Functions and modules: a function's body stands in the scope of its parameters.
-use Rattle.std.specs.Prelude.{ℕ, zero, suc, ◌≡◌, ◌<◌, ◌≤◌, ◌+◌, ◌⊎◌, true, Option, None, Some, unwrap_or, option_and_then, List, [], ◌∷◌, ◌++◌, length, map, slice_get, All, Ok, refl}
+use Rattle.std.specs.Prelude.{ℕ, ◌≡◌, ◌<◌, ◌≤◌, ◌+◌, ◌⊎◌, true, Option, None, Some, unwrap_or, List, [], ◌∷◌, ◌++◌, length, map, slice_get, All, Ok, refl}
 use Rattle.std.specs.Option.{option_map_or}
-use Rattle.std.proofs.Common.{arith, ap, sym, subst, ◌∙◌, inl, inr}
+use Rattle.std.proofs.Common.{arith, sym, subst, ◌∙◌, inl, inr}
 use Rattle.std.proofs.lemmas.Option.{slice_get-get_or}
 use Rattle.pw_tree.specs.Trees.{Word, Function, External, Definition, Declaration, Module, Block}
 use Rattle.pw_tree.specs.Trees as S
 use Rattle.pw_types.specs.TypeTrees.{QType, type_of}
-use Rattle.pw_types.specs.TypedTrees.{LocalValue, FunctionValue, ModuleValue}
+use Rattle.pw_types.specs.TypedTrees.{FunctionValue, ModuleValue}
 use Rattle.pw_check_walk.specs.Walks.{Walk, Done, Passing, bind}
 use Rattle.pw_check_rules.specs.Checks.{Checks, checking}
 use Rattle.pw_check_rules.specs.Declarations.{name_of}
-use Rattle.pw_check_rules.specs.Derivations.{ParameterValue, Bindings, spot_of, Declared}
-use Rattle.pw_check_rules.specs.Functions.{ends_in_function, function_of, bindings_of, no_bindings, parameter_local, enter_body, definition_asking, definition_rules, measured_rule, body_rule, function_rule}
+use Rattle.pw_check_rules.specs.Derivations.{Bindings, spot_of, Declared}
+use Rattle.pw_check_rules.specs.Functions.{ends_in_function, function_of, bindings_of, no_bindings, enter_body, definition_asking, definition_rules, measured_rule, body_rule, function_rule}
 use Rattle.pw_check_rules.specs.Kinds.{is_function}
 use Rattle.pw_check_rules.specs.Leaves.{first_of_declaration}
-use Rattle.pw_check_rules.specs.Linkage.{Asking, declare_linked, define_function, note_here, linked_before, place_for, linked_again, linked_anew, is_internal_by, type_here, is_linked}
+use Rattle.pw_check_rules.specs.Linkage.{declare_linked, define_function, place_for, is_linked}
 use Rattle.pw_check_rules.specs.Modules.{external_rule, externals_rule, module_rule}
 use Rattle.pw_check_rules.specs.SpecifierLists.{Specified}
-use Rattle.pw_check_rules.specs.States.{State, Entity, TypeName, EnumerationConstant, LocalObject, StaticObject, Linked, LinkedName, enter, put_entity, put_at, put_linked, add_linked, entry_here, entity_here, linked_at, start}
+use Rattle.pw_check_rules.specs.States.{State, entity_here, start}
 use Rattle.pw_check_rules.specs.Statements as R
 use Rattle.pw_check_rules.specs.Statements.{block_rule}
 use Rattle.pw_check_rules.specs.declared.names.Entry.{Entry}
 use Rattle.pw_law_checked.specs.Lawful.{IsLawful, IsLawfulType}
 use Rattle.pw_law_checked.specs.Words.{WordsInStatement}
 use Rattle.pw_law_checked.proofs.Walking.{Post, post_end, post_bind, post_weaken, post_both, truth, AreMet}
-use Rattle.pw_law_checked.proofs.Lists.{get_append, get_either, get_map, get_more, get_within, put_either, some_same, never_some}
+use Rattle.pw_law_checked.proofs.Lists.{get_either, get_map, get_more, get_within, some_same, never_some}
 use Rattle.pw_law_checked.proofs.Types.{no, lawful_later}
 use Rattle.pw_law_checked.proofs.States.{Grows, grows_trans, HasEntity}
 use Rattle.pw_law_checked.proofs.Leaves.{GoodType, GoodSpecified, GoodDeclared, GoodBindings, bindings_later, built_runs}
@@ -39,7 +39,8 @@ use Rattle.pw_law_checked.proofs.Ending.{start_sound}
 use Rattle.pw_law_checked.proofs.Laws.{start_lawful}
 use Rattle.pw_law_checked.proofs.Statements.{block_goes}
 use Rattle.pw_law_checked.proofs.Modules.{OnceDefined, Onwards, none_defined, body_entered, good_bindings, built_kind, is_linkable, external_post}
-use Rattle.pw_law_checked.proofs.Adding.{IsReady, Adds, Declaring, adds_trans, adds_grows, declared_adds, changed_adds, specified_all, decl_declares}
+use Rattle.pw_law_checked.proofs.Bodies.{body_placed, declared_bound, defined_bound}
+use Rattle.pw_law_checked.proofs.Adding.{IsReady, Adds, Declaring, adds_trans, adds_grows, changed_adds, specified_all, decl_declares}
 use Rattle.pw_law_checked.proofs.LabelLaws.{asked_post}
 use Rattle.pw_law_checked.proofs.FunctionLaws.{ends_here, met_post, end_same}
 use Rattle.pw_law_scopes.specs.Scoped.{IsScopedStatement}
@@ -47,88 +48,6 @@ use Rattle.pw_law_scopes.proofs.Visible.{Seen}
 use Rattle.pw_law_scopes.proofs.Walked.{Stands, BlockWalked, block_walked}
 
 -- ---- the state at a body's start
-
--- at file scope no local is visible
-outside : (ls more : List LocalValue) (depth : ℕ) (x : Entity) → depth ≤ 0 → IsPlaced ls depth x → IsPlaced more depth x
-outside ls more depth (TypeName q) least h = tt
-outside ls more depth (EnumerationConstant n) least h = tt
-outside ls more depth (LocalObject k q register) least h = let deep : 0 < depth = h.1 in grind (arith, least, deep)
-outside ls more depth (StaticObject k q) least h = tt
-outside ls more depth (Linked place q) least h = tt
-
-get_mapped : {X Y : Type 0} (f : X → Y) (xs : List X) (i : ℕ) (x : X) → slice_get xs i ≡ Some x → slice_get (map f xs) i ≡ Some (f x)
-get_mapped f [] i x e = never_some e
-get_mapped f (y ∷ xs) zero x e = ap (λ z. Some (f z)) (some_same e)
-get_mapped f (y ∷ xs) (suc i) x e = get_mapped f xs i x e
-
-parameter_placed : (ps : List ParameterValue) (depth : ℕ) (x : Entity) → 0 < depth → IsParameter ps x → IsPlaced (map parameter_local ps) depth x
-parameter_placed ps depth (TypeName q) deep h = tt
-parameter_placed ps depth (EnumerationConstant n) deep h = tt
-parameter_placed ps depth (LocalObject k q register) deep h = ((parameter_local h.0, get_mapped parameter_local ps k h.0 h.1, h.2), deep)
-parameter_placed ps depth (StaticObject k q) deep h = tt
-parameter_placed ps depth (Linked place q) deep h = tt
-
-body_placed : (s : State) (q : QType) (b : Bindings) (names : List (List ℕ)) → ArePlaced s → s.scopes.depth ≡ 0 → IsLawful s → IsBoundThere s b → ArePlaced (enter_body q b names s)
-body_placed s q b names ready outer l bound = placed
-  where
-    placed : ArePlaced (enter_body q b names s)
-    placed i e at = by (get_either s.scopes.ordinary (map (λ (x : List ℕ × ℕ). (x.0, record { place = x.1; depth = s.scopes.depth + 1 })) b.ordinary) i e at)
-      where
-        by : (slice_get s.scopes.ordinary i ≡ Some e) ⊎ ((j : ℕ) × (slice_get (map (λ (x : List ℕ × ℕ). (x.0, record { place = x.1; depth = s.scopes.depth + 1 })) b.ordinary) j ≡ Some e))
-            → HasEntity (IsPlaced (map parameter_local b.parameters) e.1.depth) (enter_body q b names s) e.1.place
-        by (inl f) =
-            let x = ready i e f in
-            let k : e.1.depth ≤ s.scopes.depth = l.depths i e f in
-            (x.0, x.1, outside s.body.locals (map parameter_local b.parameters) e.1.depth x.0 (omega (arith, k, outer)) x.2)
-        by (inr f) =
-            let y = get_map (λ (x : List ℕ × ℕ). let z : List ℕ × Entry = (x.0, record { place = x.1; depth = s.scopes.depth + 1 }) in z) b.ordinary f.0 e f.1 in
-            let x = bound f.0 y.0 y.1 in
-            subst (λ (z : List ℕ × Entry). HasEntity (IsPlaced (map parameter_local b.parameters) z.1.depth) (enter_body q b names s) z.1.place) y.2
-            (x.0, x.1, parameter_placed b.parameters (s.scopes.depth + 1) x.0 (omega arith) x.2)
-
--- ---- what is bound stays so where a function's name is declared
-
-here_bound : (n : State) (name : List ℕ) (place : ℕ) (q : QType) (b : Bindings) → option_map_or is_linked (entity_here n name) true ≡ true → IsBoundThere n b → IsBoundThere (note_here name place q n) b
-here_bound n name place q b linked bound = by (entry_here n name) refl
-  where
-    by : (o : Option Entry) → entry_here n name ≡ o
-        → IsBoundThere (option_map_or (λ (e : Entry). put_entity e.place (Linked place (type_here q (unwrap_or (entity_here n name) (TypeName q)))) n) o (enter name (Linked place q) n)) b
-    by None same i e at = let x = bound i e at in (x.0, get_append n.scopes.entities (Linked place q ∷ []) e.1 x.0 x.1, x.2)
-    by (Some here) same i e at = put (bound i e at) (put_either here.place (Linked place (type_here q (unwrap_or (entity_here n name) (TypeName q)))) n.scopes.entities e.1)
-      where
-        never : (x : Entity) → is_linked x ≡ true → IsParameter b.parameters x → ⊥
-        never (TypeName q) h k = no h
-        never (EnumerationConstant n) h k = no h
-        never (LocalObject k q register) h z = no h
-        never (StaticObject k q) h z = no h
-        never (Linked place q) h k = k
-
-        put : HasEntity (IsParameter b.parameters) n e.1
-            → ((e.1 ≡ here.place) × (slice_get (put_at here.place (Linked place (type_here q (unwrap_or (entity_here n name) (TypeName q)))) n.scopes.entities) e.1 ≡ Some (Linked place (type_here q (unwrap_or (entity_here n name) (TypeName q))))))
-            ⊎ (slice_get (put_at here.place (Linked place (type_here q (unwrap_or (entity_here n name) (TypeName q)))) n.scopes.entities) e.1 ≡ slice_get n.scopes.entities e.1)
-            → HasEntity (IsParameter b.parameters) (put_entity here.place (Linked place (type_here q (unwrap_or (entity_here n name) (TypeName q)))) n) e.1
-        put x (inr f) = (x.0, f ∙ x.1, x.2)
-        put x (inl f) =
-            let found : entity_here n name ≡ Some x.0 =
-            ap (λ o. option_and_then (Rattle.pw_check_rules.specs.States.entity_at n) o) same ∙ subst (λ k. slice_get n.scopes.entities k ≡ Some x.0) f.0 x.1 in
-            absurd (never x.0 (sym (ap (λ o. option_map_or is_linked o true) found) ∙ linked) x.2)
-
-declared_bound : (s : State) (name : List ℕ) (token : ℕ) (tag : Option ℕ) (asking : Asking) (q : QType) (b : Bindings) → option_map_or is_linked (entity_here s name) true ≡ true → IsBoundThere s b
-    → Post (declare_linked name token tag asking q s) (λ r. Adds s r.1 × IsBoundThere r.1 b)
-unfolding declare_linked bind
-declared_bound s name token tag asking q b linked bound = (declared_adds s name token tag asking q, by (linked_before s name))
-  where
-    by : (o : Option LinkedName)
-        → IsBoundThere (note_here name (place_for s name) q (option_map_or (λ l. put_linked (place_for s name) (linked_again q l) s) o (add_linked (linked_anew name (is_internal_by s name asking) q token tag) s))) b
-    by None = here_bound (add_linked (linked_anew name (is_internal_by s name asking) q token tag) s) name (place_for s name) q b linked bound
-    by (Some l) = here_bound (put_linked (place_for s name) (linked_again q l) s) name (place_for s name) q b linked bound
-
-defined_bound : (s : State) (place : ℕ) (b : Bindings) → IsBoundThere s b → IsBoundThere (define_function place s) b
-defined_bound s place b bound = by (linked_at s place)
-  where
-    by : (o : Option LinkedName) → IsBoundThere (option_map_or (λ x. put_linked place (record x { defined = true }) s) o s) b
-    by None = bound
-    by (Some x) = bound
 
 -- the parameters alone can be seen
 parameters_seen : (s : State) (q : QType) (b : Bindings) (names : List (List ℕ)) → ArePlaced s → s.scopes.depth ≡ 0 → IsLawful s → IsBoundThere s b → (d k : ℕ) → Seen (enter_body q b names s) d k → k < length b.parameters

@@ -33,12 +33,11 @@ use Rattle.pw_alloc.specs.declared.located.Place.TheVariants.{Slot, Reg}
 use Rattle.pw_alloc.specs.declared.located.Located.{Located}
 use Rattle.pw_alloc.specs.Frames.{head_size, saved_offset, below}
 use Rattle.pw_alloc.specs.Allocation.{is_entry}
-use Rattle.pw_delay.specs.Branches.{IsSent}
 use Rattle.pw_select_lines.specs.Registers.{word, Reach, reach, is_near, as_word, constant, long_constant, address_of, load_from, store_to, frame_address, place_of, operand_register, operand_lines, loaded, result_register, result_lines, load_scalar, store_scalar, sign_spread, read_global, write_global, copied}
 use Rattle.pw_select_lines.specs.Arithmetic.{unary_word, routine_of, binary_lines, extension_word, with_one, with_two, with_none, moved_unless_there, routine_result, by_routine, binary_by}
 use Rattle.pw_select_lines.specs.Operations.{Layout, layout, unit_loop, moved, stacked_arguments, register_arguments, called, called_by_value, call_result, op_lines, web_op_lines}
 use Rattle.pw_select.specs.Selection.{slot_offsets, saved_lines, entered_web, lines_of_web, entered_lines, stored_back, loaded_web, webs_loaded, webs_stored, incoming, parameter_in, parameters_in, frame_end, entry_lines, prologue, frame_left, epilogue, end_lines, block_lines, blocks_lines, selected}
-use Rattle.pw_law_select_walk.specs.Rows.{TakesAddress, IsAddressed, IsRow, IsSelected, KnowsFlow, KnowsOp, KnowsBlock, KnowsWeb, Knows}
+use Rattle.pw_law_select_walk.specs.Rows.{TakesAddress, IsAddressed, IsAlone, IsRow, IsSelected, KnowsFlow, KnowsOp, KnowsBlock, KnowsWeb, Knows}
 
 abbrev pub AreRows : (List ℕ → Type 0) → (List ℕ → Type 0) → List Line → Type 0
 AreRows Known Called lines = AllByRecursion (IsRow Known Called) lines
@@ -109,14 +108,14 @@ module _ (Known Called : List ℕ → Type 0) where
   store_scalar_takes scalar.U16 r b = tt
   store_scalar_takes scalar.W32 r b = tt
 
-  load_scalar_in : (k : Kind) (b t : ℕ) → IsSent (load_scalar k (pos 0) b t) None
+  load_scalar_in : (k : Kind) (b t : ℕ) → IsAlone (load_scalar k (pos 0) b t)
   load_scalar_in scalar.S8 b t = tt
   load_scalar_in scalar.U8 b t = tt
   load_scalar_in scalar.S16 b t = tt
   load_scalar_in scalar.U16 b t = tt
   load_scalar_in scalar.W32 b t = tt
 
-  store_scalar_in : (k : Kind) (r b : ℕ) → IsSent (store_scalar k r (pos 0) b) None
+  store_scalar_in : (k : Kind) (r b : ℕ) → IsAlone (store_scalar k r (pos 0) b)
   store_scalar_in scalar.S8 r b = tt
   store_scalar_in scalar.U8 r b = tt
   store_scalar_in scalar.S16 r b = tt
@@ -149,11 +148,11 @@ module _ (Known Called : List ℕ → Type 0) where
       (joined (operand_lines a 22 ++ operand_lines b 21) (lines r s d) (joined (operand_lines a 22) (operand_lines b 21) (operand_in a 22) (operand_in b 21)) (each r s d))
       (result_in t)
 
-  unary_in : (k : UnKind) (a d : ℕ) → IsSent (unary_word k a d) None
+  unary_in : (k : UnKind) (a d : ℕ) → IsAlone (unary_word k a d)
   unary_in un.Neg a d = tt
   unary_in un.Not a d = tt
 
-  extension_in : (k : ExtKind) (a d : ℕ) → IsSent (extension_word k a d) None
+  extension_in : (k : ExtKind) (a d : ℕ) → IsAlone (extension_word k a d)
   extension_in ext.S8 a d = tt
   extension_in ext.U8 a d = tt
   extension_in ext.S16 a d = tt
@@ -206,12 +205,12 @@ module _ (Known Called : List ℕ → Type 0) where
 
   -- ---- copies of bytes, and calls
 
-  load_unit_by : (b t : ℕ) (one two : Bool) → IsSent (if one then i.Ldb (pos 0) b t else if two then i.Ldh (pos 0) b t else i.Ldw (pos 0) b t) None
+  load_unit_by : (b t : ℕ) (one two : Bool) → IsAlone (if one then i.Ldb (pos 0) b t else if two then i.Ldh (pos 0) b t else i.Ldw (pos 0) b t)
   load_unit_by b t true two = tt
   load_unit_by b t false true = tt
   load_unit_by b t false false = tt
 
-  store_unit_by : (r b : ℕ) (one two : Bool) → IsSent (if one then i.Stb r (pos 0) b else if two then i.Sth r (pos 0) b else i.Stw r (pos 0) b) None
+  store_unit_by : (r b : ℕ) (one two : Bool) → IsAlone (if one then i.Stb r (pos 0) b else if two then i.Sth r (pos 0) b else i.Stw r (pos 0) b)
   store_unit_by r b true two = tt
   store_unit_by r b false true = tt
   store_unit_by r b false false = tt

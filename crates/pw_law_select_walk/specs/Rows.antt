@@ -1,5 +1,5 @@
 -- What a line is that selection makes, whatever the function.
-use Rattle.std.specs.Prelude.{ℕ, ◌≡◌, ◌<◌, None, List}
+use Rattle.std.specs.Prelude.{ℕ, zero, suc, negsuc, ◌≡◌, ◌<◌, None, List}
 use Rattle.std.specs.List.{AllByRecursion}
 use Rattle.pw_flow.specs.FlowGraph.{op_names}
 use Rattle.pw_flow.specs.declared.flow.Op.{Op}
@@ -42,10 +42,15 @@ IsAddressed Known (symbol.Named name) = Known name
 IsAddressed Known symbol.StackLimit = Unit {0}
 IsAddressed Known s = ⊥
 
--- A line between two labels. A word by itself is no branch to a function, a word with a relocation takes the address of a
+-- a word by itself is no branch to a function, and none that goes back to itself
+abbrev pub IsAlone : Inst → Type 0
+IsAlone (i.Combf c r1 r2 (negsuc (suc zero))) = ⊥
+IsAlone x = IsSent x None
+
+-- A line between two labels. A word by itself is no branch to a function or to itself, a word with a relocation takes the address of a
 -- known name; a function whose name is one to call is called by register 2, a routine that there is by register 31.
 abbrev pub IsRow : (List ℕ → Type 0) → (List ℕ → Type 0) → Line → Type 0
-IsRow Known Called (line.Plain x) = IsSent x None
+IsRow Known Called (line.Plain x) = IsAlone x
 IsRow Known Called (line.Fixed x k s n) = TakesAddress k x × IsAddressed Known s
 IsRow Known Called (line.CallTo (symbol.Named f) r) = (r ≡ return_address) × Called f
 IsRow Known Called (line.CallTo (symbol.Routine k) r) = (r ≡ routine_link) × (k < routine_count)

@@ -20,8 +20,10 @@ use Rattle.pw_delay.specs.declared.items.Turn.TheVariants.{Back, Goto, If, CallT
 use Rattle.pw_delay.specs.declared.items.Item.{Item}
 use Rattle.pw_delay.specs.declared.items.Item.TheVariants.{Plain, Turns, Mark}
 use Rattle.pw_delay.specs.Items.{begins_next, plain_item, before, slotted}
+use Rattle.pw_delay.specs.Filling.{drawn_near, filled}
 use Rattle.pw_delay.specs.Placement.{in_slot, size, sizes, mark_at, branch_words, return_words, turn_words, item_words, words_from, fix_at, fixes_from, short_limit, laid, placed}
-use Rattle.pw_alloc.specs.Allocation.{allocated}
+use Rattle.pw_alloc_temps.specs.Temporaries.{allocated}
+use Rattle.pw_delay.proofs.Keeping.{PropertiesMove, properties_stay}
 use Rattle.pw_webflow.specs.Direction.{directed}
 use Rattle.pw_select.specs.Selection.{selected}
 use Rattle.pw_object.specs.Functions.{names_of_symbol}
@@ -121,12 +123,20 @@ module _ (P : List ℕ → Type 0) where
   fixes_named at [] h = tt
   fixes_named at (w ∷ rest) h = fix_named at w.relocation (fixes_from (at + 1) rest) h.0 (fixes_named (at + 1) rest h.1)
 
+  near_named : (turn : Turn) → IsNamedTurn turn → IsNamedTurn (drawn_near turn)
+  near_named (Back (i.Combf c r1 r2 disp)) h = tt
+  near_named turn h = h
+
+  named_moves : PropertiesMove IsNamedItem
+  named_moves w turn plain turns free = (near_named turn turns.0, plain)
+
   placed_named : (lines : List Line) → AreNamed P lines → AllByRecursion IsNamedFix (placed lines).fixes
   unfolding placed laid
   placed_named lines h =
-      let items = slotted lines in
-      let long = nat_lt short_limit (sizes false items) in
-      fixes_named 0 (words_from long (mark_at long 0 items) 0 items) (words_named long (mark_at long 0 items) 0 items (slotted_named lines h))
+      let items = filled false (slotted lines) in
+      let long = nat_lt short_limit (sizes false (slotted lines)) in
+      fixes_named 0 (words_from long (mark_at long 0 items) 0 items)
+      (words_named long (mark_at long 0 items) 0 items (properties_stay IsNamedItem false (slotted lines) named_moves (slotted_named lines h)))
 
   -- ---- names
 

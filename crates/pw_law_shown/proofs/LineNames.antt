@@ -15,7 +15,7 @@ use Rattle.pw_inst.specs.declared.line.Line.TheVariants.{Fixed, CallTo}
 use Rattle.pw_inst.specs.declared.relocation.Symbol.{Symbol}
 use Rattle.pw_inst.specs.declared.relocation.Symbol.TheVariants as symbol
 use Rattle.pw_webflow.specs.Direction.{register_of, read_of, write_of, directed_op, directed_block, directed}
-use Rattle.pw_alloc.specs.Allocation.{allocated}
+use Rattle.pw_alloc_temps.specs.Temporaries.{allocated}
 use Rattle.pw_select.specs.Selection.{selected}
 use Rattle.pw_law_select_walk.specs.Rows.{IsAddressed, IsRow, KnowsFlow, KnowsOp, KnowsBlock, KnowsWeb}
 use Rattle.pw_law_select_walk.proofs.EachLine.{each_selected}

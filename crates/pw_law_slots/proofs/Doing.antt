@@ -7,7 +7,7 @@ use Rattle.std.specs.Str.{bytes_eq}
 use Rattle.pw_inst.specs.declared.Inst.{Inst}
 use Rattle.pw_inst.specs.Computing.{Action, source_registers, target_registers}
 use Rattle.pw_delay.specs.declared.items.Item.{Item}
-use Rattle.pw_slots.specs.Filling.{have_common, but_zero}
+use Rattle.pw_delay.specs.Filling.{have_common, but_zero}
 use Rattle.pw_run_languages.specs.Traces.{Event, Loaded, Stored, touches, load_of, store_of}
 use Rattle.pw_run_languages.specs.Programs.{globals_of}
 use Rattle.pw_run_languages.specs.Addresses.{Addresses}
@@ -17,12 +17,12 @@ use Rattle.pw_law_slots.specs.Passing.{past, does_not_turn, then_done}
 use Rattle.pw_law_slots.proofs.Passing.{BySources, ByTargets, words_past, actions_past}
 
 -- what is noted of an action
-noted : LineProgram → Addresses → Bool → Action → List (Event ℕ ℕ)
+unfoldable pub noted : LineProgram → Addresses → Bool → Action → List (Event ℕ ℕ)
 noted p w skip a = if skip then [] else flat_map (λ g.
     (if nat_lt 0 (count_by (bytes_eq g.name) p.eligible) && touches (load_of a) (w.named g.name) g.size then Loaded g.name ∷ [] else [])
     ++ (if nat_lt 0 (count_by (bytes_eq g.name) p.eligible) && touches (store_of a) (w.named g.name) g.size then Stored g.name ∷ [] else [])) (globals_of p.flow)
 
-skip_stays : (zero : Bool) (r v : ℕ) (c : Core) → (if zero then c else record c { registers = λ b. if b == r then v else c.registers b }).skip ≡ c.skip
+pub skip_stays : (zero : Bool) (r v : ℕ) (c : Core) → (if zero then c else record c { registers = λ b. if b == r then v else c.registers b }).skip ≡ c.skip
 skip_stays true r v c = refl
 skip_stays false r v c = refl
 

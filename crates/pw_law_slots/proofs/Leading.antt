@@ -4,13 +4,13 @@ use Rattle.std.specs.Prelude.{◌==◌, ◌&&◌, not}
 use Rattle.std.proofs.lemmas.List.Sums.{sum_by-cons}
 use Rattle.pw_delay.specs.declared.items.Item.{Item}
 use Rattle.pw_delay.specs.declared.items.Item.TheVariants.{Plain, Turns, Mark}
-use Rattle.pw_slots.specs.Filling.{moves, drawn_near, compared, with_slot, filled}
+use Rattle.pw_delay.specs.Filling.{moves, drawn_near, compared, with_slot, filled}
 use Rattle.pw_run_languages.specs.LineRun.{from_mark, is_turn, turns}
 use Rattle.pw_law_slots.specs.Found.{AreFoundAlike}
 
 -- ---- blocks
 
-mark_kept : (b : ℕ) (behind : Bool) (item : Item) (rest : List Item) → from_mark b (with_slot behind item rest) ≡ from_mark b (item ∷ rest)
+pub mark_kept : (b : ℕ) (behind : Bool) (item : Item) (rest : List Item) → from_mark b (with_slot behind item rest) ≡ from_mark b (item ∷ rest)
 mark_kept b behind (Plain w) (Turns turn None ∷ rest) = by (not behind && moves w.inst turn)
   where
     by : (t : Bool) → from_mark b (if t then Turns (drawn_near turn) (Some w) ∷ rest else Plain w ∷ Turns turn None ∷ rest) ≡ from_mark b rest

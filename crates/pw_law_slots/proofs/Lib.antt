@@ -1,7 +1,17 @@
 pub mod Passing
 pub mod Settling
+pub mod Skipping
 pub mod Doing
 pub mod Turning
 pub mod Leading
 pub mod Programs
+pub mod Places
 pub mod Looping
+pub mod Beside
+pub mod Backward
+pub mod Going
+pub mod Ahead
+pub mod Standing
+pub mod Following
+pub mod Placing
+pub mod Moving

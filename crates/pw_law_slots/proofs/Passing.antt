@@ -6,7 +6,7 @@ use Rattle.std.proofs.lemmas.List.Folds.{list_any_at, list_any-append}
 use Rattle.pw_inst.specs.declared.Inst.{Inst}
 use Rattle.pw_inst.specs.declared.Inst.TheVariants.{Ldb, Ldh, Ldw, Ldo, Stb, Sth, Stw, Ldil, And, Or, Xor, Sub, Addl, Vshd, Mtctl, Comclr, Subi, Extru, Extrs, Zdep, Combt, Combf, Bl, Bv, Ble, Break}
 use Rattle.pw_inst.specs.Computing.{Action, Puts, Loads, Stores, Shifts, bytes_of_width, action, registers_put, source_registers, target_registers}
-use Rattle.pw_slots.specs.Filling.{goes_on, have_common, but_zero}
+use Rattle.pw_delay.specs.Filling.{goes_on, have_common, but_zero}
 use Rattle.pw_run_languages.specs.Addresses.{Addresses}
 use Rattle.pw_run_languages.specs.Acts.{Core, Act, Acts, Full, Fails, register, put, with_register, number_at, with_number, is_open, act_of, action_of, executed, acts}
 use Rattle.pw_law_slots.specs.Passing.{past, does_not_turn}
@@ -63,7 +63,7 @@ named xs r s none there = by (s == r) refl
 first_part : (p : ℕ → Bool) (xs ys : List ℕ) → list_any p (xs ++ ys) ≡ false → list_any p xs ≡ false
 first_part p xs ys h = let e = list_any-append p xs ys in grind arith
 
-second_part : (p : ℕ → Bool) (xs ys : List ℕ) → list_any p (xs ++ ys) ≡ false → list_any p ys ≡ false
+pub second_part : (p : ℕ → Bool) (xs ys : List ℕ) → list_any p (xs ++ ys) ≡ false → list_any p ys ≡ false
 second_part p xs ys h = let e = list_any-append p xs ys in grind arith
 
 -- ---- actions
@@ -146,7 +146,7 @@ past_nothing (Acts c) = refl
 past_nothing Full = refl
 past_nothing Fails = refl
 
-runs : (w : Addresses) (i : Inst) (c : Core) → c.skip ≡ false → acts w (Some i) c ≡ executed w i c
+pub runs : (w : Addresses) (i : Inst) (c : Core) → c.skip ≡ false → acts w (Some i) c ≡ executed w i c
 runs w i c run = ap (λ (t : Bool). if t then Acts (record c { skip = false }) else executed w i c) run
 
 pub words_past : BySources → ByTargets → (w : Addresses) (i : Inst) (r v : ℕ) (c : Core) → does_not_turn i ≡ true → c.skip ≡ false

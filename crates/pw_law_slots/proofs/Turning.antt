@@ -10,7 +10,7 @@ use Rattle.pw_delay.specs.declared.items.Turn.{Turn}
 use Rattle.pw_delay.specs.declared.items.Turn.TheVariants.{Back, Goto, If, CallTo, CallReg, Leave}
 use Rattle.pw_delay.specs.declared.items.Item.{Item}
 use Rattle.pw_delay.specs.declared.items.Item.TheVariants.{Plain, Turns}
-use Rattle.pw_slots.specs.Filling.{have_common, but_zero, are_apart, branch, may_move, moves}
+use Rattle.pw_delay.specs.Filling.{have_common, but_zero, are_apart, branch, may_move, moves}
 use Rattle.pw_run_languages.specs.Addresses.{Addresses}
 use Rattle.pw_run_languages.specs.Acts.{Core, Act, Acts, Full, Fails, register, acts, settled}
 use Rattle.pw_run_languages.specs.LineRun.{LineProgram, Machine, Step, On, Stopped, Astray, and_then, linked, counted, left_behind, accesses, went_on, does, from_mark, goes_to, to_block, return_address, calls, calls_at, function_at, routine, returns, turned, step}
@@ -46,10 +46,10 @@ goes_alike None left m = refl
 -- ---- turn by turn
 
 -- what is known of a word and a turn
-record Fits (w : Addresses) (o : Option Inst) (by : Inst) (m : Machine) : Type 0 where
-  stops : acts w o m.core ≡ Full → ⊥
-  keeps : (r : ℕ) (c : Core) → list_any (λ s. r == s) (source_registers by) ≡ true → acts w o m.core ≡ Acts c → register c r ≡ register m.core r
-  free : (r : ℕ) → target_registers by ≡ r ∷ [] → IsFree o r
+pub record Fits (w : Addresses) (o : Option Inst) (by : Inst) (m : Machine) : Type 0 where
+  pub stops : acts w o m.core ≡ Full → ⊥
+  pub keeps : (r : ℕ) (c : Core) → list_any (λ s. r == s) (source_registers by) ≡ true → acts w o m.core ≡ Acts c → register c r ≡ register m.core r
+  pub free : (r : ℕ) → target_registers by ≡ r ∷ [] → IsFree o r
 
 goes_in_slot : (p : LineProgram) (w : Addresses) (o : Option Inst) (b : ℕ) (left : List Item) (m : Machine) → (acts w o m.core ≡ Full → ⊥)
     → and_then (does_by p w o (counted m)) (to_block b) ≡ and_then (does_by p w o (left_behind left m)) (λ d. to_block b (counted d))
@@ -99,7 +99,7 @@ nowhere p w o m stops = by (acts w o m.core) refl
     by Full e = absurd (stops e)
     by Fails e = refl
 
-among_first : (r : ℕ) (rest : List ℕ) → list_any (λ s. r == s) (r ∷ rest) ≡ true
+pub among_first : (r : ℕ) (rest : List ℕ) → list_any (λ s. r == s) (r ∷ rest) ≡ true
 among_first r rest = let e : (r == r) ≡ true = grind arith in rw e refl
 
 turn_in_slot : BySources → ByTargets → (p : LineProgram) (w : Addresses) (scratch : ℕ → (ℕ → ℕ) → ℕ → ℕ) (word : Word) (turn : Turn) (here there left rest : List Item) (m : Machine)
@@ -137,15 +137,15 @@ turn_in_slot sources targets p w scratch word Leave here there left rest m on fi
 
 -- ---- words that move are such
 
-both_left : (s t : Bool) → (s && t) ≡ true → s ≡ true
+pub both_left : (s t : Bool) → (s && t) ≡ true → s ≡ true
 both_left true t h = refl
 both_left false t h = grind arith
 
-both_right : (s t : Bool) → (s && t) ≡ true → t ≡ true
+pub both_right : (s t : Bool) → (s && t) ≡ true → t ≡ true
 both_right true t h = h
 both_right false t h = grind arith
 
-not_true : (s : Bool) → not s ≡ true → s ≡ false
+pub not_true : (s : Bool) → not s ≡ true → s ≡ false
 not_true true h = grind arith
 not_true false h = refl
 
@@ -164,7 +164,7 @@ apart_from (x ∷ xs) ys r none there =
     by true e f h = absurd (let same : x ≡ r = grind arith in let none : list_any (λ s. r == s) ys ≡ false = subst (λ (q : ℕ). list_any (λ s. q == s) ys ≡ false) same f in let bad : true ≡ false = sym there ∙ none in cc)
     by false e f h = h
 
-moves_fit_by : BySources → ByTargets → (w : Addresses) (word : Word) (turn : Turn) (m : Machine) → moves word.inst turn ≡ true → m.core.skip ≡ false
+pub moves_fit_by : BySources → ByTargets → (w : Addresses) (word : Word) (turn : Turn) (m : Machine) → moves word.inst turn ≡ true → m.core.skip ≡ false
     → Fits w (settled w word) (branch turn) m
 moves_fit_by sources targets w word turn m free run =
     let movable = both_left (may_move word.inst) (are_apart word.inst (branch turn)) free in
@@ -195,7 +195,7 @@ moves_fit_by sources targets w word turn m free run =
         (subst (λ (ts : List ℕ). have_common ts (source_registers (branch turn)) ≡ false) (sym (settled_targets w word i e)) written) there in
         (words_keep targets w i r m.core c (settled_turns w word i e ∙ goes) run none does).0
 
-clear_by : (w : Addresses) (word : Word) (c d : Core) → may_move word.inst ≡ true → c.skip ≡ false → (o : Option Inst) → settled w word ≡ o → acts w o c ≡ Acts d → d.skip ≡ false
+pub clear_by : (w : Addresses) (word : Word) (c d : Core) → may_move word.inst ≡ true → c.skip ≡ false → (o : Option Inst) → settled w word ≡ o → acts w o c ≡ Acts d → d.skip ≡ false
 clear_by w word c d movable run None e does = absurd cc
 clear_by w word c d movable run (Some i) e does = words_clear w i c d (settled_turns w word i e ∙ both_left _ _ movable) run does
 

@@ -1,3 +1,4 @@
 pub mod Passing
 pub mod Found
 pub mod SlotLaws
+pub mod Moving

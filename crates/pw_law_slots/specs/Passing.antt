@@ -2,7 +2,7 @@
 use Rattle.std.specs.Prelude.{Bool}
 use Rattle.pw_inst.specs.declared.Inst.{Inst}
 use Rattle.pw_inst.specs.Computing.{action}
-use Rattle.pw_slots.specs.Filling.{goes_on}
+use Rattle.pw_delay.specs.Filling.{goes_on}
 use Rattle.pw_delay.specs.declared.items.Turn.{Turn}
 use Rattle.pw_delay.specs.declared.items.Turn.TheVariants.{Back}
 use Rattle.pw_run_languages.specs.Acts.{Core, Act, Acts, Full, Fails}

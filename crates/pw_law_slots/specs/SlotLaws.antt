@@ -1,11 +1,13 @@
 -- What filling owes, over any items: the statement of its law.
-use Rattle.std.specs.Prelude.{ℕ, zero, suc, negsuc, false, List, map}
+use Rattle.std.specs.Prelude.{ℕ, zero, suc, negsuc, ◌≡◌, false, Option, None, Some, List, map}
 use Rattle.std.specs.List.{AllByRecursion}
 use Rattle.pw_inst.specs.declared.Inst.TheVariants.{Combf}
+use Rattle.pw_delay.specs.declared.items.Word.{Word}
+use Rattle.pw_delay.specs.declared.items.Turn.{Turn}
 use Rattle.pw_delay.specs.declared.items.Item.{Item}
 use Rattle.pw_delay.specs.declared.items.Item.TheVariants.{Turns}
 use Rattle.pw_delay.specs.declared.items.Turn.TheVariants.{Back}
-use Rattle.pw_slots.specs.Filling.{filled}
+use Rattle.pw_delay.specs.Filling.{compares, filled}
 use Rattle.pw_run.specs.Runs.{Same}
 use Rattle.pw_run_languages.specs.Addresses.{Addresses}
 use Rattle.pw_run_languages.specs.Late.{RefinesLately}
@@ -19,10 +21,19 @@ filled_function f = record { located = f.located; items = filled false f.items }
 abbrev pub filled_program : LineProgram → LineProgram
 filled_program p = record { flow = p.flow; functions = map filled_function p.functions; eligible = p.eligible }
 
--- no branch goes back to itself
-abbrev pub IsNoStandstill : Item → Type 0
-IsNoStandstill (Turns (Back (Combf c r1 r2 (negsuc (suc zero)))) slot) = ⊥
-IsNoStandstill item = Unit {0}
+-- no branch back to itself
+abbrev pub GoesElsewhere : Turn → Type 0
+GoesElsewhere (Back (Combf c r1 r2 (negsuc (suc zero)))) = ⊥
+GoesElsewhere turn = Unit {0}
+
+-- no word that passes over the next one
+abbrev pub PassesNothing : Option Word → Type 0
+PassesNothing None = Unit {0}
+PassesNothing (Some w) = compares w.inst ≡ false
+
+abbrev pub IsFillable : Item → Type 0
+IsFillable (Turns turn slot) = GoesElsewhere turn × PassesNothing slot
+IsFillable item = Unit {0}
 
 -- The run of the filled items does what the run of the items does, late by loads and stores at most; and as far as return
 -- addresses stand in memory in the one, they do in the other.
@@ -34,4 +45,4 @@ pub record FillingKeeps (p : LineProgram) (w : Addresses) (scratch : ℕ → (�
 abbrev pub FillingKeepsRuns : Type 0
 FillingKeepsRuns =
     (p : LineProgram) (w : Addresses) (scratch : ℕ → (ℕ → ℕ) → ℕ → ℕ) (input : List ℕ) →
-    AllByRecursion (λ f. AllByRecursion IsNoStandstill f.items) p.functions → FillingKeeps p w scratch input
+    AllByRecursion (λ f. AllByRecursion IsFillable f.items) p.functions → FillingKeeps p w scratch input

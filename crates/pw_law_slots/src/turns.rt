@@ -6,11 +6,11 @@ ghost use Rattle.pw_delay.specs.declared.items.Word.{Word};
 ghost use Rattle.pw_delay.specs.declared.items.Turn.{Turn};
 ghost use Rattle.pw_delay.specs.declared.items.Item.{Item};
 ghost use Rattle.pw_delay.specs.declared.items.Item.TheVariants.{Plain, Turns};
-ghost use Rattle.pw_slots.specs.Filling.{moves, filled};
+ghost use Rattle.pw_delay.specs.Filling.{moves, filled};
 ghost use Rattle.pw_run_languages.specs.Addresses.{Addresses};
 ghost use Rattle.pw_run_languages.specs.LineRun.{LineProgram, Machine, and_then, left_behind, back_over, from_mark, function_at, function_named, is_plain, turns, step};
 ghost use Rattle.pw_law_slots.specs.Passing.{LeadsOn};
-ghost use Rattle.pw_law_slots.specs.Found.{AreFoundAlike};
+ghost use Rattle.pw_law_slots.specs.Found.{AreFoundAlike, GoesOver};
 ghost use Rattle.pw_law_slots.specs.SlotLaws.{filled_function, filled_program};
 
 use pw_inst::actions_go_by_registers;
@@ -39,9 +39,10 @@ pub fn filled_programs_name_alike()
     ensures standing { (p : LineProgram) (w : Addresses) (a : ℕ) → function_at (filled_program p) w a ≡ function_at p w a }
 {}
 
-/// A branch that goes back over so many words leads to the first of them; and words that stand together stay together where
-/// slots are filled.
+/// A branch that goes back over so many words leads to the first of them, and it goes over words alone that stand directly
+/// before it; and words that stand together stay together where slots are filled.
 pub fn loops_go_over_words()
+    ensures over { (items before here from : List Item) (n : ℕ) → items ≡ before ++ here → back_over n here items ≡ Some from → GoesOver before here from n }
     ensures back { (before words here : List Item) → list_all is_plain words ≡ true → back_over (length words) here (before ++ (words ++ here)) ≡ Some (words ++ here) }
     ensures stay { (behind : Bool) (words : List Item) → list_all is_plain words ≡ true → filled behind words ≡ words }
 {}

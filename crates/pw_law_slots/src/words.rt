@@ -4,9 +4,10 @@ ghost use Rattle.std.specs.Prelude.{ℕ, ◌≡◌, true, false, Some, [], ◌�
 ghost use Rattle.pw_inst.specs.declared.Inst.{Inst};
 ghost use Rattle.pw_inst.specs.Computing.{source_registers, target_registers};
 ghost use Rattle.pw_delay.specs.declared.items.Word.{Word};
-ghost use Rattle.pw_slots.specs.Filling.{goes_on, have_common, but_zero};
+ghost use Rattle.pw_delay.specs.Filling.{goes_on, have_common, but_zero};
 ghost use Rattle.pw_run_languages.specs.Addresses.{Addresses};
 ghost use Rattle.pw_run_languages.specs.Acts.{Core, Acts, register, with_register, acts, settled};
+ghost use Rattle.pw_law_slots.specs.Moving.{MovedNeverStop, MovedPassNothing, MovedLeaveLinks};
 ghost use Rattle.pw_law_slots.specs.Passing.{past, does_not_turn};
 
 use pw_inst::actions_go_by_registers;
@@ -35,3 +36,13 @@ pub fn settled_words_move_alike()
     ensures targets { (w : Addresses) (word : Word) (i : Inst) → settled w word ≡ Some i → target_registers i ≡ target_registers word.inst }
     ensures turns { (w : Addresses) (word : Word) (i : Inst) → settled w word ≡ Some i → does_not_turn i ≡ does_not_turn word.inst }
 {}
+
+/// A word that may move neither stops the run nor passes over the next word, and one that moves into the slot of a turn leaves
+/// the register of its link as it is.
+pub fn moved_words_go_on()
+    ensures stays { MovedNeverStop }
+    ensures runs { MovedPassNothing }
+    ensures links { MovedLeaveLinks }
+{
+    actions_go_by_registers();
+}

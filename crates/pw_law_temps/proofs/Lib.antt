@@ -1,4 +1,3 @@
-mod Lists
 mod Words
 mod Serving
 mod Programs

@@ -5,7 +5,7 @@ use Rattle.std.proofs.Common.{arith, subst, sym, ap, refl, inl, inr, ◌∙◌, 
 use Rattle.std.proofs.lemmas.Bool.{cases_lt, cases_order, or_cases, or_left, or_right, and_from, lt-ltb, ne_eqb, eqb-true, eq-eqb}
 use Rattle.std.proofs.lemmas.Option.{same_Some, slice_get-map, slice_get-get_or, slice_get_within, slice_get_past}
 use Rattle.std.proofs.lemmas.List.{map-append}
-use Rattle.pw_files.proofs.Standing.{Has, has_by, contains_by, has_map, has_split, has_each}
+use Rattle.pw_files.proofs.Standing.{Has, has_by, contains_by, has_map, has_each}
 use Rattle.pw_db.specs.Limits.{first_register, last_register, last_temporary, register_count, kept_registers}
 use Rattle.pw_db.specs.declared.database.Web.{Web}
 use Rattle.pw_db.specs.declared.database.Role.{Role}
@@ -26,12 +26,14 @@ use Rattle.pw_alloc.specs.Frames.{head_size, temp_offset, slots_begin, last_reac
 use Rattle.pw_live.specs.Liveness as live
 use Rattle.pw_live.specs.Liveness.{has, is_that, is_live_in}
 use Rattle.pw_live.specs.Interference.{written_beside, starts_beside, overwrites, interfere, is_held}
-use Rattle.pw_alloc_temps.specs.Registers.{changed_registers, of_temporaries, allowed, registers}
+use Rattle.pw_alloc_temps.specs.Registers.{of_temporaries, allowed, registers}
 use Rattle.pw_alloc_temps.specs.Temporaries.{registers_in, saved_in, placed, allocated}
 use Rattle.pw_run_languages.specs.Serving as run
 use Rattle.pw_run_languages.specs.Serving.{StandsIn, Interfere, by_operation, by_start, parameters, IsHeld, IsTempRegister, IsKeptOver, slots_alone, HasWebIn, Changes, places, enters, saves, Serves}
-use Rattle.pw_law_temps.proofs.Lists.{stands_at, listed, some_passes, passing, kept, stays, within, all_within, rises}
-use Rattle.pw_law_temps.proofs.Words.{each_placed, register_at, register_back, register_there, nones, word_at, nones_rise, one_number, alone, counted}
+use Rattle.pw_alloc_temps.proofs.Lists.{some_passes, passing, kept, stays, within, all_within, rises}
+use Rattle.pw_alloc_temps.proofs.Places.{each_placed, register_at, register_back, register_there}
+use Rattle.pw_alloc_temps.proofs.Lawful.{of_some}
+use Rattle.pw_law_temps.proofs.Words.{nones, word_at, nones_rise, one_number, alone, counted}
 
 nowhere : {X : Type 0} (x : X) → Contains [] x → ⊥
 nowhere x c = let h : c.0 < 0 = c.1 in omega (arith, h)
@@ -194,26 +196,10 @@ module _
       none_free : (r : ℕ) → ¬ Contains f.directives.free r
       none_free r c = nowhere r (subst (λ (rs : List ℕ). Contains rs r) lawful.free c)
 
-      in_bounds : (held : Bool) (r : ℕ) → Has r (of_temporaries held) → IsTempRegister r
-      in_bounds true r h = let k = within first_register register_count r h in record { low = k.0; high = omega (arith, k.1) }
-      in_bounds false r h = elim (has_split r changed_registers kept_registers h) [
-        | inl c ↦ let k = within (last_register + 1) (last_temporary - last_register) r c in record { low = omega (arith, k.0); high = omega (arith, k.1) }
-        | inr c ↦ let k = within first_register register_count r c in record { low = k.0; high = omega (arith, k.1) }
-      ]
-
-      not_of_web : (r : ℕ) → not (has r (webs_of f)) ≡ true → ¬ Contains (webs_of f) r
-      not_of_web r e c = let k = listed r (webs_of f) (has_by r (webs_of f) c) in let n = ap not k in cc
-
-      of_temporary : (t r : ℕ) → slice_get (registers_in f) t ≡ Some (Some r) → IsTempRegister r × (¬ Contains (webs_of f) r)
-      of_temporary t r e =
-          let c = may_have (web_outline f) (webs_of f) t r e in
-          let k = kept (λ r. not (has r (webs_of f))) r (of_temporaries (is_held (web_outline f) t)) (has_by r (allowed (web_outline f) (webs_of f) t) c) in
-          (in_bounds (is_held (web_outline f) t) r k.there, not_of_web r k.passes)
-
       of_place : (r : ℕ) → Contains (all_in f head saved) (Reg r) → IsTempRegister r × (¬ Contains (webs_of f) r)
       of_place r c =
-          let p = stands_at (Some r) (registers_in f) (register_back head saved 0 (registers_in f) r (has_by (Reg r) (all_in f head saved) c)) in
-          of_temporary p.place r p.is
+          let free = of_some f r (register_back head saved 0 (registers_in f) r (has_by (Reg r) (all_in f head saved) c)) in
+          (record { low = free.bounds.low; high = free.bounds.high }, free.apart)
 
       held_in : (t r : ℕ) → IsHeld f t → slice_get (registers_in f) t ≡ Some (Some r) → IsKeptOver f (Reg r)
       held_in t r h e =

@@ -1,8 +1,9 @@
--- What the second form of allocation owes.
+-- What allocation owes.
 use Rattle.std.specs.Prelude.{ℕ, List, map}
 use Rattle.pw_db.specs.declared.database.Directives.{Directives}
 use Rattle.pw_db.specs.Database.{IsDirectives, IsDatabase}
 use Rattle.pw_webflow.specs.declared.web.WebFn.{WebFn}
+use Rattle.pw_alloc.specs.declared.located.Located.{Located}
 use Rattle.pw_alloc_temps.specs.Temporaries.{allocated}
 use Rattle.pw_run_languages.specs.Programs.{Program}
 use Rattle.pw_run_languages.specs.Direction.{directed_functions}
@@ -12,6 +13,10 @@ use Rattle.pw_run_languages.specs.Serving.{Serves, AllServe}
 abbrev pub TemporariesServe : Type 0
 TemporariesServe = (f : WebFn) → IsDirectives f.directives → Serves f (allocated f)
 
+-- a program's functions under directives, with the places that allocation gives
+abbrev pub allocated_functions : Program → List (List ℕ × Directives) → List Located
+allocated_functions p d = map allocated (directed_functions p d)
+
 -- and so all functions of a program under a lawful database
 abbrev pub TemporariesServePrograms : Type 0
-TemporariesServePrograms = (p : Program) (d : List (List ℕ × Directives)) → IsDatabase d → AllServe (directed_functions p d) (map allocated (directed_functions p d))
+TemporariesServePrograms = (p : Program) (d : List (List ℕ × Directives)) → IsDatabase d → AllServe (directed_functions p d) (allocated_functions p d)

@@ -30,7 +30,8 @@ use Rattle.pw_law_checked.proofs.Lists.{length_put}
 use Rattle.pw_law_checked.proofs.Still.{Still, specified_still, built_still, declared_storage_still}
 use Rattle.pw_law_checked.proofs.LabelLaws.{asked_post}
 use Rattle.pw_law_valid.proofs.Spending.{Spends, Same, stays, then_spends, still_spends, same_spends, wider_spends, token_before, token_behind, with_lead, item_before, no_item}
-use Rattle.pw_law_valid.proofs.Phrases.{one_more, then_same, specifiers_spends, declarator_spends, new_tag_same, reference_by_same}
+use Rattle.pw_law_valid.proofs.Phrases.{one_more, then_same, specifiers_spends, declarator_spends, left_same}
+use Rattle.pw_law_checked.proofs.Untouched.{new_tag_untouched, reference_by_untouched}
 use Rattle.pw_law_valid.proofs.Initialisers.{object_spends}
 
 -- ---- names with linkage
@@ -222,8 +223,8 @@ specified_spends specifiers z first s = then_spends _ _ _ s _ _ (specifiers_spen
 
 alone_by_same : (kind : RecordKind) (w : Word) (o : Option Tag) (s : State) → Post (alone_by kind w o s) (Same s)
 unfolding alone_by
-alone_by_same kind w None s = then_same s (new_tag kind w s) _ (new_tag_same kind w s) (λ r. refl)
-alone_by_same kind w (Some tag) s = then_same s (reference_by kind w (Some tag) s) _ (reference_by_same kind w (Some tag) s) (λ r. refl)
+alone_by_same kind w None s = then_same s (new_tag kind w s) _ (left_same s _ (new_tag_untouched kind w s)) (λ r. refl)
+alone_by_same kind w (Some tag) s = then_same s (reference_by kind w (Some tag) s) _ (left_same s _ (reference_by_untouched kind w (Some tag) s)) (λ r. refl)
 
 alone_same : (kind : RecordKind) (w : Word) (s : State) → Post (alone_rule kind w s) (Same s)
 unfolding alone_rule bind

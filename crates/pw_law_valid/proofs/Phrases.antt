@@ -1,7 +1,7 @@
 -- Expressions, types and initialisers make no more objects without a name than they have tokens: one for each string literal. An
 -- expression may cost one more, for which there is a token beside it.
-use Rattle.std.specs.Prelude.{ℕ, suc, ◌≡◌, ◌+◌, ◌≤◌, Bool, true, false, Option, None, Some, List, [], ◌∷◌, ◌++◌, length, refl, if◌then◌else◌}
-use Rattle.std.proofs.Common.{arith, ap, ◌∙◌}
+use Rattle.std.specs.Prelude.{ℕ, suc, ◌≡◌, ◌+◌, ◌≤◌, Bool, true, false, Option, None, Some, List, [], ◌∷◌, ◌++◌, length, if◌then◌else◌}
+use Rattle.std.proofs.Common.{arith, ◌∙◌}
 use Rattle.std.proofs.lemmas.List.{length-append}
 use Rattle.pw_tree.specs.declared.expr.BasicType.TheVariants as W
 use Rattle.pw_tree.specs.declared.operator.Access.TheVariants.{Dot, Arrow}
@@ -14,31 +14,26 @@ use Rattle.pw_token.specs.declared.symbol.Mark.TheVariants as m
 use Rattle.pw_tree.specs.Symbols.{Symbol, Sign}
 use Rattle.pw_tree.specs.Trees.{Pointer, Expr, Postfixes, Arguments, Operations, Specifiers, Members, MemberDeclarators, Enumerators, Declarator, Core, Suffixes, Parameters, Word}
 use Rattle.pw_tree.specs.Trees as S
-use Rattle.pw_types.specs.declared.record.RecordKind.{RecordKind}
 use Rattle.pw_types.specs.TypeTrees.{MemberValue}
 use Rattle.pw_types.specs.TypedTrees.{Expression}
 use Rattle.pw_check_literals.specs.Characters.{string_bytes_of}
 use Rattle.pw_check_walk.specs.Walks.{Walk, bind}
 use Rattle.pw_check_rules.specs.Operands.{Operand}
 use Rattle.pw_check_rules.specs.Operators.{value_rule}
-use Rattle.pw_check_rules.specs.Leaves.{string_rule, string_point, string_type, bytes_at_start, new_record, new_tag, reference_by, reference_rule, opening_by, opening_rule, member_rule, closing_rule, enumerating_rule, enumerator_name, enumerator_rule, parameter_rule, enter_parameter, record_kind, record_spot, first_of_list, first_of_declaration, texts_of}
+use Rattle.pw_check_rules.specs.Leaves.{string_rule, string_point, string_type, bytes_at_start, record_kind, record_spot, first_of_list, first_of_declaration, texts_of}
 use Rattle.pw_check_rules.specs.Phrases.{expr_rule, postfixes_rule, arguments_rule, operations_rule, specifiers_rule, members_rule, member_declarators_rule, enumerators_rule, declarator_rule, core_rule, suffixes_rule, parameters_rule}
 use Rattle.pw_check_rules.specs.SpecifierLists.{Gathered, nothing_gathered, gather_storage, gather_qualifier, gather_word, gather_type, Specified}
-use Rattle.pw_check_rules.specs.Derivations.{Declared, ParameterValue, built}
+use Rattle.pw_check_rules.specs.Derivations.{ParameterValue}
 use Rattle.pw_check_rules.specs.Kinds.{int_type}
-use Rattle.pw_check_rules.specs.States.{State, Rule, Entity, HiddenObject, scoped, uncounted, one_deeper, tag_of, tag_here, with_made, add_hidden, next_hidden}
-use Rattle.pw_check_rules.specs.declared.names.Tag.{Tag}
-use Rattle.pw_check_rules.specs.declared.names.Tag.TheVariants as G
+use Rattle.pw_check_rules.specs.States.{State, Rule, HiddenObject, scoped, uncounted, one_deeper, with_made, add_hidden, next_hidden}
 use Rattle.pw_law_checked.proofs.Walking.{Post, post_bind, post_weaken, after_any}
-use Rattle.pw_law_checked.proofs.Still.{Still, address_still, arrow_still, assignment_still, bindings_still, built_still, call_still, cast_still, character_still, conditional_still, deref_still, dot_still, enumeration_still, enumerator_name_still, enumerator_value_still, identifier_still, index_still, length_still, named_still, number_still, operation_still, sign_still, size_still, specified_still, step_still, storage_still, type_size_still, typedef_still, value_still}
+use Rattle.pw_law_checked.proofs.Still.{address_still, arrow_still, assignment_still, bindings_still, call_still, cast_still, character_still, conditional_still, deref_still, dot_still, enumeration_still, enumerator_name_still, enumerator_value_still, identifier_still, index_still, length_still, named_still, number_still, operation_still, sign_still, size_still, specified_still, step_still, storage_still, type_size_still, typedef_still, value_still}
+use Rattle.pw_law_checked.proofs.Untouched.{Untouched, reference_untouched, opening_untouched, member_untouched, closing_untouched, enumerating_untouched, enumerator_untouched, parameter_untouched}
 use Rattle.pw_law_valid.proofs.Spending.{Spends, Same, stays, then_spends, still_spends, same_spends, wider_spends, token_before, token_behind, comma_before, with_lead, item_before, no_item}
 
 pub then_same : {A B : Type 0} (s : State) (w : Walk (A × State)) (next : A × State → Walk (B × State)) → Post w (Same s) → ((r : A × State) → Post (next r) (Same r.1)) → Post (bind w next) (Same s)
 then_same {A} {B} s w next h k =
     post_bind w next (Same s) (Same s) h (λ r e. post_weaken (next r) (Same r.1) (Same s) (k r) (λ u f. f ∙ e))
-
-still_same : {A : Type 0} (s : State) (w : Walk (A × State)) → Post w (Still s) → Post w (Same s)
-still_same s w h = post_weaken w (Still s) (Same s) h (λ r e. ap (λ (t : State). t.made.hidden) e)
 
 -- ---- string literals
 
@@ -62,55 +57,8 @@ strings_longer (w ∷ ws) z = let h : length z ≤ length (spell_strings ws z) =
 
 -- ---- types
 
-pub new_tag_same : (kind : RecordKind) (w : Word) (s : State) → Post (new_tag kind w s) (Same s)
-unfolding new_tag new_record bind
-new_tag_same kind w s = λ met. refl
-
-pub reference_by_same : (kind : RecordKind) (w : Word) (o : Option Tag) (s : State) → Post (reference_by kind w o s) (Same s)
-unfolding reference_by bind
-reference_by_same kind w None s = then_same s (new_tag kind w s) _ (new_tag_same kind w s) (λ r. refl)
-reference_by_same kind w (Some (G.Record n)) s = λ met. refl
-reference_by_same kind w (Some G.Enumeration) s = tt
-
-reference_same : (kind : RecordKind) (w : Word) (s : State) → Post (reference_rule kind w s) (Same s)
-unfolding reference_rule bind
-reference_same kind w s = reference_by_same kind w (tag_of s w.text) s
-
-opening_by_same : (kind : RecordKind) (w : Word) (o : Option Tag) (s : State) → Post (opening_by kind w o s) (Same s)
-unfolding opening_by bind
-opening_by_same kind w None s = new_tag_same kind w s
-opening_by_same kind w (Some (G.Record n)) s = λ met. refl
-opening_by_same kind w (Some G.Enumeration) s = tt
-
-opening_same : (kind : RecordKind) (o : Option Word) (s : State) → Post (opening_rule kind o s) (Same s)
-unfolding opening_rule new_record bind
-opening_same kind None s = refl
-opening_same kind (Some w) s = then_same s (opening_by kind w (tag_here s w.text) s) _ (opening_by_same kind w (tag_here s w.text) s) (λ r. refl)
-
-member_same : (b : Specified) (d : Declared) (ms : List MemberValue) (s : State) → Post (member_rule b d ms s) (Same s)
-unfolding member_rule bind
-member_same b d ms s = then_same s (built _ d.derivations b.ty s) _ (still_same s _ (built_still _ d.derivations b.ty s)) (λ r met. refl)
-
-closing_same : (kind : RecordKind) (token n : ℕ) (ms : List MemberValue) (s : State) → Post (closing_rule kind token n ms s) (Same s)
-unfolding closing_rule bind
-closing_same kind token n ms s = λ met. refl
-
-enumerating_same : (o : Option Word) (s : State) → Post (enumerating_rule o s) (Same s)
-unfolding enumerating_rule bind
-enumerating_same None s = refl
-enumerating_same (Some w) s = λ met. refl
-
-enumerator_same : (w : Word) (value : Option ℕ) (s : State) → Post (enumerator_rule w value s) (Same s)
-unfolding enumerator_rule enumerator_name bind
-enumerator_same w value s = λ met counted. refl
-
-entered_same : (o : Option Word) (x : Entity) (s : State) → (enter_parameter o x s).made.hidden ≡ s.made.hidden
-entered_same None x s = refl
-entered_same (Some w) x s = refl
-
-parameter_same : (sole : Bool) (b : Specified) (d : Declared) (ps : List ParameterValue) (s : State) → Post (parameter_rule sole b d ps s) (Same s)
-unfolding parameter_rule bind
-parameter_same sole b d ps s = then_same s (built _ d.derivations b.ty s) _ (still_same s _ (built_still _ d.derivations b.ty s)) (λ r met. entered_same d.name _ r.1)
+pub left_same : {A : Type 0} (s : State) (w : Walk (A × State)) → Post w (Untouched s) → Post w (Same s)
+left_same s w h = post_weaken w (Untouched s) (Same s) h (λ r e. e.1)
 
 -- ---- scopes, and operands of `sizeof`
 
@@ -228,16 +176,16 @@ mutual
   specifiers_spends (S.Basic t W.Signed rest) z first g s = token_before _ _ s _ (specifiers_spends rest z first (gather_word W.Signed g) s)
   specifiers_spends (S.Basic t W.Unsigned rest) z first g s = token_before _ _ s _ (specifiers_spends rest z first (gather_word W.Unsigned g) s)
   specifiers_spends (S.TypedefName w rest) z first g s = token_before _ _ s _ (then_spends _ _ _ s _ _ (still_spends _ s _ (typedef_still w s)) (λ r. specifiers_spends rest z first (gather_type r.0 None g) r.1))
-  specifiers_spends (S.RecordTag t kind w rest) z first g s = token_before _ _ s _ (token_before _ _ s _ (then_spends _ _ _ s _ _ (same_spends _ s _ (reference_same (record_kind kind) w s)) (λ r. specifiers_spends rest z first (gather_type r.0.0 r.0.1 g) r.1)))
+  specifiers_spends (S.RecordTag t kind w rest) z first g s = token_before _ _ s _ (token_before _ _ s _ (then_spends _ _ _ s _ _ (same_spends _ s _ (left_same s _ (reference_untouched (record_kind kind) w s))) (λ r. specifiers_spends rest z first (gather_type r.0.0 r.0.1 g) r.1)))
   specifiers_spends (S.Record t kind w members rest) z first g s =
       token_before _ _ s _ (tag_before _ w _ s _ (token_before _ _ s _ (
-      then_spends _ _ _ s _ _ (same_spends _ s _ (opening_same (record_kind kind) w s)) (λ r1.
+      then_spends _ _ _ s _ _ (same_spends _ s _ (left_same s _ (opening_untouched (record_kind kind) w s))) (λ r1.
       then_spends _ _ _ r1.1 _ _ (members_spends members _ [] r1.1) (λ r2.
-      then_spends _ _ _ r2.1 _ _ (same_spends _ r2.1 _ (closing_same (record_kind kind) (record_spot w first) r1.0 r2.0 r2.1)) (λ r3. token_before _ _ r3.1 _ (specifiers_spends rest z first (gather_type r3.0 None g) r3.1)))))))
+      then_spends _ _ _ r2.1 _ _ (same_spends _ r2.1 _ (left_same r2.1 _ (closing_untouched (record_kind kind) (record_spot w first) r1.0 r2.0 r2.1))) (λ r3. token_before _ _ r3.1 _ (specifiers_spends rest z first (gather_type r3.0 None g) r3.1)))))))
   specifiers_spends (S.EnumTag t w rest) z first g s = token_before _ _ s _ (token_before _ _ s _ (then_spends _ _ _ s _ _ (still_spends _ s _ (enumeration_still w s)) (λ r. specifiers_spends rest z first (gather_type r.0 None g) r.1)))
   specifiers_spends (S.Enum t w enumerators rest) z first g s =
       token_before _ _ s _ (tag_before _ w _ s _ (token_before _ _ s _ (
-      then_spends _ _ _ s _ _ (then_spends _ _ _ s _ _ (same_spends _ s _ (enumerating_same w s)) (λ r. enumerators_spends true enumerators (Sign m.CloseBrace ∷ spell_specifiers rest z) (Some 0) r.1)) (λ r. token_before _ _ r.1 _ (specifiers_spends rest z first (gather_type int_type None g) r.1)))))
+      then_spends _ _ _ s _ _ (then_spends _ _ _ s _ _ (same_spends _ s _ (left_same s _ (enumerating_untouched w s))) (λ r. enumerators_spends true enumerators (Sign m.CloseBrace ∷ spell_specifiers rest z) (Some 0) r.1)) (λ r. token_before _ _ r.1 _ (specifiers_spends rest z first (gather_type int_type None g) r.1)))))
 
   members_spends : (members : Members) (z : List Symbol) (ms : List MemberValue) (s : State) → Post (members_rule members ms s) (Spends (length (spell_members members z)) (length z) s)
   members_spends S.NoMember z ms s = stays (next_hidden s) (length z)
@@ -249,18 +197,18 @@ mutual
   member_declarators_spends : (first : Bool) (ds : MemberDeclarators) (z : List Symbol) (b : Specified) (ms : List MemberValue) (s : State) → Post (member_declarators_rule ds b ms s) (Spends (length (spell_member_declarators first ds z)) (length z) s)
   member_declarators_spends first S.NoMemberDeclarator z b ms s = stays (next_hidden s) (length z)
   member_declarators_spends first (S.PlainMember d rest) z b ms s =
-      comma_before _ first _ s _ (then_spends _ _ _ s _ _ (declarator_spends d _ s) (λ r1. then_spends _ _ _ r1.1 _ _ (same_spends _ r1.1 _ (member_same b r1.0 ms r1.1)) (λ r2. member_declarators_spends false rest z b r2.0 r2.1)))
+      comma_before _ first _ s _ (then_spends _ _ _ s _ _ (declarator_spends d _ s) (λ r1. then_spends _ _ _ r1.1 _ _ (same_spends _ r1.1 _ (left_same r1.1 _ (member_untouched b r1.0 ms r1.1))) (λ r2. member_declarators_spends false rest z b r2.0 r2.1)))
   member_declarators_spends first (S.BitField d t e rest) z b ms s = after_any (declarator_rule d s) _ _ (λ r. tt)
   member_declarators_spends first (S.Padding t e rest) z b ms s = tt
 
   enumerators_spends : (first : Bool) (enumerators : Enumerators) (z : List Symbol) (value : Option ℕ) (s : State) → Post (enumerators_rule enumerators value s) (Spends (length (spell_enumerators first enumerators z)) (length z) s)
   enumerators_spends first S.NoEnumerator z value s = stays (next_hidden s) (length z)
-  enumerators_spends first (S.PlainEnumerator w rest) z value s = comma_before _ first _ s _ (token_before _ _ s _ (then_spends _ _ _ s _ _ (same_spends _ s _ (enumerator_same w value s)) (λ r. enumerators_spends false rest z r.0 r.1)))
+  enumerators_spends first (S.PlainEnumerator w rest) z value s = comma_before _ first _ s _ (token_before _ _ s _ (then_spends _ _ _ s _ _ (same_spends _ s _ (left_same s _ (enumerator_untouched w value s))) (λ r. enumerators_spends false rest z r.0 r.1)))
   enumerators_spends first (S.ValuedEnumerator w e rest) z value s =
       comma_before _ first _ s _ (token_before _ _ s _ (
       then_spends _ _ _ s _ _ (still_spends _ s _ (enumerator_name_still w s)) (λ r0.
       valued_spends _ _ _ r0.1 _ _ (expr_spends e _ r0.1) (λ r1.
-      then_spends _ _ _ r1.1 _ _ (still_spends _ r1.1 _ (enumerator_value_still (first_of_expr e) r1.0 r1.1)) (λ r2. then_spends _ _ _ r2.1 _ _ (same_spends _ r2.1 _ (enumerator_same w (Some r2.0) r2.1)) (λ r3. enumerators_spends false rest z r3.0 r3.1))))))
+      then_spends _ _ _ r1.1 _ _ (still_spends _ r1.1 _ (enumerator_value_still (first_of_expr e) r1.0 r1.1)) (λ r2. then_spends _ _ _ r2.1 _ _ (same_spends _ r2.1 _ (left_same r2.1 _ (enumerator_untouched w (Some r2.0) r2.1))) (λ r3. enumerators_spends false rest z r3.0 r3.1))))))
 
   pub declarator_spends : (d : Declarator) (z : List Symbol) (s : State) → Post (declarator_rule d s) (Spends (length (spell_declarator d z)) (length z) s)
   declarator_spends (S.Declaring pointers core suffixes) z s =
@@ -291,4 +239,4 @@ mutual
       then_spends _ _ _ s _ _ (specifiers_spends specifiers _ (first_of_declaration specifiers d) nothing_gathered s) (λ r1.
       then_spends _ _ _ r1.1 _ _ (still_spends _ r1.1 _ (specified_still (first_of_declaration specifiers d) r1.0 r1.1)) (λ r2.
       then_spends _ _ _ r2.1 _ _ (then_spends _ _ _ r2.1 _ _ (still_spends _ r2.1 _ (storage_still r2.0 r2.1)) (λ r. declarator_spends d _ r.1)) (λ r3.
-      then_spends _ _ _ r3.1 _ _ (same_spends _ r3.1 _ (parameter_same _ r2.0 r3.0 ps r3.1)) (λ r4. parameters_spends false rest z r4.0 r4.1)))))
+      then_spends _ _ _ r3.1 _ _ (same_spends _ r3.1 _ (left_same r3.1 _ (parameter_untouched _ r2.0 r3.0 ps r3.1))) (λ r4. parameters_spends false rest z r4.0 r4.1)))))

@@ -9,7 +9,7 @@ use Rattle.pw_flow.specs.declared.flow.FlowModule.{FlowModule}
 use Rattle.pw_db.specs.declared.database.Directives.{Directives}
 use Rattle.pw_db.specs.Database.{HasDirectives}
 use Rattle.pw_webflow.specs.Direction.{directed}
-use Rattle.pw_alloc.specs.Allocation.{allocated}
+use Rattle.pw_alloc_temps.specs.Temporaries.{allocated}
 use Rattle.pw_object.specs.declared.functions.ObjectFn.{ObjectFn}
 use Rattle.pw_object.specs.declared.object.Object.{Object}
 use Rattle.pw_phase_two.specs.Phases as phases

@@ -19,7 +19,7 @@ use Rattle.pw_colour.specs.Colours.{IsDatabaseOf}
 use Rattle.pw_store_modules.specs.Modules.{Texts}
 use Rattle.pw_build_opts.specs.declared.opts.Opts.{Opts}
 use Rattle.pw_build_objects.specs.Programs.{DirectivesList, AreSummariesOf, Completes, Parts}
-use Rattle.pw_law_direction.specs.Laws.{FirstPlacesServe}
+use Rattle.pw_law_temps.specs.Laws.{TemporariesServePrograms}
 use Rattle.pw_run_languages.specs.LinkingLaws.{frame_in}
 use Rattle.pw_cmean.specs.Worlds.{Program, ProgramModule}
 use Rattle.pw_law_source.specs.Lowering.{flow_program, AreChecked}
@@ -59,7 +59,7 @@ plain_names texts p plain are m there =
 
 -- ---- together
 
-pub whole_with : LoweredHaveRooms → LoweredImplements → SummariesSayTheSame → FirstPlacesServe →
+pub whole_with : LoweredHaveRooms → LoweredImplements → SummariesSayTheSame → TemporariesServePrograms →
     ((ss : List Summary) (colours : ℕ) (d : DirectivesList) → colours ≤ register_count → IsDatabaseOf ss colours d → IsDatabase d) →
     ((db : DirectivesList) → IsDatabase db → (gs hs : DirectivesList) → All (HasDirectives db) gs → All (HasDirectives db) hs → map (λ f. f.0) gs ≡ map (λ f. f.0) hs → gs ≡ hs) →
     CheckedIsAccepted →
@@ -80,7 +80,7 @@ whole_with rooms implements same serve databases one accepted texts opts parts p
       rooms = rooms p (frame_in (image_of parts.objects opts.stack)) opts.stack whole.parts whole.accepted;
       frames = refl;
       database = lawful_db;
-      serve = serve (flow_program p (frame_in (image_of parts.objects opts.stack)) opts.stack) db whole.accepted.program lawful_db;
+      serve = serve (flow_program p (frame_in (image_of parts.objects opts.stack)) opts.stack) db lawful_db;
       made = record {
         modules = modules_named db single flows parts.objects parts.fresh are.objects;
         globals = same_globals db single flows parts.objects parts.fresh are.objects;

@@ -17,7 +17,7 @@ use Rattle.pw_run_languages.specs.Programs as flows
 use Rattle.pw_run_languages.specs.Programs.{AreBytes}
 use Rattle.pw_run_languages.specs.LinkingLaws.{frame_in}
 use Rattle.pw_cmean.specs.Worlds.{Program, ProgramModule}
-use Rattle.pw_law_direction.specs.Laws.{first_places}
+use Rattle.pw_law_temps.specs.Laws.{allocated_functions}
 use Rattle.pw_law_source.specs.Accepting.{HasNoColon, IsWhole}
 use Rattle.pw_law_source.specs.Lowering.{flow_program, AreChecked, LoweringKeepsRuns}
 use Rattle.pw_law_layers.specs.Whole.{image_of, IsLaidOut}
@@ -60,7 +60,7 @@ flows_in p parts stack = flow_program p (frame_in (image_of parts.objects stack)
 
 -- its functions under the directives of the database, each with the places that the second phase gives
 abbrev pub functions_under : Program → Parts → ℕ → List Located
-functions_under p parts stack = first_places (flows_in p parts stack) parts.database
+functions_under p parts stack = allocated_functions (flows_in p parts stack) parts.database
 
 -- The program is checked, and accepted in the words of C's meaning; its flow graphs are laid out with the places that allocation
 -- gives; and by the law of lowering they implement it, and the parts are what the analyser, allocation and selection make of them.

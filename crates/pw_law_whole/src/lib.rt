@@ -19,10 +19,10 @@ use pw_colour::laws::databases_are_lawful;
 use pw_db::laws::directives_are_one;
 use pw_front_end::front_is_exact;
 use pw_law_analysis::{layers_give_all, summaries_say_the_same};
-use pw_law_direction::first_places_serve;
 use pw_law_layers::{frames_are_within_rooms, lowered_have_rooms, lowering_implements};
 use pw_law_lowering::{checked_is_accepted, lowering_keeps_runs};
 use pw_law_selection::selection_keeps_runs;
+use pw_law_temps::laws::temporaries_serve_programs;
 use pw_store_modules::modules_are_exact;
 
 /// The texts of a full build that gives parts have a program, and texts have at most one.
@@ -52,7 +52,7 @@ pub fn full_builds_are_whole()
     phase_one_is_exact();
     databases_are_lawful();
     directives_are_one();
-    first_places_serve();
+    temporaries_serve_programs();
     lowered_have_rooms();
     lowering_implements();
     summaries_say_the_same();

@@ -10,7 +10,7 @@ use Rattle.pw_inst.specs.declared.relocation.Symbol.TheVariants as symbol
 use Rattle.pw_object.specs.Functions.{IsFix, IsFunction, IsSymbol}
 use Rattle.pw_object.specs.declared.functions.ObjectFn.{ObjectFn}
 use Rattle.pw_webflow.specs.Direction.{directed}
-use Rattle.pw_alloc.specs.Allocation.{allocated}
+use Rattle.pw_alloc_temps.specs.Temporaries.{allocated}
 use Rattle.pw_select.specs.Selection.{selected}
 use Rattle.pw_phase_two.specs.Numbers.{HasWordNumber, HasWordNumbers}
 use Rattle.pw_phase_two.specs.Phases.{compiled}

@@ -19,7 +19,9 @@ use Rattle.pw_delay.specs.declared.items.Turn.TheVariants.{Back, Goto, If, CallT
 use Rattle.pw_delay.specs.declared.items.Item.{Item}
 use Rattle.pw_delay.specs.declared.items.Item.TheVariants.{Plain, Turns, Mark}
 use Rattle.pw_delay.specs.Items.{begins_next, plain_item, item_of, before, slotted}
+use Rattle.pw_delay.specs.Filling.{drawn_near, filled}
 use Rattle.pw_delay.specs.Placement.{size, sizes, in_slot, turn_words, item_words, words_from, mark_at, fix_at, fixes_from, laid, short_limit, placed}
+use Rattle.pw_delay.proofs.Keeping.{PropertiesMove, properties_stay}
 
 -- a routine is one of the five
 abbrev pub IsThere : Symbol → Type 0
@@ -134,9 +136,17 @@ slotted_there (line.CallTo s r ∷ rest) h = ((h.0, tt), slotted_there rest h.1)
 slotted_there (line.CallReg ∷ rest) h = ((tt, tt), slotted_there rest h.1)
 slotted_there (line.Leave ∷ rest) h = ((tt, tt), slotted_there rest h.1)
 
+near_there : (turn : Turn) → TurnThere turn → TurnThere (drawn_near turn)
+near_there (Back (i.Combf c r1 r2 disp)) h = tt
+near_there turn h = h
+
+there_moves : PropertiesMove ItemThere
+there_moves w turn plain turns free = (near_there turn turns.0, plain)
+
 pub placed_stand : (lines : List Line) → AllByRecursion LineThere lines → AllByRecursion (Stands (length (placed lines).words)) (placed lines).fixes
 unfolding placed laid
 placed_stand lines h =
-    let items = slotted lines in
-    let long = nat_lt short_limit (sizes false items) in
-    code_stands (words_from long (mark_at long 0 items) 0 items) (words_there long (mark_at long 0 items) 0 items (slotted_there lines h))
+    let items = filled false (slotted lines) in
+    let long = nat_lt short_limit (sizes false (slotted lines)) in
+    code_stands (words_from long (mark_at long 0 items) 0 items)
+    (words_there long (mark_at long 0 items) 0 items (properties_stay ItemThere false (slotted lines) there_moves (slotted_there lines h)))

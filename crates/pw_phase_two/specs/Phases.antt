@@ -12,7 +12,7 @@ use Rattle.pw_object.specs.declared.object.Object.{Object}
 use Rattle.pw_object.specs.declared.functions.ObjectFn.{ObjectFn}
 use Rattle.pw_webflow.specs.Direction.{directed}
 use Rattle.pw_alloc.specs.declared.located.Located.{Located}
-use Rattle.pw_alloc.specs.Allocation.{allocated}
+use Rattle.pw_alloc_temps.specs.Temporaries.{allocated}
 use Rattle.pw_select.specs.Selection.{selected}
 use Rattle.pw_delay.specs.declared.code.Code.{Code}
 use Rattle.pw_delay.specs.Placement.{placed}

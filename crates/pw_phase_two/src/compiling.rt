@@ -6,12 +6,13 @@ ghost use Rattle.pw_flow.specs.ValidFlow.{IsFunction};
 ghost use Rattle.pw_db.specs.Database.{IsDirectives};
 ghost use Rattle.pw_object.specs.Functions as object;
 ghost use Rattle.pw_webflow.specs.Direction.{directed};
-ghost use Rattle.pw_alloc.specs.Allocation.{allocated};
+ghost use Rattle.pw_alloc_temps.specs.Temporaries.{allocated};
 ghost use Rattle.pw_alloc.specs.ValidPlaces.{IsLocated};
 ghost use Rattle.pw_phase_two.specs.Phases.{code_of, compiled, all_compiled};
 
 use crate::numbers::numbers_fit;
-use pw_alloc::{Located, allocate_owned};
+use pw_alloc::Located;
+use pw_allocate::allocate_owned;
 use pw_db::Directives;
 use pw_delay::{Code, place};
 use pw_flow::FlowFn;

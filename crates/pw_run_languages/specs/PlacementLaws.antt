@@ -1,13 +1,8 @@
 -- What direction and allocation owe to the layers between which they stand: the statements of their laws.
 use Rattle.std.specs.Prelude.{ℕ, ◌≡◌, List}
 use Rattle.pw_db.specs.declared.database.Directives.{Directives}
-use Rattle.pw_db.specs.Database.{IsDatabase, IsDirectives}
-use Rattle.pw_flow.specs.declared.flow.FlowFn.{FlowFn}
-use Rattle.pw_flow.specs.ValidFlow.{IsFunction}
-use Rattle.pw_webflow.specs.Direction.{directed}
-use Rattle.pw_webflow.specs.declared.web.WebFn.{WebFn}
+use Rattle.pw_db.specs.Database.{IsDatabase}
 use Rattle.pw_alloc.specs.declared.located.Located.{Located}
-use Rattle.pw_alloc.specs.Allocation.{allocated}
 use Rattle.pw_run.specs.Runs.{Refines, Same}
 use Rattle.pw_db_sound.specs.Sound.{Sound}
 use Rattle.pw_run_languages.specs.Traces.{EventAlike, calls_of, Notes, KeepRegisters}
@@ -18,7 +13,7 @@ use Rattle.pw_run_languages.specs.FlowRun.{flow_run}
 use Rattle.pw_run_languages.specs.LawfulPrograms.{IsProgram, graph_of}
 use Rattle.pw_run_languages.specs.PlacedRun.{placed_run}
 use Rattle.pw_run_languages.specs.Direction.{web_run, directed_functions, with_functions, MomentAlike}
-use Rattle.pw_run_languages.specs.Serving.{Serves, AllServe}
+use Rattle.pw_run_languages.specs.Serving.{AllServe}
 
 -- The directed run does what the flow run does, with each global in its place at each call and return; returns keep
 -- the registers; its calls are those of the graph; and the traffic law holds of all that it notes.
@@ -43,18 +38,3 @@ abbrev pub PlacesKeepRuns : Type 0
 PlacesKeepRuns =
     (p : Program) (d : List (List ℕ × Directives)) (functions : List Located) (input : List ℕ) →
     IsProgram p → IsDatabase d → Sound (graph_of p) d → AllServe (directed_functions p d) functions → PlacesKeep p d functions input
-
--- ---- allocation
-
--- The places that allocation gives a function. They are those of its first form.
-abbrev pub IsAllocated : WebFn → Located → Type 0
-IsAllocated f l = l ≡ allocated f
-
--- there is one answer
-abbrev pub AllocationIsOne : Type 0
-AllocationIsOne = (f : WebFn) (l m : Located) → IsAllocated f l → IsAllocated f m → l ≡ m
-
--- it serves
-abbrev pub AllocationServes : Type 0
-AllocationServes =
-    (f : FlowFn) (d : Directives) (l : Located) → IsFunction f → IsDirectives d → IsAllocated (directed f d) l → Serves (directed f d) l

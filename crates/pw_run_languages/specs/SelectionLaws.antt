@@ -1,5 +1,5 @@
 -- What selection and placement owe to the layers between which they stand: the statements of their laws.
-use Rattle.std.specs.Prelude.{ℕ, ◌≡◌, List, map, Contains}
+use Rattle.std.specs.Prelude.{ℕ, ◌≡◌, false, List, map, Contains}
 use Rattle.std.specs.List.{AllByRecursion}
 use Rattle.pw_value.specs.declared.value.Byte.{Byte}
 use Rattle.pw_value.specs.declared.value.Value.{Value}
@@ -10,6 +10,7 @@ use Rattle.pw_select.specs.Selection.{selected}
 use Rattle.pw_inst.specs.declared.line.Line.{Line}
 use Rattle.pw_delay.specs.declared.items.Item.{Item}
 use Rattle.pw_delay.specs.Items.{slotted}
+use Rattle.pw_delay.specs.Filling.{filled}
 use Rattle.pw_run.specs.Runs.{Stage, Refines, Same}
 use Rattle.pw_run_languages.specs.Traces.{Event, Notes, KeepRegisters}
 use Rattle.pw_run_languages.specs.Calls.{FollowsCalls, AreGuarded}
@@ -32,9 +33,9 @@ with_lines f = record { located = f; items = slotted (selected f) }
 abbrev pub line_program : Program → List Located → LineProgram
 line_program p functions = record { flow = p; functions = map with_lines functions; eligible = eligible_names p }
 
--- The items that are placed are those of the lines; where words move into slots, they do so here.
+-- The items that are placed: those of the lines, with words moved into the slots of the branches behind them.
 abbrev pub arranged : List Line → List Item
-arranged lines = slotted lines
+arranged lines = filled false (slotted lines)
 
 abbrev pub with_items : Located → LineFn
 with_items f = record { located = f; items = arranged (selected f) }

@@ -4,3 +4,4 @@ mod ShortBytes
 mod NoElements
 mod Accepted
 mod Resolved
+mod Rows

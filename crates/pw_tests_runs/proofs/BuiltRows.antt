@@ -1,5 +1,5 @@
 -- Built programs exist: of bump and main, where these flow graphs implement a program, the objects that are made of them
--- are built, with a web in a register and the places of allocation's first form. With less than the least stack they are
+-- are built, with a web in a register and each temporary in a word of the frame. With less than the least stack they are
 -- not.
 use Rattle.std.specs.Prelude.{ℕ, ◌≡◌, ◌≤◌, ◌++◌, None, List, [], ◌∷◌, map, codes}
 use Rattle.std.proofs.Common.{arith, ap, refl}
@@ -7,7 +7,8 @@ use Rattle.pw_value.specs.Limits.{stack_least}
 use Rattle.pw_milli.specs.Library.{routines}
 use Rattle.pw_db.specs.declared.database.Directives.{Directives}
 use Rattle.pw_webflow.specs.Direction.{directed}
-use Rattle.pw_alloc.specs.Allocation.{allocated, entered_from}
+use Rattle.pw_alloc.specs.Allocation.{entered_from}
+use Rattle.pw_tests_runs.proofs.InWords.{in_words, words_serve}
 use Rattle.pw_alloc.specs.declared.located.Located.{Located}
 use Rattle.pw_select.specs.Selection.{selected, entered_lines}
 use Rattle.pw_delay.specs.Placement.{laid, placed}
@@ -21,7 +22,6 @@ use Rattle.pw_db_sound.specs.Sound.{Sound}
 use Rattle.pw_run_languages.specs.Direction.{directed_functions}
 use Rattle.pw_run_languages.specs.Serving.{AllServe}
 use Rattle.pw_run_languages.specs.LinkingLaws.{AreObjectsOf, AreNamesApart, compiled, frame_in}
-use Rattle.pw_law_direction.proofs.FirstForm.{allocation_serves}
 use Rattle.pw_law_layers.specs.Whole.{Implements, IsBuilt}
 use Rattle.pw_tests_runs.proofs.Programs.{bumping, bump_directives, bump, bump_main, start, global, only}
 use Rattle.pw_tests_runs.proofs.ProgramRows.{apart, lawful_bump, lawful_main, lawful_start}
@@ -31,7 +31,7 @@ use Rattle.pw_db.specs.declared.database.Role.{Role}
 use Rattle.pw_db.specs.declared.database.Role.TheVariants.{Entry, Member}
 
 abbrev pub places : List Located
-places = map allocated (directed_functions bumping bump_directives)
+places = map in_words (directed_functions bumping bump_directives)
 
 abbrev pub objects : List Object
 objects = whole_object (codes "a") [] [] [] [] (global (codes "n") ∷ []) (map compiled places) ∷ []
@@ -45,10 +45,10 @@ nothing_lawful = record { each = tt; numbers = tt; globals = tt; registers = tt;
 
 pub all_serve : AllServe (directed_functions bumping bump_directives) places
 all_serve = (
-  allocation_serves bump (only_of Member) _ lawful_bump (lawful_only Member) refl,
+  words_serve bump (only_of Member) (lawful_only Member),
   (
-    allocation_serves bump_main (only_of Entry) _ lawful_main (lawful_only Entry) refl,
-    (allocation_serves start empty _ lawful_start nothing_lawful refl, tt),
+    words_serve bump_main (only_of Entry) (lawful_only Entry),
+    (words_serve start empty nothing_lawful, tt),
   ),
 )
   where
@@ -56,7 +56,7 @@ all_serve = (
     only_of role = only n_web role
 
 pub small : size_fault objects 4096 ≡ None
-unfolding directed allocated entered_from selected entered_lines placed laid
+unfolding directed in_words entered_from selected entered_lines placed laid
 small = refl
 
 pub built : (p : source.Program) → Implements p (graphs 4096) → IsBuilt p (graphs 4096) bump_directives places objects

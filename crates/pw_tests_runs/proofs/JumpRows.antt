@@ -15,7 +15,8 @@ use Rattle.pw_flow.proofs.Once.{absent, once}
 use Rattle.pw_db.specs.Database.{empty}
 use Rattle.pw_webflow.specs.Direction.{directed}
 use Rattle.pw_alloc.specs.declared.located.Located.{Located}
-use Rattle.pw_alloc.specs.Allocation.{allocated, entered_from}
+use Rattle.pw_alloc.specs.Allocation.{entered_from}
+use Rattle.pw_tests_runs.proofs.InWords.{in_words, words_serve}
 use Rattle.pw_select.specs.Selection.{selected, entered_lines}
 use Rattle.pw_delay.specs.declared.items.Turn.TheVariants.{Goto}
 use Rattle.pw_delay.specs.declared.items.Item.{Item}
@@ -31,7 +32,6 @@ use Rattle.pw_run_languages.specs.Serving.{AllServe}
 use Rattle.pw_run_languages.specs.LineRun.{LineFn, Frame, IsCalling}
 use Rattle.pw_run_languages.specs.SelectionLaws.{with_lines}
 use Rattle.pw_run_languages.specs.LinkingLaws.{AreNamesApart, LinkKeeps, LinkKeepsRuns, compiled}
-use Rattle.pw_law_direction.proofs.FirstForm.{allocation_serves}
 use Rattle.pw_law_link_run.specs.Steps.{Setting}
 use Rattle.pw_law_link_run.specs.Simulating.{IsCaller}
 use Rattle.pw_tests_runs.proofs.Programs.{function, block, start, frames}
@@ -49,14 +49,14 @@ choosing = function (codes "f") (codes "fii") 1 3
     ∷ block [] (Jump 3) ∷ [])
 
 abbrev chosen : LineFn
-chosen = with_lines (allocated (directed choosing (record { webs = []; free = [] })))
+chosen = with_lines (in_words (directed choosing (record { webs = []; free = [] })))
 
 abbrev last_item : Item → List Item → Item
 last_item first [] = first
 last_item first (item ∷ items) = last_item item items
 
 ends_with_a_jump : last_item (Mark 0) chosen.items ≡ Turns (Goto 3) None
-unfolding directed allocated entered_from selected entered_lines
+unfolding directed in_words entered_from selected entered_lines
 ends_with_a_jump = refl
 
 last_is : (before : List Item) (call first : Item) → last_item first (before ++ call ∷ []) ≡ call
@@ -152,23 +152,23 @@ unfolding are_distinct
 apart = distinct (map (λ r. r.0) routines ++ (map (λ f. f.name) (functions_of jumping) ++ map (λ g. g.name) (globals_of jumping))) refl
 
 abbrev places : List Located
-places = map allocated (directed_functions jumping [])
+places = map in_words (directed_functions jumping [])
 
 abbrev objects : List Object
 objects = whole_object (codes "a") [] [] [] [] [] (map compiled places) ∷ []
 
 all_serve : AllServe (directed_functions jumping []) places
 all_serve = (
-  allocation_serves start empty _ lawful_start nothing_lawful refl,
-  (allocation_serves deciding empty _ lawful_deciding nothing_lawful refl, tt),
+  words_serve start empty nothing_lawful,
+  (words_serve deciding empty nothing_lawful, tt),
 )
 
 small : size_fault objects 4096 ≡ None
-unfolding directed allocated entered_from selected entered_lines placed laid
+unfolding directed in_words entered_from selected entered_lines placed laid
 small = refl
 
-last_ends_with_a_jump : last_item (Mark 0) (with_lines (allocated (directed deciding empty))).items ≡ Turns (Goto 3) None
-unfolding directed allocated entered_from selected entered_lines
+last_ends_with_a_jump : last_item (Mark 0) (with_lines (in_words (directed deciding empty))).items ≡ Turns (Goto 3) None
+unfolding directed in_words entered_from selected entered_lines
 last_ends_with_a_jump = refl
 
 -- so the law of linking says of it what the machine does, the library behind its words included

@@ -1,5 +1,6 @@
 mod Stories
 mod Programs
+mod InWords
 mod PlacedRows
 mod LineRows
 mod LinkRows

@@ -4,7 +4,8 @@ use Rattle.std.specs.Str.{bytes_eq}
 use Rattle.std.proofs.Common.{refl}
 use Rattle.pw_db.specs.declared.database.Directives.{Directives}
 use Rattle.pw_webflow.specs.Direction.{directed}
-use Rattle.pw_alloc.specs.Allocation.{allocated, entered_from}
+use Rattle.pw_alloc.specs.Allocation.{entered_from}
+use Rattle.pw_tests_runs.proofs.InWords.{in_words}
 use Rattle.pw_select.specs.Selection.{selected, entered_lines}
 use Rattle.pw_run.specs.Runs.{Stage}
 use Rattle.pw_run_languages.specs.Traces.{Event, InMemory, InPlace}
@@ -37,36 +38,36 @@ addresses stack = record {
 
 abbrev run : Program → List (List ℕ × Directives) → ℕ → ℕ → Stage (Event ℕ ℕ)
 run p d stack n =
-    line_run (line_program p (map allocated (directed_functions p d))) (addresses stack) (λ k registers r. 99) [] n
+    line_run (line_program p (map in_words (directed_functions p d))) (addresses stack) (λ k registers r. 99) [] n
 
 bump_runs : story (run bumping bump_directives 4096 200) ≡ codes " ($start (main <n (bump )bump (bump )bump (putchar )putchar >n )main (exit = 2 2"
-unfolding line_run steps step directed allocated entered_from selected entered_lines
+unfolding line_run steps step directed in_words entered_from selected entered_lines
 bump_runs = refl
 
 recursion_runs : story (run (recursion 4096) recursion_directives 4096 300) ≡ codes " ($start (main <n (f (f (f )f )f )f >n )main (exit = 3 "
-unfolding line_run steps step directed allocated entered_from selected entered_lines
+unfolding line_run steps step directed in_words entered_from selected entered_lines
 recursion_runs = refl
 
 full_runs : story (run (recursion 4096) recursion_directives 300 300) ≡ codes " ($start (main <n (f (f !f full "
-unfolding line_run steps step directed allocated entered_from selected entered_lines
+unfolding line_run steps step directed in_words entered_from selected entered_lines
 full_runs = refl
 
 start_runs : story (run starting start_directives 4096 300) ≡ codes " ($start <n (main (main )main )main (exit = 2 "
-unfolding line_run steps step directed allocated entered_from selected entered_lines
+unfolding line_run steps step directed in_words entered_from selected entered_lines
 start_runs = refl
 
 nest_runs : story (run nesting nest_directives 4096 300) ≡ codes " ($start (main <n (k (h <m (putchar )putchar >m )h )k >n )main (exit = 5 A"
-unfolding line_run steps step directed allocated entered_from selected entered_lines
+unfolding line_run steps step directed in_words entered_from selected entered_lines
 nest_runs = refl
 
 pointer_runs : story (run pointing pointing_directives 4096 300) ≡ codes " ($start (main <n (g )g >n )main (exit = 8 "
-unfolding line_run steps step directed allocated entered_from selected entered_lines
+unfolding line_run steps step directed in_words entered_from selected entered_lines
 pointer_runs = refl
 
 nest_inside : globals_at (codes "putchar") (run nesting nest_directives 4096 300) ≡ InPlace 5 ∷ InPlace 7 ∷ []
-unfolding line_run steps step directed allocated entered_from selected entered_lines
+unfolding line_run steps step directed in_words entered_from selected entered_lines
 nest_inside = refl
 
 nest_before : globals_at (codes "k") (run nesting nest_directives 4096 300) ≡ InPlace 5 ∷ InMemory (0 ∷ 0 ∷ 0 ∷ 0 ∷ []) ∷ []
-unfolding line_run steps step directed allocated entered_from selected entered_lines
+unfolding line_run steps step directed in_words entered_from selected entered_lines
 nest_before = refl

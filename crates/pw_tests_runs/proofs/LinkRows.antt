@@ -9,7 +9,8 @@ use Rattle.pw_inst.specs.declared.relocation.Symbol.TheVariants as symbol
 use Rattle.pw_webflow.specs.Direction.{directed}
 use Rattle.pw_alloc.specs.Frames.{link_place}
 use Rattle.pw_alloc.specs.declared.located.Located.{Located}
-use Rattle.pw_alloc.specs.Allocation.{allocated, entered_from}
+use Rattle.pw_alloc.specs.Allocation.{entered_from}
+use Rattle.pw_tests_runs.proofs.InWords.{in_words}
 use Rattle.pw_select.specs.Selection.{selected, entered_lines}
 use Rattle.pw_delay.specs.declared.items.Item.{Item}
 use Rattle.pw_delay.specs.declared.items.Turn.TheVariants.{CallTo, CallReg}
@@ -60,11 +61,11 @@ links_of p = links p (addresses 4096) 200 (lines.start p (addresses 4096) [])
 -- ---- bump and main
 
 abbrev bumped : LineProgram
-bumped = line_program bumping (map allocated (directed_functions bumping bump_directives))
+bumped = line_program bumping (map in_words (directed_functions bumping bump_directives))
 
 -- `$start`, main, bump and bump begin; main goes on behind bump, bump and putchar, and `$start` behind main
 bump_links : links_of bumped ≡ true ∷ true ∷ true ∷ true ∷ true ∷ true ∷ true ∷ true ∷ []
-unfolding step directed allocated entered_from selected entered_lines links
+unfolding step directed in_words entered_from selected entered_lines links
 bump_links = refl
 
 abbrev is_link_store : Inst → Bool
@@ -80,5 +81,5 @@ unlinked f = record f { items = filter (λ item. not (stores_link item)) f.items
 
 -- where bump begins, main's is missing
 no_links : links_of (record bumped { functions = map unlinked bumped.functions }) ≡ true ∷ true ∷ false ∷ []
-unfolding step directed allocated entered_from selected entered_lines links
+unfolding step directed in_words entered_from selected entered_lines links
 no_links = refl

@@ -5,10 +5,8 @@ use Rattle.pw_webflow.specs.declared.web.WebFn.{WebFn}
 use Rattle.pw_webflow.specs.Direction.{directed}
 use Rattle.pw_alloc.specs.declared.located.Place.TheVariants.{Reg}
 use Rattle.pw_alloc.specs.declared.located.Located.{Located}
-use Rattle.pw_alloc.specs.Allocation.{allocated, entered_from}
 use Rattle.pw_alloc.specs.ValidPlaces.{IsPlace}
 use Rattle.pw_run_languages.specs.Serving.{IsKeptOver}
-use Rattle.pw_run_languages.specs.PlacementLaws.{IsAllocated}
 use Rattle.pw_tests_runs.proofs.Programs.{bump}
 
 nowhere : {X : Type 0} (x : X) → Contains [] x → ⊥
@@ -35,8 +33,3 @@ kept_place = (omega arith, omega arith, (λ c. nowhere 15 c), (λ c. nowhere 15 
 lost_place : IsKeptOver (bump_with (15 ∷ [])) (Reg 15) → ⊥
 unfolding directed
 lost_place (low, high, apart, own) = apart (0, omega arith, refl)
-
--- allocation gives no other frame
-other_frame : IsAllocated (bump_with []) (record (allocated (bump_with [])) { frame = 1 }) → ⊥
-unfolding directed allocated entered_from
-other_frame e = let same : 1 ≡ 64 = ap (λ (l : Located). l.frame) e in omega (arith, same)

@@ -6,7 +6,8 @@ use Rattle.std.proofs.Common.{arith, refl}
 use Rattle.pw_value.specs.ProgramNames.{library_functions}
 use Rattle.pw_webflow.specs.Direction.{directed}
 use Rattle.pw_alloc.specs.declared.located.Located.{Located}
-use Rattle.pw_alloc.specs.Allocation.{allocated, entered_from}
+use Rattle.pw_alloc.specs.Allocation.{entered_from}
+use Rattle.pw_tests_runs.proofs.InWords.{in_words}
 use Rattle.pw_link.specs.Linking.{linked}
 use Rattle.pw_run_languages.specs.Programs.{Program}
 use Rattle.pw_run_languages.specs.LawfulPrograms.{IsProgram, graph_of}
@@ -62,7 +63,7 @@ lawful_addresses = record {
 }
 
 frames_are : FramesAre framed places
-unfolding directed allocated entered_from
+unfolding directed in_words entered_from
 frames_are = record {
   defined = each (λ (f : Located). own_frames f.body.name ≡ f.frame) places (refl, (refl, (refl, tt)));
   library = each (λ name. own_frames name ≡ 0) library_functions (refl, (refl, (refl, tt)));

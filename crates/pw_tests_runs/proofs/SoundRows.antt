@@ -15,7 +15,8 @@ use Rattle.pw_db_sound.specs.Sound.{In, Needs, refers, keeps, IsFree, Sound}
 use Rattle.pw_db_sound.specs.Sound as sound
 use Rattle.pw_webflow.specs.Direction.{directed}
 use Rattle.pw_alloc.specs.declared.located.Located.{Located}
-use Rattle.pw_alloc.specs.Allocation.{allocated, entered_from}
+use Rattle.pw_alloc.specs.Allocation.{entered_from}
+use Rattle.pw_tests_runs.proofs.InWords.{in_words}
 use Rattle.pw_run_languages.specs.Traces.{Called, MayChange, member, free}
 use Rattle.pw_run_languages.specs.Calls.{FollowsCalls, Saves, AreGuarded}
 use Rattle.pw_run_languages.specs.LawfulPrograms.{node_of, graph_of}
@@ -276,11 +277,11 @@ free_unsound s =
 -- ---- what bump may change, main saves
 
 abbrev functions : List Located
-functions = map allocated (directed_functions bumping bump_directives)
+functions = map in_words (directed_functions bumping bump_directives)
 
 main_saves : Saves functions main_name 3
-unfolding directed allocated entered_from
-main_saves = record { function = allocated (directed_by bump_directives bump_main); there = (1, omega arith, refl); named = refl; saved = (0, omega arith, refl) }
+unfolding directed in_words entered_from
+main_saves = record { function = in_words (directed_by bump_directives bump_main); there = (1, omega arith, refl); named = refl; saved = (0, omega arith, refl) }
 
 saved_above : (a b : List ℕ) (r : ℕ) (w : Web) → IsSeat w b Member → w.reg ≡ r → Calls graph a b → Saves functions a r
 saved_above a b r w (e, inl s) is c =

@@ -9,7 +9,8 @@ use Rattle.pw_alloc.specs.Frames.{temp_offset}
 use Rattle.pw_alloc.specs.declared.located.Located.{Located}
 use Rattle.pw_alloc.specs.declared.located.Place.{Place}
 use Rattle.pw_alloc.specs.declared.located.Place.TheVariants.{Slot}
-use Rattle.pw_alloc.specs.Allocation.{allocated, entered_from}
+use Rattle.pw_alloc.specs.Allocation.{entered_from}
+use Rattle.pw_tests_runs.proofs.InWords.{in_words}
 use Rattle.pw_select.specs.Selection.{selected, entered_lines}
 use Rattle.pw_delay.specs.Placement.{laid, placed as placed_words}
 use Rattle.pw_object.specs.declared.object.Object.{Object}
@@ -70,8 +71,8 @@ one_word f = record f { places = word 0 ∷ word 0 ∷ word 2 ∷ word 3 ∷ [] 
 
 abbrev overwritten : List Located
 overwritten =
-    allocated (directed_by bump_directives bump) ∷ one_word (allocated (directed_by bump_directives bump_main))
-    ∷ allocated (directed_by bump_directives start) ∷ []
+    in_words (directed_by bump_directives bump) ∷ one_word (in_words (directed_by bump_directives bump_main))
+    ∷ in_words (directed_by bump_directives start) ∷ []
 
 abbrev scratch : ℕ → (ℕ → ℕ) → ℕ → ℕ
 scratch k registers r = 99
@@ -82,7 +83,7 @@ first_or n (m ∷ ms) = m
 
 -- it writes 96, the sum of the second with itself, in place of 50
 wrong_lines : SelectionKeeps bumping bump_directives overwritten (addresses 4096) scratch [] → ⊥
-unfolding placed_run placed.step placed.steps command.command line_run lines.steps lines.step directed allocated entered_from selected entered_lines
+unfolding placed_run placed.step placed.steps command.command line_run lines.steps lines.step directed in_words entered_from selected entered_lines
 wrong_lines keeps =
     refuses (EventInWords bumping (addresses 4096).named) (placed_run (with_functions bumping overwritten) [])
     (line_run (line_program bumping overwritten) (addresses 4096) scratch [])
@@ -136,7 +137,7 @@ abbrev without_n : List Object
 without_n = whole_object (codes "a") [] [] [] [] [] (map compiled places) ∷ []
 
 wrong_image : LinkKeeps bumping places (linked without_n 4096) [] → ⊥
-unfolding directed allocated entered_from selected entered_lines placed_words laid linked
+unfolding directed in_words entered_from selected entered_lines placed_words laid linked
 wrong_image keeps =
     let above : keeps.addresses.data_start ≤ keeps.addresses.named (codes "n") = keeps.lawful.above (global (codes "n")) (0, omega arith, refl) in
     let nowhere : keeps.addresses.named (codes "n") ≡ 0 = ap (λ (named : List ℕ → ℕ). named (codes "n")) keeps.named in

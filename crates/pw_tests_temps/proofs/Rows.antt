@@ -1,4 +1,4 @@
--- Rows of allocation in its second form: small functions, whose weights, registers and interference are computed by their
+-- Rows of allocation: small functions, whose weights, registers and interference are computed by their
 -- definitions. What they must be was told by an independent compiler.
 use Rattle.std.specs.Prelude.{ℕ, ◌≡◌, ◌+◌, ◌-◌, Bool, true, false, Option, Some, None, List, [], ◌∷◌, map}
 use Rattle.std.specs.List.{filter, range_with_len}

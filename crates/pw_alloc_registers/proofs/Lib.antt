@@ -1,0 +1,4 @@
+mod Choosing
+mod Turns
+mod Lawful
+mod Barring

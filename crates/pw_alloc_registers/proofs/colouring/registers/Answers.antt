@@ -1,0 +1,54 @@
+use Rattle.std.proofs.Common.{◌≡◌, ◌<◌, ◌≤◌, ◌+◌, ◌∙◌, ℕ, [], List, get_or, length, take, arith, sym, subst, vec_len}
+use Rattle.std.proofs.lemmas.List.{take_all}
+use Rattle.std.proofs.lemmas.Option.{slice_get_read}
+use Rattle.pw_alloc_temps.specs.Weights.{by_weight}
+use Rattle.pw_alloc_temps.specs.Registers.{given_to, given, registers}
+use Rattle.pw_alloc_taken.specs.Knowing.{AreGiven}
+use Rattle.pw_alloc_taken.proofs.Knowledge.{many_makers}
+use Rattle.pw_alloc_registers.proofs.Turns.{next_turn, none_yet, all_registers, ordered_below}
+use Rattle.pw_alloc_registers.proofs.colouring.registers.Goals as goal
+
+pub new-requires : goal.new-requires
+new-requires c = let v = c.in_ok-facts.facts in c.len-points.ensures ∙ v.makers.ok.0 ∙ many_makers c.args.f.now v c.in_ok-facts.ensures
+
+pub colour-requires : goal.colour-requires
+colour-requires c =
+    let f = c.args.f.now in
+    let order = c.in_ok-order.order in
+    record {
+      outline = c.requires;
+      facts = c.in_ok-facts.ensures;
+      sized = c.loop-place.invariant.sized;
+      temp = ordered_below f order.items c.loop-place.place c.index.result.now c.in_ok-order.ensures (slice_get_read order.items (vec_len order) c.loop-place.place c.index.result.now order.ok.0 (omega (arith, c.loop-place-test.true, c.len-count.ensures)) c.index.ensures);
+    }
+
+pub loop-place-init : goal.loop-place-init
+loop-place-init c = record { sized = c.in_ok-given.ensures.sized; given = λ ws webs. c.in_ok-given.ensures.given }
+
+pub loop-place-preserved : goal.loop-place-preserved
+loop-place-preserved c =
+    let f = c.args.f.now in
+    let order = c.in_ok-order.order in
+    let k = c.loop-place.place in
+    let t = c.index.result.now in
+    let xs = by_weight f 0 f.temps in
+    record {
+      sized = c.colour.ensures.sized;
+      given = λ ws webs.
+          let lt : k < length xs = subst (λ (ys : List ℕ). k < length ys) c.in_ok-order.ensures (let low = c.loop-place-test.true in let size = order.ok.0 in let many = c.len-count.ensures in omega (arith, low, size, many)) in
+          let is : get_or xs k t ≡ t = sym (subst (λ (ys : List ℕ). t ≡ get_or ys k t) c.in_ok-order.ensures c.index.ensures) in
+          let known = subst (λ (ys : List ℕ). AreGiven f (given_to f ws (take k ys) []) c.loop-place.given) c.in_ok-order.ensures (c.loop-place.invariant.given ws webs) in
+          let none = none_yet f ws k t lt is in
+          subst (λ (ys : List ℕ). AreGiven f (given_to f ws (take (k + 1) ys) []) c.colour.new.given) (sym c.in_ok-order.ensures)
+          (subst (λ (gs : List (ℕ × ℕ)). AreGiven f gs c.colour.new.given) (sym (next_turn f ws xs k t lt is)) (c.colour.ensures.given ws (given_to f ws (take k xs) []) webs known none));
+    }
+
+pub returns : goal.returns
+returns c = λ ws webs.
+    let f = c.args.f.now in
+    let order = c.in_ok-order.order in
+    let v = c.loop-place.given in
+    let xs = by_weight f 0 f.temps in
+    let le : length order.items ≤ c.loop-place.place = let past = c.loop-place-test.false in let size = order.ok.0 in let many = c.len-count.ensures in omega (arith, past, size, many) in
+    let known = subst (λ (ys : List ℕ). AreGiven f (given_to f ws ys []) v) (take_all c.loop-place.place order.items le ∙ c.in_ok-order.ensures) (c.loop-place.invariant.given ws webs) in
+    all_registers f ws v.registers.items (sym v.registers.ok.0 ∙ c.loop-place.invariant.sized.temps) known.registers

@@ -1,0 +1,100 @@
+//! The registers of temporaries: each in turn gets the first that it may have and that is not taken.
+
+ghost use Rattle.std.specs.Prelude.{◌≡◌, ◌<◌, ◌-◌, not, ℕ, List, None, false, IfOk, IfSome};
+ghost use Rattle.std.specs.List.{find, range_with_len};
+ghost use Rattle.pw_live_fronts.specs.Blocks.{IsOutline};
+ghost use Rattle.pw_live.specs.Liveness.{has};
+ghost use Rattle.pw_alloc_taken.specs.Masks.{in_mask};
+ghost use Rattle.pw_alloc_taken.specs.Knowing.{AreFacts, AreSized, AreGiven};
+ghost use Rattle.pw_alloc_temps.specs.Registers.{of_temporaries, allowed, is_taken, with_register, register_of, registers};
+
+use pw_alloc_taken::{Facts, Given, both, find_facts, give, has_register, is_held, taken};
+use pw_alloc_weights::ordered;
+use pw_db::{FIRST_REGISTER, LAST_REGISTER, LAST_TEMPORARY};
+use pw_live_fronts::Outline;
+use std::alloc::{AllocError as NoMemory, Global};
+
+/// Whether a register is not in a set.
+fn is_free(away: u32, r: u8) -> bool
+    requires { r < 32 }
+    ensures { result ≡ not (in_mask away r) }
+{
+    !has_register(away, r)
+}
+
+/// The first of some registers that is not in a set.
+fn first_in(away: u32, from: u8, to: u8) -> Option<u8>
+    requires { to < 32 }
+    ensures first { result ≡ find (λ r. not (in_mask away r)) (range_with_len from (to - from)) }
+    ensures low { IfSome result (λ r. r < 32) }
+{
+    for r in from..to {
+        if is_free(away, r) {
+            return Some(r);
+        }
+    }
+    None
+}
+
+/// The first of the registers of temporaries that is not in a set, those first that calls may change.
+fn first_of_all(away: u32) -> Option<u8>
+    ensures first { result ≡ find (λ r. not (in_mask away r)) (of_temporaries false) }
+    ensures low { IfSome result (λ r. r < 32) }
+{
+    match first_in(away, LAST_REGISTER + 1, LAST_TEMPORARY + 1) {
+        Some(r) => Some(r),
+        None => first_in(away, FIRST_REGISTER, LAST_REGISTER + 1),
+    }
+}
+
+/// The first of the registers of temporaries that is not in a set: over calls one that a callee keeps.
+fn first_free(held: bool, away: u32) -> Option<u8>
+    ensures first { result ≡ find (λ r. not (in_mask away r)) (of_temporaries held) }
+    ensures low { IfSome result (λ r. r < 32) }
+{
+    if held {
+        first_in(away, FIRST_REGISTER, LAST_REGISTER + 1)
+    } else {
+        first_of_all(away)
+    }
+}
+
+/// Gives a temporary the first register that it may have and that is not taken, if there is one.
+fn colour(given: &mut Given, facts: &Facts, f: &Outline, webs: u32, t: u32)
+    requires outline { IsOutline f.now }
+    requires facts { AreFacts f.now facts.now }
+    requires sized { AreSized f.now given.old }
+    requires temp { t < f.now.temps }
+    ensures sized { AreSized f.now given.new }
+    ensures given { (ws : List ℕ) (gs : List (ℕ × ℕ)) → ((r : ℕ) → in_mask webs r ≡ has r ws) → AreGiven f.now gs given.old → register_of gs t ≡ None
+        → AreGiven f.now (with_register t (find (λ r. not (is_taken f.now gs t r)) (allowed f.now ws t)) gs) given.new }
+{
+    let taken = taken(given, facts, f, t);
+    let held = is_held(facts, f, t);
+    let away = both(webs, taken);
+    match first_free(held, away) {
+        Some(r) => give(given, facts, f, t, r),
+        None => (),
+    }
+}
+
+/// The register of each temporary of a function, beside those of its webs, which are told as a set.
+pub(crate) fn registers(alloc: Global, f: &Outline, webs: u32) -> Result<Vec<Option<u8>>, NoMemory>
+    requires { IsOutline f.now }
+    ensures { IfOk result (λ v. (ws : List ℕ) → ((r : ℕ) → in_mask webs r ≡ has r ws) → v.items ≡ registers f.now ws) }
+{
+    let facts = find_facts(alloc, f)?;
+    let order = ordered(alloc, f)?;
+    let points = facts.makers.len();
+    let mut given = Given::new(alloc, f, points)?;
+    let count = order.len();
+    for place in 0..count {
+        colour(&mut given, &facts, f, webs, order[place]);
+    }
+    let Given {
+        registers,
+        occupied: _,
+        params: _,
+    } = given;
+    Ok(registers)
+}

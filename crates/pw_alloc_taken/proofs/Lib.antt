@@ -1,0 +1,9 @@
+mod Besides
+mod Looking
+mod Takers
+mod Giving
+mod Masking
+mod Defining
+mod Pointing
+mod Calling
+mod Knowledge

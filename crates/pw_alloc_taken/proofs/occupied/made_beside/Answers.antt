@@ -1,0 +1,23 @@
+use Rattle.std.proofs.Common.{ℕ, List, sym, subst}
+use Rattle.std.specs.Prelude.{◌↔◌}
+use Rattle.std.proofs.lemmas.List.{take_all}
+use Rattle.pw_alloc_taken.specs.Masks.{HasRegister, IsMadeBeside}
+use Rattle.pw_alloc_taken.proofs.Masking.{beside_none, beside_more, zero_mask, span_item}
+use Rattle.pw_alloc_taken.proofs.occupied.made_beside.Goals as goal
+
+pub loop-place-init : goal.loop-place-init
+loop-place-init c = λ k. (
+  λ h. absurd (zero_mask k h),
+  λ h. absurd (beside_none c.args.makers.now c.args.registers.now c.args.spans.now k h),
+)
+
+pub with_span-more-requires-clause-points : goal.with_span-more-requires-clause-points
+with_span-more-requires-clause-points c = λ p low high. c.requires.points p (c.index-spans-place.result, span_item c.args.spans.now c.loop-place.place c.index-spans-place.result c.loop-place-test.true c.index-spans-place.is, (low, high))
+
+pub loop-place-preserved : goal.loop-place-preserved
+loop-place-preserved c =
+    beside_more c.args.makers.now c.args.registers.now c.args.spans.now c.loop-place.place c.index-spans-place.result (HasRegister c.with_span-more.result) (HasRegister c.loop-place.beside) c.loop-place-test.true (sym c.index-spans-place.is)
+    c.with_span-more.ensures c.loop-place.invariant
+
+pub returns : goal.returns
+returns c = subst (λ (ss : List (ℕ × ℕ)). (k : ℕ) → HasRegister c.loop-place.beside k ↔ IsMadeBeside c.args.makers.now c.args.registers.now ss k) (take_all c.loop-place.place c.args.spans.now c.loop-place-test.false) c.loop-place.invariant

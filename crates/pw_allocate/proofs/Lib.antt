@@ -1,0 +1,2 @@
+mod SavingLaws
+mod Fitting

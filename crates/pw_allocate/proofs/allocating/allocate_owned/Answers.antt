@@ -1,0 +1,6 @@
+use Rattle.std.proofs.Common.{sym, subst}
+use Rattle.pw_alloc.specs.ValidPlaces.{IsLocated}
+use Rattle.pw_allocate.proofs.allocating.allocate_owned.Goals as goal
+
+pub returns-clause-lawful : goal.returns-clause-lawful
+returns-clause-lawful c = subst IsLocated (sym c.in_ok-l.ensures) (c.allocation_is_lawful.ensures c.args.f c.requires)

@@ -1,0 +1,4 @@
+pub mod Deeds
+pub mod Sides
+pub mod Passes
+pub mod Laws

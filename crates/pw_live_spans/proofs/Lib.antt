@@ -1,0 +1,5 @@
+mod Covering
+mod Walking
+mod Steps
+mod Walks
+mod Numbers

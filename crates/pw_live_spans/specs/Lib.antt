@@ -1,0 +1,4 @@
+pub mod Spans
+pub mod Walking
+pub mod LivePoints
+pub mod AreSpans

@@ -1,5 +1,0 @@
-use Rattle.pw_slots.proofs.Keeping.{filled_from}
-use Rattle.pw_slots.proofs.laws.slots_are_filled_from_items.Goals as goal
-
-pub returns : goal.returns
-returns c = filled_from
