@@ -87,7 +87,11 @@ fn end_of(alloc: Global, made: Result<(), Stop>) -> Result<RunEnd, AllocError>
 }
 
 /// The state in which a run starts: main is called while `$start` is active.
-fn start<'a>(alloc: Global, world: &World<'a>, input: &'a [u8]) -> Result<State<'a>, AllocError>
+fn first_state<'a>(
+    alloc: Global,
+    world: &World<'a>,
+    input: &'a [u8],
+) -> Result<State<'a>, AllocError>
     ensures { IfOk result (λ state. view_state state ≡ shown (view_world world.now) (runs.start_state (view_world world.now).program input.now)) }
 {
     let objects = start_objects(alloc, world.names)?;
@@ -109,7 +113,7 @@ fn run_world<'a>(
 ) -> Result<PlainRun, AllocError>
     ensures { IfOk result (λ r. view_run r ≡ runs.seen (runs.run_main (view_world world.now) bound (runs.start_state (view_world world.now).program input.now))) }
 {
-    let mut state = start(alloc, world, input)?;
+    let mut state = first_state(alloc, world, input)?;
     let made = run_main(alloc, world, &mut state, bound);
     let end = end_of(alloc, made)?;
     Ok(PlainRun {
