@@ -126,7 +126,7 @@ fn begin_call<'a>(
 }
 
 /// The call of a function within a bound: its body comes with one that is one smaller.
-fn begin_bounded<'a>(
+pub fn begin_bounded<'a>(
     alloc: Global,
     world: &'a World<'a>,
     state: &mut State<'a>,
