@@ -1,2 +1,0 @@
-pub mod Gotos
-pub mod Leaving

@@ -1,2 +1,0 @@
-mod Arguments
-pub mod Firsts

@@ -1,9 +1,0 @@
-use Rattle.std.proofs.Common.{refl}
-use Rattle.pw_cmean.specs.Evaluation.{answer_of}
-use Rattle.pw_interp_calls.proofs.AnswerLaws.{then_ok}
-use Rattle.pw_interp_forms.proofs.Firsts.{ran}
-use Rattle.pw_interp_forms.proofs.operators.comma.Goals as goal
-
-pub returns : goal.returns
-unfolding answer_of
-returns g c a given = record { answers = λ start run. then_ok _ (ran run) refl c.answer_of.ensures }

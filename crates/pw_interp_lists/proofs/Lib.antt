@@ -1,4 +1,0 @@
-pub mod LabelLemmas
-pub mod Answering
-pub mod Listing
-pub mod Making

@@ -1,8 +1,0 @@
-use Rattle.std.proofs.Common.{◌≡◌, ◌+◌, ◌-◌}
-use Rattle.pw_interp_calls.specs.Views.{view_env}
-use Rattle.pw_interp_lists.specs.Places.{made}
-use Rattle.pw_interp_lists.proofs.locals.make_locals.Given as goal
-
--- the locals that are left are still to be made
-abbrev pub invariant-loop-i : goal.invariant-loop-i
-invariant-loop-i l = made (l.count - l.i) (l.first + l.i) (view_env l.inner) l.objects ≡ made l.count l.first (view_env l.env) l.fn.objects

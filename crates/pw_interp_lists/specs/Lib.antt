@@ -1,4 +1,0 @@
-pub mod Steps
-pub mod Flows
-pub mod Follows
-pub mod Places
