@@ -2,7 +2,7 @@
 
 ghost use Rattle.std.specs.Prelude.{◌≡◌, ◌++◌, drop, option_map};
 ghost use Rattle.pw_types.specs.Labels.{labels_among, labels_behind, labels_of_arms};
-ghost use Rattle.pw_typed.specs.Views.{view_arms, view_otherwise, view_stmt, view_stmts};
+ghost use Rattle.pw_typed.specs.Views.{view_arms, view_stmt, view_stmts};
 ghost use Rattle.pw_cmean.specs.Execution as execution;
 ghost use Rattle.pw_cmean.specs.SourceRun.{calls};
 ghost use Rattle.pw_interp_todo.specs.Flows.{view_flow};
@@ -13,8 +13,9 @@ ghost use Rattle.pw_interp_todo.specs.Members as any;
 ghost use Rattle.pw_interp_todo.specs.Parts.{again_act};
 ghost use Rattle.pw_interp_flows.specs.Behind as behind;
 ghost use Rattle.pw_interp_flows.specs.Behind.{view_onward};
+ghost use Rattle.pw_interp_flows.specs.Last.{view_last};
 
-use crate::labels::{holds, is_among, is_in_if};
+use crate::labels::{holds, is_among, is_in_if, is_in_rest};
 use crate::loops::tail;
 use crate::members::{arms_in, members_in, otherwise_in};
 use pw_interp_todo::{Doing, Done, Entry, Flow, Going, Part, Remainder, Turn};
@@ -47,13 +48,11 @@ fn onward(rest: &[TStmt], flow: Flow) -> Onward
 
 /// Behind an arm, behind which others stand and what is behind the last `else`: where that is met, or with what the `if` is
 /// left.
-fn behind_arm(rest: &[Arm], otherwise: &Option<Box<TStmt>>, flow: Flow) -> Onward
-    ensures { view_onward result ≡ behind.behind_arm (labels_of_arms (view_arms rest.now) ++ labels_behind (view_otherwise otherwise.now)) (view_flow flow) }
+fn behind_arm(rest: &[Arm], last: Option<&TStmt>, flow: Flow) -> Onward
+    ensures { view_onward result ≡ behind.behind_arm (labels_of_arms (view_arms rest.now) ++ labels_behind (view_last last.entry)) (view_flow flow) }
 {
     match flow {
-        Flow::Goes(label) if is_in_if(rest, otherwise, label) => {
-            Onward::Met(Entry::AtLabel(label))
-        }
+        Flow::Goes(label) if is_in_rest(rest, last, label) => Onward::Met(Entry::AtLabel(label)),
         _ => Onward::Left(flow),
     }
 }
