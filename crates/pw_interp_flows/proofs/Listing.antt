@@ -1,5 +1,5 @@
 -- Lists of statements, arms of an `if`, and what takes up gotos, a part at a time.
-use Rattle.std.proofs.Common.{ℕ, zero, suc, ◌+◌, ◌≡◌, refl, sym, ap, subst, ◌∙◌, true, false, Some, None, List, [], ◌∷◌, drop}
+use Rattle.std.proofs.Common.{ℕ, zero, suc, ◌+◌, ◌≡◌, refl, sym, ap, subst, ◌∙◌, add-one, true, false, Some, None, List, [], ◌∷◌, drop}
 use Rattle.std.specs.Prelude.{slice_get}
 use Rattle.std.specs.Borrow.{Bor}
 use Rattle.pw_types.specs.Labels.{labels_in}
@@ -22,7 +22,7 @@ use Rattle.pw_interp_flows.specs.Entering.{is_met, arm_or_later}
 
 -- ---- members and arms by their places
 
-pub members_some : (list : List TStmt) (i : ℕ) (a : TStmt) → slice_get list i ≡ Some a → members_from i (view_stmts list) ≡ OneStatement (view_stmt a) (members_from (i + 1) (view_stmts list))
+pub members_some : (list : List TStmt) (i : ℕ) (a : TStmt) → slice_get list i ≡ Some a → members_from i (view_stmts list) ≡ OneStatement (view_stmt a) (members_from (suc i) (view_stmts list))
 members_some [] i a is = cc is
 members_some (x ∷ list) zero a is = let same : x ≡ a = cc is in ap (λ y. OneStatement (view_stmt y) (view_stmts list)) same
 members_some (x ∷ list) (suc i) a is = members_some list i a is
@@ -39,7 +39,7 @@ members_drop [] (suc i) = refl
 members_drop (x ∷ list) (suc i) = members_drop list i
 
 pub arms_some : (list : List code.Arm) (i : ℕ) (a : code.Arm) → slice_get list i ≡ Some a
-    → arms_from i (view_arms list) ≡ Arm a.token (view_expr a.condition) (view_stmt a.body) (arms_from (i + 1) (view_arms list))
+    → arms_from i (view_arms list) ≡ Arm a.token (view_expr a.condition) (view_stmt a.body) (arms_from (suc i) (view_arms list))
 arms_some [] i a is = cc is
 arms_some (x ∷ list) zero a is = let same : x ≡ a = cc is in ap (λ y. Arm y.token (view_expr y.condition) (view_stmt y.body) (view_arms list)) same
 arms_some (x ∷ list) (suc i) a is = arms_some list i a is
@@ -57,14 +57,18 @@ arms_drop (x ∷ list) (suc i) = arms_drop list i
 
 -- of a list that a statement holds
 pub member_at : {l : Statements} (list : List TStmt) (i : ℕ) (a : TStmt) → view_stmts list ≡ l → slice_get list i ≡ Some a → members_from i l ≡ OneStatement (view_stmt a) (members_from (i + 1) l)
-member_at list i a same is = subst (λ x. members_from i x ≡ OneStatement (view_stmt a) (members_from (i + 1) x)) same (members_some list i a is)
+member_at {l = l} list i a same is =
+    subst (λ x. members_from i x ≡ OneStatement (view_stmt a) (members_from (suc i) x)) same (members_some list i a is)
+    ∙ ap (λ k. OneStatement (view_stmt a) (members_from k l)) (sym (add-one i))
 
 pub member_past : {l : Statements} (list : List TStmt) (i : ℕ) → view_stmts list ≡ l → slice_get list i ≡ None → members_from i l ≡ NoStatement
 member_past list i same is = subst (λ x. members_from i x ≡ NoStatement) same (members_none list i is)
 
 pub arm_at_place : {l : Arms} (list : List code.Arm) (i : ℕ) (a : code.Arm) → view_arms list ≡ l → slice_get list i ≡ Some a
     → arms_from i l ≡ Arm a.token (view_expr a.condition) (view_stmt a.body) (arms_from (i + 1) l)
-arm_at_place list i a same is = subst (λ x. arms_from i x ≡ Arm a.token (view_expr a.condition) (view_stmt a.body) (arms_from (i + 1) x)) same (arms_some list i a is)
+arm_at_place {l = l} list i a same is =
+    subst (λ x. arms_from i x ≡ Arm a.token (view_expr a.condition) (view_stmt a.body) (arms_from (suc i) x)) same (arms_some list i a is)
+    ∙ ap (λ k. Arm a.token (view_expr a.condition) (view_stmt a.body) (arms_from k l)) (sym (add-one i))
 
 pub arm_past : {l : Arms} (list : List code.Arm) (i : ℕ) → view_arms list ≡ l → slice_get list i ≡ None → arms_from i l ≡ NoArm
 arm_past list i same is = subst (λ x. arms_from i x ≡ NoArm) same (arms_none list i is)
