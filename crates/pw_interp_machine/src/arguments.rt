@@ -25,12 +25,12 @@ pub fn push_arguments<'a>(
         (values_of (view_exprs args.now) token (calls e.world bound) e >>= λ vs. resume todo.old.items rest e bound (spec.Listed vs)) s
         ≡ control_act control e bound (resume todo.new.items rest) s) }
 {
-    match args {
-        [] => Ok(Control::Listed),
-        [first, rest @ ..] => {
+    match args.split_first() {
+        Some((first, rest)) => {
             todo.push(Todo::Argument(rest, token))?;
             Ok(Control::Ask(Asked::Answer(first)))
         }
+        None => Ok(Control::Listed),
     }
 }
 
