@@ -26,7 +26,8 @@ use std::alloc::{AllocError, Global};
 /// The first local of a block, and how many live in it; what is no block has none.
 #[tactic(auto, unfolding(pw_typed::specs::Views::view_stmt_form), using(pw_typed::proofs::Rows::block_view, pw_typed::proofs::Rows::if_view))]
 fn locals_in(s: &TStmt) -> (u32, u32)
-    ensures { result ≡ (any.first_in (view_stmt s.now), any.count_in (view_stmt s.now)) }
+    ensures first { result.0 ≡ any.first_in (view_stmt s.now) }
+    ensures count { result.1 ≡ any.count_in (view_stmt s.now) }
 {
     match &s.form {
         TStmtForm::Block { first, count, .. } => (*first, *count),
