@@ -148,7 +148,7 @@ fn open_one<'a>(
 }
 
 /// A block, so many of whose locals have their objects: the next gets its own, or where all have theirs the inside comes.
-pub fn open<'a>(
+pub fn open_block<'a>(
     alloc: Global,
     call: &mut Call<'a>,
     state: &mut State<'a>,

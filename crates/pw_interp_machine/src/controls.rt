@@ -19,7 +19,7 @@ ghost use Rattle.pw_interp_flows.specs.Entering.{has_objects};
 ghost use Rattle.pw_interp_machine.specs.Stepping.{StepsCall};
 
 use crate::arguments::push_arguments;
-use crate::blocks::{end_local, end_parameters, open};
+use crate::blocks::{end_local, end_parameters, open_block};
 use crate::machine::Call;
 use crate::pushes::{push_going, push_next};
 use crate::settling::given;
@@ -84,7 +84,7 @@ pub fn do_step<'a>(
     ensures { StepsCall call.old (λ rest. doing_act what.entry (view_env call.old.env) call.old.bound >>= λ flow. rest (view_env call.old.env) bound (spec.Flowed flow)) (view_state state.old) result call.new (view_state state.new) }
 {
     match locals_of(what.part) {
-        Some(made) => open(alloc, call, state, what.of, made, what.at, bound),
+        Some(made) => open_block(alloc, call, state, what.of, made, what.at, bound),
         None => begin_step(alloc, call, state, what, bound),
     }
 }

@@ -7,7 +7,7 @@ use Rattle.pw_interp_todo.specs.Members.{count_in, first_in}
 use Rattle.pw_interp_todo.specs.Resuming.{Flowed, control_act, resume}
 use Rattle.pw_interp_todo.proofs.LeadLaws.{left_so, named}
 use Rattle.pw_interp_machine.proofs.Opening.{opened_is}
-use Rattle.pw_interp_machine.proofs.blocks.open.Goals as goal
+use Rattle.pw_interp_machine.proofs.blocks.open_block.Goals as goal
 
 pub returns-else-made-lt-count : goal.returns-else-made-lt-count
 unfolding control_act
