@@ -252,15 +252,18 @@ module _ {main : Body} {world : World} {before : Shown} (old : Call) (e : Env) (
   }
 
   -- the run ends with what main returned
-  pub steps_finish : (m : Machine) (ending : Ending) → finish main v ≡ stop (view_ending ending)
-      → StepsAt main world old [] (λ rest. rest e n (Gave v)) before (Err (S.Ended ending)) m (record before { used = old.before })
+  pub steps_finish : (callers : List Call) (m : Machine) (ending : Ending) → callers ≡ [] → finish main v ≡ stop (view_ending ending)
+      → StepsAt main world old callers (λ rest. rest e n (Gave v)) before (Err (S.Ended ending)) m (record before { used = old.before })
   unfolding stop
-  steps_finish m ending is = record {
+  steps_finish callers m ending none is = record {
     goes = tt;
     stopped = λ end at.
         let here = at.in_call in
+        let t = left_now here.active here.state in
         subst (λ o. Shows world o (Err (view_ending ending)) (record before { used = old.before }))
-        (sym (here.comes ∙ ended_is here.active (finish main) here.state ∙ ap (λ act. act (left_now here.active here.state)) is))
+        (sym (
+            here.comes ∙ ended_is here.active (callers_act callers at.waiting (finish main)) here.state
+            ∙ ap (λ cs. callers_act cs at.waiting (finish main) v t) none ∙ ap (λ act. act t) is))
         (refl, ended_shows here.active here.state here.is_call here.shows);
   }
 

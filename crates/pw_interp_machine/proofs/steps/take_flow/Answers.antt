@@ -1,8 +1,9 @@
-use Rattle.std.proofs.Common.{refl}
+use Rattle.std.proofs.Common.{◌≡◌, refl, [], arith}
 use Rattle.pw_interp_calls.specs.Views.{view_env}
 use Rattle.pw_interp_state.specs.Shown.{view_state}
 use Rattle.pw_interp_todo.specs.Flows.{view_flow}
 use Rattle.pw_interp_todo.specs.Resuming.{Flowed, after}
+use Rattle.pw_interp_machine.proofs.Pushing.{nothing_in}
 use Rattle.pw_interp_machine.proofs.Standings.{popped_is, steps_reached, steps_unleft}
 use Rattle.pw_interp_machine.proofs.steps.take_flow.Goals as goal
 
@@ -18,4 +19,5 @@ returns-in-Some c main =
 pub returns-in-None : goal.returns-in-None
 returns-in-None c main =
     let call = c.args.machine.now.call in
-    steps_unleft call (view_env call.env) call.bound (view_flow c.args.flow) c.in-None.ensures.items
+    let empty : call.todo.items ≡ [] = nothing_in call.todo.items (omega (arith, c.in-None.ensures.cases.0, call.todo.ok.0)) in
+    steps_unleft call (view_env call.env) call.bound (view_flow c.args.flow) empty
