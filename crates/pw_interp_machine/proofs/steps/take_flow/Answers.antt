@@ -12,8 +12,8 @@ returns-in-Some c main =
     let call = c.args.machine.now.call in
     let e = view_env call.env in
     let told = Flowed (view_flow c.args.flow) in
-    steps_reached call _ (λ rest. rest e call.bound told) (λ rest. after c.in-Some.first rest e call.bound told)
-    (popped_is _ c.in-Some.first _ e call.bound told c.in-Some.ensures.items) refl refl
+    steps_reached call (record call { todo = c.pop.new.self }) (λ rest. rest e call.bound told) (λ rest. after c.in-Some.first rest e call.bound told)
+    (popped_is c.pop.new.self.items c.in-Some.first call.todo.items e call.bound told c.in-Some.ensures.items) refl refl
     (c.settle.ensures main _ _ (view_state c.args.state.now) _ c.flowed_step-answer.ensures)
 
 pub returns-in-None : goal.returns-in-None

@@ -12,8 +12,8 @@ returns-in-Some c =
     let call = c.args.machine.now.call in
     let e = view_env call.env in
     let told = Gave c.args.given in
-    steps_reached call _ (λ rest. rest e call.bound told) (λ rest. after c.in-Some.first rest e call.bound told)
-    (popped_is _ c.in-Some.first _ e call.bound told c.in-Some.ensures.items) refl refl
+    steps_reached call (record call { todo = c.pop.new.self }) (λ rest. rest e call.bound told) (λ rest. after c.in-Some.first rest e call.bound told)
+    (popped_is c.pop.new.self.items c.in-Some.first call.todo.items e call.bound told c.in-Some.ensures.items) refl refl
     (c.settle.ensures (callable_of c.args.main).body _ _ (view_state c.args.state.now) _ c.gave_step-answer.ensures)
 
 pub give_back-requires : goal.give_back-requires
@@ -26,5 +26,5 @@ returns-in-None c =
     let told = Gave c.args.given in
     let old : call.todo.items ≡ [] = nothing_in call.todo.items (omega (arith, c.in-None.ensures.cases.0, call.todo.ok.0)) in
     let new : c.pop.new.self.items ≡ [] = nothing_in c.pop.new.self.items (omega (arith, c.in-None.ensures.cases.1, c.pop.new.self.ok.0)) in
-    steps_reached call _ (λ rest. rest e call.bound told) (λ rest. rest e call.bound told)
+    steps_reached call (record call { todo = c.pop.new.self }) (λ rest. rest e call.bound told) (λ rest. rest e call.bound told)
     (λ rest. ap (λ items. resume items rest e call.bound told) (old ∙ sym new)) refl refl c.give_back.ensures
