@@ -13,4 +13,5 @@ returns-in-Switch c e n s =
     ap (λ f. switched (view_stmt_form c.args.s.now.token f) e (calls e.world n) c.args.value s) b.is
     ∙ ap (λ o. switch_to o (λ l. meaning body (At_label l) (calls e.world n) e) s)
     (sym (c.label_for.ensures ∙ ap (λ x. label_for (view_cases x) b.default c.args.value) c.deref.ensures.value))
+    ∙ ap (λ x. switch_to c.label_for.result (λ l. meaning (view_stmt x) (At_label l) (calls e.world n) e) s) (sym c.deref-in-Switch.ensures)
     ∙ c.switch_to.ensures e n s
