@@ -5,3 +5,4 @@ pub mod Forms
 pub mod Last
 pub mod Looping
 pub mod Numbers
+pub mod Switches

@@ -1,6 +1,6 @@
 //! What statements do with the values of expressions.
 
-ghost use Rattle.std.specs.Prelude.{◌≡◌, ◌∷◌, Some, drop};
+ghost use Rattle.std.specs.Prelude.{◌≡◌, ◌∷◌, Some, drop, option_map};
 ghost use Rattle.pw_value.specs.declared.value.Value.TheVariants.{Num};
 ghost use Rattle.pw_typed.specs.Views.{view_cases, view_initialiser, view_stmt};
 ghost use Rattle.pw_cmean.specs.Acts.{◌>>=◌, give};
@@ -16,6 +16,7 @@ ghost use Rattle.pw_interp_todo.specs.Members as any;
 ghost use Rattle.pw_interp_todo.specs.Operands as operands;
 ghost use Rattle.pw_interp_todo.specs.Steps.{StepsStatement};
 ghost use Rattle.pw_interp_flows.specs.Numbers as numbers;
+ghost use Rattle.pw_interp_flows.specs.Switches as switches;
 
 use crate::locals::set_local;
 use crate::loops::{back, top, turn};
@@ -179,15 +180,24 @@ fn switch_to<'a>(s: &'a TStmt, label: Option<u32>, body: &'a TStmt) -> Going<'a>
     }
 }
 
+/// The cases of a switch, the label of its default, and its body.
+#[tactic(auto, unfolding(pw_typed::specs::Views::view_stmt_form), using(pw_typed::proofs::Rows::block_view, pw_typed::proofs::Rows::if_view))]
+fn switch_in<'a>(s: &'a TStmt) -> Option<(&'a [Case], Option<u32>, &'a TStmt)>
+    ensures { option_map (λ p. (view_cases p.0.now, p.1, view_stmt p.2.now)) result ≡ switches.switch_in (view_stmt s.now) }
+{
+    match &s.form {
+        TStmtForm::Switch(_, cases, default, body) => Some((cases.as_slice(), *default, &**body)),
+        _ => None,
+    }
+}
+
 /// A switch, which has this value.
 fn switched<'a>(s: &'a TStmt, value: Value) -> Going<'a>
     ensures { Leaves (λ e n. spec.switched (view_stmt s.now) e (calls e.world n) value) result }
 {
-    match &s.form {
-        TStmtForm::Switch(_, cases, default, body) => {
-            switch_to(s, label_for(cases, *default, value), body)
-        }
-        _ => Going::Left(Flow::Normal),
+    match switch_in(s) {
+        Some((cases, default, body)) => switch_to(s, label_for(cases, default, value), body),
+        None => Going::Left(Flow::Normal),
     }
 }
 
