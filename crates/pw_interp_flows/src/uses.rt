@@ -186,7 +186,10 @@ fn switch_in<'a>(s: &'a TStmt) -> Option<(&'a [Case], Option<u32>, &'a TStmt)>
     ensures { option_map (λ p. (view_cases p.0.now, p.1, view_stmt p.2.now)) result ≡ switches.switch_in (view_stmt s.now) }
 {
     match &s.form {
-        TStmtForm::Switch(_, cases, default, body) => Some((cases.as_slice(), *default, &**body)),
+        TStmtForm::Switch(_, cases, default, body) => {
+            let body: &TStmt = body;
+            Some((cases.as_slice(), *default, body))
+        }
         _ => None,
     }
 }
