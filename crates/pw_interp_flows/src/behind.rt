@@ -16,7 +16,7 @@ ghost use Rattle.pw_interp_flows.specs.Behind.{view_onward};
 ghost use Rattle.pw_interp_flows.specs.Last.{view_last};
 
 use crate::labels::{holds, is_among, is_in_if, is_in_rest};
-use crate::loops::tail;
+use crate::loops::tail_of;
 use crate::members::{arms_in, members_in, otherwise_in};
 use pw_interp_todo::{Doing, Done, Entry, Flow, Going, Part, Remainder, Turn};
 use pw_typed::{Arm, TStmt, TStmtForm};
@@ -36,7 +36,7 @@ enum Onward {
 }
 
 /// Behind a member of a list: where the rest is met, or with what the list is left.
-fn onward(rest: &[TStmt], flow: Flow) -> Onward
+fn behind_member(rest: &[TStmt], flow: Flow) -> Onward
     ensures { view_onward result ≡ behind.onward (labels_among (view_stmts rest.now)) (view_flow flow) }
 {
     match flow {
@@ -61,7 +61,7 @@ fn behind_arm(rest: &[Arm], last: Option<&TStmt>, flow: Flow) -> Onward
 fn members<'a>(s: &'a TStmt, i: usize, flow: Flow) -> Going<'a>
     ensures { Leaves (λ e n. spec.members_behind (any.members_from i (any.members_in (view_stmt s.now))) e (calls e.world n) (view_flow flow)) result }
 {
-    match onward(from_on(members_in(s), i), flow) {
+    match behind_member(from_on(members_in(s), i), flow) {
         Onward::Met(at) => {
             let doing = Doing {
                 part: Part::Members(i),
@@ -149,7 +149,7 @@ fn behind_body<'a>(s: &'a TStmt, flow: Flow) -> Going<'a>
 {
     match left_by(flow) {
         Some(left) => Going::Left(left),
-        None => tail(s),
+        None => tail_of(s),
     }
 }
 

@@ -208,7 +208,7 @@ fn tail_third<'a>(s: &'a TStmt, third: &'a Option<TExpr>) -> Going<'a>
 }
 
 /// Behind the body of a loop.
-pub fn tail<'a>(s: &'a TStmt) -> Going<'a>
+pub fn tail_of<'a>(s: &'a TStmt) -> Going<'a>
     ensures { Leaves (λ e n. loops.behind_of (view_stmt s.now) e (calls e.world n) >>= loops.top_or_leave (view_stmt s.now) e (calls e.world n)) result }
 {
     match tail_in(s) {
