@@ -5,4 +5,5 @@ pub mod Forms
 pub mod Last
 pub mod Looping
 pub mod Numbers
+pub mod Orders
 pub mod Switches

@@ -109,7 +109,7 @@ pub fn begin<'a>(
     state: &mut State<'a>,
     what: Doing<'a>,
 ) -> Result<Going<'a>, Stop<'a>>
-    requires { has_objects what.entry.part ≡ true }
+    requires { has_objects what.part ≡ true }
     ensures { StepsStatement (view_env env.now) (doing_act what.entry) (view_state state.old) result (view_state state.new) }
 {
     match what.part {

@@ -3,7 +3,7 @@
 ghost use Rattle.std.specs.Prelude.{◌≡◌, ◌∷◌, Some, drop, option_map};
 ghost use Rattle.pw_value.specs.declared.value.Value.TheVariants.{Num};
 ghost use Rattle.pw_typed.specs.Views.{view_cases, view_initialiser, view_stmt};
-ghost use Rattle.pw_cmean.specs.Acts.{◌>>=◌, give};
+ghost use Rattle.pw_cmean.specs.Acts.{give};
 ghost use Rattle.pw_cmean.specs.Evaluation as meaning;
 ghost use Rattle.pw_cmean.specs.Execution as execution;
 ghost use Rattle.pw_cmean.specs.SourceRun.{calls};
@@ -16,6 +16,7 @@ ghost use Rattle.pw_interp_todo.specs.Members as any;
 ghost use Rattle.pw_interp_todo.specs.Operands as operands;
 ghost use Rattle.pw_interp_todo.specs.Steps.{StepsStatement};
 ghost use Rattle.pw_interp_flows.specs.Numbers as numbers;
+ghost use Rattle.pw_interp_flows.specs.Orders.{in_turn};
 ghost use Rattle.pw_interp_flows.specs.Switches as switches;
 
 use crate::locals::set_local;
@@ -106,7 +107,7 @@ fn use_ahead<'a>(
     s: &'a TStmt,
     given: Option<Value>,
 ) -> Result<Going<'a>, Stop<'a>>
-    ensures { StepsStatement (view_env env.now) (λ e n. operands.tested e token given >>= loops.turn_or_leave (view_stmt s.now) e (calls e.world n)) (view_state state.now) result (view_state state.now) }
+    ensures { StepsStatement (view_env env.now) (λ e n. in_turn (operands.tested e token given) (loops.turn_or_leave (view_stmt s.now) e (calls e.world n))) (view_state state.now) result (view_state state.now) }
 {
     let more = tested(env, state, token, given)?;
     Ok(turn_or_leave(s, more))
@@ -120,7 +121,7 @@ fn use_behind<'a>(
     s: &'a TStmt,
     given: Option<Value>,
 ) -> Result<Going<'a>, Stop<'a>>
-    ensures { StepsStatement (view_env env.now) (λ e n. operands.tested e token given >>= loops.top_or_leave (view_stmt s.now) e (calls e.world n)) (view_state state.now) result (view_state state.now) }
+    ensures { StepsStatement (view_env env.now) (λ e n. in_turn (operands.tested e token given) (loops.top_or_leave (view_stmt s.now) e (calls e.world n))) (view_state state.now) result (view_state state.now) }
 {
     let more = tested(env, state, token, given)?;
     Ok(top_or_leave(s, more))
@@ -212,7 +213,7 @@ fn use_in_switch<'a>(
     s: &'a TStmt,
     given: Option<Value>,
 ) -> Result<Going<'a>, Stop<'a>>
-    ensures { StepsStatement (view_env env.now) (λ e n. meaning.used (meaning.site e token) given >>= spec.switched (view_stmt s.now) e (calls e.world n)) (view_state state.now) result (view_state state.now) }
+    ensures { StepsStatement (view_env env.now) (λ e n. in_turn (meaning.used (meaning.site e token) given) (spec.switched (view_stmt s.now) e (calls e.world n))) (view_state state.now) result (view_state state.now) }
 {
     let value = used(env, token, given)?;
     Ok(switched(s, value))
@@ -225,7 +226,7 @@ fn use_in_return<'a>(
     token: usize,
     given: Option<Value>,
 ) -> Result<Going<'a>, Stop<'a>>
-    ensures { StepsStatement (view_env env.now) (λ e n. meaning.used (meaning.site e token) given >>= λ v. give (execution.Returns (Some v))) (view_state state.now) result (view_state state.now) }
+    ensures { StepsStatement (view_env env.now) (λ e n. in_turn (meaning.used (meaning.site e token) given) (λ v. give (execution.Returns (Some v)))) (view_state state.now) result (view_state state.now) }
 {
     let value = used(env, token, given)?;
     Ok(Going::Left(Flow::Returns(Some(value))))

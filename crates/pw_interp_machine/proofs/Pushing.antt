@@ -87,9 +87,9 @@ module _ (todo : List Todo) (rest : Rest) (e : Env) (n : ℕ) where
       grouped (answer_of (view_expr first) cs e >>= used (site e token)) (λ v. others >>= λ vs. give (v ∷ vs)) K s
       ∙ grouped (answer_of (view_expr first) cs e) (used (site e token)) (λ v. (others >>= λ vs. give (v ∷ vs)) >>= K) s
       ∙ follow_same (answer_of (view_expr first) cs e) _ _ s (λ given u.
-          follow_same (used (site e token) given) _ (λ v. others >>= λ vs. K (v ∷ vs)) u (λ v x.
-              grouped others (λ vs. give (v ∷ vs)) K x ∙ follow_same others _ (λ vs. K (v ∷ vs)) x (λ vs y. given_on (v ∷ vs) K y))
-          ∙ last_is (T.Argument args token) (Gave given) u)
+      follow_same (used (site e token) given) _ (λ v. others >>= λ vs. K (v ∷ vs)) u (λ v x.
+      grouped others (λ vs. give (v ∷ vs)) K x ∙ follow_same others _ (λ vs. K (v ∷ vs)) x (λ vs y. given_on (v ∷ vs) K y))
+      ∙ last_is (T.Argument args token) (Gave given) u)
 
   -- a value that is held
   pub held_is : (v : Value) (vs : List Value) → with_one (T.Held v) e n (Listed vs) ≡ resume todo rest e n (Listed (v ∷ vs))

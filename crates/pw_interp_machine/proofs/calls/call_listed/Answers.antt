@@ -17,6 +17,6 @@ returns c main =
     let todo = c.take_arguments.new.todo in
     steps_reached call (record call { todo = todo }) (λ rest. rest e call.bound (Listed [])) (λ rest. call_behind taken.callee c.deref.result.now e call.bound >>= λ r. rest e call.bound (Gave r))
     (λ rest.
-        taken.ensures.taken e call.bound rest
-        ∙ ap (λ vs. call_behind taken.callee vs e call.bound >>= λ r. resume todo.items rest e call.bound (Gave r)) (sym c.deref.ensures.value))
+    taken.ensures.taken e call.bound rest
+    ∙ ap (λ vs. call_behind taken.callee vs e call.bound >>= λ r. resume todo.items rest e call.bound (Gave r)) (sym c.deref.ensures.value))
     refl refl (c.call_with.ensures main)
