@@ -150,9 +150,9 @@ module _ (e : Env) (n : ℕ) (s : State) where
   unfolding inside initialise_all taking_up caught meaning ◌>>=◌ go_on give
   no_list at = by (calls e.world n)
     where
-      by : (cs : Calls) → inside [] NoStatement at cs e s ≡ give Normal s
+      by : (more : Calls) → inside [] NoStatement at more e s ≡ give Normal s
       by [] = refl
-      by (c ∷ cs) = refl
+      by (c ∷ more) = refl
 
   -- an initialiser, and those behind it
   pub inside_value : (all : List Initialiser) (list : Statements) (k : ℕ) (a : Expression) (rest : List Initialiser) → all ≡ ByValue k a ∷ rest
