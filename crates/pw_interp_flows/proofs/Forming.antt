@@ -1,5 +1,5 @@
 -- Statements by their forms, as what is left of them.
-use Rattle.std.proofs.Common.{ℕ, zero, suc, ◌+◌, ◌-◌, ◌≡◌, refl, sym, ap, subst, ◌∙◌, Option, Some, None, List, [], ◌∷◌, drop, map, arith}
+use Rattle.std.proofs.Common.{ℕ, zero, suc, ◌+◌, ◌-◌, ◌≡◌, refl, sym, ap, subst, ◌∙◌, add-one, Option, Some, None, List, [], ◌∷◌, drop, map, arith}
 use Rattle.std.specs.Prelude.{slice_get}
 use Rattle.pw_value.specs.declared.value.Value.{Value}
 use Rattle.pw_types.specs.Labels.{labels_among}
@@ -150,9 +150,9 @@ module _ (e : Env) (n : ℕ) (s : State) where
   unfolding inside initialise_all taking_up caught meaning ◌>>=◌ go_on give
   no_list at = by (calls e.world n)
     where
-      by : (cs : Calls) → inside [] NoStatement at cs e s ≡ give Normal s
+      by : (more : Calls) → inside [] NoStatement at more e s ≡ give Normal s
       by [] = refl
-      by (c ∷ cs) = refl
+      by (c ∷ more) = refl
 
   -- an initialiser, and those behind it
   pub inside_value : (all : List Initialiser) (list : Statements) (k : ℕ) (a : Expression) (rest : List Initialiser) → all ≡ ByValue k a ∷ rest
@@ -170,7 +170,7 @@ module _ (e : Env) (n : ℕ) (s : State) where
       (grouped _ _ _ s)
 
 -- initialisers by their places
-initialisers_some : (list : List code.Initialiser) (i : ℕ) (a : code.Initialiser) → slice_get list i ≡ Some a → drop i (map view_initialiser list) ≡ view_initialiser a ∷ drop (i + 1) (map view_initialiser list)
+initialisers_some : (list : List code.Initialiser) (i : ℕ) (a : code.Initialiser) → slice_get list i ≡ Some a → drop i (map view_initialiser list) ≡ view_initialiser a ∷ drop (suc i) (map view_initialiser list)
 initialisers_some [] i a is = cc is
 initialisers_some (x ∷ list) zero a is = let same : x ≡ a = cc is in ap (λ y. view_initialiser y ∷ map view_initialiser list) same
 initialisers_some (x ∷ list) (suc i) a is = initialisers_some list i a is
@@ -183,7 +183,9 @@ initialisers_none (x ∷ list) (suc i) is = initialisers_none list i is
 
 pub initialiser_at : {l : List Initialiser} (list : List code.Initialiser) (i : ℕ) (a : code.Initialiser) → view_initialisers list ≡ l → slice_get list i ≡ Some a
     → drop i l ≡ view_initialiser a ∷ drop (i + 1) l
-initialiser_at list i a same is = subst (λ x. drop i x ≡ view_initialiser a ∷ drop (i + 1) x) same (initialisers_some list i a is)
+initialiser_at {l = l} list i a same is =
+    subst (λ x. drop i x ≡ view_initialiser a ∷ drop (suc i) x) same (initialisers_some list i a is)
+    ∙ ap (λ k. view_initialiser a ∷ drop k l) (sym (add-one i))
 
 pub initialiser_past : {l : List Initialiser} (list : List code.Initialiser) (i : ℕ) → view_initialisers list ≡ l → slice_get list i ≡ None → drop i l ≡ []
 initialiser_past list i same is = subst (λ x. drop i x ≡ []) same (initialisers_none list i is)

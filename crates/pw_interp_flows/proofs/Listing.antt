@@ -1,9 +1,9 @@
 -- Lists of statements, arms of an `if`, and what takes up gotos, a part at a time.
-use Rattle.std.proofs.Common.{ℕ, zero, suc, ◌+◌, ◌≡◌, refl, sym, ap, subst, ◌∙◌, true, false, Some, None, List, [], ◌∷◌, drop}
+use Rattle.std.proofs.Common.{ℕ, zero, suc, ◌+◌, ◌≡◌, refl, sym, ap, subst, ◌∙◌, add-one, true, false, Some, None, List, [], ◌∷◌, drop}
 use Rattle.std.specs.Prelude.{slice_get}
 use Rattle.std.specs.Borrow.{Bor}
 use Rattle.pw_types.specs.Labels.{labels_in}
-use Rattle.pw_types.specs.TypedTrees.{Expression, Statement, Block, If, Label, Statements, NoStatement, OneStatement, Arms, NoArm, Arm, Otherwise, Initialiser, token_of}
+use Rattle.pw_types.specs.TypedTrees.{Expression, Statement, Empty, Evaluate, Block, If, While, Do, For, Switch, Label, Goto, Break, Continue, Return, Statements, NoStatement, OneStatement, Arms, NoArm, Arm, Otherwise, Initialiser, token_of}
 use Rattle.pw_typed.specs.Views.{view_arms, view_expr, view_stmt, view_stmts}
 use Rattle.pw_typed.specs.declared.tree.Arm as code
 use Rattle.pw_typed.specs.declared.tree.TStmt.{TStmt}
@@ -18,11 +18,11 @@ use Rattle.pw_interp_todo.specs.Going.{members_behind, arm_behind, arm_or_rest, 
 use Rattle.pw_interp_todo.specs.Members.{members_in, members_from, arms_in, arms_from, otherwise_in, taken_in}
 use Rattle.pw_interp_todo.specs.Parts.{met_arms, once_of, taking_act, again_act, back_act}
 use Rattle.pw_interp_todo.proofs.Firsts.{tested_first}
-use Rattle.pw_interp_flows.specs.Entering.{is_met, arm_or_later}
+use Rattle.pw_interp_flows.specs.Entering.{is_met, arm_or_later, takes_up}
 
 -- ---- members and arms by their places
 
-pub members_some : (list : List TStmt) (i : ℕ) (a : TStmt) → slice_get list i ≡ Some a → members_from i (view_stmts list) ≡ OneStatement (view_stmt a) (members_from (i + 1) (view_stmts list))
+pub members_some : (list : List TStmt) (i : ℕ) (a : TStmt) → slice_get list i ≡ Some a → members_from i (view_stmts list) ≡ OneStatement (view_stmt a) (members_from (suc i) (view_stmts list))
 members_some [] i a is = cc is
 members_some (x ∷ list) zero a is = let same : x ≡ a = cc is in ap (λ y. OneStatement (view_stmt y) (view_stmts list)) same
 members_some (x ∷ list) (suc i) a is = members_some list i a is
@@ -39,7 +39,7 @@ members_drop [] (suc i) = refl
 members_drop (x ∷ list) (suc i) = members_drop list i
 
 pub arms_some : (list : List code.Arm) (i : ℕ) (a : code.Arm) → slice_get list i ≡ Some a
-    → arms_from i (view_arms list) ≡ Arm a.token (view_expr a.condition) (view_stmt a.body) (arms_from (i + 1) (view_arms list))
+    → arms_from i (view_arms list) ≡ Arm a.token (view_expr a.condition) (view_stmt a.body) (arms_from (suc i) (view_arms list))
 arms_some [] i a is = cc is
 arms_some (x ∷ list) zero a is = let same : x ≡ a = cc is in ap (λ y. Arm y.token (view_expr y.condition) (view_stmt y.body) (view_arms list)) same
 arms_some (x ∷ list) (suc i) a is = arms_some list i a is
@@ -57,14 +57,18 @@ arms_drop (x ∷ list) (suc i) = arms_drop list i
 
 -- of a list that a statement holds
 pub member_at : {l : Statements} (list : List TStmt) (i : ℕ) (a : TStmt) → view_stmts list ≡ l → slice_get list i ≡ Some a → members_from i l ≡ OneStatement (view_stmt a) (members_from (i + 1) l)
-member_at list i a same is = subst (λ x. members_from i x ≡ OneStatement (view_stmt a) (members_from (i + 1) x)) same (members_some list i a is)
+member_at {l = l} list i a same is =
+    subst (λ x. members_from i x ≡ OneStatement (view_stmt a) (members_from (suc i) x)) same (members_some list i a is)
+    ∙ ap (λ k. OneStatement (view_stmt a) (members_from k l)) (sym (add-one i))
 
 pub member_past : {l : Statements} (list : List TStmt) (i : ℕ) → view_stmts list ≡ l → slice_get list i ≡ None → members_from i l ≡ NoStatement
 member_past list i same is = subst (λ x. members_from i x ≡ NoStatement) same (members_none list i is)
 
 pub arm_at_place : {l : Arms} (list : List code.Arm) (i : ℕ) (a : code.Arm) → view_arms list ≡ l → slice_get list i ≡ Some a
     → arms_from i l ≡ Arm a.token (view_expr a.condition) (view_stmt a.body) (arms_from (i + 1) l)
-arm_at_place list i a same is = subst (λ x. arms_from i x ≡ Arm a.token (view_expr a.condition) (view_stmt a.body) (arms_from (i + 1) x)) same (arms_some list i a is)
+arm_at_place {l = l} list i a same is =
+    subst (λ x. arms_from i x ≡ Arm a.token (view_expr a.condition) (view_stmt a.body) (arms_from (suc i) x)) same (arms_some list i a is)
+    ∙ ap (λ k. Arm a.token (view_expr a.condition) (view_stmt a.body) (arms_from k l)) (sym (add-one i))
 
 pub arm_past : {l : Arms} (list : List code.Arm) (i : ℕ) → view_arms list ≡ l → slice_get list i ≡ None → arms_from i l ≡ NoArm
 arm_past list i same is = subst (λ x. arms_from i x ≡ NoArm) same (arms_none list i is)
@@ -165,3 +169,34 @@ pub once_label : {a : Statement} (t : ℕ) (labels : List ℕ) (body : Statement
     → (at : Entry) (e : Env) (n : ℕ) (s : State) → once_of a e at (calls e.world n) s ≡ meaning body (behind_labels labels at) (calls e.world n) e s
 once_label t labels body is at e n s =
     subst (λ x. once_of x e at (calls e.world n) s ≡ meaning body (behind_labels labels at) (calls e.world n) e s) (sym is) refl
+
+-- what takes up no gotos
+pub none_taken : (a : Statement) → takes_up a ≡ false → taken_in a ≡ []
+none_taken (Empty t) is = refl
+none_taken (Evaluate t x) is = refl
+none_taken (Block t first count initialisers list) is = cc is
+none_taken (If t list o) is = cc is
+none_taken (While t c body) is = refl
+none_taken (Do t body c) is = refl
+none_taken (For t first c third body) is = refl
+none_taken (Switch t x cases default body) is = refl
+none_taken (Label t labels body) is = cc is
+none_taken (Goto t k) is = refl
+none_taken (Break t) is = refl
+none_taken (Continue t) is = refl
+none_taken (Return t x) is = refl
+
+pub passes_once : (a : Statement) → takes_up a ≡ false → (e : Env) (cs : Calls) (from : Entry) → once_of a e from cs ≡ give Normal
+passes_once (Empty t) is e cs from = refl
+passes_once (Evaluate t x) is e cs from = refl
+passes_once (Block t first count initialisers list) is e cs from = cc is
+passes_once (If t list o) is e cs from = cc is
+passes_once (While t c body) is e cs from = refl
+passes_once (Do t body c) is e cs from = refl
+passes_once (For t first c third body) is e cs from = refl
+passes_once (Switch t x cases default body) is e cs from = refl
+passes_once (Label t labels body) is e cs from = cc is
+passes_once (Goto t k) is e cs from = refl
+passes_once (Break t) is e cs from = refl
+passes_once (Continue t) is e cs from = refl
+passes_once (Return t x) is e cs from = refl

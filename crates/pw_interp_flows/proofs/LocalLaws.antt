@@ -32,4 +32,4 @@ module _ (world : World) (at : Site) (k : ℕ) (v : Value) (e : Env) (w : Shown)
   unfolding set_local need
   local_some l u r is a =
       subst (λ o. Answers (λ d. tt) world (need o >>= behind_local) w r u) (sym is)
-      (then_ok behind_local (gives l) refl a)
+      (then_ok {seen = λ (x : LocalValue). x} behind_local (gives l) refl a)

@@ -127,7 +127,7 @@ module _ (l : Statement) (e : Env) (n : ℕ) (s : State) where
   unfolding drop_value ◌>>=◌ go_on give top_or_leave branch
   third_some a = by (answer_of (view_expr a) cs e s)
     where
-      by : (o : Outcome (Option Value)) → go_on (go_on (go_on o (λ dropped. give tt)) (λ x. give true)) (top_or_leave l e cs) ≡ go_on o (λ given. top_act l e cs)
+      by : (o : Outcome (Option Value)) → go_on (go_on (go_on o (λ dropped. give (tt {0}))) (λ x. give true)) (top_or_leave l e cs) ≡ go_on o (λ given. top_act l e cs)
       by (Gives v t) = refl
       by (Ends ending t) = refl
 
@@ -149,7 +149,7 @@ module _ (l : Statement) (e : Env) (n : ℕ) (s : State) where
   unfolding counting_act drop_value meet_loop ◌>>=◌ go_on give
   counted_some a = by (answer_of (view_expr a) cs e s)
     where
-      by : (o : Outcome (Option Value)) → go_on (go_on o (λ dropped. give tt)) (λ x. met_act l e Front cs) ≡ go_on o (λ given. loop_act l e cs)
+      by : (o : Outcome (Option Value)) → go_on (go_on o (λ dropped. give (tt {0}))) (λ x. met_act l e Front cs) ≡ go_on o (λ given. loop_act l e cs)
       by (Gives v t) = refl
       by (Ends ending t) = refl
 

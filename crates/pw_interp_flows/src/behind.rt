@@ -2,7 +2,7 @@
 
 ghost use Rattle.std.specs.Prelude.{◌≡◌, ◌++◌, drop, option_map};
 ghost use Rattle.pw_types.specs.Labels.{labels_among, labels_behind, labels_of_arms};
-ghost use Rattle.pw_typed.specs.Views.{view_arms, view_otherwise, view_stmt, view_stmts};
+ghost use Rattle.pw_typed.specs.Views.{view_arms, view_stmt, view_stmts};
 ghost use Rattle.pw_cmean.specs.Execution as execution;
 ghost use Rattle.pw_cmean.specs.SourceRun.{calls};
 ghost use Rattle.pw_interp_todo.specs.Flows.{view_flow};
@@ -13,9 +13,10 @@ ghost use Rattle.pw_interp_todo.specs.Members as any;
 ghost use Rattle.pw_interp_todo.specs.Parts.{again_act};
 ghost use Rattle.pw_interp_flows.specs.Behind as behind;
 ghost use Rattle.pw_interp_flows.specs.Behind.{view_onward};
+ghost use Rattle.pw_interp_flows.specs.Last.{view_last};
 
-use crate::labels::{holds, is_among, is_in_if};
-use crate::loops::tail;
+use crate::labels::{holds, is_among, is_in_if, is_in_rest};
+use crate::loops::tail_of;
 use crate::members::{arms_in, members_in, otherwise_in};
 use pw_interp_todo::{Doing, Done, Entry, Flow, Going, Part, Remainder, Turn};
 use pw_typed::{Arm, TStmt, TStmtForm};
@@ -35,7 +36,7 @@ enum Onward {
 }
 
 /// Behind a member of a list: where the rest is met, or with what the list is left.
-fn onward(rest: &[TStmt], flow: Flow) -> Onward
+fn behind_member(rest: &[TStmt], flow: Flow) -> Onward
     ensures { view_onward result ≡ behind.onward (labels_among (view_stmts rest.now)) (view_flow flow) }
 {
     match flow {
@@ -47,13 +48,11 @@ fn onward(rest: &[TStmt], flow: Flow) -> Onward
 
 /// Behind an arm, behind which others stand and what is behind the last `else`: where that is met, or with what the `if` is
 /// left.
-fn behind_arm(rest: &[Arm], otherwise: &Option<Box<TStmt>>, flow: Flow) -> Onward
-    ensures { view_onward result ≡ behind.behind_arm (labels_of_arms (view_arms rest.now) ++ labels_behind (view_otherwise otherwise.now)) (view_flow flow) }
+fn behind_arm(rest: &[Arm], last: Option<&TStmt>, flow: Flow) -> Onward
+    ensures { view_onward result ≡ behind.behind_arm (labels_of_arms (view_arms rest.now) ++ labels_behind (view_last last.entry)) (view_flow flow) }
 {
     match flow {
-        Flow::Goes(label) if is_in_if(rest, otherwise, label) => {
-            Onward::Met(Entry::AtLabel(label))
-        }
+        Flow::Goes(label) if is_in_rest(rest, last, label) => Onward::Met(Entry::AtLabel(label)),
         _ => Onward::Left(flow),
     }
 }
@@ -62,7 +61,7 @@ fn behind_arm(rest: &[Arm], otherwise: &Option<Box<TStmt>>, flow: Flow) -> Onwar
 fn members<'a>(s: &'a TStmt, i: usize, flow: Flow) -> Going<'a>
     ensures { Leaves (λ e n. spec.members_behind (any.members_from i (any.members_in (view_stmt s.now))) e (calls e.world n) (view_flow flow)) result }
 {
-    match onward(from_on(members_in(s), i), flow) {
+    match behind_member(from_on(members_in(s), i), flow) {
         Onward::Met(at) => {
             let doing = Doing {
                 part: Part::Members(i),
@@ -150,7 +149,7 @@ fn behind_body<'a>(s: &'a TStmt, flow: Flow) -> Going<'a>
 {
     match left_by(flow) {
         Some(left) => Going::Left(left),
-        None => tail(s),
+        None => tail_of(s),
     }
 }
 

@@ -75,33 +75,20 @@ fn statement<'a>(s: &'a TStmt, at: Entry) -> Going<'a>
     match &s.form {
         TStmtForm::Empty => Going::Left(Flow::Normal),
         TStmtForm::Expr(e) => {
-            Going::Ask(
-                Asked::Answer(e),
-                Use {
-                    purpose: Purpose::Dropped,
-                    of: s,
-                },
-            )
+            let purpose = Purpose::Dropped;
+            Going::Ask(Asked::Answer(e), Use { purpose, of: s })
         }
         TStmtForm::Block { .. } => {
-            Going::On(
-                Turn::Here,
-                Doing {
-                    part: Part::Locals(0),
-                    of: s,
-                    at,
-                },
-            )
+            let part = Part::Locals(0);
+            Going::On(Turn::Here, Doing { part, of: s, at })
         }
-        TStmtForm::If(_, _) | TStmtForm::Label(_, _) => {
-            Going::On(
-                Turn::Here,
-                Doing {
-                    part: Part::Taking,
-                    of: s,
-                    at,
-                },
-            )
+        TStmtForm::If(_, _) => {
+            let part = Part::Taking;
+            Going::On(Turn::Here, Doing { part, of: s, at })
+        }
+        TStmtForm::Label(_, _) => {
+            let part = Part::Taking;
+            Going::On(Turn::Here, Doing { part, of: s, at })
         }
         TStmtForm::While(_, _) => met(s, at),
         TStmtForm::Do(_, _) => met(s, at),
@@ -122,7 +109,7 @@ pub fn begin<'a>(
     state: &mut State<'a>,
     what: Doing<'a>,
 ) -> Result<Going<'a>, Stop<'a>>
-    requires { has_objects what.entry.part ≡ true }
+    requires { has_objects what.part ≡ true }
     ensures { StepsStatement (view_env env.now) (doing_act what.entry) (view_state state.old) result (view_state state.new) }
 {
     match what.part {

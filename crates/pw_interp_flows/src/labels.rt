@@ -4,6 +4,7 @@ ghost use Rattle.std.specs.Prelude.{◌≡◌, ◌++◌};
 ghost use Rattle.pw_types.specs.Labels.{labels_in, labels_among, labels_of_arms, labels_behind};
 ghost use Rattle.pw_typed.specs.Views.{view_arms, view_otherwise, view_stmt, view_stmts};
 ghost use Rattle.pw_cmean.specs.Execution as execution;
+ghost use Rattle.pw_interp_flows.specs.Last.{view_last};
 
 use pw_typed::{Arm, TStmt, TStmtForm};
 
@@ -75,4 +76,22 @@ pub fn is_in_if(arms: &[Arm], otherwise: &Option<Box<TStmt>>, label: u32) -> boo
     ensures { result ≡ execution.holds (labels_of_arms (view_arms arms.now) ++ labels_behind (view_otherwise otherwise.now)) label }
 {
     is_in_arms(arms, label) || is_behind(otherwise, label)
+}
+
+/// Whether a label stands in the statement behind a last `else`, if there is one.
+fn is_in_last(last: Option<&TStmt>, label: u32) -> bool
+    ensures { result ≡ execution.holds (labels_behind (view_last last.entry)) label }
+{
+    match last {
+        Some(last) => has_label(last, label),
+        None => false,
+    }
+}
+
+/// Whether a label stands in these arms, or behind the last `else`.
+#[tactic(auto, using(crate::proofs::LabelLemmas::holds_append))]
+pub fn is_in_rest(arms: &[Arm], last: Option<&TStmt>, label: u32) -> bool
+    ensures { result ≡ execution.holds (labels_of_arms (view_arms arms.now) ++ labels_behind (view_last last.entry)) label }
+{
+    is_in_arms(arms, label) || is_in_last(last, label)
 }

@@ -1,16 +1,19 @@
 //! Lists of statements (ISO C90 6.6.2), arms of an `if` (6.6.4.1), and what takes up gotos (6.6.6.1).
 
-ghost use Rattle.std.specs.Prelude.{◌≡◌};
+ghost use Rattle.std.specs.Prelude.{◌≡◌, ℕ, true};
 ghost use Rattle.pw_types.specs.Labels.{labels_in};
 ghost use Rattle.pw_types.specs.TypedTrees.{Arm as AnyArm, OneStatement};
 ghost use Rattle.pw_typed.specs.Views.{view_expr, view_stmt};
+ghost use Rattle.pw_cmean.specs.Acts.{State};
+ghost use Rattle.pw_cmean.specs.Evaluation.{Env};
 ghost use Rattle.pw_cmean.specs.Execution as execution;
 ghost use Rattle.pw_cmean.specs.SourceRun.{calls};
 ghost use Rattle.pw_interp_todo.specs.Flows.{view_entry};
 ghost use Rattle.pw_interp_todo.specs.Going.{Leaves};
 ghost use Rattle.pw_interp_todo.specs.Members.{arms_from, arms_in as any_arms, members_from, members_in as any_members, otherwise_in as any_otherwise};
-ghost use Rattle.pw_interp_todo.specs.Parts.{met_arms, taking_act};
-ghost use Rattle.pw_interp_flows.specs.Entering.{OnceOf, arm_or_later, is_met};
+ghost use Rattle.pw_interp_todo.specs.Parts.{doing_act, met_arms, once_of, taking_act};
+ghost use Rattle.pw_interp_flows.specs.Entering as entering;
+ghost use Rattle.pw_interp_flows.specs.Entering.{arm_or_later, is_met};
 
 use crate::labels::{has_label, holds};
 use crate::members::{arms_in, members_in, otherwise_in};
@@ -142,33 +145,40 @@ fn behind_labels(labels: &[u32], at: Entry) -> Entry
     }
 }
 
-/// What takes up gotos, once; what does not is passed over.
-fn once<'a>(s: &'a TStmt, at: Entry) -> Option<Doing<'a>>
-    ensures { OnceOf (view_stmt s.now) (view_entry at) result }
+/// Whether a statement takes up gotos to labels in it.
+#[tactic(auto, unfolding(pw_typed::specs::Views::view_stmt_form), using(pw_typed::proofs::Rows::block_view, pw_typed::proofs::Rows::if_view))]
+fn takes_up(s: &TStmt) -> bool
+    ensures { result ≡ entering.takes_up (view_stmt s.now) }
+{
+    matches!(
+        &s.form,
+        TStmtForm::Block { .. } | TStmtForm::If(_, _) | TStmtForm::Label(_, _)
+    )
+}
+
+/// What takes up gotos, once.
+#[tactic(auto, unfolding(pw_typed::specs::Views::view_stmt_form), using(pw_typed::proofs::Rows::block_view, pw_typed::proofs::Rows::if_view))]
+fn once<'a>(s: &'a TStmt, at: Entry) -> Doing<'a>
+    requires { entering.takes_up (view_stmt s.now) ≡ true }
+    ensures { (e : Env) (n : ℕ) (state : State) → once_of (view_stmt s.now) e (view_entry at) (calls e.world n) state ≡ doing_act result e n state }
 {
     match &s.form {
-        TStmtForm::Block { .. } => Some(Doing {
+        TStmtForm::Block { .. } => Doing {
             part: Part::Members(0),
             of: s,
             at,
-        }),
-        TStmtForm::If(_, _) => Some(Doing {
+        },
+        TStmtForm::If(_, _) => Doing {
             part: Part::Arms(0),
             of: s,
             at,
-        }),
-        TStmtForm::Label(labels, body) => {
-            let at = behind_labels(labels, at);
-            Some(Doing {
-                part: Part::Whole,
-                of: body,
-                at,
-            })
-        }
-        TStmtForm::Empty | TStmtForm::Expr(_) | TStmtForm::Switch(_, _, _, _) => None,
-        TStmtForm::While(_, _) | TStmtForm::Do(_, _) | TStmtForm::For(_, _, _, _) => None,
-        TStmtForm::Goto(_) | TStmtForm::Break | TStmtForm::Continue => None,
-        TStmtForm::Return(_) => None,
+        },
+        TStmtForm::Label(labels, body) => Doing {
+            part: Part::Whole,
+            at: behind_labels(labels, at),
+            of: body,
+        },
+        _ => unreachable!(),
     }
 }
 
@@ -176,14 +186,13 @@ fn once<'a>(s: &'a TStmt, at: Entry) -> Option<Doing<'a>>
 pub fn taking<'a>(s: &'a TStmt, at: Entry) -> Going<'a>
     ensures { Leaves (λ e n. taking_act (view_stmt s.now) e (view_entry at) (calls e.world n)) result }
 {
-    match once(s, at) {
-        Some(doing) => {
-            let rest = Remainder {
-                done: Done::Taking,
-                of: s,
-            };
-            Going::Then(doing, rest)
-        }
-        None => Going::Left(Flow::Normal),
+    if takes_up(s) {
+        let rest = Remainder {
+            done: Done::Taking,
+            of: s,
+        };
+        Going::Then(once(s, at), rest)
+    } else {
+        Going::Left(Flow::Normal)
     }
 }

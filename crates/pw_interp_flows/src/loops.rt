@@ -2,7 +2,7 @@
 
 ghost use Rattle.std.specs.Prelude.{◌≡◌, option_map, true};
 ghost use Rattle.pw_typed.specs.Views.{view_expr, view_optional, view_stmt};
-ghost use Rattle.pw_cmean.specs.Acts.{◌>>=◌, ◌>>◌, give};
+ghost use Rattle.pw_cmean.specs.Acts.{give};
 ghost use Rattle.pw_cmean.specs.Evaluation.{Calls, Env};
 ghost use Rattle.pw_cmean.specs.Execution as execution;
 ghost use Rattle.pw_cmean.specs.SourceRun.{calls};
@@ -10,6 +10,7 @@ ghost use Rattle.pw_interp_todo.specs.Flows.{view_entry};
 ghost use Rattle.pw_interp_todo.specs.Going.{Leaves};
 ghost use Rattle.pw_interp_todo.specs.Loops as loops;
 ghost use Rattle.pw_interp_flows.specs.Looping as spec;
+ghost use Rattle.pw_interp_flows.specs.Orders.{in_turn};
 ghost use Rattle.pw_interp_flows.specs.Looping.{body_act, counting_act, met_act};
 
 use pw_interp_todo::{Asked, Doing, Done, Entry, Flow, Going, Part, Purpose, Remainder, Turn, Use};
@@ -94,7 +95,7 @@ pub fn turn<'a>(s: &'a TStmt, at: Entry) -> Going<'a>
 
 /// A loop from its top, which tests a condition there.
 fn test<'a>(s: &'a TStmt, c: &'a TExpr) -> Going<'a>
-    ensures { Leaves (λ e n. execution.condition (view_expr c.now) (calls e.world n) e >>= loops.turn_or_leave (view_stmt s.now) e (calls e.world n)) result }
+    ensures { Leaves (λ e n. in_turn (execution.condition (view_expr c.now) (calls e.world n) e) (loops.turn_or_leave (view_stmt s.now) e (calls e.world n))) result }
 {
     let given = Use {
         purpose: Purpose::Ahead(c.token),
@@ -105,7 +106,7 @@ fn test<'a>(s: &'a TStmt, c: &'a TExpr) -> Going<'a>
 
 /// A `for` from its top, whose condition may be left out.
 fn test_some<'a>(s: &'a TStmt, c: &'a Option<TExpr>) -> Going<'a>
-    ensures { Leaves (λ e n. execution.for_condition (view_optional c.now) (calls e.world n) e >>= loops.turn_or_leave (view_stmt s.now) e (calls e.world n)) result }
+    ensures { Leaves (λ e n. in_turn (execution.for_condition (view_optional c.now) (calls e.world n) e) (loops.turn_or_leave (view_stmt s.now) e (calls e.world n))) result }
 {
     match c {
         Some(c) => test(s, c),
@@ -182,7 +183,7 @@ pub fn back<'a>(s: &'a TStmt) -> Going<'a>
 
 /// Behind the body of a loop that tests a condition there.
 fn tail_test<'a>(s: &'a TStmt, c: &'a TExpr) -> Going<'a>
-    ensures { Leaves (λ e n. execution.condition (view_expr c.now) (calls e.world n) e >>= loops.top_or_leave (view_stmt s.now) e (calls e.world n)) result }
+    ensures { Leaves (λ e n. in_turn (execution.condition (view_expr c.now) (calls e.world n) e) (loops.top_or_leave (view_stmt s.now) e (calls e.world n))) result }
 {
     let given = Use {
         purpose: Purpose::Tail(c.token),
@@ -193,7 +194,7 @@ fn tail_test<'a>(s: &'a TStmt, c: &'a TExpr) -> Going<'a>
 
 /// Behind the body of a `for`, whose third part may be left out.
 fn tail_third<'a>(s: &'a TStmt, third: &'a Option<TExpr>) -> Going<'a>
-    ensures { Leaves (λ e n. (execution.drop_value (view_optional third.now) (calls e.world n) e >> give true) >>= loops.top_or_leave (view_stmt s.now) e (calls e.world n)) result }
+    ensures { Leaves (λ e n. in_turn (in_turn (execution.drop_value (view_optional third.now) (calls e.world n) e) (λ dropped. give true)) (loops.top_or_leave (view_stmt s.now) e (calls e.world n))) result }
 {
     match third {
         Some(a) => Going::Ask(
@@ -208,8 +209,8 @@ fn tail_third<'a>(s: &'a TStmt, third: &'a Option<TExpr>) -> Going<'a>
 }
 
 /// Behind the body of a loop.
-pub fn tail<'a>(s: &'a TStmt) -> Going<'a>
-    ensures { Leaves (λ e n. loops.behind_of (view_stmt s.now) e (calls e.world n) >>= loops.top_or_leave (view_stmt s.now) e (calls e.world n)) result }
+pub fn tail_of<'a>(s: &'a TStmt) -> Going<'a>
+    ensures { Leaves (λ e n. in_turn (loops.behind_of (view_stmt s.now) e (calls e.world n)) (loops.top_or_leave (view_stmt s.now) e (calls e.world n))) result }
 {
     match tail_in(s) {
         Tail::Condition(c) => tail_test(s, c),

@@ -3,6 +3,7 @@
 ghost use Rattle.std.specs.Prelude.{◌≡◌};
 ghost use Rattle.pw_typed.specs.Views.{view_arms, view_initialisers, view_otherwise, view_stmt, view_stmts};
 ghost use Rattle.pw_interp_todo.specs.Members as spec;
+ghost use Rattle.pw_interp_flows.specs.Last.{view_last};
 
 use pw_typed::{Arm, Initialiser, TStmt, TStmtForm};
 
@@ -39,13 +40,23 @@ pub fn arms_in<'a>(s: &'a TStmt) -> &'a [Arm]
     }
 }
 
+/// What stands behind a last `else`, if there is one.
+fn last_in(otherwise: &Option<Box<TStmt>>) -> Option<&TStmt>
+    ensures { view_last result ≡ view_otherwise otherwise.now }
+{
+    match otherwise {
+        Some(last) => Some(last),
+        None => None,
+    }
+}
+
 /// What stands behind the last `else` of an `if`.
 #[tactic(auto, unfolding(pw_typed::specs::Views::view_stmt_form), using(pw_typed::proofs::Rows::block_view, pw_typed::proofs::Rows::if_view))]
-pub fn otherwise_in<'a>(s: &'a TStmt) -> &'a Option<Box<TStmt>>
-    ensures { view_otherwise result.now ≡ spec.otherwise_in (view_stmt s.now) }
+pub fn otherwise_in<'a>(s: &'a TStmt) -> Option<&'a TStmt>
+    ensures { view_last result ≡ spec.otherwise_in (view_stmt s.now) }
 {
     match &s.form {
-        TStmtForm::If(_, otherwise) => otherwise,
-        _ => &None,
+        TStmtForm::If(_, otherwise) => last_in(otherwise),
+        _ => None,
     }
 }

@@ -1,9 +1,9 @@
 //! What statements do with the values of expressions.
 
-ghost use Rattle.std.specs.Prelude.{◌≡◌, ◌∷◌, Some, drop};
+ghost use Rattle.std.specs.Prelude.{◌≡◌, ◌∷◌, Some, drop, option_map};
 ghost use Rattle.pw_value.specs.declared.value.Value.TheVariants.{Num};
 ghost use Rattle.pw_typed.specs.Views.{view_cases, view_initialiser, view_stmt};
-ghost use Rattle.pw_cmean.specs.Acts.{◌>>=◌, give};
+ghost use Rattle.pw_cmean.specs.Acts.{give};
 ghost use Rattle.pw_cmean.specs.Evaluation as meaning;
 ghost use Rattle.pw_cmean.specs.Execution as execution;
 ghost use Rattle.pw_cmean.specs.SourceRun.{calls};
@@ -16,6 +16,8 @@ ghost use Rattle.pw_interp_todo.specs.Members as any;
 ghost use Rattle.pw_interp_todo.specs.Operands as operands;
 ghost use Rattle.pw_interp_todo.specs.Steps.{StepsStatement};
 ghost use Rattle.pw_interp_flows.specs.Numbers as numbers;
+ghost use Rattle.pw_interp_flows.specs.Orders.{in_turn};
+ghost use Rattle.pw_interp_flows.specs.Switches as switches;
 
 use crate::locals::set_local;
 use crate::loops::{back, top, turn};
@@ -105,7 +107,7 @@ fn use_ahead<'a>(
     s: &'a TStmt,
     given: Option<Value>,
 ) -> Result<Going<'a>, Stop<'a>>
-    ensures { StepsStatement (view_env env.now) (λ e n. operands.tested e token given >>= loops.turn_or_leave (view_stmt s.now) e (calls e.world n)) (view_state state.now) result (view_state state.now) }
+    ensures { StepsStatement (view_env env.now) (λ e n. in_turn (operands.tested e token given) (loops.turn_or_leave (view_stmt s.now) e (calls e.world n))) (view_state state.now) result (view_state state.now) }
 {
     let more = tested(env, state, token, given)?;
     Ok(turn_or_leave(s, more))
@@ -119,7 +121,7 @@ fn use_behind<'a>(
     s: &'a TStmt,
     given: Option<Value>,
 ) -> Result<Going<'a>, Stop<'a>>
-    ensures { StepsStatement (view_env env.now) (λ e n. operands.tested e token given >>= loops.top_or_leave (view_stmt s.now) e (calls e.world n)) (view_state state.now) result (view_state state.now) }
+    ensures { StepsStatement (view_env env.now) (λ e n. in_turn (operands.tested e token given) (loops.top_or_leave (view_stmt s.now) e (calls e.world n))) (view_state state.now) result (view_state state.now) }
 {
     let more = tested(env, state, token, given)?;
     Ok(top_or_leave(s, more))
@@ -179,15 +181,27 @@ fn switch_to<'a>(s: &'a TStmt, label: Option<u32>, body: &'a TStmt) -> Going<'a>
     }
 }
 
+/// The cases of a switch, the label of its default, and its body.
+#[tactic(auto, unfolding(pw_typed::specs::Views::view_stmt_form), using(pw_typed::proofs::Rows::block_view, pw_typed::proofs::Rows::if_view))]
+fn switch_in<'a>(s: &'a TStmt) -> Option<(&'a [Case], Option<u32>, &'a TStmt)>
+    ensures { option_map (λ p. (view_cases p.0.now, p.1, view_stmt p.2.now)) result ≡ switches.switch_in (view_stmt s.now) }
+{
+    match &s.form {
+        TStmtForm::Switch(_, cases, default, body) => {
+            let body: &TStmt = body;
+            Some((cases.as_slice(), *default, body))
+        }
+        _ => None,
+    }
+}
+
 /// A switch, which has this value.
 fn switched<'a>(s: &'a TStmt, value: Value) -> Going<'a>
     ensures { Leaves (λ e n. spec.switched (view_stmt s.now) e (calls e.world n) value) result }
 {
-    match &s.form {
-        TStmtForm::Switch(_, cases, default, body) => {
-            switch_to(s, label_for(cases, *default, value), body)
-        }
-        _ => Going::Left(Flow::Normal),
+    match switch_in(s) {
+        Some((cases, default, body)) => switch_to(s, label_for(cases, default, value), body),
+        None => Going::Left(Flow::Normal),
     }
 }
 
@@ -199,7 +213,7 @@ fn use_in_switch<'a>(
     s: &'a TStmt,
     given: Option<Value>,
 ) -> Result<Going<'a>, Stop<'a>>
-    ensures { StepsStatement (view_env env.now) (λ e n. meaning.used (meaning.site e token) given >>= spec.switched (view_stmt s.now) e (calls e.world n)) (view_state state.now) result (view_state state.now) }
+    ensures { StepsStatement (view_env env.now) (λ e n. in_turn (meaning.used (meaning.site e token) given) (spec.switched (view_stmt s.now) e (calls e.world n))) (view_state state.now) result (view_state state.now) }
 {
     let value = used(env, token, given)?;
     Ok(switched(s, value))
@@ -212,7 +226,7 @@ fn use_in_return<'a>(
     token: usize,
     given: Option<Value>,
 ) -> Result<Going<'a>, Stop<'a>>
-    ensures { StepsStatement (view_env env.now) (λ e n. meaning.used (meaning.site e token) given >>= λ v. give (execution.Returns (Some v))) (view_state state.now) result (view_state state.now) }
+    ensures { StepsStatement (view_env env.now) (λ e n. in_turn (meaning.used (meaning.site e token) given) (λ v. give (execution.Returns (Some v)))) (view_state state.now) result (view_state state.now) }
 {
     let value = used(env, token, given)?;
     Ok(Going::Left(Flow::Returns(Some(value))))

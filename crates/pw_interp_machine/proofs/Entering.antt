@@ -70,9 +70,9 @@ module _ {A : Type 0} (world : World) (act : Env → Act A) where
   ends_behind count number inner s =
       grouped inner _ _ s
       ∙ follow_same inner _ _ s (λ a t.
-          grouped (end_objects count (suc number)) (λ _. give a) (λ b. end_object number >> give b) t
-          ∙ follow_same (end_objects count (suc number)) _ _ t (λ d x. given_on a (λ b. end_object number >> give b) x)
-          ∙ sym (grouped (end_objects count (suc number)) (λ _. end_object number) (λ _. give a) t))
+      grouped (end_objects count (suc number)) (λ _. give a) (λ b. end_object number >> give b) t
+      ∙ follow_same (end_objects count (suc number)) _ _ t (λ d x. given_on a (λ b. end_object number >> give b) x)
+      ∙ sym (grouped (end_objects count (suc number)) (λ _. end_object number) (λ _. give a) t))
 
   -- what an object of a local leads to
   abbrev others : ℕ → ℕ → Env → Layout → LocalValue → Act A
@@ -110,7 +110,7 @@ module _ {A : Type 0} (world : World) (act : Env → Act A) where
           further (same_lead (λ s. needed layout (λ x. others count first e x l) s))
           (further (object_leads layout.size l.writable (λ number. with_locals count (suc first) act (with_number first number e)))
           (further (subst (λ n. Leads world (with_locals count (suc first) act (with_number first (length w.objects) e) >>= λ a. end_object (length w.objects) >> give a) (record w { objects = more })
-              (ending count n inner >>= λ a. end_object (length w.objects) >> give a) (record w { objects = objects })) (length_more (fresh layout.size l.writable) w.objects) there)
+          (ending count n inner >>= λ a. end_object (length w.objects) >> give a) (record w { objects = objects })) (length_more (fresh layout.size l.writable) w.objects) there)
           (same_lead (λ s. ends_behind count (length w.objects) (act inner) s))))
 
       by : Inside → (o : Option LocalValue) → made_next w.objects (made count (suc first)) (made_at first e w.objects o) ≡ (Some inner, objects)

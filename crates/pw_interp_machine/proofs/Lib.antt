@@ -1,4 +1,4 @@
-mod Arguments
+mod ArgumentLaws
 mod CallLaws
 mod Callers
 mod Entering

@@ -98,25 +98,25 @@ module _ {world : World} {w : Shown} (s : Statement) (at : execution.Entry) (e :
   pub local_leads : (inner : Env) (objects : List Object) (number : ℕ) (before : Option ℕ) → done < count_in s → local ≡ first_in s + done → made_one local e w.objects ≡ Some (inner, objects)
       → number ≡ length w.objects → put_back local before inner ≡ e → inner.world ≡ e.world
       → Leads world (part_act (P.Locals done) s at e n >>= λ flow. resume todo rest e bound (Flowed flow)) w
-          (part_act (P.Locals (done + 1)) s at inner n >>= λ flow. resume (todo ++ T.EndLocal local number before ∷ []) rest inner bound (Flowed flow)) (record w { objects = objects })
+      (part_act (P.Locals (done + 1)) s at inner n >>= λ flow. resume (todo ++ T.EndLocal local number before ∷ []) rest inner bound (Flowed flow)) (record w { objects = objects })
   unfolding after
   local_leads inner objects number before more place made_so numbered back home =
       let left = count_in s - (done + 1) in
       let others : Act execution.Flow = with_locals left (suc local) (inner_act s at e.world n) inner in
       let next : first_in s + (done + 1) ≡ suc local = omega (arith, place) in
       let others_are : others ≡ part_act (P.Locals (done + 1)) s at inner n =
-          ap (λ k. with_locals left k (inner_act s at e.world n) inner) (sym next) ∙ ap (λ x. with_locals left (first_in s + (done + 1)) (inner_act s at x n) inner) (sym home) in
+      ap (λ k. with_locals left k (inner_act s at e.world n) inner) (sym next) ∙ ap (λ x. with_locals left (first_in s + (done + 1)) (inner_act s at x n) inner) (sym home) in
       let k = T.EndLocal local number before in
       further (named (ap (λ act. act >>= then_flow) (part_is more place)))
       (further (in_front then_flow (one_leads world (inner_act s at e.world n) left local e inner w objects made_so))
       (further (same_lead (λ x.
-          grouped others (λ flow. end_object (length w.objects) >> give flow) then_flow x
-          ∙ follow_same others _ (λ flow. resume (todo ++ k ∷ []) rest inner bound (Flowed flow)) x (λ flow y.
-              grouped (end_object (length w.objects)) (λ _. give flow) then_flow y
-              ∙ follow_same (end_object (length w.objects)) _ (λ _. then_flow flow) y (λ d z. given_on flow then_flow z)
-              ∙ ap (λ m. (end_object m >> then_flow flow) y) (sym numbered)
-              ∙ ap (λ i. (end_object number >> resume todo rest i bound (Flowed flow)) y) (sym back)
-              ∙ ap (λ r. r inner bound (Flowed flow) y) (sym (resume_last todo k rest)))))
+      grouped others (λ flow. end_object (length w.objects) >> give flow) then_flow x
+      ∙ follow_same others _ (λ flow. resume (todo ++ k ∷ []) rest inner bound (Flowed flow)) x (λ flow y.
+      grouped (end_object (length w.objects)) (λ _. give flow) then_flow y
+      ∙ follow_same (end_object (length w.objects)) _ (λ _. then_flow flow) y (λ d z. given_on flow then_flow z)
+      ∙ ap (λ m. (end_object m >> then_flow flow) y) (sym numbered)
+      ∙ ap (λ i. (end_object number >> resume todo rest i bound (Flowed flow)) y) (sym back)
+      ∙ ap (λ r. r inner bound (Flowed flow) y) (sym (resume_last todo k rest)))))
       (named (ap (λ act. act >>= λ flow. resume (todo ++ k ∷ []) rest inner bound (Flowed flow)) others_are))))
 
   -- one that has no layout
@@ -170,16 +170,16 @@ module _ (world : World) (m : ℕ) (f : FunctionValue) (args : List Value) (oute
       further (in_front N (locals_lead world (with_arguments f (calls world m) args) f.params 0 outer inner w _ made_so))
       (further (in_front N (in_front F (behind_given (λ _. body >>= result_of) params)))
       (same_lead (λ s.
-          grouped (body >>= result_of) F N s
-          ∙ grouped body result_of (λ r. F r >>= N) s
-          ∙ follow_same body _ (λ flow. resume (T.EndParameters f.params k ∷ T.Returned ∷ []) given inner m (Flowed flow)) s (λ flow t. follow_same (result_of flow) _ (λ r. end_objects f.params k >> N r) t (λ r x.
-              grouped (end_objects f.params k) (λ _. give r) N x
-              ∙ follow_same (end_objects f.params k) _ (λ _. N r) x (λ d y. given_on r N y)))
-          ∙ ap (λ j. (body >>= λ flow. resume (T.EndParameters f.params j ∷ T.Returned ∷ []) given inner m (Flowed flow)) s) (sym numbered)
-          ∙ ap (λ todo. (body >>= λ flow. resume todo given inner m (Flowed flow)) s) (sym todo)
-          ∙ ap (λ b. (meaning f.body Front (calls world b) inner >>= λ flow. resume call.todo.items given inner b (Flowed flow)) s) (sym bound)
-          ∙ ap (λ x. (meaning f.body Front (calls x call.bound) inner >>= λ flow. resume call.todo.items given inner call.bound (Flowed flow)) s) (sym home)
-          ∙ ap (λ x. (meaning f.body Front (calls x.world call.bound) x >>= λ flow. resume call.todo.items given x call.bound (Flowed flow)) s) (sym env))))
+      grouped (body >>= result_of) F N s
+      ∙ grouped body result_of (λ r. F r >>= N) s
+      ∙ follow_same body _ (λ flow. resume (T.EndParameters f.params k ∷ T.Returned ∷ []) given inner m (Flowed flow)) s (λ flow t. follow_same (result_of flow) _ (λ r. end_objects f.params k >> N r) t (λ r x.
+      grouped (end_objects f.params k) (λ _. give r) N x
+      ∙ follow_same (end_objects f.params k) _ (λ _. N r) x (λ d y. given_on r N y)))
+      ∙ ap (λ j. (body >>= λ flow. resume (T.EndParameters f.params j ∷ T.Returned ∷ []) given inner m (Flowed flow)) s) (sym numbered)
+      ∙ ap (λ todo. (body >>= λ flow. resume todo given inner m (Flowed flow)) s) (sym todo)
+      ∙ ap (λ b. (meaning f.body Front (calls world b) inner >>= λ flow. resume call.todo.items given inner b (Flowed flow)) s) (sym bound)
+      ∙ ap (λ x. (meaning f.body Front (calls x call.bound) inner >>= λ flow. resume call.todo.items given inner call.bound (Flowed flow)) s) (sym home)
+      ∙ ap (λ x. (meaning f.body Front (calls x.world call.bound) x >>= λ flow. resume call.todo.items given x call.bound (Flowed flow)) s) (sym env))))
 
   -- where the arguments end the run
   pub active_stops : {w v : Shown} {objects : List Object} (stop : Stop) → made f.params 0 outer w.objects ≡ (Some inner, objects)

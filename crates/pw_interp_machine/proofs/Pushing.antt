@@ -1,5 +1,5 @@
 -- What goes on the list of what is left to do is done behind what comes first.
-use Rattle.std.proofs.Common.{ℕ, ◌+◌, ◌≡◌, refl, sym, ap, subst, add-one, ◌∙◌, Option, List, [], ◌∷◌, ◌++◌, Result, Err}
+use Rattle.std.proofs.Common.{ℕ, ◌+◌, ◌≡◌, refl, sym, ap, subst, add-one, arith, ◌∙◌, Option, List, [], ◌∷◌, ◌++◌, length, Result, Err}
 use Rattle.std.specs.Borrow.{Bor}
 use Rattle.pw_value.specs.declared.value.Value.{Value}
 use Rattle.pw_typed.specs.declared.tree.TExpr.{TExpr}
@@ -32,6 +32,11 @@ use Rattle.pw_interp_todo.specs.Parts.{back_act, doing_act}
 use Rattle.pw_interp_todo.specs.Resuming.{Rest, Told, Gave, Flowed, Listed, after, resume, on_value, on_flow, on_list}
 use Rattle.pw_interp_todo.proofs.ActLaws.{grouped, follow_same, given_on}
 use Rattle.pw_interp_todo.proofs.Resumes.{resume_last}
+
+-- an empty list
+pub nothing_in : {A : Type 0} (xs : List A) → length xs ≡ 0 → xs ≡ []
+nothing_in [] none = refl
+nothing_in (x ∷ xs) none = absurd (omega (arith, none))
 
 module _ (todo : List Todo) (rest : Rest) (e : Env) (n : ℕ) where
   -- with one more the list does that first
@@ -82,9 +87,9 @@ module _ (todo : List Todo) (rest : Rest) (e : Env) (n : ℕ) where
       grouped (answer_of (view_expr first) cs e >>= used (site e token)) (λ v. others >>= λ vs. give (v ∷ vs)) K s
       ∙ grouped (answer_of (view_expr first) cs e) (used (site e token)) (λ v. (others >>= λ vs. give (v ∷ vs)) >>= K) s
       ∙ follow_same (answer_of (view_expr first) cs e) _ _ s (λ given u.
-          follow_same (used (site e token) given) _ (λ v. others >>= λ vs. K (v ∷ vs)) u (λ v x.
-              grouped others (λ vs. give (v ∷ vs)) K x ∙ follow_same others _ (λ vs. K (v ∷ vs)) x (λ vs y. given_on (v ∷ vs) K y))
-          ∙ last_is (T.Argument args token) (Gave given) u)
+      follow_same (used (site e token) given) _ (λ v. others >>= λ vs. K (v ∷ vs)) u (λ v x.
+      grouped others (λ vs. give (v ∷ vs)) K x ∙ follow_same others _ (λ vs. K (v ∷ vs)) x (λ vs y. given_on (v ∷ vs) K y))
+      ∙ last_is (T.Argument args token) (Gave given) u)
 
   -- a value that is held
   pub held_is : (v : Value) (vs : List Value) → with_one (T.Held v) e n (Listed vs) ≡ resume todo rest e n (Listed (v ∷ vs))

@@ -252,15 +252,18 @@ module _ {main : Body} {world : World} {before : Shown} (old : Call) (e : Env) (
   }
 
   -- the run ends with what main returned
-  pub steps_finish : (m : Machine) (ending : Ending) → finish main v ≡ stop (view_ending ending)
-      → StepsAt main world old [] (λ rest. rest e n (Gave v)) before (Err (S.Ended ending)) m (record before { used = old.before })
+  pub steps_finish : (callers : List Call) (m : Machine) (ending : Ending) → callers ≡ [] → finish main v ≡ stop (view_ending ending)
+      → StepsAt main world old callers (λ rest. rest e n (Gave v)) before (Err (S.Ended ending)) m (record before { used = old.before })
   unfolding stop
-  steps_finish m ending is = record {
+  steps_finish callers m ending none is = record {
     goes = tt;
     stopped = λ end at.
         let here = at.in_call in
+        let t = left_now here.active here.state in
         subst (λ o. Shows world o (Err (view_ending ending)) (record before { used = old.before }))
-        (sym (here.comes ∙ ended_is here.active (finish main) here.state ∙ ap (λ act. act (left_now here.active here.state)) is))
+        (sym (
+        here.comes ∙ ended_is here.active (callers_act callers at.waiting (finish main)) here.state
+        ∙ ap (λ cs. callers_act cs at.waiting (finish main) v t) none ∙ ap (λ act. act t) is))
         (refl, ended_shows here.active here.state here.is_call here.shows);
   }
 
@@ -274,14 +277,14 @@ pub run_goes : {main : Body} {world : World} {old new : Machine} {before behind 
     → Steps main (view_env old.call.env).world old before r new behind → r ≡ Ok tt → Stands main world old before end → Stands main world new behind end
 run_goes {main = main} {world = world} {old = old} {new = new} {before = before} {behind = behind} {r = r} {end = end} s is at =
     let there : Steps main world old before (Ok tt) new behind =
-        subst (λ x. Steps main world old before x new behind) is (subst (λ w. Steps main w old before r new behind) at.in_call.is_call.stands s) in
+    subst (λ x. Steps main world old before x new behind) is (subst (λ w. Steps main w old before r new behind) at.in_call.is_call.stands s) in
     there.goes end at
 
 pub run_ends : {main : Body} {world : World} {old new : Machine} {before behind : Shown} {r : Result (Unit {0}) Stop} {end : Outcome (Unit {0})} (stop : Stop)
     → Steps main (view_env old.call.env).world old before r new behind → r ≡ Err stop → Stands main world old before end → EndsSo world end stop behind
 run_ends {main = main} {world = world} {old = old} {new = new} {before = before} {behind = behind} {r = r} {end = end} stop s is at =
     let there : Steps main world old before (Err stop) new behind =
-        subst (λ x. Steps main world old before x new behind) is (subst (λ w. Steps main w old before r new behind) at.in_call.is_call.stands s) in
+    subst (λ x. Steps main world old before x new behind) is (subst (λ w. Steps main w old before r new behind) at.in_call.is_call.stands s) in
     there.stopped end at
 
 pub starts_named : {main : Body} {world : World} {act other : Act (Unit {0})} {before behind : Shown} {r : Result Machine Stop} → act ≡ other → Starts main world other before r behind → Starts main world act before r behind

@@ -73,10 +73,10 @@ call_end_local {w = w} {objects = objects} old new local number before told cont
       steps = λ rest. left_so control refl
           (further (behind_given (λ d. resume old.todo.items rest (put_back local before (view_env old.env)) old.bound told) (end_shows (view_env old.env).world number w))
           (named (
-              ap (λ items. resume items rest (put_back local before (view_env old.env)) old.bound told) (sym todo)
-              ∙ ap (λ n. resume new.todo.items rest (put_back local before (view_env old.env)) n told) (sym bound)
-              ∙ ap (λ e. resume new.todo.items rest e new.bound told) (sym env)
-              ∙ sym (gives (view_env new.env) new.bound (resume new.todo.items rest)))));
+          ap (λ items. resume items rest (put_back local before (view_env old.env)) old.bound told) (sym todo)
+          ∙ ap (λ n. resume new.todo.items rest (put_back local before (view_env old.env)) n told) (sym bound)
+          ∙ ap (λ e. resume new.todo.items rest e new.bound told) (sym env)
+          ∙ sym (gives (view_env new.env) new.bound (resume new.todo.items rest)))));
       room = room;
       stands = ap (λ e. e.world) env;
     })

@@ -2,12 +2,13 @@
 
 ghost use Rattle.std.specs.Prelude.{◌≡◌, [], ℕ, IfErr, IfOk};
 ghost use Rattle.pw_typed.specs.Views.{view_exprs};
-ghost use Rattle.pw_cmean.specs.Acts.{State as AnyState, ◌>>=◌};
+ghost use Rattle.pw_cmean.specs.Acts.{State as AnyState};
 ghost use Rattle.pw_cmean.specs.Evaluation.{Env, values_of};
 ghost use Rattle.pw_cmean.specs.SourceRun.{calls};
 ghost use Rattle.pw_interp_todo.specs.Operands.{call_behind};
 ghost use Rattle.pw_interp_todo.specs.Resuming as spec;
 ghost use Rattle.pw_interp_todo.specs.Resuming.{Rest, control_act, resume};
+ghost use Rattle.pw_interp_machine.specs.Orders.{then_gave, then_listed};
 
 use pw_interp_calls::Stop;
 use pw_interp_todo::{Asked, Callee, Control, Todo};
@@ -22,15 +23,15 @@ pub fn push_arguments<'a>(
     token: usize,
 ) -> Result<Control<'a>, AllocError>
     ensures { IfOk result (λ control. (e : Env) (bound : ℕ) (rest : Rest) (s : AnyState) →
-        (values_of (view_exprs args.now) token (calls e.world bound) e >>= λ vs. resume todo.old.items rest e bound (spec.Listed vs)) s
+        (then_listed (values_of (view_exprs args.now) token (calls e.world bound) e) (resume todo.old.items rest) e bound) s
         ≡ control_act control e bound (resume todo.new.items rest) s) }
 {
-    match args {
-        [] => Ok(Control::Listed),
-        [first, rest @ ..] => {
+    match args.split_first() {
+        Some((first, rest)) => {
             todo.push(Todo::Argument(rest, token))?;
             Ok(Control::Ask(Asked::Answer(first)))
         }
+        None => Ok(Control::Listed),
     }
 }
 
@@ -41,7 +42,7 @@ pub fn take_arguments<'a>(
     todo: &mut Vec<Todo<'a>>,
 ) -> Result<(Vec<Value>, Callee<'a>), Stop<'a>>
     ensures taken { IfOk result (λ r. (e : Env) (bound : ℕ) (rest : Rest) →
-        resume todo.old.items rest e bound (spec.Listed []) ≡ (call_behind r.1 r.0.items e bound >>= λ given. resume todo.new.items rest e bound (spec.Gave given))) }
+        resume todo.old.items rest e bound (spec.Listed []) ≡ (then_gave (call_behind r.1 r.0.items e bound) (resume todo.new.items rest) e bound)) }
     ensures no_memory { IfErr result (λ stop. stop ≡ Stop.NoMemory) }
 {
     let mut values = Vec::new(alloc);

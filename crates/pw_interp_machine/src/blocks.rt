@@ -3,17 +3,16 @@
 ghost use Rattle.std.specs.Prelude.{◌≡◌, ◌+◌, ◌<◌, ◌∷◌, ◌++◌, [], ℕ, false, IfOk, None, Some, if◌then◌else◌, option_and_then, option_map, slice_get, slice_set};
 ghost use Rattle.pw_value.specs.Objects.{ended};
 ghost use Rattle.pw_typed.specs.Views.{view_stmt};
-ghost use Rattle.pw_cmean.specs.Acts.{◌>>=◌};
 ghost use Rattle.pw_interp_calls.specs.Views.{view_env};
 ghost use Rattle.pw_interp_state.specs.Shown.{view_state};
 ghost use Rattle.pw_interp_todo.specs.Flows.{view_entry};
 ghost use Rattle.pw_interp_todo.specs.Members as any;
 ghost use Rattle.pw_interp_todo.specs.Parts.{part_act};
-ghost use Rattle.pw_interp_todo.specs.Resuming as resuming;
 ghost use Rattle.pw_interp_todo.specs.Resuming.{Rest, control_act, put_back, resume};
 ghost use Rattle.pw_cmean.specs.Evaluation.{Env as AnyEnv};
 ghost use Rattle.pw_interp_machine.specs.Locals as spec;
 ghost use Rattle.pw_interp_machine.specs.Stepping.{StepsCall};
+ghost use Rattle.pw_interp_machine.specs.Orders.{then_flowed};
 
 use crate::machine::Call;
 use pw_interp_calls::{Ending, Env, Stop};
@@ -26,7 +25,8 @@ use std::alloc::{AllocError, Global};
 /// The first local of a block, and how many live in it; what is no block has none.
 #[tactic(auto, unfolding(pw_typed::specs::Views::view_stmt_form), using(pw_typed::proofs::Rows::block_view, pw_typed::proofs::Rows::if_view))]
 fn locals_in(s: &TStmt) -> (u32, u32)
-    ensures { result ≡ (any.first_in (view_stmt s.now), any.count_in (view_stmt s.now)) }
+    ensures first { result.0 ≡ any.first_in (view_stmt s.now) }
+    ensures count { result.1 ≡ any.count_in (view_stmt s.now) }
 {
     match &s.form {
         TStmtForm::Block { first, count, .. } => (*first, *count),
@@ -106,7 +106,7 @@ fn note_local<'a>(
     end: Todo<'a>,
 ) -> Result<Control<'a>, AllocError>
     ensures { IfOk result (λ control. (e : AnyEnv) (n : ℕ) (rest : Rest) → control_act control e n (resume todo.new.items rest)
-        ≡ (part_act (Part.Locals opened) (view_stmt of.now) (view_entry at) e n >>= λ flow. resume (todo.old.items ++ end.entry ∷ []) rest e bound (resuming.Flowed flow))) }
+        ≡ (then_flowed (part_act (Part.Locals opened) (view_stmt of.now) (view_entry at) e n) (resume (todo.old.items ++ end.entry ∷ []) rest) e bound)) }
 {
     todo.push(end)?;
     let part = Part::Locals(opened);
@@ -128,7 +128,7 @@ fn open_one<'a>(
 ) -> Result<Control<'a>, Stop<'a>>
     requires next { made < any.count_in (view_stmt of.now) }
     requires place { local ≡ any.first_in (view_stmt of.now) + made }
-    ensures { StepsCall call.old (λ rest. part_act (Part.Locals made) (view_stmt of.now) (view_entry at) (view_env call.old.env) call.old.bound >>= λ flow. rest (view_env call.old.env) bound (resuming.Flowed flow)) (view_state state.old) result call.new (view_state state.new) }
+    ensures { StepsCall call.old (λ rest. then_flowed (part_act (Part.Locals made) (view_stmt of.now) (view_entry at) (view_env call.old.env) call.old.bound) rest (view_env call.old.env) bound) (view_state state.old) result call.new (view_state state.new) }
 {
     let before = number_of(&call.env.numbers, local);
     let count = state.objects.count();
@@ -147,7 +147,7 @@ fn open_one<'a>(
 }
 
 /// A block, so many of whose locals have their objects: the next gets its own, or where all have theirs the inside comes.
-pub fn open<'a>(
+pub fn open_block<'a>(
     alloc: Global,
     call: &mut Call<'a>,
     state: &mut State<'a>,
@@ -156,7 +156,7 @@ pub fn open<'a>(
     at: Entry,
     bound: u64,
 ) -> Result<Control<'a>, Stop<'a>>
-    ensures { StepsCall call.old (λ rest. part_act (Part.Locals made) (view_stmt of.now) (view_entry at) (view_env call.old.env) call.old.bound >>= λ flow. rest (view_env call.old.env) bound (resuming.Flowed flow)) (view_state state.old) result call.new (view_state state.new) }
+    ensures { StepsCall call.old (λ rest. then_flowed (part_act (Part.Locals made) (view_stmt of.now) (view_entry at) (view_env call.old.env) call.old.bound) rest (view_env call.old.env) bound) (view_state state.old) result call.new (view_state state.new) }
 {
     let (first, count) = locals_in(of);
     if made < count {

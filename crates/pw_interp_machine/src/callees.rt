@@ -128,11 +128,7 @@ fn called_through<'a>(
 }
 
 /// The function that a call calls.
-pub fn callee_of<'a>(
-    alloc: Global,
-    env: &Env<'a>,
-    callee: Callee<'a>,
-) -> Result<Body<'a>, Stop<'a>>
+pub fn callee_of<'a>(alloc: Global, env: &Env<'a>, callee: Callee<'a>) -> Result<Body<'a>, Stop<'a>>
     ensures { (vs : List value.Value) (n : ℕ) (w : Shown) → Continues (λ body. meaning.call (view_env env.now).world (runs.calls (view_env env.now).world n) (callable_of body) vs) (view_env env.now).world
         (call_behind callee.entry vs (view_env env.now) n) w result w }
 {

@@ -2,7 +2,6 @@
 
 ghost use Rattle.std.specs.Prelude.{◌≡◌, ◌+◌, ◌∷◌, [], ℕ, IfOk};
 ghost use Rattle.pw_typed.specs.Views.{view_function};
-ghost use Rattle.pw_cmean.specs.Acts.{◌>>=◌};
 ghost use Rattle.pw_cmean.specs.Evaluation as meaning;
 ghost use Rattle.pw_cmean.specs.Execution.{with_locals};
 ghost use Rattle.pw_cmean.specs.SourceRun as runs;
@@ -15,6 +14,7 @@ ghost use Rattle.pw_interp_todo.specs.Operands.{call_behind};
 ghost use Rattle.pw_interp_todo.specs.Resuming as spec;
 ghost use Rattle.pw_interp_machine.specs.Bodies.{with_arguments};
 ghost use Rattle.pw_interp_machine.specs.Stepping.{Begins, Opens, StepsAt};
+ghost use Rattle.pw_interp_machine.specs.Orders.{then_gave};
 
 use crate::arguments::take_arguments;
 use crate::blocks::make_locals;
@@ -148,14 +148,18 @@ fn enter<'a>(
     f: &'a TFunction,
 ) -> Result<(), Stop<'a>>
     ensures { (main : worlds.Body) (world : worlds.World) (act : _) (before behind : Shown) → Begins world act (view_function f.now).body before begun.entry behind
-        → StepsAt main world machine.old.call machine.old.callers.items (λ rest. act >>= λ r. rest (view_env machine.old.call.env) machine.old.call.bound (spec.Gave r)) before result machine.new behind }
+        → StepsAt main world machine.old.call machine.old.callers.items (λ rest. then_gave act rest (view_env machine.old.call.env) machine.old.call.bound) before result machine.new behind }
 {
     let call = begun?;
     let caller = std::mem::replace(&mut machine.call, call);
     machine.callers.push(caller)?;
     let bound = machine.call.bound;
     let (part, at) = (Part::Whole, Entry::Front);
-    let what = Doing { part, of: &f.body, at };
+    let what = Doing {
+        part,
+        of: &f.body,
+        at,
+    };
     machine.control = Control::Do { what, bound };
     Ok(())
 }
@@ -169,7 +173,7 @@ fn call_function<'a>(
     args: &[Value],
 ) -> Result<(), Stop<'a>>
     ensures { (main : worlds.Body) → StepsAt main (view_env machine.old.call.env).world machine.old.call machine.old.callers.items
-        (λ rest. meaning.call (view_env machine.old.call.env).world (runs.calls (view_env machine.old.call.env).world machine.old.call.bound) (callable_of function.entry) args.now >>= λ r. rest (view_env machine.old.call.env) machine.old.call.bound (spec.Gave r))
+        (λ rest. then_gave (meaning.call (view_env machine.old.call.env).world (runs.calls (view_env machine.old.call.env).world machine.old.call.bound) (callable_of function.entry) args.now) rest (view_env machine.old.call.env) machine.old.call.bound)
         (view_state state.old) result machine.new (view_state state.new) }
 {
     let world = machine.call.env.world;
@@ -194,7 +198,7 @@ fn call_with<'a>(
     args: &[Value],
 ) -> Result<(), Stop<'a>>
     ensures { (main : worlds.Body) → StepsAt main (view_env machine.old.call.env).world machine.old.call machine.old.callers.items
-        (λ rest. call_behind callee.entry args.now (view_env machine.old.call.env) machine.old.call.bound >>= λ r. rest (view_env machine.old.call.env) machine.old.call.bound (spec.Gave r))
+        (λ rest. then_gave (call_behind callee.entry args.now (view_env machine.old.call.env) machine.old.call.bound) rest (view_env machine.old.call.env) machine.old.call.bound)
         (view_state state.old) result machine.new (view_state state.new) }
 {
     let function = callee_of(alloc, &machine.call.env, callee)?;

@@ -1,8 +1,7 @@
 //! Steps that stay in the call of the function that runs.
 
-ghost use Rattle.std.specs.Prelude.{◌≡◌, ◌∷◌, MatchOption, true};
+ghost use Rattle.std.specs.Prelude.{◌≡◌, MatchOption, true};
 ghost use Rattle.pw_typed.specs.Views.{view_exprs};
-ghost use Rattle.pw_cmean.specs.Acts.{◌>>=◌};
 ghost use Rattle.pw_cmean.specs.Evaluation as meaning;
 ghost use Rattle.pw_cmean.specs.SourceRun as runs;
 ghost use Rattle.pw_cmean.specs.Worlds as worlds;
@@ -17,16 +16,17 @@ ghost use Rattle.pw_interp_todo.specs.Parts.{doing_act};
 ghost use Rattle.pw_interp_todo.specs.Resuming as spec;
 ghost use Rattle.pw_interp_flows.specs.Entering.{has_objects};
 ghost use Rattle.pw_interp_machine.specs.Stepping.{StepsCall};
+ghost use Rattle.pw_interp_machine.specs.Orders.{then_gave, then_flowed, then_listed, then_argued};
 
 use crate::arguments::push_arguments;
-use crate::blocks::{end_local, end_parameters, open};
+use crate::blocks::{end_local, end_parameters, open_block};
 use crate::machine::Call;
 use crate::pushes::{push_going, push_next};
 use crate::settling::given;
 use pw_interp_acts::used;
+use pw_interp_asks::ask;
 use pw_interp_calls::{Ending, Stop};
 use pw_interp_flows::{begin, remainder, use_value};
-use pw_interp_asks::ask;
 use pw_interp_operands::behind;
 use pw_interp_state::State;
 use pw_interp_todo::{Asked, Control, Doing, Flow, Operand, Part, Remainder, Todo, Use};
@@ -41,7 +41,7 @@ pub fn ask_step<'a>(
     state: &State<'a>,
     asked: Asked<'a>,
 ) -> Result<Control<'a>, Stop<'a>>
-    ensures { StepsCall call.old (λ rest. asked_act asked.entry (view_env call.old.env) call.old.bound >>= λ r. rest (view_env call.old.env) call.old.bound (spec.Gave r)) (view_state state.now) result call.new (view_state state.now) }
+    ensures { StepsCall call.old (λ rest. then_gave (asked_act asked.entry (view_env call.old.env) call.old.bound) rest (view_env call.old.env) call.old.bound) (view_state state.now) result call.new (view_state state.now) }
 {
     let next = ask(alloc, &call.env, state, asked)?;
     let control = push_next(&mut call.todo, next)?;
@@ -66,8 +66,8 @@ fn begin_step<'a>(
     what: Doing<'a>,
     bound: u64,
 ) -> Result<Control<'a>, Stop<'a>>
-    requires { has_objects what.entry.part ≡ true }
-    ensures { StepsCall call.old (λ rest. doing_act what.entry (view_env call.old.env) call.old.bound >>= λ flow. rest (view_env call.old.env) bound (spec.Flowed flow)) (view_state state.old) result call.new (view_state state.new) }
+    requires { has_objects what.part ≡ true }
+    ensures { StepsCall call.old (λ rest. then_flowed (doing_act what.entry (view_env call.old.env) call.old.bound) rest (view_env call.old.env) bound) (view_state state.old) result call.new (view_state state.new) }
 {
     let going = begin(alloc, &call.env, state, what)?;
     push_going(&mut call.todo, &mut call.bound, going, bound)
@@ -81,10 +81,10 @@ pub fn do_step<'a>(
     what: Doing<'a>,
     bound: u64,
 ) -> Result<Control<'a>, Stop<'a>>
-    ensures { StepsCall call.old (λ rest. doing_act what.entry (view_env call.old.env) call.old.bound >>= λ flow. rest (view_env call.old.env) bound (spec.Flowed flow)) (view_state state.old) result call.new (view_state state.new) }
+    ensures { StepsCall call.old (λ rest. then_flowed (doing_act what.entry (view_env call.old.env) call.old.bound) rest (view_env call.old.env) bound) (view_state state.old) result call.new (view_state state.new) }
 {
     match locals_of(what.part) {
-        Some(made) => open(alloc, call, state, what.of, made, what.at, bound),
+        Some(made) => open_block(alloc, call, state, what.of, made, what.at, bound),
         None => begin_step(alloc, call, state, what, bound),
     }
 }
@@ -97,7 +97,7 @@ fn operand_step<'a>(
     operand: Operand<'a>,
     given: Option<Value>,
 ) -> Result<Control<'a>, Stop<'a>>
-    ensures { StepsCall call.old (λ rest. operands.behind operand.entry given (view_env call.old.env) call.old.bound >>= λ r. rest (view_env call.old.env) call.old.bound (spec.Gave r)) (view_state state.old) result call.new (view_state state.new) }
+    ensures { StepsCall call.old (λ rest. then_gave (operands.behind operand.entry given (view_env call.old.env) call.old.bound) rest (view_env call.old.env) call.old.bound) (view_state state.old) result call.new (view_state state.new) }
 {
     let next = behind(alloc, &call.env, state, operand, given)?;
     let control = push_next(&mut call.todo, next)?;
@@ -111,7 +111,7 @@ fn argument_step<'a>(
     token: usize,
     given: Option<Value>,
 ) -> Result<Control<'a>, Stop<'a>>
-    ensures { (w : Shown) → StepsCall call.old (λ rest. meaning.used (meaning.site (view_env call.old.env) token) given >>= λ v. meaning.values_of (view_exprs args.now) token (runs.calls (view_env call.old.env).world call.old.bound) (view_env call.old.env) >>= λ vs. rest (view_env call.old.env) call.old.bound (spec.Listed (v ∷ vs))) w result call.new w }
+    ensures { (w : Shown) → StepsCall call.old (λ rest. then_argued given (view_exprs args.now) token rest (view_env call.old.env) call.old.bound) w result call.new w }
 {
     let value = used(&call.env, token, given)?;
     call.todo.push(Todo::Held(value))?;
@@ -127,7 +127,7 @@ fn value_step<'a>(
     bound: u64,
     given: Option<Value>,
 ) -> Result<Control<'a>, Stop<'a>>
-    ensures { StepsCall call.old (λ rest. use_act what.entry (view_env call.old.env) call.old.bound given >>= λ flow. rest (view_env call.old.env) bound (spec.Flowed flow)) (view_state state.old) result call.new (view_state state.new) }
+    ensures { StepsCall call.old (λ rest. then_flowed (use_act what.entry (view_env call.old.env) call.old.bound given) rest (view_env call.old.env) bound) (view_state state.old) result call.new (view_state state.new) }
 {
     let going = use_value(alloc, &call.env, state, what, given)?;
     push_going(&mut call.todo, &mut call.bound, going, bound)
@@ -140,7 +140,7 @@ fn flow_step<'a>(
     bound: u64,
     flow: Flow,
 ) -> Result<Control<'a>, Stop<'a>>
-    ensures { (w : Shown) → StepsCall call.old (λ rest. remainder_act what.entry (view_env call.old.env) call.old.bound (view_flow flow) >>= λ f. rest (view_env call.old.env) bound (spec.Flowed f)) w result call.new w }
+    ensures { (w : Shown) → StepsCall call.old (λ rest. then_flowed (remainder_act what.entry (view_env call.old.env) call.old.bound (view_flow flow)) rest (view_env call.old.env) bound) w result call.new w }
 {
     let going = remainder(what, flow);
     push_going(&mut call.todo, &mut call.bound, going, bound)
@@ -173,7 +173,11 @@ pub fn gave_step<'a>(
         Todo::Operand(operand) => operand_step(alloc, call, state, operand, given),
         Todo::Argument(args, token) => argument_step(call, args, token, given),
         Todo::Value { what, bound } => value_step(alloc, call, state, what, bound, given),
-        Todo::EndLocal { local, number, before } => {
+        Todo::EndLocal {
+            local,
+            number,
+            before,
+        } => {
             end_local(call, &mut state.objects, local, number, before);
             Ok(Control::Gave(given))
         }
@@ -199,7 +203,11 @@ pub fn flowed_step<'a>(
 {
     match first {
         Todo::Flow { what, bound } => flow_step(call, what, bound, flow),
-        Todo::EndLocal { local, number, before } => {
+        Todo::EndLocal {
+            local,
+            number,
+            before,
+        } => {
             end_local(call, &mut state.objects, local, number, before);
             Ok(Control::Flowed(flow))
         }
@@ -222,7 +230,7 @@ pub fn arguments_step<'a>(
     args: &'a [TExpr],
     token: usize,
 ) -> Result<Control<'a>, Stop<'a>>
-    ensures { (w : Shown) → StepsCall call.old (λ rest. meaning.values_of (view_exprs args.now) token (runs.calls (view_env call.old.env).world call.old.bound) (view_env call.old.env) >>= λ vs. rest (view_env call.old.env) call.old.bound (spec.Listed vs)) w result call.new w }
+    ensures { (w : Shown) → StepsCall call.old (λ rest. then_listed (meaning.values_of (view_exprs args.now) token (runs.calls (view_env call.old.env).world call.old.bound) (view_env call.old.env)) rest (view_env call.old.env) call.old.bound) w result call.new w }
 {
     let control = push_arguments(&mut call.todo, args, token)?;
     Ok(control)

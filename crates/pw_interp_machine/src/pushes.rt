@@ -1,14 +1,14 @@
 //! What is left of an expression or a statement, put on the list of what is left to do.
 
 ghost use Rattle.std.specs.Prelude.{◌≡◌, ◌+◌, ℕ, IfErr, IfOk};
-ghost use Rattle.pw_cmean.specs.Acts.{State as AnyState, ◌>>=◌};
+ghost use Rattle.pw_cmean.specs.Acts.{State as AnyState};
 ghost use Rattle.pw_cmean.specs.Evaluation.{Env};
 ghost use Rattle.pw_interp_state.specs.Shown.{Shown};
 ghost use Rattle.pw_interp_todo.specs.Going.{going_act};
 ghost use Rattle.pw_interp_todo.specs.Leading.{Continues};
 ghost use Rattle.pw_interp_todo.specs.Operands.{next_act};
-ghost use Rattle.pw_interp_todo.specs.Resuming as spec;
 ghost use Rattle.pw_interp_todo.specs.Resuming.{Rest, control_act, resume};
+ghost use Rattle.pw_interp_machine.specs.Orders.{then_gave, then_flowed};
 
 use pw_interp_calls::{Ending, Stop};
 use pw_interp_todo::{Control, Doing, Going, Next, Todo, Turn};
@@ -17,7 +17,7 @@ use std::alloc::AllocError;
 /// What is left of an expression: what is done now, and what comes behind it goes on the list.
 pub fn push_next<'a>(todo: &mut Vec<Todo<'a>>, next: Next<'a>) -> Result<Control<'a>, AllocError>
     ensures { IfOk result (λ control. (e : Env) (bound : ℕ) (rest : Rest) (s : AnyState) →
-        (next_act next.entry e bound >>= λ r. resume todo.old.items rest e bound (spec.Gave r)) s ≡ control_act control e bound (resume todo.new.items rest) s) }
+        (then_gave (next_act next.entry e bound) (resume todo.old.items rest) e bound) s ≡ control_act control e bound (resume todo.new.items rest) s) }
 {
     match next {
         Next::Gave(given) => Ok(Control::Gave(given)),
@@ -53,7 +53,7 @@ fn push_on<'a>(
 ) -> Result<Control<'a>, Stop<'a>>
     ensures { (e : Env) (rest : Rest) (w : Shown) →
         Continues (λ control. control_act control e bound.new rest) e.world
-        (going_act (Going.On turn what.entry) e bound.old >>= λ flow. rest e after (spec.Flowed flow)) w result w }
+        (then_flowed (going_act (Going.On turn what.entry) e bound.old) rest e after) w result w }
 {
     match turn {
         Turn::Here => Ok(Control::Do { what, bound: after }),
@@ -75,7 +75,7 @@ pub fn push_going<'a>(
 ) -> Result<Control<'a>, Stop<'a>>
     ensures { (e : Env) (rest : Rest) (w : Shown) →
         Continues (λ control. control_act control e bound.new (resume todo.new.items rest)) e.world
-        (going_act going.entry e bound.old >>= λ flow. resume todo.old.items rest e after (spec.Flowed flow)) w result w }
+        (then_flowed (going_act going.entry e bound.old) (resume todo.old.items rest) e after) w result w }
 {
     match going {
         Going::Left(flow) => {
@@ -84,11 +84,20 @@ pub fn push_going<'a>(
         }
         Going::On(turn, what) => push_on(bound, turn, what, after),
         Going::Then(what, rest) => {
-            todo.push(Todo::Flow { what: rest, bound: after })?;
-            Ok(Control::Do { what, bound: *bound })
+            todo.push(Todo::Flow {
+                what: rest,
+                bound: after,
+            })?;
+            Ok(Control::Do {
+                what,
+                bound: *bound,
+            })
         }
         Going::Ask(asked, given) => {
-            todo.push(Todo::Value { what: given, bound: after })?;
+            todo.push(Todo::Value {
+                what: given,
+                bound: after,
+            })?;
             Ok(Control::Ask(asked))
         }
     }

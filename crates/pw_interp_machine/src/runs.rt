@@ -3,7 +3,6 @@
 ghost use Rattle.std.specs.Prelude.{◌≡◌, [], ℕ};
 ghost use Rattle.pw_typed.specs.Views.{view_function};
 ghost use Rattle.pw_cmean.specs.Acts as acts;
-ghost use Rattle.pw_cmean.specs.Acts.{◌>>=◌};
 ghost use Rattle.pw_cmean.specs.Evaluation as meaning;
 ghost use Rattle.pw_cmean.specs.SourceRun as runs;
 ghost use Rattle.pw_cmean.specs.Worlds as worlds;
@@ -12,6 +11,7 @@ ghost use Rattle.pw_interp_calls.specs.WorldViews.{view_world};
 ghost use Rattle.pw_interp_state.specs.Shown.{Shown, view_state};
 ghost use Rattle.pw_interp_machine.specs.Standing.{Stands};
 ghost use Rattle.pw_interp_machine.specs.Stepping.{Begins, EndsSo, Starts};
+ghost use Rattle.pw_interp_machine.specs.Orders.{then_finished};
 
 use crate::callees::call_library;
 use crate::calls::begin_bounded;
@@ -32,12 +32,16 @@ fn started<'a>(
     f: &'a TFunction,
 ) -> Result<Machine<'a>, Stop<'a>>
     ensures { (main : worlds.Body) (world : worlds.World) (act : _) (before behind : Shown) → Begins world act (view_function f.now).body before begun.entry behind
-        → Starts main world (act >>= runs.finish main) before result behind }
+        → Starts main world (then_finished act main) before result behind }
 {
     let call = begun?;
     let bound = call.bound;
     let (part, at) = (Part::Whole, Entry::Front);
-    let what = Doing { part, of: &f.body, at };
+    let what = Doing {
+        part,
+        of: &f.body,
+        at,
+    };
     let callers = Vec::new(alloc);
     let control = Control::Do { what, bound };
     Ok(Machine {
@@ -54,8 +58,8 @@ fn library_run<'a>(
     main: Body<'a>,
     function: LibraryFunction,
 ) -> Result<Machine<'a>, Stop<'a>>
-    requires { main.entry ≡ Body.Library function }
-    ensures { (n : ℕ) → Starts (callable_of main.entry).body (view_world world.now) (meaning.call (view_world world.now) (runs.calls (view_world world.now) n) (callable_of main.entry) [] >>= runs.finish (callable_of main.entry).body) (view_state state.old) result (view_state state.new) }
+    requires { main ≡ Body.Library function }
+    ensures { (n : ℕ) → Starts (callable_of main.entry).body (view_world world.now) (then_finished (meaning.call (view_world world.now) (runs.calls (view_world world.now) n) (callable_of main.entry) []) (callable_of main.entry).body) (view_state state.old) result (view_state state.new) }
 {
     let given = call_library(world, state, function, &[])?;
     Err(Stop::Ended(finish(main, given)))
@@ -70,7 +74,7 @@ pub fn start<'a>(
     bound: u64,
     main: Body<'a>,
 ) -> Result<Machine<'a>, Stop<'a>>
-    ensures { Starts (callable_of main.entry).body (view_world world.now) (meaning.call (view_world world.now) (runs.calls (view_world world.now) bound) (callable_of main.entry) [] >>= runs.finish (callable_of main.entry).body) (view_state state.old) result (view_state state.new) }
+    ensures { Starts (callable_of main.entry).body (view_world world.now) (then_finished (meaning.call (view_world world.now) (runs.calls (view_world world.now) bound) (callable_of main.entry) []) (callable_of main.entry).body) (view_state state.old) result (view_state state.new) }
 {
     match main {
         Body::Defined(home, f) => {

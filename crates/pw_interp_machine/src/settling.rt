@@ -1,13 +1,12 @@
 //! What a step in the call that runs came to.
 
-ghost use Rattle.pw_cmean.specs.Acts.{◌>>=◌};
 ghost use Rattle.pw_cmean.specs.Worlds as worlds;
 ghost use Rattle.pw_interp_calls.specs.Answers.{Answers};
 ghost use Rattle.pw_interp_calls.specs.Views.{view_env};
 ghost use Rattle.pw_interp_state.specs.Shown.{Shown};
-ghost use Rattle.pw_interp_todo.specs.Resuming as spec;
 ghost use Rattle.pw_interp_machine.specs.declared.machine.Call as code;
 ghost use Rattle.pw_interp_machine.specs.Stepping.{StepsAt, StepsCall};
+ghost use Rattle.pw_interp_machine.specs.Orders.{then_gave};
 
 use crate::machine::Machine;
 use pw_interp_calls::Stop;
@@ -17,7 +16,7 @@ use pw_value::Value;
 /// What goes on where an act of the call gave this.
 pub fn given<'a>(answer: Result<Option<Value>, Stop<'a>>) -> Result<Control<'a>, Stop<'a>>
     ensures { (call : code.Call) (act : _) (before behind : Shown) → Answers (λ v. v) (view_env call.env).world act before answer.entry behind
-        → StepsCall call (λ rest. act >>= λ r. rest (view_env call.env) call.bound (spec.Gave r)) before result call behind }
+        → StepsCall call (λ rest. then_gave act rest (view_env call.env) call.bound) before result call behind }
 {
     let value = answer?;
     Ok(Control::Gave(value))

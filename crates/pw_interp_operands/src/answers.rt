@@ -7,7 +7,6 @@ ghost use Rattle.pw_types.specs.TypeTrees as types;
 ghost use Rattle.pw_types.specs.TypedTrees as tree;
 ghost use Rattle.pw_types.specs.Views.{view_qtype, view_type};
 ghost use Rattle.pw_cmean.specs.Evaluation as meaning;
-ghost use Rattle.pw_cmean.specs.Operators.{number_for};
 ghost use Rattle.pw_interp_state.specs.Shown.{Shown, view_state};
 ghost use Rattle.pw_interp_calls.specs.Views.{view_env};
 ghost use Rattle.pw_interp_todo.specs.Asking.{answer_first};

@@ -21,4 +21,4 @@ returns-in-None c e n s =
     let a = view_stmt c.args.s.now in
     let cs = calls e.world n in
     ap (λ act. act s) (body_on (behind_of a e cs >>= top_or_leave a e cs) (view_flow c.args.flow) (sym c.left_by.ensures ∙ ap (option_map view_flow) c.in-None.is))
-    ∙ c.tail.ensures e n s
+    ∙ c.tail_of.ensures e n s

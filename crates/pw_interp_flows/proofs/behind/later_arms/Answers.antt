@@ -1,5 +1,5 @@
 use Rattle.std.proofs.Common.{ap, sym, ◌∙◌, ◌++◌}
-use Rattle.pw_typed.specs.Views.{view_arms, view_otherwise, view_stmt}
+use Rattle.pw_typed.specs.Views.{view_arms, view_stmt}
 use Rattle.pw_types.specs.Labels.{labels_behind, labels_of_arms}
 use Rattle.pw_cmean.specs.SourceRun.{calls}
 use Rattle.pw_interp_todo.specs.Flows.{view_flow}

@@ -17,7 +17,7 @@ returns-in-Met c e n s =
     let same = ap view_stmts c.from_on.ensures ∙ sym (members_drop c.members_in.result.now i) ∙ ap (members_from i) c.members_in.ensures in
     members_are e (calls e.world n) s rest (view_flow c.args.flow)
     ∙ ap (λ l. onward_act (λ at. items rest at (calls e.world n) e) (onward (labels_among l) (view_flow c.args.flow)) s) (sym same)
-    ∙ ap (λ o. onward_act (λ at. items rest at (calls e.world n) e) o s) (sym c.onward.ensures ∙ ap view_onward c.in-Met.is)
+    ∙ ap (λ o. onward_act (λ at. items rest at (calls e.world n) e) o s) (sym c.behind_member.ensures ∙ ap view_onward c.in-Met.is)
 
 pub returns-in-Left : goal.returns-in-Left
 returns-in-Left c e n s =
@@ -26,4 +26,4 @@ returns-in-Left c e n s =
     let same = ap view_stmts c.from_on.ensures ∙ sym (members_drop c.members_in.result.now i) ∙ ap (members_from i) c.members_in.ensures in
     members_are e (calls e.world n) s rest (view_flow c.args.flow)
     ∙ ap (λ l. onward_act (λ at. items rest at (calls e.world n) e) (onward (labels_among l) (view_flow c.args.flow)) s) (sym same)
-    ∙ ap (λ o. onward_act (λ at. items rest at (calls e.world n) e) o s) (sym c.onward.ensures ∙ ap view_onward c.in-Left.is)
+    ∙ ap (λ o. onward_act (λ at. items rest at (calls e.world n) e) o s) (sym c.behind_member.ensures ∙ ap view_onward c.in-Left.is)

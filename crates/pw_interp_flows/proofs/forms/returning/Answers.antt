@@ -10,7 +10,7 @@ use Rattle.pw_interp_flows.proofs.forms.returning.Goals as goal
 pub returns-in-Some : goal.returns-in-Some
 unfolding return_act
 returns-in-Some c env n s =
-    ap (λ o. return_act (view_optional o) (calls env.world n) env s) c.in-Some.is ∙ value_is env n s (view_expr c.in-Some.e.now) (λ v. give (Returns (Some v)))
+    ap (λ o. return_act (view_optional o) (calls env.world n) env s) c.in-Some.is ∙ value_is env n s (view_expr c.in-Some.e) (λ v. give (Returns (Some v)))
 
 pub returns-in-None : goal.returns-in-None
 unfolding return_act

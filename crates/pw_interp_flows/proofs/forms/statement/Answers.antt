@@ -1,5 +1,6 @@
-use Rattle.std.proofs.Common.{ap, ◌∙◌}
-use Rattle.pw_typed.specs.Views.{view_initialisers, view_stmt_form, view_stmts}
+use Rattle.std.proofs.Common.{ap, sym, ◌∙◌}
+use Rattle.pw_types.specs.TypedTrees.{Switch}
+use Rattle.pw_typed.specs.Views.{view_cases, view_expr, view_initialisers, view_stmt, view_stmt_form, view_stmts}
 use Rattle.pw_typed.proofs.Rows.{block_view, if_view}
 use Rattle.pw_interp_todo.specs.Flows.{view_entry}
 use Rattle.pw_interp_flows.proofs.Forming.{block_is, break_is, continue_is, do_is, empty_is, evaluate_is, for_is, goto_is, if_is, label_is, return_is, while_is}
@@ -65,8 +66,9 @@ pub returns-in-Switch : goal.returns-in-Switch
 unfolding view_stmt_form
 returns-in-Switch c e n s =
     let t = c.args.s.now.token in
-    let at = view_entry c.args.at in
-    c.switch.ensures t _ _ (ap (view_stmt_form t) c.in-Switch.is) e n s
+    let b = c.in-Switch in
+    c.switch.ensures t (view_cases b.field-1.items) b.field-2
+    (ap (view_stmt_form t) b.is ∙ ap (λ x. Switch t (view_expr b.e) (view_cases b.field-1.items) b.field-2 (view_stmt x)) (sym c.deref.ensures)) e n s
 
 pub returns-in-Goto : goal.returns-in-Goto
 unfolding view_stmt_form

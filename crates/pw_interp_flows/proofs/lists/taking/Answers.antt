@@ -1,21 +1,26 @@
-use Rattle.std.proofs.Common.{subst, ◌∙◌}
+use Rattle.std.proofs.Common.{sym, ◌∙◌}
 use Rattle.pw_typed.specs.Views.{view_stmt}
+use Rattle.pw_cmean.specs.Execution.{caught}
 use Rattle.pw_cmean.specs.SourceRun.{calls}
 use Rattle.pw_interp_todo.specs.Flows.{view_entry}
+use Rattle.pw_interp_todo.specs.Members.{taken_in}
+use Rattle.pw_interp_todo.specs.Parts.{again_act, doing_act, once_of}
 use Rattle.pw_interp_todo.proofs.ActLaws.{lead_same}
-use Rattle.pw_interp_flows.specs.Entering.{OnceOf}
-use Rattle.pw_interp_flows.proofs.Listing.{taking_is, taking_none}
+use Rattle.pw_interp_flows.proofs.Listing.{none_taken, passes_once, taking_is, taking_none}
 use Rattle.pw_interp_flows.proofs.lists.taking.Goals as goal
 
-pub returns-in-Some : goal.returns-in-Some
-returns-in-Some c e n s =
-    let a = view_stmt c.args.s.now in
-    let at = view_entry c.args.at in
-    taking_is e n s a at ∙ lead_same _ _ _ s ((subst (OnceOf a at) c.in-Some.is c.once.ensures) e n s)
+pub once-requires : goal.once-requires
+once-requires c = sym c.takes_up.ensures ∙ c.if-takes_up.true
 
-pub returns-in-None : goal.returns-in-None
-returns-in-None c e n s =
+pub returns-then-takes_up : goal.returns-then-takes_up
+returns-then-takes_up c e n s =
     let a = view_stmt c.args.s.now in
     let at = view_entry c.args.at in
-    let none = subst (OnceOf a at) c.in-None.is c.once.ensures in
-    taking_none e n s a at none.0 (λ cs from. none.1 e cs from)
+    let cs = calls e.world n in
+    taking_is e n s a at ∙ lead_same (once_of a e at cs) (doing_act c.once.result e n) (caught (taken_in a) (again_act a e cs)) s (c.once.ensures e n s)
+
+pub returns-else-takes_up : goal.returns-else-takes_up
+returns-else-takes_up c e n s =
+    let a = view_stmt c.args.s.now in
+    let is = sym c.takes_up.ensures ∙ c.if-takes_up.false in
+    taking_none e n s a (view_entry c.args.at) (none_taken a is) (passes_once a is e)

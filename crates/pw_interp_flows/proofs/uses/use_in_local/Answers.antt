@@ -17,7 +17,7 @@ returns-in-Some c n =
     let i = c.args.i in
     let first = c.in-Some.first.now in
     followed (named (ap (λ l. initialised l (members_in (view_stmt c.args.s.now)) e (calls e.world n) c.args.given)
-        (initialiser_at list i first c.initialisers_in.ensures (slice_get_read list (length list) i first refl (ltb-true i (length list) (sym c.in-Some.ensures.lookup.0)) c.in-Some.ensures.lookup.1))))
+    (initialiser_at list i first c.initialisers_in.ensures (slice_get_read list (length list) i first refl (ltb-true i (length list) (sym c.in-Some.ensures.lookup.0)) c.in-Some.ensures.lookup.1))))
     (c.initialise_with.ensures n)
 
 pub returns-in-None : goal.returns-in-None
@@ -27,5 +27,5 @@ returns-in-None c n =
     let list = c.initialisers_in.result.now in
     let i = c.args.i in
     followed (named (ap (λ l. initialised l (members_in (view_stmt c.args.s.now)) e (calls e.world n) c.args.given)
-        (initialiser_past list i c.initialisers_in.ensures (slice_get_past list i (ltb-false i (length list) (sym c.in-None.ensures.lookup.0))))))
+    (initialiser_past list i c.initialisers_in.ensures (slice_get_past list i (ltb-false i (length list) (sym c.in-None.ensures.lookup.0))))))
     (left_so _ refl stays)

@@ -26,4 +26,4 @@ returns-in-Call-clause-taken c = λ e n rest.
     c.loop-last.invariant e n rest
     ∙ popped_is c.pop.new.self.items c.in-Some.last c.loop-last.todo.items e n (Listed (reverse values)) c.in-Some.ensures.items rest
     ∙ ap (λ k. after k (resume c.pop.new.self.items rest) e n (Listed (reverse values))) c.in-Call.is
-    ∙ ap (λ vs. call_behind c.in-Call.callee vs e n >>= λ given. resume c.pop.new.self.items rest e n (Gave given)) (sym c.reverse.ensures)
+    ∙ ap (λ vs. call_behind c.in-Call.callee vs e n >>= λ given. resume c.pop.new.self.items rest e n (Gave given)) (sym c.reverse.ensures.items)

@@ -14,7 +14,7 @@ returns-in-Some c =
     let call = c.args.call.now in
     let e = view_env call.env in
     let d = c.args.what in
-    call_named (λ rest. ap (λ p. part_act p (view_stmt d.of.now) (view_entry d.at) e call.bound >>= λ flow. rest e c.args.bound (Flowed flow)) c.in-Some.ensures) c.open.ensures
+    call_named (λ rest. ap (λ p. part_act p (view_stmt d.of.now) (view_entry d.at) e call.bound >>= λ flow. rest e c.args.bound (Flowed flow)) c.in-Some.ensures) c.open_block.ensures
 
 pub returns-in-None : goal.returns-in-None
 returns-in-None c = c.begin_step.ensures

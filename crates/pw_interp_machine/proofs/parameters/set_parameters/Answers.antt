@@ -4,7 +4,7 @@ use Rattle.pw_cmean.specs.SourceRun.{set_parameters}
 use Rattle.pw_interp_calls.specs.Views.{view_env}
 use Rattle.pw_interp_calls.proofs.AnswerLaws.{given_by, gives, same, then_err, no_memory}
 use Rattle.pw_interp_todo.proofs.LeadLaws.{behind_given, further, named, stays}
-use Rattle.pw_interp_machine.proofs.Arguments.{parameters_at, parameters_past}
+use Rattle.pw_interp_machine.proofs.ArgumentLaws.{parameters_at, parameters_past}
 use Rattle.pw_interp_machine.proofs.Opening.{answers_so}
 use Rattle.pw_interp_machine.proofs.parameters.set_parameters.Goals as goal
 

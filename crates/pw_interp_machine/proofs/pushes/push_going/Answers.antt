@@ -28,9 +28,9 @@ returns-in_ok-push-in-Then c e rest w =
     let n = c.args.bound.now in
     let b = c.in-Then in
     left_so _ refl (same_lead (λ s.
-        ap (λ x. (going_act x e n >>= λ flow. resume todo rest e c.args.after (Flowed flow)) s) b.is
-        ∙ behind_part todo rest e n b.what b.rest c.args.after s
-        ∙ ap (λ items. (doing_act b.what e n >>= λ flow. resume items rest e n (Flowed flow)) s) (sym c.in_ok-push-in-Then.ensures.items)))
+    ap (λ x. (going_act x e n >>= λ flow. resume todo rest e c.args.after (Flowed flow)) s) b.is
+    ∙ behind_part todo rest e n b.what b.rest c.args.after s
+    ∙ ap (λ items. (doing_act b.what e n >>= λ flow. resume items rest e n (Flowed flow)) s) (sym c.in_ok-push-in-Then.ensures.items)))
 
 pub returns-in_err-push-in-Ask : goal.returns-in_err-push-in-Ask
 returns-in_err-push-in-Ask c e rest w = no_memory (search rules)
@@ -42,6 +42,6 @@ returns-in_ok-push-in-Ask c e rest w =
     let n = c.args.bound.now in
     let b = c.in-Ask in
     left_so _ refl (same_lead (λ s.
-        ap (λ x. (going_act x e n >>= λ flow. resume todo rest e c.args.after (Flowed flow)) s) b.is
-        ∙ behind_value todo rest e n b.asked b.given c.args.after s
-        ∙ ap (λ items. (asked_act b.asked e n >>= λ r. resume items rest e n (Gave r)) s) (sym c.in_ok-push-in-Ask.ensures.items)))
+    ap (λ x. (going_act x e n >>= λ flow. resume todo rest e c.args.after (Flowed flow)) s) b.is
+    ∙ behind_value todo rest e n b.asked b.given c.args.after s
+    ∙ ap (λ items. (asked_act b.asked e n >>= λ r. resume items rest e n (Gave r)) s) (sym c.in_ok-push-in-Ask.ensures.items)))

@@ -22,5 +22,5 @@ pub returns-in_ok-lowered-in-Back : goal.returns-in_ok-lowered-in-Back
 unfolding control_act
 returns-in_ok-lowered-in-Back c e rest w =
     left_so _ refl (named (
-        ap (λ t. going_act (G.On t c.args.what) e c.args.bound.now >>= λ flow. rest e c.args.after (Flowed flow)) c.in-Back.is
-        ∙ ap (λ act. act >>= λ flow. rest e c.args.after (Flowed flow)) (back_more c.args.what e c.args.bound.now c.in_ok-lowered-in-Back.lowered c.in_ok-lowered-in-Back.ensures.lower)))
+    ap (λ t. going_act (G.On t c.args.what) e c.args.bound.now >>= λ flow. rest e c.args.after (Flowed flow)) c.in-Back.is
+    ∙ ap (λ act. act >>= λ flow. rest e c.args.after (Flowed flow)) (back_more c.args.what e c.args.bound.now c.in_ok-lowered-in-Back.lowered c.in_ok-lowered-in-Back.ensures.lower)))

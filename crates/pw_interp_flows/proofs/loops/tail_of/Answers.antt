@@ -5,7 +5,7 @@ use Rattle.pw_cmean.specs.SourceRun.{calls}
 use Rattle.pw_interp_todo.specs.Loops.{top_or_leave}
 use Rattle.pw_interp_flows.specs.Looping.{tail_act}
 use Rattle.pw_interp_flows.proofs.Turning.{always_is, back_or, left_or, never_is}
-use Rattle.pw_interp_flows.proofs.loops.tail.Goals as goal
+use Rattle.pw_interp_flows.proofs.loops.tail_of.Goals as goal
 
 pub returns-in-Condition : goal.returns-in-Condition
 returns-in-Condition c e n s =

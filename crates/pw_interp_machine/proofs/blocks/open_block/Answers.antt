@@ -7,7 +7,7 @@ use Rattle.pw_interp_todo.specs.Members.{count_in, first_in}
 use Rattle.pw_interp_todo.specs.Resuming.{Flowed, control_act, resume}
 use Rattle.pw_interp_todo.proofs.LeadLaws.{left_so, named}
 use Rattle.pw_interp_machine.proofs.Opening.{opened_is}
-use Rattle.pw_interp_machine.proofs.blocks.open.Goals as goal
+use Rattle.pw_interp_machine.proofs.blocks.open_block.Goals as goal
 
 pub returns-else-made-lt-count : goal.returns-else-made-lt-count
 unfolding control_act
@@ -15,7 +15,7 @@ returns-else-made-lt-count c =
     let call = c.args.call.now in
     let e = view_env call.env in
     let s = view_stmt c.args.of.now in
-    let all : count_in s ≤ c.args.made = omega (arith, ap (λ p. p.1) c.locals_in.ensures) in
+    let all : count_in s ≤ c.args.made = omega (arith, c.locals_in.ensures.count) in
     record {
       steps = λ rest. left_so _ refl (named (ap (λ act. act >>= λ flow. resume call.todo.items rest e c.args.bound (Flowed flow)) (opened_is s (view_entry c.args.at) e call.bound c.args.made all)));
       room = refl;
