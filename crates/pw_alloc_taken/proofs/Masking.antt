@@ -4,7 +4,7 @@ use Rattle.std.specs.Prelude.{Option, None, Some, IfSome, slice_get, slice_index
 use Rattle.std.specs.Int.{bit_at}
 use Rattle.std.proofs.lemmas.Bool.{cases_eq}
 use Rattle.std.proofs.lemmas.Nat.Bits.{bit_at-zero}
-use Rattle.std.proofs.lemmas.List.{take_more, take_all, get_or-set_same, get_or-set_other}
+use Rattle.std.proofs.lemmas.List.{take_more, take_all, get_or_default, get_or-set_same, get_or-set_other}
 use Rattle.std.proofs.lemmas.List.Elements.{Contains-append_left, Contains-push, Contains-push_cases}
 use Rattle.std.proofs.lemmas.Option.{same_Some}
 use Rattle.pw_live_spans.specs.Spans.{IsIn, Covers}
@@ -27,8 +27,9 @@ pub first_none : {X : Type 0} (xs : List X) (y : X) → ¬ Contains (take 0 xs) 
 first_none [] y c = let lt : c.0 < 0 = c.1 in omega (arith, lt)
 first_none (x ∷ xs) y c = let lt : c.0 < 0 = c.1 in omega (arith, lt)
 
-pub span_item : {X : Type 0} (xs : List X) (k : ℕ) (x : X) → k < length xs → x ≡ get_or xs k x → Contains xs x
-span_item xs k x lt is = (k, lt, sym is)
+-- what is read there is there, whatever is read past the end
+pub read_again : {X : Type 0} (xs : List X) (k : ℕ) (d : X) → k < length xs → get_or xs k (get_or xs k d) ≡ get_or xs k d
+read_again xs k d lt = get_or_default xs k (get_or xs k d) d lt
 
 -- the empty set
 pub zero_mask : (k : ℕ) → ¬ HasRegister 0 k

@@ -1,4 +1,4 @@
-use Rattle.std.proofs.Common.{◌∙◌, not, sym}
+use Rattle.std.proofs.Common.{◌∙◌, ℕ, not, sym}
 use Rattle.pw_db.specs.Limits.{kept_registers}
 use Rattle.pw_alloc_temps.specs.Registers.{changed_registers}
 use Rattle.pw_alloc_taken.specs.Masks.{in_mask}
@@ -7,10 +7,10 @@ use Rattle.pw_alloc_registers.proofs.colouring.first_of_all.Goals as goal
 
 pub returns-in-Some-clause-first : goal.returns-in-Some-clause-first
 returns-in-Some-clause-first c =
-    let p = λ r. not (in_mask c.args.away r) in
+    let p = λ (r : ℕ). not (in_mask c.args.away r) in
     sym (find_first p changed_registers kept_registers c.in-Some.r (sym c.first_in.ensures.first ∙ c.in-Some.is))
 
 pub returns-in-None-clause-first : goal.returns-in-None-clause-first
 returns-in-None-clause-first c =
-    let p = λ r. not (in_mask c.args.away r) in
+    let p = λ (r : ℕ). not (in_mask c.args.away r) in
     c.first_in-in-None.ensures.first ∙ sym (find_second p changed_registers kept_registers (sym c.first_in.ensures.first ∙ c.in-None.is))

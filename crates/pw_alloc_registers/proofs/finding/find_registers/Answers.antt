@@ -1,4 +1,4 @@
-use Rattle.std.proofs.Common.{◌∙◌, List, map, sym, ap, subst}
+use Rattle.std.proofs.Common.{◌∙◌, ℕ, List, map, sym, ap, subst}
 use Rattle.pw_db.specs.declared.database.Web.{Web}
 use Rattle.pw_db.specs.declared.database.Role.{Role}
 use Rattle.pw_flow.specs.Outline.{Outline}
@@ -18,5 +18,5 @@ registers-requires c = subst IsOutline (sym c.in_ok-outline.ensures) (outline_is
 pub returns : goal.returns
 returns c =
     let f = c.args.f.now in
-    let webs = λ r. c.webs_mask-webs.ensures r ∙ ap (λ (ws : List (Web × Role)). has r (map (λ w. w.0.reg) ws)) c.as_slice.ensures in
+    let webs = λ (r : ℕ). c.webs_mask-webs.ensures r ∙ ap (λ (ws : List (Web × Role)). has r (map (λ w. w.0.reg) ws)) c.as_slice.ensures in
     c.in_ok-registers.ensures (map (λ w. w.0.reg) f.directives.webs) webs ∙ ap (λ (o : Outline). registers o (map (λ w. w.0.reg) f.directives.webs)) c.in_ok-outline.ensures

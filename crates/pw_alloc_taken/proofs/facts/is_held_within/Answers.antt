@@ -1,4 +1,4 @@
-use Rattle.std.proofs.Common.{false, arith}
+use Rattle.std.proofs.Common.{arith}
 use Rattle.std.proofs.lemmas.Bool.{both_ways}
 use Rattle.pw_alloc_taken.specs.Makers.{IsOverCall}
 use Rattle.pw_alloc_taken.proofs.Masking.{found_within, none_within, none_more}

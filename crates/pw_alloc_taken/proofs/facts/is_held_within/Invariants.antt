@@ -4,6 +4,6 @@ use Rattle.pw_alloc_taken.proofs.facts.is_held_within.Given as goal
 
 abbrev pub invariant-loop-p : goal.invariant-loop-p
 invariant-loop-p l = record {
-  low : l.span.0 ≤ l.p;
-  none : (q : ℕ) → l.span.0 ≤ q → q < l.p → ¬ IsOverCall l.makers l.calls l.t q;
+  low : l.fn.span.0 ≤ l.p;
+  none : (q : ℕ) → l.fn.span.0 ≤ q → q < l.p → ¬ IsOverCall l.makers l.calls l.t q;
 }

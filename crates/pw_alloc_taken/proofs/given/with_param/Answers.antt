@@ -1,4 +1,4 @@
-use Rattle.std.proofs.Common.{true, inl, inr}
+use Rattle.std.proofs.Common.{inl, inr}
 use Rattle.pw_alloc_taken.proofs.given.with_param.Goals as goal
 
 pub returns-then-is_param : goal.returns-then-is_param

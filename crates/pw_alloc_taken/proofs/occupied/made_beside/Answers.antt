@@ -1,8 +1,9 @@
-use Rattle.std.proofs.Common.{ℕ, List, sym, subst}
+use Rattle.std.proofs.Common.{ℕ, List, get_or, subst}
 use Rattle.std.specs.Prelude.{◌↔◌}
 use Rattle.std.proofs.lemmas.List.{take_all}
+use Rattle.std.proofs.lemmas.List.Elements.{Contains-get_or}
 use Rattle.pw_alloc_taken.specs.Masks.{HasRegister, IsMadeBeside}
-use Rattle.pw_alloc_taken.proofs.Masking.{beside_none, beside_more, zero_mask, span_item}
+use Rattle.pw_alloc_taken.proofs.Masking.{beside_none, beside_more, zero_mask, read_again}
 use Rattle.pw_alloc_taken.proofs.occupied.made_beside.Goals as goal
 
 pub loop-place-init : goal.loop-place-init
@@ -12,11 +13,13 @@ loop-place-init c = λ k. (
 )
 
 pub with_span-more-requires-clause-points : goal.with_span-more-requires-clause-points
-with_span-more-requires-clause-points c = λ p low high. c.requires.points p (c.index-spans-place.result, span_item c.args.spans.now c.loop-place.place c.index-spans-place.result c.loop-place-test.true c.index-spans-place.is, (low, high))
+with_span-more-requires-clause-points c = λ p low high. c.requires.points p (get_or c.args.spans.now c.loop-place.place (0, 0), Contains-get_or c.args.spans.now c.loop-place.place (0, 0) c.loop-place-test.true, (low, high))
 
 pub loop-place-preserved : goal.loop-place-preserved
 loop-place-preserved c =
-    beside_more c.args.makers.now c.args.registers.now c.args.spans.now c.loop-place.place c.index-spans-place.result (HasRegister c.with_span-more.result) (HasRegister c.loop-place.beside) c.loop-place-test.true (sym c.index-spans-place.is)
+    let spans = c.args.spans.now in
+    let place = c.loop-place.place in
+    beside_more c.args.makers.now c.args.registers.now spans place (get_or spans place (0, 0)) (HasRegister c.with_span-more.result) (HasRegister c.loop-place.beside) c.loop-place-test.true (read_again spans place (0, 0) c.loop-place-test.true)
     c.with_span-more.ensures c.loop-place.invariant
 
 pub returns : goal.returns

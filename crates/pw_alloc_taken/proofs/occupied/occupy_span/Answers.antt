@@ -1,6 +1,6 @@
-use Rattle.std.proofs.Common.{◌≡◌, ◌⊎◌, ◌<◌, ◌∙◌, ℕ, length, arith, rules, refl, subst}
-use Rattle.std.specs.Prelude.{slice_index, ◌↔◌}
-use Rattle.std.proofs.lemmas.List.{get_or_default, length-set}
+use Rattle.std.proofs.Common.{◌<◌, ◌∙◌, ℕ, length, arith, rules, refl}
+use Rattle.std.specs.Prelude.{slice_index}
+use Rattle.std.proofs.lemmas.List.{length-set}
 use Rattle.pw_alloc_taken.specs.Masks.{HasRegister}
 use Rattle.pw_alloc_taken.proofs.Masking.{over_none, over_more, over_end}
 use Rattle.pw_alloc_taken.proofs.occupied.occupy_span.Goals as goal
@@ -25,19 +25,16 @@ pub loop-p-preserved : goal.loop-p-preserved
 loop-p-preserved c =
     let p = c.loop-p.p in
     let cur = c.loop-p.occupied in
-    let inv = c.loop-p.invariant in
-    let low = inv.low in
-    let long = inv.long in
+    let low = c.loop-p.invariant.low in
+    let long = c.loop-p.invariant.long in
     let lt = c.requires.points p low c.loop-p-test.true in
     let here : p < length cur = omega (arith, lt, long) in
     let mask = c.with_register-mask.result in
-    let is : c.index-occupied-p.result ≡ slice_index cur p = c.index-occupied-p.is ∙ get_or_default cur p c.index-occupied-p.result 0 here in
-    let now = subst (λ (m : ℕ). (k : ℕ) → HasRegister mask k ↔ (HasRegister m k ⊎ (k ≡ c.args.r))) is c.with_register-mask.ensures in
     record {
       long = length-set cur p mask ∙ long;
       low = omega (arith, low);
       high = omega (arith, c.loop-p-test.true);
-      each = over_more cur _ c.args.span.0 p c.args.r mask (λ (q k : ℕ). HasRegister (slice_index c.args.occupied.now q) k) low here refl now inv.each;
+      each = over_more cur _ c.args.span.0 p c.args.r mask (λ (q k : ℕ). HasRegister (slice_index c.args.occupied.now q) k) low here refl c.with_register-mask.ensures c.loop-p.invariant.each;
     }
 
 pub returns-clause-each : goal.returns-clause-each

@@ -1,5 +1,6 @@
-use Rattle.std.proofs.Common.{◌<◌, length, arith, rules, refl}
-use Rattle.std.proofs.lemmas.Option.{slice_get_read}
+use Rattle.std.proofs.Common.{◌<◌, get_or, length, arith, rules}
+use Rattle.std.specs.Prelude.{None}
+use Rattle.std.proofs.lemmas.Option.{slice_get-get_or}
 use Rattle.pw_alloc_taken.specs.Masks.{HasRegister}
 use Rattle.pw_alloc_taken.proofs.Masking.{span_none, span_more, span_end, maker_below}
 use Rattle.pw_alloc_taken.proofs.occupied.with_span.Goals as goal
@@ -20,20 +21,19 @@ with_maker-more-requires-clause-maker c =
     let makers = c.args.makers.now in
     let p = c.loop-p.p in
     let lt = c.requires.points p c.loop-p.invariant.low c.loop-p-test.true in
-    maker_below (length c.args.registers.now) makers p c.index-makers-p.result c.requires.makers (slice_get_read makers (length makers) p c.index-makers-p.result refl lt c.index-makers-p.is)
+    maker_below (length c.args.registers.now) makers p (get_or makers p None) c.requires.makers (slice_get-get_or makers p None lt)
 
 pub loop-p-preserved : goal.loop-p-preserved
 loop-p-preserved c =
     let makers = c.args.makers.now in
     let p = c.loop-p.p in
-    let inv = c.loop-p.invariant in
-    let low = inv.low in
+    let low = c.loop-p.invariant.low in
     let lt = c.requires.points p low c.loop-p-test.true in
-    let at = slice_get_read makers (length makers) p c.index-makers-p.result refl lt c.index-makers-p.is in
     record {
       low = omega (arith, low);
       high = omega (arith, c.loop-p-test.true);
-      holds = span_more makers c.args.registers.now c.args.span.0 p c.index-makers-p.result (HasRegister c.with_maker-more.result) (HasRegister c.loop-p.joined) (HasRegister c.args.mask) low at c.with_maker-more.ensures inv.holds;
+      holds = span_more makers c.args.registers.now c.args.span.0 p (get_or makers p None) (HasRegister c.with_maker-more.result) (HasRegister c.loop-p.joined) (HasRegister c.args.mask) low (slice_get-get_or makers p None lt)
+          c.with_maker-more.ensures c.loop-p.invariant.holds;
     }
 
 pub returns : goal.returns

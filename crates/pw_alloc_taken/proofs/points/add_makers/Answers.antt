@@ -1,4 +1,4 @@
-use Rattle.std.proofs.Common.{◌≡◌, ◌+◌, ◌<◌, ◌≤◌, ◌∷◌, ◌++◌, ℕ, List, get_or, length, map, sym, ap, subst, ◌∙◌}
+use Rattle.std.proofs.Common.{◌≡◌, ◌<◌, ◌≤◌, ◌∷◌, ◌++◌, ℕ, List, get_or, length, map, sym, ap, subst, ◌∙◌}
 use Rattle.std.specs.Prelude.{Option, None}
 use Rattle.std.proofs.lemmas.List.{take_all}
 use Rattle.pw_flow.specs.Outline.{Act}
@@ -15,7 +15,7 @@ loop-act-preserved c =
     let a = c.act-item.result in
     let lt : k < length acts = subst (λ (xs : List Act). k < length xs) c.acts-act-items.ensures c.loop-act-test.true in
     let is : get_or acts k a ≡ a = sym (subst (λ (xs : List Act). a ≡ get_or xs k a) c.acts-act-items.ensures c.act-item.is) in
-    made_more acts a k c.defines.result c.args.makers.now.items c.loop-act.makers.items c.push-2.new.self.items lt is c.defines.ensures c.in_ok-push-2.ensures.items c.loop-act.invariant
+    made_more acts a k c.defines.result c.args.makers.now.items c.loop-act.makers.items c.push-in-loop-act.new.self.items lt is c.defines.ensures c.in_ok-push-2.ensures.items c.loop-act.invariant
 
 pub returns : goal.returns
 returns c =

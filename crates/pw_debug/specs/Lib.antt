@@ -1,0 +1,3 @@
+pub mod Knowing
+pub mod Holding
+pub mod Walk
