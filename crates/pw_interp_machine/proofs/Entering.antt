@@ -54,7 +54,7 @@ object_leads {world = world} {w = w} size writable act = record {
 }
 
 -- what is behind an act whose result is given on
-pub behind_nothing : {A : Type 0} (act : Act A) (s : State) → (act >>= λ a. give tt >> give a) s ≡ act s
+pub behind_nothing : {A : Type 0} (act : Act A) (s : State) → (act >>= λ a. give (tt {0}) >> give a) s ≡ act s
 unfolding ◌>>=◌ go_on give
 behind_nothing {A = A} act s = by (act s)
   where

@@ -9,9 +9,9 @@ use Rattle.pw_interp_todo.proofs.LeadLaws.{left_so, named}
 use Rattle.pw_interp_machine.proofs.Opening.{opened_is}
 use Rattle.pw_interp_machine.proofs.blocks.open_block.Goals as goal
 
-pub returns-else-made-lt-count : goal.returns-else-made-lt-count
+pub returns-else-made-count : goal.returns-else-made-count
 unfolding control_act
-returns-else-made-lt-count c =
+returns-else-made-count c =
     let call = c.args.call.now in
     let e = view_env call.env in
     let s = view_stmt c.args.of.now in

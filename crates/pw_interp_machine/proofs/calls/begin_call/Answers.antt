@@ -28,8 +28,8 @@ returns-then-has_room c n more =
     begins_opened world n c.args.bound home f c.args.args.now more room
     (framed world n c.args.bound home f c.args.args.now more (view_env c.in_ok-outer.outer) _ c.in_ok-outer.ensures (ap (λ f. f + used) frame) c.open_framed.ensures)
 
-pub returns-else-has_room : goal.returns-else-has_room
-returns-else-has_room c n more =
+pub returns : goal.returns
+returns c n more =
     let world = view_world c.args.world.now in
     let home = view_part c.args.home in
     let f = view_function c.args.f.now in

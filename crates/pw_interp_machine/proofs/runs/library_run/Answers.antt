@@ -14,7 +14,7 @@ returns-in_err-given c n =
     let world = view_world c.args.world.now in
     let main = (callable_of c.args.main).body in
     starts_named (ap (λ f. call world (calls world n) (callable_of f) [] >>= finish main) c.requires)
-    (starts_stopped _ (search rules) (stops_on _ _ (answer_stops (c.call_library.ensures n) c.in_err-given.was)))
+    (starts_stopped _ (search rules) (stops_on _ _ _ _ _ _ (answer_stops (c.call_library.ensures n) c.in_err-given.was)))
 
 pub returns : goal.returns
 returns c n =
