@@ -279,11 +279,11 @@ pub starts_stopped : {main : Body} {world : World} {act : Act (Unit {0})} {befor
 starts_stopped {main = main} {world = world} {act = act} {before = before} {behind = behind} why is s = subst (λ x. Starts main world act before x behind) (sym is) (record { starts = tt; stopped = s })
 
 -- the machine of a call that begins, which has no callers
-pub starts_at : {main : Body} {world : World} {act : Act (Option Value)} {before behind : Shown} (m : Machine) (body : Statement) → m.callers.items ≡ []
+pub starts_at : {main : Body} {world : World} (act : Act (Option Value)) {before behind : Shown} (m : Machine) (body : Statement) → m.callers.items ≡ []
     → ((rest : Rest) (s : State) → body_first body m.call rest s ≡ control_act m.control (view_env m.call.env) m.call.bound rest s)
     → ((next : Option Value → Act (Unit {0})) (s : State) → shown world s ≡ before → InCall world m.call (body_first body m.call) next behind ((act >>= next) s))
     → Starts main world (act >>= finish main) before (Ok m) behind
-starts_at {main = main} {world = world} {act = act} {behind = behind} m body none same begun = record {
+starts_at {main = main} {world = world} act {behind = behind} m body none same begun = record {
   starts = λ s e.
       let there = begun (finish main) s e in
       let run : InCall world m.call (control_act m.control (view_env m.call.env) m.call.bound) (finish main) behind ((act >>= finish main) s) = record {

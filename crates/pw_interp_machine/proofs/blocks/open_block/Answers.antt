@@ -15,7 +15,7 @@ returns-else-made-count c =
     let call = c.args.call.now in
     let e = view_env call.env in
     let s = view_stmt c.args.of.now in
-    let all : count_in s ≤ c.args.made = omega (arith, c.locals_in.ensures.count) in
+    let all : count_in s ≤ c.args.made = first_of (omega (arith, c.locals_in-first.ensures.count, c.if-made-count.false), omega (arith, c.locals_in-first.ensures.count)) in
     record {
       steps = λ rest. left_so _ refl (named (ap (λ act. act >>= λ flow. resume call.todo.items rest e c.args.bound (Flowed flow)) (opened_is s (view_entry c.args.at) e call.bound c.args.made all)));
       room = refl;

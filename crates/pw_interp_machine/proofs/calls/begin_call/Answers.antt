@@ -5,6 +5,7 @@ use Rattle.pw_interp_world.specs.Views.{view_part}
 use Rattle.pw_interp_state.specs.Shown.{view_state}
 use Rattle.pw_interp_calls.specs.Views.{view_env}
 use Rattle.pw_interp_calls.specs.WorldViews.{view_world}
+use Rattle.pw_interp_calls.specs.declared.ending.Ending.TheVariants as E
 use Rattle.pw_interp_calls.specs.declared.ending.Stop.TheVariants as S
 use Rattle.pw_interp_machine.proofs.Opening.{begins_err, begins_full, begins_opened, framed}
 use Rattle.pw_interp_machine.proofs.Rooms.{full_test, room_test}
@@ -37,4 +38,4 @@ returns c n more =
     let frame = c.frame-frame.ensures ∙ ap world.frame_of (c.as_bytes-name.ensures.bytes ∙ c.in_ok-full.ensures) in
     let test = sym c.has_room.ensures ∙ c.if-has_room.false in
     let full = ap (λ f. nat_lt world.stack (f + used)) (sym frame) ∙ full_test _ test in
-    begins_err _ (search rules) (begins_full world n c.args.bound home f c.args.args.now more full)
+    begins_err (S.Ended E.StackFull) (search rules) (begins_full world n c.args.bound home f c.args.args.now more full)

@@ -22,4 +22,4 @@ returns c main world act before behind b =
     let body = (view_function c.args.f.now).body in
     let Begun : Call → Type 0 = λ call. (next : Option Value → Act (Unit {0})) (s : State) → shown world s ≡ before → InCall world call (body_first body call) next behind ((act >>= next) s) in
     let begun = subst (λ r. IfOk r Begun) c.in_ok-call.was b.begun in
-    starts_at _ body c.new-callers.ensures.items (λ rest s. refl) begun
+    starts_at act _ body c.new-callers.ensures.items (λ rest s. refl) begun
