@@ -1,6 +1,6 @@
 -- Blocks and calls that begin, as what their insides lead to.
-use Rattle.std.proofs.Common.{ℕ, zero, suc, ◌+◌, ◌-◌, ◌≡◌, ◌<◌, ◌≤◌, refl, sym, ap, subst, ◌∙◌, add-one, Option, Some, None, List, [], ◌∷◌, ◌++◌, length, drop, Result, Ok, Err, arith, option_and_then}
-use Rattle.std.specs.Prelude.{true, false, nat_lt, slice_get, slice_set, replicate}
+use Rattle.std.proofs.Common.{ℕ, zero, suc, ◌+◌, ◌-◌, ◌≡◌, ◌<◌, ◌≤◌, refl, sym, ap, subst, ◌∙◌, add-one, Option, Some, None, List, [], ◌∷◌, ◌++◌, length, Result, Ok, Err, arith, option_and_then}
+use Rattle.std.specs.Prelude.{true, false, nat_lt, slice_get, slice_set}
 use Rattle.pw_value.specs.declared.value.Value.{Value}
 use Rattle.pw_value.specs.Objects.{Object, with_object as with_new_object}
 use Rattle.pw_types.specs.TypeTrees.{type_of}
@@ -13,7 +13,7 @@ use Rattle.pw_interp_state.specs.Runs.{Runs}
 use Rattle.pw_interp_state.proofs.RunLaws.{ends, stopped, active_shows, room_shows, full_shows, goes_on as runs_on}
 use Rattle.pw_cmean.specs.Worlds.{World, ProgramModule, Callable, callable, full_name}
 use Rattle.pw_cmean.specs.Acts.{Act, State, Wrong, StackFull, Bound, give, stop, ◌>>=◌, ◌>>◌, end_object, called, during}
-use Rattle.pw_cmean.specs.Evaluation.{Env, Calls, site, records_of, bounded_call, take_room}
+use Rattle.pw_cmean.specs.Evaluation.{Env, site, records_of, bounded_call, take_room}
 use Rattle.pw_cmean.specs.Execution as execution
 use Rattle.pw_cmean.specs.Execution.{Front, meaning, with_locals, with_number}
 use Rattle.pw_cmean.specs.SourceRun.{calls, callee, run_body, outermost, set_parameters, result_of}
@@ -23,7 +23,6 @@ use Rattle.pw_interp_calls.specs.declared.ending.Stop.TheVariants as S
 use Rattle.pw_interp_calls.specs.Answers.{Answers, Stops}
 use Rattle.pw_interp_calls.specs.Endings.{view_ending}
 use Rattle.pw_interp_calls.specs.Views.{view_env}
-use Rattle.pw_interp_calls.proofs.AnswerLaws.{given_by}
 use Rattle.pw_interp_todo.specs.declared.statements.Part.TheVariants as P
 use Rattle.pw_interp_todo.specs.declared.todo.Todo.{Todo}
 use Rattle.pw_interp_todo.specs.declared.todo.Todo.TheVariants as T

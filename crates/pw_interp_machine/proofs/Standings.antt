@@ -19,7 +19,6 @@ use Rattle.pw_interp_calls.specs.declared.ending.Stop.TheVariants as S
 use Rattle.pw_interp_calls.specs.Answers.{Answers, Stops}
 use Rattle.pw_interp_calls.specs.Endings.{told_stop, view_ending}
 use Rattle.pw_interp_calls.specs.Views.{view_env}
-use Rattle.pw_interp_todo.specs.declared.todo.Control.{Control}
 use Rattle.pw_interp_todo.specs.declared.todo.Control.TheVariants as C
 use Rattle.pw_interp_todo.specs.declared.todo.Todo.{Todo}
 use Rattle.pw_interp_todo.specs.Leading.{Leads, Continues}
@@ -31,8 +30,8 @@ use Rattle.pw_interp_machine.specs.declared.machine.Call.{Call}
 use Rattle.pw_interp_machine.specs.declared.machine.Machine.{Machine}
 use Rattle.pw_interp_machine.specs.Waiting.{Active, leave, ended, goes_on, callers_act}
 use Rattle.pw_interp_machine.specs.Standing.{IsCall, AreCalls, InCall, StandsAt, Stands}
-use Rattle.pw_interp_machine.specs.Stepping.{StepsCall, Begins, EndsSo, Starts, Steps, StepsAt, body_first}
-use Rattle.pw_interp_machine.proofs.Callers.{Last, callers_last, calls_last, last_of}
+use Rattle.pw_interp_machine.specs.Stepping.{StepsCall, EndsSo, Starts, Steps, StepsAt, body_first}
+use Rattle.pw_interp_machine.proofs.Callers.{callers_last, calls_last, last_of}
 
 -- ---- what code answers that does the first steps of an act
 

@@ -1,4 +1,4 @@
-use Rattle.std.proofs.Common.{refl, sym, ap, ◌∙◌, [], ◌∷◌, reverse}
+use Rattle.std.proofs.Common.{sym, ap, ◌∙◌, [], ◌∷◌, reverse}
 use Rattle.std.proofs.lemmas.List.{reverse-append}
 use Rattle.pw_cmean.specs.Acts.{◌>>=◌}
 use Rattle.pw_interp_todo.specs.Operands.{call_behind}

@@ -1,9 +1,9 @@
-use Rattle.std.proofs.Common.{refl, ap, sym, ◌≤◌, ◌∙◌, arith}
+use Rattle.std.proofs.Common.{refl, ap, ◌≤◌, arith}
 use Rattle.pw_typed.specs.Views.{view_stmt}
 use Rattle.pw_cmean.specs.Acts.{◌>>=◌}
 use Rattle.pw_interp_calls.specs.Views.{view_env}
 use Rattle.pw_interp_todo.specs.Flows.{view_entry}
-use Rattle.pw_interp_todo.specs.Members.{count_in, first_in}
+use Rattle.pw_interp_todo.specs.Members.{count_in}
 use Rattle.pw_interp_todo.specs.Resuming.{Flowed, control_act, resume}
 use Rattle.pw_interp_todo.proofs.LeadLaws.{left_so, named}
 use Rattle.pw_interp_machine.proofs.Opening.{opened_is}

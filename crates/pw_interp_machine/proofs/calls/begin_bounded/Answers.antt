@@ -1,9 +1,6 @@
-use Rattle.std.proofs.Common.{rules, refl, sym, ap, subst, ◌∙◌, Err}
-use Rattle.pw_cmean.specs.Acts.{stop, Bound}
+use Rattle.std.proofs.Common.{rules}
 use Rattle.pw_interp_calls.specs.Functions.{callable_of}
 use Rattle.pw_interp_calls.specs.WorldViews.{view_world}
-use Rattle.pw_interp_calls.specs.declared.ending.Ending.TheVariants as E
-use Rattle.pw_interp_calls.specs.declared.ending.Stop.TheVariants as S
 use Rattle.pw_interp_world.specs.declared.program.Body.TheVariants as B
 use Rattle.pw_interp_machine.proofs.Opening.{begins_err, bound_ends}
 use Rattle.pw_interp_machine.proofs.calls.begin_bounded.Goals as goal

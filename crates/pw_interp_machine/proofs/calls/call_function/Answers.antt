@@ -1,4 +1,4 @@
-use Rattle.std.proofs.Common.{sym, ap, subst}
+use Rattle.std.proofs.Common.{ap}
 use Rattle.pw_cmean.specs.Acts.{◌>>=◌}
 use Rattle.pw_cmean.specs.Evaluation as meaning
 use Rattle.pw_cmean.specs.SourceRun as runs

@@ -1,7 +1,5 @@
-use Rattle.std.proofs.Common.{rules, subst}
-use Rattle.std.specs.Prelude.{IfOk, IfErr}
+use Rattle.std.proofs.Common.{rules}
 use Rattle.pw_interp_state.specs.Shown.{view_state}
-use Rattle.pw_interp_calls.specs.Views.{view_env}
 use Rattle.pw_interp_todo.proofs.LeadLaws.{in_front}
 use Rattle.pw_interp_machine.proofs.Standings.{goes_by, steps_further, steps_stop, stops_by, stops_on}
 use Rattle.pw_interp_machine.proofs.calls.call_with.Goals as goal

@@ -1,8 +1,7 @@
-use Rattle.std.proofs.Common.{rules, sym, ap, subst, [], ◌∙◌}
+use Rattle.std.proofs.Common.{rules, sym, ap, [], ◌∙◌}
 use Rattle.pw_cmean.specs.Acts.{stop, ◌>>=◌}
 use Rattle.pw_cmean.specs.Evaluation.{call}
 use Rattle.pw_cmean.specs.SourceRun.{calls, finish}
-use Rattle.pw_interp_state.specs.Shown.{view_state}
 use Rattle.pw_interp_calls.specs.Functions.{callable_of}
 use Rattle.pw_interp_calls.specs.WorldViews.{view_world}
 use Rattle.pw_interp_machine.proofs.Finishing.{finish_is}
