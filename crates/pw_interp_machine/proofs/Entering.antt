@@ -1,8 +1,8 @@
 -- A call of a function that the program defines, as what its body leads to.
-use Rattle.std.proofs.Common.{ℕ, zero, suc, ◌+◌, ◌≡◌, refl, sym, ap, subst, ◌∙◌, Bool, true, false, Option, Some, None, List, [], ◌∷◌, length, Err, arith}
+use Rattle.std.proofs.Common.{ℕ, zero, suc, ◌+◌, ◌≡◌, refl, sym, ap, subst, ◌∙◌, Bool, Option, Some, None, List, length, Err, arith}
 use Rattle.std.proofs.lemmas.Grind.{common_steps}
 use Rattle.std.specs.Prelude.{slice_get}
-use Rattle.pw_value.specs.Objects.{Object, ended, with_object as with_new_object}
+use Rattle.pw_value.specs.Objects.{Object, with_object as with_new_object}
 use Rattle.pw_types.specs.TypeTrees.{type_of}
 use Rattle.pw_types.specs.TypedTrees.{LocalValue}
 use Rattle.pw_types.specs.declared.record.Layout.{Layout}
@@ -11,7 +11,7 @@ use Rattle.pw_interp_state.specs.Views.{fresh}
 use Rattle.pw_interp_state.specs.Shown.{Shown, shown}
 use Rattle.pw_interp_state.specs.Runs.{Runs}
 use Rattle.pw_interp_state.proofs.RunLaws.{given, stopped, ends, object_shows, goes_on as runs_on}
-use Rattle.pw_cmean.specs.Worlds.{World, depth}
+use Rattle.pw_cmean.specs.Worlds.{World}
 use Rattle.pw_cmean.specs.Acts.{Act, State, Outcome, Gives, Ends, Wrong, give, stop, wrong, go_on, ◌>>=◌, ◌>>◌, need, make, end_object, with_object, called, returned, during}
 use Rattle.pw_cmean.specs.Evaluation.{Env, records_of}
 use Rattle.pw_cmean.specs.Execution.{with_locals, with_number}
@@ -54,7 +54,7 @@ object_leads {world = world} {w = w} size writable act = record {
 }
 
 -- what is behind an act whose result is given on
-pub behind_nothing : {A : Type 0} (act : Act A) (s : State) → (act >>= λ a. give tt >> give a) s ≡ act s
+pub behind_nothing : {A : Type 0} (act : Act A) (s : State) → (act >>= λ a. give (tt {0}) >> give a) s ≡ act s
 unfolding ◌>>=◌ go_on give
 behind_nothing {A = A} act s = by (act s)
   where

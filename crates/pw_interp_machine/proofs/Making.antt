@@ -1,5 +1,5 @@
 -- Objects of locals, as they are made one after another and end.
-use Rattle.std.proofs.Common.{ℕ, zero, suc, ◌+◌, ◌≡◌, refl, sym, ap, ◌∙◌, add-one, List, Some, None, length, arith}
+use Rattle.std.proofs.Common.{ℕ, zero, suc, ◌+◌, ◌≡◌, sym, ap, ◌∙◌, add-one, List, Some, None, length, arith}
 use Rattle.std.specs.Prelude.{Option, slice_get, slice_set}
 use Rattle.pw_value.specs.Objects.{Object, ended, with_object as with_new_object}
 use Rattle.pw_types.specs.TypeTrees.{type_of}

@@ -1,6 +1,6 @@
 -- Blocks and calls that begin, as what their insides lead to.
-use Rattle.std.proofs.Common.{ℕ, zero, suc, ◌+◌, ◌-◌, ◌≡◌, ◌<◌, ◌≤◌, refl, sym, ap, subst, ◌∙◌, add-one, Option, Some, None, List, [], ◌∷◌, ◌++◌, length, drop, Result, Ok, Err, arith, option_and_then}
-use Rattle.std.specs.Prelude.{true, false, nat_lt, slice_get, slice_set, replicate}
+use Rattle.std.proofs.Common.{ℕ, zero, suc, ◌+◌, ◌-◌, ◌≡◌, ◌<◌, ◌≤◌, refl, sym, ap, subst, ◌∙◌, add-one, Option, Some, None, List, [], ◌∷◌, ◌++◌, length, Result, Ok, Err, arith, option_and_then}
+use Rattle.std.specs.Prelude.{true, false, nat_lt, slice_get, slice_set}
 use Rattle.pw_value.specs.declared.value.Value.{Value}
 use Rattle.pw_value.specs.Objects.{Object, with_object as with_new_object}
 use Rattle.pw_types.specs.TypeTrees.{type_of}
@@ -13,7 +13,7 @@ use Rattle.pw_interp_state.specs.Runs.{Runs}
 use Rattle.pw_interp_state.proofs.RunLaws.{ends, stopped, active_shows, room_shows, full_shows, goes_on as runs_on}
 use Rattle.pw_cmean.specs.Worlds.{World, ProgramModule, Callable, callable, full_name}
 use Rattle.pw_cmean.specs.Acts.{Act, State, Wrong, StackFull, Bound, give, stop, ◌>>=◌, ◌>>◌, end_object, called, during}
-use Rattle.pw_cmean.specs.Evaluation.{Env, Calls, site, records_of, bounded_call, take_room}
+use Rattle.pw_cmean.specs.Evaluation.{Env, site, records_of, bounded_call, take_room}
 use Rattle.pw_cmean.specs.Execution as execution
 use Rattle.pw_cmean.specs.Execution.{Front, meaning, with_locals, with_number}
 use Rattle.pw_cmean.specs.SourceRun.{calls, callee, run_body, outermost, set_parameters, result_of}
@@ -23,7 +23,6 @@ use Rattle.pw_interp_calls.specs.declared.ending.Stop.TheVariants as S
 use Rattle.pw_interp_calls.specs.Answers.{Answers, Stops}
 use Rattle.pw_interp_calls.specs.Endings.{view_ending}
 use Rattle.pw_interp_calls.specs.Views.{view_env}
-use Rattle.pw_interp_calls.proofs.AnswerLaws.{given_by}
 use Rattle.pw_interp_todo.specs.declared.statements.Part.TheVariants as P
 use Rattle.pw_interp_todo.specs.declared.todo.Todo.{Todo}
 use Rattle.pw_interp_todo.specs.declared.todo.Todo.TheVariants as T
@@ -50,6 +49,10 @@ answers_so {B = B} {view = view} {world = world} {act = act} {rest = rest} {w = 
     by (Ok b) o = record { given = runs_so one o.given; stopped = tt }
     by (Err (S.Ended ending)) o = record { given = tt; stopped = runs_so one o.stopped }
     by (Err S.NoMemory) o = record { given = tt; stopped = tt }
+
+-- an answer in the same world
+pub answers_in : {A B : Type 0} {view : B → A} {other world : World} {act : Act A} {w v : Shown} {r : Result B Stop} → other ≡ world → Answers view other act w r v → Answers view world act w r v
+answers_in {view = view} {act = act} {w = w} {v = v} {r = r} same a = subst (λ x. Answers view x act w r v) same a
 
 -- ---- locals
 
@@ -85,7 +88,7 @@ noted_is k number before e inner objects more made_so numbered is =
 abbrev inner_act : Statement → execution.Entry → World → ℕ → Env → Act execution.Flow
 inner_act s at world n e = inside (initialisers_in s) (members_in s) at (calls world n) e
 
-module _ {world : World} {w : Shown} (s : Statement) (at : execution.Entry) (e : Env) (n bound done local : ℕ) (todo : List Todo) (rest : Rest) where
+module _ (s : Statement) (at : execution.Entry) (e : Env) (n bound done local : ℕ) (todo : List Todo) (rest : Rest) where
   abbrev then_flow : execution.Flow → Act (Unit {0})
   then_flow flow = resume todo rest e bound (Flowed flow)
 
@@ -95,12 +98,12 @@ module _ {world : World} {w : Shown} (s : Statement) (at : execution.Entry) (e :
       ap (λ k. with_locals k (first_in s + done) (inner_act s at e.world n) e) count ∙ ap (λ k. with_locals (suc (count_in s - (done + 1))) k (inner_act s at e.world n) e) (sym place)
 
   -- the next local of a block
-  pub local_leads : (inner : Env) (objects : List Object) (number : ℕ) (before : Option ℕ) → done < count_in s → local ≡ first_in s + done → made_one local e w.objects ≡ Some (inner, objects)
+  pub local_leads : {world : World} {w : Shown} (inner : Env) (objects : List Object) (number : ℕ) (before : Option ℕ) → done < count_in s → local ≡ first_in s + done → made_one local e w.objects ≡ Some (inner, objects)
       → number ≡ length w.objects → put_back local before inner ≡ e → inner.world ≡ e.world
       → Leads world (part_act (P.Locals done) s at e n >>= λ flow. resume todo rest e bound (Flowed flow)) w
       (part_act (P.Locals (done + 1)) s at inner n >>= λ flow. resume (todo ++ T.EndLocal local number before ∷ []) rest inner bound (Flowed flow)) (record w { objects = objects })
   unfolding after
-  local_leads inner objects number before more place made_so numbered back home =
+  local_leads {world = world} {w = w} inner objects number before more place made_so numbered back home =
       let left = count_in s - (done + 1) in
       let others : Act execution.Flow = with_locals left (suc local) (inner_act s at e.world n) inner in
       let next : first_in s + (done + 1) ≡ suc local = omega (arith, place) in
@@ -120,9 +123,9 @@ module _ {world : World} {w : Shown} (s : Statement) (at : execution.Entry) (e :
       (named (ap (λ act. act >>= λ flow. resume (todo ++ k ∷ []) rest inner bound (Flowed flow)) others_are))))
 
   -- one that has no layout
-  pub local_stops : done < count_in s → local ≡ first_in s + done → made_one local e w.objects ≡ None
+  pub local_stops : {world : World} {w : Shown} → done < count_in s → local ≡ first_in s + done → made_one local e w.objects ≡ None
       → Runs world (part_act (P.Locals done) s at e n >>= λ flow. resume todo rest e bound (Flowed flow)) w (Err Wrong) w
-  local_stops more place none =
+  local_stops {world = world} {w = w} more place none =
       subst (λ act. Runs world (act >>= then_flow) w (Err Wrong) w) (sym (part_is more place))
       (ends world (with_locals (suc (count_in s - (done + 1))) local (inner_act s at e.world n) e) then_flow w w Wrong (one_stops world (inner_act s at e.world n) (count_in s - (done + 1)) local e w none))
 
@@ -182,15 +185,15 @@ module _ (world : World) (m : ℕ) (f : FunctionValue) (args : List Value) (oute
       ∙ ap (λ x. (meaning f.body Front (calls x.world call.bound) x >>= λ flow. resume call.todo.items given x call.bound (Flowed flow)) s) (sym env))))
 
   -- where the arguments end the run
-  pub active_stops : {w v : Shown} {objects : List Object} (stop : Stop) → made f.params 0 outer w.objects ≡ (Some inner, objects)
-      → Stops world (set_parameters (site inner f.token) 0 args inner) (record w { objects = objects }) stop v → Stops world active_act w stop v
+  pub active_stops : (w v : Shown) {objects : List Object} (why : Stop) → made f.params 0 outer w.objects ≡ (Some inner, objects)
+      → Stops world (set_parameters (site inner f.token) 0 args inner) (record w { objects = objects }) why v → Stops world active_act w why v
   unfolding with_arguments
-  active_stops {w = w} {v = v} {objects = objects} (S.Ended ending) made_so run =
+  active_stops w v {objects = objects} (S.Ended ending) made_so run =
       let u = record w { objects = objects } in
       runs_so (locals_lead world (with_arguments f (calls world m) args) f.params 0 outer inner w objects made_so)
       (ends world (with_arguments f (calls world m) args inner) (λ a. end_objects f.params (length w.objects) >> give a) u v (view_ending ending)
       (ends world (set_parameters (site inner f.token) 0 args inner) (λ _. meaning f.body Front (calls world m) inner >>= result_of) u v (view_ending ending) run))
-  active_stops S.NoMemory made_so run = tt
+  active_stops w v S.NoMemory made_so run = tt
 
 -- what code answers
 pub opens_so : {world : World} {act : Act (Option Value)} {body : Statement} {room : ℕ} {w v : Shown} (call : Call) → Opened world act body room w call v → Opens world act body room w (Ok call) v
@@ -208,8 +211,8 @@ pub bound_none : (world : World) (n : ℕ) (f : Callable) (args : List Value) �
 unfolding bounded_call calls
 bound_none world n f args none = ap (λ k. bounded_call (calls world k) f args) none
 
-pub bound_ends : {w : Shown} (world : World) (n : ℕ) (f : Callable) (args : List Value) (s : Stop) → n ≡ 0 → s ≡ S.Ended E.Bound → Stops world (bounded_call (calls world n) f args) w s w
-bound_ends {w = w} world n f args s none is =
+pub bound_ends : (w : Shown) (world : World) (n : ℕ) (f : Callable) (args : List Value) (s : Stop) → n ≡ 0 → s ≡ S.Ended E.Bound → Stops world (bounded_call (calls world n) f args) w s w
+bound_ends w world n f args s none is =
     subst (λ x. Stops world (bounded_call (calls world n) f args) w x w) (sym is)
     (subst (λ act. Runs world act w (Err Bound) w) (sym (bound_none world n f args none)) (stopped world Bound w))
 
@@ -245,12 +248,12 @@ module _ (world : World) (n m : ℕ) (home : ProgramModule) (f : FunctionValue) 
         comes = one.2 ∙ during_is name its_body next t ∙ two.2;
       }
 
-  pub begins_stopped : {w v : Shown} (stop : Stop) → nat_lt world.stack (world.frame_of name + w.used) ≡ false
-      → Stops world its_body (record w { used = world.frame_of name + w.used }) stop v → Stops world (bounded_call (calls world n) (callable home f) args) w stop v
-  begins_stopped {w = w} {v = v} (S.Ended ending) room run =
+  pub begins_stopped : (w v : Shown) (why : Stop) → nat_lt world.stack (world.frame_of name + w.used) ≡ false
+      → Stops world its_body (record w { used = world.frame_of name + w.used }) why v → Stops world (bounded_call (calls world n) (callable home f) args) w why v
+  begins_stopped w v (S.Ended ending) room run =
       subst (λ act. Runs world act w (Err (view_ending ending)) v) (sym begins_by)
       (runs_on world (take_room world name) (λ _. during name its_body) w w v tt (Err (view_ending ending)) (room_shows world name w room) (active_shows world name its_body w v (Err (view_ending ending)) run))
-  begins_stopped S.NoMemory room run = tt
+  begins_stopped w v S.NoMemory room run = tt
 
   pub begins_full : {w : Shown} → nat_lt world.stack (world.frame_of name + w.used) ≡ true → Stops world (bounded_call (calls world n) (callable home f) args) w (S.Ended E.StackFull) w
   begins_full {w = w} full = subst (λ act. Runs world act w (Err StackFull) w) (sym begins_by) (ends world (take_room world name) (λ _. during name its_body) w w StackFull (full_shows world name w full))
@@ -262,7 +265,7 @@ module _ (world : World) (n m : ℕ) (home : ProgramModule) (f : FunctionValue) 
     where
       by : (x : Result Call Stop) → Opens world its_body f.body w.used (record w { used = world.frame_of name + w.used }) x v → Begins world (bounded_call (calls world n) (callable home f) args) f.body w x v
       by (Ok call) o = record { begun = begins_so call room o.opened; stopped = tt }
-      by (Err stop) o = record { begun = tt; stopped = begins_stopped stop room o.stopped }
+      by (Err why) o = record { begun = tt; stopped = begins_stopped w v why room o.stopped }
 
   -- the call that is opened, by what the code holds
   pub framed : {w v : Shown} {r : Result Call Stop} (outer : Env) (used : ℕ) → outer ≡ outermost world home f → used ≡ world.frame_of name + w.used

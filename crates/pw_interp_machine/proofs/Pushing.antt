@@ -1,5 +1,5 @@
 -- What goes on the list of what is left to do is done behind what comes first.
-use Rattle.std.proofs.Common.{ℕ, ◌+◌, ◌≡◌, refl, sym, ap, subst, add-one, arith, ◌∙◌, Option, List, [], ◌∷◌, ◌++◌, length, Result, Err}
+use Rattle.std.proofs.Common.{ℕ, ◌+◌, ◌≡◌, refl, sym, ap, subst, add-one, arith, ◌∙◌, List, [], ◌∷◌, ◌++◌, length, Result, Err}
 use Rattle.std.specs.Borrow.{Bor}
 use Rattle.pw_value.specs.declared.value.Value.{Value}
 use Rattle.pw_typed.specs.declared.tree.TExpr.{TExpr}

@@ -19,7 +19,6 @@ use Rattle.pw_interp_calls.specs.declared.ending.Stop.TheVariants as S
 use Rattle.pw_interp_calls.specs.Answers.{Answers, Stops}
 use Rattle.pw_interp_calls.specs.Endings.{told_stop, view_ending}
 use Rattle.pw_interp_calls.specs.Views.{view_env}
-use Rattle.pw_interp_todo.specs.declared.todo.Control.{Control}
 use Rattle.pw_interp_todo.specs.declared.todo.Control.TheVariants as C
 use Rattle.pw_interp_todo.specs.declared.todo.Todo.{Todo}
 use Rattle.pw_interp_todo.specs.Leading.{Leads, Continues}
@@ -31,8 +30,8 @@ use Rattle.pw_interp_machine.specs.declared.machine.Call.{Call}
 use Rattle.pw_interp_machine.specs.declared.machine.Machine.{Machine}
 use Rattle.pw_interp_machine.specs.Waiting.{Active, leave, ended, goes_on, callers_act}
 use Rattle.pw_interp_machine.specs.Standing.{IsCall, AreCalls, InCall, StandsAt, Stands}
-use Rattle.pw_interp_machine.specs.Stepping.{StepsCall, Begins, EndsSo, Starts, Steps, StepsAt, body_first}
-use Rattle.pw_interp_machine.proofs.Callers.{Last, callers_last, calls_last, last_of}
+use Rattle.pw_interp_machine.specs.Stepping.{StepsCall, EndsSo, Starts, Steps, StepsAt, body_first}
+use Rattle.pw_interp_machine.proofs.Callers.{callers_last, calls_last, last_of}
 
 -- ---- what code answers that does the first steps of an act
 
@@ -47,9 +46,9 @@ gives_next {C = C} {seen = seen} {world = world} {first = first} {w = w} {u = u}
     by (Err S.NoMemory) o = record { goes = tt; stopped = tt }
 
 -- behind what stops
-pub stops_on : {A B : Type 0} {world : World} {first : Act A} {w u : Shown} (stop : Stop) (next : A → Act B) → Stops world first w stop u → Stops world (first >>= next) w stop u
-stops_on {world = world} {first = first} {w = w} {u = u} (S.Ended ending) next run = ends world first next w u (view_ending ending) run
-stops_on S.NoMemory next run = tt
+pub stops_on : {A B : Type 0} (world : World) (first : Act A) (w u : Shown) (why : Stop) (next : A → Act B) → Stops world first w why u → Stops world (first >>= next) w why u
+stops_on world first w u (S.Ended ending) next run = ends world first next w u (view_ending ending) run
+stops_on world first w u S.NoMemory next run = tt
 
 -- what code answered that did the first steps
 pub goes_by : {A B : Type 0} {left : B → Act A} {world : World} {act : Act A} {made : B} {w u : Shown} {r : Result B Stop} → Continues left world act w r u → r ≡ Ok made → Leads world act w (left made) u
@@ -60,12 +59,12 @@ stops_by {world = world} {act = act} {w = w} {u = u} c is = subst (λ x. IfErr x
 
 -- how a run ends
 pub ends_continue : {A B : Type 0} {left : B → Act A} {world : World} {w : Shown} {ending : acts.Ending} {s : Stop} → told_stop s ≡ Some ending → Continues left world (acts.stop ending) w (Err s) w
-ends_continue {left = left} {world = world} {w = w} {ending = ending} {s = s} e = by s e
+ends_continue {A = A} {left = left} {world = world} {w = w} {ending = ending} {s = s} e = by s e
   where
-    by : (x : Stop) → told_stop x ≡ Some ending → Continues left world (acts.stop ending) w (Err x) w
+    by : (x : Stop) → told_stop x ≡ Some ending → Continues left world (acts.stop {A = A} ending) w (Err x) w
     by (S.Ended y) e =
         let is : ending ≡ view_ending y = cc e in
-        record { goes = tt; stopped = subst (λ q. Runs world (acts.stop ending) w (Err q) w) is (stopped world ending w) }
+        record { goes = tt; stopped = subst (λ q. Runs world (acts.stop {A = A} ending) w (Err q) w) is (stopped world ending w) }
     by S.NoMemory e = cc e
 
 module _ {main : Body} {world : World} {call : Call} {callers : List Call} where
@@ -87,20 +86,25 @@ module _ {main : Body} {world : World} {call : Call} {callers : List Call} where
     where
       by : (x : Result (Unit {0}) Stop) → StepsAt main world call callers rest_act between x new behind → StepsAt main world call callers act before x new behind
       by (Ok d) o = record { goes = λ end at. o.goes end (stands_further leads at); stopped = tt }
-      by (Err stop) o = record { goes = tt; stopped = λ end at. o.stopped end (stands_further leads at) }
+      by (Err why) o = record { goes = tt; stopped = λ end at. o.stopped end (stands_further leads at) }
 
-  -- where the act ends the run
-  pub steps_stop : {act : Rest → Act (Unit {0})} {before behind : Shown} {r : Result (Unit {0}) Stop} {new : Machine} (stop : Stop) → r ≡ Err stop
-      → ((rest : Rest) → Stops world (act rest) before stop behind) → StepsAt main world call callers act before r new behind
-  steps_stop {act = act} {before = before} {behind = behind} {new = new} stop is stops =
-      subst (λ x. StepsAt main world call callers act before x new behind) (sym is) (record { goes = tt; stopped = λ end at. by stop stops end at })
+  -- where the act ends the run, behind which is what the call has left to do
+  pub steps_stopped : {act : Rest → Act (Unit {0})} {before behind : Shown} {r : Result (Unit {0}) Stop} {new : Machine} (why : Stop) → r ≡ Err why
+      → ((rest : Rest) → Stops world (act (resume call.todo.items rest)) before why behind) → StepsAt main world call callers act before r new behind
+  steps_stopped {act = act} {before = before} {behind = behind} {new = new} why is stops =
+      subst (λ x. StepsAt main world call callers act before x new behind) (sym is) (record { goes = tt; stopped = λ end at. by why stops end at })
     where
-      by : (x : Stop) → ((rest : Rest) → Stops world (act rest) before x behind) → (end : Outcome (Unit {0})) → StandsAt main world call callers act before end → EndsSo world end x behind
+      by : (x : Stop) → ((rest : Rest) → Stops world (act (resume call.todo.items rest)) before x behind) → (end : Outcome (Unit {0})) → StandsAt main world call callers act before end → EndsSo world end x behind
       by (S.Ended ending) run end at =
           let here = at.in_call in
           subst (λ o. Shows world o (Err (view_ending ending)) behind) (sym here.comes)
-          ((run (resume call.todo.items (ended here.active (callers_act callers at.waiting (finish main))))).comes here.state here.shows)
+          ((run (ended here.active (callers_act callers at.waiting (finish main)))).comes here.state here.shows)
       by S.NoMemory run end at = tt
+
+  -- whatever is behind it
+  pub steps_stop : {act : Rest → Act (Unit {0})} {before behind : Shown} {r : Result (Unit {0}) Stop} {new : Machine} (why : Stop) → r ≡ Err why
+      → ((rest : Rest) → Stops world (act rest) before why behind) → StepsAt main world call callers act before r new behind
+  steps_stop why is stops = steps_stopped why is (λ rest. stops (resume call.todo.items rest))
 
   pub steps_no_memory : {act : Rest → Act (Unit {0})} {before behind : Shown} {r : Result (Unit {0}) Stop} {new : Machine} → r ≡ Err S.NoMemory → StepsAt main world call callers act before r new behind
   steps_no_memory {act = act} {before = before} {behind = behind} {new = new} e =
@@ -133,9 +137,9 @@ steps_in {main = main} {old = old} m s = record {
   stopped = tt;
 }
 
-pub steps_out : {main : Body} {old new : Call} {callers : List Call} {act : Rest → Act (Unit {0})} {before behind : Shown} {m : Machine} {r : Result (Unit {0}) Stop} (stop : Stop)
-    → StepsCall old act before (Err stop) new behind → r ≡ Err stop → StepsAt main (view_env old.env).world old callers act before r m behind
-steps_out stop s is = steps_stop stop is (λ rest. (s.steps rest).stopped)
+pub steps_out : {main : Body} {old new : Call} {callers : List Call} {act : Rest → Act (Unit {0})} {before behind : Shown} {m : Machine} {r : Result (Unit {0}) Stop} (why : Stop)
+    → StepsCall old act before (Err why) new behind → r ≡ Err why → StepsAt main (view_env old.env).world old callers act before r m behind
+steps_out why s is = steps_stopped why is (λ rest. (s.steps rest).stopped)
 
 -- ---- a call with another list
 
@@ -161,7 +165,7 @@ module _ {main : Body} {world : World} {callers : List Call} {before : Shown} (o
     where
       by : (x : Result (Unit {0}) Stop) → StepsAt main world new callers other before x m behind → StepsAt main world old callers act before x m behind
       by (Ok d) o = record { goes = λ end at. o.goes end (stands_reached at); stopped = tt }
-      by (Err stop) o = record { goes = tt; stopped = λ end at. o.stopped end (stands_reached at) }
+      by (Err why) o = record { goes = tt; stopped = λ end at. o.stopped end (stands_reached at) }
 
 -- the last of the list
 pub popped_is : (todo : List Todo) (first : Todo) (items : List Todo) (e : Env) (n : ℕ) (told : Told) → items ≡ todo ++ first ∷ [] → (rest : Rest) → resume items rest e n told ≡ after first (resume todo rest) e n told
@@ -215,15 +219,16 @@ steps_enter {main = main} {world = world} {behind = behind} old callers act body
 left_now : Active → State → State
 left_now a s = record s { active = a.before; moments = Returned a.name s.objects ∷ s.moments }
 
+ended_is : (old : Call) (e : Env) (n : ℕ) (v : Option Value) → old.todo.items ≡ [] → (a : Active) (next : Option Value → Act (Unit {0})) (s : State) → resume old.todo.items (ended a next) e n (Gave v) s ≡ next v (left_now a s)
+unfolding ended on_value leave left_now ◌>>=◌ go_on
+ended_is old e n v empty a next s = ap (λ todo. resume todo (ended a next) e n (Gave v) s) empty
+
+ended_shows : {world : World} {before : Shown} (old : Call) (a : Active) (s : State) → IsCall world old a → shown world s ≡ before → shown world (left_now a s) ≡ record before { used = old.before }
+unfolding left_now
+ended_shows {world = world} {before = before} old a s is shows =
+    ap {A = Shown} (λ x. record x { used = depth world a.before }) shows ∙ ap {B = Shown} (λ room. record before { used = room }) is.room
+
 module _ {main : Body} {world : World} {before : Shown} (old : Call) (e : Env) (n : ℕ) (v : Option Value) (empty : old.todo.items ≡ []) where
-  ended_is : (a : Active) (next : Option Value → Act (Unit {0})) (s : State) → resume old.todo.items (ended a next) e n (Gave v) s ≡ next v (left_now a s)
-  unfolding ended on_value leave left_now ◌>>=◌ go_on
-  ended_is a next s = ap (λ todo. resume todo (ended a next) e n (Gave v) s) empty
-
-  ended_shows : (a : Active) (s : State) → IsCall world old a → shown world s ≡ before → shown world (left_now a s) ≡ record before { used = old.before }
-  unfolding left_now
-  ended_shows a s is shows = ap {A = Shown} (λ x. record x { used = depth world a.before }) shows ∙ ap {B = Shown} (λ room. record before { used = room }) is.room
-
   -- to its caller
   pub steps_return : (callers : List Call) (m : Machine) → callers ≡ m.callers.items ++ m.call ∷ [] → m.control ≡ C.Gave v
       → StepsAt main world old callers (λ rest. rest e n (Gave v)) before (Ok tt) m (record before { used = old.before })
@@ -242,9 +247,9 @@ module _ {main : Body} {world : World} {before : Shown} (old : Call) (e : Env) (
             active = l.last;
             state = t;
             is_call = l.is;
-            shows = ended_shows here.active here.state here.is_call here.shows;
+            shows = ended_shows old here.active here.state here.is_call here.shows;
             comes =
-                here.comes ∙ ended_is here.active (callers_act callers at.waiting (finish main)) here.state ∙ ap (λ next. next v t) next_is
+                here.comes ∙ ended_is old e n v empty here.active (callers_act callers at.waiting (finish main)) here.state ∙ ap (λ next. next v t) next_is
                 ∙ ap (λ c. control_act c (view_env m.call.env) m.call.bound (resume m.call.todo.items (ended l.last base)) t) (sym control);
           };
         };
@@ -262,28 +267,52 @@ module _ {main : Body} {world : World} {before : Shown} (old : Call) (e : Env) (
         let t = left_now here.active here.state in
         subst (λ o. Shows world o (Err (view_ending ending)) (record before { used = old.before }))
         (sym (
-        here.comes ∙ ended_is here.active (callers_act callers at.waiting (finish main)) here.state
+        here.comes ∙ ended_is old e n v empty here.active (callers_act callers at.waiting (finish main)) here.state
         ∙ ap (λ cs. callers_act cs at.waiting (finish main) v t) none ∙ ap (λ act. act t) is))
-        (refl, ended_shows here.active here.state here.is_call here.shows);
+        (refl, ended_shows old here.active here.state here.is_call here.shows);
   }
 
 -- ---- a machine that starts
 
-pub starts_stopped : {main : Body} {world : World} {act : Act (Unit {0})} {before behind : Shown} {r : Result Machine Stop} (stop : Stop) → r ≡ Err stop → Stops world act before stop behind → Starts main world act before r behind
-starts_stopped {main = main} {world = world} {act = act} {before = before} {behind = behind} stop is s = subst (λ x. Starts main world act before x behind) (sym is) (record { starts = tt; stopped = s })
+pub starts_stopped : {main : Body} {world : World} {act : Act (Unit {0})} {before behind : Shown} {r : Result Machine Stop} (why : Stop) → r ≡ Err why → Stops world act before why behind → Starts main world act before r behind
+starts_stopped {main = main} {world = world} {act = act} {before = before} {behind = behind} why is s = subst (λ x. Starts main world act before x behind) (sym is) (record { starts = tt; stopped = s })
+
+-- the machine of a call that begins, which has no callers
+pub starts_at : {main : Body} {world : World} (act : Act (Option Value)) {before behind : Shown} (m : Machine) (body : Statement) → m.callers.items ≡ []
+    → ((rest : Rest) (s : State) → body_first body m.call rest s ≡ control_act m.control (view_env m.call.env) m.call.bound rest s)
+    → ((next : Option Value → Act (Unit {0})) (s : State) → shown world s ≡ before → InCall world m.call (body_first body m.call) next behind ((act >>= next) s))
+    → Starts main world (act >>= finish main) before (Ok m) behind
+starts_at {main = main} {world = world} act {behind = behind} m body none same begun = record {
+  starts = λ s e.
+      let there = begun (finish main) s e in
+      let run : InCall world m.call (control_act m.control (view_env m.call.env) m.call.bound) (finish main) behind ((act >>= finish main) s) = record {
+        active = there.active;
+        state = there.state;
+        is_call = there.is_call;
+        shows = there.shows;
+        comes = there.comes ∙ same (resume m.call.todo.items (ended there.active (finish main))) there.state;
+      } in
+      record {
+        waiting = [];
+        are_calls = subst (λ cs. AreCalls world cs []) (sym none) (tt {0});
+        in_call = subst (λ x. InCall world m.call (control_act m.control (view_env m.call.env) m.call.bound) x behind ((act >>= finish main) s))
+            (sym (ap (λ cs. callers_act cs [] (finish main)) none)) run;
+      };
+  stopped = tt;
+}
 
 -- a step of the machine that stands in this world
-pub run_goes : {main : Body} {world : World} {old new : Machine} {before behind : Shown} {r : Result (Unit {0}) Stop} {end : Outcome (Unit {0})}
+pub run_goes : {main : Body} {world : World} (old : Machine) {new : Machine} {before behind : Shown} {r : Result (Unit {0}) Stop} {end : Outcome (Unit {0})}
     → Steps main (view_env old.call.env).world old before r new behind → r ≡ Ok tt → Stands main world old before end → Stands main world new behind end
-run_goes {main = main} {world = world} {old = old} {new = new} {before = before} {behind = behind} {r = r} {end = end} s is at =
+run_goes {main = main} {world = world} old {new = new} {before = before} {behind = behind} {r = r} {end = end} s is at =
     let there : Steps main world old before (Ok tt) new behind =
     subst (λ x. Steps main world old before x new behind) is (subst (λ w. Steps main w old before r new behind) at.in_call.is_call.stands s) in
     there.goes end at
 
-pub run_ends : {main : Body} {world : World} {old new : Machine} {before behind : Shown} {r : Result (Unit {0}) Stop} {end : Outcome (Unit {0})} (stop : Stop)
-    → Steps main (view_env old.call.env).world old before r new behind → r ≡ Err stop → Stands main world old before end → EndsSo world end stop behind
-run_ends {main = main} {world = world} {old = old} {new = new} {before = before} {behind = behind} {r = r} {end = end} stop s is at =
-    let there : Steps main world old before (Err stop) new behind =
+pub run_ends : {main : Body} {world : World} (old : Machine) {new : Machine} {before behind : Shown} {r : Result (Unit {0}) Stop} {end : Outcome (Unit {0})} (why : Stop)
+    → Steps main (view_env old.call.env).world old before r new behind → r ≡ Err why → Stands main world old before end → EndsSo world end why behind
+run_ends {main = main} {world = world} old {new = new} {before = before} {behind = behind} {r = r} {end = end} why s is at =
+    let there : Steps main world old before (Err why) new behind =
     subst (λ x. Steps main world old before x new behind) is (subst (λ w. Steps main w old before r new behind) at.in_call.is_call.stands s) in
     there.stopped end at
 

@@ -6,7 +6,7 @@ use Rattle.pw_value.specs.Objects.{Object, ended}
 use Rattle.pw_typed.specs.declared.tree.TExpr.{TExpr}
 use Rattle.pw_typed.specs.Views.{view_exprs}
 use Rattle.pw_cmean.specs.Worlds.{World}
-use Rattle.pw_cmean.specs.Acts.{Act, State, Wrong, stop, wrong, give, end_object, ◌>>=◌, ◌>>◌}
+use Rattle.pw_cmean.specs.Acts.{Act, State, Wrong, stop, wrong, end_object, ◌>>=◌, ◌>>◌}
 use Rattle.pw_cmean.specs.Evaluation.{Env, values_of}
 use Rattle.pw_cmean.specs.SourceRun.{calls}
 use Rattle.pw_interp_state.specs.Shown.{Shown}
@@ -23,7 +23,7 @@ use Rattle.pw_interp_todo.specs.declared.todo.Todo.TheVariants as T
 use Rattle.pw_interp_todo.specs.Leading.{Continues}
 use Rattle.pw_interp_todo.specs.Resuming.{Rest, Told, Listed, resume, control_act, end_objects, put_back}
 use Rattle.pw_interp_todo.proofs.ActLaws.{follow_same}
-use Rattle.pw_interp_todo.proofs.LeadLaws.{behind_given, followed, further, left_so, named, same_lead}
+use Rattle.pw_interp_todo.proofs.LeadLaws.{behind_given, followed, further, left_so, named}
 use Rattle.pw_interp_machine.specs.declared.machine.Call.{Call}
 use Rattle.pw_interp_machine.specs.Locals.{all_ended}
 use Rattle.pw_interp_machine.specs.Stepping.{StepsCall}

@@ -1,5 +1,5 @@
 -- Steps of a machine.
-use Rattle.std.specs.Prelude.{ℕ, zero, suc, ◌≡◌, Option, Result, Err, IfOk, IfErr, List}
+use Rattle.std.specs.Prelude.{ℕ, ◌≡◌, Option, Result, Err, IfOk, IfErr, List}
 use Rattle.pw_value.specs.declared.value.Value.{Value}
 use Rattle.pw_types.specs.TypedTrees.{Statement}
 use Rattle.pw_cmean.specs.Worlds.{World, Body}

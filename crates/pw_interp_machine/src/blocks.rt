@@ -127,6 +127,7 @@ fn open_one<'a>(
     bound: u64,
 ) -> Result<Control<'a>, Stop<'a>>
     requires next { made < any.count_in (view_stmt of.now) }
+    requires fits { made < 4294967295 }
     requires place { local ≡ any.first_in (view_stmt of.now) + made }
     ensures { StepsCall call.old (λ rest. then_flowed (part_act (Part.Locals made) (view_stmt of.now) (view_entry at) (view_env call.old.env) call.old.bound) rest (view_env call.old.env) bound) (view_state state.old) result call.new (view_state state.new) }
 {
@@ -187,6 +188,16 @@ pub fn end_local<'a>(
     set_number(&mut call.env.numbers, local, before);
 }
 
+/// The object ends that stands so far behind the one with this number; where there is none, none does.
+#[tactic(auto, using(std::proofs::lemmas::List::set_past))]
+fn end_behind(objects: &mut Objects, number: u128, place: u32)
+    ensures { objects.new ≡ ended (number + place) objects.old }
+{
+    if number < objects.count() as u128 {
+        objects.end(number + u128::from(place));
+    }
+}
+
 /// The objects of so many parameters end, which have the numbers from one on.
 pub fn end_parameters(objects: &mut Objects, count: u32, number: u128)
     ensures { objects.new ≡ spec.all_ended count number objects.old }
@@ -194,6 +205,6 @@ pub fn end_parameters(objects: &mut Objects, count: u32, number: u128)
     let mut left = count;
     while left > 0 {
         left -= 1;
-        objects.end(number + u128::from(left));
+        end_behind(objects, number, left);
     }
 }

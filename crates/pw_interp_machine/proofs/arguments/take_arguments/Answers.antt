@@ -1,4 +1,4 @@
-use Rattle.std.proofs.Common.{refl, sym, ap, ◌∙◌, [], ◌∷◌, reverse}
+use Rattle.std.proofs.Common.{sym, ap, ◌∙◌, [], ◌∷◌, reverse}
 use Rattle.std.proofs.lemmas.List.{reverse-append}
 use Rattle.pw_cmean.specs.Acts.{◌>>=◌}
 use Rattle.pw_interp_todo.specs.Operands.{call_behind}
@@ -7,7 +7,7 @@ use Rattle.pw_interp_machine.proofs.Standings.{popped_is}
 use Rattle.pw_interp_machine.proofs.arguments.take_arguments.Goals as goal
 
 pub loop-last-init : goal.loop-last-init
-loop-last-init c = λ e n rest. refl
+loop-last-init c = λ e n rest. ap (λ vs. resume c.args.todo.now.items rest e n (Listed (reverse vs))) (sym c.new-values.ensures.items)
 
 pub loop-last-preserved : goal.loop-last-preserved
 unfolding after on_list

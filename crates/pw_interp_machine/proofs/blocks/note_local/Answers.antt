@@ -1,4 +1,4 @@
-use Rattle.std.proofs.Common.{ap, refl}
+use Rattle.std.proofs.Common.{ap}
 use Rattle.pw_typed.specs.Views.{view_stmt}
 use Rattle.pw_cmean.specs.Acts.{◌>>=◌}
 use Rattle.pw_interp_todo.specs.Flows.{view_entry}

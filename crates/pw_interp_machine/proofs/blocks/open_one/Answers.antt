@@ -1,4 +1,5 @@
-use Rattle.std.proofs.Common.{◌≡◌, rules, refl, sym, ap, Some, None, arith}
+use Rattle.std.proofs.Common.{◌≡◌, ◌∙◌, rules, refl, sym, ap, Some, None, arith, option_and_then}
+use Rattle.std.specs.Prelude.{slice_get}
 use Rattle.std.proofs.lemmas.Grind.{common_steps}
 use Rattle.pw_typed.specs.Views.{view_stmt}
 use Rattle.pw_interp_calls.specs.Views.{view_env}
@@ -35,7 +36,8 @@ returns c =
     let objects = c.args.state.now.objects in
     let more = c.make_local.new.objects in
     let made : made_one k e objects ≡ Some (inner, more) = first_of (cc, grind (arith, common_steps)) in
-    let back = noted_is k c.count-count.result c.number_of-before.result e inner objects more made c.count-count.ensures c.number_of-before.ensures in
+    let back = noted_is k c.count-count.result c.number_of-before.result e inner objects more made c.count-count.ensures
+    (c.number_of-before.ensures ∙ ap (λ ns. option_and_then (λ n. n) (slice_get ns k)) c.deref.ensures.value) in
     record {
       steps = λ rest. left_so _ refl
           (further

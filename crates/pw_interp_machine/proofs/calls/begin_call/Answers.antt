@@ -5,6 +5,7 @@ use Rattle.pw_interp_world.specs.Views.{view_part}
 use Rattle.pw_interp_state.specs.Shown.{view_state}
 use Rattle.pw_interp_calls.specs.Views.{view_env}
 use Rattle.pw_interp_calls.specs.WorldViews.{view_world}
+use Rattle.pw_interp_calls.specs.declared.ending.Ending.TheVariants as E
 use Rattle.pw_interp_calls.specs.declared.ending.Stop.TheVariants as S
 use Rattle.pw_interp_machine.proofs.Opening.{begins_err, begins_full, begins_opened, framed}
 use Rattle.pw_interp_machine.proofs.Rooms.{full_test, room_test}
@@ -28,8 +29,8 @@ returns-then-has_room c n more =
     begins_opened world n c.args.bound home f c.args.args.now more room
     (framed world n c.args.bound home f c.args.args.now more (view_env c.in_ok-outer.outer) _ c.in_ok-outer.ensures (ap (λ f. f + used) frame) c.open_framed.ensures)
 
-pub returns-else-has_room : goal.returns-else-has_room
-returns-else-has_room c n more =
+pub returns : goal.returns
+returns c n more =
     let world = view_world c.args.world.now in
     let home = view_part c.args.home in
     let f = view_function c.args.f.now in
@@ -37,4 +38,4 @@ returns-else-has_room c n more =
     let frame = c.frame-frame.ensures ∙ ap world.frame_of (c.as_bytes-name.ensures.bytes ∙ c.in_ok-full.ensures) in
     let test = sym c.has_room.ensures ∙ c.if-has_room.false in
     let full = ap (λ f. nat_lt world.stack (f + used)) (sym frame) ∙ full_test _ test in
-    begins_err _ (search rules) (begins_full world n c.args.bound home f c.args.args.now more full)
+    begins_err (S.Ended E.StackFull) (search rules) (begins_full world n c.args.bound home f c.args.args.now more full)

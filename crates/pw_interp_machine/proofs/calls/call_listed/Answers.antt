@@ -6,14 +6,14 @@ use Rattle.pw_interp_todo.specs.Resuming.{Gave, Listed, resume}
 use Rattle.pw_interp_machine.proofs.Standings.{steps_no_memory, steps_reached}
 use Rattle.pw_interp_machine.proofs.calls.call_listed.Goals as goal
 
-pub returns-in_err-take_arguments : goal.returns-in_err-take_arguments
-returns-in_err-take_arguments c main = steps_no_memory (search rules)
+pub returns-in_err-args : goal.returns-in_err-args
+returns-in_err-args c main = steps_no_memory (search rules)
 
 pub returns : goal.returns
 returns c main =
     let call = c.args.machine.now.call in
     let e = view_env call.env in
-    let taken = c.in_ok-take_arguments in
+    let taken = c.in_ok-args in
     let todo = c.take_arguments.new.todo in
     steps_reached call (record call { todo = todo }) (λ rest. rest e call.bound (Listed [])) (λ rest. call_behind taken.callee c.deref.result.now e call.bound >>= λ r. rest e call.bound (Gave r))
     (λ rest.

@@ -14,7 +14,7 @@ use Rattle.pw_interp_machine.proofs.calls.enter.Goals as goal
 
 pub returns-in_err-call : goal.returns-in_err-call
 returns-in_err-call c main world act before behind b =
-    steps_stop _ (search rules) (λ rest. stops_on _ _ (subst (λ r. IfErr r (λ s. Stops world act before s behind)) c.in_err-call.was b.stopped))
+    steps_stop _ (search rules) (λ rest. stops_on _ _ _ _ _ _ (subst (λ r. IfErr r (λ s. Stops world act before s behind)) c.in_err-call.was b.stopped))
 
 pub returns-in_err-push : goal.returns-in_err-push
 returns-in_err-push c main world act before behind b = steps_no_memory (search rules)

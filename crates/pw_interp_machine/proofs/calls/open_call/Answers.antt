@@ -1,20 +1,14 @@
-use Rattle.std.proofs.Common.{rules, refl, sym, ap, subst, ◌∙◌, Some, None, option_map}
-use Rattle.std.specs.Prelude.{IfErr}
+use Rattle.std.proofs.Common.{rules, ap, ◌∙◌, option_map}
 use Rattle.pw_typed.specs.Views.{view_function}
-use Rattle.pw_cmean.specs.Evaluation.{site}
-use Rattle.pw_cmean.specs.Acts.{Act}
-use Rattle.pw_cmean.specs.Execution.{with_locals}
-use Rattle.pw_cmean.specs.SourceRun.{calls, set_parameters}
-use Rattle.pw_cmean.specs.Worlds.{World}
-use Rattle.pw_interp_calls.specs.Answers.{Answers, Stops}
+use Rattle.pw_cmean.specs.SourceRun.{calls}
 use Rattle.pw_interp_calls.specs.Views.{view_env}
-use Rattle.pw_interp_calls.specs.declared.ending.Stop.{Stop}
 use Rattle.pw_interp_calls.specs.declared.ending.Stop.TheVariants as S
 use Rattle.pw_interp_calls.proofs.AnswerLaws.{given_by}
 use Rattle.pw_interp_state.specs.Shown.{view_state}
 use Rattle.pw_interp_machine.specs.Bodies.{with_arguments}
 use Rattle.pw_interp_machine.proofs.Entering.{locals_stop}
-use Rattle.pw_interp_machine.proofs.Opening.{active_leads, active_stops, made_world, opens_so, opens_stopped}
+use Rattle.pw_interp_machine.proofs.Opening.{active_leads, active_stops, answers_in, made_world, opens_so, opens_stopped}
+use Rattle.pw_interp_machine.proofs.Standings.{answer_stops}
 use Rattle.pw_interp_machine.proofs.calls.open_call.Goals as goal
 
 pub returns-in_err-inner : goal.returns-in_err-inner
@@ -35,9 +29,7 @@ returns-in_err-set_parameters-in-Some c =
     let made_so = c.in_ok-inner.ensures ∙ ap (λ o. (option_map view_env o, c.make_locals.new.objects)) c.in-Some.is in
     let home = made_world f.params 0 e inner (view_state c.args.state.now).objects c.make_locals.new.objects made_so in
     opens_stopped _ (search rules)
-    (active_stops e.world c.args.bound f c.args.args.now e inner _ made_so
-    (subst (λ (x : World). Stops x (set_parameters (site inner f.token) 0 c.args.args.now inner) _ _ _) home
-    (subst (λ r. IfErr r (λ s. Stops inner.world (set_parameters (site inner f.token) 0 c.args.args.now inner) _ s _)) c.in_err-set_parameters-in-Some.was c.set_parameters.ensures.stopped)))
+    (active_stops e.world c.args.bound f c.args.args.now e inner (view_state c.args.state.now) _ _ made_so (answer_stops (answers_in home c.set_parameters.ensures) c.in_err-set_parameters-in-Some.was))
 
 pub returns-in_err-call-in-Some : goal.returns-in_err-call-in-Some
 returns-in_err-call-in-Some c = opens_stopped S.NoMemory (search rules) tt
@@ -51,7 +43,7 @@ returns-in_ok-call-in-Some c =
     let home = made_world f.params 0 e inner (view_state c.args.state.now).objects c.make_locals.new.objects made_so in
     let call = c.in_ok-call-in-Some.call in
     let b = c.in_ok-call-in-Some.ensures in
-    let answers = subst (λ (x : World). Answers (λ d. tt) x (set_parameters (site inner f.token) 0 c.args.args.now inner) _ _ _) home c.set_parameters.ensures in
+    let answers = answers_in home c.set_parameters.ensures in
     opens_so call (record {
       leads = λ a next. active_leads e.world c.args.bound f c.args.args.now e inner _ call a next made_so c.count-count.ensures (given_by answers c.in_ok-set_parameters-in-Some.was) b.env home b.bound b.todo;
       room = b.before;

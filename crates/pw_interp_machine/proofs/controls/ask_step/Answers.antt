@@ -9,7 +9,7 @@ use Rattle.pw_interp_machine.proofs.controls.ask_step.Goals as goal
 pub returns-in_err-next : goal.returns-in_err-next
 returns-in_err-next c =
     let call = c.args.call.now in
-    record { steps = λ rest. left_stops _ (search rules) (stops_on _ _ (stops_by (c.ask.ensures call.bound) c.in_err-next.was)); room = refl; stands = refl }
+    record { steps = λ rest. left_stops _ (search rules) (stops_on _ _ _ _ _ _ (stops_by (c.ask.ensures call.bound) c.in_err-next.was)); room = refl; stands = refl }
 
 pub returns-in_err-control : goal.returns-in_err-control
 returns-in_err-control c = record { steps = λ rest. no_memory (search rules); room = refl; stands = refl }

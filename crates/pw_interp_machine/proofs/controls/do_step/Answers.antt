@@ -1,5 +1,4 @@
-use Rattle.std.proofs.Common.{sym, ap, subst}
-use Rattle.std.specs.Prelude.{MatchOption}
+use Rattle.std.proofs.Common.{ap}
 use Rattle.pw_typed.specs.Views.{view_stmt}
 use Rattle.pw_cmean.specs.Acts.{◌>>=◌}
 use Rattle.pw_interp_calls.specs.Views.{view_env}

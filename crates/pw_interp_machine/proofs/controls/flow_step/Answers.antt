@@ -1,4 +1,4 @@
-use Rattle.std.proofs.Common.{rules, refl}
+use Rattle.std.proofs.Common.{refl}
 use Rattle.pw_interp_calls.specs.Views.{view_env}
 use Rattle.pw_interp_todo.specs.Resuming.{Flowed, resume}
 use Rattle.pw_interp_todo.proofs.LeadLaws.{followed, in_front, same_lead}

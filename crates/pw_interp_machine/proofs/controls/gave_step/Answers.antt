@@ -1,7 +1,6 @@
 use Rattle.std.proofs.Common.{refl, ap}
 use Rattle.pw_interp_calls.specs.Views.{view_env}
 use Rattle.pw_interp_state.specs.Shown.{view_state}
-use Rattle.pw_interp_todo.specs.Flows.{view_flow}
 use Rattle.pw_interp_todo.specs.declared.todo.Control.TheVariants as C
 use Rattle.pw_interp_todo.specs.Resuming.{Gave, after, control_act, on_flow, on_list, on_value}
 use Rattle.pw_interp_machine.proofs.Staying.{call_end_local, call_end_parameters, call_named, call_wrong}

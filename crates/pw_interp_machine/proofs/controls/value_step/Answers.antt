@@ -10,14 +10,14 @@ use Rattle.pw_interp_machine.proofs.controls.value_step.Goals as goal
 pub returns-in_err-going : goal.returns-in_err-going
 returns-in_err-going c =
     let call = c.args.call.now in
-    record { steps = λ rest. left_stops _ (search rules) (stops_on _ _ (stops_by (c.use_value-going.ensures call.bound) c.in_err-going.was)); room = refl; stands = refl }
+    record { steps = λ rest. left_stops _ (search rules) (stops_on _ _ _ _ _ _ (stops_by (c.use_value.ensures call.bound) c.in_err-going.was)); room = refl; stands = refl }
 
 pub returns : goal.returns
 returns c =
     let call = c.args.call.now in
     let e = view_env call.env in
     record {
-      steps = λ rest. followed (in_front (λ flow. resume call.todo.items rest e c.args.bound (Flowed flow)) (goes_by (c.use_value-going.ensures call.bound) c.in_ok-going.was)) (c.push_going.ensures e rest (view_state c.use_value-going.new.state));
+      steps = λ rest. followed (in_front (λ flow. resume call.todo.items rest e c.args.bound (Flowed flow)) (goes_by (c.use_value.ensures call.bound) c.in_ok-going.was)) (c.push_going.ensures e rest (view_state c.use_value.new.state));
       room = refl;
       stands = refl;
     }

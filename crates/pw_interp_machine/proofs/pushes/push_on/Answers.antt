@@ -1,4 +1,4 @@
-use Rattle.std.proofs.Common.{refl, rules, ap, subst, ◌∙◌}
+use Rattle.std.proofs.Common.{refl, rules, ap, ◌∙◌}
 use Rattle.pw_cmean.specs.Acts.{◌>>=◌}
 use Rattle.pw_interp_todo.specs.Going.{going_act}
 use Rattle.pw_interp_todo.specs.Resuming.{Flowed, control_act}
