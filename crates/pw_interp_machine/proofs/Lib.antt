@@ -1,0 +1,11 @@
+mod ArgumentLaws
+mod CallLaws
+mod Callers
+mod Entering
+mod Finishing
+mod Making
+mod Opening
+mod Pushing
+mod Rooms
+mod Standings
+mod Staying

@@ -1,0 +1,20 @@
+//! The interpreter's machine: a run of a C program, a step at a time, with what is left to do on the heap, so that neither
+//! calls nor phrases of the program nest in calls of the machine.
+#![tactic(auto)]
+
+mod arguments;
+mod blocks;
+mod callees;
+mod calls;
+mod controls;
+mod machine;
+mod parameters;
+mod pushes;
+mod results;
+mod runs;
+mod settling;
+mod steps;
+
+pub use machine::{Call, Machine};
+pub use runs::{run, start};
+pub use steps::step;
