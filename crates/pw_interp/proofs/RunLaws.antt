@@ -1,17 +1,15 @@
 -- What a run of a program is seen as.
-use Rattle.std.proofs.Common.{ℕ, ◌+◌, ◌≡◌, refl, sym, ap, subst, ◌∙◌, List, [], ◌∷◌, drop, Result, Ok, Err, Option, Some, None, arith}
+use Rattle.std.proofs.Common.{ℕ, ◌+◌, ◌≡◌, sym, ap, subst, ◌∙◌, List, [], drop, Result, Ok, Err, Some, None, arith}
 use Rattle.std.specs.Prelude.{IfErr}
 use Rattle.pw_value.specs.Objects.{Object}
 use Rattle.pw_value.specs.ProgramNames.{start_name, main_name}
-use Rattle.pw_value.specs.declared.value.Value.{Value}
-use Rattle.pw_value.specs.declared.value.Value.TheVariants as V
-use Rattle.pw_cmean.specs.Worlds.{World, Callable, Body, Defined, Library, start_objects, function_named}
+use Rattle.pw_cmean.specs.Worlds.{World, Callable, Body, start_objects, function_named}
 use Rattle.pw_cmean.specs.Acts as acts
 use Rattle.pw_cmean.specs.Acts.{Act, State, Outcome, Gives, Ends, Wrong, give, need, stop, go_on, wrong, undefined, ◌>>=◌}
 use Rattle.pw_cmean.specs.Evaluation.{call}
 use Rattle.pw_cmean.specs.SourceRun.{Run, seen, finish, start_state, calls, run_main}
 use Rattle.pw_interp_state.specs.Shown.{Shown, shown}
-use Rattle.pw_interp_state.specs.Runs.{Runs, Shows}
+use Rattle.pw_interp_state.specs.Runs.{Shows}
 use Rattle.pw_interp_calls.specs.declared.ending.Stop.{Stop}
 use Rattle.pw_interp_calls.specs.declared.ending.Stop.TheVariants as S
 use Rattle.pw_interp_calls.specs.Endings.{view_ending}

@@ -1,5 +1,5 @@
 use Rattle.std.proofs.Common.{◌≡◌, ap, sym, subst, ◌∙◌, rules, refl, []}
-use Rattle.std.specs.Prelude.{IfOk, IfErr, option_map}
+use Rattle.std.specs.Prelude.{IfOk, option_map}
 use Rattle.pw_cmean.specs.Acts.{State, ◌>>=◌}
 use Rattle.pw_cmean.specs.Evaluation.{call}
 use Rattle.pw_cmean.specs.SourceRun.{calls, finish}
