@@ -1,44 +1,17 @@
--- What calls come to, by what they call.
-use Rattle.std.proofs.Common.{ℕ, ◌+◌, ◌%◌, ◌++◌, subst, arith, ◌≡◌, ◌≢◌, refl, sym, ap, ◌∙◌, Bool, true, false, Option, Some, None, Result, Ok, Err, List, [], ◌∷◌, length}
-use Rattle.std.specs.Prelude.{is_none, not, nat_lt}
-use Rattle.std.specs.Option.{option_map_or}
-use Rattle.std.specs.Str.{bytes_eq}
+-- Room on the stack, and the functions of the library.
+use Rattle.std.proofs.Common.{ℕ, ◌+◌, ◌%◌, ◌++◌, subst, ◌≡◌, refl, sym, ap, ◌∙◌, Bool, true, false, Option, Some, None, Ok, Err, List, [], ◌∷◌}
+use Rattle.std.specs.Prelude.{not, nat_lt}
 use Rattle.pw_value.specs.declared.value.Value.{Value}
 use Rattle.pw_value.specs.declared.value.Value.TheVariants as V
-use Rattle.pw_types.specs.TypeTrees.{CType}
-use Rattle.pw_types.specs.Shapes.{shape_of}
-use Rattle.pw_cmean.specs.declared.undefined.Undef.TheVariants.{NotAFunction, FunctionShape}
-use Rattle.pw_cmean.specs.Undefined.{◌when◌}
-use Rattle.pw_cmean.specs.Worlds.{World, Callable, GetChar, PutChar, ExitRun}
-use Rattle.pw_cmean.specs.Acts.{Act, State, StackFull, get_char, put_char, ◌>>=◌, ◌>>◌, give, stop, go_on, need, judge, told, undefined, wrong}
-use Rattle.pw_cmean.specs.Evaluation.{Env, Calls, site, records_of, take_room, library_call, bounded_call, call_body, call, call_value, callee_of, pointed}
+use Rattle.pw_cmean.specs.Worlds.{World, GetChar, PutChar, ExitRun}
+use Rattle.pw_cmean.specs.Acts.{Act, StackFull, get_char, put_char, ◌>>=◌, ◌>>◌, give, wrong}
+use Rattle.pw_cmean.specs.Evaluation.{take_room, library_call}
 use Rattle.pw_interp_state.specs.Shown.{Shown, byte_read, behind_read}
 use Rattle.pw_interp_state.specs.Runs.{Runs}
 use Rattle.pw_interp_state.proofs.RunLaws.{given, goes_on, read_shows, put_shows, room_shows, full_shows}
-use Rattle.pw_interp_world.specs.Views.{view_library}
-use Rattle.pw_interp_world.specs.declared.program.Part.{Part}
-use Rattle.pw_interp_world.specs.declared.program.LibraryFunction.{LibraryFunction}
-use Rattle.pw_interp_world.specs.declared.program.LibraryFunction.TheVariants as L
-use Rattle.pw_interp_world.specs.declared.program.Body.{Body}
-use Rattle.pw_interp_world.specs.declared.program.Body.TheVariants as B
-use Rattle.std.specs.Borrow.{Bor}
-use Rattle.pw_typed.specs.declared.tree.TFunction.{TFunction}
 use Rattle.pw_interp_calls.specs.Answers.{Answers}
-use Rattle.pw_interp_calls.specs.Functions.{callable_of}
 use Rattle.pw_interp_calls.proofs.AnswerLaws.{same}
 use Rattle.pw_interp_acts.specs.Results.{only_number, are_none}
-
-pub library_is : (world : World) (cs : Calls) (g : LibraryFunction) (args : List Value)
-    → call world cs (callable_of (B.Library g)) args ≡ (take_room world (callable_of (B.Library g)).name >> library_call (view_library g) args)
-unfolding call call_body
-library_is world cs L.ExitRun args = refl
-library_is world cs L.GetChar args = refl
-library_is world cs L.PutChar args = refl
-
-pub defined_is : (world : World) (cs : Calls) (f : Body) (part : Part) (g : Bor TFunction) (args : List Value) → f ≡ B.Defined part g
-    → call world cs (callable_of f) args ≡ bounded_call cs (callable_of f) args
-unfolding call call_body
-defined_is world cs f part g args e = subst (λ x. call world cs (callable_of x) args ≡ bounded_call cs (callable_of x) args) (sym e) refl
 
 -- ---- the stack
 
@@ -126,31 +99,3 @@ byte_is_put world n w v m is at =
   where
     there : Shown
     there = record w { out = w.out ++ n % 256 ∷ [] }
-
--- ---- calls through a value
-
--- what is judged of the function to which a pointer points
-judging : Env → CType → Option Callable → Bool
-judging e ty callee = option_map_or (λ f. not (bytes_eq f.shape (shape_of (records_of e) (pointed ty) false))) callee false
-
--- a call through a pointer to such a function, or to none
-through : Env → Calls → ℕ → CType → Option Callable → List Value → Act (Option Value)
-through e cs token ty callee args = do
-  judge (site e token) (NotAFunction when is_none callee ∷ FunctionShape when judging e ty callee ∷ [])
-  f ← need callee
-  call e.world cs f args
-
-module _ (e : Env) (cs : Calls) (token : ℕ) (ty : CType) (p : Value) (args : List Value) where
-  pub no_function : callee_of e.world.program p ≡ None → (s : State) → call_value e cs token ty p args s ≡ undefined (site e token) NotAFunction s
-  unfolding call_value through judging judge told undefined need give stop ◌>>=◌ go_on
-  no_function none s = ap (λ c. through e cs token ty c args s) none
-
-  pub other_shape : (f : Callable) → callee_of e.world.program p ≡ Some f → bytes_eq f.shape (shape_of (records_of e) (pointed ty) false) ≡ false
-      → (s : State) → call_value e cs token ty p args s ≡ undefined (site e token) FunctionShape s
-  unfolding call_value through judging judge told undefined need give stop ◌>>=◌ go_on
-  other_shape f is differs s = ap (λ c. through e cs token ty c args s) is ∙ ap (λ same. go_on (judge (site e token) (NotAFunction when false ∷ FunctionShape when not same ∷ []) s) (λ done. call e.world cs f args)) differs
-
-  pub that_shape : (f : Callable) → callee_of e.world.program p ≡ Some f → bytes_eq f.shape (shape_of (records_of e) (pointed ty) false) ≡ true
-      → (s : State) → call_value e cs token ty p args s ≡ call e.world cs f args s
-  unfolding call_value through judging judge told undefined need give stop ◌>>=◌ go_on
-  that_shape f is agrees s = ap (λ c. through e cs token ty c args s) is ∙ ap (λ same. go_on (judge (site e token) (NotAFunction when false ∷ FunctionShape when not same ∷ []) s) (λ done. call e.world cs f args)) agrees

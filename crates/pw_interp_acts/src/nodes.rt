@@ -3,7 +3,6 @@
 ghost use Rattle.std.specs.Prelude.{◌≡◌, ◌≢◌, ◌-◌, ◌^◌, ◌≤◌, Some, pos, IfErr, IsSomeAnd};
 ghost use Rattle.pw_types.specs.Views.{view_type};
 ghost use Rattle.pw_cmean.specs.Access as access;
-ghost use Rattle.pw_cmean.specs.Acts as acts;
 ghost use Rattle.pw_cmean.specs.Evaluation.{site, records_of};
 ghost use Rattle.pw_cmean.specs.Operators as operators;
 ghost use Rattle.pw_interp_state.specs.Answers.{ending_of};
@@ -16,7 +15,6 @@ ghost use Rattle.pw_interp_calls.specs.Answers.{Answers};
 ghost use Rattle.pw_interp_calls.specs.Endings.{told, told_stop};
 ghost use Rattle.pw_interp_calls.specs.Views.{view_env};
 
-use pw_cmean::Undef;
 use pw_interp_calls::{Ending, Env, Stop};
 use pw_interp_state::{Fault, Move, Purpose, State, categorise};
 use pw_interp_world::{element_layout, put_value};
@@ -34,13 +32,6 @@ fn stop_at<'a>(env: &Env<'a>, token: usize, fault: Fault) -> Stop<'a>
         }
         Fault::Wrong => Stop::Ended(Ending::Wrong),
     }
-}
-
-/// How an undefined operation at a node ends the run.
-pub(crate) fn undefined_at<'a>(env: &Env<'a>, token: usize, operation: Undef) -> Stop<'a>
-    ensures { told_stop result ≡ Some (acts.Undefined operation (view_env env.now).home.name token) }
-{
-    stop_at(env, token, Fault::Undefined(operation))
 }
 
 /// What a step at a node answers, as a value or the end of the run.
