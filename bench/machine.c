@@ -1,6 +1,8 @@
 /* An interpreter of the same instruction table, written straight from it, as a measure of speed and as a
    second reading of the rules. Usage: machine STEPS < words in hexadecimal, one a line; or machine STEPS IMAGE, which
-   runs an image file with the standard streams and ends with the program's status. */
+   runs an image file with the standard streams and ends with the program's status. Compiled with -DCOUNTS and called as
+   machine STEPS IMAGE END it tells on standard error what was executed of the words below the address END: instructions,
+   loads, stores; words in the delay slots of branches but for returns and calls through registers, and NOPs among them. */
 #include <stdint.h>
 #include <stdio.h>
 #include <stdlib.h>
@@ -36,6 +38,27 @@ static int fault(uint32_t a, uint32_t n, int store) {
     return -1;
 }
 
+#ifdef COUNTS
+static uint64_t instructions, loads, stores, slots, nops;
+static uint32_t counted_below;
+static int in_slot;
+static void count(uint32_t at, uint32_t w) {
+    uint32_t op = w >> 26;
+    if (at >= counted_below) { in_slot = 0; return; }
+    instructions++;
+    loads += op == 0x10 || op == 0x11 || op == 0x12;
+    stores += op == 0x18 || op == 0x19 || op == 0x1a;
+    slots += in_slot;
+    nops += in_slot && w == 0x08000240;
+    in_slot = op == 0x20 || op == 0x22 || (op == 0x3a && (w >> 13 & 7) == 0);
+}
+#define COUNT(at, w) count(at, w)
+#define PASSED_OVER() (in_slot = 0)
+#else
+#define COUNT(at, w) ((void)0)
+#define PASSED_OVER() ((void)0)
+#endif
+
 #define HALT(k) do { *kind = (k); *at = front; *taken = n + 1; return 'H'; } while (0)
 #define GO(next, nul) do { uint32_t x_ = (next); front = back; back = x_; nullify = (nul); } while (0)
 #define SET(t, v) do { uint32_t v_ = (v); GO(back + 4, 0); if (t) gr[t] = v_; } while (0)
@@ -44,8 +67,9 @@ static int fault(uint32_t a, uint32_t n, int store) {
 static int run(uint64_t budget, int *kind, uint32_t *at, uint64_t *taken, int echo) {
     for (uint64_t n = 0; n < budget; n++) {
         if (front % 4 || front < 4096 || front >= text_end) HALT(BADBRANCH);
-        if (nullify) { GO(back + 4, 0); continue; }
+        if (nullify) { PASSED_OVER(); GO(back + 4, 0); continue; }
         uint32_t w = be(front), op = w >> 26, b = w >> 21 & 31, r = w >> 16 & 31, t = w & 31, a;
+        COUNT(front, w);
         switch (op) {
         case 0x10: case 0x11: case 0x12: case 0x0d: case 0x18: case 0x19: case 0x1a:
             if (w & 0xc000) HALT(ILLEGAL);
@@ -178,7 +202,12 @@ static int run_image(uint64_t budget, const char *path) {
     front = load(path);
     back = front + 4;
     int end = run(budget, &kind, &at, &taken, 1);
+#ifdef COUNTS
+    fprintf(stderr, "%llu %llu %llu %llu %llu\n", (unsigned long long)instructions, (unsigned long long)loads,
+            (unsigned long long)stores, (unsigned long long)slots, (unsigned long long)nops);
+#else
     fprintf(stderr, "%llu steps\n", (unsigned long long)taken);
+#endif
     return end == 'E' ? (int)at : end == 'S' ? 115 : end == 'P' ? 116 : 117;
 }
 
@@ -188,6 +217,10 @@ int main(int argc, char **argv) {
     uint32_t w, n = 0, at = 0;
     int kind = 0;
     mem = calloc(SIZE, 1);
+#ifdef COUNTS
+    if (argc < 4) return 2;
+    counted_below = (uint32_t)strtoul(argv[3], 0, 10);
+#endif
     if (argc > 2) return run_image(budget, argv[2]);
     while (scanf("%x", &w) == 1) {
         uint32_t a = 4096 + 4 * n++;

@@ -1,10 +1,13 @@
 -- The registers of webs, as a set, web by web.
-use Rattle.std.proofs.Common.{◌≡◌, ◌⊎◌, ℕ, ◌+◌, ◌<◌, ◌==◌, ◌||◌, Bool, true, false, List, [], ◌∷◌, ◌++◌, length, get_or, map, take, refl, sym, ap, subst, ◌∙◌, arith, inl, inr}
-use Rattle.std.specs.Prelude.{◌↔◌}
+use Rattle.std.proofs.Common.{◌≡◌, ◌⊎◌, ℕ, ◌+◌, ◌<◌, ◌==◌, ◌||◌, Bool, false, List, [], ◌∷◌, ◌++◌, length, get_or, map, take, sym, ap, subst, ◌∙◌, arith, inl, inr}
+use Rattle.std.specs.Prelude.{All, ◌↔◌}
 use Rattle.std.specs.Int.{bit_at}
 use Rattle.std.specs.List.{AllByRecursion}
 use Rattle.std.proofs.lemmas.Bool.{eqb-true, eq-eqb, or_cases, or_left, or_right}
+use Rattle.std.proofs.Math.Bool.{or-false}
 use Rattle.std.proofs.lemmas.List.{map_more}
+use Rattle.std.proofs.lemmas.List.Elements.{All-from_recursion}
+use Rattle.std.proofs.lemmas.List.Folds.{list_any-append}
 use Rattle.std.proofs.lemmas.Nat.Bits.{bit_at-zero}
 use Rattle.pw_db.specs.declared.database.Web.{Web}
 use Rattle.pw_db.specs.declared.database.Role.{Role}
@@ -20,25 +23,16 @@ each_low : (ws : List (Web × Role)) → AllByRecursion IsWeb (map (λ w. w.0) w
 each_low [] all = tt
 each_low (w ∷ ws) all = (let high = all.0.high in omega (arith, high), each_low ws all.1)
 
-pub webs_low : (f : WebFn) (ws : List (Web × Role)) → IsWebFn f → ws ≡ f.directives.webs → AllByRecursion (λ (w : Web × Role). w.0.reg < 32) ws
-webs_low f ws lawful is = subst (AllByRecursion (λ (w : Web × Role). w.0.reg < 32)) (sym is) (each_low f.directives.webs lawful.directives.each)
+pub webs_low : (f : WebFn) (ws : List (Web × Role)) → IsWebFn f → ws ≡ f.directives.webs → All (λ (w : Web × Role). w.0.reg < 32) ws
+webs_low f ws lawful is = subst (All (λ (w : Web × Role). w.0.reg < 32)) (sym is) (All-from_recursion (λ (w : Web × Role). w.0.reg < 32) f.directives.webs (each_low f.directives.webs lawful.directives.each))
 
 -- ---- web by web
 
 pub barred_none : (r : ℕ) → in_mask 0 r ≡ false
 barred_none r = ap (λ (n : ℕ). n == 1) (bit_at-zero r)
 
-or_ends : (a b c : Bool) → (a || (b || c)) ≡ ((a || b) || c)
-or_ends true b c = refl
-or_ends false b c = refl
-
 has_push : (r : ℕ) (xs : List ℕ) (x : ℕ) → has r (xs ++ x ∷ []) ≡ (has r xs || (x == r))
-has_push r [] x = by (x == r)
-  where
-    by : (b : Bool) → (b || false) ≡ b
-    by true = refl
-    by false = refl
-has_push r (y ∷ ys) x = ap (λ (b : Bool). (y == r) || b) (has_push r ys x) ∙ or_ends (y == r) (has r ys) (x == r)
+has_push r xs x = list_any-append (λ u. u == r) xs (x ∷ []) ∙ ap (λ (b : Bool). has r xs || b) (or-false (x == r))
 
 pub barred_more : (webs : List (Web × Role)) (k : ℕ) (w : Web × Role) (old new : ℕ) → k < length webs → get_or webs k w ≡ w
     → ((r : ℕ) → HasRegister new r ↔ (HasRegister old r ⊎ (r ≡ w.0.reg)))

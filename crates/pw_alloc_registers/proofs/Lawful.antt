@@ -13,7 +13,7 @@ use Rattle.pw_webflow.specs.declared.web.WebOp.{WebOp}
 use Rattle.pw_webflow.specs.declared.web.WebOp.TheVariants.{Flow, Read, Write}
 use Rattle.pw_webflow.specs.declared.web.WebBlock.{WebBlock}
 use Rattle.pw_webflow.specs.declared.web.WebFn.{WebFn}
-use Rattle.pw_webflow.specs.WebOutline.{uses, defines, web_act, web_stretch, web_outline}
+use Rattle.pw_webflow.specs.WebOutline.{web_act, web_stretch, web_outline}
 use Rattle.pw_webflow.specs.ValidWebs.{IsWebOp, IsWebBlock, IsWebFn}
 use Rattle.pw_live_fronts.specs.Blocks.{IsAct, IsStretch, IsOutline}
 

@@ -1,82 +1,80 @@
--- Temporaries get registers one behind the other.
-use Rattle.std.proofs.Common.{◌≡◌, ◌⊎◌, ℕ, zero, suc, ◌+◌, ◌<◌, not, List, [], ◌∷◌, ◌++◌, length, get_or, take, refl, sym, ap, subst, ◌∙◌, arith, inl, inr}
-use Rattle.std.specs.Prelude.{Option, None, Some, slice_get}
-use Rattle.std.specs.List.{find}
+-- Temporaries get registers one behind the other, each once.
+use Rattle.std.proofs.Common.{◌≡◌, ◌≢◌, ℕ, zero, suc, ◌+◌, ◌<◌, ◌≤◌, not, Bool, true, false, List, [], ◌∷◌, ◌++◌, length, get_or, take, refl, sym, ap, subst, ◌∙◌, arith}
+use Rattle.std.specs.Prelude.{if◌then◌else◌, nat_lt, Option, None, Some, slice_get}
+use Rattle.std.specs.List.{AllByRecursion, find}
+use Rattle.std.proofs.lemmas.Bool.{ne_eqb}
 use Rattle.std.proofs.lemmas.List.{take_more}
+use Rattle.std.proofs.lemmas.List.Elements.{All-from_recursion}
 use Rattle.std.proofs.lemmas.Option.{same_Some}
-use Rattle.pw_files.proofs.Standing.{Has, has_each}
 use Rattle.pw_db.specs.Database.{EachTwo}
 use Rattle.pw_flow.specs.Outline.{Outline}
-use Rattle.pw_alloc_temps.specs.Weights.{by_weight}
+use Rattle.pw_alloc_temps.specs.Weights.{weight, put_by_weight, by_weight}
 use Rattle.pw_alloc_temps.specs.Registers.{allowed, is_taken, with_register, given_to, given, register_of, registers_from, registers}
-use Rattle.pw_alloc_temps.proofs.Registers.{has_register}
-use Rattle.pw_alloc_weights.proofs.Sorting.{Before, never_both, in_order, has_between}
+
+-- ---- the order has temporaries of the function, each once
+
+each_put : (P : ℕ → Type 0) (f : Outline) (t : ℕ) (xs : List ℕ) → P t → AllByRecursion P xs → AllByRecursion P (put_by_weight f t xs)
+each_put P f t [] h all = (h, tt)
+each_put P f t (u ∷ rest) h all = by (nat_lt (weight f t) (weight f u)) (each_put P f t rest h all.1)
+  where
+    by : (b : Bool) → AllByRecursion P (put_by_weight f t rest) → AllByRecursion P (if b then u ∷ put_by_weight f t rest else t ∷ u ∷ rest)
+    by true later = (all.0, later)
+    by false later = (h, all)
+
+each_ordered : (P : ℕ → Type 0) (f : Outline) (i more : ℕ) → ((t : ℕ) → i ≤ t → t < i + more → P t) → AllByRecursion P (by_weight f i more)
+each_ordered P f i zero all = tt
+each_ordered P f i (suc more) all =
+    each_put P f i (by_weight f (suc i) more) (all i (omega arith) (omega arith)) (each_ordered P f (suc i) more (λ t low high. all t (omega (arith, low)) (omega (arith, high))))
+
+once_put : (f : Outline) (t : ℕ) (xs : List ℕ) → AllByRecursion (λ u. t ≢ u) xs → EachTwo (λ a b. a ≢ b) xs → EachTwo (λ a b. a ≢ b) (put_by_weight f t xs)
+once_put f t [] apart two = (tt, tt)
+once_put f t (u ∷ rest) apart two = by (nat_lt (weight f t) (weight f u)) (once_put f t rest apart.1 two.1)
+  where
+    by : (b : Bool) → EachTwo (λ a b. a ≢ b) (put_by_weight f t rest) → EachTwo (λ a b. a ≢ b) (if b then u ∷ put_by_weight f t rest else t ∷ u ∷ rest)
+    by true later = (each_put (λ x. u ≢ x) f t rest (λ e. apart.0 (sym e)) two.0, later)
+    by false later = (apart, two)
+
+once_ordered : (f : Outline) (i more : ℕ) → EachTwo (λ a b. a ≢ b) (by_weight f i more)
+once_ordered f i zero = tt
+once_ordered f i (suc more) = once_put f i (by_weight f (suc i) more) (each_ordered (λ u. i ≢ u) f (suc i) more (λ t low high e. omega (arith, low, e))) (once_ordered f (suc i) more)
+
+pub ordered_below : (f : Outline) (xs : List ℕ) (k t : ℕ) → xs ≡ by_weight f 0 f.temps → k < length xs → t ≡ get_or xs k t → t < f.temps
+ordered_below f xs k t is lt at =
+    let all = each_ordered (λ u. u < f.temps) f 0 f.temps (λ u low high. omega (arith, high)) in
+    subst (λ (u : ℕ). u < f.temps) (sym at) (All-from_recursion (λ u. u < f.temps) xs (subst (AllByRecursion (λ u. u < f.temps)) (sym is) all) k t lt)
+
+-- ---- one more has its turn
 
 given_step : (f : Outline) (ws xs : List ℕ) (t : ℕ) (gs : List (ℕ × ℕ))
     → given_to f ws (xs ++ t ∷ []) gs ≡ with_register t (find (λ r. not (is_taken f (given_to f ws xs gs) t r)) (allowed f ws t)) (given_to f ws xs gs)
 given_step f ws [] t gs = refl
 given_step f ws (x ∷ xs) t gs = given_step f ws xs t (with_register x (find (λ r. not (is_taken f gs x r)) (allowed f ws x)) gs)
 
--- one more has had its turn
 pub next_turn : (f : Outline) (ws xs : List ℕ) (k t : ℕ) → k < length xs → get_or xs k t ≡ t
     → given_to f ws (take (k + 1) xs) [] ≡ with_register t (find (λ r. not (is_taken f (given_to f ws (take k xs) []) t r)) (allowed f ws t)) (given_to f ws (take k xs) [])
 next_turn f ws xs k t lt is = ap (λ (ts : List ℕ). given_to f ws ts []) (take_more xs k t lt ∙ ap (λ (x : ℕ). take k xs ++ x ∷ []) is) ∙ given_step f ws (take k xs) t []
 
 -- ---- none has its turn twice
 
-put_has : (t : ℕ) (o : Option ℕ) (gs : List (ℕ × ℕ)) (u r : ℕ) → Has (u, r) (with_register t o gs) → (t ≡ u) ⊎ Has (u, r) gs
-put_has t None gs u r h = inr h
-put_has t (Some q) gs u r (inl e) = inl (ap (λ (g : ℕ × ℕ). g.0) e)
-put_has t (Some q) gs u r (inr h) = inr h
+none_put : (u : ℕ) (o : Option ℕ) (gs : List (ℕ × ℕ)) (t : ℕ) → u ≢ t → register_of gs t ≡ None → register_of (with_register u o gs) t ≡ None
+none_put u None gs t other none = none
+none_put u (Some r) gs t other none = ap (λ (b : Bool). if b then Some r else register_of gs t) (ne_eqb u t other) ∙ none
 
-only_given : (f : Outline) (ws ts : List ℕ) (gs : List (ℕ × ℕ)) (u r : ℕ) → Has (u, r) (given_to f ws ts gs) → Has u ts ⊎ Has (u, r) gs
-only_given f ws [] gs u r h = inr h
-only_given f ws (t ∷ rest) gs u r h =
-    let o = find (λ r. not (is_taken f gs t r)) (allowed f ws t) in
-    elim (only_given f ws rest (with_register t o gs) u r h) [
-      | inl k ↦ inl (inr k)
-      | inr k ↦ elim (put_has t o gs u r k) [ inl e ↦ inl (inl e) | inr g ↦ inr g ]
-    ]
+none_given : (f : Outline) (ws ts : List ℕ) (gs : List (ℕ × ℕ)) (t : ℕ) → AllByRecursion (λ u. u ≢ t) ts → register_of gs t ≡ None → register_of (given_to f ws ts gs) t ≡ None
+none_given f ws [] gs t others none = none
+none_given f ws (u ∷ rest) gs t others none =
+    let o = find (λ r. not (is_taken f gs u r)) (allowed f ws u) in
+    none_given f ws rest (with_register u o gs) t others.1 (none_put u o gs t others.0 none)
 
-has_item : (xs : List ℕ) (k d : ℕ) → k < length xs → Has (get_or xs k d) xs
-has_item [] k d lt = absurd (omega (arith, lt))
-has_item (x ∷ xs) zero d lt = inl refl
-has_item (x ∷ xs) (suc k) d lt = inr (has_item xs k d (omega (arith, lt)))
-
-two_first : (R : ℕ → ℕ → Type 0) (xs : List ℕ) (k d u : ℕ) → EachTwo R xs → k < length xs → Has u (take k xs) → R u (get_or xs k d)
-two_first R [] k d u two lt h = absurd (omega (arith, lt))
-two_first R (x ∷ xs) zero d u two lt h = absurd h
-two_first R (x ∷ xs) (suc k) d u two lt (inl e) = subst (λ (y : ℕ). R y (get_or xs k d)) e (has_each (R x) xs (get_or xs k d) two.0 (has_item xs k d (omega (arith, lt))))
-two_first R (x ∷ xs) (suc k) d u two lt (inr h) = two_first R xs k d u two.1 (omega (arith, lt)) h
-
-register_or_none : (o : Option ℕ) → (o ≡ None) ⊎ ((r : ℕ) × (o ≡ Some r))
-register_or_none None = inl refl
-register_or_none (Some r) = inr (r, refl)
+before_apart : (xs : List ℕ) (k d : ℕ) → EachTwo (λ a b. a ≢ b) xs → k < length xs → AllByRecursion (λ u. u ≢ get_or xs k d) (take k xs)
+before_apart [] k d two lt = absurd (omega (arith, lt))
+before_apart (x ∷ xs) zero d two lt = tt
+before_apart (x ∷ xs) (suc k) d two lt = (All-from_recursion (λ y. x ≢ y) xs two.0 k d (omega (arith, lt)), before_apart xs k d two.1 (omega (arith, lt)))
 
 pub none_yet : (f : Outline) (ws : List ℕ) (k t : ℕ) → k < length (by_weight f 0 f.temps) → get_or (by_weight f 0 f.temps) k t ≡ t → register_of (given_to f ws (take k (by_weight f 0 f.temps)) []) t ≡ None
 none_yet f ws k t lt is =
     let xs = by_weight f 0 f.temps in
-    let gs = given_to f ws (take k xs) [] in
-    elim (register_or_none (register_of gs t)) [
-      | inl none ↦ none
-      | inr some ↦ elim (only_given f ws (take k xs) [] t some.0 (has_register gs t some.0 some.1)) [
-        | inl h ↦ absurd (let b : Before f t t = subst (Before f t) is (two_first (Before f) xs k t t (in_order f 0 f.temps) lt h) in never_both f t t b b)
-        | inr h ↦ absurd h
-      ]
-    ]
-
--- those of the order are temporaries of the function
-pub ordered_below : (f : Outline) (xs : List ℕ) (k t : ℕ) → xs ≡ by_weight f 0 f.temps → slice_get xs k ≡ Some t → t < f.temps
-ordered_below f xs k t is at =
-    let there : slice_get (by_weight f 0 f.temps) k ≡ Some t = ap (λ (ys : List ℕ). slice_get ys k) (sym is) ∙ at in
-    let b = has_between f 0 f.temps t (at_has (by_weight f 0 f.temps) k t there) in
-    let high = b.1 in
-    omega (arith, high)
-  where
-    at_has : (ys : List ℕ) (k t : ℕ) → slice_get ys k ≡ Some t → Has t ys
-    at_has [] k t e = absurd cc
-    at_has (y ∷ ys) zero t e = inl (same_Some y t e)
-    at_has (y ∷ ys) (suc k) t e = inr (at_has ys k t e)
+    none_given f ws (take k xs) [] t (subst (λ (x : ℕ). AllByRecursion (λ u. u ≢ x) (take k xs)) is (before_apart xs k t (once_ordered f 0 f.temps) lt)) refl
 
 -- ---- at the end
 

@@ -1,7 +1,6 @@
 //! The registers of the temporaries of a directed function.
 
-ghost use Rattle.std.specs.Prelude.{◌≡◌, ◌<◌, ℕ, map, IfOk};
-ghost use Rattle.std.specs.List.{AllByRecursion};
+ghost use Rattle.std.specs.Prelude.{◌≡◌, ◌<◌, ℕ, map, All, IfOk};
 ghost use Rattle.pw_webflow.specs.ValidWebs.{IsWebFn};
 ghost use Rattle.pw_live.specs.Liveness.{has};
 ghost use Rattle.pw_alloc_taken.specs.Masks.{in_mask};
@@ -16,7 +15,7 @@ use std::alloc::{AllocError, Global};
 
 /// The registers of webs, as a set.
 fn webs_mask(webs: &[(Web, Role)]) -> u32
-    requires { AllByRecursion (λ w. w.0.reg < 32) webs.now }
+    requires { All (λ w. w.0.reg < 32) webs.now }
     ensures { (r : ℕ) → in_mask result r ≡ has r (map (λ w. w.0.reg) webs.now) }
 {
     let mut mask = 0;

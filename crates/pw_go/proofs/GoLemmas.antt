@@ -15,11 +15,13 @@ use Rattle.pw_commands.proofs.RunLemmas.{Ends, ends_itself, run_ends}
 use Rattle.pw_build_files.specs.FromBuild.BuildFault.{BuildFault}
 use Rattle.pw_build_files.specs.FromBuild.BuildFault.TheVariants as build
 use Rattle.pw_build_files.specs.FromBuild.Unbuilt.{Unbuilt}
+use Rattle.pw_build_opts.specs.declared.opts.Opts.{Opts}
 use Rattle.pw_build_opts.specs.declared.opts.RunOpts.{RunOpts}
 use Rattle.pw_build_files.specs.declared.report.Report.{Report}
 use Rattle.pw_build_files.specs.Building.{BuildOutcome, Outcome, puts_of}
 use Rattle.pw_build_files.specs.Outcomes.{AnswersFault, AnswersOutcome, FaultFound, HoldsImage, IsNoWant, ObeysBuild, fault_answer}
-use Rattle.pw_go.specs.Going.{GoEffect, GoOver, IsGoAnswer, RunsImage, ran_behind, run_from}
+use Rattle.pw_build_files.proofs.DrivingLemmas.{refused_outcome}
+use Rattle.pw_go.specs.Going.{GoEffect, GoOver, HasBuilt, IfMade, IsGoAnswer, RunsImage, ran_behind, run_from}
 use Rattle.pw_go.proofs.RunLemmas.{appends_none, none_out}
 
 -- ---- what the command comes to
@@ -101,10 +103,22 @@ no_refusal (answer.BadFile name at) k = absurd k
 no_refusal (answer.BadScript at) k = absurd k
 no_refusal _ k = tt
 
-pub run_comes : (told new : Option Told) (opts : RunOpts) (report : Report) (a : Answer) → IsRunAnswer a → IfSome told (λ t. ObeysBuild opts.build (Ok report) t new)
-    → IfSome told (λ t. (comes : Result Outcome BuildFault) → BuildOutcome t.files opts.build comes → AnswersOutcome comes a)
-run_comes None new opts report a k b = tt
-run_comes (Some t) new opts report a k b = λ comes h. subst (λ (x : Result Outcome BuildFault). AnswersOutcome x a) (sym (b.answers comes h).1) (no_refusal a k)
+made : (a : Answer) (P : Type 0) → P → IfMade a P
+made answer.StoreFault P p = tt
+made answer.NoMemory P p = tt
+made _ P p = p
+
+-- what was built before the run, whatever the input tells
+done_built : (opts : Opts) (report : Report) (a : Answer) (told : Told) (new : Option Told) → IsRunAnswer a → ObeysBuild opts (Ok report) told new → HasBuilt opts a told new
+done_built opts report a told new k b = record {
+  found = made a ((comes : Result Outcome BuildFault) × BuildOutcome told.files opts comes) (Ok b.found.0, b.found.1);
+  answers = λ comes h. subst (λ (x : Result Outcome BuildFault). AnswersOutcome x a) (sym (b.answers comes h).1) (no_refusal a k);
+  puts = λ comes h. all_put (puts_of comes) a told new k (b.puts comes h);
+}
+
+pub run_built_so : (told new : Option Told) (opts : Opts) (report : Report) (a : Answer) → IsRunAnswer a → IfSome told (λ t. ObeysBuild opts (Ok report) t new) → IfSome told (λ t. HasBuilt opts a t new)
+run_built_so None new opts report a k b = tt
+run_built_so (Some t) new opts report a k b = done_built opts report a t new k b
 
 pub run_line : (due : Files → Option ℕ) (told : Option Told) (a : Answer) → IsRunAnswer a → IfSome told (λ t. IsLineDue (due t.files) a None)
 run_line due None a k = tt
@@ -196,6 +210,24 @@ fault_rest None new old opts unbuilt a is b = tt
 fault_rest (Some t) new None opts unbuilt a is b = tt
 fault_rest (Some t) new (Some input) opts unbuilt a is b =
     λ e d. subst (λ (x : Answer). LeavesInput e.rest input x (Some input)) (sym is) (refused_rest unbuilt.fault opts.budget input d.0 e (b.answers d.0 d.1) d.2)
+
+-- what was built, whatever the input tells
+fault_made : (files : Files) (opts : Opts) (fault : BuildFault) → FaultFound files opts fault → IfMade (fault_answer fault) ((comes : Result Outcome BuildFault) × BuildOutcome files opts comes)
+fault_made files opts (build.Refused name refusal) h = (Err (build.Refused name refusal), h)
+fault_made files opts (build.LinkRefused fault) h = (Err (build.LinkRefused fault), h)
+fault_made files opts build.StoreFault h = tt
+fault_made files opts build.NoMemory h = tt
+
+unbuilt_built : (opts : Opts) (unbuilt : Unbuilt) (told : Told) (new : Option Told) → ObeysBuild opts (Err unbuilt) told new → HasBuilt opts (fault_answer unbuilt.fault) told new
+unbuilt_built opts unbuilt told new b = record {
+  found = fault_made told.files opts unbuilt.fault b.found;
+  answers = λ comes h. refused_outcome unbuilt.fault comes (b.answers comes h);
+  puts = λ comes h. b.puts comes h;
+}
+
+pub fault_built : (told new : Option Told) (opts : Opts) (unbuilt : Unbuilt) (a : Answer) → a ≡ fault_answer unbuilt.fault → IfSome told (λ t. ObeysBuild opts (Err unbuilt) t new) → IfSome told (λ t. HasBuilt opts a t new)
+fault_built None new opts unbuilt a is b = tt
+fault_built (Some t) new opts unbuilt a is b = subst (λ (x : Answer). HasBuilt opts x t new) (sym is) (unbuilt_built opts unbuilt t new b)
 
 fault_is_go : (fault : BuildFault) → IsNoWant fault → IsGoAnswer (fault_answer fault)
 fault_is_go (build.Refused name refusal) h = h

@@ -1,20 +1,21 @@
 -- What `go` comes to: a build over the files of a store, and the run of its image over an input.
 use Rattle.std.specs.Prelude.{◌≡◌, ◌≢◌, ℕ, List, Option, Result, Ok, Err}
 use Rattle.pw_value.specs.declared.fault.LinkFault.TheVariants as link
-use Rattle.pw_io.specs.Files.{Files}
+use Rattle.pw_io.specs.Files.{Files, Told}
 use Rattle.pw_front_end.specs.Fronts.{HoldsNoWant}
 use Rattle.pw_image.specs.declared.image.Image.{Image}
 use Rattle.pw_image.specs.Image.{Contents, IsImageFile}
 use Rattle.pw_machine.specs.Run.{Progress, run_of}
 use Rattle.pw_machine.specs.Start.{image_start}
 use Rattle.pw_top_answer.specs.declared.answer.Answer.{Answer}
-use Rattle.pw_top_answer.specs.declared.answer.Answer.TheVariants.{Done, Usage, Refused, LinkRefused, BadFile, BadScript, NoFrames}
-use Rattle.pw_top_answer.specs.Effects.{Effect, NamedFile, answers_alone}
+use Rattle.pw_top_answer.specs.declared.answer.Answer.TheVariants.{Done, Usage, Refused, LinkRefused, StoreFault, NoMemory, BadFile, BadScript, NoFrames}
+use Rattle.pw_top_answer.specs.Effects.{Effect, NamedFile, PutsFiles, answers_alone}
 use Rattle.pw_top_answer.specs.Outcomes.{Answers, LeavesInput, PutsOut}
 use Rattle.pw_commands.specs.MachineRun.{run_answer, run_output, run_rest, start_state}
 use Rattle.pw_build_files.specs.FromBuild.BuildFault.{BuildFault}
-use Rattle.pw_build_files.specs.Building.{BuildOutcome, Outcome}
-use Rattle.pw_build_files.specs.Outcomes.{fault_answer}
+use Rattle.pw_build_files.specs.Building.{BuildOutcome, Outcome, puts_of}
+use Rattle.pw_build_files.specs.Outcomes.{AnswersOutcome, fault_answer}
+use Rattle.pw_build_opts.specs.declared.opts.Opts.{Opts}
 use Rattle.pw_build_opts.specs.declared.opts.RunOpts.{RunOpts}
 
 -- the run of a program over an input, for at most so many instructions
@@ -34,6 +35,24 @@ GoOver budget input (Err fault) effect = effect ≡ answers_alone (fault_answer 
 abbrev pub GoEffect : Files → RunOpts → List ℕ → Effect → Type 0
 GoEffect files opts input effect =
     (comes : Result Outcome BuildFault) × BuildOutcome files opts.build comes × GoOver opts.budget input comes effect
+
+-- ---- the build, whatever the input tells
+
+-- what holds of each answer but a fault of the store and want of memory
+abbrev pub IfMade : Answer → Type 0 → Type 0
+IfMade StoreFault P = Unit {0}
+IfMade NoMemory P = Unit {0}
+IfMade _ P = P
+
+-- What a command did that builds over the files of a store before it does anything else, whatever the input tells. Its build
+-- comes to something, unless the store failed or memory ran out; a refusal to which it comes is the answer, and one that comes to
+-- a program is not refused; and its files were put, in order.
+pub record HasBuilt (opts : Opts) (answer : Answer) (told : Told) (new : Option Told) : Type 0 where
+  pub found : IfMade answer ((comes : Result Outcome BuildFault) × BuildOutcome told.files opts comes)
+  pub answers : (comes : Result Outcome BuildFault) → BuildOutcome told.files opts comes → AnswersOutcome comes answer
+  pub puts : (comes : Result Outcome BuildFault) → BuildOutcome told.files opts comes → PutsFiles (puts_of comes) answer told new
+
+-- ---- answers
 
 -- the answers of the command, whose refusals are none for want of memory
 abbrev pub IsGoAnswer : Answer → Type 0

@@ -1,18 +1,16 @@
 //! The command `go`.
 
-ghost use Rattle.std.specs.Prelude.{◌≡◌, ℕ, List, Option, IfSome, Result};
+ghost use Rattle.std.specs.Prelude.{◌≡◌, ℕ, List, Option, IfSome};
 ghost use Rattle.pw_store_modules.specs.Modules.{modules_of};
 ghost use Rattle.pw_top_answer.specs.Effects.{Effect};
 ghost use Rattle.pw_top_answer.specs.Outcomes.{InputCount, IsLineDue, LeavesInput, LeavesStreams, OutputCount, PutsOut, StoreCount};
 ghost use Rattle.pw_commands.specs.MachineRun.{IsRunAnswer};
 ghost use Rattle.pw_commands.specs.Outcome.{Obeys};
-ghost use Rattle.pw_build_files.specs.FromBuild.BuildFault.{BuildFault};
 ghost use Rattle.pw_build_files.specs.FromBuild.Phases.{refused_line};
-ghost use Rattle.pw_build_files.specs.Building.{BuildOutcome, Outcome};
 ghost use Rattle.pw_build_files.specs.Driving.{KeepsUnput};
 ghost use Rattle.pw_build_files.specs.Genuine.{KeepsGenuine};
-ghost use Rattle.pw_build_files.specs.Outcomes.{AnswersOutcome, AreOpts, HoldsImage};
-ghost use Rattle.pw_go.specs.Going.{GoEffect, IsGoAnswer, RunsImage};
+ghost use Rattle.pw_build_files.specs.Outcomes.{AreOpts, HoldsImage};
+ghost use Rattle.pw_go.specs.Going.{GoEffect, HasBuilt, IsGoAnswer, RunsImage};
 
 use pw_build_files::{answer_of, build_uncounted};
 use pw_build_opts::RunOpts;
@@ -62,7 +60,7 @@ pub fn go<S: Store, I: Source, O: Sink>(
     ensures obeys { IfSome (S.told store.old) (λ told. IfSome (I.rest input.old) (λ rest. Obeys (GoEffect told.files opts.now rest) result.answer told (S.told store.new))) }
     ensures output { IfSome (S.told store.old) (λ told. IfSome (I.rest input.old) (λ rest. (effect : Effect) → GoEffect told.files opts.now rest effect → PutsOut effect.output result.answer (O.taken out.old) (O.taken out.new))) }
     ensures rest { IfSome (S.told store.old) (λ told. IfSome (I.rest input.old) (λ rest. (effect : Effect) → GoEffect told.files opts.now rest effect → LeavesInput effect.rest rest result.answer (I.rest input.new))) }
-    ensures refusal { IfSome (S.told store.old) (λ told. (comes : Result Outcome BuildFault) → BuildOutcome told.files opts.now.build comes → AnswersOutcome comes result.answer) }
+    ensures built { IfSome (S.told store.old) (λ told. HasBuilt opts.now.build result.answer told (S.told store.new)) }
     ensures others { IfSome (S.told store.old) (λ told. KeepsUnput result.answer told (S.told store.new)) }
     ensures genuine { IfSome (S.told store.old) (λ told. KeepsGenuine told.files → IfSome (S.told store.new) (λ now. KeepsGenuine now.files)) }
     ensures line { IfSome (S.told store.old) (λ told. IsLineDue (refused_line (modules_of told.files)) result.answer result.line) }

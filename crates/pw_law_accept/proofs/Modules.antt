@@ -20,7 +20,7 @@ use Rattle.pw_lower.specs.Modules.{lowered_function, start_function, is_main, st
 use Rattle.pw_law_lower.specs.Within.{AreLetters, IsNamed}
 use Rattle.pw_law_lower.proofs.Names.{IsShared, shared, named_main, name_ordinary}
 use Rattle.pw_files.proofs.Standing.{Has, has_by, has_each, has_right, has_map, has_map_back}
-use Rattle.pw_law_lower_walk.proofs.Made.{function_by}
+use Rattle.pw_law_lower_walk.proofs.Made.{full, function_by}
 use Rattle.pw_law_accept.proofs.Counts.{times_cons, times_append, one, one_least, one_self, there}
 use Rattle.pw_law_accept.proofs.Agreeing.{function_agree}
 

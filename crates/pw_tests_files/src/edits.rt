@@ -46,7 +46,7 @@ pub fn payload_of(file: &[u8]) -> &[u8] {
 
 /// The file of a payload.
 pub fn sealed(text: &mut Text, format: Format, payload: &[u8]) -> Vec<u8> {
-    match seal_payload(text.alloc(), format.kind(), 1, payload) {
+    match seal_payload(text.alloc(), format.kind(), format.version(), payload) {
         Ok(file) => file,
         Err(_) => {
             text.cut();

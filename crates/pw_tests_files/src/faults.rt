@@ -30,6 +30,17 @@ impl Format {
             Format::Payload | Format::Function => 0,
         }
     }
+
+    /// The version in which its files are written; a payload and a function have none.
+    pub fn version(self) -> u32 {
+        match self {
+            Format::Flow => pw_flowfile::VERSION,
+            Format::Summary => pw_summary::VERSION,
+            Format::Database => pw_db::VERSION,
+            Format::Object => pw_object::VERSION,
+            Format::Payload | Format::Function => 0,
+        }
+    }
 }
 
 /// The format of this name.

@@ -3,6 +3,7 @@ mod Programs
 mod InWords
 mod PlacedRows
 mod LineRows
+mod FilledRows
 mod LinkRows
 mod PlaceRows
 mod LawfulRows

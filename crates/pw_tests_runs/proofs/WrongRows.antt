@@ -90,7 +90,7 @@ wrong_lines keeps =
     (line_rests (line_program bumping overwritten) (addresses 4096) scratch []) 40 200 refl refl
     (λ e. let apart : 50 ≡ 96 = ap (λ (x : ℕ × List ℕ). first_or 0 x.1) e in omega (arith, apart)) keeps.runs
 
--- ---- placement: a store may be noted late, and a call may not. (Today no program has any other run of placed items.)
+-- ---- placement: a store may be noted late, and a call may not
 
 abbrev noting : List (Event ℕ ℕ) → View (Event ℕ ℕ)
 noting log = record { output = []; read = 0; events = 0; log = log }

@@ -1,28 +1,23 @@
 -- Where the kept objects are genuine, `build` and `go` refuse nothing exactly where the modules can be built.
-use Rattle.std.proofs.Common.{◌≡◌, ℕ, ◌≤◌, List, Option, Some, None, Result, Ok, Err, refl, sym, subst}
+use Rattle.std.proofs.Common.{◌≡◌, ◌≤◌, Option, Some, None, Result, Ok, Err, refl, sym, subst}
 use Rattle.std.specs.Prelude.{◌↔◌, IfSome, IsOk}
 use Rattle.pw_io.specs.Files.{Files, Told}
 use Rattle.pw_store_modules.specs.Modules.{modules_of}
 use Rattle.pw_top_answer.specs.declared.answer.Answer.{Answer}
 use Rattle.pw_top_answer.specs.declared.answer.Answer.TheVariants.{Refused, LinkRefused, ReadFault, WriteFault, StoreFault, NoMemory, BadFile, BadScript}
 use Rattle.pw_top_answer.specs.Outcomes.{IsNoRefusal, RefusesAs}
-use Rattle.pw_commands.specs.Outcome.{IsFound}
 use Rattle.pw_db.specs.Limits.{colour_limit}
 use Rattle.pw_law_session.specs.FromSession.FromBuild.BuildFault.{BuildFault}
 use Rattle.pw_law_session.specs.FromSession.FromBuild.BuildFault.TheVariants as build
 use Rattle.pw_law_session.specs.FromSession.FromBuildFiles.Building.{BuildOutcome, Outcome}
-use Rattle.pw_law_session.specs.FromSession.FromBuildFiles.Driving.{BuildEffect}
 use Rattle.pw_law_session.specs.FromSession.FromBuildFiles.Genuine.{KeepsGenuine}
 use Rattle.pw_law_session.specs.FromSession.FromBuildFiles.Outcomes.{AnswersOutcome, fault_answer}
-use Rattle.pw_go.specs.Going.{GoEffect}
+use Rattle.pw_go.specs.Going.{HasBuilt, IfMade}
 use Rattle.pw_build_opts.specs.declared.opts.Opts.{Opts}
-use Rattle.pw_build_opts.specs.declared.opts.RunOpts.{RunOpts}
 use Rattle.pw_law_session.specs.FromBuildLaws.Complete.{CanBeBuilt}
 use Rattle.pw_top_words.specs.declared.commands.Command.{Command}
 use Rattle.pw_top_words.specs.declared.commands.Command.TheVariants.{Go, Build as BuildAll}
-use Rattle.pw_top.specs.Commands.{IsComplete, RefusesAsBuilt}
-use Rattle.pw_top.specs.Does.{DoesAs}
-use Rattle.pw_top.specs.Whole.{IfMade}
+use Rattle.pw_top.specs.Commands.{BuildsFirst, IsComplete}
 use Rattle.pw_top.proofs.WholeLemmas.{AreWithin}
 
 -- the law
@@ -40,6 +35,11 @@ made_by : (answer : Answer) (P Q : Type 0) → (P → Q) → IfMade answer P →
 made_by StoreFault P Q f p = tt
 made_by NoMemory P Q f p = tt
 made_by answer P Q f p = f p
+
+made_then : (answer : Answer) (P Q : Type 0) → (P → IfMade answer Q) → IfMade answer P → IfMade answer Q
+made_then StoreFault P Q f p = tt
+made_then NoMemory P Q f p = tt
+made_then answer P Q f p = f p
 
 -- ---- a refusal is told by an answer that refuses
 
@@ -73,32 +73,16 @@ exactly (Err fault) answer P h same = made_by answer (IsNoRefusal answer → ⊥
 abbrev ExactlyAt : Files → Opts → Type 0
 ExactlyAt files opts = (comes : Result Outcome BuildFault) → BuildOutcome files opts comes → IsOk comes ↔ CanBeBuilt (modules_of files) opts
 
--- the build's refusal is the answer
-abbrev Refuses : Files → Opts → Answer → Type 0
-Refuses files opts answer = (comes : Result Outcome BuildFault) → BuildOutcome files opts comes → AnswersOutcome comes answer
+built_exactly : (opts : Opts) (answer : Answer) (told : Told) (new : Option Told) → ExactlyAt told.files opts → HasBuilt opts answer told new → IfMade answer (IsNoRefusal answer ↔ CanBeBuilt (modules_of told.files) opts)
+built_exactly opts answer told new law h =
+    made_then answer ((comes : Result Outcome BuildFault) × BuildOutcome told.files opts comes) (IsNoRefusal answer ↔ CanBeBuilt (modules_of told.files) opts)
+    (λ c. exactly c.0 answer (CanBeBuilt (modules_of told.files) opts) (h.answers c.0 c.1) (law c.0 c.1)) h.found
 
-build_exactly : (files : Files) (opts : Opts) (input : List ℕ) (answer : Answer) → ExactlyAt files opts → Refuses files opts answer → IsFound (BuildEffect files opts input) answer → IfMade answer (IsNoRefusal answer ↔ CanBeBuilt (modules_of files) opts)
-build_exactly files opts input StoreFault law refusal found = tt
-build_exactly files opts input NoMemory law refusal found = tt
-build_exactly files opts input answer law refusal found =
-    let c = found.1 in exactly c.0 answer (CanBeBuilt (modules_of files) opts) (refusal c.0 c.1) (law c.0 c.1)
+complete_of : AreBuiltExactly → (command : Option Command) (answer : Answer) (told : Told) (new : Option Told) → AreWithin command → BuildsFirst command answer told new → IsComplete command told.files answer
+complete_of law (Some (BuildAll opts)) answer told new within built = λ keeps. built_exactly opts answer told new (λ comes h. law told.files opts comes within.0 keeps h) built
+complete_of law (Some (Go opts)) answer told new within built = λ keeps. built_exactly opts.build answer told new (λ comes h. law told.files opts.build comes within.0 keeps h) built
+complete_of law command answer told new within built = tt
 
-go_exactly : (files : Files) (opts : RunOpts) (input : List ℕ) (answer : Answer) → ExactlyAt files opts.build → Refuses files opts.build answer → IsFound (GoEffect files opts input) answer → IfMade answer (IsNoRefusal answer ↔ CanBeBuilt (modules_of files) opts.build)
-go_exactly files opts input StoreFault law refusal found = tt
-go_exactly files opts input NoMemory law refusal found = tt
-go_exactly files opts input answer law refusal found =
-    let c = found.1 in exactly c.0 answer (CanBeBuilt (modules_of files) opts.build) (refusal c.0 c.1) (law c.0 c.1)
-
-complete_of : AreBuiltExactly → (command : Option Command) (answer : Answer) (told : Told) (new : Option Told) (input : List ℕ) (rest taken taken' : Option (List ℕ)) → AreWithin command → DoesAs command answer told new input rest taken taken'
-    → RefusesAsBuilt command told.files answer → IsComplete command told.files answer
-complete_of law (Some (BuildAll opts)) answer told new input rest taken taken' within does refusal =
-    λ keeps. build_exactly told.files opts input answer (λ comes h. law told.files opts comes within.0 keeps h) refusal does.found
-complete_of law (Some (Go opts)) answer told new input rest taken taken' within does refusal =
-    λ keeps. go_exactly told.files opts input answer (λ comes h. law told.files opts.build comes within.0 keeps h) refusal does.found
-complete_of law command answer told new input rest taken taken' within does refusal = tt
-
-pub is_complete : AreBuiltExactly → (command : Option Command) (first new : Option Told) (old rest taken taken' : Option (List ℕ)) (answer : Answer) → AreWithin command
-    → IfSome first (λ t. IfSome old (λ input. DoesAs command answer t new input rest taken taken')) → IfSome first (λ t. RefusesAsBuilt command t.files answer) → IfSome first (λ t. IfSome old (λ input. IsComplete command t.files answer))
-is_complete law command None new old rest taken taken' answer within does refusal = tt
-is_complete law command (Some t) new None rest taken taken' answer within does refusal = tt
-is_complete law command (Some t) new (Some input) rest taken taken' answer within does refusal = complete_of law command answer t new input rest taken taken' within does refusal
+pub is_complete : AreBuiltExactly → (command : Option Command) (first new : Option Told) (answer : Answer) → AreWithin command → IfSome first (λ t. BuildsFirst command answer t new) → IfSome first (λ t. IsComplete command t.files answer)
+is_complete law command None new answer within built = tt
+is_complete law command (Some t) new answer within built = complete_of law command answer t new within built

@@ -4,6 +4,8 @@ pub mod ToldLemmas
 pub mod GenuineLemmas
 pub mod SessionLemmas
 pub mod WholeLemmas
+pub mod BehindLemmas
+pub mod MeantLemmas
 pub mod CompleteLemmas
 pub mod ProperLemmas
 pub mod RestLemmas

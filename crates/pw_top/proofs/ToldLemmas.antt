@@ -11,14 +11,16 @@ use Rattle.pw_top_answer.specs.Outcomes.{Answers, InputCount, IsLineDue, LeavesI
 use Rattle.pw_go.specs.Ends.{EndsIn}
 use Rattle.pw_commands.specs.Others.{KeepsOthers}
 use Rattle.pw_law_session.specs.FromSession.FromBuild.BuildFault.{BuildFault}
-use Rattle.pw_law_session.specs.FromSession.FromBuildFiles.Building.{Outcome}
+use Rattle.pw_law_session.specs.FromSession.FromBuildFiles.Building.{Outcome, puts_of}
 use Rattle.pw_law_session.specs.FromSession.FromBuildFiles.Outcomes.{AnswersOutcome}
+use Rattle.pw_build_opts.specs.declared.opts.Opts.{Opts}
+use Rattle.pw_go.specs.Going.{HasBuilt}
 use Rattle.pw_top_words.specs.declared.commands.Command.{Command}
 use Rattle.pw_top_words.specs.declared.commands.Command.TheVariants.{Go, Build as BuildAll, Session}
 use Rattle.pw_law_session.specs.FromSession.FromBuildFiles.Driving.{KeepsUnput, Unput}
 use Rattle.pw_law_session.specs.FromSession.Removals.{MayRemove}
 use Rattle.pw_top.specs.Answers.{HoldsNoWantOfMemory}
-use Rattle.pw_top.specs.Commands.{EndsScript, KeepsTheRest, RefusesAsBuilt, files_put}
+use Rattle.pw_top.specs.Commands.{BuildsFirst, EndsScript, KeepsTheRest, files_put}
 use Rattle.pw_top.specs.Does.{Does, DoesAs}
 use Rattle.pw_top.proofs.DoesLemmas.{memory_here, out_part}
 use Rattle.pw_top.proofs.SessionLemmas.{left_memory, session_memory_here, session_no_memory, some_memory}
@@ -112,24 +114,45 @@ memory_ends command script = tt
 pub ends_told : (command : Option Command) (script : Option (List ℕ)) (answer last : Answer) → ToldAs answer last → EndsScript command script answer → EndsScript command script last
 ends_told command script answer last t h = told_by (EndsScript command script) answer last t h (λ n x. memory_ends command script)
 
--- ---- the refusals of builds
+-- ---- what `build` and `go` built first
 
 comes_no_memory : (comes : Result Outcome BuildFault) → AnswersOutcome comes NoMemory
 comes_no_memory (Ok outcome) = tt
 comes_no_memory (Err fault) = tt
 
-refuses_no_memory : (command : Option Command) (files : Files) → RefusesAsBuilt command files NoMemory
-refuses_no_memory (Some (Go opts)) files = λ comes h. comes_no_memory comes
-refuses_no_memory (Some (BuildAll opts)) files = λ comes h. comes_no_memory comes
-refuses_no_memory command files = tt
+-- memory ran out before anything was put
+nothing_built : (opts : Opts) (told : Told) → HasBuilt opts NoMemory told (Some told)
+nothing_built opts told = record {
+  found = tt;
+  answers = λ comes b. comes_no_memory comes;
+  puts = λ comes b. record { done = []; more = puts_of comes; split = refl; left = refl };
+}
 
-pub memory_refuses : (command : Option Command) (told : Option Told) → IfSome told (λ t. RefusesAsBuilt command t.files NoMemory)
-memory_refuses command None = tt
-memory_refuses command (Some t) = refuses_no_memory command t.files
+builds_nothing : (command : Option Command) (told : Told) → BuildsFirst command NoMemory told (Some told)
+builds_nothing (Some (Go opts)) told = nothing_built opts.build told
+builds_nothing (Some (BuildAll opts)) told = nothing_built opts told
+builds_nothing command told = tt
 
-pub told_refuses : (command : Option Command) (first : Option Told) (answer last : Answer) → ToldAs answer last → IfSome first (λ t. RefusesAsBuilt command t.files answer) → IfSome first (λ t. RefusesAsBuilt command t.files last)
-told_refuses command None answer last t h = tt
-told_refuses command (Some now) answer last t h = told_by (RefusesAsBuilt command now.files) answer last t h (λ n a. refuses_no_memory command now.files)
+pub memory_builds : (command : Option Command) (told : Option Told) → IfSome told (λ t. BuildsFirst command NoMemory t told)
+memory_builds command None = tt
+memory_builds command (Some t) = builds_nothing command t
+
+-- or for the line of the answer
+built_memory : (opts : Opts) (answer : Answer) (told : Told) (new : Option Told) → NeedsMemory answer → HasBuilt opts answer told new → HasBuilt opts NoMemory told new
+built_memory opts answer told new n h = record {
+  found = tt;
+  answers = λ comes b. comes_no_memory comes;
+  puts = λ comes b. puts_all answer (puts_of comes) told new n (h.puts comes b);
+}
+
+builds_memory : (command : Option Command) (answer : Answer) (told : Told) (new : Option Told) → NeedsMemory answer → BuildsFirst command answer told new → BuildsFirst command NoMemory told new
+builds_memory (Some (Go opts)) answer told new n h = built_memory opts.build answer told new n h
+builds_memory (Some (BuildAll opts)) answer told new n h = built_memory opts answer told new n h
+builds_memory command answer told new n h = tt
+
+pub told_builds : (command : Option Command) (first new : Option Told) (answer last : Answer) → ToldAs answer last → IfSome first (λ t. BuildsFirst command answer t new) → IfSome first (λ t. BuildsFirst command last t new)
+told_builds command None new answer last t h = tt
+told_builds command (Some now) new answer last t h = told_by (λ a. BuildsFirst command a now new) answer last t h (λ n b. builds_memory command answer now new n b)
 
 pub told_proper : (answer last : Answer) → ToldAs answer last → HoldsNoWantOfMemory answer → HoldsNoWantOfMemory last
 told_proper answer last t h = told_by HoldsNoWantOfMemory answer last t h (λ n x. tt)

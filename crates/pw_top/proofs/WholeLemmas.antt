@@ -37,10 +37,10 @@ abbrev pub BenchesAreFull : Type 0
 BenchesAreFull = (number : ℕ) (opts : RunOpts) (input : List ℕ) (effect : Effect) → AreOpts opts.build → BenchEffect number opts input effect → BenchBuildsInFull number opts input effect
 
 -- those of builds, of some options
-abbrev FullAt : Opts → Type 0
+abbrev pub FullAt : Opts → Type 0
 FullAt opts = (told : Told) (comes : Result Outcome BuildFault) → KeepsGenuine told.files → BuildOutcome told.files opts comes → IsBuiltInFull told opts comes
 
-full_at : BuildsAreFull → (opts : Opts) → AreOpts opts → FullAt opts
+pub full_at : BuildsAreFull → (opts : Opts) → AreOpts opts → FullAt opts
 full_at law opts are told comes keeps h = law told opts comes are keeps h
 
 -- ---- one effect
@@ -102,7 +102,7 @@ build_whole opts law _ told new input rest taken taken' d keeps =
     let c = d.found.1 in
     built_full opts law c.0 told new input taken taken' _ d.found.0 keeps c.1 c.2 (d.answers d.found.0 c) (d.puts d.found.0 c) (d.output d.found.0 c)
 
-go_whole : (opts : RunOpts) → FullAt opts.build → (answer : Answer) (told : Told) (new : Option Told) (input : List ℕ) (rest taken taken' : Option (List ℕ)) → Does (GoEffect told.files opts input) answer told new input rest taken taken' → KeepsGenuine told.files
+pub go_whole : (opts : RunOpts) → FullAt opts.build → (answer : Answer) (told : Told) (new : Option Told) (input : List ℕ) (rest taken taken' : Option (List ℕ)) → Does (GoEffect told.files opts input) answer told new input rest taken taken' → KeepsGenuine told.files
     → IfMade answer (ComesInFull opts.build told new (λ full. RunsFull opts.budget input full answer rest taken taken'))
 go_whole opts law StoreFault told new input rest taken taken' d keeps = tt
 go_whole opts law NoMemory told new input rest taken taken' d keeps = tt

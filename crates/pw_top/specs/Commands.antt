@@ -1,14 +1,11 @@
 -- Kinds of commands, and what each leaves alone.
-use Rattle.std.specs.Prelude.{ℕ, Bool, true, false, List, [], ◌∷◌, Option, Some, None, IfSome, IsSomeAnd, Result, ◌↔◌}
+use Rattle.std.specs.Prelude.{ℕ, Bool, true, false, List, [], ◌∷◌, Option, Some, None, IfSome, IsSomeAnd, ◌↔◌}
 use Rattle.pw_io.specs.Files.{Files, Told}
 use Rattle.pw_store_modules.specs.FileNames.{database_name, image_name}
 use Rattle.pw_top_answer.specs.declared.answer.Answer.{Answer}
 use Rattle.pw_top_answer.specs.Outcomes.{IsNoRefusal}
 use Rattle.pw_store_modules.specs.Modules.{modules_of}
 use Rattle.pw_law_session.specs.FromSession.FromBuild.Phases as phases
-use Rattle.pw_law_session.specs.FromSession.FromBuild.BuildFault.{BuildFault}
-use Rattle.pw_law_session.specs.FromSession.FromBuildFiles.Building.{BuildOutcome, Outcome}
-use Rattle.pw_law_session.specs.FromSession.FromBuildFiles.Outcomes.{AnswersOutcome}
 use Rattle.pw_commands.specs.Others.{KeepsOthers}
 use Rattle.pw_law_session.specs.FromSession.FromBuildFiles.Genuine.{KeepsGenuine}
 use Rattle.pw_law_session.specs.FromSession.Bench.{bench_files}
@@ -17,6 +14,7 @@ use Rattle.pw_law_session.specs.FromSession.Outcomes.{EndsAs}
 use Rattle.pw_law_session.specs.FromSession.Removals.{MayRemove}
 use Rattle.pw_law_session.specs.FromSession.FromBuildFiles.Driving.{KeepsUnput}
 use Rattle.pw_build_opts.specs.declared.opts.Opts.{Opts}
+use Rattle.pw_go.specs.Going.{HasBuilt}
 use Rattle.pw_law_session.specs.FromBuildLaws.Complete.{CanBeBuilt}
 use Rattle.pw_law_session.specs.Full.{SessionBuildsInFull}
 use Rattle.pw_top.specs.Rest.{LeavesRest}
@@ -86,13 +84,13 @@ KeepsTheRest (Some (Session opts)) script answer old new =
     IfSome old (λ told. MakesSome (MayRemove script) answer told new × IsSomeAnd new (LeavesRest (MayRemove script) answer told))
 KeepsTheRest command script answer old new = KeepsOthers (files_put command) answer old new
 
--- The refusal to which the build of `build` and of `go` comes is their answer, whatever the input tells; only want of memory and
--- a fault of the store may come in its place.
-abbrev pub RefusesAsBuilt : Option Command → Files → Answer → Type 0
-RefusesAsBuilt (Some (Go opts)) files answer = (comes : Result Outcome BuildFault) → BuildOutcome files opts.build comes → AnswersOutcome comes answer
-RefusesAsBuilt (Some (Where k opts)) files answer = (comes : Result Outcome BuildFault) → BuildOutcome files opts.build comes → AnswersOutcome comes answer
-RefusesAsBuilt (Some (Build opts)) files answer = (comes : Result Outcome BuildFault) → BuildOutcome files opts comes → AnswersOutcome comes answer
-RefusesAsBuilt _ files answer = Unit {0}
+-- `build` and `go` built first, whatever the input tells: the refusal to which their build comes is their answer, in whose place
+-- only want of memory and a fault of the store may come, and the files of a build were put.
+abbrev pub BuildsFirst : Option Command → Answer → Told → Option Told → Type 0
+BuildsFirst (Some (Go opts)) answer told new = HasBuilt opts.build answer told new
+BuildsFirst (Some (Where k opts)) answer told new = HasBuilt opts.build answer told new
+BuildsFirst (Some (Build opts)) answer told new = HasBuilt opts answer told new
+BuildsFirst _ answer told new = Unit {0}
 
 -- Where the kept objects are genuine, nothing is refused exactly where the modules can be built: they are accepted one by one and
 -- together, and text and memory are large enough. So it is of every answer but a fault of the store and want of memory, which may

@@ -1,6 +1,8 @@
 pub mod Answers
+pub mod Behind
 pub mod Commands
 pub mod Does
+pub mod Meant
 pub mod Obeying
 pub mod Rest
 pub mod Whole

@@ -6,7 +6,7 @@ use Rattle.pw_top_answer.specs.Outcomes.{InputCount, IsLineDue, LeavesStreams, O
 use Rattle.pw_law_session.specs.FromSession.FromBuildFiles.Genuine.{KeepsGenuine}
 use Rattle.pw_top_words.specs.declared.commands.Command.{Command}
 use Rattle.pw_top.specs.Answers.{HoldsNoWantOfMemory}
-use Rattle.pw_top.specs.Commands.{EndsScript, IsNoSession, KeepsTheRest, OnlyReads, RefusesAsBuilt, line_of}
+use Rattle.pw_top.specs.Commands.{BuildsFirst, EndsScript, IsNoSession, KeepsTheRest, OnlyReads, line_of}
 use Rattle.pw_top.specs.Does.{DoesAs}
 
 -- What the store, the input and the output tell, where they do, and how many faults each of them had.
@@ -26,7 +26,7 @@ outside_of told rest taken store input output =
 pub record CarriesOut (command : Option Command) (answer : Answer) (number : Option ℕ) (old new : Outside) : Type 0 where
   pub does : IfSome old.told (λ told. IfSome old.rest (λ rest. DoesAs command answer told new.told rest new.rest old.taken new.taken))
   pub ends : EndsScript command old.rest answer
-  pub refusal : IfSome old.told (λ told. RefusesAsBuilt command told.files answer)
+  pub built : IfSome old.told (λ told. BuildsFirst command answer told new.told)
   pub proper : HoldsNoWantOfMemory answer
   pub others : KeepsTheRest command old.rest answer old.told new.told
   pub genuine : IfSome old.told (λ told. KeepsGenuine told.files → IfSome new.told (λ now. KeepsGenuine now.files))

@@ -6,7 +6,7 @@ use Rattle.pw_image.specs.declared.image.Image.{Image}
 use Rattle.pw_image.specs.Image.{Contents, IsImageFile}
 use Rattle.pw_store_modules.specs.Modules.{module_map}
 use Rattle.pw_top_answer.specs.declared.answer.Answer.{Answer}
-use Rattle.pw_top_answer.specs.declared.answer.Answer.TheVariants.{Done, StoreFault, NoMemory}
+use Rattle.pw_top_answer.specs.declared.answer.Answer.TheVariants.{Done}
 use Rattle.pw_top_answer.specs.Effects.{Effect}
 use Rattle.pw_top_answer.specs.Outcomes.{Answers, LeavesInput, PutsOut}
 use Rattle.pw_build_opts.specs.declared.opts.Opts.{Opts}
@@ -18,14 +18,9 @@ use Rattle.pw_law_session.specs.FromSession.FromBuildFiles.Outcomes.{fault_answe
 use Rattle.pw_commands.specs.MachineRun.{run_answer, run_output, run_rest}
 use Rattle.pw_law_session.specs.FromSession.FromBuildFiles.Driving.{outcome_lines}
 use Rattle.pw_go.specs.Going.{run_from}
+pub use Rattle.pw_go.specs.Going.{IfMade}
 use Rattle.pw_law_session.specs.Full.{BenchBuildsInFull}
 use Rattle.pw_law_session.specs.Whole.{LeavesFull}
-
--- what holds of each answer but a fault of the store and want of memory
-abbrev pub IfMade : Answer → Type 0 → Type 0
-IfMade StoreFault P = Unit {0}
-IfMade NoMemory P = Unit {0}
-IfMade _ P = P
 
 -- the refusal of the full build is told, and nothing is put out
 abbrev pub TellsRefusal : BuildFault → Answer → (taken taken' : Option (List ℕ)) → Type 0

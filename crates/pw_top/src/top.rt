@@ -6,7 +6,7 @@ ghost use Rattle.pw_top_answer.specs.Answers.{line_text};
 ghost use Rattle.pw_top_answer.specs.Outcomes.{InputCount, LeavesStreams, OutputCount, StoreCount, Tells, TellsSome};
 ghost use Rattle.pw_law_session.specs.FromSession.FromBuildFiles.Genuine.{KeepsGenuine};
 ghost use Rattle.pw_top.specs.Answers.{HoldsNoWantOfMemory, IsNoUsage};
-ghost use Rattle.pw_top.specs.Commands.{BuildsWhole, EndsScript, IsComplete, IsNoSession, KeepsTheRest, OnlyReads, RefusesAsBuilt, is_builder, is_phase, is_reader, line_of};
+ghost use Rattle.pw_top.specs.Commands.{BuildsFirst, BuildsWhole, EndsScript, IsComplete, IsNoSession, KeepsTheRest, OnlyReads, is_builder, is_phase, is_reader, line_of};
 ghost use Rattle.pw_top.specs.Does.{DoesAs};
 ghost use Rattle.pw_top.specs.Obeying.{CarriesOut, outside_of};
 ghost use Rattle.pw_top_words.specs.CommandLine.{command_of};
@@ -194,14 +194,14 @@ pub fn pawc_top<S: Store, I: Source, O: Sink, E: Sink>(
     ensures ends_script { EndsScript (command_of (map string_bytes words.now)) (I.rest input.old) result }
     ensures builds_whole { IfSome (S.told store.old) (λ told. IfSome (I.rest input.old) (λ rest. BuildsWhole (command_of (map string_bytes words.now)) result told (S.told store.new) rest (I.rest input.new) (O.taken out.old) (O.taken out.new))) }
 
-    // where nothing is refused
-    ensures complete { IfSome (S.told store.old) (λ told. IfSome (I.rest input.old) (λ rest. IsComplete (command_of (map string_bytes words.now)) told.files result)) }
+    // where nothing is refused, whatever the input tells
+    ensures complete { IfSome (S.told store.old) (λ told. IsComplete (command_of (map string_bytes words.now)) told.files result) }
 
     // no refusal is one for want of memory
     ensures no_want_refused { HoldsNoWantOfMemory result }
 
-    // the refusals of `build` and `go`, whatever the input tells
-    ensures refuses { IfSome (S.told store.old) (λ told. RefusesAsBuilt (command_of (map string_bytes words.now)) told.files result) }
+    // the refusals and the files of `build` and `go`, whatever the input tells
+    ensures builds { IfSome (S.told store.old) (λ told. BuildsFirst (command_of (map string_bytes words.now)) result told (S.told store.new)) }
 
     // what stays
     ensures streams_left { IsNoSession (command_of (map string_bytes words.now)) → LeavesStreams result (I.rest input.old) (I.rest input.new) (O.taken out.old) (O.taken out.new) }

@@ -1,10 +1,9 @@
-use Rattle.std.proofs.Common.{◌≡◌, ◌<◌, ◌≤◌, ◌+◌, ◌∙◌, ℕ, [], List, get_or, length, take, arith, sym, ap, subst, vec_len}
+use Rattle.std.proofs.Common.{◌≡◌, ◌<◌, ◌≤◌, ◌+◌, ◌∙◌, ℕ, [], List, get_or, length, take, arith, sym, ap, subst}
 use Rattle.std.specs.Prelude.{Option}
 use Rattle.std.proofs.lemmas.List.{take_all, length-map}
-use Rattle.std.proofs.lemmas.Option.{slice_get_read}
 use Rattle.pw_live.specs.Points.{points}
 use Rattle.pw_alloc_temps.specs.Weights.{by_weight}
-use Rattle.pw_alloc_temps.specs.Registers.{given_to, given, registers}
+use Rattle.pw_alloc_temps.specs.Registers.{given_to}
 use Rattle.pw_alloc_taken.specs.Makers.{maker}
 use Rattle.pw_alloc_taken.specs.Knowing.{AreGiven}
 use Rattle.pw_alloc_registers.proofs.Turns.{next_turn, none_yet, all_registers, ordered_below}
@@ -23,7 +22,7 @@ colour-requires c =
       outline = c.requires;
       facts = c.in_ok-facts.ensures;
       sized = c.loop-place.invariant.sized;
-      temp = ordered_below f order.items c.loop-place.place c.index.result.now c.in_ok-order.ensures (slice_get_read order.items (vec_len order) c.loop-place.place c.index.result.now order.ok.0 (omega (arith, c.loop-place-test.true, c.len-count.ensures)) c.index.ensures);
+      temp = ordered_below f order.items c.loop-place.place c.index.result.now c.in_ok-order.ensures (let low = c.loop-place-test.true in let size = order.ok.0 in let many = c.len-count.ensures in omega (arith, low, size, many)) c.index.ensures;
     }
 
 pub loop-place-init : goal.loop-place-init

@@ -1,10 +1,8 @@
-use Rattle.std.proofs.Common.{◌<◌, ◌∙◌, List, length, map, refl, sym, ap}
+use Rattle.std.proofs.Common.{◌<◌, ◌∙◌, List, map, sym, ap, subst}
 use Rattle.std.proofs.lemmas.List.{take_all}
-use Rattle.std.proofs.lemmas.Option.{slice_get_read}
 use Rattle.pw_db.specs.declared.database.Web.{Web}
 use Rattle.pw_db.specs.declared.database.Role.{Role}
 use Rattle.pw_live.specs.Liveness.{has}
-use Rattle.pw_alloc_weights.proofs.Counting.{each_at}
 use Rattle.pw_alloc_registers.proofs.Barring.{barred_none, barred_more}
 use Rattle.pw_alloc_registers.proofs.finding.webs_mask.Goals as goal
 
@@ -13,9 +11,7 @@ loop-web-init c = barred_none
 
 pub with_register-more-requires : goal.with_register-more-requires
 with_register-more-requires c =
-    let webs = c.args.webs.now in
-    let k = c.loop-web.web-index in
-    each_at (λ (w : Web × Role). w.0.reg < 32) webs k c.web-item.result c.requires (slice_get_read webs (length webs) k c.web-item.result refl c.loop-web-test.true c.web-item.is)
+    subst (λ (w : Web × Role). w.0.reg < 32) (sym c.web-item.is) (c.requires c.loop-web.web-index c.web-item.result c.loop-web-test.true)
 
 pub loop-web-preserved : goal.loop-web-preserved
 loop-web-preserved c = barred_more c.args.webs.now c.loop-web.web-index c.web-item.result c.loop-web.mask c.with_register-more.result c.loop-web-test.true (sym c.web-item.is) c.with_register-more.ensures c.loop-web.invariant

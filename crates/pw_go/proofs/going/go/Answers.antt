@@ -1,9 +1,9 @@
 use Rattle.std.proofs.Common.{refl}
 use Rattle.pw_store_modules.specs.Modules.{modules_of}
 use Rattle.pw_build_files.specs.FromBuild.Phases.{refused_line}
-use Rattle.pw_build_files.proofs.DrivingLemmas.{fault_line, fault_refusal, fault_streams, fault_writes}
+use Rattle.pw_build_files.proofs.DrivingLemmas.{fault_line, fault_streams, fault_writes}
 use Rattle.pw_build_files.proofs.OthersLemmas.{built_unput, unbuilt_unput}
-use Rattle.pw_go.proofs.GoLemmas.{fault_is, fault_obeys, fault_output, fault_reads, fault_rest, run_comes, run_is, run_line, run_obeys, run_output_is, run_rest_is, run_stores, run_streams}
+use Rattle.pw_go.proofs.GoLemmas.{fault_built, fault_is, fault_obeys, fault_output, fault_reads, fault_rest, run_built_so, run_is, run_line, run_obeys, run_output_is, run_rest_is, run_stores, run_streams}
 use Rattle.pw_go.proofs.going.go.Goals as goal
 
 pub returns-in-Ok-clause-obeys : goal.returns-in-Ok-clause-obeys
@@ -19,8 +19,8 @@ pub returns-in-Ok-clause-rest : goal.returns-in-Ok-clause-rest
 returns-in-Ok-clause-rest g c =
     run_rest_is (g.S.Store.told c.args.store.now) _ (g.I.Source.rest c.args.input.now) _ _ _ c.args.opts.now c.in-Ok.report c.run_built.result c.in-Ok.ensures.obeys (rw c.deref.ensures.value at c.run_built.ensures.run)
 
-pub returns-in-Ok-clause-refusal : goal.returns-in-Ok-clause-refusal
-returns-in-Ok-clause-refusal g c = run_comes (g.S.Store.told c.args.store.now) _ c.args.opts.now c.in-Ok.report c.run_built.result c.run_built.ensures.answer c.in-Ok.ensures.obeys
+pub returns-in-Ok-clause-built : goal.returns-in-Ok-clause-built
+returns-in-Ok-clause-built g c = run_built_so (g.S.Store.told c.args.store.now) _ c.args.opts.now.build c.in-Ok.report c.run_built.result c.run_built.ensures.answer c.in-Ok.ensures.obeys
 
 pub returns-in-Ok-clause-others : goal.returns-in-Ok-clause-others
 returns-in-Ok-clause-others g c = built_unput c.other_files.ensures.insertion c.run_built.result (g.S.Store.told c.args.store.now) _ c.in-Ok.ensures.others
@@ -47,8 +47,8 @@ returns-in-Err-clause-output g c =
 pub returns-in-Err-clause-rest : goal.returns-in-Err-clause-rest
 returns-in-Err-clause-rest g c = fault_rest (g.S.Store.told c.args.store.now) _ (g.I.Source.rest c.args.input.now) c.args.opts.now c.in-Err.unbuilt c.answer_of.result c.answer_of.ensures c.in-Err.ensures.obeys
 
-pub returns-in-Err-clause-refusal : goal.returns-in-Err-clause-refusal
-returns-in-Err-clause-refusal g c = fault_refusal (g.S.Store.told c.args.store.now) _ c.args.opts.now.build c.in-Err.unbuilt c.answer_of.result c.answer_of.ensures c.in-Err.ensures.obeys
+pub returns-in-Err-clause-built : goal.returns-in-Err-clause-built
+returns-in-Err-clause-built g c = fault_built (g.S.Store.told c.args.store.now) _ c.args.opts.now.build c.in-Err.unbuilt c.answer_of.result c.answer_of.ensures c.in-Err.ensures.obeys
 
 pub returns-in-Err-clause-others : goal.returns-in-Err-clause-others
 returns-in-Err-clause-others g c =

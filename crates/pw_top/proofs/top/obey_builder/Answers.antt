@@ -1,5 +1,5 @@
 use Rattle.pw_law_session.specs.FromSession.Removals.{MayRemove}
-use Rattle.pw_top.proofs.CommandLemmas.{build_does, build_no_usage, build_reads, go_does, go_no_usage, kept_alone, none_due, plain_line}
+use Rattle.pw_top.proofs.CommandLemmas.{build_built, build_does, build_no_usage, build_reads, go_does, go_no_usage, kept_alone, none_due, plain_line}
 use Rattle.pw_top.proofs.GenuineLemmas.{genuine_alone, others_alone}
 use Rattle.pw_top.proofs.ProperLemmas.{bench_proper, build_proper, go_proper, session_proper}
 use Rattle.pw_top.proofs.RestLemmas.{leaves_rest}
@@ -17,7 +17,7 @@ returns-in-Go-clause-obeys g c =
     rw c.in-Go.is (record {
       does = go_does told _ rest _ taken _ _ _ c.go.ensures.obeys c.go.ensures.output c.go.ensures.rest;
       ends = tt;
-      refusal = c.go.ensures.refusal;
+      built = c.go.ensures.built;
       proper = go_proper _ c.go.ensures.answer;
       others = c.go.ensures.others;
       genuine = c.go.ensures.genuine;
@@ -40,7 +40,7 @@ returns-in-Build-clause-obeys g c =
     rw c.in-Build.is (record {
       does = build_does told _ rest taken _ _ _ c.build_modules.ensures.obeys c.build_modules.ensures.output;
       ends = tt;
-      refusal = c.build_modules.ensures.refusal;
+      built = build_built told _ _ _ c.build_modules.ensures.obeys c.build_modules.ensures.refusal;
       proper = build_proper _ c.build_modules.ensures.answer;
       others = c.build_modules.ensures.others;
       genuine = c.build_modules.ensures.genuine;
@@ -63,7 +63,7 @@ returns-in-Session-clause-obeys g c =
     rw c.in-Session.is (record {
       does = session_does told _ rest _ taken _ _ _ c.run_session.ensures.obeys c.run_session.ensures.rest;
       ends = c.run_session.ensures.ends;
-      refusal = none_due told;
+      built = none_due told;
       proper = session_proper _ c.run_session.ensures.answer;
       others = session_others (MayRemove rest) (leaves_rest (record { insertion = c.other_files.ensures.insertion; removal = c.other_files.ensures.removal; failure = c.other_files.ensures.failure }) (MayRemove rest)) told _ _ c.run_session.ensures.some;
       genuine = c.run_session.ensures.genuine;
@@ -86,7 +86,7 @@ returns-in-Bench-clause-obeys g c =
     rw c.in-Bench.is (record {
       does = bench_does told rest taken _ _ _ _ c.bench.ensures.obeys;
       ends = tt;
-      refusal = none_due told;
+      built = none_due told;
       proper = bench_proper _ c.bench.ensures.answer;
       others = others_alone _ c.bench.result.answer told;
       genuine = genuine_alone told;

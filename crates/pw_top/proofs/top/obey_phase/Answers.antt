@@ -13,7 +13,7 @@ returns-in-PhaseOne-clause-obeys g c rest taken input output =
     rw c.in-PhaseOne.is (record {
       does = phase_one_does told _ rest taken _ c.compile_text.result.answer c.compile_text.ensures.obeys;
       ends = tt;
-      refusal = none_due told;
+      built = none_due told;
       proper = phase_proper c.compile_text.result.answer c.compile_text.ensures.answer;
       others = c.compile_text.ensures.others;
       genuine = plain_genuine (Some c.args.command.now) rest c.compile_text.result.answer told _ (rw c.in-PhaseOne.is tt) (rw c.in-PhaseOne.is c.compile_text.ensures.others);
@@ -34,7 +34,7 @@ returns-in-Analyse-clause-obeys g c rest taken input output =
     rw c.in-Analyse.is (record {
       does = analyse_does told _ rest taken _ c.analyse_modules.result c.analyse_modules.ensures.obeys;
       ends = tt;
-      refusal = none_due told;
+      built = none_due told;
       proper = store_proper c.analyse_modules.result c.analyse_modules.ensures.answer;
       others = c.analyse_modules.ensures.others;
       genuine = plain_genuine (Some c.args.command.now) rest c.analyse_modules.result told _ (rw c.in-Analyse.is tt) (rw c.in-Analyse.is c.analyse_modules.ensures.others);
@@ -55,7 +55,7 @@ returns-in-PhaseTwo-clause-obeys g c rest taken input output =
     rw c.in-PhaseTwo.is (record {
       does = phase_two_does told _ rest taken _ c.compile_flow.result c.compile_flow.ensures.obeys;
       ends = tt;
-      refusal = none_due told;
+      built = none_due told;
       proper = store_proper c.compile_flow.result c.compile_flow.ensures.answer;
       others = c.compile_flow.ensures.others;
       genuine = phase_two_genuine c.genuine_files_keep_genuine.ensures told _ _ c.compile_flow.ensures.made;
@@ -76,7 +76,7 @@ returns-in-Link-clause-obeys g c rest taken input output =
     rw c.in-Link.is (record {
       does = link_does told _ rest taken _ c.link_modules.result c.link_modules.ensures.obeys;
       ends = tt;
-      refusal = none_due told;
+      built = none_due told;
       proper = store_proper c.link_modules.result c.link_modules.ensures.answer;
       others = c.link_modules.ensures.others;
       genuine = plain_genuine (Some c.args.command.now) rest c.link_modules.result told _ (rw c.in-Link.is tt) (rw c.in-Link.is c.link_modules.ensures.others);

@@ -15,7 +15,7 @@ returns-in-Run-clause-obeys g c =
     rw c.in-Run.is (record {
       does = run_does told _ rest _ taken _ _ _ c.run_image.ensures.same c.run_image.ensures.answer c.run_image.ensures.output c.run_image.ensures.rest;
       ends = tt;
-      refusal = none_due told;
+      built = none_due told;
       proper = run_proper _ c.run_image.ensures.run;
       others = kept_others c.run_image.result told _ c.run_image.ensures.same;
       genuine = stays_genuine [] c.run_image.result told _ (λ name. tt) (kept_others c.run_image.result told _ c.run_image.ensures.same);
@@ -38,7 +38,7 @@ returns-in-List-clause-obeys g c =
     rw c.in-List.is (record {
       does = list_does told _ rest taken _ _ c.list_image.ensures.same c.list_image.ensures.shows;
       ends = tt;
-      refusal = none_due told;
+      built = none_due told;
       proper = show_proper _ c.list_image.ensures.answer;
       others = kept_others c.list_image.result told _ c.list_image.ensures.same;
       genuine = stays_genuine [] c.list_image.result told _ (λ name. tt) (kept_others c.list_image.result told _ c.list_image.ensures.same);
@@ -61,7 +61,7 @@ returns-in-Db-clause-obeys g c =
     rw c.in-Db.is (record {
       does = db_does told _ rest taken _ _ c.show_database.ensures.same c.show_database.ensures.shows;
       ends = tt;
-      refusal = none_due told;
+      built = none_due told;
       proper = show_proper _ c.show_database.ensures.answer;
       others = kept_others c.show_database.result told _ c.show_database.ensures.same;
       genuine = stays_genuine [] c.show_database.result told _ (λ name. tt) (kept_others c.show_database.result told _ c.show_database.ensures.same);

@@ -5,7 +5,7 @@ use Rattle.pw_top_words.specs.CommandLine.{command_of}
 use Rattle.pw_top.proofs.DoesLemmas.{usage_does}
 use Rattle.pw_top.proofs.CommandLemmas.{kept_alone, left_alone, no_command, none_due, usage_apart}
 use Rattle.pw_top.proofs.GenuineLemmas.{genuine_alone, others_alone, rest_alone}
-use Rattle.pw_top.proofs.ToldLemmas.{memory_does, memory_ends, memory_refuses, no_memory_is_no_usage}
+use Rattle.pw_top.proofs.ToldLemmas.{memory_builds, memory_does, memory_ends, no_memory_is_no_usage}
 use Rattle.pw_top.proofs.top.obey_words.Goals as goal
 
 pub obey-requires : goal.obey-requires
@@ -29,7 +29,7 @@ returns-in-Err-Usage-clause-obeys g c =
     rw none (record {
       does = usage_does told rest taken;
       ends = tt;
-      refusal = none_due told;
+      built = none_due told;
       proper = tt;
       others = others_alone [] Usage told;
       genuine = genuine_alone told;
@@ -55,7 +55,7 @@ returns-in-Err-NoMemory-clause-obeys g c =
     record {
       does = memory_does c.runs_leave_an_end.ensures.run c.runs_leave_an_end.ensures.go command told rest (g.O.Sink.taken c.args.out.now);
       ends = memory_ends command rest;
-      refusal = memory_refuses command told;
+      built = memory_builds command told;
       proper = tt;
       others = rest_alone command rest told;
       genuine = genuine_alone told;

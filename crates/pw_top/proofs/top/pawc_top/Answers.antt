@@ -4,7 +4,7 @@ use Rattle.pw_top_answer.specs.Outcomes.{Tells}
 use Rattle.pw_top_words.specs.CommandLine.{command_of}
 use Rattle.pw_top.specs.Commands.{IsNoSession, line_of}
 use Rattle.pw_top.proofs.CompleteLemmas.{is_complete}
-use Rattle.pw_top.proofs.ToldLemmas.{ends_told, input_told, output_told, rest_told, store_told, streams_told, told_does, told_line, told_proper, told_refuses, usage_comes, usage_is}
+use Rattle.pw_top.proofs.ToldLemmas.{ends_told, input_told, output_told, rest_told, store_told, streams_told, told_builds, told_does, told_line, told_proper, usage_comes, usage_is}
 use Rattle.pw_top.proofs.WholeLemmas.{are_within, builds_whole}
 use Rattle.pw_top.proofs.top.pawc_top.Goals as goal
 
@@ -24,9 +24,9 @@ returns-clause-does g c =
 pub returns-clause-ends_script : goal.returns-clause-ends_script
 returns-clause-ends_script g c = ends_told (command_of (map string_bytes c.args.words.now)) (g.I.Source.rest c.args.input.now) c.obey_words-reply.result.answer c.tell.result c.tell.ensures.answer c.obey_words-reply.ensures.obeys.ends
 
-pub returns-clause-refuses : goal.returns-clause-refuses
-returns-clause-refuses g c =
-    told_refuses (command_of (map string_bytes c.args.words.now)) (g.S.Store.told c.args.store.now) c.obey_words-reply.result.answer c.tell.result c.tell.ensures.answer c.obey_words-reply.ensures.obeys.refusal
+pub returns-clause-builds : goal.returns-clause-builds
+returns-clause-builds g c =
+    told_builds (command_of (map string_bytes c.args.words.now)) (g.S.Store.told c.args.store.now) _ c.obey_words-reply.result.answer c.tell.result c.tell.ensures.answer c.obey_words-reply.ensures.obeys.built
 
 pub returns-clause-no_want_refused : goal.returns-clause-no_want_refused
 returns-clause-no_want_refused g c =
@@ -71,6 +71,6 @@ returns-clause-store_after g c = c.obey_words-reply.ensures.obeys.reads
 
 pub returns-clause-complete : goal.returns-clause-complete
 returns-clause-complete g c =
-    is_complete c.a_store_is_built_exactly_where_it_can_be.ensures (command_of (map string_bytes c.args.words.now)) (g.S.Store.told c.args.store.now) _ (g.I.Source.rest c.args.input.now) _ (g.O.Sink.taken c.args.out.now) _ c.tell.result
+    is_complete c.a_store_is_built_exactly_where_it_can_be.ensures (command_of (map string_bytes c.args.words.now)) (g.S.Store.told c.args.store.now) _ c.tell.result
     (are_within (command_of (map string_bytes c.args.words.now)) (c.commands_are_within.ensures (map string_bytes c.args.words.now)))
-    (returns-clause-does g c) (returns-clause-refuses g c)
+    (returns-clause-builds g c)

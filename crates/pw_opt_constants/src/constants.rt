@@ -1,0 +1,122 @@
+//! The rewriting by constants.
+
+ghost use Rattle.std.specs.Prelude.{◌≡◌, [], IfOk};
+ghost use Rattle.pw_opt_rules.specs.Constants.{constant, const_or, jump_or};
+
+use pw_flow::{End, Op};
+use pw_opt_rewrite::{defined, with_originals};
+use pw_opt_rows::{Rewriting, Row};
+use pw_opt_rules::Flat;
+use pw_opt_words::{of_binary, of_extension, of_unary};
+use std::alloc::{AllocError as NoMemory, Global};
+
+/// What is known of the temporary that an operation defines.
+fn constant_of(row: &Row, op: &Op) -> Flat
+    ensures { result ≡ constant row.now op.now }
+{
+    match op {
+        Op::Const(_, n) => Flat::One(*n),
+        Op::Copy(_, a) => row.get(*a),
+        Op::Un(k, _, a) => of_unary(*k, row.get(*a)),
+        Op::Bin(k, _, a, b) => of_binary(*k, row.get(*a), row.get(*b)),
+        Op::Ext(k, _, a) => of_extension(*k, row.get(*a)),
+        _ => Flat::Many,
+    }
+}
+
+/// A branch on what is known of its temporary.
+fn branch(known: Flat, a: u32, b: u32, c: u32) -> End
+    ensures { result ≡ jump_or known a b c }
+{
+    match known {
+        Flat::One(n) => { if n == 0 { End::Jump(c) } else { End::Jump(b) } }
+        _ => End::Branch(a, b, c),
+    }
+}
+
+/// The rewriting by constants.
+#[derive(Drop)]
+pub struct Constants {
+    nothing: Row,
+    ghost empty: { nothing ≡ [] },
+}
+
+impl Constants {
+    /// The rewriting by constants.
+    ///
+    /// # Errors
+    ///
+    /// `NoMemory` where there is no memory for a row without places.
+    pub fn new(alloc: Global) -> Result<Constants, NoMemory> {
+        let nothing = Row::bottom(alloc, 0)?;
+        Ok(Constants { nothing })
+    }
+
+    /// The same operation again.
+    fn same(&self, alloc: Global, op: &Op) -> Result<Op, NoMemory>
+        ensures { IfOk result (λ o. o ≡ op.now) }
+    {
+        let same = with_originals(alloc, &self.nothing, op)?;
+        Ok(same)
+    }
+
+    /// The constant where it is one, and else the same operation.
+    fn const_or(&self, alloc: Global, t: u32, known: Flat, op: &Op) -> Result<Op, NoMemory>
+        ensures { IfOk result (λ o. o ≡ const_or t known op.now) }
+    {
+        match known {
+            Flat::One(n) => Ok(Op::Const(t, n)),
+            Flat::Bottom | Flat::Many => self.same(alloc, op),
+        }
+    }
+}
+
+impl Rewriting for Constants {
+    ghost use Rattle.std.specs.Prelude.{true};
+    ghost use Rattle.pw_opt_rules.specs.Constants.{constants};
+    ghost use Rattle.pw_opt_order.specs.Order.{constants_rise};
+    ghost use Rattle.pw_opt_constants.specs.Anything.{anything_may};
+
+    ghost rewriting = { λ _. constants };
+
+    ghost may = { λ _ _ _. true };
+
+    ghost is_about = { λ _ _. true };
+
+    fn follow(&self, row: &mut Row, op: &Op) {
+        if let Some(t) = defined(op) {
+            let known = constant_of(row, op);
+            row.set(t, known);
+        }
+    }
+
+    fn op(&self, alloc: Global, row: &Row, op: &Op) -> Result<Op, NoMemory> {
+        match op {
+            Op::Copy(t, _) | Op::Un(_, t, _) | Op::Bin(_, t, _, _) | Op::Ext(_, t, _) => {
+                self.const_or(alloc, *t, constant_of(row, op), op)
+            }
+            Op::Const(_, _)
+            | Op::AddrGlobal(_, _, _)
+            | Op::AddrSlot(_, _)
+            | Op::AddrFn(_, _)
+            | Op::LoadG(_, _, _)
+            | Op::StoreG(_, _, _)
+            | Op::Load(_, _, _)
+            | Op::Store(_, _, _)
+            | Op::Move(_, _, _, _)
+            | Op::Call(_, _, _)
+            | Op::CallInd(_, _, _, _) => self.same(alloc, op),
+        }
+    }
+
+    fn end(&self, row: &Row, end: End) -> End {
+        match end {
+            End::Branch(a, b, c) => branch(row.get(a), a, b, c),
+            _ => end,
+        }
+    }
+
+    ghost rises = { λ _. constants_rise };
+
+    ghost keeps = { λ _ row o _ _. anything_may (constants.transfer row o) };
+}

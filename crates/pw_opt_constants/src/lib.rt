@@ -1,0 +1,6 @@
+//! Constants of flow graphs: temporaries that hold one word on every path.
+#![tactic(auto)]
+
+mod constants;
+
+pub use constants::Constants;

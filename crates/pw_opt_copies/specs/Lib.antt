@@ -1,0 +1,2 @@
+pub mod Copiers
+pub mod Keeping

@@ -1,0 +1,53 @@
+//! The rewriting by copies.
+
+ghost use Rattle.std.specs.Prelude.{◌≡◌};
+ghost use Rattle.pw_opt_rules.specs.Copies.{copied};
+
+use crate::copiers::Copiers;
+use pw_flow::{End, Op};
+use pw_opt_rewrite::{defined, end_with_originals, with_originals};
+use pw_opt_rows::{Rewriting, Row};
+use pw_opt_rules::Flat;
+use std::alloc::{AllocError as NoMemory, Global};
+
+/// The temporary of which an operation makes a copy.
+fn copied_by(op: &Op) -> Flat
+    ensures { result ≡ copied op.now }
+{
+    match op {
+        Op::Copy(t, a) => { if *a == *t { Flat::Many } else { Flat::One(*a) } }
+        _ => Flat::Many,
+    }
+}
+
+impl Rewriting for Copiers {
+    ghost use Rattle.pw_opt_rules.specs.Copies.{copies};
+    ghost use Rattle.pw_opt_order.specs.Order.{copies_rise};
+    ghost use Rattle.pw_opt_copies.specs.Copiers.{is_copier, is_noted};
+    ghost use Rattle.pw_opt_copies.specs.Keeping.{copies_keep};
+
+    ghost rewriting = { λ _. copies };
+
+    ghost may = { is_copier };
+
+    ghost is_about = { is_noted };
+
+    fn follow(&self, row: &mut Row, op: &Op) {
+        if let Some(t) = defined(op) {
+            self.forget(row, t);
+            row.set(t, copied_by(op));
+        }
+    }
+
+    fn op(&self, alloc: Global, row: &Row, op: &Op) -> Result<Op, NoMemory> {
+        with_originals(alloc, row, op)
+    }
+
+    fn end(&self, row: &Row, end: End) -> End {
+        end_with_originals(row, end)
+    }
+
+    ghost rises = { λ _. copies_rise };
+
+    ghost keeps = { copies_keep };
+}

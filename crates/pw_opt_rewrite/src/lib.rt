@@ -1,0 +1,8 @@
+//! Functions rewritten by what is known at each of their points, block by block and operation by operation.
+#![tactic(auto)]
+
+mod blocks;
+mod operands;
+
+pub use blocks::rewrite;
+pub use operands::{defined, end_with_originals, original, same_numbers, with_originals};

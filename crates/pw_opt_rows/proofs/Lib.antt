@@ -1,0 +1,5 @@
+mod Joining
+mod Ways
+mod Gathering
+mod Steps
+mod Least

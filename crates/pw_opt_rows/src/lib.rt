@@ -1,0 +1,14 @@
+//! What is known of temporaries at the fronts of blocks, by the data-flow solver: the lattice of rows, rewritings of flow
+//! graphs, and the least solution of each.
+#![tactic(auto)]
+
+mod edges;
+mod flats;
+mod fronts;
+mod rewriting;
+mod row;
+mod rows;
+
+pub use fronts::find_fronts;
+pub use rewriting::Rewriting;
+pub use row::Row;

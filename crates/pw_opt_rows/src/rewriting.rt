@@ -1,0 +1,45 @@
+//! Rewritings of flow graphs.
+
+ghost use Rattle.std.specs.Prelude.{ℕ, ◌≡◌, Bool, true, List, IfOk};
+ghost use Rattle.pw_flow.specs.declared.flow.Op.{Op as OpValue};
+ghost use Rattle.pw_opt_rules.specs.declared.flat.Flat.{Flat as FlatValue};
+ghost use Rattle.pw_opt_rules.specs.Rewriting.{Rewriting as RewritingValue};
+ghost use Rattle.pw_opt_order.specs.Rises.{Rises};
+ghost use Rattle.pw_opt_rows.specs.Joins.{HasWhatMay};
+
+use crate::row::Row;
+use pw_flow::{End, Op};
+use std::alloc::{AllocError as NoMemory, Global};
+
+/// What is known of temporaries behind operations, and what becomes of operations and of the ends of blocks by that.
+pub trait Rewriting {
+    /// Which rewriting it is.
+    ghost rewriting: { Self → RewritingValue };
+
+    /// Whether a temporary may be known to have this.
+    ghost may: { Self → ℕ → ℕ → Bool };
+
+    /// The operations that it is about.
+    ghost is_about: { Self → OpValue → Bool };
+
+    /// Makes of what is known before an operation what is known behind it, in place. Takes no memory.
+    fn follow(&self, row: &mut Row, op: &Op)
+        requires about { is_about self.now op.now ≡ true }
+        requires may { HasWhatMay (may self.now) row.old }
+        ensures { row.new ≡ (rewriting self.now).transfer row.old op.now };
+
+    /// What becomes of an operation by what is known before it.
+    fn op(&self, alloc: Global, row: &Row, op: &Op) -> Result<Op, NoMemory>
+        ensures { IfOk result (λ o. o ≡ (rewriting self.now).op row.now op.now) };
+
+    /// What becomes of the end of a block by what is known before it. Takes no memory.
+    fn end(&self, row: &Row, end: End) -> End
+        ensures { result ≡ (rewriting self.now).end row.now end };
+
+    /// More that is known before is more that is known behind.
+    ghost rises: { (r : Self) → Rises (rewriting r).transfer };
+
+    /// Behind an operation too each temporary has no one thing but what it may have.
+    ghost keeps: { (r : Self) (row : List FlatValue) (o : OpValue) → is_about r o ≡ true → HasWhatMay (may r) row
+        → HasWhatMay (may r) ((rewriting r).transfer row o) };
+}
