@@ -1,6 +1,6 @@
 //! The command `where`.
 
-ghost use Rattle.std.specs.Prelude.{◌<◌, ℕ, List, [], Option, IfSome, Result};
+ghost use Rattle.std.specs.Prelude.{◌<◌, [], IfSome};
 ghost use Rattle.std.specs.List.{AllByRecursion};
 ghost use Rattle.pw_store_modules.specs.Modules.{modules_of};
 ghost use Rattle.pw_image.specs.Image.{Contents, IsImageFile};
@@ -11,12 +11,11 @@ ghost use Rattle.pw_top_answer.specs.Effects.{Effect};
 ghost use Rattle.pw_top_answer.specs.Outcomes.{Answers, InputCount, IsLineDue, LeavesInput, LeavesStreams, OutputCount, PutsOut, StoreCount};
 ghost use Rattle.pw_commands.specs.Outcome.{Obeys};
 ghost use Rattle.pw_build_objects.specs.Programs.{WasMade};
-ghost use Rattle.pw_build_files.specs.FromBuild.BuildFault.{BuildFault};
 ghost use Rattle.pw_build_files.specs.FromBuild.Phases.{refused_line};
-ghost use Rattle.pw_build_files.specs.Building.{BuildOutcome, Outcome};
 ghost use Rattle.pw_build_files.specs.Driving.{KeepsUnput};
 ghost use Rattle.pw_build_files.specs.Genuine.{KeepsGenuine};
-ghost use Rattle.pw_build_files.specs.Outcomes.{AnswersOutcome, AreOpts, HoldsImage};
+ghost use Rattle.pw_build_files.specs.Outcomes.{AreOpts, HoldsImage};
+ghost use Rattle.pw_go.specs.Going.{HasBuilt};
 ghost use Rattle.pw_commands_where.specs.Showing.{IsWhereAnswer, LookEffect, WhereEffect};
 
 use pw_build_files::{Report, answer_of, build_uncounted};
@@ -96,7 +95,7 @@ pub fn show_call<S: Store, I: Source, O: Sink>(
     ensures obeys { IfSome (S.told store.old) (λ told. IfSome (I.rest input.old) (λ rest. Obeys (WhereEffect told.files opts.now call rest) result.answer told (S.told store.new))) }
     ensures output { IfSome (S.told store.old) (λ told. IfSome (I.rest input.old) (λ rest. (effect : Effect) → WhereEffect told.files opts.now call rest effect → PutsOut effect.output result.answer (O.taken out.old) (O.taken out.new))) }
     ensures rest { IfSome (S.told store.old) (λ told. IfSome (I.rest input.old) (λ rest. (effect : Effect) → WhereEffect told.files opts.now call rest effect → LeavesInput effect.rest rest result.answer (I.rest input.new))) }
-    ensures refusal { IfSome (S.told store.old) (λ told. (comes : Result Outcome BuildFault) → BuildOutcome told.files opts.now.build comes → AnswersOutcome comes result.answer) }
+    ensures built { IfSome (S.told store.old) (λ told. HasBuilt opts.now.build result.answer told (S.told store.new)) }
     ensures others { IfSome (S.told store.old) (λ told. KeepsUnput result.answer told (S.told store.new)) }
     ensures genuine { IfSome (S.told store.old) (λ told. KeepsGenuine told.files → IfSome (S.told store.new) (λ now. KeepsGenuine now.files)) }
     ensures line { IfSome (S.told store.old) (λ told. IsLineDue (refused_line (modules_of told.files)) result.answer result.line) }
