@@ -50,12 +50,12 @@ use Rattle.pw_client.specs.Saying.{HoldsHello, PutsPrefix, SaysHi}
 
 -- ---- the program of the texts
 
-texts_are_hello : HasTree hello_text hello_syntax → Checks hello_syntax (Ok hello_tree) → (files : Files) → HoldsHello files → IsProgramOf (module_map files) hello
+pub texts_are_hello : HasTree hello_text hello_syntax → Checks hello_syntax (Ok hello_tree) → (files : Files) → HoldsHello files → IsProgramOf (module_map files) hello
 texts_are_hello tree checks files holds =
     subst (λ entries. AreModulesOf entries (hello_module ∷ [])) (sym holds) (record { name = refl; tree = hello_syntax; has_tree = tree; checks = checks }, tt)
 
 -- a module has one answer of the first phase, which is that of the function
-abbrev Compiling : Type 0
+abbrev pub Compiling : Type 0
 Compiling = (name text : List ℕ) (answer : Phase) → Compiles name text answer ↔ (answer ≡ compiled name text)
 
 -- the answer refuses a module
@@ -80,18 +80,18 @@ accepted_alone exact tree checks =
 abbrev NotRefused : Texts → Opts → Type 0
 NotRefused texts opts = (who : List ℕ) (refusal : Refusal) → BuildsImage texts opts (Err (build.Refused who refusal)) → ⊥
 
-not_refused : Compiling → HasTree hello_text hello_syntax → Checks hello_syntax (Ok hello_tree) → (files : Files) → HoldsHello files → (opts : Opts) → NotRefused (module_map files) opts
+pub not_refused : Compiling → HasTree hello_text hello_syntax → Checks hello_syntax (Ok hello_tree) → (files : Files) → HoldsHello files → (opts : Opts) → NotRefused (module_map files) opts
 not_refused exact tree checks files holds opts who refusal built =
     no_refusal (limit_passed ((hello_name, hello_text) ∷ [])) hello_name (compiled hello_name hello_text) (accepted_alone exact tree checks) opts who refusal
     (subst (λ sources. BuildsBy (within (limit_passed sources) (flows_of sources)) [] opts (Err (build.Refused who refusal))) holds built)
 
 -- texts have one program
-abbrev OneProgram : Type 0
+abbrev pub OneProgram : Type 0
 OneProgram = (texts : Texts) (p q : Program) → IsProgramOf texts p → IsProgramOf texts q → p ≡ q
 
 -- ---- its runs in an image
 
-abbrev Runs : Type 0
+abbrev pub Runs : Type 0
 Runs = (frame_of : List ℕ → ℕ) (stack : ℕ) (input : List ℕ) (bound : ℕ) → frame_of main_name + frame_of start_name ≤ stack → frame_of putchar_name ≡ 0 → source_run hello frame_of stack input (suc bound) ≡ hello_run
 
 abbrev hello_source : SourceRun
@@ -211,7 +211,7 @@ if_made (BadScript at) P input input' taken taken' left h says = says h
 
 -- ---- the call
 
-abbrev OneImage : Type 0
+abbrev pub OneImage : Type 0
 OneImage = (bytes : List ℕ) (c d : Contents Image) → IsImageFile bytes c → IsImageFile bytes d → c ≡ d
 
 says_image : Runs → OneProgram → OneImage → (texts : Texts) (opts : RunOpts) (bytes : List ℕ) → Means texts opts.build bytes → IsProgramOf texts hello → stack_least ≤ opts.build.stack
@@ -232,7 +232,7 @@ says_full runs one images texts opts accepted (Err fault) built of least input a
     let part = part_put [] hello_output answer taken taken' refl ran.1 in
     by_answer (fault_answer fault) answer taken taken' ran.0 part (λ e. subst (λ a. SaysHi a taken taken') e (says_fault texts opts.build accepted fault built.0 taken taken' part))
 
-says_built : Runs → OneProgram → OneImage → (told : Told) (new : Option Told) (opts : RunOpts) → NotRefused (module_map told.files) opts.build → IsProgramOf (module_map told.files) hello → stack_least ≤ opts.build.stack
+pub says_built : Runs → OneProgram → OneImage → (told : Told) (new : Option Told) (opts : RunOpts) → NotRefused (module_map told.files) opts.build → IsProgramOf (module_map told.files) hello → stack_least ≤ opts.build.stack
     → (input : List ℕ) → AreBytes input → (answer : Answer) (input' taken taken' : Option (List ℕ)) → LeavesStreams answer (Some input) input' taken taken'
     → IfMade answer (ComesInFull opts.build told new (λ full. RunsFull opts.budget input full answer input' taken taken')) → SaysHi answer taken taken'
 says_built runs one images told new opts accepted of least input are answer input' taken taken' left made =

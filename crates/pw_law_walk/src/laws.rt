@@ -1,0 +1,21 @@
+//! The law. The function here does nothing: its clause is a fact about all values.
+
+ghost use Rattle.std.specs.Prelude.{◌≡◌, ℕ, List, Ok, Some};
+ghost use Rattle.pw_value.specs.declared.value.Kind.{Kind};
+ghost use Rattle.pw_image.specs.declared.image.Function.{Function};
+ghost use Rattle.pw_image.specs.declared.image.GlobalObject.{GlobalObject};
+ghost use Rattle.pw_machine.specs.Core.{Core, byte_at, register};
+ghost use Rattle.pw_run_languages.specs.Standing.{Active, held};
+ghost use Rattle.pw_debug.specs.declared.info.FrameInfo.{FrameInfo};
+ghost use Rattle.pw_debug.specs.Walk.{WalksTo, in_memory, seen, start_of};
+ghost use Rattle.pw_law_walk.specs.Chains.{Chain, found};
+
+/// Where functions are active one behind another, as a walk meets them, the walk finds a global object where it is held: in the
+/// register of the latest of these functions that has a web of it, as that register is when all that were called later have
+/// given back what they saved; or in memory.
+pub fn walks_find_globals()
+    ensures { (core : Core) (functions : List Function) (frames : List FrameInfo) (object : GlobalObject) (kind : Kind) (active : List Active) (value : ℕ) →
+        Chain (seen core.memory functions frames object kind) (start_of core) active →
+        in_memory core.memory kind object.address ≡ Some value →
+        WalksTo (seen core.memory functions frames object kind) (start_of core) (Ok (found kind value (held object.name (byte_at core.memory) (register core) active))) }
+{}
