@@ -96,7 +96,7 @@ pub struct Linked {
 }
 
 /// The objects themselves.
-fn objects_of(alloc: Global, made: Vec<Made>) -> Result<Vec<Object>, AllocError>
+fn taken_objects(alloc: Global, made: Vec<Made>) -> Result<Vec<Object>, AllocError>
     ensures { IfOk result (λ objects. objects.items ≡ objects_of made.items) }
 {
     made.into_iter().map(|one| one.object).collect(alloc)
@@ -131,6 +131,6 @@ pub fn program_of<S: Store, L: Ledger>(
     let files = files_of(alloc, modules, &built.database, &built.made, &built.image)?;
     Ok(Linked {
         files,
-        objects: objects_of(alloc, built.made)?,
+        objects: taken_objects(alloc, built.made)?,
     })
 }
