@@ -155,7 +155,10 @@ fn call(matches: &ArgMatches) -> Result<u64, WordsFault>
     let Some(text) = matches.get_str(OPERAND) else {
         return Err(WordsFault::Usage);
     };
-    number_in(1, CALL_LIMIT, text).ok_or(WordsFault::Usage)
+    match number_in(1, CALL_LIMIT, text) {
+        Some(number) => Ok(number),
+        None => Err(WordsFault::Usage),
+    }
 }
 
 fn go(alloc: Global, words: &[String]) -> Result<Command, WordsFault>
