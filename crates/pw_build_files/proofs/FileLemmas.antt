@@ -51,9 +51,9 @@ one_if_changed : (same changed : Bool) (name bytes : List ℕ) → changed ≡ n
 one_if_changed true changed name bytes e = ap (λ (b : Bool). one_if b name bytes) e
 one_if_changed false changed name bytes e = ap (λ (b : Bool). one_if b name bytes) e
 
-comes_told : (files : Files) (opts : Opts) (ms : List Module) (made : ProgramFiles) (p : Prepared) (count : ℕ) → map source ms ≡ modules_of files
-    → BuildsFiles (map source ms) (map (λ m. kept_object files m.name) ms) opts made → HoldBytes (map file_view made.fresh.files.items) → count ≡ length ms → IsCompared files count made p → BuildOutcome files opts (Ok (outcome_of p))
-comes_told files opts ms made p count sources builds fits few cmp =
+comes_told : (files : Files) (opts : Opts) (ms : List Module) (made : ProgramFiles) (p : Prepared) (objects : List Object) (count : ℕ) → map source ms ≡ modules_of files
+    → BuildsFiles (map source ms) (map (λ m. kept_object files m.name) ms) opts made objects → HoldBytes (map file_view made.fresh.files.items) → count ≡ length ms → IsCompared files count made p → BuildOutcome files opts (Ok (outcome_of p objects))
+comes_told files opts ms made p objects count sources builds fits few cmp =
     let parts = builds.0 in
     let m = builds.2 in
     let names : map (λ s. s.0) (map source ms) ≡ names_of_modules files = ap (map (λ s. s.0)) sources in
@@ -72,6 +72,7 @@ comes_told files opts ms made p count sources builds fits few cmp =
         database_file = subst (λ (b : List ℕ). IsDatabaseFile b parts.database) (sym cmp.database) m.database;
         image_names = m.image_names;
         image_file = subst (λ (b : List ℕ). IsImageFile b (record { names = m.image_names; value = linked parts.objects opts.stack })) (sym cmp.image) m.image;
+        linked_objects = builds.3;
         puts = ap (λ (fs : List NamedFile). map file_view p.objects.items ++ fs)
             (ap (λ (fs : List NamedFile). fs ++ one_if p.image_changed image_name p.image.items)
             (one_if_changed (is_same (finite.get files database_name) p.database.items) p.database_changed database_name p.database.items
@@ -82,12 +83,12 @@ comes_told files opts ms made p count sources builds fits few cmp =
       },
     )
 
-pub comes_prepared : (opts : Opts) (first now : Option Told) (ms : List Module) (made : ProgramFiles) (p : Prepared) (count : ℕ) → IfSome first (λ told. BuildsFiles (map source ms) (map (λ m. kept_object told.files m.name) ms) opts made) → HoldBytes (map file_view made.fresh.files.items) → Keeps first now → count ≡ length ms
-    → IfSome now (λ told. IsCompared told.files count made p) → IfSome first (λ told. map source ms ≡ modules_of told.files → BuildOutcome told.files opts (Ok (outcome_of p)))
-comes_prepared opts None now ms made p count builds fits same few cmp = tt
-comes_prepared opts (Some told) now ms made p count builds fits same few cmp = λ sources.
+pub comes_prepared : (opts : Opts) (first now : Option Told) (ms : List Module) (made : ProgramFiles) (p : Prepared) (objects : List Object) (count : ℕ) → IfSome first (λ told. BuildsFiles (map source ms) (map (λ m. kept_object told.files m.name) ms) opts made objects) → HoldBytes (map file_view made.fresh.files.items) → Keeps first now → count ≡ length ms
+    → IfSome now (λ told. IsCompared told.files count made p) → IfSome first (λ told. map source ms ≡ modules_of told.files → BuildOutcome told.files opts (Ok (outcome_of p objects)))
+comes_prepared opts None now ms made p objects count builds fits same few cmp = tt
+comes_prepared opts (Some told) now ms made p objects count builds fits same few cmp = λ sources.
     let Q : Option Told → Type 0 = λ o. IfSome o (λ t. IsCompared t.files count made p) in
-    comes_told told.files opts ms made p count sources builds fits few (subst Q same cmp)
+    comes_told told.files opts ms made p objects count sources builds fits few (subst Q same cmp)
 
 -- what was prepared of the modules of a store is so of the store
 pub on_modules : (P X : Told → Type 0) (first now : Option Told) → IfSome first P → Keeps first now → IfSome now (λ told. P told → X told) → IfSome first X

@@ -185,8 +185,8 @@ pub parts_genuine : (names : List (List ℕ)) (flows : Result (List FlowModule) 
 parts_genuine names (Err fault) kept opts parts h = absurd (no_parts parts fault h)
 parts_genuine names (Ok flows) kept opts parts h = made_genuine parts.database names flows kept parts.objects parts.fresh h.0.objects
 
-good_told : (files : Files) (sources : List Source) (kept : List (Option Object)) (opts : Opts) (made : ProgramFiles) (p : Prepared) (count : ℕ) → BuildsFiles sources kept opts made → HoldBytes (map file_view made.fresh.files.items) → IsCompared files count made p → AllByRecursion IsOwnFile (changed_files p)
-good_told files sources kept opts made p count builds fits cmp =
+good_told : (files : Files) (sources : List Source) (kept : List (Option Object)) (opts : Opts) (made : ProgramFiles) (p : Prepared) (objects : List Object) (count : ℕ) → BuildsFiles sources kept opts made objects → HoldBytes (map file_view made.fresh.files.items) → IsCompared files count made p → AllByRecursion IsOwnFile (changed_files p)
+good_told files sources kept opts made p objects count builds fits cmp =
     let anew = made_anew (map (λ s. s.0) sources) builds.0.objects builds.0.fresh in
     let genuine : AllByRecursion (λ m. IsGenuine m.1) anew = parts_genuine (map (λ s. s.0) sources) (first_phases sources) kept opts builds.0 builds.1 in
     let own : AllByRecursion IsOwnFile (map file_view made.fresh.files.items) = files_good anew (map file_view made.fresh.files.items) genuine fits builds.2.objects in
@@ -195,12 +195,12 @@ good_told files sources kept opts made p count builds fits cmp =
     good_append (map file_view p.objects.items) (db ++ img) (subst (λ fs. AllByRecursion IsOwnFile (map file_view fs)) (sym cmp.objects) own)
     (good_append db img (alone_good p.database_changed database_name p.database.items (inr (inl refl)) no_database) (alone_good p.image_changed image_name p.image.items (inr (inr refl)) no_image))
 
-pub good_prepared : (opts : Opts) (first now : Option Told) (sources : List Source) (kept : Told → List (Option Object)) (made : ProgramFiles) (p : Prepared) (count : ℕ) → IfSome first (λ told. BuildsFiles sources (kept told) opts made) → HoldBytes (map file_view made.fresh.files.items)
+pub good_prepared : (opts : Opts) (first now : Option Told) (sources : List Source) (kept : Told → List (Option Object)) (made : ProgramFiles) (p : Prepared) (objects : List Object) (count : ℕ) → IfSome first (λ told. BuildsFiles sources (kept told) opts made objects) → HoldBytes (map file_view made.fresh.files.items)
     → Keeps first now → IfSome now (λ told. IsCompared told.files count made p) → IfSome first (λ told. AllByRecursion IsOwnFile (changed_files p))
-good_prepared opts None now sources kept made p count builds fits same cmp = tt
-good_prepared opts (Some told) now sources kept made p count builds fits same cmp =
+good_prepared opts None now sources kept made p objects count builds fits same cmp = tt
+good_prepared opts (Some told) now sources kept made p objects count builds fits same cmp =
     let Q : Option Told → Type 0 = λ o. IfSome o (λ t. IsCompared t.files count made p) in
-    good_told told.files sources (kept told) opts made p count builds fits (subst Q same cmp)
+    good_told told.files sources (kept told) opts made p objects count builds fits (subst Q same cmp)
 
 -- ---- whatever was put
 

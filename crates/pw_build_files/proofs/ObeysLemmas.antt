@@ -15,6 +15,7 @@ use Rattle.pw_build_files.specs.declared.report.Report.{Report}
 use Rattle.pw_build_opts.specs.declared.opts.Opts.{Opts}
 use Rattle.pw_build_files.specs.Building.{BuildOutcome, Outcome, puts_of}
 use Rattle.pw_build_files.specs.Genuine.{IsBuiltName, IsOwnFile}
+use Rattle.pw_build_objects.specs.Programs.{WasMade}
 use Rattle.pw_build_files.specs.Outcomes.{AreBuilt, FaultFound, HoldsImage, ObeysBuild, IsOfStore, PutsSome, Reports, build_answer, fault_answer}
 use Rattle.pw_store_kept.specs.Files.{put_answer}
 use Rattle.pw_store_kept.proofs.PutLemmas.{none_left}
@@ -36,6 +37,11 @@ obeys_all_told one opts few outcome report told new comes reports puts = record 
 pub reported_image : (outcome : Outcome) (result : Result Report Unbuilt) → IfOk result (λ report. Reports outcome report) → HoldsImage outcome.image → IfOk result (λ report. HoldsImage report.image.items)
 reported_image outcome (Ok report) reports h = subst HoldsImage (sym reports.image) h
 reported_image outcome (Err unbuilt) reports h = tt
+
+-- and the objects that are reported are its objects
+pub reported_objects : (outcome : Outcome) (result : Result Report Unbuilt) → IfOk result (λ report. Reports outcome report) → AllByRecursion WasMade outcome.linked_objects → IfOk result (λ report. AllByRecursion WasMade report.objects.items)
+reported_objects outcome (Ok report) reports h = subst (AllByRecursion WasMade) (sym reports.objects) h
+reported_objects outcome (Err unbuilt) reports h = tt
 
 -- ---- the store failed or memory ran out while files were put
 

@@ -59,6 +59,7 @@ outcome_one laws files stack parts o p a b =
       rebuilt = (a.rebuilt ∙ sym b.rebuilt) i;
       image = image i;
       puts = puts i;
+      linked_objects = (a.linked_objects ∙ sym b.linked_objects) i;
     }
 
 pub one_build : Laws → (files : Files) (opts : Opts) (a b : Result Outcome BuildFault) → opts.colours ≤ colour_limit → BuildOutcome files opts a → BuildOutcome files opts b → a ≡ b

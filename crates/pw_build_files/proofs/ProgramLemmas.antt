@@ -129,10 +129,10 @@ counted_names ms built names before now many e counted =
 
 -- ---- the files of a program
 
-made_files : (ms : List Module) (opts : Opts) (kept : List (Option Object)) (built : Built) (made : ProgramFiles) → Builds (map source ms) kept opts (Ok (parts_of built)) → made.fresh.names.items ≡ map (λ m. m.0) (made_anew (map (λ m. m.name) ms) (objects_of built.made.items) (marks_of built.made.items))
+made_files : (ms : List Module) (opts : Opts) (kept : List (Option Object)) (built : Built) (made : ProgramFiles) (linked_objects : List Object) → Builds (map source ms) kept opts (Ok (parts_of built)) → made.fresh.names.items ≡ map (λ m. m.0) (made_anew (map (λ m. m.name) ms) (objects_of built.made.items) (marks_of built.made.items))
     → AreObjectFiles (made_anew (map (λ m. m.name) ms) (objects_of built.made.items) (marks_of built.made.items)) (map file_view made.fresh.files.items) → IsDatabaseFile made.database.items built.database.functions
-    → ((names : List (List ℕ)) × IsImageFile made.image.items (record { names = names; value = built.image })) → built.image ≡ linked (objects_of built.made.items) opts.stack → BuildsFiles (map source ms) kept opts made
-made_files ms opts kept built made builds names objects database image is_linked =
+    → ((names : List (List ℕ)) × IsImageFile made.image.items (record { names = names; value = built.image })) → built.image ≡ linked (objects_of built.made.items) opts.stack → linked_objects ≡ objects_of built.made.items → BuildsFiles (map source ms) kept opts made linked_objects
+made_files ms opts kept built made linked_objects builds names objects database image is_linked are =
     let same : map (λ m. m.name) ms ≡ map (λ s. s.0) (map source ms) = sym (names_by ms) in
     let anew : List (List ℕ) → List (List ℕ × Object) = λ ns. made_anew ns (objects_of built.made.items) (marks_of built.made.items) in (
       parts_of built,
@@ -144,14 +144,15 @@ made_files ms opts kept built made builds names objects database image is_linked
         image_names = image.0;
         image = subst (λ v. IsImageFile made.image.items (record { names = image.0; value = v })) is_linked image.1;
       },
+      are,
     )
 
-pub made_of_program : (ms : List Module) (opts : Opts) (kept : Told → List (Option Object)) (first : Option Told) (built : Built) (made : ProgramFiles) → IfSome first (λ told. Builds (map source ms) (kept told) opts (Ok (parts_of built)))
+pub made_of_program : (ms : List Module) (opts : Opts) (kept : Told → List (Option Object)) (first : Option Told) (built : Built) (made : ProgramFiles) (linked_objects : List Object) → IfSome first (λ told. Builds (map source ms) (kept told) opts (Ok (parts_of built)))
     → made.fresh.names.items ≡ map (λ m. m.0) (made_anew (map (λ m. m.name) ms) (objects_of built.made.items) (marks_of built.made.items))
     → AreObjectFiles (made_anew (map (λ m. m.name) ms) (objects_of built.made.items) (marks_of built.made.items)) (map file_view made.fresh.files.items) → IsDatabaseFile made.database.items built.database.functions
-    → ((names : List (List ℕ)) × IsImageFile made.image.items (record { names = names; value = built.image })) → built.image ≡ linked (objects_of built.made.items) opts.stack → IfSome first (λ told. BuildsFiles (map source ms) (kept told) opts made)
-made_of_program ms opts kept None built made builds names objects database image is_linked = tt
-made_of_program ms opts kept (Some told) built made builds names objects database image is_linked = made_files ms opts (kept told) built made builds names objects database image is_linked
+    → ((names : List (List ℕ)) × IsImageFile made.image.items (record { names = names; value = built.image })) → built.image ≡ linked (objects_of built.made.items) opts.stack → linked_objects ≡ objects_of built.made.items → IfSome first (λ told. BuildsFiles (map source ms) (kept told) opts made linked_objects)
+made_of_program ms opts kept None built made linked_objects builds names objects database image is_linked are = tt
+made_of_program ms opts kept (Some told) built made linked_objects builds names objects database image is_linked are = made_files ms opts (kept told) built made linked_objects builds names objects database image is_linked are
 
 pub holds_image : (bytes : List ℕ) (image : Image) → (names : List (List ℕ)) × IsImageFile bytes (record { names = names; value = image }) → HoldsImage bytes
 holds_image bytes image h = (record { names = h.0; value = image }, h.1)

@@ -28,12 +28,13 @@ if_changed files name bytes = if is_same (finite.get files name) bytes then [] e
 -- ---- the build
 
 -- what a build comes to: how many modules there are, the names of those whose objects are made anew, the bytes of the
--- image, and the files that are put, in order
+-- image, the files that are put, in order, and the objects that are linked
 pub record Outcome : Type 0 where
   pub modules : ℕ
   pub rebuilt : List (List ℕ)
   pub image : List ℕ
   pub puts : List NamedFile
+  pub linked_objects : List Object
 
 -- The objects that are made anew are put, then the database and the image, each of the two where its bytes differ from
 -- those that stand there.
@@ -47,6 +48,7 @@ pub record IsOutcome (files : Files) (stack : ℕ) (parts : Parts) (outcome : Ou
   pub database_file : IsDatabaseFile database parts.database
   pub image_names : List (List ℕ)
   pub image_file : IsImageFile outcome.image (record { names = image_names; value = linked parts.objects stack })
+  pub linked_objects : outcome.linked_objects ≡ parts.objects
   pub puts : outcome.puts ≡ objects ++ (if_changed files database_name database ++ if_changed files image_name outcome.image)
 
 -- A build over the files of a store, for so many registers and such a stack, comes to this: its modules and the objects

@@ -3,6 +3,7 @@ use Rattle.std.specs.Prelude.{◌≡◌, ℕ, ◌≤◌, List, Option, Some, Res
 use Rattle.std.specs.List.{AllByRecursion}
 use Rattle.sha2.specs.Sha256.{sha256}
 use Rattle.pw_io.specs.Files.{Files, Told}
+use Rattle.pw_object.specs.declared.object.Object.{Object}
 use Rattle.pw_value.specs.Limits.{stack_least, stack_limit}
 use Rattle.pw_top_answer.specs.declared.answer.Answer.{Answer}
 use Rattle.pw_top_answer.specs.declared.answer.Answer.TheVariants as answer
@@ -35,6 +36,7 @@ pub record Reports (outcome : Outcome) (report : Report) : Type 0 where
   pub rebuilt : report.rebuilt.items ≡ outcome.rebuilt
   pub image : report.image.items ≡ outcome.image
   pub digest : report.digest ≡ sha256 outcome.image
+  pub objects : report.objects.items ≡ outcome.linked_objects
 
 abbrev pub build_answer : Result Report Unbuilt → Answer
 build_answer (Ok report) = answer.Done
@@ -97,5 +99,5 @@ IsOfStore build.NoMemory = Unit {0}
 IsOfStore fault = ⊥
 
 -- a build as far as its puts
-abbrev pub outcome_of : Prepared → Outcome
-outcome_of p = record { modules = p.modules; rebuilt = p.rebuilt.items; image = p.image.items; puts = changed_files p }
+abbrev pub outcome_of : Prepared → List Object → Outcome
+outcome_of p objects = record { modules = p.modules; rebuilt = p.rebuilt.items; image = p.image.items; puts = changed_files p; linked_objects = objects }

@@ -90,7 +90,7 @@ pub record AreFilesOf (names : List (List ℕ)) (stack : ℕ) (parts : Parts) (m
   pub image_names : List (List ℕ)
   pub image : IsImageFile made.image.items (record { names = image_names; value = linked parts.objects stack })
 
--- modules, and these kept objects of theirs, come to a program with these files
-abbrev pub BuildsFiles : List Source → List (Option Object) → Opts → ProgramFiles → Type 0
-BuildsFiles sources kept opts made =
-    (parts : Parts) × Builds sources kept opts (Ok parts) × AreFilesOf (map (λ s. s.0) sources) opts.stack parts made
+-- modules, and these kept objects of theirs, come to a program with these files, of these objects
+abbrev pub BuildsFiles : List Source → List (Option Object) → Opts → ProgramFiles → List Object → Type 0
+BuildsFiles sources kept opts made objects =
+    (parts : Parts) × Builds sources kept opts (Ok parts) × AreFilesOf (map (λ s. s.0) sources) opts.stack parts made × (objects ≡ parts.objects)

@@ -5,27 +5,30 @@ ghost use Rattle.pw_value.specs.Limits.{module_limit};
 ghost use Rattle.pw_store_modules.specs.Modules.{modules_of};
 ghost use Rattle.pw_top_answer.specs.Effects.{PutsFiles};
 ghost use Rattle.pw_build_objects.specs.Counting.{CountsUpTo};
+ghost use Rattle.pw_build_objects.specs.Programs.{WasMade};
+ghost use Rattle.std.specs.List.{AllByRecursion};
 ghost use Rattle.pw_build_files.specs.FromBuild.Builds.{first_phases};
 ghost use Rattle.pw_store_kept.specs.Files.{changed_files};
 ghost use Rattle.pw_build_files.specs.Genuine.{KeepsGenuine, LeavesOthers};
 ghost use Rattle.pw_build_files.specs.Outcomes.{AreOpts, CountsAtMost, CountsFound, FaultCount, HoldsImage, IsLineOfBuild, IsNoWant, IsOfStore, ObeysBuild, PutsSome, Reports, build_answer, outcome_of};
 
 use crate::laws::a_store_has_one_build;
-use crate::prepared::prepare;
+use crate::prepared::{Ready, prepare};
 use crate::report::Report;
 use pw_build::Unbuilt;
 use pw_build_objects::Steps;
 use pw_build_opts::Opts;
 use pw_io::Store;
 use pw_io::laws::other_files;
+use pw_object::Object;
 use pw_store_kept::{Prepared, put_changed};
 use sha2::{Digest, Sha256};
 use std::alloc::Global;
 use std::sync::ledger::Ledger;
 
 /// The report of a build whose files were put.
-fn report_of(made: Prepared) -> Report
-    ensures { Reports (outcome_of made) result }
+fn report_of(made: Prepared, objects: Vec<Object>) -> Report
+    ensures { Reports (outcome_of made objects.items) result }
 {
     let Prepared {
         modules,
@@ -39,18 +42,19 @@ fn report_of(made: Prepared) -> Report
         rebuilt,
         image,
         digest,
+        objects,
     }
 }
 
 /// Puts what changed, and makes the report.
-fn finished<S: Store>(alloc: Global, store: &mut S, made: Prepared) -> Result<Report, Unbuilt>
-    ensures put { IfSome (S.told store.old) (λ told. PutsFiles (changed_files made) (build_answer result) told (S.told store.new)) }
-    ensures report { IfOk result (λ report. Reports (outcome_of made) report) }
+fn finished<S: Store>(alloc: Global, store: &mut S, made: Ready) -> Result<Report, Unbuilt>
+    ensures put { IfSome (S.told store.old) (λ told. PutsFiles (changed_files made.prepared) (build_answer result) told (S.told store.new)) }
+    ensures report { IfOk result (λ report. Reports (outcome_of made.prepared made.objects.items) report) }
     ensures fault { IfErr result (λ unbuilt. IsOfStore unbuilt.fault) }
     ensures count { FaultCount (S.faults store.old) (S.faults store.new) result }
 {
-    put_changed(alloc, store, &made)?;
-    Ok(report_of(made))
+    put_changed(alloc, store, &made.prepared)?;
+    Ok(report_of(made.prepared, made.objects))
 }
 
 /// Builds the program of the modules of a store, and puts what changed.
@@ -75,6 +79,7 @@ pub fn build<S: Store, L: Ledger>(
     ensures obeys { IfSome (S.told store.old) (λ told. ObeysBuild opts.now result told (S.told store.new)) }
     ensures line { IfSome (S.told store.old) (λ told. IsLineOfBuild told.files result) }
     ensures image { IfOk result (λ report. HoldsImage report.image.items) }
+    ensures were_made { IfOk result (λ report. AllByRecursion WasMade report.objects.items) }
     ensures others { IfSome (S.told store.old) (λ told. PutsSome (build_answer result) told (S.told store.new)) }
     ensures rest { IfSome (S.told store.old) (λ told. LeavesOthers told (S.told store.new)) }
     ensures genuine { IfSome (S.told store.old) (λ told. KeepsGenuine told.files → IfSome (S.told store.new) (λ now. KeepsGenuine now.files)) }

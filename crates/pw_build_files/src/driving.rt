@@ -1,9 +1,11 @@
 //! The command `build`.
 
 ghost use Rattle.std.specs.Prelude.{◌≡◌, ◌<◌, ℕ, List, Option, Result, IfErr, IfOk, IfSome};
+ghost use Rattle.std.specs.List.{AllByRecursion};
 ghost use Rattle.pw_store_modules.specs.Modules.{modules_of};
 ghost use Rattle.pw_top_answer.specs.Effects.{Effect};
 ghost use Rattle.pw_top_answer.specs.Outcomes.{IsLineDue, IsPrintAnswer, LeavesStreams, OutputCount, PutsOut, StoreCount};
+ghost use Rattle.pw_build_objects.specs.Programs.{WasMade};
 ghost use Rattle.pw_build_files.specs.FromBuild.BuildFault.{BuildFault};
 ghost use Rattle.pw_build_files.specs.FromBuild.Phases.{refused_line};
 ghost use Rattle.pw_build_files.specs.Building.{BuildOutcome, Outcome};
@@ -39,6 +41,7 @@ fn build_counted<S: Store, L: Ledger>(
     ensures obeys { IfSome (S.told store.old) (λ told. ObeysBuild opts.now result told (S.told store.new)) }
     ensures line { IfSome (S.told store.old) (λ told. IsLineOfBuild told.files result) }
     ensures image { IfOk result (λ report. HoldsImage report.image.items) }
+    ensures were_made { IfOk result (λ report. AllByRecursion WasMade report.objects.items) }
     ensures others { IfSome (S.told store.old) (λ told. PutsSome (build_answer result) told (S.told store.new)) }
     ensures genuine { IfSome (S.told store.old) (λ told. KeepsGenuine told.files → IfSome (S.told store.new) (λ now. KeepsGenuine now.files)) }
     ensures proper { IfErr result (λ unbuilt. IsNoWant unbuilt.fault) }
@@ -58,6 +61,7 @@ pub fn build_uncounted<S: Store>(
     ensures obeys { IfSome (S.told store.old) (λ told. ObeysBuild opts.now result told (S.told store.new)) }
     ensures line { IfSome (S.told store.old) (λ told. IsLineOfBuild told.files result) }
     ensures image { IfOk result (λ report. HoldsImage report.image.items) }
+    ensures were_made { IfOk result (λ report. AllByRecursion WasMade report.objects.items) }
     ensures others { IfSome (S.told store.old) (λ told. PutsSome (build_answer result) told (S.told store.new)) }
     ensures genuine { IfSome (S.told store.old) (λ told. KeepsGenuine told.files → IfSome (S.told store.new) (λ now. KeepsGenuine now.files)) }
     ensures proper { IfErr result (λ unbuilt. IsNoWant unbuilt.fault) }

@@ -7,6 +7,7 @@ ghost use Rattle.pw_store_modules.specs.Modules.{modules_of};
 ghost use Rattle.pw_store_modules.specs.Views.{source};
 ghost use Rattle.pw_value.specs.Limits.{module_limit};
 ghost use Rattle.pw_build_objects.specs.Counting.{CountsUpTo};
+ghost use Rattle.pw_build_objects.specs.Programs.{WasMade};
 ghost use Rattle.pw_build_files.specs.FromBuild.Builds.{first_phases};
 ghost use Rattle.pw_build_files.specs.FromBuild.Phases.{IsLine, refused_line};
 ghost use Rattle.pw_store_kept.specs.Files.{changed_files};
@@ -19,10 +20,18 @@ use pw_build::Unbuilt;
 use pw_build_objects::Steps;
 use pw_build_opts::Opts;
 use pw_io::Store;
+use pw_object::Object;
 use pw_store_kept::{Prepared, compared};
 use pw_store_modules::Module;
 use std::alloc::Global;
 use std::sync::ledger::Ledger;
+
+/// A build as far as its puts, with the objects that were linked.
+#[derive(Drop)]
+pub struct Ready {
+    pub prepared: Prepared,
+    pub objects: Vec<Object>,
+}
 
 /// What modules come to, where they are those of the store, before the files are put.
 #[tactic(auto, using(crate::proofs::FileLemmas::stored_no_want))]
@@ -32,14 +41,15 @@ fn prepared_of<S: Store, L: Ledger>(
     modules: &[Module],
     opts: &Opts,
     steps: &mut Steps<L>,
-) -> Result<Prepared, Unbuilt>
+) -> Result<Ready, Unbuilt>
     requires { AreOpts opts.now }
-    ensures comes { IfSome (S.told store.old) (λ told. map source modules.now ≡ modules_of told.files → IfOk result (λ prepared. BuildOutcome told.files opts.now (Ok (outcome_of prepared)))) }
-    ensures own { IfSome (S.told store.old) (λ told. IfOk result (λ prepared. AllByRecursion IsOwnFile (changed_files prepared))) }
-    ensures image { IfOk result (λ prepared. HoldsImage prepared.image.items) }
+    ensures comes { IfSome (S.told store.old) (λ told. map source modules.now ≡ modules_of told.files → IfOk result (λ ready. BuildOutcome told.files opts.now (Ok (outcome_of ready.prepared ready.objects.items)))) }
+    ensures own { IfSome (S.told store.old) (λ told. IfOk result (λ ready. AllByRecursion IsOwnFile (changed_files ready.prepared))) }
+    ensures image { IfOk result (λ ready. HoldsImage ready.prepared.image.items) }
+    ensures were_made { IfOk result (λ ready. AllByRecursion WasMade ready.objects.items) }
     ensures fault { IfSome (S.told store.old) (λ told. map source modules.now ≡ modules_of told.files → IfErr result (λ unbuilt. FaultFound told.files opts.now unbuilt.fault)) }
     ensures line { IfSome (S.told store.old) (λ told. map source modules.now ≡ modules_of told.files → IfErr result (λ unbuilt. IsLine (refused_line (modules_of told.files)) unbuilt.fault unbuilt.line)) }
-    ensures counted { IfOk result (λ prepared. steps.new ≡ steps.old + length prepared.rebuilt.items) }
+    ensures counted { IfOk result (λ ready. steps.new ≡ steps.old + length ready.prepared.rebuilt.items) }
     ensures counted_fault { IfSome (S.told store.old) (λ told. map source modules.now ≡ modules_of told.files → IfErr result (λ unbuilt. CountsFound told.files opts.now unbuilt.fault steps.old steps.new)) }
     ensures bound { CountsAtMost (first_phases (map source modules.now)) steps.old steps.new }
     ensures most { CountsUpTo module_limit steps.old steps.new }
@@ -48,7 +58,10 @@ fn prepared_of<S: Store, L: Ledger>(
     ensures count { FaultCount (S.faults store.old) (S.faults store.new) result }
 {
     match program_of(alloc, store, modules, opts, steps) {
-        Ok(files) => Ok(compared(alloc, store, modules.len() as u32, files)?),
+        Ok(linked) => Ok(Ready {
+            prepared: compared(alloc, store, modules.len() as u32, linked.files)?,
+            objects: linked.objects,
+        }),
         Err(unbuilt) => Err(unbuilt),
     }
 }
@@ -59,14 +72,15 @@ pub fn prepare<S: Store, L: Ledger>(
     store: &mut S,
     opts: &Opts,
     steps: &mut Steps<L>,
-) -> Result<Prepared, Unbuilt>
+) -> Result<Ready, Unbuilt>
     requires { AreOpts opts.now }
-    ensures comes { IfSome (S.told store.old) (λ told. IfOk result (λ prepared. BuildOutcome told.files opts.now (Ok (outcome_of prepared)))) }
-    ensures own { IfSome (S.told store.old) (λ told. IfOk result (λ prepared. AllByRecursion IsOwnFile (changed_files prepared))) }
-    ensures image { IfOk result (λ prepared. HoldsImage prepared.image.items) }
+    ensures comes { IfSome (S.told store.old) (λ told. IfOk result (λ ready. BuildOutcome told.files opts.now (Ok (outcome_of ready.prepared ready.objects.items)))) }
+    ensures own { IfSome (S.told store.old) (λ told. IfOk result (λ ready. AllByRecursion IsOwnFile (changed_files ready.prepared))) }
+    ensures image { IfOk result (λ ready. HoldsImage ready.prepared.image.items) }
+    ensures were_made { IfOk result (λ ready. AllByRecursion WasMade ready.objects.items) }
     ensures fault { IfSome (S.told store.old) (λ told. IfErr result (λ unbuilt. FaultFound told.files opts.now unbuilt.fault)) }
     ensures line { IfSome (S.told store.old) (λ told. IfErr result (λ unbuilt. IsLine (refused_line (modules_of told.files)) unbuilt.fault unbuilt.line)) }
-    ensures counted { IfOk result (λ prepared. steps.new ≡ steps.old + length prepared.rebuilt.items) }
+    ensures counted { IfOk result (λ ready. steps.new ≡ steps.old + length ready.prepared.rebuilt.items) }
     ensures counted_fault { IfSome (S.told store.old) (λ told. IfErr result (λ unbuilt. CountsFound told.files opts.now unbuilt.fault steps.old steps.new)) }
     ensures bound { IfSome (S.told store.old) (λ told. CountsAtMost (first_phases (modules_of told.files)) steps.old steps.new) }
     ensures most { CountsUpTo module_limit steps.old steps.new }

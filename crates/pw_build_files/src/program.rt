@@ -11,6 +11,7 @@ ghost use Rattle.pw_image.specs.Image.{IsImage};
 ghost use Rattle.pw_link.specs.Linking.{linked};
 ghost use Rattle.pw_value.specs.Limits.{module_limit};
 ghost use Rattle.pw_build_objects.specs.Choosing.{marks_of, objects_of, parts_of};
+ghost use Rattle.pw_build_objects.specs.Programs.{WasMade};
 ghost use Rattle.pw_build_objects.specs.Counting.{CountsUpTo};
 ghost use Rattle.pw_build.specs.Builds.{Builds, first_phases};
 ghost use Rattle.pw_build.specs.Phases.{IsLine, refused_line};
@@ -20,13 +21,14 @@ ghost use Rattle.pw_build_files.specs.Programs.{AreAsMany, BuildsFiles, CountsAt
 ghost use Rattle.pw_db.specs.Limits.{colour_limit};
 
 use pw_build::{BuildFault, Unbuilt, first_phases, no_refusal_is_want_of_memory};
-use pw_build_objects::{Built, Steps, complete};
+use pw_build_objects::{Built, Made, Steps, complete};
 use pw_build_opts::Opts;
 use pw_io::Store;
+use pw_object::Object;
 use pw_store_kept::{ProgramFiles, files_of, read_kept};
 use pw_store_modules::{Module, read_modules};
 use pw_value::LinkFault;
-use std::alloc::Global;
+use std::alloc::{AllocError, Global};
 use std::sync::ledger::Ledger;
 
 /// The modules of a store, of which there are not too many.
@@ -61,6 +63,7 @@ fn built_of<S: Store, L: Ledger>(
     ensures image { IfOk result (λ built. built.image ≡ linked (objects_of built.made.items) opts.now.stack) }
     ensures lawful_database { IfOk result (λ built. IsDatabase built.database.functions) }
     ensures lawful_objects { IfOk result (λ built. AllByRecursion IsObject (objects_of built.made.items)) }
+    ensures were_made { IfOk result (λ built. AllByRecursion WasMade (objects_of built.made.items)) }
     ensures lawful_image { IfOk result (λ built. IsImage built.image) }
     ensures counted { IfOk result (λ built. steps.new ≡ steps.old + count_by (λ fresh. fresh) (marks_of built.made.items)) }
     ensures counted_fault { IfSome (S.told store.old) (λ told. IfErr result (λ unbuilt. IsCounted (map source modules.now) (map (λ m. kept_object told.files m.name) modules.now) opts.now.colours unbuilt.fault steps.old steps.new)) }
@@ -85,7 +88,21 @@ fn built_of<S: Store, L: Ledger>(
     }
 }
 
-/// The files of the program of modules, and of what the store keeps of them.
+/// The files of a program, and the objects that it was linked of.
+#[derive(Drop)]
+pub struct Linked {
+    pub files: ProgramFiles,
+    pub objects: Vec<Object>,
+}
+
+/// The objects themselves.
+fn taken_objects(alloc: Global, made: Vec<Made>) -> Result<Vec<Object>, AllocError>
+    ensures { IfOk result (λ objects. objects.items ≡ objects_of made.items) }
+{
+    made.into_iter().map(|one| one.object).collect(alloc)
+}
+
+/// The files of the program of modules, and of what the store keeps of them, with its objects.
 #[tactic(auto, using(crate::proofs::WantLemmas::none_no_want))]
 pub fn program_of<S: Store, L: Ledger>(
     alloc: Global,
@@ -93,15 +110,16 @@ pub fn program_of<S: Store, L: Ledger>(
     modules: &[Module],
     opts: &Opts,
     steps: &mut Steps<L>,
-) -> Result<ProgramFiles, Unbuilt>
+) -> Result<Linked, Unbuilt>
     requires { opts.now.colours ≤ colour_limit }
-    ensures files { IfSome (S.told store.old) (λ told. IfOk result (λ files. BuildsFiles (map source modules.now) (map (λ m. kept_object told.files m.name) modules.now) opts.now files)) }
-    ensures bytes { IfOk result (λ files. HoldBytes (map file_view files.fresh.files.items)) }
-    ensures image { IfOk result (λ files. HoldsImage files.image.items) }
+    ensures files { IfSome (S.told store.old) (λ told. IfOk result (λ linked. BuildsFiles (map source modules.now) (map (λ m. kept_object told.files m.name) modules.now) opts.now linked.files linked.objects.items)) }
+    ensures bytes { IfOk result (λ linked. HoldBytes (map file_view linked.files.fresh.files.items)) }
+    ensures image { IfOk result (λ linked. HoldsImage linked.files.image.items) }
+    ensures were_made { IfOk result (λ linked. AllByRecursion WasMade linked.objects.items) }
     ensures fault { IfSome (S.told store.old) (λ told. IfErr result (λ unbuilt. FaultBuilds (map source modules.now) (map (λ m. kept_object told.files m.name) modules.now) opts.now unbuilt.fault)) }
     ensures line { IfErr result (λ unbuilt. IsLine (refused_line (map source modules.now)) unbuilt.fault unbuilt.line) }
     ensures few { OnOk result (length modules.now ≤ module_limit) }
-    ensures counted { IfOk result (λ files. steps.new ≡ steps.old + length files.fresh.names.items) }
+    ensures counted { IfOk result (λ linked. steps.new ≡ steps.old + length linked.files.fresh.names.items) }
     ensures counted_fault { IfSome (S.told store.old) (λ told. IfErr result (λ unbuilt. IsCounted (map source modules.now) (map (λ m. kept_object told.files m.name) modules.now) opts.now.colours unbuilt.fault steps.old steps.new)) }
     ensures bound { CountsAtMost (first_phases (map source modules.now)) steps.old steps.new }
     ensures most { CountsUpTo module_limit steps.old steps.new }
@@ -110,5 +128,9 @@ pub fn program_of<S: Store, L: Ledger>(
     ensures count { FaultCount (S.faults store.old) (S.faults store.new) result }
 {
     let built = built_of(alloc, store, modules, opts, steps)?;
-    Ok(files_of(alloc, modules, &built.database, &built.made, &built.image)?)
+    let files = files_of(alloc, modules, &built.database, &built.made, &built.image)?;
+    Ok(Linked {
+        files,
+        objects: taken_objects(alloc, built.made)?,
+    })
 }

@@ -3,17 +3,19 @@
 ghost use Rattle.std.specs.Prelude.{◌≡◌, IfOk, string_bytes};
 ghost use Rattle.pw_build_files.specs.Lines.{lines_with, report_text};
 
+use pw_object::Object;
 use pw_value::Name;
 use std::alloc::{AllocError, Global};
 
 /// What a build reports: how many modules there are, the names of those whose objects were made anew, the bytes of the
-/// image, and their SHA-256 digest.
+/// image, and their SHA-256 digest; and the objects that were linked, in byte order of the modules.
 #[derive(Drop)]
 pub struct Report {
     pub modules: u32,
     pub rebuilt: Vec<Name>,
     pub image: Vec<u8>,
     pub digest: [u8; 32],
+    pub objects: Vec<Object>,
 }
 
 /// The two lines of a report, of its counts and the digits of its digest.

@@ -5,3 +5,4 @@ pub mod MadeLemmas
 pub mod CountLemmas
 pub mod Databases
 pub mod RoomLaws
+pub mod WereMade

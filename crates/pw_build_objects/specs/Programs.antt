@@ -42,6 +42,12 @@ pub record IsMadeOf (flow : FlowModule) (directives : DirectivesList) (o : Objec
   pub flow_file : IsFlowFile o.flow flow
   pub payload : IsPayloadOf o.directives directives
 
+-- the object was made of some flow graph and directives
+pub record WasMade (o : Object) : Type 0 where
+  pub flow : FlowModule
+  pub directives : DirectivesList
+  pub of : IsMadeOf flow directives o
+
 -- what was kept of a module stays
 abbrev pub Stays : FlowModule → DirectivesList → Option Object → Type 0
 Stays flow directives None = ⊥

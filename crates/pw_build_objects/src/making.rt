@@ -10,7 +10,7 @@ ghost use Rattle.pw_link.specs.Linking.{linked, AreLinked, IsRefusal};
 ghost use Rattle.pw_link_interface.specs.Interface.{interface};
 ghost use Rattle.pw_link_rules.specs.Linking.{Links};
 ghost use Rattle.pw_law_shown.specs.Alike.{DeclaresMain};
-ghost use Rattle.pw_build_objects.specs.Programs.{Completes};
+ghost use Rattle.pw_build_objects.specs.Programs.{Completes, WasMade};
 ghost use Rattle.pw_build_objects.specs.Choosing.{marks_of, objects_of, parts_of};
 ghost use Rattle.pw_build_objects.specs.Counting.{CountsAnew, CountsUpTo};
 ghost use Rattle.pw_db.specs.Limits.{colour_limit};
@@ -124,6 +124,7 @@ pub fn complete<L: Ledger>(
     ensures image { IfOk result (λ built. built.image ≡ linked (objects_of built.made.items) opts.now.stack) }
     ensures lawful_database { IfOk result (λ built. IsDatabase built.database.functions) }
     ensures lawful_objects { IfOk result (λ built. AllByRecursion IsObject (objects_of built.made.items)) }
+    ensures were_made { IfOk result (λ built. AllByRecursion WasMade (objects_of built.made.items)) }
     ensures lawful_image { IfOk result (λ built. IsImage built.image) }
     ensures counted { IfOk result (λ built. steps.new ≡ steps.old + count_by (λ fresh. fresh) (marks_of built.made.items)) }
     ensures counted_fault { IfErr result (λ fault. (fault ≡ LinkFault.NoMemory) ⊎ CountsAnew flows.items kept.items opts.now.colours steps.old steps.new) }

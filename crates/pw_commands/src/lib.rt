@@ -11,7 +11,7 @@ mod showing;
 
 pub use analysing::analyse_modules;
 pub use linking::{link_modules, put_file};
-pub use machine_run::run_machine;
+pub use machine_run::{answer_of_stop, run_machine};
 pub use needed::{read_needed, refused};
 pub use running::run_image;
 pub use showing::{list_image, show_database};

@@ -10,7 +10,7 @@ use pw_machine::{Machine, Stop};
 use pw_top_answer::Answer;
 
 /// The answer to how a run stopped.
-fn answer_of(stop: Stop) -> Answer
+pub fn answer_of_stop(stop: Stop) -> Answer
     ensures { result ≡ stop_answer stop }
 {
     match stop {
@@ -39,5 +39,5 @@ pub fn run_machine<I: Source, O: Sink>(
     ensures write { OutputCount (O.faults out.old) (O.faults out.new) result }
     ensures run { IsRunAnswer result }
 {
-    answer_of(machine.run(input, out, budget))
+    answer_of_stop(machine.run(input, out, budget))
 }

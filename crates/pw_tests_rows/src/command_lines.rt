@@ -19,6 +19,7 @@ fn word_of(command: &Command) -> &'static str {
         Command::List => "list",
         Command::Db => "db",
         Command::Bench { .. } => "bench",
+        Command::Where { .. } => "where",
     }
 }
 
@@ -45,6 +46,7 @@ fn numbers_of(command: &Command) -> [Option<u64>; 4] {
     match command {
         Command::Go(opts) | Command::Session(opts) => run_numbers(None, opts),
         Command::Bench { number, opts } => run_numbers(Some(u64::from(*number)), opts),
+        Command::Where { call, opts } => run_numbers(Some(*call), opts),
         Command::Build(opts) => [
             None,
             Some(u64::from(opts.colours)),

@@ -22,7 +22,7 @@ use Rattle.pw_top.specs.Whole.{BenchesFull, ComesInFull, IfMade, ReportsFull, Ru
 use Rattle.pw_commands_phases.specs.First.{phase_line, phase_one_puts}
 use Rattle.pw_commands_phases.specs.Second.{phase_two_puts}
 use Rattle.pw_top_words.specs.declared.commands.Command.{Command}
-use Rattle.pw_top_words.specs.declared.commands.Command.TheVariants.{Go, Build, Session, PhaseOne, Analyse, PhaseTwo, Link, Run, List as ListImage, Db, Bench}
+use Rattle.pw_top_words.specs.declared.commands.Command.TheVariants.{Go, Build, Session, PhaseOne, Analyse, PhaseTwo, Link, Run, List as ListImage, Db, Bench, Where}
 
 -- the command is a phase of separate compiling, the analysis or the link
 abbrev pub is_phase : Command → Bool
@@ -45,12 +45,14 @@ is_builder (Go opts) = true
 is_builder (Build opts) = true
 is_builder (Session opts) = true
 is_builder (Bench number opts) = true
+is_builder (Where k opts) = true
 is_builder _ = false
 
 -- the command puts no file
 abbrev pub OnlyReads : Option Command → Type 0
 OnlyReads (Some (Go opts)) = ⊥
 OnlyReads (Some (Build opts)) = ⊥
+OnlyReads (Some (Where k opts)) = ⊥
 OnlyReads (Some (Session opts)) = ⊥
 OnlyReads (Some (PhaseOne name)) = ⊥
 OnlyReads (Some (Analyse colours)) = ⊥
@@ -76,6 +78,7 @@ IsNoSession _ = Unit {0}
 -- of modules, each by a line of its script, in order. Where the store failed, perhaps one file more was put in part.
 abbrev pub KeepsTheRest : Option Command → Option (List ℕ) → Answer → Option Told → Option Told → Type 0
 KeepsTheRest (Some (Go opts)) script answer old new = IfSome old (λ told. KeepsUnput answer told new)
+KeepsTheRest (Some (Where k opts)) script answer old new = IfSome old (λ told. KeepsUnput answer told new)
 KeepsTheRest (Some (Build opts)) script answer old new = IfSome old (λ told. KeepsUnput answer told new)
 KeepsTheRest (Some (Session opts)) script answer old new =
     IfSome old (λ told. MakesSome (MayRemove script) answer told new × IsSomeAnd new (LeavesRest (MayRemove script) answer told))
@@ -85,6 +88,7 @@ KeepsTheRest command script answer old new = KeepsOthers (files_put command) ans
 -- only want of memory and a fault of the store may come, and the files of a build were put.
 abbrev pub BuildsFirst : Option Command → Answer → Told → Option Told → Type 0
 BuildsFirst (Some (Go opts)) answer told new = HasBuilt opts.build answer told new
+BuildsFirst (Some (Where k opts)) answer told new = HasBuilt opts.build answer told new
 BuildsFirst (Some (Build opts)) answer told new = HasBuilt opts answer told new
 BuildsFirst _ answer told new = Unit {0}
 
@@ -97,6 +101,7 @@ BuildsWhereItCan files opts answer = KeepsGenuine files → IfMade answer (IsNoR
 -- `build` and `go` do so
 abbrev pub IsComplete : Option Command → Files → Answer → Type 0
 IsComplete (Some (Go opts)) files answer = BuildsWhereItCan files opts.build answer
+IsComplete (Some (Where k opts)) files answer = BuildsWhereItCan files opts.build answer
 IsComplete (Some (Build opts)) files answer = BuildsWhereItCan files opts answer
 IsComplete _ files answer = Unit {0}
 
@@ -120,6 +125,7 @@ EndsScript _ script answer = Unit {0}
 -- the line on which a module is refused
 abbrev pub line_of : Option Command → Files → Option ℕ
 line_of (Some (Go opts)) files = phases.refused_line (modules_of files)
+line_of (Some (Where k opts)) files = phases.refused_line (modules_of files)
 line_of (Some (Build opts)) files = phases.refused_line (modules_of files)
 line_of (Some (Bench number opts)) files = phases.refused_line (modules_of (bench_files number))
 line_of (Some (PhaseOne name)) files = phase_line files name

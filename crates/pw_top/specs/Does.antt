@@ -7,6 +7,7 @@ use Rattle.pw_top_answer.specs.declared.answer.Answer.TheVariants.{Usage}
 use Rattle.pw_top_answer.specs.Effects.{Effect, PutsFiles, answers_alone}
 use Rattle.pw_top_answer.specs.Outcomes.{Answers, LeavesInput, PutsOut}
 use Rattle.pw_go.specs.Going.{GoEffect}
+use Rattle.pw_commands_where.specs.Showing.{WhereEffect}
 use Rattle.pw_commands.specs.Analysing.{AnalyseEffect}
 use Rattle.pw_commands.specs.Linking.{LinkEffect}
 use Rattle.pw_commands.specs.Outcome.{IsFound}
@@ -19,7 +20,7 @@ use Rattle.pw_build_opts.specs.declared.opts.RunOpts.{RunOpts}
 use Rattle.pw_law_session.specs.FromSession.Bench.{BenchEffect}
 use Rattle.pw_law_session.specs.FromSession.Outcomes.{LeavesScript, ObeysSession}
 use Rattle.pw_top_words.specs.declared.commands.Command.{Command}
-use Rattle.pw_top_words.specs.declared.commands.Command.TheVariants.{Go, Build, Session, PhaseOne, Analyse, PhaseTwo, Link, Run, List as ListImage, Db, Bench}
+use Rattle.pw_top_words.specs.declared.commands.Command.TheVariants.{Go, Build, Session, PhaseOne, Analyse, PhaseTwo, Link, Run, List as ListImage, Db, Bench, Where}
 
 -- The answer, the files that were put, what was put out and what is left of the input are those to which the command
 -- comes; a fault or want of memory may come in its place, and then a prefix of the files was put, a prefix of the output
@@ -40,6 +41,7 @@ pub record DoesSession (opts : RunOpts) (answer : Answer) (told : Told) (told' :
 abbrev pub DoesAs : Option Command → Answer → Told → Option Told → List ℕ → Option (List ℕ) → Option (List ℕ) → Option (List ℕ) → Type 0
 DoesAs None answer told told' input input' taken taken' = Does (λ effect. effect ≡ answers_alone Usage input) answer told told' input input' taken taken'
 DoesAs (Some (Go opts)) answer told told' input input' taken taken' = Does (GoEffect told.files opts input) answer told told' input input' taken taken'
+DoesAs (Some (Where k opts)) answer told told' input input' taken taken' = Does (WhereEffect told.files opts k input) answer told told' input input' taken taken'
 DoesAs (Some (Build opts)) answer told told' input input' taken taken' = Does (BuildEffect told.files opts input) answer told told' input input' taken taken'
 DoesAs (Some (Session opts)) answer told told' input input' taken taken' = DoesSession opts answer told told' input input' taken taken'
 DoesAs (Some (Bench number opts)) answer told told' input input' taken taken' = Does (BenchEffect number opts input) answer told told' input input' taken taken'

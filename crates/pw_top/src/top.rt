@@ -14,6 +14,7 @@ ghost use Rattle.pw_top_words.specs.Limits.{IsWithin};
 
 use pw_commands::{analyse_modules, link_modules, list_image, run_image, show_database};
 use pw_commands_phases::{compile_flow, compile_text};
+use pw_commands_where::show_call;
 use pw_go::go;
 use pw_go::laws::runs_leave_an_end;
 use pw_io::laws::other_files;
@@ -104,6 +105,7 @@ fn obey_builder<S: Store, I: Source, O: Sink>(
             line: None,
         },
         Command::Bench { number, opts } => bench(alloc, *number, opts, out),
+        Command::Where { call, opts } => show_call(alloc, store, opts, *call, input, out),
         _ => unreachable!(),
     }
 }
@@ -128,8 +130,11 @@ fn obey<S: Store, I: Source, O: Sink>(
         Command::Run { .. } | Command::List | Command::Db => {
             obey_reader(alloc, command, store, input, out)
         }
-        Command::Go(_) | Command::Build(_) | Command::Session(_) | Command::Bench { .. } =>
-            obey_builder(alloc, command, store, input, out),
+        Command::Go(_)
+        | Command::Build(_)
+        | Command::Session(_)
+        | Command::Bench { .. }
+        | Command::Where { .. } => obey_builder(alloc, command, store, input, out),
     }
 }
 

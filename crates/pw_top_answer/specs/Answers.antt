@@ -22,7 +22,7 @@ use Rattle.pw_value.specs.declared.fault.What.{What}
 use Rattle.pw_value.specs.declared.fault.What.TheVariants.{Modules, TextBytes, Functions, Globals}
 use Rattle.pw_store_modules.specs.FileNames.{text_name}
 use Rattle.pw_top_answer.specs.declared.answer.Answer.{Answer}
-use Rattle.pw_top_answer.specs.declared.answer.Answer.TheVariants.{Done, Ended, Usage, Refused, LinkRefused, StackStop, Spent, Halted, ReadFault, WriteFault, StoreFault, NoMemory, BadFile, BadScript}
+use Rattle.pw_top_answer.specs.declared.answer.Answer.TheVariants.{Done, Ended, Usage, Refused, LinkRefused, StackStop, Spent, Halted, ReadFault, WriteFault, StoreFault, NoMemory, BadFile, BadScript, NoFrames}
 
 -- the status with which the process ends
 abbrev pub status_of : Answer → ℕ
@@ -40,6 +40,7 @@ status_of StoreFault = 120
 status_of NoMemory = 121
 status_of (BadFile name at) = 122
 status_of (BadScript at) = 123
+status_of (NoFrames address) = 125
 
 -- ---- the line that is told
 
@@ -155,6 +156,7 @@ line_text line StoreFault = codes "StoreFault" ++ newline
 line_text line NoMemory = codes "NoMemory" ++ newline
 line_text line (BadFile name at) = bad_file_text name at ++ newline
 line_text line (BadScript at) = codes "BadScript at " ++ decimal at ++ newline
+line_text line (NoFrames address) = codes "NoFrames " ++ decimal address ++ newline
 
 -- the answers whose lines name something, and are made for them
 abbrev pub NeedsMemory : Answer → Type 0
@@ -172,3 +174,4 @@ NeedsMemory StoreFault = ⊥
 NeedsMemory NoMemory = ⊥
 NeedsMemory (BadFile name at) = Unit {0}
 NeedsMemory (BadScript at) = Unit {0}
+NeedsMemory (NoFrames address) = Unit {0}

@@ -9,7 +9,7 @@ use Rattle.pw_value.specs.declared.fault.What.TheVariants.{Modules}
 use Rattle.pw_store_modules.specs.declared.few.ModulesFault.{ModulesFault}
 use Rattle.pw_store_modules.specs.declared.few.ModulesFault.TheVariants as modules
 use Rattle.pw_top_answer.specs.declared.answer.Answer.{Answer}
-use Rattle.pw_top_answer.specs.declared.answer.Answer.TheVariants.{Done, Ended, Usage, Refused, LinkRefused, StackStop, Spent, Halted, ReadFault, WriteFault, StoreFault, NoMemory, BadFile, BadScript}
+use Rattle.pw_top_answer.specs.declared.answer.Answer.TheVariants.{Done, Ended, Usage, Refused, LinkRefused, StackStop, Spent, Halted, ReadFault, WriteFault, StoreFault, NoMemory, BadFile, BadScript, NoFrames}
 use Rattle.pw_top_answer.specs.Answers.{line_text, NeedsMemory}
 
 -- ---- what the call answers: what is wanted; a fault and want of memory may come in its place
@@ -29,6 +29,7 @@ Answers wanted StoreFault = Unit {0}
 Answers wanted NoMemory = Unit {0}
 Answers wanted (BadFile name at) = wanted ≡ BadFile name at
 Answers wanted (BadScript at) = wanted ≡ BadScript at
+Answers wanted (NoFrames address) = wanted ≡ NoFrames address
 
 -- the answer refuses nothing
 abbrev pub IsNoRefusal : Answer → Type 0

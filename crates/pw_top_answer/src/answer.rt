@@ -43,6 +43,8 @@ pub enum Answer {
     BadFile(Name, Option<usize>),
     /// The script has no lawful line at this offset.
     BadScript(u64),
+    /// A walk over the frames of the functions that are active is lost at this address.
+    NoFrames(Word),
 }
 
 /// What came of a command. Where a module is refused, `line` is the line of its text on which it is, counted from 1.
@@ -114,6 +116,7 @@ pub fn status(answer: &Answer) -> u8
         Answer::NoMemory => 121,
         Answer::BadFile(_, _) => 122,
         Answer::BadScript(_) => 123,
+        Answer::NoFrames(_) => 125,
     }
 }
 

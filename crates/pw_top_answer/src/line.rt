@@ -288,6 +288,16 @@ fn bad_file_line(alloc: Global, name: &Name, at: Option<usize>) -> Result<Vec<u8
     Ok(text)
 }
 
+/// The line of a lost walk: the address.
+fn no_frames_line(alloc: Global, address: Word) -> Result<Vec<u8>, AllocError>
+    ensures { IfOk result (λ text. text.items ≡ codes "NoFrames " ++ decimal address ++ codes "\n") }
+{
+    let mut text = Vec::from_slice(alloc, b"NoFrames ")?;
+    push_decimal(&mut text, u64::from(address))?;
+    text.push(b'\n')?;
+    Ok(text)
+}
+
 /// The line of a script that has no lawful line at an offset.
 fn bad_script_line(alloc: Global, at: u64) -> Result<Vec<u8>, AllocError>
     ensures { IfOk result (λ text. text.items ≡ codes "BadScript at " ++ decimal at ++ codes "\n") }
@@ -331,6 +341,7 @@ pub fn line_of(alloc: Global, answer: &Answer, line: Option<usize>) -> Result<Li
         Answer::Halted(halt, at) => Ok(Line::Made(halted_line(alloc, *halt, *at)?)),
         Answer::BadFile(name, at) => Ok(Line::Made(bad_file_line(alloc, name, *at)?)),
         Answer::BadScript(at) => Ok(Line::Made(bad_script_line(alloc, *at)?)),
+        Answer::NoFrames(address) => Ok(Line::Made(no_frames_line(alloc, *address)?)),
         Answer::Done | Answer::Ended(_) => Ok(Line::Fixed(b"")),
         Answer::Usage => Ok(Line::Fixed(b"usage\n")),
         Answer::StackStop => Ok(Line::Fixed(b"StackStop\n")),

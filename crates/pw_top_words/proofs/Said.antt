@@ -8,7 +8,7 @@ use Rattle.clap.specs.Walk.{Text, first_of}
 use Rattle.clap.specs.Matches.{first_value, found_of}
 use Rattle.clap.specs.declared.parser.matches.ArgMatches.{ArgMatches}
 use Rattle.clap.proofs.WalkLemmas.{first_value-rows}
-use Rattle.pw_top_words.specs.CommandLine.{Part, Given, Plain, command_by_name, module_in, module_named, number_in, plain_word, seed_in, value_of, seed_limit}
+use Rattle.pw_top_words.specs.CommandLine.{Part, Given, Plain, command_by_name, module_in, module_named, number_in, plain_word, seed_in, call_in, call_limit, value_of, seed_limit}
 use Rattle.pw_top_words.specs.Reading.{HasNoOperand, IsMatchOf, operand_id, part_row}
 
 -- a name that is no word's
@@ -54,6 +54,14 @@ seed_missing parts e = ap (option_and_then (number_in 0 seed_limit)) (sym e)
 pub seed_said : (parts : List Part) (text : Text) → Some text ≡ plain_word parts → seed_in parts ≡ number_in 0 seed_limit text
 seed_said parts text e = ap (option_and_then (number_in 0 seed_limit)) (sym e)
 
+-- ---- the number of a call
+
+pub call_missing : (parts : List Part) → None ≡ plain_word parts → call_in parts ≡ None
+call_missing parts e = ap (option_and_then (number_in 1 call_limit)) (sym e)
+
+pub call_said : (parts : List Part) (text : Text) → Some text ≡ plain_word parts → call_in parts ≡ number_in 1 call_limit text
+call_said parts text e = ap (option_and_then (number_in 1 call_limit)) (sym e)
+
 -- ---- a word that is no command
 
 pub different : (x y : Text) → (x ≡ y → ⊥) → bytes_eq x y ≡ false
@@ -65,6 +73,6 @@ different x y apart = go (bytes_eq x y) refl
 
 pub unknown : (word : Text) (words : List Text) → bytes_eq word (codes "go") ≡ false → bytes_eq word (codes "build") ≡ false → bytes_eq word (codes "session") ≡ false → bytes_eq word (codes "phase1") ≡ false → bytes_eq word (codes "analyse") ≡ false
     → bytes_eq word (codes "phase2") ≡ false → bytes_eq word (codes "link") ≡ false → bytes_eq word (codes "run") ≡ false → bytes_eq word (codes "list") ≡ false
-    → bytes_eq word (codes "db") ≡ false → bytes_eq word (codes "bench") ≡ false → command_by_name word words ≡ None
+    → bytes_eq word (codes "db") ≡ false → bytes_eq word (codes "bench") ≡ false → bytes_eq word (codes "where") ≡ false → command_by_name word words ≡ None
 unfolding command_by_name
-unknown word words a b c d e f g h i j k = rw (a, b, c, d, e, f, g, h, i, j, k) refl
+unknown word words a b c d e f g h i j k l = rw (a, b, c, d, e, f, g, h, i, j, k, l) refl

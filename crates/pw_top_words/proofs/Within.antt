@@ -1,5 +1,5 @@
 -- The numbers that words say lie within their limits.
-use Rattle.std.proofs.Common.{◌≡◌, ℕ, ◌≤◌, ◌&&◌, subst, Bool, true, false, nat_le, List, [], ◌∷◌, codes, Option, Some, None, option_map, option_and_then, refl, if◌then◌else◌, arith}
+use Rattle.std.proofs.Common.{◌≡◌, ℕ, ◌<◌, ◌≤◌, ◌&&◌, subst, Bool, true, false, nat_le, List, [], ◌∷◌, codes, Option, Some, None, option_map, option_and_then, refl, if◌then◌else◌, arith}
 use Rattle.std.specs.Str.{bytes_eq}
 use Rattle.std.specs.Str.Parse.{digits_value}
 use Rattle.std.proofs.lemmas.Bool.Decides.{nat_tests}
@@ -7,8 +7,8 @@ use Rattle.pw_value.specs.Limits.{stack_least, stack_limit}
 use Rattle.pw_store_modules.specs.Modules.{is_module_name}
 use Rattle.pw_build_opts.specs.declared.opts.RunOpts.{RunOpts}
 use Rattle.pw_top_words.specs.declared.commands.Command.{Command}
-use Rattle.pw_top_words.specs.declared.commands.Command.TheVariants.{Go, Build, Session, PhaseOne, Analyse, PhaseTwo, Link, Run, List as ListImage, Db, Bench}
-use Rattle.pw_top_words.specs.CommandLine.{Text, Part, is_numeral, number_in, number_or, value_of, colours, stack, steps, colours_in, stack_in, steps_in, module_named, module_in, plain_word, parts_of, seed_in, built_with, run_with, with_build, with_run, go_of, build_of, session_of, analyse_of, link_of, run_of, bench_of, command_by_name, command_of, usual_stack}
+use Rattle.pw_top_words.specs.declared.commands.Command.TheVariants.{Go, Build, Session, PhaseOne, Analyse, PhaseTwo, Link, Run, List as ListImage, Db, Bench, Where}
+use Rattle.pw_top_words.specs.CommandLine.{Text, Part, is_numeral, number_in, number_or, value_of, colours, stack, steps, colours_in, stack_in, steps_in, module_named, module_in, plain_word, parts_of, seed_in, call_in, call_limit, built_with, run_with, with_build, with_run, go_of, build_of, session_of, analyse_of, link_of, run_of, bench_of, where_of, command_by_name, command_of, usual_stack}
 use Rattle.pw_top_words.specs.Limits.{IsStack, IsWithin}
 use Rattle.pw_db.specs.Limits.{colour_limit}
 
@@ -119,6 +119,20 @@ seeded (Some x) parts = run_options_within (Bench x) parts (λ c s n h k. (h, k)
 bench_within : (words : List Text) → Within (bench_of words)
 bench_within words = parts_within (parts_of (colours ∷ stack ∷ steps ∷ []) 1 words) (λ parts. option_and_then (λ x. with_run (Bench x) parts) (seed_in parts)) (λ parts. seeded (seed_in parts) parts)
 
+-- the number of a call is one at least
+call_is_in : (found : Option Text) → IsIn 1 call_limit (option_and_then (number_in 1 call_limit) found)
+call_is_in None = tt
+call_is_in (Some text) = number_is_in 1 call_limit text
+
+called : (given : Option ℕ) (parts : List Part) → IsIn 1 call_limit given → Within (option_and_then (λ k. with_run (Where k) parts) given)
+called None parts h = none_within
+called (Some k) parts h = run_options_within (Where k) parts (λ c s n few is_stack. (omega (arith, h.0), (few, is_stack)))
+
+where_within : (words : List Text) → Within (where_of words)
+where_within words =
+    parts_within (parts_of (colours ∷ stack ∷ steps ∷ []) 1 words) (λ parts. option_and_then (λ k. with_run (Where k) parts) (call_in parts))
+    (λ parts. called (call_in parts) parts (call_is_in (plain_word parts)))
+
 -- the numbers of a build
 built : (c : ℕ) (given : Option ℕ) → c ≤ colour_limit → IsIn stack_least stack_limit given → Within (option_map (λ s. Build (built_with c s)) given)
 built c None h k = none_within
@@ -159,7 +173,8 @@ name_within name words =
     (if_within (bytes_eq name (codes "list")) _ _ (listed_within (parts_of [] 0 words) ListImage tt)
     (if_within (bytes_eq name (codes "db")) _ _ (listed_within (parts_of [] 0 words) Db tt)
     (if_within (bytes_eq name (codes "bench")) _ _ (bench_within words)
-    none_within))))))))))
+    (if_within (bytes_eq name (codes "where")) _ _ (where_within words)
+    none_within)))))))))))
 
 pub words_within : (words : List Text) → Within (command_of words)
 words_within [] = none_within

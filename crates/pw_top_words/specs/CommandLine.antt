@@ -11,7 +11,7 @@ use Rattle.pw_build_opts.specs.declared.opts.RunOpts.{RunOpts}
 use Rattle.pw_top_words.specs.declared.fault.WordsFault.{WordsFault}
 use Rattle.pw_top_words.specs.declared.fault.WordsFault.TheVariants.{Usage, NoMemory}
 use Rattle.pw_top_words.specs.declared.commands.Command.{Command}
-use Rattle.pw_top_words.specs.declared.commands.Command.TheVariants.{Go, Build, Session, PhaseOne, Analyse, PhaseTwo, Link, Run, List as ListImage, Db, Bench}
+use Rattle.pw_top_words.specs.declared.commands.Command.TheVariants.{Go, Build, Session, PhaseOne, Analyse, PhaseTwo, Link, Run, List as ListImage, Db, Bench, Where}
 use Rattle.pw_db.specs.Limits.{colour_limit}
 
 abbrev pub Text : Type 0
@@ -139,6 +139,10 @@ steps_limit = 4611686018427387904
 abbrev pub seed_limit : ℕ
 seed_limit = 4294967295
 
+-- the number of a call
+abbrev pub call_limit : ℕ
+call_limit = 4611686018427387904
+
 -- ---- options
 
 abbrev pub colours : Text
@@ -172,6 +176,10 @@ module_in parts = option_and_then module_named (plain_word parts)
 -- the number from which modules are made
 abbrev pub seed_in : List Part → Option ℕ
 seed_in parts = option_and_then (number_in 0 seed_limit) (plain_word parts)
+
+-- the number of a call
+abbrev pub call_in : List Part → Option ℕ
+call_in parts = option_and_then (number_in 1 call_limit) (plain_word parts)
 
 -- ---- commands
 
@@ -224,6 +232,10 @@ abbrev pub bench_of : List Text → Option Command
 bench_of words =
     option_and_then (λ parts. option_and_then (λ x. with_run (Bench x) parts) (seed_in parts)) (parts_of (colours ∷ stack ∷ steps ∷ []) 1 words)
 
+abbrev pub where_of : List Text → Option Command
+where_of words =
+    option_and_then (λ parts. option_and_then (λ k. with_run (Where k) parts) (call_in parts)) (parts_of (colours ∷ stack ∷ steps ∷ []) 1 words)
+
 -- the command of a name, and what the words behind it say
 unfoldable pub command_by_name : Text → List Text → Option Command
 command_by_name name words =
@@ -238,6 +250,7 @@ command_by_name name words =
     if bytes_eq name (codes "list") then list_of words else
     if bytes_eq name (codes "db") then db_of words else
     if bytes_eq name (codes "bench") then bench_of words else
+    if bytes_eq name (codes "where") then where_of words else
     None
 
 -- the command that words say

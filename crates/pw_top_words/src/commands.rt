@@ -30,6 +30,8 @@ pub enum Command {
     List,
     /// The database as text.
     Db,
+    /// A build, and a look at the call of a number, counted from 1, in the run.
+    Where { call: u64, opts: RunOpts },
     /// A build and a run of modules that are made from a number.
     Bench { number: u32, opts: RunOpts },
 }

@@ -2,7 +2,7 @@
 
 ghost use Rattle.std.specs.Prelude.{◌≡◌, ◌≢◌, ◌≤◌, ℕ, List, None, Err, IfErr, IfOk, drop, map, string_bytes, codes, option_map, option_and_then, Option};
 ghost use Rattle.clap.specs.Matches.{first_value, found_of};
-ghost use Rattle.pw_top_words.specs.CommandLine.{Part, Reads, colours_in, command_of, go_of, command_by_name, module_in, number_or, parts_of, seed_in, stack_in, steps_in, with_build, with_run, build_of, session_of, bench_of, phase_one_of, phase_two_of, analyse_of, link_of, run_of, list_of, db_of, digits_limit, usual_stack, steps_limit, seed_limit, usual_steps};
+ghost use Rattle.pw_top_words.specs.CommandLine.{Part, Reads, colours_in, command_of, go_of, command_by_name, module_in, number_or, parts_of, seed_in, stack_in, steps_in, with_build, with_run, build_of, session_of, bench_of, phase_one_of, phase_two_of, analyse_of, link_of, run_of, list_of, db_of, where_of, call_in, call_limit, digits_limit, usual_stack, steps_limit, seed_limit, usual_steps};
 ghost use Rattle.pw_top_words.specs.Reading.{IsMatchOf};
 
 use crate::commands::Command;
@@ -47,6 +47,9 @@ pub const USUAL_STACK: u64 = 1_048_576;
 /// The greatest count of instructions of a run.
 pub const STEPS_LIMIT: u64 = 4_611_686_018_427_387_904;
 
+/// The greatest number of a call.
+const CALL_LIMIT: u64 = 4_611_686_018_427_387_904;
+
 /// The greatest number from which modules are made.
 pub const SEED_LIMIT: u64 = 4_294_967_295;
 
@@ -58,6 +61,7 @@ pub fn limits_of_a_command()
     ensures stack { USUAL_STACK ≡ usual_stack }
     ensures steps { STEPS_LIMIT ≡ steps_limit }
     ensures seed { SEED_LIMIT ≡ seed_limit }
+    ensures call { CALL_LIMIT ≡ call_limit }
     ensures usual_steps { USUAL_STEPS ≡ usual_steps }
     ensures digits { DIGITS_LIMIT ≡ digits_limit }
 {}
@@ -139,6 +143,20 @@ fn seed(matches: &ArgMatches) -> Result<u32, WordsFault>
     };
     match number_in(0, SEED_LIMIT, text) {
         Some(number) => Ok(number as u32),
+        None => Err(WordsFault::Usage),
+    }
+}
+
+/// The number of a call, by the words.
+fn call(matches: &ArgMatches) -> Result<u64, WordsFault>
+    ensures read { (parts : List Part) → IsMatchOf parts matches.now → Reads (call_in parts) result }
+    ensures no_memory { IfErr result (λ fault. fault ≢ WordsFault.NoMemory) }
+{
+    let Some(text) = matches.get_str(OPERAND) else {
+        return Err(WordsFault::Usage);
+    };
+    match number_in(1, CALL_LIMIT, text) {
+        Some(number) => Ok(number),
         None => Err(WordsFault::Usage),
     }
 }
@@ -250,6 +268,22 @@ fn bench(alloc: Global, words: &[String]) -> Result<Command, WordsFault>
     })
 }
 
+fn show_call(alloc: Global, words: &[String]) -> Result<Command, WordsFault>
+    ensures { Reads (where_of (drop 1 (map string_bytes words.now))) result }
+{
+    let matches = read_parts(alloc, words, &BUILD_AND_RUN, true)?;
+    Ok(Command::Where {
+        call: call(&matches)?,
+        opts: RunOpts {
+            build: Opts {
+                colours: colours(&matches)?,
+                stack: stack(&matches)?,
+            },
+            budget: steps(&matches)?,
+        },
+    })
+}
+
 /// The command of a name, by the words, of which the first is the name.
 #[tactic(auto, unfolding(crate::specs::CommandLine::command_by_name))]
 fn command_named(alloc: Global, name: &str, words: &[String]) -> Result<Command, WordsFault>
@@ -267,6 +301,7 @@ fn command_named(alloc: Global, name: &str, words: &[String]) -> Result<Command,
         "list" => list(alloc, words),
         "db" => db(alloc, words),
         "bench" => bench(alloc, words),
+        "where" => show_call(alloc, words),
         _ => Err(WordsFault::Usage),
     }
 }

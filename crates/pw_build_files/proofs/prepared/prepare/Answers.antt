@@ -14,12 +14,12 @@ use Rattle.pw_build_files.proofs.prepared.prepare.Goals as goal
 
 pub returns-in-Ok-clause-comes : goal.returns-in-Ok-clause-comes
 returns-in-Ok-clause-comes g c =
-    on_modules (λ told. map source c.in-Ok.modules.items ≡ modules_of told.files) (λ told. IfOk c.prepared_of.result (λ p. BuildOutcome told.files c.args.opts.now (Ok (outcome_of p))))
+    on_modules (λ told. map source c.in-Ok.modules.items ≡ modules_of told.files) (λ told. IfOk c.prepared_of.result (λ p. BuildOutcome told.files c.args.opts.now (Ok (outcome_of p.prepared p.objects.items))))
     (g.S.Store.told c.args.store.now) _ c.in-Ok.ensures.modules c.modules_to_build.ensures.same (rw c.deref.ensures.value at c.prepared_of.ensures.comes)
 
 pub returns-in-Ok-clause-own : goal.returns-in-Ok-clause-own
 returns-in-Ok-clause-own g c =
-    at_first (λ told. IfOk c.prepared_of.result (λ p. AllByRecursion IsOwnFile (changed_files p))) (g.S.Store.told c.args.store.now) _ c.modules_to_build.ensures.same c.prepared_of.ensures.own
+    at_first (λ told. IfOk c.prepared_of.result (λ p. AllByRecursion IsOwnFile (changed_files p.prepared))) (g.S.Store.told c.args.store.now) _ c.modules_to_build.ensures.same c.prepared_of.ensures.own
 
 pub returns-in-Ok-clause-fault : goal.returns-in-Ok-clause-fault
 returns-in-Ok-clause-fault g c =

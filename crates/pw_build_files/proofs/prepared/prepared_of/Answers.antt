@@ -9,11 +9,11 @@ use Rattle.pw_build_files.proofs.prepared.prepared_of.Goals as goal
 
 pub returns-in_ok-compared-in-Ok-clause-comes : goal.returns-in_ok-compared-in-Ok-clause-comes
 returns-in_ok-compared-in-Ok-clause-comes g c =
-    comes_prepared c.args.opts.now (g.S.Store.told c.args.store.now) _ c.args.modules.now c.in-Ok.files c.in_ok-compared-in-Ok.field-0 _ c.in-Ok.ensures.files c.in-Ok.ensures.bytes c.program_of.ensures.same refl c.in_ok-compared-in-Ok.ensures.prepared
+    comes_prepared c.args.opts.now (g.S.Store.told c.args.store.now) _ c.args.modules.now c.in-Ok.linked.files c.in_ok-compared-in-Ok.field-0 c.in-Ok.linked.objects.items _ c.in-Ok.ensures.files c.in-Ok.ensures.bytes c.program_of.ensures.same refl c.in_ok-compared-in-Ok.ensures.prepared
 
 pub returns-in_ok-compared-in-Ok-clause-own : goal.returns-in_ok-compared-in-Ok-clause-own
 returns-in_ok-compared-in-Ok-clause-own g c =
-    good_prepared c.args.opts.now (g.S.Store.told c.args.store.now) _ (map source c.args.modules.now) (λ told. map (λ m. kept_object told.files m.name) c.args.modules.now) c.in-Ok.files c.in_ok-compared-in-Ok.field-0 _
+    good_prepared c.args.opts.now (g.S.Store.told c.args.store.now) _ (map source c.args.modules.now) (λ told. map (λ m. kept_object told.files m.name) c.args.modules.now) c.in-Ok.linked.files c.in_ok-compared-in-Ok.field-0 c.in-Ok.linked.objects.items _
     c.in-Ok.ensures.files c.in-Ok.ensures.bytes c.program_of.ensures.same c.in_ok-compared-in-Ok.ensures.prepared
 
 pub returns-in-Err-clause-fault : goal.returns-in-Err-clause-fault

@@ -1,9 +1,13 @@
-use Rattle.std.proofs.Common.{rules, ⊎_elim, inl, inr, length}
-use Rattle.std.proofs.lemmas.Result.{IfErr-weaker}
+use Rattle.std.proofs.Common.{List, rules, ⊎_elim, inl, inr, length, subst, sym}
+use Rattle.std.specs.List.{AllByRecursion}
+use Rattle.std.proofs.lemmas.Result.{IfErr-weaker, IfOk-weaker}
 use Rattle.pw_build_objects.specs.Choosing.{marks_of, objects_of}
 use Rattle.pw_build_objects.proofs.CountLemmas.{broken_counted, made_counted}
 use Rattle.pw_build_objects.proofs.LoopLemmas.{bound_none}
 use Rattle.pw_build_objects.proofs.RoomLaws.{new_objects_link}
+use Rattle.pw_build_objects.specs.declared.remade.Made.{Made}
+use Rattle.pw_build_objects.specs.Programs.{WasMade}
+use Rattle.pw_build_objects.proofs.WereMade.{were_made}
 use Rattle.pw_build_objects.proofs.making.complete.Goals as goal
 
 pub linked-requires-clause-rules : goal.linked-requires-clause-rules
@@ -40,3 +44,10 @@ pub returns-in_err-analysed-clause-counted_fault : goal.returns-in_err-analysed-
 returns-in_err-analysed-clause-counted_fault g c =
     broken_counted c.args.flows.items c.args.kept.items c.args.opts.now.colours c.args.steps.now c.from_residual.result c.in_err-analysed.field-0.0
     (first_of (search (rules, c.from_residual.ensures), cc (c.from_residual.ensures))) (rw c.deref.ensures.value at c.in_err-analysed.ensures.refused)
+
+pub returns-clause-were_made : goal.returns-clause-were_made
+returns-clause-were_made g c =
+    IfOk-weaker c.linked.result _ _
+    (λ built h. subst (λ (ms : List Made). AllByRecursion WasMade (objects_of ms)) (sym h.1)
+    (were_made c.in_ok-analysed.analysed.database.functions c.args.flows.items c.args.kept.items (objects_of c.in_ok-made.made.items) (marks_of c.in_ok-made.made.items) c.in_ok-made.ensures.objects))
+    c.linked.ensures.built
