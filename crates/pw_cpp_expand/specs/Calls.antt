@@ -1,0 +1,74 @@
+-- Calls of macros that take arguments (ISO/IEC 9899:1990, 6.8.3).
+use Rattle.std.specs.Prelude.{◌≡◌, ℕ, zero, suc, ◌+◌, ◌==◌, ◌&&◌, Bool, true, false, not, if◌then◌else◌, List, [], ◌∷◌, ◌++◌, length, codes, bytes_eq, filter}
+use Rattle.std.specs.List.{list_any}
+use Rattle.pw_token.specs.Roles.{spelling}
+use Rattle.pw_token.specs.declared.token.Token.{Token}
+use Rattle.pw_cpp_macros.specs.Definitions.{is_spelled, is_word}
+use Rattle.pw_cpp_macros.specs.declared.definition.Macro.{Macro}
+use Rattle.pw_cpp_expand.specs.Lookahead.{Ahead, At, Faulty, Lexeme, LooksAhead, Mode, Progress}
+use Rattle.pw_cpp_expand.specs.declared.progress.ExpandFault.{ExpandFault}
+
+abbrev pub is_mark : List ℕ → List ℕ → Lexeme → Bool
+is_mark source bytes lexeme = is_spelled source bytes lexeme.token
+
+-- ---- the arguments
+
+-- an argument with one more token, the last of these; and one more argument, behind these
+abbrev pub lengthened : List (List Lexeme) → Lexeme → List (List Lexeme)
+lengthened [] lexeme = (lexeme ∷ []) ∷ []
+lengthened (argument ∷ []) lexeme = (argument ++ lexeme ∷ []) ∷ []
+lengthened (argument ∷ next ∷ more) lexeme = argument ∷ lengthened (next ∷ more) lexeme
+
+-- The arguments behind the `(` of a call, cut at the commas outside inner parentheses, of which so many are open; the `)` that closes
+-- the call; and what stands behind it. The text may end before, or a line that has to be read has a fault.
+pub data Called : Type 0 where
+  Closed : List (List Lexeme) → Lexeme → List Lexeme → Progress → Called
+  Open : Called
+  Fails : ExpandFault → Called
+
+pub data Collects (source text : List ℕ) (mode : Mode) : ℕ → List (List Lexeme) → List Lexeme → Progress → Called → Type 0 where
+  open_end : (depth : ℕ) (arguments : List (List Lexeme)) (pending : List Lexeme) (p q : Progress) → LooksAhead text mode pending p (At [] q) → Collects source text mode depth arguments pending p Open
+  faulty : (depth : ℕ) (arguments : List (List Lexeme)) (pending : List Lexeme) (p : Progress) (fault : ExpandFault) → LooksAhead text mode pending p (Faulty fault)
+      → Collects source text mode depth arguments pending p (Fails fault)
+  opens : (depth : ℕ) (arguments : List (List Lexeme)) (pending rest : List Lexeme) (p q : Progress) (mark : Lexeme) (called : Called)
+      → LooksAhead text mode pending p (At (mark ∷ rest) q) → is_mark source (codes "(") mark ≡ true
+      → Collects source text mode (suc depth) (lengthened arguments mark) rest q called → Collects source text mode depth arguments pending p called
+  closes_inner : (depth : ℕ) (arguments : List (List Lexeme)) (pending rest : List Lexeme) (p q : Progress) (mark : Lexeme) (called : Called)
+      → LooksAhead text mode pending p (At (mark ∷ rest) q) → is_mark source (codes ")") mark ≡ true
+      → Collects source text mode depth (lengthened arguments mark) rest q called → Collects source text mode (suc depth) arguments pending p called
+  closes : (arguments : List (List Lexeme)) (pending rest : List Lexeme) (p q : Progress) (mark : Lexeme)
+      → LooksAhead text mode pending p (At (mark ∷ rest) q) → is_mark source (codes ")") mark ≡ true
+      → Collects source text mode zero arguments pending p (Closed arguments mark rest q)
+  parts : (arguments : List (List Lexeme)) (pending rest : List Lexeme) (p q : Progress) (mark : Lexeme) (called : Called)
+      → LooksAhead text mode pending p (At (mark ∷ rest) q) → is_mark source (codes ",") mark ≡ true
+      → Collects source text mode zero (arguments ++ [] ∷ []) rest q called → Collects source text mode zero arguments pending p called
+  goes_on : (depth : ℕ) (arguments : List (List Lexeme)) (pending rest : List Lexeme) (p q : Progress) (lexeme : Lexeme) (called : Called)
+      → LooksAhead text mode pending p (At (lexeme ∷ rest) q) → is_mark source (codes "(") lexeme ≡ false → is_mark source (codes ")") lexeme ≡ false
+      → (is_mark source (codes ",") lexeme && (depth == 0)) ≡ false
+      → Collects source text mode depth (lengthened arguments lexeme) rest q called → Collects source text mode depth arguments pending p called
+
+-- Behind the `(` stands one argument, at first empty; of a macro without parameters one that is empty is none.
+abbrev pub arguments_of : List Token → List (List Lexeme) → List (List Lexeme)
+arguments_of [] ([] ∷ []) = []
+arguments_of parameters arguments = arguments
+
+-- ---- the result
+
+abbrev pub contains : List (List ℕ) → List ℕ → Bool
+contains names name = list_any (bytes_eq name) names
+
+-- what two sets share
+abbrev pub shared : List (List ℕ) → List (List ℕ) → List (List ℕ)
+shared one other = filter (contains other) one
+
+-- a token of the replacement of a macro whose name stands at a place
+abbrev pub made : List (List ℕ) → ℕ → Token → Lexeme
+made hidden place token = record { token = token; hidden = hidden; place = place }
+
+-- a token of an argument, which keeps its own set besides
+abbrev pub passed : List (List ℕ) → ℕ → Lexeme → Lexeme
+passed hidden place lexeme = record { token = lexeme.token; hidden = hidden ++ lexeme.hidden; place = place }
+
+-- the parameter stands in the replacement
+abbrev pub is_used : List ℕ → List Token → Token → Bool
+is_used source replacement parameter = list_any (λ token. is_word token && is_spelled source (spelling source parameter) token) replacement

@@ -1,0 +1,2 @@
+pub mod ParameterLaws
+pub mod TableLaws
