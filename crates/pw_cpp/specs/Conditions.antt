@@ -58,12 +58,12 @@ pub data Verdict : Type 0 where
   Stops : ExpandFault → Verdict
 
 -- a number that has a value decides; one that has none does not
+abbrev pub decided_by : Option ℕ → ℕ → Verdict
+decided_by (Some n) produced = Holds (is_true n) produced
+decided_by None produced = Faulty
+
 abbrev pub decided : Number → ℕ → Verdict
-decided number produced = by number.word
-  where
-    by : Option ℕ → Verdict
-    by (Some n) = Holds (is_true n) produced
-    by None = Faulty
+decided number produced = decided_by number.word produced
 
 pub data Judges (source text : List ℕ) (macros : Macros) (digits : Digits) (tokens : List Token) (p : Progress) : Verdict → Type 0 where
   malformed : with_defined source macros digits tokens ≡ None → Judges source text macros digits tokens p Faulty

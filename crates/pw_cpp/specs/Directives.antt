@@ -9,7 +9,8 @@ use Rattle.pw_cpp.specs.Groups.{Section, Sections, opened, with_elif, with_else}
 use Rattle.pw_cpp.specs.declared.fault.CppKind.{CppKind}
 use Rattle.pw_cpp.specs.declared.fault.CppKind.TheVariants as kind
 use Rattle.pw_cpp.specs.declared.fault.CppWhich.TheVariants as which
-use Rattle.pw_cpp_expand.specs.Lookahead.{Progress}
+use Rattle.pw_cpp_expand.specs.Expansion.{produced_limit}
+use Rattle.pw_cpp_expand.specs.Lookahead.{Progress, output_limit}
 use Rattle.pw_cpp_expand.specs.declared.progress.ExpandFault.{ExpandFault}
 use Rattle.pw_cpp_expand.specs.declared.progress.ExpandFault.TheVariants as stop
 use Rattle.pw_cpp_macros.specs.Definitions.{definition_of, is_word}
@@ -47,8 +48,8 @@ kind_of_macro table.NoMemory = kind.NoMemory
 abbrev pub fault_of_expansion : ExpandFault → Fault
 fault_of_expansion (stop.Lex at) = fault kind.Lex at
 fault_of_expansion (stop.Call at) = fault kind.Macro at
-fault_of_expansion (stop.Produced at) = fault (kind.Limit which.Produced 1000001) at
-fault_of_expansion (stop.Length at) = fault (kind.Limit which.Length 1048577) at
+fault_of_expansion (stop.Produced at) = fault (kind.Limit which.Produced (produced_limit + 1)) at
+fault_of_expansion (stop.Length at) = fault (kind.Limit which.Length (output_limit + 1)) at
 fault_of_expansion stop.NoMemory = fault kind.NoMemory 0
 
 -- ---- names

@@ -9,7 +9,7 @@ use Rattle.pw_types.specs.declared.tree.UnaryOperator.{UnaryOperator}
 use Rattle.pw_cpp_values.specs.Arithmetic.{unary}
 use Rattle.pw_cpp_values.specs.declared.arithmetic.Number.{Number}
 use Rattle.pw_cpp_condition.specs.Grammar.{IsAt, Means, Tree, Operand, Group, Prefix, Between, Choice, spell, value}
-use Rattle.pw_cpp_condition.specs.Machine.{Held, State, applied, binds, followed, follow_level, follow_of, following, lead_of, reduced, run, step, whole}
+use Rattle.pw_cpp_condition.specs.Machine.{Held, State, applied, binds, followed, follow_level, follow_of, following, lead_of, reduced, run, step, waiting_in, whole}
 use Rattle.pw_cpp_condition.specs.Words.{infix_of, level, prefix_of}
 use Rattle.pw_cpp_condition.specs.declared.frame.Follow.{Follow}
 use Rattle.pw_cpp_condition.specs.declared.frame.Follow.TheVariants.{Goes, Asks, Parts, Closes}
@@ -18,7 +18,7 @@ use Rattle.pw_cpp_condition.specs.declared.frame.Frame.TheVariants as frame
 use Rattle.pw_cpp_condition.specs.declared.word.Infix.{Infix}
 use Rattle.pw_cpp_condition.specs.declared.word.Item.{Item}
 use Rattle.pw_cpp_condition.specs.declared.word.Item.TheVariants as item
-use Rattle.pw_cpp_condition.proofs.Marks.{goes, leads, level-range, follow-small, some_same}
+use Rattle.pw_cpp_condition.proofs.Marks.{Continues, goes, leads, level-range, follow-small, some_same}
 
 -- the levels at which what comes next may reduce: at the end, at that of `?:`
 abbrev pub Reduces : List Item → ℕ → Type 0
@@ -44,28 +44,26 @@ reduced-less k v f frames e = rw e refl
 
 take_in : (f : Frame) (v : Number) (frames : List Frame) (rest : List Item) → ((k : ℕ) → Reduces rest k → binds k f ≡ true)
     → run (Some v) (f ∷ frames) rest ≡ run (Some (applied f v)) frames rest
-take_in f v frames [] h = ap (λ held. whole held.0 held.1) (reduced-more 0 v f frames (h 0 refl))
+take_in f v frames [] h = ap (λ (held : Held). whole held.0 held.1) (reduced-more 0 v f frames (h 0 refl))
 take_in f v frames (item.Operand number ∷ rest) h = refl
 take_in f v frames (item.Mark mark ∷ rest) h = by (follow_of mark) refl
   where
     by : (p : Option Follow) → follow_of mark ≡ p
-        → option_and_then (λ state. run state.0 state.1 rest) (option_and_then (following v (f ∷ frames)) p)
-          ≡ option_and_then (λ state. run state.0 state.1 rest) (option_and_then (following (applied f v) frames) p)
+        → Continues rest (option_and_then (following v (f ∷ frames)) p) ≡ Continues rest (option_and_then (following (applied f v) frames) p)
     by None e = refl
     by (Some follow) e =
-        ap (λ held. option_and_then (λ state. run state.0 state.1 rest) (followed follow held.0 held.1))
+        ap (λ (held : Held). Continues rest (followed follow held.0 held.1))
         (reduced-more (follow_level follow) v f frames (h (follow_level follow) (follow, e, refl)))
 
 -- ---- steps
 
 at_lead : (mark : Mark) (f : Frame) (frames : List Frame) (rest : List Item) → lead_of mark ≡ Some f → run None frames (item.Mark mark ∷ rest) ≡ run None (f ∷ frames) rest
-at_lead mark f frames rest e = ap (λ p. option_and_then (λ state. run state.0 state.1 rest) (option_map (λ x. (None, x ∷ frames)) p)) e
+at_lead mark f frames rest e = ap (λ p. Continues rest (option_map (waiting_in frames) p)) e
 
 at_follow : (mark : Mark) (follow : Follow) (v : Number) (frames : List Frame) (rest : List Item) → follow_of mark ≡ Some follow → reduced (follow_level follow) v frames ≡ (v, frames)
-    → run (Some v) frames (item.Mark mark ∷ rest) ≡ option_and_then (λ state. run state.0 state.1 rest) (followed follow v frames)
+    → run (Some v) frames (item.Mark mark ∷ rest) ≡ Continues rest (followed follow v frames)
 at_follow mark follow v frames rest e r =
-    ap (λ p. option_and_then (λ state. run state.0 state.1 rest) (option_and_then (following v frames) p)) e
-    ∙ ap (λ held. option_and_then (λ state. run state.0 state.1 rest) (followed follow held.0 held.1)) r
+    ap (λ p. Continues rest (option_and_then (following v frames) p)) e ∙ ap (λ (held : Held). Continues rest (followed follow held.0 held.1)) r
 
 -- ---- bounds
 
@@ -111,9 +109,9 @@ complete n (Between mark op a b) frames rest h s below =
     ∙ take_in (frame.Between op (value a)) (value b) frames rest (λ k r. le-leb k (level op) (omega (arith, below k r, h.1)))
 complete n (Choice c a b) frames rest h s below =
     ap (run None frames) (append_assoc (spell c) (item.Mark m.Question ∷ (spell a ++ item.Mark m.Colon ∷ spell b)) rest ∙ ap (λ x. spell c ++ item.Mark m.Question ∷ x) (append_assoc (spell a) (item.Mark m.Colon ∷ spell b) rest))
-    ∙ complete 1 c frames (item.Mark m.Question ∷ (spell a ++ item.Mark m.Colon ∷ (spell b ++ rest))) h.1 (λ k l x d v. s k (omega (arith, h.0)) x d v) (below_question _)
+    ∙ complete 1 c frames (item.Mark m.Question ∷ (spell a ++ item.Mark m.Colon ∷ (spell b ++ rest))) h.1 (λ k l x d v. s k (omega (arith, h.0)) x d v) (below_question (spell a ++ item.Mark m.Colon ∷ (spell b ++ rest)))
     ∙ at_follow m.Question Asks (value c) frames (spell a ++ item.Mark m.Colon ∷ (spell b ++ rest)) refl (s 1 (omega (arith, h.0)) (omega arith) (omega arith) (value c))
-    ∙ complete 0 a (frame.Question (value c) ∷ frames) (item.Mark m.Colon ∷ (spell b ++ rest)) h.2 (λ k l x d v. refl) (below_colon _ 0)
+    ∙ complete 0 a (frame.Question (value c) ∷ frames) (item.Mark m.Colon ∷ (spell b ++ rest)) h.2 (λ k l x d v. refl) (below_colon (spell b ++ rest) 0)
     ∙ complete 0 b (frame.Colon (value c) (value a) ∷ frames) rest h.3
       (λ k l x d v. reduced-less k v (frame.Colon (value c) (value a)) frames (lt-leb k 0 (omega (arith, x))))
       (λ k r. omega (arith, below k r, h.0))

@@ -1,3 +1,4 @@
 pub mod Complete
-pub mod Sound
 pub mod Marks
+pub mod Sound
+pub mod Stack

@@ -1,12 +1,14 @@
 -- What marks do, by the operators that they spell.
 use Rattle.std.proofs.Common.{◌≡◌, ℕ, ◌<◌, ◌≤◌, Option, Some, None, refl, sym, ap, ◌∙◌, subst, arith}
-use Rattle.std.specs.Prelude.{option_map}
+use Rattle.std.specs.Prelude.{List, option_map, option_and_then}
+use Rattle.pw_cpp_values.specs.declared.arithmetic.Number.{Number}
+use Rattle.pw_cpp_condition.specs.declared.word.Item.{Item}
 use Rattle.pw_token.specs.declared.symbol.Mark.{Mark}
 use Rattle.pw_token.specs.declared.symbol.Mark.TheVariants as m
 use Rattle.pw_types.specs.declared.tree.UnaryOperator.{UnaryOperator}
 use Rattle.pw_types.specs.declared.tree.BinaryOperator.TheVariants as B
 use Rattle.pw_types.specs.declared.tree.LogicOperator.TheVariants as L
-use Rattle.pw_cpp_condition.specs.Machine.{follow_level, follow_of, lead_of}
+use Rattle.pw_cpp_condition.specs.Machine.{State, follow_level, follow_of, lead_of, run}
 use Rattle.pw_cpp_condition.specs.Words.{infix_of, level, prefix_of}
 use Rattle.pw_cpp_condition.specs.declared.frame.Follow.{Follow}
 use Rattle.pw_cpp_condition.specs.declared.frame.Follow.TheVariants.{Goes, Asks, Parts, Closes}
@@ -15,7 +17,7 @@ use Rattle.pw_cpp_condition.specs.declared.frame.Frame.TheVariants.{Group, Prefi
 use Rattle.pw_cpp_condition.specs.declared.word.Infix.{Infix}
 use Rattle.pw_cpp_condition.specs.declared.word.Infix.TheVariants.{Binary, Logic}
 
-none_some : {A : Type 0} {x : A} → None ≡ Some x → ⊥
+pub none_some : {A : Type 0} {x : A} → None ≡ Some x → ⊥
 none_some e = cc
 
 pub some_same : {A : Type 0} {x y : A} → Some x ≡ Some y → x ≡ y
@@ -79,3 +81,7 @@ followed-by m.Question follow h = let P : Follow → Type 0 = λ f. FollowsBy m.
 followed-by m.Colon follow h = let P : Follow → Type 0 = λ f. FollowsBy m.Colon f in subst P (some_same h) refl
 followed-by m.CloseParen follow h = let P : Follow → Type 0 = λ f. FollowsBy m.CloseParen f in subst P (some_same h) refl
 followed-by mark follow h = by_infix mark (infix_of mark) follow refl h
+
+-- what the items behind a step come to
+abbrev pub Continues : List Item → Option State → Option Number
+Continues items s = option_and_then (λ (state : State). run state.0 state.1 items) s

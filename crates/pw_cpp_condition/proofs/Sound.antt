@@ -8,7 +8,7 @@ use Rattle.pw_token.specs.declared.symbol.Mark.TheVariants as m
 use Rattle.pw_types.specs.declared.tree.UnaryOperator.{UnaryOperator}
 use Rattle.pw_cpp_values.specs.declared.arithmetic.Number.{Number}
 use Rattle.pw_cpp_condition.specs.Grammar.{IsAt, Means, Tree, Operand, Group, Prefix, Between, Choice, spell, value}
-use Rattle.pw_cpp_condition.specs.Machine.{Held, State, applied, binds, followed, follow_level, follow_of, following, lead_of, parted, closed, reduced, run, step, whole}
+use Rattle.pw_cpp_condition.specs.Machine.{Held, State, applied, binds, followed, follow_level, follow_of, following, lead_of, parted, closed, reduced, run, step, waiting_in, whole}
 use Rattle.pw_cpp_condition.specs.Words.{infix_of, level, prefix_of}
 use Rattle.pw_cpp_condition.specs.declared.frame.Follow.{Follow}
 use Rattle.pw_cpp_condition.specs.declared.frame.Follow.TheVariants.{Goes, Asks, Parts, Closes}
@@ -17,7 +17,7 @@ use Rattle.pw_cpp_condition.specs.declared.frame.Frame.TheVariants as frame
 use Rattle.pw_cpp_condition.specs.declared.word.Infix.{Infix}
 use Rattle.pw_cpp_condition.specs.declared.word.Item.{Item}
 use Rattle.pw_cpp_condition.specs.declared.word.Item.TheVariants as item
-use Rattle.pw_cpp_condition.proofs.Marks.{LeadsBy, FollowsBy, led-by, followed-by, level-range, follow-small, some_same}
+use Rattle.pw_cpp_condition.proofs.Marks.{Continues, LeadsBy, FollowsBy, led-by, followed-by, level-range, follow-small, none_some, some_same}
 
 -- ---- what waits, with the expressions that were read
 
@@ -114,28 +114,36 @@ went_on k t u w ws e v s r = record {
     more : reduced k (value t) (frames_of (w ∷ ws)) ≡ reduced k (applied (frame_of w) (value t)) (frames_of ws)
     more = rw e refl
 
+-- an operator takes its right operand where it binds at the level, and waits where it does not
+with_between : (k : ℕ) (t : Tree) (mark : Mark) (op : Infix) (a : Tree) (ws : List Waiting) (b : Bool) → nat_le k (level op) ≡ b
+    → Formed (InBetween mark op a ∷ ws) → IsAt (level op + 1) t → IsAt k t
+    → (Formed ws → IsAt (bound ws) (Between mark op a t) → IsAt k (Between mark op a t) → Reduction k (Between mark op a t) ws)
+    → Reduction k t (InBetween mark op a ∷ ws)
+with_between k t mark op a ws true e f h at next =
+    went_on k t (Between mark op a t) (InBetween mark op a) ws e refl (append_assoc (spell a) (item.Mark mark ∷ []) (spell t))
+    (next f.3 (f.0, f.2, f.1, h) (f.0, leb-true k (level op) e, f.1, h))
+with_between k t mark op a ws false e f h at next = stopped k t (InBetween mark op a) ws e f h at (omega (arith, leb-false k (level op) e))
+
+-- and `?:` its third
+with_colon : (k : ℕ) (t c a : Tree) (ws : List Waiting) (b : Bool) → nat_le k 0 ≡ b → Formed (InColon c a ∷ ws) → IsAt 0 t → IsAt k t
+    → (Formed ws → IsAt (bound ws) (Choice c a t) → IsAt k (Choice c a t) → Reduction k (Choice c a t) ws)
+    → Reduction k t (InColon c a ∷ ws)
+with_colon k t c a ws true e f h at next =
+    went_on k t (Choice c a t) (InColon c a) ws e refl
+    (append_assoc (spell c) (item.Mark m.Question ∷ (spell a ++ item.Mark m.Colon ∷ [])) (spell t) ∙ ap (λ x. spell c ++ item.Mark m.Question ∷ x) (append_assoc (spell a) (item.Mark m.Colon ∷ []) (spell t)))
+    (next f.3 (f.2, f.0, f.1, h) (omega (arith, leb-true k 0 e), f.0, f.1, h))
+with_colon k t c a ws false e f h at next = stopped k t (InColon c a) ws e f h at (omega arith)
+
 reduce_all : (k : ℕ) → k ≤ 10 → (ws : List Waiting) (t : Tree) → Formed ws → IsAt (bound ws) t → IsAt k t → Reduction k t ws
 reduce_all k small [] t f h a = record { tree = t; left = []; same = refl; spelled = refl; formed = tt; fits = h; there = a; low = omega arith }
 reduce_all k small (InGroup ∷ ws) t f h a = stopped k t InGroup ws refl f h a (omega arith)
 reduce_all k small (InPrefix mark op ∷ ws) t f h a =
     went_on k t (Prefix mark op t) (InPrefix mark op) ws (le-leb k 11 (omega (arith, small))) refl refl
     (reduce_all k small ws (Prefix mark op t) f.1 (f.0, bound-small ws, h) (f.0, omega (arith, small), h))
-reduce_all k small (InBetween mark op a ∷ ws) t f h at = by (nat_le k (level op)) refl
-  where
-    by : (b : Bool) → nat_le k (level op) ≡ b → Reduction k t (InBetween mark op a ∷ ws)
-    by true e =
-        went_on k t (Between mark op a t) (InBetween mark op a) ws e refl (append_assoc (spell a) (item.Mark mark ∷ []) (spell t))
-        (reduce_all k small ws (Between mark op a t) f.3 (f.0, f.2, f.1, h) (f.0, leb-true k (level op) e, f.1, h))
-    by false e = stopped k t (InBetween mark op a) ws e f h at (omega (arith, leb-false k (level op) e))
+reduce_all k small (InBetween mark op a ∷ ws) t f h at =
+    with_between k t mark op a ws (nat_le k (level op)) refl f h at (λ g i j. reduce_all k small ws (Between mark op a t) g i j)
 reduce_all k small (InQuestion c ∷ ws) t f h a = stopped k t (InQuestion c) ws refl f h a (omega arith)
-reduce_all k small (InColon c a ∷ ws) t f h at = by (nat_le k 0) refl
-  where
-    by : (b : Bool) → nat_le k 0 ≡ b → Reduction k t (InColon c a ∷ ws)
-    by true e =
-        went_on k t (Choice c a t) (InColon c a) ws e refl
-        (append_assoc (spell c) (item.Mark m.Question ∷ (spell a ++ item.Mark m.Colon ∷ [])) (spell t) ∙ ap (λ x. spell c ++ item.Mark m.Question ∷ x) (append_assoc (spell a) (item.Mark m.Colon ∷ []) (spell t)))
-        (reduce_all k small ws (Choice c a t) f.3 (f.2, f.0, f.1, h) (omega (arith, leb-true k 0 e), f.0, f.1, h))
-    by false e = stopped k t (InColon c a) ws e f h at (omega arith)
+reduce_all k small (InColon c a ∷ ws) t f h at = with_colon k t c a ws (nat_le k 0) refl f h at (λ g i j. reduce_all k small ws (Choice c a t) g i j)
 
 -- ---- items
 
@@ -159,9 +167,6 @@ abbrev Sound : List Item → Type 0
 Sound items = (held : Option Tree) (ws : List Waiting) (number : Number) → Formed ws → IsHeld held → run (operand_held held) (frames_of ws) items ≡ Some number
     → Reads (spell_held held ws) items number
 
-none_some : {A : Type 0} {x : A} → None ≡ Some x → ⊥
-none_some e = cc
-
 reads_as : (one other items : List Item) (i : Item) (number : Number) → one ≡ other ++ i ∷ [] → Reads one items number → Reads other (i ∷ items) number
 reads_as one other items i number e r =
     (r.0, r.1, sym (append_assoc other (i ∷ []) items) ∙ ap (λ x. x ++ items) (sym e) ∙ r.2, r.3)
@@ -174,9 +179,9 @@ at_end t ws number r e = by r.left refl
       r.tree,
       r.there,
       append-nil (spell_all ws ++ spell t) ∙ r.spelled ∙ ap (λ x. spell_all x ++ spell r.tree) l,
-      some_same (sym e ∙ ap (λ held. whole held.0 held.1) r.same ∙ ap (λ x. whole (value r.tree) (frames_of x)) l),
+      some_same (sym e ∙ ap (λ (held : Held). whole held.0 held.1) r.same ∙ ap (λ x. whole (value r.tree) (frames_of x)) l),
     )
-    by (w ∷ ws') l = absurd (none_some (sym (ap (λ held. whole held.0 held.1) r.same ∙ ap (λ x. whole (value r.tree) (frames_of x)) l) ∙ e))
+    by (w ∷ ws') l = absurd (none_some (sym (ap (λ (held : Held). whole held.0 held.1) r.same ∙ ap (λ x. whole (value r.tree) (frames_of x)) l) ∙ e))
 
 behind_lead : (mark : Mark) (f : Frame) (items : List Item) (ws : List Waiting) (number : Number) → Sound items → Formed ws → LeadsBy mark f
     → run None (f ∷ frames_of ws) items ≡ Some number → Reads (spell_all ws) (item.Mark mark ∷ items) number
@@ -192,9 +197,6 @@ behind_lead mark (frame.Colon c a) items ws number next f by e = absurd by
 joined : (t : Tree) (ws : List Waiting) (k : ℕ) (r : Reduction k t ws) (i : Item) → spell_all r.left ++ (spell r.tree ++ i ∷ []) ≡ (spell_all ws ++ spell t) ++ i ∷ []
 joined t ws k r i = sym (append_assoc (spell_all r.left) (spell r.tree) (i ∷ [])) ∙ ap (λ x. x ++ i ∷ []) (sym r.spelled)
 
-abbrev Continues : List Item → Option State → Option Number
-Continues items s = option_and_then (λ state. run state.0 state.1 items) s
-
 behind_operand : (mark : Mark) (follow : Follow) (items : List Item) (t : Tree) (ws : List Waiting) (number : Number) → Sound items → (r : Reduction (follow_level follow) t ws) → FollowsBy mark follow
     → Continues items (followed follow (value r.tree) (frames_of r.left)) ≡ Some number → Reads (spell_all ws ++ spell t) (item.Mark mark ∷ items) number
 behind_operand mark (Goes op) items t ws number next r by e =
@@ -208,6 +210,13 @@ behind_operand mark Parts items t ws number next r by e = with_left r.left refl
   where
     nothing : (left : List Waiting) → r.left ≡ left → parted (value r.tree) (frames_of left) ≡ None → ⊥
     nothing left l p = none_some (sym (ap (Continues items) (ap (λ x. parted (value r.tree) (frames_of x)) l ∙ p)) ∙ e)
+    parts : (c : Tree) (ws' : List Waiting) → r.left ≡ InQuestion c ∷ ws' → spell_all (InColon c r.tree ∷ ws') ≡ (spell_all ws ++ spell t) ++ item.Mark mark ∷ []
+    parts c ws' l =
+        ap (λ x. spell_all ws' ++ x) (sym (append_assoc (spell c) (item.Mark m.Question ∷ []) (spell r.tree ++ item.Mark m.Colon ∷ [])))
+        ∙ sym (append_assoc (spell_all ws') (spell c ++ item.Mark m.Question ∷ []) (spell r.tree ++ item.Mark m.Colon ∷ []))
+        ∙ ap (λ x. spell_all x ++ (spell r.tree ++ item.Mark m.Colon ∷ [])) (sym l)
+        ∙ joined t ws 0 r (item.Mark m.Colon)
+        ∙ ap (λ x. (spell_all ws ++ spell t) ++ item.Mark x ∷ []) (sym by)
     with_left : (left : List Waiting) → r.left ≡ left → Reads (spell_all ws ++ spell t) (item.Mark mark ∷ items) number
     with_left (InQuestion c ∷ ws') l =
         let P : List Waiting → Type 0 = λ x. Formed x in
@@ -215,14 +224,6 @@ behind_operand mark Parts items t ws number next r by e = with_left r.left refl
         let Q : List Waiting → Type 0 = λ x. Continues items (parted (value r.tree) (frames_of x)) ≡ Some number in
         reads_as (spell_all (InColon c r.tree ∷ ws')) (spell_all ws ++ spell t) items (item.Mark mark) number (parts c ws' l)
         (next None (InColon c r.tree ∷ ws') number (f.0, r.there, f.1, f.2) tt (subst Q l e))
-      where
-        parts : (c : Tree) (ws' : List Waiting) → r.left ≡ InQuestion c ∷ ws' → spell_all (InColon c r.tree ∷ ws') ≡ (spell_all ws ++ spell t) ++ item.Mark mark ∷ []
-        parts c ws' l =
-            ap (λ x. spell_all ws' ++ x) (sym (append_assoc (spell c) (item.Mark m.Question ∷ []) (spell r.tree ++ item.Mark m.Colon ∷ [])))
-            ∙ sym (append_assoc (spell_all ws') (spell c ++ item.Mark m.Question ∷ []) (spell r.tree ++ item.Mark m.Colon ∷ []))
-            ∙ ap (λ x. spell_all x ++ (spell r.tree ++ item.Mark m.Colon ∷ [])) (sym l)
-            ∙ joined t ws 0 r (item.Mark m.Colon)
-            ∙ ap (λ x. (spell_all ws ++ spell t) ++ item.Mark x ∷ []) (sym by)
     with_left [] l = absurd (nothing [] l refl)
     with_left (InGroup ∷ ws') l = absurd (nothing (InGroup ∷ ws') l refl)
     with_left (InPrefix mk op ∷ ws') l = absurd (nothing (InPrefix mk op ∷ ws') l refl)
@@ -260,9 +261,9 @@ sound (item.Operand n ∷ items) (Some t) ws number f h e = absurd (none_some e)
 sound (item.Mark mark ∷ items) None ws number f h e = by (lead_of mark) refl (sound items)
   where
     by : (p : Option Frame) → lead_of mark ≡ p → Sound items → Reads (spell_all ws) (item.Mark mark ∷ items) number
-    by None l next = absurd (none_some (sym (ap (λ x. Continues items (option_map (λ g. (None, g ∷ frames_of ws)) x)) l) ∙ e))
+    by None l next = absurd (none_some (sym (ap (λ x. Continues items (option_map (waiting_in (frames_of ws)) x)) l) ∙ e))
     by (Some g) l next =
-        behind_lead mark g items ws number next f (led-by mark g l) (sym (ap (λ x. Continues items (option_map (λ g. (None, g ∷ frames_of ws)) x)) l) ∙ e)
+        behind_lead mark g items ws number next f (led-by mark g l) (sym (ap (λ x. Continues items (option_map (waiting_in (frames_of ws)) x)) l) ∙ e)
 sound (item.Mark mark ∷ items) (Some t) ws number f h e = by (follow_of mark) refl (sound items)
   where
     by : (p : Option Follow) → follow_of mark ≡ p → Sound items → Reads (spell_all ws ++ spell t) (item.Mark mark ∷ items) number
@@ -270,7 +271,7 @@ sound (item.Mark mark ∷ items) (Some t) ws number f h e = by (follow_of mark) 
     by (Some follow) l next =
         let r = reduce_all (follow_level follow) (follow-small follow) ws t f (h (bound ws)) (h (follow_level follow)) in
         behind_operand mark follow items t ws number next r (followed-by mark follow l)
-        (sym (ap (λ x. Continues items (option_and_then (following (value t) (frames_of ws)) x)) l ∙ ap (λ held. Continues items (followed follow held.0 held.1)) r.same) ∙ e)
+        (sym (ap (λ x. Continues items (option_and_then (following (value t) (frames_of ws)) x)) l ∙ ap (λ (held : Held). Continues items (followed follow held.0 held.1)) r.same) ∙ e)
 
 -- what is read is what the items mean
 pub run-means : (items : List Item) (number : Number) → run None [] items ≡ Some number → Means items number

@@ -1,5 +1,6 @@
 -- How an expression is read from front to back with a stack of what waits for an operand.
-use Rattle.std.specs.Prelude.{ℕ, ◌+◌, Bool, false, if◌then◌else◌, nat_le, List, [], ◌∷◌, Option, None, Some, option_map, option_and_then}
+use Rattle.std.specs.Prelude.{ℕ, ◌+◌, Bool, true, false, if◌then◌else◌, nat_le, List, [], ◌∷◌, Option, None, Some, option_map, option_and_then}
+use Rattle.std.specs.Option.{option_or}
 use Rattle.pw_token.specs.declared.symbol.Mark.{Mark}
 use Rattle.pw_token.specs.declared.symbol.Mark.TheVariants as m
 use Rattle.pw_cpp_values.specs.Arithmetic.{unary, conditional}
@@ -13,17 +14,24 @@ use Rattle.pw_cpp_condition.specs.declared.frame.Frame.TheVariants.{Group, Prefi
 use Rattle.pw_cpp_condition.specs.declared.word.Item.{Item}
 use Rattle.pw_cpp_condition.specs.declared.word.Item.TheVariants as item
 
+abbrev pub is_open : Mark → Bool
+is_open m.OpenParen = true
+is_open _ = false
+
 -- what a mark does where an operand is wanted
 abbrev pub lead_of : Mark → Option Frame
-lead_of m.OpenParen = Some Group
-lead_of mark = option_map Prefix (prefix_of mark)
+lead_of mark = if is_open mark then Some Group else option_map Prefix (prefix_of mark)
 
--- what it does behind an operand
+-- the marks that have a meaning of their own behind an operand
+abbrev pub special_follow : Mark → Option Follow
+special_follow m.Question = Some Asks
+special_follow m.Colon = Some Parts
+special_follow m.CloseParen = Some Closes
+special_follow _ = None
+
+-- what a mark does behind an operand
 abbrev pub follow_of : Mark → Option Follow
-follow_of m.Question = Some Asks
-follow_of m.Colon = Some Parts
-follow_of m.CloseParen = Some Closes
-follow_of mark = option_map Goes (infix_of mark)
+follow_of mark = option_or (special_follow mark) (option_map Goes (infix_of mark))
 
 -- ---- frames
 
@@ -85,9 +93,13 @@ followed Closes v frames = closed v frames
 abbrev pub following : Number → List Frame → Follow → Option State
 following v frames follow = let held = reduced (follow_level follow) v frames in followed follow held.0 held.1
 
+-- with one more frame an operand is wanted
+abbrev pub waiting_in : List Frame → Frame → State
+waiting_in frames frame = (None, frame ∷ frames)
+
 abbrev pub step : Option Number → List Frame → Item → Option State
 step None frames (item.Operand n) = Some (Some n, frames)
-step None frames (item.Mark mark) = option_map (λ frame. (None, frame ∷ frames)) (lead_of mark)
+step None frames (item.Mark mark) = option_map (waiting_in frames) (lead_of mark)
 step (Some v) frames (item.Operand n) = None
 step (Some v) frames (item.Mark mark) = option_and_then (following v frames) (follow_of mark)
 
@@ -101,4 +113,4 @@ finished (Some v) frames = let held = reduced choice_level v frames in whole hel
 
 abbrev pub run : Option Number → List Frame → List Item → Option Number
 run operand frames [] = finished operand frames
-run operand frames (i ∷ items) = option_and_then (λ state. run state.0 state.1 items) (step operand frames i)
+run operand frames (i ∷ items) = option_and_then (λ (state : State). run state.0 state.1 items) (step operand frames i)

@@ -1,5 +1,5 @@
 -- What marks mean in `#if` (ISO/IEC 9899:1990, 6.3.3 to 6.3.15).
-use Rattle.std.specs.Prelude.{ℕ, List, Option, None, Some, option_map}
+use Rattle.std.specs.Prelude.{ℕ, Bool, true, false, if◌then◌else◌, List, Option, None, Some, option_map}
 use Rattle.pw_token.specs.Words.{mark_of}
 use Rattle.pw_token.specs.declared.symbol.Mark.{Mark}
 use Rattle.pw_token.specs.declared.symbol.Mark.TheVariants as m
@@ -68,7 +68,10 @@ level (Binary B.Remainder) = 10
 
 -- ---- items
 
--- What a token of a kind with these bytes is in an expression: an operand with its number, or a mark. None where it is neither.
+abbrev pub is_mark : TokenKind → Bool
+is_mark kind.Mark = true
+is_mark _ = false
+
+-- What a token of a kind with these bytes is in an expression: a mark, or an operand with its number. None where it is neither.
 abbrev pub item_of : TokenKind → List ℕ → Option Item
-item_of kind.Mark bytes = option_map item.Mark (mark_of bytes)
-item_of other bytes = option_map item.Operand (operand_of other bytes)
+item_of token bytes = if is_mark token then option_map item.Mark (mark_of bytes) else option_map item.Operand (operand_of token bytes)

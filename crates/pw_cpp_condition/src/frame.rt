@@ -1,6 +1,6 @@
 //! What waits for an operand while an expression is read.
 
-ghost use Rattle.std.specs.Prelude.{◌≡◌, [], None, reverse};
+ghost use Rattle.std.specs.Prelude.{◌≡◌, [], None, option_map, reverse};
 ghost use Rattle.pw_cpp_condition.specs.Grammar.{between};
 ghost use Rattle.pw_cpp_condition.specs.Machine as spec;
 
@@ -43,16 +43,42 @@ const CHOICE_LEVEL: u8 = 0;
 /// The level of the operators before their operand.
 const PREFIX_LEVEL: u8 = 11;
 
+fn is_open(mark: Mark) -> bool
+    ensures { result ≡ spec.is_open mark }
+{
+    matches!(mark, Mark::OpenParen)
+}
+
 /// What a mark does where an operand is wanted.
 pub fn lead_of(mark: Mark) -> Option<Frame>
     ensures { result ≡ spec.lead_of mark }
 {
+    if is_open(mark) {
+        return Some(Frame::Group);
+    }
+    match prefix_of(mark) {
+        Some(op) => Some(Frame::Prefix(op)),
+        None => None,
+    }
+}
+
+fn special_follow(mark: Mark) -> Option<Follow>
+    ensures { result ≡ spec.special_follow mark }
+{
     match mark {
-        Mark::OpenParen => Some(Frame::Group),
-        _ => match prefix_of(mark) {
-            Some(op) => Some(Frame::Prefix(op)),
-            None => None,
-        },
+        Mark::Question => Some(Follow::Asks),
+        Mark::Colon => Some(Follow::Parts),
+        Mark::CloseParen => Some(Follow::Closes),
+        _ => None,
+    }
+}
+
+fn goes(op: Option<Infix>) -> Option<Follow>
+    ensures { result ≡ option_map Follow.Goes op }
+{
+    match op {
+        Some(op) => Some(Follow::Goes(op)),
+        None => None,
     }
 }
 
@@ -60,14 +86,9 @@ pub fn lead_of(mark: Mark) -> Option<Frame>
 pub fn follow_of(mark: Mark) -> Option<Follow>
     ensures { result ≡ spec.follow_of mark }
 {
-    match mark {
-        Mark::Question => Some(Follow::Asks),
-        Mark::Colon => Some(Follow::Parts),
-        Mark::CloseParen => Some(Follow::Closes),
-        _ => match infix_of(mark) {
-            Some(op) => Some(Follow::Goes(op)),
-            None => None,
-        },
+    match special_follow(mark) {
+        Some(follow) => Some(follow),
+        None => goes(infix_of(mark)),
     }
 }
 

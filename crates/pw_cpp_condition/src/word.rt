@@ -1,6 +1,7 @@
 //! What tokens are in an expression.
 
-ghost use Rattle.std.specs.Prelude.{◌≡◌, IfOk};
+ghost use Rattle.std.specs.Prelude.{◌≡◌, option_map, IfOk};
+ghost use Rattle.pw_token.specs.Words.{mark_of};
 ghost use Rattle.pw_cpp_condition.specs.Words as spec;
 
 use pw_check_literals::NoMemory;
@@ -23,20 +24,39 @@ pub enum Item {
     Mark(Mark),
 }
 
+fn is_mark(kind: TokenKind) -> bool
+    ensures { result ≡ spec.is_mark kind }
+{
+    matches!(kind, TokenKind::Mark)
+}
+
+fn mark_item(bytes: &[u8]) -> Option<Item>
+    ensures { result ≡ option_map Item.Mark (mark_of bytes.now) }
+{
+    match Mark::with_text(bytes) {
+        Some(mark) => Some(Item::Mark(mark)),
+        None => None,
+    }
+}
+
+fn operand_item(number: Option<Number>) -> Option<Item>
+    ensures { result ≡ option_map Item.Operand number }
+{
+    match number {
+        Some(number) => Some(Item::Operand(number)),
+        None => None,
+    }
+}
+
 /// What a token of a kind with these bytes is, or None where no expression has it.
 pub fn item_of(alloc: Global, kind: TokenKind, bytes: &[u8]) -> Result<Option<Item>, NoMemory>
     ensures { IfOk result (λ found. found ≡ spec.item_of kind bytes.now) }
 {
-    if let TokenKind::Mark = kind {
-        return Ok(match Mark::with_text(bytes) {
-            Some(mark) => Some(Item::Mark(mark)),
-            None => None,
-        });
+    if is_mark(kind) {
+        return Ok(mark_item(bytes));
     }
-    match operand_of(alloc, kind, bytes)? {
-        Some(number) => Ok(Some(Item::Operand(number))),
-        None => Ok(None),
-    }
+    let number = operand_of(alloc, kind, bytes)?;
+    Ok(operand_item(number))
 }
 
 /// The operator that a mark spells before an operand.
@@ -56,28 +76,27 @@ pub fn prefix_of(mark: Mark) -> Option<UnaryOperator>
 pub fn infix_of(mark: Mark) -> Option<Infix>
     ensures { result ≡ spec.infix_of mark }
 {
-    let op = match mark {
-        Mark::Star => BinaryOperator::Multiply,
-        Mark::Slash => BinaryOperator::Divide,
-        Mark::Percent => BinaryOperator::Remainder,
-        Mark::Plus => BinaryOperator::Add,
-        Mark::Minus => BinaryOperator::Subtract,
-        Mark::LeftShift => BinaryOperator::ShiftLeft,
-        Mark::RightShift => BinaryOperator::ShiftRight,
-        Mark::Less => BinaryOperator::Less,
-        Mark::Greater => BinaryOperator::Greater,
-        Mark::LessEqual => BinaryOperator::LessEqual,
-        Mark::GreaterEqual => BinaryOperator::GreaterEqual,
-        Mark::EqualEqual => BinaryOperator::Equal,
-        Mark::NotEqual => BinaryOperator::NotEqual,
-        Mark::Ampersand => BinaryOperator::And,
-        Mark::Caret => BinaryOperator::ExclusiveOr,
-        Mark::Bar => BinaryOperator::Or,
-        Mark::AndAnd => return Some(Infix::Logic(LogicOperator::And)),
-        Mark::BarBar => return Some(Infix::Logic(LogicOperator::Or)),
-        _ => return None,
-    };
-    Some(Infix::Binary(op))
+    match mark {
+        Mark::Star => Some(Infix::Binary(BinaryOperator::Multiply)),
+        Mark::Slash => Some(Infix::Binary(BinaryOperator::Divide)),
+        Mark::Percent => Some(Infix::Binary(BinaryOperator::Remainder)),
+        Mark::Plus => Some(Infix::Binary(BinaryOperator::Add)),
+        Mark::Minus => Some(Infix::Binary(BinaryOperator::Subtract)),
+        Mark::LeftShift => Some(Infix::Binary(BinaryOperator::ShiftLeft)),
+        Mark::RightShift => Some(Infix::Binary(BinaryOperator::ShiftRight)),
+        Mark::Less => Some(Infix::Binary(BinaryOperator::Less)),
+        Mark::Greater => Some(Infix::Binary(BinaryOperator::Greater)),
+        Mark::LessEqual => Some(Infix::Binary(BinaryOperator::LessEqual)),
+        Mark::GreaterEqual => Some(Infix::Binary(BinaryOperator::GreaterEqual)),
+        Mark::EqualEqual => Some(Infix::Binary(BinaryOperator::Equal)),
+        Mark::NotEqual => Some(Infix::Binary(BinaryOperator::NotEqual)),
+        Mark::Ampersand => Some(Infix::Binary(BinaryOperator::And)),
+        Mark::Caret => Some(Infix::Binary(BinaryOperator::ExclusiveOr)),
+        Mark::Bar => Some(Infix::Binary(BinaryOperator::Or)),
+        Mark::AndAnd => Some(Infix::Logic(LogicOperator::And)),
+        Mark::BarBar => Some(Infix::Logic(LogicOperator::Or)),
+        _ => None,
+    }
 }
 
 /// How tightly an operator binds, from 1 for `||` to 10 for `*`.

@@ -1,2 +1,3 @@
 pub mod ParameterLaws
 pub mod TableLaws
+pub mod Lawful

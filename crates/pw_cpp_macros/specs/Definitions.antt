@@ -97,3 +97,18 @@ definition_of text (name ∷ rest) =
 abbrev pub Answers : {A : Type 0} → Result A DefineFault → Result A DefineFault → Type 0
 Answers answer (Ok a) = answer ≡ Ok a
 Answers answer (Err fault) = (fault ≡ NoMemory) ⊎ (answer ≡ Err fault)
+
+-- ---- what parameters are like
+
+-- no two have one spelling
+abbrev pub AreApart : List ℕ → List Token → Type 0
+AreApart text [] = Unit {0}
+AreApart text (name ∷ names) = (is_among text names name ≡ false) × AreApart text names
+
+abbrev pub AreWords : List Token → Type 0
+AreWords [] = Unit {0}
+AreWords (name ∷ names) = (is_word name ≡ true) × AreWords names
+
+-- words, no two alike, and not too many
+abbrev pub AreParameters : List ℕ → List Token → Type 0
+AreParameters text names = AreWords names × AreApart text names × (length names ≤ parameter_limit)

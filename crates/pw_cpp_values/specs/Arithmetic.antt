@@ -1,5 +1,5 @@
 -- The arithmetic of `#if` (ISO/IEC 9899:1990, 6.8.1): the rules of 6.3 and 6.4, where all whole numbers are long or unsigned long.
-use Rattle.std.specs.Prelude.{ℕ, ◌==◌, Bool, true, false, not, ◌||◌, if◌then◌else◌, Option, None, Some, option_and_then, option_map, Result, Ok, Err, bit_and, bit_or, bit_xor}
+use Rattle.std.specs.Prelude.{ℕ, ◌==◌, Bool, true, false, not, ◌||◌, ◌&&◌, if◌then◌else◌, Option, None, Some, option_and_then, option_map, Result, Ok, Err, bit_and, bit_or, bit_xor}
 use Rattle.pw_types.specs.declared.tree.BinaryOperator.{BinaryOperator}
 use Rattle.pw_types.specs.declared.tree.BinaryOperator.TheVariants as B
 use Rattle.pw_types.specs.declared.tree.LogicOperator.{LogicOperator}
@@ -42,7 +42,7 @@ keeps_type U.Complement = true
 keeps_type U.Not = false
 
 abbrev pub unary : UnaryOperator → Number → Number
-unary op a = number (if keeps_type op then a.unsigned else false) (option_and_then (unary_word op a.unsigned) a.word)
+unary op a = number (keeps_type op && a.unsigned) (option_and_then (unary_word op a.unsigned) a.word)
 
 -- ---- binary operators (6.3.5 to 6.3.12)
 
@@ -112,6 +112,10 @@ logic_word L.Or b n = if is_true n then Some 1 else truth_of b
 abbrev pub logic : LogicOperator → Number → Number → Number
 logic op a b = number false (option_and_then (logic_word op b.word) a.word)
 
--- of the second and the third operand one is evaluated; both count for the type
+-- of the second and the third operand one is evaluated
+abbrev pub choice : Option ℕ → Option ℕ → Option ℕ → Option ℕ
+choice c a b = option_and_then (λ n. if is_true n then a else b) c
+
+-- both count for the type
 abbrev pub conditional : Number → Number → Number → Number
-conditional c a b = number (a.unsigned || b.unsigned) (option_and_then (λ n. if is_true n then a.word else b.word) c.word)
+conditional c a b = number (a.unsigned || b.unsigned) (choice c.word a.word b.word)

@@ -1,6 +1,6 @@
 //! Operators on numbers.
 
-ghost use Rattle.std.specs.Prelude.{◌≡◌};
+ghost use Rattle.std.specs.Prelude.{◌≡◌, option_and_then};
 ghost use Rattle.pw_cpp_values.specs.Arithmetic as spec;
 
 use pw_types::{BinaryOperator, LogicOperator, UnaryOperator};
@@ -23,7 +23,10 @@ pub struct Number {
 fn outcome(answer: Result<u32, WordFault>) -> Option<u32>
     ensures { result ≡ spec.outcome answer }
 {
-    answer.ok()
+    match answer {
+        Ok(word) => Some(word),
+        Err(_) => None,
+    }
 }
 
 fn truth(holds: bool) -> u32
@@ -44,18 +47,30 @@ fn unary_word(op: UnaryOperator, unsigned: bool, a: u32) -> Option<u32>
     }
 }
 
+fn keeps_type(op: UnaryOperator) -> bool
+    ensures { result ≡ spec.keeps_type op }
+{
+    match op {
+        UnaryOperator::Plus | UnaryOperator::Minus | UnaryOperator::Complement => true,
+        UnaryOperator::Not => false,
+    }
+}
+
+fn unary_result(op: UnaryOperator, unsigned: bool, a: Option<u32>) -> Option<u32>
+    ensures { result ≡ option_and_then (spec.unary_word op unsigned) a }
+{
+    match a {
+        Some(a) => unary_word(op, unsigned, a),
+        None => None,
+    }
+}
+
 /// What a unary operator makes of a number (6.3.3.3).
 pub fn unary(op: UnaryOperator, a: Number) -> Number
     ensures { result ≡ spec.unary op a }
 {
-    let unsigned = match op {
-        UnaryOperator::Plus | UnaryOperator::Minus | UnaryOperator::Complement => a.unsigned,
-        UnaryOperator::Not => false,
-    };
-    let word = match a.word {
-        Some(word) => unary_word(op, a.unsigned, word),
-        None => None,
-    };
+    let unsigned = keeps_type(op) && a.unsigned;
+    let word = unary_result(op, a.unsigned, a.word);
     Number { unsigned, word }
 }
 
@@ -124,6 +139,26 @@ fn is_comparison(op: BinaryOperator) -> bool
     )
 }
 
+fn works_unsigned(op: BinaryOperator, a: Number, b: Number) -> bool
+    ensures { result ≡ spec.works_unsigned op a b }
+{
+    if is_shift(op) {
+        a.unsigned
+    } else {
+        a.unsigned || b.unsigned
+    }
+}
+
+fn gives_unsigned(op: BinaryOperator, a: Number, b: Number) -> bool
+    ensures { result ≡ spec.gives_unsigned op a b }
+{
+    if is_comparison(op) {
+        false
+    } else {
+        works_unsigned(op, a, b)
+    }
+}
+
 fn both_words(op: BinaryOperator, unsigned: bool, a: Option<u32>, b: Option<u32>) -> Option<u32>
     ensures { result ≡ spec.both_words a b (spec.binary_word op unsigned) }
 {
@@ -140,14 +175,11 @@ fn both_words(op: BinaryOperator, unsigned: bool, a: Option<u32>, b: Option<u32>
 pub fn binary(op: BinaryOperator, a: Number, b: Number) -> Number
     ensures { result ≡ spec.binary op a b }
 {
-    let works_unsigned = if is_shift(op) {
-        a.unsigned
-    } else {
-        a.unsigned || b.unsigned
-    };
+    let unsigned = works_unsigned(op, a, b);
+    let word = both_words(op, unsigned, a.word, b.word);
     Number {
-        unsigned: !is_comparison(op) && works_unsigned,
-        word: both_words(op, works_unsigned, a.word, b.word),
+        unsigned: gives_unsigned(op, a, b),
+        word,
     }
 }
 
@@ -164,10 +196,17 @@ fn logic_word(op: LogicOperator, a: u32, b: Option<u32>) -> Option<u32>
     ensures { result ≡ spec.logic_word op b a }
 {
     match op {
-        LogicOperator::And if a != 0 => truth_of(b),
-        LogicOperator::And => Some(0),
-        LogicOperator::Or if a != 0 => Some(1),
-        LogicOperator::Or => truth_of(b),
+        LogicOperator::And => if a != 0 { truth_of(b) } else { Some(0) },
+        LogicOperator::Or => if a != 0 { Some(1) } else { truth_of(b) },
+    }
+}
+
+fn logic_result(op: LogicOperator, a: Option<u32>, b: Option<u32>) -> Option<u32>
+    ensures { result ≡ option_and_then (spec.logic_word op b) a }
+{
+    match a {
+        Some(a) => logic_word(op, a, b),
+        None => None,
     }
 }
 
@@ -175,13 +214,19 @@ fn logic_word(op: LogicOperator, a: u32, b: Option<u32>) -> Option<u32>
 pub fn logic(op: LogicOperator, a: Number, b: Number) -> Number
     ensures { result ≡ spec.logic op a b }
 {
-    let word = match a.word {
-        Some(a) => logic_word(op, a, b.word),
-        None => None,
-    };
+    let word = logic_result(op, a.word, b.word);
     Number {
         unsigned: false,
         word,
+    }
+}
+
+fn choice(c: Option<u32>, a: Option<u32>, b: Option<u32>) -> Option<u32>
+    ensures { result ≡ spec.choice c a b }
+{
+    match c {
+        Some(c) => if c != 0 { a } else { b },
+        None => None,
     }
 }
 
@@ -189,11 +234,7 @@ pub fn logic(op: LogicOperator, a: Number, b: Number) -> Number
 pub fn conditional(c: Number, a: Number, b: Number) -> Number
     ensures { result ≡ spec.conditional c a b }
 {
-    let word = match c.word {
-        Some(0) => b.word,
-        Some(_) => a.word,
-        None => None,
-    };
+    let word = choice(c.word, a.word, b.word);
     Number {
         unsigned: a.unsigned || b.unsigned,
         word,
