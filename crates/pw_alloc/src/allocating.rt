@@ -76,30 +76,40 @@ fn places(alloc: Global, head: u32, saved: u32, temps: u32) -> Result<Items<Plac
 /// A function with a place in the frame for each temporary. It saves the registers of the webs that it
 /// enters.
 #[tactic(auto, unfolding(crate::specs::Allocation::allocated))]
-fn locate(alloc: Global, f: &WebFn) -> Result<Located, AllocError>
-    requires { IsWebFn f.now }
-    ensures { IfOk result (λ l. l ≡ allocated f.now) }
+fn locate(alloc: Global, f: WebFn) -> Result<Located, AllocError>
+    requires { IsWebFn f }
+    ensures { IfOk result (λ l. l ≡ allocated f) }
 {
-    let head = head_size(f);
+    let head = head_size(&f);
     let saved = saved(alloc, f.directives.webs.as_slice())?;
     let count = saved.len() as u32;
     let begin = slots_begin(head, count, f.temps);
     let frame = last_reach(begin, f.slots.as_slice());
     let places = places(alloc, head, count, f.temps)?;
     Ok(Located {
-        body: f.copy(alloc)?,
+        body: f,
         places,
         saved,
         frame,
     })
 }
 
-/// A lawful function with lawful places: one in the frame for each temporary.
+/// A lawful function with lawful places: one in the frame for each temporary. The function moves into what is answered.
+pub fn allocate_owned(alloc: Global, f: WebFn) -> Result<Located, AllocError>
+    requires { IsWebFn f }
+    ensures value { IfOk result (λ l. l ≡ allocated f) }
+    ensures lawful { IfOk result (λ l. IsLocated l) }
+{
+    let l = locate(alloc, f)?;
+    Ok(l)
+}
+
+/// The same of a function that stays: what is answered has a copy of it.
 pub fn allocate(alloc: Global, f: &WebFn) -> Result<Located, AllocError>
     requires { IsWebFn f.now }
     ensures value { IfOk result (λ l. l ≡ allocated f.now) }
     ensures lawful { IfOk result (λ l. IsLocated l) }
 {
-    let l = locate(alloc, f)?;
-    Ok(l)
+    let copy = f.copy(alloc)?;
+    allocate_owned(alloc, copy)
 }

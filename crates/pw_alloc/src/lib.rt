@@ -6,7 +6,7 @@ mod frames;
 pub mod laws;
 mod located;
 
-pub use allocating::{allocate, is_entry};
+pub use allocating::{allocate, allocate_owned, is_entry};
 pub use frames::{
     FIRST_STACKED, HEAD_BYTES, LINK_PLACE, below, head_size, numbers_of_frames, slot_offsets,
     slots_begin,

@@ -12,15 +12,18 @@ use Rattle.pw_cpp_macros.specs.declared.definition.DefineFault.{DefineFault}
 use Rattle.pw_cpp_macros.specs.declared.definition.DefineFault.TheVariants.{Form}
 use Rattle.pw_cpp_macros.specs.declared.definition.Definition.{Definition}
 
-err_ok : {A : Type 0} {f : DefineFault} {a : A} → Err f ≡ Ok a → ⊥
-err_ok e = cc
+abbrev okay : {A : Type 0} → A → Result A DefineFault
+okay a = Ok a
 
-ok_same : {A : Type 0} {a b : A} → Ok {E = DefineFault} a ≡ Ok b → a ≡ b
-ok_same e = cc
+err_ok : {A : Type 0} (f : DefineFault) (a : A) → Err f ≡ Ok a → ⊥
+err_ok f a e = cc
+
+ok_same : {A : Type 0} (a b : A) → (okay a ≡ okay b) → a ≡ b
+ok_same a b e = cc
 
 -- what an if-chain of faults lets through
 passed : {A : Type 0} (b : Bool) (f : DefineFault) (r : Result A DefineFault) (a : A) → (if b then Err f else r) ≡ Ok a → (b ≡ false) × (r ≡ Ok a)
-passed true f r a e = absurd (err_ok e)
+passed true f r a e = absurd (err_ok f a e)
 passed false f r a e = (refl, e)
 
 not_false : (b : Bool) → not b ≡ false → b ≡ true
@@ -52,28 +55,64 @@ one_more text names more t h e =
     let b = passed (is_among text names t) _ _ more a.1 in
     let c = passed (nat_le parameter_limit (length names)) _ _ more b.1 in
     let P : List Token → Type 0 = λ x. AreParameters text x in
-    subst P (ok_same c.1) (
+    subst P (ok_same (names ++ t ∷ []) more c.1) (
       words_more names t h.0 (not_false (is_word t) a.0),
       apart_more text names t h.1 b.0,
       omega (arith, length-append names (t ∷ []), leb-false parameter_limit (length names) c.0),
     )
 
 in_list : (text : List ℕ) (tokens names : List Token) (found : Parameters) → AreParameters text names → further_parameters text names tokens ≡ Ok found → AreParameters text found.0
-in_list text [] names found h e = absurd (err_ok e)
+in_list text [] names found h e = absurd (err_ok Form found e)
 in_list text (t ∷ []) names found h e = by (with_parameter text names t) e
   where
     by : (r : Result (List Token) DefineFault) → and_then r (λ parameters. Err Form) ≡ Ok found → AreParameters text found.0
-    by (Ok more) e = absurd (err_ok e)
-    by (Err f) e = absurd (err_ok e)
+    by (Ok more) e = absurd (err_ok Form found e)
+    by (Err f) e = absurd (err_ok f found e)
 in_list text (t ∷ mark ∷ rest) names found h e = by (with_parameter text names t) refl e (λ more k. in_list text rest more found k)
   where
     closed : (more : List Token) → AreParameters text more → (a b : Bool) → (next : AreParameters text more → further_parameters text more rest ≡ Ok found → AreParameters text found.0)
         → (if a then Ok (more, rest) else (if b then further_parameters text more rest else Err Form)) ≡ Ok found → AreParameters text found.0
-    closed more k true b next e = let P : Parameters → Type 0 = λ x. AreParameters text x.0 in subst P (ok_same e) k
+    closed more k true b next e = let P : Parameters → Type 0 = λ x. AreParameters text x.0 in subst P (ok_same (more, rest) found e) k
     closed more k false true next e = next k e
-    closed more k false false next e = absurd (err_ok e)
+    closed more k false false next e = absurd (err_ok Form found e)
     by : (r : Result (List Token) DefineFault) → with_parameter text names t ≡ r
         → and_then r (λ parameters. if is_spelled text (codes ")") mark then Ok (parameters, rest) else (if is_spelled text (codes ",") mark then further_parameters text parameters rest else Err Form)) ≡ Ok found
         → ((more : List Token) → AreParameters text more → further_parameters text more rest ≡ Ok found → AreParameters text found.0) → AreParameters text found.0
     by (Ok more) w e next = closed more (one_more text names more t h w) (is_spelled text (codes ")") mark) (is_spelled text (codes ",") mark) (next more) e
-    by (Err f) w e next = absurd (err_ok e)
+    by (Err f) w e next = absurd (err_ok f found e)
+
+-- ---- definitions
+
+meant : (text : List ℕ) (name : Token) (parameters : Option (List Token)) (replacement : List Token) (d : Definition)
+    → with_replacement text name parameters replacement ≡ Ok d → parameters ≡ d.meaning.parameters
+meant text name parameters replacement d e =
+    let a = passed (list_any (is_hash text) replacement) _ _ d e in
+    ap (λ (x : Definition). x.meaning.parameters) (ok_same _ d a.1)
+
+behind_list : (text : List ℕ) (name : Token) (d : Definition) (r : Result Parameters DefineFault) → ((found : Parameters) → r ≡ Ok found → AreParameters text found.0)
+    → and_then r (λ list. with_replacement text name (Some list.0) list.1) ≡ Ok d → IfSome d.meaning.parameters (AreParameters text)
+behind_list text name d (Ok found) h e =
+    let P : Option (List Token) → Type 0 = λ x. IfSome x (AreParameters text) in
+    subst P (meant text name (Some found.0) found.1 d e) (h found refl)
+behind_list text name d (Err f) h e = absurd (err_ok f d e)
+
+whole_list : (text : List ℕ) (tokens : List Token) (found : Parameters) → parameter_list text tokens ≡ Ok found → AreParameters text found.0
+whole_list text [] found e = absurd (err_ok Form found e)
+whole_list text (first ∷ rest) found e = by (is_spelled text (codes ")") first) e (λ k. in_list text (first ∷ rest) [] found none k)
+  where
+    none : AreParameters text []
+    none = (tt, tt, omega arith)
+    by : (b : Bool) → (if b then okay ([], rest) else further_parameters text [] (first ∷ rest)) ≡ Ok found
+        → (further_parameters text [] (first ∷ rest) ≡ Ok found → AreParameters text found.0) → AreParameters text found.0
+    by true e next = let P : Parameters → Type 0 = λ x. AreParameters text x.0 in subst P (ok_same ([], rest) found e) none
+    by false e next = next e
+
+pub parameters-lawful : (text : List ℕ) (tokens : List Token) (d : Definition) → definition_of text tokens ≡ Ok d → IfSome d.meaning.parameters (AreParameters text)
+parameters-lawful text [] d e = absurd (err_ok Form d e)
+parameters-lawful text (name ∷ rest) d e = by (opens_parameters text name rest) (passed (not (is_word name)) _ _ d e).1
+  where
+    by : (b : Bool)
+        → (if b then and_then (parameter_list text (drop 1 rest)) (λ list. with_replacement text name (Some list.0) list.1) else with_replacement text name None rest) ≡ Ok d
+        → IfSome d.meaning.parameters (AreParameters text)
+    by true e = behind_list text name d (parameter_list text (drop 1 rest)) (λ found k. whole_list text (drop 1 rest) found k) e
+    by false e = let P : Option (List Token) → Type 0 = λ x. IfSome x (AreParameters text) in subst P (meant text name None rest d e) tt

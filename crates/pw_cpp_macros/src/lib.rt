@@ -7,6 +7,6 @@ mod table;
 mod word;
 
 pub use definition::{DefineFault, Definition, Macro, PARAMETER_LIMIT, definition_of};
-pub use laws::limits_of_macros;
+pub use laws::{limits_of_macros, parameters_are_apart};
 pub use table::{MACRO_LIMIT, MacroFault, Macros};
 pub use word::{is_spelled, is_word, spelled};

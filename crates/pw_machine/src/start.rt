@@ -10,13 +10,21 @@ use pw_image::DataItem;
 use pw_io::NoMemory;
 use std::alloc::Global;
 
+/// As many bytes of 0 are laid at once: a program that is compiled without proofs checks each byte that is put alone.
+const BLOCK: usize = 4096;
+
 /// `size` bytes of 0.
-#[tactic(auto, unfolding(crate::specs::Start::zeros))]
 pub(crate) fn blank(alloc: Global, size: usize) -> Result<Vec<u8>, NoMemory>
     ensures zeros { IfOk result (λ memory. memory.items ≡ zeros size) }
     ensures size { IfOk result (λ memory. vec_len memory ≡ size) }
 {
-    vec![in alloc; 0u8; size]
+    let mut memory = Vec::with_capacity(alloc, size)?;
+    let block = [0u8; BLOCK];
+    for _ in 0..size / BLOCK {
+        memory.extend_from_slice(&block)?;
+    }
+    memory.extend_from_slice(&block[..size % BLOCK])?;
+    Ok(memory)
 }
 
 /// Puts bytes at a place.

@@ -11,7 +11,7 @@ ghost use Rattle.pw_alloc.specs.ValidPlaces.{IsLocated};
 ghost use Rattle.pw_phase_two.specs.Phases.{code_of, compiled, all_compiled};
 
 use crate::numbers::numbers_fit;
-use pw_alloc::{Located, allocate};
+use pw_alloc::{Located, allocate_owned};
 use pw_db::Directives;
 use pw_delay::{Code, place};
 use pw_flow::FlowFn;
@@ -30,7 +30,7 @@ fn locate(alloc: Global, f: &FlowFn, d: &Directives) -> Result<Located, AllocErr
     ensures lawful { IfOk result (λ l. IsLocated l) }
 {
     let directed = direct(alloc, f, d)?;
-    allocate(alloc, &directed)
+    allocate_owned(alloc, directed)
 }
 
 /// The code of a function with places.

@@ -10,13 +10,7 @@ use pw_object::ObjectFn;
 /// Words are numbers of 32 bits.
 fn words_fit(words: &[u32])
     ensures { AllByRecursion FitsU32 words.now }
-{
-    let mut rest = words;
-    while let [word, after @ ..] = rest {
-        let _word = *word;
-        rest = after;
-    }
-}
+{}
 
 /// The word that a symbol names has a number of 32 bits.
 fn symbol_fits(symbol: &Symbol)
