@@ -1,6 +1,11 @@
-//! Macro expansion (ISO/IEC 9899:1990, 6.8.3).
+//! Macro expansion (ISO/IEC 9899:1990, 6.8.3): the text lines of a file, and the tokens of a `#if`.
 #![tactic(auto)]
 
+mod ahead;
+mod arguments;
+mod expansion;
 mod progress;
+mod result;
 
-pub use progress::{ExpandFault, Lexeme, PRODUCED_LIMIT, OUTPUT_LIMIT, Progress, Row};
+pub use expansion::{Expander, expand_alone, expand_text};
+pub use progress::{ExpandFault, Lexeme, Mode, OUTPUT_LIMIT, PRODUCED_LIMIT, Progress};

@@ -1,13 +1,24 @@
 //! What is expanded, and how far it has come.
 
+use pw_cpp_lines::LineFault;
 use pw_items::Items;
 use pw_token::Token;
+use std::alloc::AllocError;
 
-/// The greatest count of tokens that replacements produce in a run.
+/// The greatest number of tokens that replacements produce in a run.
 pub const PRODUCED_LIMIT: usize = 1_000_000;
 
 /// The greatest length of an output, in bytes.
 pub const OUTPUT_LIMIT: usize = 1_048_576;
+
+/// Whether text lines are read on where tokens end.
+#[derive(Clone, Copy, PartialEq, Eq)]
+pub enum Mode {
+    /// They are, up to the next directive, and what stands is put out.
+    InText,
+    /// They are not: in an argument by itself, and in `#if`.
+    Alone,
+}
 
 /// A token while it is expanded.
 #[derive(Clone, Copy)]
@@ -20,22 +31,17 @@ pub struct Lexeme {
     pub place: usize,
 }
 
-/// A line of the output: the place of its line in the file, and its tokens.
-#[derive(Drop)]
-pub struct Row {
-    pub place: usize,
-    pub tokens: Items<Token>,
-}
-
 /// How far a text has come.
 #[derive(Drop)]
 pub struct Progress {
     /// The place of the next line.
     pub next: usize,
+    /// Where the text lines begin that were read.
+    pub rows: Items<usize>,
     /// How many tokens replacements have produced.
     pub produced: usize,
     /// How long the output is, in bytes.
-    pub length: usize,
+    pub size: usize,
 }
 
 /// Why text is not expanded, with its place.
@@ -51,4 +57,22 @@ pub enum ExpandFault {
     Length { at: usize },
     /// There was no memory.
     NoMemory,
+}
+
+impl From<AllocError> for ExpandFault {
+    ghost use Rattle.pw_cpp_expand.specs.declared.progress.ExpandFault.TheVariants.{NoMemory};
+
+    ghost from_gives = { λ _ fault. fault ≡ NoMemory };
+
+    fn from(_error: AllocError) -> Self {
+        ExpandFault::NoMemory
+    }
+}
+
+/// The fault of a line that has to be read.
+pub fn of_line(fault: LineFault) -> ExpandFault {
+    match fault {
+        LineFault::Bad { at } => ExpandFault::Lex { at },
+        LineFault::NoMemory => ExpandFault::NoMemory,
+    }
 }

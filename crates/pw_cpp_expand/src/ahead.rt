@@ -1,0 +1,78 @@
+//! The tokens that stand ahead.
+
+use crate::progress::{ExpandFault, Lexeme, Mode, OUTPUT_LIMIT, Progress, of_line};
+use pw_cpp_lines::{Head, head_of, lex_line, pass_rest};
+use pw_items::Items;
+use pw_token::Token;
+use std::alloc::{AllocError, Global};
+
+/// Reads the text line at a place.
+fn read_line(
+    alloc: Global,
+    text: &[u8],
+    at: usize,
+    progress: &mut Progress,
+) -> Result<Items<Token>, ExpandFault> {
+    let line = match lex_line(alloc, text, at) {
+        Ok(line) => line,
+        Err(fault) => return Err(of_line(fault)),
+    };
+    if progress.size >= OUTPUT_LIMIT {
+        return Err(ExpandFault::Length { at });
+    }
+    progress.rows.push(at)?;
+    progress.size += 1;
+    progress.next = line.next;
+    Ok(line.tokens)
+}
+
+/// The tokens of the next text line, or None where a directive or the end of the file comes before.
+pub fn read_on(
+    alloc: Global,
+    text: &[u8],
+    progress: &mut Progress,
+) -> Result<Option<Items<Token>>, ExpandFault> {
+    let mut at = progress.next;
+    while at < text.len() {
+        match head_of(text, at) {
+            Head::Text => return Ok(Some(read_line(alloc, text, at, progress)?)),
+            Head::Marker { hash } => at = pass_rest(text, hash),
+            Head::Directive { .. } => return Ok(None),
+        }
+    }
+    Ok(None)
+}
+
+/// Puts tokens as they are read in front of those at hand, which are kept with the first one last.
+pub fn put_fresh(tokens: &[Token], pending: &mut Items<Lexeme>) -> Result<(), AllocError> {
+    let mut left = tokens;
+    while let [before @ .., token] = left {
+        pending.push(Lexeme {
+            token: *token,
+            hidden: 0,
+            place: token.at,
+        })?;
+        left = before;
+    }
+    Ok(())
+}
+
+/// Reads text lines until a token is at hand or the text ends.
+pub fn look_ahead(
+    alloc: Global,
+    text: &[u8],
+    mode: Mode,
+    pending: &mut Items<Lexeme>,
+    progress: &mut Progress,
+) -> Result<(), ExpandFault> {
+    if mode == Mode::Alone {
+        return Ok(());
+    }
+    while pending.is_empty() {
+        let Some(tokens) = read_on(alloc, text, progress)? else {
+            return Ok(());
+        };
+        put_fresh(tokens.as_slice(), pending)?;
+    }
+    Ok(())
+}

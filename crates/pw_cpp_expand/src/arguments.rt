@@ -1,0 +1,89 @@
+//! The arguments of a call.
+
+use crate::ahead::look_ahead;
+use crate::progress::{ExpandFault, Lexeme, Mode, Progress};
+use pw_cpp_macros::is_spelled;
+use pw_items::Items;
+use std::alloc::{AllocError, Global};
+
+/// The arguments of a call, and the `)` that closes it.
+#[derive(Drop)]
+pub struct Arguments {
+    pub arguments: Items<Items<Lexeme>>,
+    pub close: Lexeme,
+}
+
+/// What a token does to the arguments.
+#[derive(Clone, Copy)]
+enum Part {
+    Opens,
+    Closes,
+    Parts,
+    GoesOn,
+}
+
+fn part_of(source: &[u8], lexeme: Lexeme) -> Part {
+    if is_spelled(source, b"(", lexeme.token) {
+        Part::Opens
+    } else if is_spelled(source, b")", lexeme.token) {
+        Part::Closes
+    } else if is_spelled(source, b",", lexeme.token) {
+        Part::Parts
+    } else {
+        Part::GoesOn
+    }
+}
+
+/// The arguments that are read so far: the whole ones, and the last one.
+#[derive(Drop)]
+struct Collected {
+    whole: Items<Items<Lexeme>>,
+    last: Items<Lexeme>,
+}
+
+/// Begins another argument.
+fn next_argument(alloc: Global, collected: &mut Collected) -> Result<(), AllocError> {
+    let mut last = Items::new(alloc);
+    std::mem::swap(&mut last, &mut collected.last);
+    collected.whole.push(last)
+}
+
+/// The arguments of a call from behind its `(` on, or None where the text ends before its `)`.
+pub fn collect(
+    alloc: Global,
+    source: &[u8],
+    text: &[u8],
+    mode: Mode,
+    pending: &mut Items<Lexeme>,
+    progress: &mut Progress,
+) -> Result<Option<Arguments>, ExpandFault> {
+    let mut collected = Collected {
+        whole: Items::new(alloc),
+        last: Items::new(alloc),
+    };
+    let mut depth = 0;
+    loop {
+        look_ahead(alloc, text, mode, pending, progress)?;
+        let Some(lexeme) = pending.pop() else {
+            return Ok(None);
+        };
+        match part_of(source, lexeme) {
+            Part::Opens => depth += 1,
+            Part::Closes if depth == 0 => return Ok(Some(closed(collected, lexeme)?)),
+            Part::Closes => depth -= 1,
+            Part::Parts if depth == 0 => {
+                next_argument(alloc, &mut collected)?;
+                continue;
+            }
+            Part::Parts | Part::GoesOn => {}
+        }
+        collected.last.push(lexeme)?;
+    }
+}
+
+fn closed(collected: Collected, close: Lexeme) -> Result<Arguments, AllocError> {
+    let Collected { whole, last } = collected;
+    let mut arguments = whole;
+    arguments.push(last)?;
+    Ok(Arguments { arguments, close })
+}
