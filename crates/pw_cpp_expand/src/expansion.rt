@@ -155,4 +155,219 @@ impl<'m> Expander<'m> {
         }
         Ok(())
     }
+
+    /// Replaces the name of a macro that takes no arguments.
+    fn replace_name<'a>(
+        &mut self,
+        ground: Ground<'a, 'm>,
+        sets: &mut Sets<'a>,
+        name: Lexeme,
+        meaning: &Macro,
+        progress: &mut Progress,
+    ) -> Result<(), ExpandFault> {
+        let spelling = spelled(ground.source, name.token);
+        let replaced = Replaced {
+            hidden: sets.with_name(spelling, name.hidden)?,
+            place: name.place,
+        };
+        let replacement = meaning.replacement.as_slice();
+        let result = result_of(ground.alloc, ground.source, sets, replaced, &[], replacement)?;
+        self.put_result(result.as_slice(), name.place, progress)
+    }
+
+    /// Begins with a call, behind its `(`.
+    fn open_call<'a>(
+        &mut self,
+        ground: Ground<'a, 'm>,
+        sets: &mut Sets<'a>,
+        name: Lexeme,
+        meaning: &'m Macro,
+        parameters: &[Token],
+        progress: &mut Progress,
+    ) -> Result<(), ExpandFault> {
+        let fault = ExpandFault::Call { at: name.place };
+        let mode = self.mode();
+        let Ground { alloc, source, text, .. } = ground;
+        let Some(found) = collect(alloc, source, text, mode, &mut self.pending, progress)? else {
+            return Err(fault);
+        };
+        let Some(waiting) = waiting_of(alloc, source, parameters, meaning, found.arguments)? else {
+            return Err(fault);
+        };
+        let shared = sets.shared(alloc, name.hidden, found.close.hidden)?;
+        let replaced = Replaced {
+            hidden: sets.with_name(spelled(source, name.token), shared)?,
+            place: name.place,
+        };
+        let mut behind = Items::new(alloc);
+        std::mem::swap(&mut behind, &mut self.pending);
+        let mut before = Items::new(alloc);
+        std::mem::swap(&mut before, &mut self.out);
+        let mut waiting = waiting;
+        let first = waiting.pop();
+        let call = Call {
+            meaning,
+            replaced,
+            parameter: name.token,
+            waiting,
+            expanded: Items::new(alloc),
+            behind,
+            before,
+        };
+        match first {
+            None => self.replace_call(ground, sets, call, progress),
+            Some(raw) => {
+                let mut call = call;
+                call.parameter = raw.parameter;
+                self.begin_argument(call, raw.tokens.as_slice())
+            }
+        }
+    }
+
+    /// Expands the name of a macro that takes arguments, which stands where no `(` follows.
+    fn call_or_stand<'a>(
+        &mut self,
+        ground: Ground<'a, 'm>,
+        sets: &mut Sets<'a>,
+        name: Lexeme,
+        meaning: &'m Macro,
+        parameters: &[Token],
+        progress: &mut Progress,
+    ) -> Result<(), ExpandFault> {
+        let mode = self.mode();
+        look_ahead(ground.alloc, ground.text, mode, &mut self.pending, progress)?;
+        match self.pending.pop() {
+            Some(open) if is_spelled(ground.source, b"(", open.token) =>
+                self.open_call(ground, sets, name, meaning, parameters, progress),
+            Some(other) => {
+                self.pending.push(other)?;
+                self.put_out(name, progress)
+            }
+            None => self.put_out(name, progress),
+        }
+    }
+
+    /// Expands a token that is at hand.
+    fn expand_one<'a>(
+        &mut self,
+        ground: Ground<'a, 'm>,
+        sets: &mut Sets<'a>,
+        lexeme: Lexeme,
+        progress: &mut Progress,
+    ) -> Result<(), ExpandFault> {
+        let Some(meaning) = macro_of(ground, sets, lexeme) else {
+            return self.put_out(lexeme, progress);
+        };
+        match &meaning.parameters {
+            None => self.replace_name(ground, sets, lexeme, meaning, progress),
+            Some(parameters) => self.call_or_stand(
+                ground,
+                sets,
+                lexeme,
+                meaning,
+                parameters.as_slice(),
+                progress,
+            ),
+        }
+    }
+
+    /// Expands what is at hand, to its end.
+    fn run<'a>(
+        &mut self,
+        ground: Ground<'a, 'm>,
+        sets: &mut Sets<'a>,
+        progress: &mut Progress,
+    ) -> Result<(), ExpandFault> {
+        loop {
+            match self.pending.pop() {
+                Some(lexeme) => self.expand_one(ground, sets, lexeme, progress)?,
+                None => match self.calls.pop() {
+                    Some(call) => self.end_argument(ground, sets, call, progress)?,
+                    None => return Ok(()),
+                },
+            }
+        }
+    }
+}
+
+/// The arguments whose parameters stand in the replacement, the first one last, or None where there are more or fewer arguments than
+/// parameters.
+fn waiting_of(
+    alloc: Global,
+    source: &[u8],
+    parameters: &[Token],
+    meaning: &Macro,
+    arguments: Items<Items<Lexeme>>,
+) -> Result<Option<Items<Raw>>, AllocError> {
+    let mut arguments = arguments;
+    let mut waiting = Items::new(alloc);
+    let mut left = parameters;
+    while let [before @ .., parameter] = left {
+        let Some(tokens) = arguments.pop() else {
+            return Ok(None);
+        };
+        if is_used(source, meaning.replacement.as_slice(), *parameter) {
+            waiting.push(Raw {
+                parameter: *parameter,
+                tokens,
+            })?;
+        }
+        left = before;
+    }
+    // A macro without parameters has one argument, which is empty.
+    if parameters.is_empty() {
+        let alone = arguments.len() == 1;
+        return match arguments.pop() {
+            Some(tokens) if alone && tokens.is_empty() => Ok(Some(waiting)),
+            _ => Ok(None),
+        };
+    }
+    Ok(if arguments.is_empty() { Some(waiting) } else { None })
+}
+
+/// The tokens of a text line with what its calls read further, expanded.
+pub fn expand_text<'a>(
+    alloc: Global,
+    source: &'a [u8],
+    text: &'a [u8],
+    macros: &Macros<'a>,
+    sets: &mut Sets<'a>,
+    tokens: &[Token],
+    progress: &mut Progress,
+) -> Result<Items<Lexeme>, ExpandFault> {
+    let mut pending = Items::new(alloc);
+    put_fresh(tokens, &mut pending)?;
+    let ground = Ground { alloc, source, text, macros };
+    expanded(ground, sets, Mode::InText, pending, progress)
+}
+
+/// Tokens expanded by themselves, as those of a `#if`.
+pub fn expand_alone<'a>(
+    alloc: Global,
+    source: &'a [u8],
+    macros: &Macros<'a>,
+    sets: &mut Sets<'a>,
+    pending: Items<Lexeme>,
+    progress: &mut Progress,
+) -> Result<Items<Lexeme>, ExpandFault> {
+    let ground = Ground { alloc, source, text: source, macros };
+    expanded(ground, sets, Mode::Alone, pending, progress)
+}
+
+fn expanded<'a, 'm>(
+    ground: Ground<'a, 'm>,
+    sets: &mut Sets<'a>,
+    mode: Mode,
+    pending: Items<Lexeme>,
+    progress: &mut Progress,
+) -> Result<Items<Lexeme>, ExpandFault> {
+    let mut expander = Expander {
+        mode,
+        pending,
+        out: Items::new(ground.alloc),
+        calls: Items::new(ground.alloc),
+    };
+    expander.run(ground, sets, progress)?;
+    let Expander { out, .. } = expander;
+    Ok(out)
 }
