@@ -2,12 +2,6 @@
 
 use pw_value::Name;
 
-/// How deep includes nest at most; the file that is preprocessed itself has depth 0.
-pub const DEPTH_LIMIT: usize = 16;
-
-/// The greatest length of a header's name, in bytes.
-pub const HEADER_NAME_LIMIT: usize = 400;
-
 /// Which limit is passed.
 #[derive(Clone, Copy, Debug, PartialEq, Eq)]
 pub enum CppWhich {
