@@ -6,7 +6,7 @@ use Rattle.pw_token.specs.Roles.{spelling}
 use Rattle.pw_token.specs.declared.token.Token.{Token}
 use Rattle.pw_cpp.specs.Conditions.{Digits}
 use Rattle.pw_cpp.specs.Directives.{Does, Effect, Becomes, Fails, Fault, Standing, fault, fault_of_expansion, is_directive, standing}
-use Rattle.pw_cpp.specs.Groups.{Nested, Section, Sections, is_opening, is_reading, nested_after}
+use Rattle.pw_cpp.specs.Groups.{Nested, Section, Sections, is_opening, is_reading, is_turn, nested_after}
 use Rattle.pw_cpp.specs.declared.fault.CppKind.{CppKind}
 use Rattle.pw_cpp.specs.declared.fault.CppKind.TheVariants as kind
 use Rattle.pw_cpp.specs.declared.fault.CppWhich.TheVariants as which
@@ -117,10 +117,6 @@ with_nested r nested = record { standing_is = r.standing_is; nested = nested; ou
 
 abbrev pub name_of : List ℕ → Span → List ℕ
 name_of source name = take name.len (drop name.at source)
-
--- the words that go on with a section
-abbrev pub is_turn : List ℕ → Bool
-is_turn name = bytes_eq name (codes "elif") || bytes_eq name (codes "else") || bytes_eq name (codes "endif")
 
 -- A directive is looked at where lines are read; in a group that is passed over, where it goes on with the section of the group.
 abbrev pub is_looked_at : Reading → List ℕ → Bool

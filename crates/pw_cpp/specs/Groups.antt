@@ -40,6 +40,10 @@ Nested = List Bool
 abbrev pub is_opening : List ℕ → Bool
 is_opening name = bytes_eq name (codes "if") || bytes_eq name (codes "ifdef") || bytes_eq name (codes "ifndef")
 
+-- the words that go on with a section
+abbrev pub is_turn : List ℕ → Bool
+is_turn name = bytes_eq name (codes "elif") || bytes_eq name (codes "else") || bytes_eq name (codes "endif")
+
 -- What a directive's name does to sections that are passed over, of which one at least is open; None where it may not stand there.
 abbrev pub nested_after : List ℕ → Bool → Nested → Option Nested
 nested_after name behind_else outer =
