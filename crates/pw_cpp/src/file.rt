@@ -148,4 +148,170 @@ impl<'a> Reader<'a> {
             _ => Err(wrong),
         }
     }
+
+    /// Reads a text line with what its calls read further, and puts out what it comes to.
+    fn read_text(&mut self, text: &'a [u8], at: usize) -> Result<usize, Fault> {
+        let line = self.lexed(text, at)?;
+        let size = self.out.len();
+        if OUTPUT_LIMIT <= size {
+            return Err(limit(CppWhich::Length, OUTPUT_LIMIT, at));
+        }
+        let mut rows = Items::new(self.alloc);
+        if rows.push(at).is_err() {
+            return Err(no_memory(at));
+        }
+        let mut progress = Progress {
+            next: line.next,
+            rows,
+            produced: self.standing.produced,
+            size: size + 1,
+        };
+        let Standing { macros, sets, .. } = &mut self.standing;
+        let tokens = line.tokens.as_slice();
+        let out = match expand_text(self.alloc, self.source, text, macros, sets, tokens, &mut progress)
+        {
+            Ok(out) => out,
+            Err(fault) => return Err(of_expansion(fault)),
+        };
+        self.standing.produced = progress.produced;
+        match self.put_rows(progress.rows.as_slice(), out.as_slice()) {
+            Ok(()) => Ok(progress.next),
+            Err(_) => Err(no_memory(at)),
+        }
+    }
+
+    /// Puts out rows: each token in the row in which its place lies, with a space behind it, and a newline behind each row.
+    fn put_rows(&mut self, rows: &[usize], out: &[Lexeme]) -> Result<(), AllocError> {
+        let mut left = rows;
+        for lexeme in out {
+            while let [_, next, ..] = left {
+                if lexeme.place < *next {
+                    break;
+                }
+                self.out.push(b'\n')?;
+                left = &left[1..];
+            }
+            self.out.extend_from_slice(spelled(self.source, lexeme.token))?;
+            self.out.push(b' ')?;
+        }
+        for _ in left {
+            self.out.push(b'\n')?;
+        }
+        Ok(())
+    }
+
+    /// The number of the file of this name.
+    fn file_named(&self, name: &[u8]) -> Option<usize> {
+        self.files.iter().position(|file| file.0.as_bytes() == name)
+    }
+
+    /// Reads the header that an include names.
+    fn include(
+        &mut self,
+        text: &'a [u8],
+        hash: usize,
+        behind: usize,
+        depth: usize,
+    ) -> Result<usize, Fault> {
+        let wrong = Fault {
+            kind: CppKind::Directive,
+            place: hash,
+        };
+        let start = pass_space(text, behind);
+        let quoted = if start < text.len() {
+            header_name(text, start)
+        } else {
+            None
+        };
+        let Some(name) = quoted else {
+            self.lexed(text, behind)?;
+            return Err(wrong);
+        };
+        let line = self.lexed(text, name.at + name.len + 1)?;
+        if name.len == 0 || HEADER_NAME_LIMIT < name.len || !line.tokens.is_empty() {
+            return Err(wrong);
+        }
+        let bytes = &text[name.at..name.at + name.len];
+        let header = if is_header(bytes) {
+            self.file_named(bytes)
+        } else {
+            None
+        };
+        let Some(index) = header else {
+            return Err(match Name::within(self.alloc, bytes) {
+                Ok(name) => Fault {
+                    kind: CppKind::Include(name),
+                    place: hash,
+                },
+                Err(_) => no_memory(hash),
+            });
+        };
+        if DEPTH_LIMIT <= depth {
+            return Err(limit(CppWhich::Depth, DEPTH_LIMIT, hash));
+        }
+        self.read_file(index, depth + 1)?;
+        Ok(line.next)
+    }
+}
+
+/// The file of a place of the source.
+fn file_at(spans: &[Span], place: usize) -> usize {
+    match spans.iter().position(|span| place <= span.end) {
+        Some(index) => index,
+        None => 0,
+    }
+}
+
+/// A fault with its file and its line.
+fn placed(
+    alloc: Global,
+    source: &Source,
+    files: &[(Name, Vec<u8>)],
+    fault: Fault,
+) -> Result<CppFault, AllocError> {
+    let index = file_at(source.spans.as_slice(), fault.place);
+    let span = source.spans[index];
+    let text = &source.bytes.as_slice()[span.from..span.end];
+    Ok(CppFault {
+        kind: fault.kind,
+        file: files[index].0.copied(alloc)?,
+        line: line_at(text, fault.place - span.from) as u64,
+    })
+}
+
+/// The output of the preprocessor for a file, which is one of the files; the others are headers that it may include.
+///
+/// # Errors
+///
+/// The first fault in the order of reading, with its file and its line.
+pub fn preprocess(
+    alloc: Global,
+    files: &[(Name, Vec<u8>)],
+    name: &Name,
+) -> Result<Vec<u8>, CppFault> {
+    let source = source_of(alloc, files)?;
+    let mut reader = Reader {
+        alloc,
+        source: source.bytes.as_slice(),
+        files,
+        spans: source.spans.as_slice(),
+        standing: Standing {
+            macros: Macros::new(alloc),
+            sets: Sets::new(alloc),
+            sections: Items::new(alloc),
+            nested: Items::new(alloc),
+            produced: 0,
+        },
+        out: Vec::new(alloc),
+    };
+    let index = reader.file_named(name.as_bytes());
+    let read = match index {
+        Some(index) => reader.read_file(index, 0),
+        None => Ok(()),
+    };
+    let Reader { out, .. } = reader;
+    match read {
+        Ok(()) => Ok(out),
+        Err(fault) => Err(placed(alloc, &source, files, fault)?),
+    }
 }
