@@ -11,10 +11,10 @@ use pw_items::Items;
 use std::alloc::{AllocError, Global};
 
 /// What the operand that stands last is behind a step, or why there is no step.
-type Step = Result<Option<Option<Number>>, AllocError>;
+type Outcome = Result<Option<Option<Number>>, AllocError>;
 
 /// Puts a frame within the others.
-fn push(inner: Option<Frame>, frame: Frame, frames: &mut Items<Frame>) -> Step
+fn push(inner: Option<Frame>, frame: Frame, frames: &mut Items<Frame>) -> Outcome
     ensures { IfOk result (λ next. option_map (λ last. (last, reverse frames.new)) next ≡ Some (None, frame ∷ spec.with_inner inner (reverse frames.old))) }
 {
     if let Some(inner) = inner {
@@ -30,7 +30,7 @@ fn follow_with(
     operand: Number,
     inner: Option<Frame>,
     frames: &mut Items<Frame>,
-) -> Step
+) -> Outcome
     requires { inner ≡ None → frames.old ≡ [] }
     ensures { IfOk result (λ next. option_map (λ last. (last, reverse frames.new)) next ≡ spec.followed follow operand (spec.with_inner inner (reverse frames.old))) }
 {
@@ -49,7 +49,7 @@ fn follow_with(
     }
 }
 
-fn follow_mark(follow: Follow, operand: Number, frames: &mut Items<Frame>) -> Step
+fn follow_mark(follow: Follow, operand: Number, frames: &mut Items<Frame>) -> Outcome
     ensures { IfOk result (λ next. option_map (λ last. (last, reverse frames.new)) next ≡ spec.following operand (reverse frames.old) follow) }
 {
     let reduced = reduce(follow_level(follow), operand, frames);
@@ -57,7 +57,7 @@ fn follow_mark(follow: Follow, operand: Number, frames: &mut Items<Frame>) -> St
 }
 
 /// Reads an item behind the operand that stands last, if one does.
-fn step(last: Option<Number>, frames: &mut Items<Frame>, item: Item) -> Step
+fn step(last: Option<Number>, frames: &mut Items<Frame>, item: Item) -> Outcome
     ensures { IfOk result (λ next. option_map (λ last. (last, reverse frames.new)) next ≡ spec.step last (reverse frames.old) item) }
 {
     match (last, item) {
