@@ -22,7 +22,8 @@ use Rattle.pw_store_modules.specs.Views.{source}
 use Rattle.pw_flow.specs.declared.flow.FlowModule.{FlowModule}
 use Rattle.pw_build_objects.specs.declared.making.Built.{Built}
 use Rattle.pw_build_objects.specs.Programs.{AreObjectsFrom, Completes, DirectivesList, Parts, kept_behind}
-use Rattle.pw_build_objects.specs.Choosing.{parts_of}
+use Rattle.pw_build_objects.specs.declared.remade.Made.{Made}
+use Rattle.pw_build_objects.specs.Choosing.{marks_of, objects_of, parts_of}
 use Rattle.pw_build_objects.specs.Counting.{CountsUpTo}
 use Rattle.pw_build.specs.declared.fault.BuildFault.{BuildFault}
 use Rattle.pw_build.specs.declared.fault.BuildFault.TheVariants as build
@@ -92,12 +93,12 @@ objects_long db (f ∷ fs) kept [] bs h = absurd h
 objects_long db (f ∷ fs) kept (o ∷ os) [] h = absurd h
 objects_long db (f ∷ fs) kept (o ∷ os) (b ∷ bs) h = let l = objects_long db fs (kept_behind kept) os bs h.1 in (ap suc l.0, ap suc l.1)
 
--- as many objects as modules, and as many marks
+-- as many objects as modules
 pub as_many : (ms : List Module) (flows : List FlowModule) (kept : List (Option Object)) (opts : Opts) (built : Built) → first_phases (map source ms) ≡ Ok flows → Completes flows kept opts (Ok (parts_of built)) → AreAsMany ms built
 as_many ms flows kept opts built phases h =
-    let l = objects_long built.database.functions flows kept built.objects.items built.fresh.items h.0.objects in
+    let l = objects_long built.database.functions flows kept (objects_of built.made.items) (marks_of built.made.items) h.0.objects in
     let k : length flows ≡ length ms = flows_long (map source ms) flows (within_flows (limit_passed (map source ms)) (flows_of (map source ms)) flows phases) ∙ length-map ms source in
-    record { objects = l.0 ∙ k; marks = l.1 ∙ k }
+    sym (length-map built.made.items (λ (one : Made). one.object)) ∙ l.0 ∙ k
 
 one_more : (n : ℕ) → 1 + n ≡ suc n
 one_more n = omega arith
@@ -118,22 +119,22 @@ counted_anew (n ∷ ns) (x ∷ xs) (false ∷ bs) o f =
     let ih = counted_anew ns xs bs (omega (arith, o)) (omega (arith, f)) in
     sum_by-append (λ b. cond {A = ℕ} b 1 0) (false ∷ []) bs ∙ ap (λ (k : ℕ). count_by (λ b. b) (false ∷ []) + k) ih ∙ none_more (length (made_anew ns xs bs))
 
-pub counted_names : (ms : List Module) (built : Built) (names : List (List ℕ)) (before now : ℕ) → AreAsMany ms built → names ≡ map (λ m. m.0) (made_anew (map (λ m. m.name) ms) built.objects.items built.fresh.items)
-    → now ≡ before + count_by (λ f. f) built.fresh.items → now ≡ before + length names
+pub counted_names : (ms : List Module) (built : Built) (names : List (List ℕ)) (before now : ℕ) → AreAsMany ms built → names ≡ map (λ m. m.0) (made_anew (map (λ m. m.name) ms) (objects_of built.made.items) (marks_of built.made.items))
+    → now ≡ before + count_by (λ f. f) (marks_of built.made.items) → now ≡ before + length names
 counted_names ms built names before now many e counted =
     let k : length (map (λ m. m.name) ms) ≡ length ms = length-map ms (λ m. m.name) in
-    let all = counted_anew (map (λ m. m.name) ms) built.objects.items built.fresh.items (many.objects ∙ sym k) (many.marks ∙ sym k) in
-    let same : length names ≡ length (made_anew (map (λ m. m.name) ms) built.objects.items built.fresh.items) = ap length e ∙ length-map (made_anew (map (λ m. m.name) ms) built.objects.items built.fresh.items) (λ m. m.0) in
+    let all = counted_anew (map (λ m. m.name) ms) (objects_of built.made.items) (marks_of built.made.items) (length-map built.made.items (λ (one : Made). one.object) ∙ many ∙ sym k) (length-map built.made.items (λ (one : Made). one.fresh) ∙ many ∙ sym k) in
+    let same : length names ≡ length (made_anew (map (λ m. m.name) ms) (objects_of built.made.items) (marks_of built.made.items)) = ap length e ∙ length-map (made_anew (map (λ m. m.name) ms) (objects_of built.made.items) (marks_of built.made.items)) (λ m. m.0) in
     counted ∙ ap (λ (k : ℕ). before + k) (all ∙ sym same)
 
 -- ---- the files of a program
 
-made_files : (ms : List Module) (opts : Opts) (kept : List (Option Object)) (built : Built) (made : ProgramFiles) → Builds (map source ms) kept opts (Ok (parts_of built)) → made.fresh.names.items ≡ map (λ m. m.0) (made_anew (map (λ m. m.name) ms) built.objects.items built.fresh.items)
-    → AreObjectFiles (made_anew (map (λ m. m.name) ms) built.objects.items built.fresh.items) (map file_view made.fresh.files.items) → IsDatabaseFile made.database.items built.database.functions
-    → ((names : List (List ℕ)) × IsImageFile made.image.items (record { names = names; value = built.image })) → built.image ≡ linked built.objects.items opts.stack → BuildsFiles (map source ms) kept opts made
+made_files : (ms : List Module) (opts : Opts) (kept : List (Option Object)) (built : Built) (made : ProgramFiles) → Builds (map source ms) kept opts (Ok (parts_of built)) → made.fresh.names.items ≡ map (λ m. m.0) (made_anew (map (λ m. m.name) ms) (objects_of built.made.items) (marks_of built.made.items))
+    → AreObjectFiles (made_anew (map (λ m. m.name) ms) (objects_of built.made.items) (marks_of built.made.items)) (map file_view made.fresh.files.items) → IsDatabaseFile made.database.items built.database.functions
+    → ((names : List (List ℕ)) × IsImageFile made.image.items (record { names = names; value = built.image })) → built.image ≡ linked (objects_of built.made.items) opts.stack → BuildsFiles (map source ms) kept opts made
 made_files ms opts kept built made builds names objects database image is_linked =
     let same : map (λ m. m.name) ms ≡ map (λ s. s.0) (map source ms) = sym (names_by ms) in
-    let anew : List (List ℕ) → List (List ℕ × Object) = λ ns. made_anew ns built.objects.items built.fresh.items in (
+    let anew : List (List ℕ) → List (List ℕ × Object) = λ ns. made_anew ns (objects_of built.made.items) (marks_of built.made.items) in (
       parts_of built,
       builds,
       record {
@@ -146,9 +147,9 @@ made_files ms opts kept built made builds names objects database image is_linked
     )
 
 pub made_of_program : (ms : List Module) (opts : Opts) (kept : Told → List (Option Object)) (first : Option Told) (built : Built) (made : ProgramFiles) → IfSome first (λ told. Builds (map source ms) (kept told) opts (Ok (parts_of built)))
-    → made.fresh.names.items ≡ map (λ m. m.0) (made_anew (map (λ m. m.name) ms) built.objects.items built.fresh.items)
-    → AreObjectFiles (made_anew (map (λ m. m.name) ms) built.objects.items built.fresh.items) (map file_view made.fresh.files.items) → IsDatabaseFile made.database.items built.database.functions
-    → ((names : List (List ℕ)) × IsImageFile made.image.items (record { names = names; value = built.image })) → built.image ≡ linked built.objects.items opts.stack → IfSome first (λ told. BuildsFiles (map source ms) (kept told) opts made)
+    → made.fresh.names.items ≡ map (λ m. m.0) (made_anew (map (λ m. m.name) ms) (objects_of built.made.items) (marks_of built.made.items))
+    → AreObjectFiles (made_anew (map (λ m. m.name) ms) (objects_of built.made.items) (marks_of built.made.items)) (map file_view made.fresh.files.items) → IsDatabaseFile made.database.items built.database.functions
+    → ((names : List (List ℕ)) × IsImageFile made.image.items (record { names = names; value = built.image })) → built.image ≡ linked (objects_of built.made.items) opts.stack → IfSome first (λ told. BuildsFiles (map source ms) (kept told) opts made)
 made_of_program ms opts kept None built made builds names objects database image is_linked = tt
 made_of_program ms opts kept (Some told) built made builds names objects database image is_linked = made_files ms opts (kept told) built made builds names objects database image is_linked
 

@@ -78,10 +78,9 @@ IsCounted sources kept colours fault before now = (made : ℕ) × BuildsAnew sou
 abbrev pub HoldsImage : List ℕ → Type 0
 HoldsImage bytes = (c : Contents Image) × IsImageFile bytes c
 
--- as many objects as modules, each marked
-pub record AreAsMany (modules : List Module) (built : Built) : Type 0 where
-  pub objects : length built.objects.items ≡ length modules
-  pub marks : length built.fresh.items ≡ length modules
+-- as many objects as modules
+abbrev pub AreAsMany : List Module → Built → Type 0
+AreAsMany modules built = length built.made.items ≡ length modules
 
 -- the files of a program that was made of modules of these names, by its parts
 pub record AreFilesOf (names : List (List ℕ)) (stack : ℕ) (parts : Parts) (made : ProgramFiles) : Type 0 where

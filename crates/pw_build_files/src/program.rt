@@ -10,7 +10,7 @@ ghost use Rattle.pw_object.specs.Object.{IsObject};
 ghost use Rattle.pw_image.specs.Image.{IsImage};
 ghost use Rattle.pw_link.specs.Linking.{linked};
 ghost use Rattle.pw_value.specs.Limits.{module_limit};
-ghost use Rattle.pw_build_objects.specs.Choosing.{parts_of};
+ghost use Rattle.pw_build_objects.specs.Choosing.{marks_of, objects_of, parts_of};
 ghost use Rattle.pw_build_objects.specs.Counting.{CountsUpTo};
 ghost use Rattle.pw_build.specs.Builds.{Builds, first_phases};
 ghost use Rattle.pw_build.specs.Phases.{IsLine, refused_line};
@@ -58,11 +58,11 @@ fn built_of<S: Store, L: Ledger>(
     ensures line { IfErr result (λ unbuilt. IsLine (refused_line (map source modules.now)) unbuilt.fault unbuilt.line) }
     ensures few { OnOk result (length modules.now ≤ module_limit) }
     ensures many { IfOk result (λ built. AreAsMany modules.now built) }
-    ensures image { IfOk result (λ built. built.image ≡ linked built.objects.items opts.now.stack) }
+    ensures image { IfOk result (λ built. built.image ≡ linked (objects_of built.made.items) opts.now.stack) }
     ensures lawful_database { IfOk result (λ built. IsDatabase built.database.functions) }
-    ensures lawful_objects { IfOk result (λ built. AllByRecursion IsObject built.objects.items) }
+    ensures lawful_objects { IfOk result (λ built. AllByRecursion IsObject (objects_of built.made.items)) }
     ensures lawful_image { IfOk result (λ built. IsImage built.image) }
-    ensures counted { IfOk result (λ built. steps.new ≡ steps.old + count_by (λ fresh. fresh) built.fresh.items) }
+    ensures counted { IfOk result (λ built. steps.new ≡ steps.old + count_by (λ fresh. fresh) (marks_of built.made.items)) }
     ensures counted_fault { IfSome (S.told store.old) (λ told. IfErr result (λ unbuilt. IsCounted (map source modules.now) (map (λ m. kept_object told.files m.name) modules.now) opts.now.colours unbuilt.fault steps.old steps.new)) }
     ensures bound { CountsAtMost (first_phases (map source modules.now)) steps.old steps.new }
     ensures proper { IfErr result (λ unbuilt. IsNoWant unbuilt.fault) }
@@ -72,7 +72,7 @@ fn built_of<S: Store, L: Ledger>(
     no_refusal_is_want_of_memory();
     let flows = first_phases(alloc, modules)?;
     let kept = read_kept(alloc, store, modules)?;
-    match complete(alloc, &flows, kept, opts, steps) {
+    match complete(alloc, flows, kept, opts, steps) {
         Ok(built) => Ok(built),
         Err(LinkFault::NoMemory) => Err(Unbuilt {
             fault: BuildFault::NoMemory,
@@ -110,12 +110,5 @@ pub fn program_of<S: Store, L: Ledger>(
     ensures count { FaultCount (S.faults store.old) (S.faults store.new) result }
 {
     let built = built_of(alloc, store, modules, opts, steps)?;
-    Ok(files_of(
-        alloc,
-        modules,
-        &built.database,
-        &built.objects,
-        &built.fresh,
-        &built.image,
-    )?)
+    Ok(files_of(alloc, modules, &built.database, &built.made, &built.image)?)
 }

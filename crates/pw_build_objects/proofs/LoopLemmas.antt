@@ -1,5 +1,5 @@
 -- The loops over the modules: what was made of the modules so far, with that of those which are left, is that of all.
-use Rattle.std.proofs.Common.{◌≡◌, ℕ, zero, suc, ◌+◌, ◌<◌, ◌≤◌, Bool, true, false, cond, List, [], ◌∷◌, ◌++◌, length, get_or, drop, drop-cons, arith, Option, None, refl, sym, ap, ◌∙◌, subst, append_assoc, append-nil, length-append}
+use Rattle.std.proofs.Common.{◌≡◌, ℕ, zero, suc, ◌+◌, ◌<◌, ◌≤◌, Bool, true, false, cond, List, [], ◌∷◌, ◌++◌, map, length, get_or, drop, drop-cons, arith, Option, None, refl, sym, ap, ◌∙◌, subst, append_assoc, append-nil, length-append}
 use Rattle.std.specs.Prelude.{count_by}
 use Rattle.std.specs.List.{AllByRecursion}
 use Rattle.std.proofs.lemmas.List.Sums.{count_by-le-length, sum_by-append}
@@ -7,6 +7,8 @@ use Rattle.pw_flow.specs.declared.flow.FlowModule.{FlowModule}
 use Rattle.pw_summary.specs.declared.summary.Summary.{Summary}
 use Rattle.pw_summarise.specs.Summarises.{Summarises}
 use Rattle.pw_object.specs.declared.object.Object.{Object}
+use Rattle.pw_build_objects.specs.declared.remade.Made.{Made}
+use Rattle.pw_build_objects.specs.Choosing.{marks_of, objects_of}
 use Rattle.pw_build_objects.specs.Counting.{CountsUpTo}
 use Rattle.pw_build_objects.specs.Programs.{AreObjectsFrom, AreSummariesOf, DirectivesList, IsModuleFrom, first_kept, kept_behind}
 
@@ -59,6 +61,17 @@ more_lawful P xs new x all h e = subst (AllByRecursion P) (sym e) (pushed xs all
     pushed : (ys : List _) → AllByRecursion P ys → AllByRecursion P (ys ++ x ∷ [])
     pushed [] a = (h, tt)
     pushed (y ∷ ys) a = (a.0, pushed ys a.1)
+
+-- one more module's object, and its mark
+map_push : {A B : Type 0} (f : A → B) (xs : List A) (x : A) → map f (xs ++ x ∷ []) ≡ map f xs ++ f x ∷ []
+map_push f [] x = refl
+map_push f (y ∷ ys) x = ap (λ zs. f y ∷ zs) (map_push f ys x)
+
+pub objects_more : (made new : List Made) (one : Made) → new ≡ made ++ one ∷ [] → objects_of new ≡ objects_of made ++ one.object ∷ []
+objects_more made new one e = ap objects_of e ∙ map_push (λ (m : Made). m.object) made one
+
+pub marks_of_more : (made new : List Made) (one : Made) → new ≡ made ++ one ∷ [] → marks_of new ≡ marks_of made ++ one.fresh ∷ []
+marks_of_more made new one e = ap marks_of e ∙ map_push (λ (m : Made). m.fresh) made one
 
 -- ---- places of a list
 

@@ -21,17 +21,17 @@ use std::sync::ledger::Ledger;
 
 /// The object of a lawful module under the directives of its functions, with its origin; an object that is made counts as one
 /// step.
-fn made<L: Ledger>(
+fn new_object<L: Ledger>(
     alloc: Global,
-    flow: &FlowModule,
+    flow: FlowModule,
     directives: &[(Name, Directives)],
     origin: Origin,
     steps: &mut Steps<L>,
 ) -> Result<Object, AllocError>
-    requires lawful { IsValid flow.now }
-    requires directives { AreDirectivesOf flow.now directives.now }
-    requires origin { IsOriginOf flow.now directives.now origin }
-    ensures object { IfOk result (λ o. IsObjectOf flow.now directives.now o) }
+    requires lawful { IsValid flow }
+    requires directives { AreDirectivesOf flow directives.now }
+    requires origin { IsOriginOf flow directives.now origin }
+    ensures object { IfOk result (λ o. IsObjectOf flow directives.now o) }
     ensures lawful { IfOk result (λ o. IsObject o) }
     ensures counted { OnOk result (steps.new ≡ steps.old + 1) }
     ensures uncounted { OnErr result (steps.new ≡ steps.old) }
@@ -41,7 +41,8 @@ fn made<L: Ledger>(
     Ok(object)
 }
 
-/// The object of a lawful module under the directives of its functions; an object that is made counts as one step.
+/// The object of a lawful module under the directives of its functions; an object that is made counts as one step. The
+/// module stays with the caller.
 pub fn phase_two<L: Ledger>(
     alloc: Global,
     flow: &FlowModule,
@@ -55,8 +56,9 @@ pub fn phase_two<L: Ledger>(
     ensures counted { OnOk result (steps.new ≡ steps.old + 1) }
     ensures uncounted { OnErr result (steps.new ≡ steps.old) }
 {
-    let origin = origin_of(alloc, flow, directives)?;
-    made(alloc, flow, directives, origin, steps)
+    let object = pw_phase_two::phase_two(alloc, flow, directives)?;
+    steps.step();
+    Ok(object)
 }
 
 /// Whether bytes are the same.
@@ -90,38 +92,38 @@ fn taken(origin: &Origin, old: Option<Object>) -> Option<Object>
 
 /// The object of a module, and whether it is made anew.
 #[derive(Drop)]
-pub struct Remade {
+pub struct Made {
     pub object: Object,
     pub fresh: bool,
 }
 
 /// The object of a module under directives: the one that was kept where it stays, else a new one. The module's origin is
-/// made once, to be compared and to stand in the new object.
+/// made once, to be compared and to stand in the new object, and what of the flow graph stands in the object goes over into it.
 pub fn object_from<L: Ledger>(
     alloc: Global,
-    flow: &FlowModule,
+    flow: FlowModule,
     directives: &[(Name, Directives)],
     old: Option<Object>,
     steps: &mut Steps<L>,
-) -> Result<Remade, AllocError>
-    requires lawful { IsValid flow.now }
-    requires directives { AreDirectivesOf flow.now directives.now }
+) -> Result<Made, AllocError>
+    requires lawful { IsValid flow }
+    requires directives { AreDirectivesOf flow directives.now }
     requires kept { IfSome old IsObject }
-    ensures object { IfOk result (λ made. IsObjectFrom flow.now directives.now old made.object made.fresh) }
+    ensures object { IfOk result (λ made. IsObjectFrom flow directives.now old made.object made.fresh) }
     ensures lawful { IfOk result (λ made. IsObject made.object) }
     ensures counted { IfOk result (λ made. steps.new ≡ steps.old + (if made.fresh then 1 else 0)) }
     ensures uncounted { OnErr result (steps.new ≡ steps.old) }
 {
     flow_graphs_and_files_are_one_to_one();
     one_list_is_stored();
-    let origin = origin_of(alloc, flow, directives)?;
+    let origin = origin_of(alloc, &flow, directives)?;
     match taken(&origin, old) {
-        Some(object) => Ok(Remade {
+        Some(object) => Ok(Made {
             object,
             fresh: false,
         }),
-        None => Ok(Remade {
-            object: made(alloc, flow, directives, origin, steps)?,
+        None => Ok(Made {
+            object: new_object(alloc, flow, directives, origin, steps)?,
             fresh: true,
         }),
     }

@@ -13,7 +13,6 @@ use Rattle.pw_run_languages.specs.Programs as flows
 use Rattle.pw_run_languages.specs.Programs.{AreBytes}
 use Rattle.pw_run_languages.specs.LawfulPrograms.{graph_of}
 use Rattle.pw_run_languages.specs.SelectionLaws.{SelectionKeepsRuns}
-use Rattle.pw_run_languages.specs.LinkingLaws.{LinkKeepsRuns}
 use Rattle.pw_cmean.specs.Worlds.{Program}
 use Rattle.pw_law_analysis.specs.SummaryGraphs.{named_graph}
 use Rattle.pw_law_analysis.specs.OwedLaws.{AreSummaries, Serves, IsAnalysed, HoldsOver}
@@ -29,11 +28,10 @@ DatabasesServe =
     AreSummaries ss → colours ≤ 16 → (i : IsDatabaseOf ss colours db) → SayTheSame (named_graph ss i.graph) (graph_of q) →
     Serves q ss colours db i
 
--- what holds of a program that was built with this database and with places that serve, from the laws of selection and
--- linking
+-- what holds of a program that was built with this database and with places that serve, from the law of selection
 abbrev pub LayersGiveAll : Type 0
 LayersGiveAll =
-    SelectionKeepsRuns → LinkKeepsRuns →
+    SelectionKeepsRuns →
     (p : Program) (q : flows.Program) (ss : List Summary) (colours : ℕ) (db : List (List ℕ × Directives)) (functions : List Located) (objects : List Object) (input : List ℕ) →
     IsAnalysed p q ss colours db functions objects → AreBytes input →
     HoldsOver p q ss colours db functions objects input

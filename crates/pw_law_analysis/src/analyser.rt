@@ -7,6 +7,7 @@ ghost use Rattle.pw_law_analysis.specs.AnalyserLaws.{NamedGraphsSayTheSame, Data
 use crate::owed::{all_laws_compose, analyses_compose};
 use pw_colour::laws;
 use pw_law_direction::direction_keeps;
+use pw_law_linked::linking_keeps_runs;
 use pw_law_placed::places_keep;
 
 /// The graph of summaries by the names of functions and globals says of calls, references, writes and eligible globals
@@ -49,9 +50,9 @@ pub fn databases_serve()
     coloured_globals_are_covered();
 }
 
-/// From the laws of selection and linking follows of each program that was built with the database that the analyser makes of
-/// it, and with places that serve: what holds of built programs; and where the source is defined, the law of traffic of the
-/// image, which speaks of each eligible global all of whose webs have a register.
+/// From the law of selection follows of each program that was built with the database that the analyser makes of it, and with
+/// places that serve: what holds of built programs; and where the source is defined, the law of traffic of the image, which
+/// speaks of each eligible global all of whose webs have a register.
 pub fn layers_give_all()
     ensures { LayersGiveAll }
 {
@@ -62,4 +63,5 @@ pub fn layers_give_all()
     databases_serve();
     direction_keeps();
     places_keep();
+    linking_keeps_runs();
 }

@@ -4,7 +4,7 @@ use Rattle.std.specs.List.{position_or_len}
 use Rattle.std.specs.Str.{bytes_eq}
 use Rattle.std.proofs.Common.{arith, ap, sym, subst, ◌∙◌, inl, inr}
 use Rattle.std.proofs.lemmas.Bool.{ltb-true, ltb-false}
-use Rattle.std.proofs.lemmas.List.Elements.{All-weaker}
+use Rattle.std.proofs.lemmas.List.Elements.{All-weaker, All-from_recursion}
 use Rattle.pw_tree.specs.FirstTokens.{first_of_expr}
 use Rattle.pw_tree.specs.Trees.{Word, Expr, Stmt, Alternative, Block, Stmts, Label, Decl}
 use Rattle.pw_tree.specs.Trees as S
@@ -29,7 +29,7 @@ use Rattle.pw_check_rules.specs.Statements as R
 use Rattle.pw_check_rules.specs.Statements.{case_rule, new_label, inside_switch, default_rule, name_label_rule, label_rule, labels_rule, whole_rule, optional_rule, is_condition, condition_rule, optional_condition, switch_rule, in_switch, in_loop, goto_rule, continue_rule, break_rule, return_rule, stmt_rule, alternative_rule, block_rule, stmts_rule, place_of_label}
 use Rattle.pw_law_checked.specs.Lawful.{IsLawful, IsLawfulType, AreWords}
 use Rattle.pw_law_checked.proofs.Texts.{never_nil, HasText, AlternativeHasText, BlockHasText, StmtsHaveText}
-use Rattle.pw_law_checked.specs.Words.{HasWordsIfAny, WordsInStatement, WordsInStatements, WordsInArms, WordsInElse}
+use Rattle.pw_law_checked.specs.Words.{HasWords, HasWordsIfAny, WordsInStatement, WordsInStatements, WordsInArms, WordsInElse}
 use Rattle.pw_law_checked.proofs.Walking.{Post, post_bind, post_weaken, post_both, truth}
 use Rattle.pw_law_checked.proofs.Lists.{Longer}
 use Rattle.pw_law_checked.proofs.Types.{no, not_true}
@@ -464,7 +464,7 @@ block_typed s r u is items t a d b h m f final frame ready words from within =
       within,
       omega (arith, early, late, whole),
       All-weaker (Starts m f.locals (length s.body.locals) (length r.body.locals)) (Initialises m f.locals (length s.body.locals) (length r.body.locals - length s.body.locals))
-          (starts_initialise m f.locals (length s.body.locals) (length r.body.locals)) is (d m f.locals middle ready words.0),
+          (starts_initialise m f.locals (length s.body.locals) (length r.body.locals)) is (d m f.locals middle ready (All-from_recursion HasWords is words.0)),
       subst (λ y. M.AreStatements m f y (loops_in s.body) (length s.body.locals + (length r.body.locals - length s.body.locals)) items) (breaks_same a.steady)
           (subst (λ y. M.AreStatements m f (breaks_in r.body) y (length s.body.locals + (length r.body.locals - length s.body.locals)) items) (loops_same a.steady)
           (h m f final (frame_later a.steady frame) (ready_moves a ready) words.1 (length s.body.locals + (length r.body.locals - length s.body.locals)) (omega (arith, early)))),

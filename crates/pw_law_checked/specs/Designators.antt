@@ -2,40 +2,27 @@
 -- makes a node of its own (ISO C90 6.2.2.1).
 use Rattle.std.specs.Prelude.{Option}
 use Rattle.pw_types.specs.TypeTrees.{QType, type_of}
-use Rattle.pw_types.specs.TypedTrees.{External, Expression, Node, Form, Expressions, NoExpression, OneExpression, Initialiser, Statement, Statements, Arms, Otherwise}
+use Rattle.pw_types.specs.TypedTrees.{External, Expression, Form, Expressions, Initialiser, Statement, Statements, Arms, Otherwise}
 use Rattle.pw_types.specs.TypedTrees as T
 use Rattle.pw_types.specs.WellTyped.{IsFunctionType}
 use Rattle.pw_law_lower_walk.specs.Parts.{IfAny}
-use Rattle.pw_law_lower_walk.specs.Folds.{InStatement, InStatements, InArms, InOtherwise}
+use Rattle.pw_law_lower_walk.specs.Folds.{OverNodes, OverParts, OverArguments, InStatement, InStatements, InArms, InOtherwise}
 
 -- ---- expressions
 
-abbrev mutual
-  pub NamesObjects : Expression → Type 0
-  NamesObjects (Node t y form) = HasObjects y form
+-- of a node by itself; of every other node its parts are asked
+abbrev pub NamesObject : QType → Form → Type 0 → Type 0
+NamesObject y (T.Global (External x)) rest = IsFunctionType (type_of y) → ⊥
+NamesObject y form rest = rest
 
-  pub HasObjects : QType → Form → Type 0
-  HasObjects y (T.Global (External x)) = IsFunctionType (type_of y) → ⊥
-  HasObjects y (T.Unary op a) = NamesObjects a
-  HasObjects y (T.Binary op a b) = NamesObjects a × NamesObjects b
-  HasObjects y (T.Logic op a b) = NamesObjects a × NamesObjects b
-  HasObjects y (T.Cond c a b) = NamesObjects c × NamesObjects a × NamesObjects b
-  HasObjects y (T.Comma a b) = NamesObjects a × NamesObjects b
-  HasObjects y (T.Assign a b) = NamesObjects a × NamesObjects b
-  HasObjects y (T.Compound op working a b) = NamesObjects a × NamesObjects b
-  HasObjects y (T.Step op a) = NamesObjects a
-  HasObjects y (T.Cast a) = NamesObjects a
-  HasObjects y (T.Decay a) = NamesObjects a
-  HasObjects y (T.Member a offset) = NamesObjects a
-  HasObjects y (T.Deref a) = NamesObjects a
-  HasObjects y (T.Address a) = NamesObjects a
-  HasObjects y (T.Call symbol args) = AllNameObjects args
-  HasObjects y (T.CallValue a args) = NamesObjects a × AllNameObjects args
-  HasObjects y _ = Unit {0}
+abbrev pub NamesObjects : Expression → Type 0
+NamesObjects e = OverNodes NamesObject e
 
-  pub AllNameObjects : Expressions → Type 0
-  AllNameObjects NoExpression = Unit {0}
-  AllNameObjects (OneExpression e es) = NamesObjects e × AllNameObjects es
+abbrev pub HasObjects : QType → Form → Type 0
+HasObjects y form = NamesObject y form (OverParts NamesObject form)
+
+abbrev pub AllNameObjects : Expressions → Type 0
+AllNameObjects args = OverArguments NamesObject args
 
 abbrev pub NamesObjectsIfAny : Option Expression → Type 0
 NamesObjectsIfAny e = IfAny NamesObjects e

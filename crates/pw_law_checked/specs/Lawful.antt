@@ -4,9 +4,10 @@ use Rattle.std.specs.Prelude.{ℕ, ◌≡◌, ◌<◌, ◌≤◌, ◌^◌, Bool,
 use Rattle.pw_types.specs.Layouts.{content_at}
 use Rattle.pw_types.specs.Records.{IsLaid}
 use Rattle.pw_types.specs.TypeTrees.{CType, Void, Int, Pointer, Array, Function, Record, QType, Qualified, QTypes, NoType, OneType, type_of, MemberValue, ContentValue, RecordValue}
-use Rattle.pw_types.specs.TypedTrees.{Symbol, Hidden, LocalValue, ModuleValue, Expression, Node, Form, Expressions, NoExpression, OneExpression}
+use Rattle.pw_types.specs.TypedTrees.{Symbol, Hidden, LocalValue, ModuleValue, Expression, Form, Expressions}
 use Rattle.pw_types.specs.TypedTrees as T
 use Rattle.pw_types.specs.WellTyped.{IsScalar, IsComplete, IsResult, IsFunctionType, IsObject, IsFunctionOf, IsDefined}
+use Rattle.pw_law_lower_walk.specs.Folds.{OverNodes, OverParts, OverArguments}
 use Rattle.pw_check_rules.specs.Linkage.{symbol_at}
 use Rattle.pw_check_rules.specs.States.{State, LinkedName, Entity, TypeName, EnumerationConstant, LocalObject, StaticObject, Linked, HiddenObject}
 use Rattle.pw_check_rules.specs.declared.names.Entry.{Entry}
@@ -103,33 +104,20 @@ pub record Denotes (s : State) (m : ModuleValue) (locals : List LocalValue) : Ty
 
 -- ---- numbers of a typed tree
 
+-- a number is one of 32 bits; of every other node its parts are asked
+abbrev pub IsWordAt : Form → Type 0 → Type 0
+IsWordAt (T.Number n) rest = n < 2 ^ 32
+IsWordAt form rest = rest
+
+abbrev pub HasWordAt : QType → Form → Type 0 → Type 0
+HasWordAt y form rest = IsWordAt form rest
+
 -- each number in it is one of 32 bits
-abbrev mutual
-  pub AreWords : Expression → Type 0
-  AreWords (Node t y form) = AreWordsIn form
+abbrev pub AreWords : Expression → Type 0
+AreWords e = OverNodes HasWordAt e
 
-  pub AreWordsIn : Form → Type 0
-  AreWordsIn (T.Number n) = n < 2 ^ 32
-  AreWordsIn (T.Str k) = Unit {0}
-  AreWordsIn (T.Local k) = Unit {0}
-  AreWordsIn (T.Global s) = Unit {0}
-  AreWordsIn (T.Function s) = Unit {0}
-  AreWordsIn (T.Unary op a) = AreWords a
-  AreWordsIn (T.Binary op a b) = AreWords a × AreWords b
-  AreWordsIn (T.Logic op a b) = AreWords a × AreWords b
-  AreWordsIn (T.Cond c a b) = AreWords c × AreWords a × AreWords b
-  AreWordsIn (T.Comma a b) = AreWords a × AreWords b
-  AreWordsIn (T.Assign a b) = AreWords a × AreWords b
-  AreWordsIn (T.Compound op working a b) = AreWords a × AreWords b
-  AreWordsIn (T.Step op a) = AreWords a
-  AreWordsIn (T.Cast a) = AreWords a
-  AreWordsIn (T.Decay a) = AreWords a
-  AreWordsIn (T.Member a offset) = AreWords a
-  AreWordsIn (T.Deref a) = AreWords a
-  AreWordsIn (T.Address a) = AreWords a
-  AreWordsIn (T.Call symbol args) = AreWordsOf args
-  AreWordsIn (T.CallValue a args) = AreWords a × AreWordsOf args
+abbrev pub AreWordsIn : Form → Type 0
+AreWordsIn form = IsWordAt form (OverParts HasWordAt form)
 
-  pub AreWordsOf : Expressions → Type 0
-  AreWordsOf NoExpression = Unit {0}
-  AreWordsOf (OneExpression e es) = AreWords e × AreWordsOf es
+abbrev pub AreWordsOf : Expressions → Type 0
+AreWordsOf args = OverArguments HasWordAt args

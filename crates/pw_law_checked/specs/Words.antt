@@ -1,11 +1,13 @@
 -- The numbers of a typed tree: each in an expression that is evaluated is one of 32 bits, as in each tree that the code makes. And
 -- the strings of a module.
-use Rattle.std.specs.Prelude.{ℕ, ◌≡◌, ◌<◌, ◌≤◌, ◌^◌, false, Option, None, Some, List, All, Contains}
+use Rattle.std.specs.Prelude.{ℕ, ◌≡◌, ◌<◌, ◌≤◌, ◌^◌, false, Option, Some, List, All, Contains}
 use Rattle.pw_value.specs.Limits.{size_limit}
 use Rattle.pw_types.specs.declared.kind.IntKind.TheVariants as K
 use Rattle.pw_types.specs.TypeTrees.{Int, Array, Qualified, type_of}
-use Rattle.pw_types.specs.TypedTrees.{Hidden, Expression, Initialiser, Statement, Statements, NoStatement, OneStatement, Arms, NoArm, Arm, Otherwise, NoElse, Else, FunctionValue, ItemValue, ItemBytes, ItemAddress, PlacedItem, GlobalValue, ModuleValue}
+use Rattle.pw_types.specs.TypedTrees.{Hidden, Expression, Initialiser, Statement, Statements, Arms, Otherwise, FunctionValue, ItemValue, ItemBytes, ItemAddress, PlacedItem, GlobalValue, ModuleValue}
 use Rattle.pw_types.specs.TypedTrees as T
+use Rattle.pw_law_lower_walk.specs.Parts.{IfAny}
+use Rattle.pw_law_lower_walk.specs.Folds.{InStatement, InStatements, InArms, InOtherwise}
 use Rattle.pw_law_checked.specs.Lawful.{AreWords}
 
 abbrev pub HasWords : Initialiser → Type 0
@@ -13,36 +15,19 @@ HasWords (T.Value k e) = AreWords e
 HasWords (T.Bytes k hidden parts) = Unit {0}
 
 abbrev pub HasWordsIfAny : Option Expression → Type 0
-HasWordsIfAny None = Unit {0}
-HasWordsIfAny (Some e) = AreWords e
+HasWordsIfAny e = IfAny AreWords e
 
-abbrev mutual
-  pub WordsInStatement : Statement → Type 0
-  WordsInStatement (T.Empty t) = Unit {0}
-  WordsInStatement (T.Evaluate t e) = AreWords e
-  WordsInStatement (T.Block t first count initialisers items) = All HasWords initialisers × WordsInStatements items
-  WordsInStatement (T.If t arms otherwise) = WordsInArms arms × WordsInElse otherwise
-  WordsInStatement (T.While t e body) = AreWords e × WordsInStatement body
-  WordsInStatement (T.Do t body e) = AreWords e × WordsInStatement body
-  WordsInStatement (T.For t a b c body) = HasWordsIfAny a × HasWordsIfAny b × HasWordsIfAny c × WordsInStatement body
-  WordsInStatement (T.Switch t e cases default body) = AreWords e × WordsInStatement body
-  WordsInStatement (T.Label t labels body) = WordsInStatement body
-  WordsInStatement (T.Goto t n) = Unit {0}
-  WordsInStatement (T.Break t) = Unit {0}
-  WordsInStatement (T.Continue t) = Unit {0}
-  WordsInStatement (T.Return t e) = HasWordsIfAny e
+abbrev pub WordsInStatement : Statement → Type 0
+WordsInStatement s = InStatement AreWords HasWords s
 
-  pub WordsInStatements : Statements → Type 0
-  WordsInStatements NoStatement = Unit {0}
-  WordsInStatements (OneStatement s rest) = WordsInStatement s × WordsInStatements rest
+abbrev pub WordsInStatements : Statements → Type 0
+WordsInStatements all = InStatements AreWords HasWords all
 
-  pub WordsInArms : Arms → Type 0
-  WordsInArms NoArm = Unit {0}
-  WordsInArms (Arm t e body rest) = AreWords e × WordsInStatement body × WordsInArms rest
+abbrev pub WordsInArms : Arms → Type 0
+WordsInArms arms = InArms AreWords HasWords arms
 
-  pub WordsInElse : Otherwise → Type 0
-  WordsInElse NoElse = Unit {0}
-  WordsInElse (Else s) = WordsInStatement s
+abbrev pub WordsInElse : Otherwise → Type 0
+WordsInElse o = InOtherwise AreWords HasWords o
 
 -- ---- objects and modules
 

@@ -12,10 +12,9 @@ pub use designators::{
 };
 pub use limits::{
     accepted_bodies_are_bounded, accepted_bodies_keep_limits, accepted_functions_keep_limits,
-    accepted_initialisers_have_parts,
-    accepted_is_within, accepted_items_are_not_empty, accepted_locals_are_copied,
-    accepted_names_are_identifiers, accepted_records_are_within, accepted_strings_are_short,
-    strings_of_texts,
+    accepted_initialisers_have_parts, accepted_is_within, accepted_items_are_not_empty,
+    accepted_locals_are_copied, accepted_names_are_identifiers, accepted_records_are_within,
+    accepted_strings_are_short, strings_of_texts,
 };
 pub use numbers::{accepted_bodies_have_words, constants_of_words_are_words, numbers_of_objects};
 pub use well_typed::{

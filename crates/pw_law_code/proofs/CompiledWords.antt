@@ -10,7 +10,7 @@ use Rattle.pw_flow.specs.declared.flow.FlowFn.{FlowFn}
 use Rattle.pw_flow.specs.declared.flow.FlowModule.{FlowModule}
 use Rattle.pw_flow.specs.ValidFlow.{IsValid, IsGlobal, IsFunction}
 use Rattle.pw_db.specs.declared.database.Directives.{Directives}
-use Rattle.pw_db.specs.Database.{IsDirectives, IsDatabase}
+use Rattle.pw_db.specs.Database.{IsDirectives}
 use Rattle.pw_inst.specs.declared.Inst.{Inst}
 use Rattle.pw_inst.specs.declared.Inst.TheVariants.{Ldb, Ldh, Ldw, Ldo, Stb, Sth, Stw, Ldil, And, Or, Xor, Sub, Addl, Vshd, Mtctl, Comclr, Subi, Extru, Extrs, Zdep, Combt, Combf, Bl, Bv, Ble, Break}
 use Rattle.pw_inst.specs.InstructionTable.{memory_word, three_register_word, extract_word, deposit_word, long_immediate_word, compare_word, branch_word, word_of, nop, IsInRange, IsRegister}
@@ -180,7 +180,7 @@ compiled_names [] = refl
 compiled_names (l ∷ ls) = ap (λ (names : List (List ℕ)). l.body.name ∷ names) (compiled_names ls)
 
 pub programs_have_parts : (p : Program) (d : List (List ℕ × Directives)) (functions : List Located) (objects : List Object)
-    → IsProgram p → IsDatabase d → AllServe (directed_functions p d) functions → AreObjectsOf p functions objects → size_fault objects p.stack ≡ None
+    → IsProgram p → AllByRecursion (λ f. IsDirectives f.1) d → AllServe (directed_functions p d) functions → AreObjectsOf p functions objects → size_fault objects p.stack ≡ None
     → AreLawfulParts objects p.stack
 programs_have_parts p d functions objects is lawful serve of fits =
     let fs = all_flat IsFunction (λ (m : FlowModule). m.functions) p.modules
@@ -191,7 +191,7 @@ programs_have_parts p d functions objects is lawful serve of fits =
     compiled_names functions ∙ served_names d (functions_of p) functions serve in
     let enough = is.stack in
     record {
-      words = subst (AllByRecursion HasWordsOf32Bits) (sym of.code) (compiled_fit d lawful.directives (functions_of p) functions fs serve);
+      words = subst (AllByRecursion HasWordsOf32Bits) (sym of.code) (compiled_fit d lawful (functions_of p) functions fs serve);
       globals = subst (AllByRecursion IsGlobal) (sym of.globals) gs;
       start = subst (λ (own : List ObjectFn). Contains (map (λ f. f.name) own) start_name) (sym of.code)
           (subst (λ (all : List (List ℕ)). Contains all start_name) (sym names) is.start);

@@ -2,7 +2,8 @@
 
 ghost use Rattle.std.specs.Prelude.{ℕ, ◌≡◌, ◌<◌, ◌^◌, None, List, ◌++◌, map};
 ghost use Rattle.pw_db.specs.declared.database.Directives.{Directives};
-ghost use Rattle.pw_db.specs.Database.{IsDatabase};
+ghost use Rattle.pw_db.specs.Database.{IsDirectives};
+ghost use Rattle.std.specs.List.{AllByRecursion};
 ghost use Rattle.pw_object.specs.declared.object.Object.{Object};
 ghost use Rattle.pw_link.specs.Linking.{linked, size_fault};
 ghost use Rattle.pw_milli.specs.Library.{routines};
@@ -62,12 +63,12 @@ pub fn linked_addresses_are_lawful()
         size_fault objects p.stack ≡ None → ((f : List ℕ) (n : ℕ) → behind f n < 2 ^ 32) → AreLawful p (linked_addresses objects p.stack behind) }
 {}
 
-/// The objects of a program that was made with a lawful database and places that serve have lawful parts, where they fit
+/// The objects of a program that was made with lawful directives and places that serve have lawful parts, where they fit
 /// into the memory: their words have 32 bits, the global objects are lawful, and `$start` is one of the functions. So
 /// the memory is lawful in which a machine begins the program, and it holds the program's words and items.
 pub fn programs_have_lawful_parts()
     ensures { (p : Program) (d : List (List ℕ × Directives)) (functions : List Located) (objects : List Object) →
-        IsProgram p → IsDatabase d → AllServe (directed_functions p d) functions → AreObjectsOf p functions objects →
+        IsProgram p → AllByRecursion (λ f. IsDirectives f.1) d → AllServe (directed_functions p d) functions → AreObjectsOf p functions objects →
         size_fault objects p.stack ≡ None → AreLawfulParts objects p.stack }
 {}
 

@@ -128,7 +128,7 @@ composes map placement guard hold selection link p q d functions objects input b
     let first : q.frame_of start_name ≤ start_room = frame_of_room places_fit q d functions frames built.serve program built.database start_name start_room built.implements.rooms.start in
     let enough : stack_least ≤ q.stack = built.enough in
     let start : q.frame_of start_name ≤ q.stack = omega (arith, first, enough) in
-    let l = link q d functions objects input program built.names built.database built.sound built.serve frames start built.made built.fits bytes in
+    let l = link q d functions objects input program built.names built.database.directives built.serve built.made built.fits bytes in
     hold p q d functions objects input
     (record {
       lowering = subst (λ (F : List ℕ → ℕ). Refines (MomentKept q) (source_stages p F q.stack input) (flow_run q input)) built.frames
@@ -137,5 +137,5 @@ composes map placement guard hold selection link p q d functions objects input b
       places = places;
       linking = l;
       selection = selection q d functions l.addresses l.scratch input program built.database.directives (guard q d functions built.database built.sound built.serve) built.serve frames start l.lawful bytes;
-      placement = placement q d functions l.addresses l.scratch input program built.database built.serve frames start l.lawful bytes;
+      placement = placement q d functions l.addresses l.scratch input program built.database.directives built.serve frames start l.lawful bytes;
     })

@@ -1,10 +1,11 @@
 -- What acceptance of texts owes: modules that checking and linking accept make an accepted program.
-use Rattle.std.specs.Prelude.{ℕ, ◌≡◌, ◌≢◌, ◌≤◌, ◌↔◌, ◌==◌, not, All, Some, List, [], ◌∷◌, ◌++◌, map, filter, slice_get, Contains}
+use Rattle.std.specs.Prelude.{ℕ, ◌≡◌, ◌≢◌, ◌≤◌, ◌↔◌, ◌==◌, not, All, Some, List, [], ◌∷◌, map, filter, slice_get, Contains}
 use Rattle.std.specs.List.{AllByRecursion, list_any}
 use Rattle.pw_value.specs.Limits.{stack_limit}
 use Rattle.pw_files.specs.Rising.{IsRising}
 use Rattle.pw_types.specs.TypeTrees.{type_of}
-use Rattle.pw_types.specs.TypedTrees.{Initialiser, Value, Bytes, Statement, Empty, Evaluate, Block, If, While, Do, For, Switch, Label, Goto, Break, Continue, Return, Arms, NoArm, Arm, Otherwise, NoElse, Else, Statements, NoStatement, OneStatement, LocalValue, FunctionValue}
+use Rattle.pw_types.specs.TypedTrees.{Initialiser, Value, Bytes, Statement, Arms, Otherwise, Statements, LocalValue, FunctionValue}
+use Rattle.pw_types.specs.Collected.{collected, collected_among, collected_of_arms, collected_behind}
 use Rattle.pw_types.specs.Labels.{labels_in, cases_in}
 use Rattle.pw_types.specs.WellTyped.{IsScalar}
 use Rattle.pw_flow.specs.declared.flow.Item.TheVariants.{Address}
@@ -24,33 +25,23 @@ use Rattle.pw_law_layers.specs.Lowering.{flow_program, IsAccepted, AreChecked, H
 -- ---- what checking makes of a function, beyond what is well typed
 
 -- the initialisers of locals that stand in a statement, in the order of the text
-abbrev mutual
-  pub initialisers_in : Statement → List Initialiser
-  initialisers_in (Empty t) = []
-  initialisers_in (Evaluate t e) = []
-  initialisers_in (Block t first count initialisers items) = initialisers ++ initialisers_among items
-  initialisers_in (If t arms otherwise) = initialisers_of_arms arms ++ initialisers_behind otherwise
-  initialisers_in (While t e body) = initialisers_in body
-  initialisers_in (Do t body e) = initialisers_in body
-  initialisers_in (For t a b c body) = initialisers_in body
-  initialisers_in (Switch t e cases default body) = initialisers_in body
-  initialisers_in (Label t labels body) = initialisers_in body
-  initialisers_in (Goto t n) = []
-  initialisers_in (Break t) = []
-  initialisers_in (Continue t) = []
-  initialisers_in (Return t e) = []
+abbrev pub no_own : Statement → List Initialiser → List Initialiser
+no_own s rest = rest
 
-  pub initialisers_among : Statements → List Initialiser
-  initialisers_among NoStatement = []
-  initialisers_among (OneStatement s rest) = initialisers_in s ++ initialisers_among rest
+abbrev pub themselves : List Initialiser → List Initialiser
+themselves initialisers = initialisers
 
-  pub initialisers_of_arms : Arms → List Initialiser
-  initialisers_of_arms NoArm = []
-  initialisers_of_arms (Arm t e body rest) = initialisers_in body ++ initialisers_of_arms rest
+abbrev pub initialisers_in : Statement → List Initialiser
+initialisers_in s = collected no_own themselves s
 
-  pub initialisers_behind : Otherwise → List Initialiser
-  initialisers_behind NoElse = []
-  initialisers_behind (Else s) = initialisers_in s
+abbrev pub initialisers_among : Statements → List Initialiser
+initialisers_among all = collected_among no_own themselves all
+
+abbrev pub initialisers_of_arms : Arms → List Initialiser
+initialisers_of_arms arms = collected_of_arms no_own themselves arms
+
+abbrev pub initialisers_behind : Otherwise → List Initialiser
+initialisers_behind otherwise = collected_behind no_own themselves otherwise
 
 -- a hidden object gives its bytes to no scalar (6.5.7)
 abbrev pub SuitsLocal : List LocalValue → Initialiser → Type 0

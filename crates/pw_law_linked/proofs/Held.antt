@@ -61,7 +61,7 @@ words_held law stand p functions objects input is = each_held law (linked object
 
 -- ---- the start
 
-bytes_at : (xs : List ℕ) → programs.AreBytes xs → AreBytes xs
+pub bytes_at : (xs : List ℕ) → programs.AreBytes xs → AreBytes xs
 bytes_at [] h i = omega arith
 bytes_at (x ∷ xs) h zero = let first = h.0 in omega (arith, first)
 bytes_at (x ∷ xs) h (suc i) = bytes_at xs h.1 i

@@ -1,9 +1,9 @@
 -- What the relocations of a linked program's functions are of has its address, and branches lead into the text.
-use Rattle.std.specs.Prelude.{ℕ, zero, suc, ◌≡◌, ◌+◌, ◌-◌, ◌*◌, ◌%◌, ◌^◌, ◌<◌, ◌≤◌, nat_lt, Bool, true, false, if◌then◌else◌, Option, Some, None, List, [], ◌∷◌, ◌++◌, map, drop, length, slice_index_or, Contains}
+use Rattle.std.specs.Prelude.{ℕ, zero, suc, ◌≡◌, ◌+◌, ◌-◌, ◌*◌, ◌%◌, ◌<◌, ◌≤◌, None, List, [], ◌∷◌, ◌++◌, map, drop, length, slice_index_or, Contains}
 use Rattle.std.specs.List.{AllByRecursion, sum_by}
-use Rattle.std.proofs.Common.{arith, subst, sym, ap, refl, ◌∙◌, get_or, length-append}
+use Rattle.std.proofs.Common.{arith, subst, refl, get_or, length-append}
 use Rattle.std.proofs.lemmas.List.Sums.{sum_by-cons}
-use Rattle.pw_value.specs.Limits.{text_start, word_limit, memory_size}
+use Rattle.pw_value.specs.Limits.{text_start}
 use Rattle.pw_db.specs.declared.database.Directives.{Directives}
 use Rattle.pw_inst.specs.Limits.{routine_count}
 use Rattle.pw_inst.specs.declared.relocation.Fix.{Fix}
@@ -15,17 +15,17 @@ use Rattle.pw_object.specs.declared.object.Object.{Object}
 use Rattle.pw_alloc.specs.declared.located.Located.{Located}
 use Rattle.pw_select.specs.Selection.{selected}
 use Rattle.pw_delay.specs.Placement.{placed}
-use Rattle.pw_link.specs.Layout.{in_order, function_pieces, Piece, Placed, placed_from, routine_pieces, pieces_of, text_of, routine_addresses, word_count, data_begin, stack_end}
+use Rattle.pw_link.specs.Layout.{in_order, function_pieces, Piece, Placed, placed_from, routine_pieces, pieces_of, text_of, routine_addresses}
 use Rattle.pw_link.specs.Linking.{linked, symbol_address, size_fault}
 use Rattle.pw_law_link.specs.Standing.{sites}
-use Rattle.pw_run_languages.specs.Programs.{Program, functions_of, names_of}
+use Rattle.pw_run_languages.specs.Programs.{Program, functions_of}
 use Rattle.pw_run_languages.specs.LawfulPrograms.{IsProgram, IsFunctionName}
 use Rattle.pw_run_languages.specs.Addresses.{AreLawful}
 use Rattle.pw_run_languages.specs.Direction.{directed_functions}
 use Rattle.pw_run_languages.specs.Serving.{AllServe}
 use Rattle.pw_run_languages.specs.CodeStands.{InText, Reaches, IsKnown}
 use Rattle.pw_run_languages.specs.SelectionLaws.{with_items}
-use Rattle.pw_run_languages.specs.LinkingLaws.{AreObjectsOf, address_of}
+use Rattle.pw_run_languages.specs.LinkingLaws.{address_of}
 use Rattle.pw_law_link_run.specs.Placing as placing
 use Rattle.pw_law_select_walk.proofs.EachLine.{selected_lines}
 use Rattle.pw_law_code.specs.LinkedAddresses.{linked_addresses}

@@ -22,3 +22,8 @@ pub mod InPlace
 pub mod Fixes
 pub mod Callees
 pub mod KnownFixes
+pub mod Entries
+pub mod Written
+pub mod Globals
+pub mod Data
+pub mod GivenInMemory

@@ -25,7 +25,7 @@ use Rattle.pw_law_linked.proofs.Apart.{all_apart}
 
 -- ---- different names in another order
 
-right_all : (P : List ℕ → Type 0) (xs ys : List (List ℕ)) → AllByRecursion P (xs ++ ys) → AllByRecursion P ys
+pub right_all : (P : List ℕ → Type 0) (xs ys : List (List ℕ)) → AllByRecursion P (xs ++ ys) → AllByRecursion P ys
 right_all P [] ys h = h
 right_all P (x ∷ xs) ys h = right_all P xs ys h.1
 
@@ -33,7 +33,7 @@ left_all : (P : List ℕ → Type 0) (xs ys : List (List ℕ)) → AllByRecursio
 left_all P [] ys h = tt
 left_all P (x ∷ xs) ys h = (h.0, left_all P xs ys h.1)
 
-both_all : (P : List ℕ → Type 0) (xs ys : List (List ℕ)) → AllByRecursion P xs → AllByRecursion P ys → AllByRecursion P (xs ++ ys)
+pub both_all : (P : List ℕ → Type 0) (xs ys : List (List ℕ)) → AllByRecursion P xs → AllByRecursion P ys → AllByRecursion P (xs ++ ys)
 both_all P [] ys h k = k
 both_all P (x ∷ xs) ys h k = (h.0, both_all P xs ys h.1 k)
 
@@ -46,7 +46,7 @@ right_distinct [] ys h = h
 right_distinct (x ∷ xs) ys h = right_distinct xs ys h.1
 
 -- the names of the second list are none of the first
-abbrev Differ : List (List ℕ) → List (List ℕ) → Type 0
+abbrev pub Differ : List (List ℕ) → List (List ℕ) → Type 0
 Differ xs ys = AllByRecursion (λ y. AllByRecursion (λ x. x ≢ y) xs) ys
 
 with_first : (x : List ℕ) (xs ys : List (List ℕ)) → AllByRecursion (λ y. y ≢ x) ys → Differ xs ys → Differ (x ∷ xs) ys
@@ -61,7 +61,7 @@ differ : (xs ys : List (List ℕ)) → AreDistinct (xs ++ ys) → Differ xs ys
 differ [] ys h = no_first ys
 differ (x ∷ xs) ys h = with_first x xs ys (right_all (λ n. n ≢ x) xs ys h.0) (differ xs ys h.1)
 
-joined_distinct : (ys xs : List (List ℕ)) → AreDistinct ys → AreDistinct xs → Differ xs ys → AreDistinct (ys ++ xs)
+pub joined_distinct : (ys xs : List (List ℕ)) → AreDistinct ys → AreDistinct xs → Differ xs ys → AreDistinct (ys ++ xs)
 joined_distinct [] xs one two h = two
 joined_distinct (y ∷ ys) xs one two h = (both_all (λ n. n ≢ y) ys xs one.0 h.0, joined_distinct ys xs one.1 two h.1)
 
@@ -71,14 +71,14 @@ routine_names : (rs : List (List ℕ × List ℕ)) → map (λ p. p.name) (map r
 routine_names [] = refl
 routine_names (r ∷ rs) = ap (λ (names : List (List ℕ)). r.0 ∷ names) (routine_names rs)
 
-names_are : (p : Program) (functions : List Located) → map (λ l. l.body.name) functions ≡ map (λ f. f.name) (functions_of p)
+pub names_are : (p : Program) (functions : List Located) → map (λ l. l.body.name) functions ≡ map (λ f. f.name) (functions_of p)
     → map (λ q. q.name) (pieces functions ++ routine_pieces) ≡ map (λ f. f.name) (functions_of p) ++ map (λ r. r.0) routines
 names_are p functions named =
     map-append (λ (q : Piece). q.name) (pieces functions) routine_pieces
     ∙ (ap (λ (names : List (List ℕ)). names ++ map (λ q. q.name) routine_pieces) (compiled_names functions ∙ named)
     ∙ ap (λ (names : List (List ℕ)). map (λ f. f.name) (functions_of p) ++ names) (routine_names routines))
 
-text_distinct : (p : Program) (functions : List Located) → AreNamesApart p → map (λ l. l.body.name) functions ≡ map (λ f. f.name) (functions_of p)
+pub text_distinct : (p : Program) (functions : List Located) → AreNamesApart p → map (λ l. l.body.name) functions ≡ map (λ f. f.name) (functions_of p)
     → AreDistinct (map (λ q. q.name) (pieces functions ++ routine_pieces))
 text_distinct p functions apart named =
     let own = map (λ f. f.name) (functions_of p) in

@@ -61,7 +61,7 @@ each_served P one d lawful (f ∷ fs) (l ∷ ls) is serve =
 pub each_given : (P : Located → Type 0) → ((f : FlowFn) (d : Directives) (l : Located) → IsFunction f → IsDirectives d → Serves (directed f d) l → P l)
     → (p : Program) (d : List (List ℕ × Directives)) (functions : List Located) (objects : List Object) → IsGiven p d functions objects → AllByRecursion P functions
 each_given P one p d functions objects given =
-    each_served P one d given.database.directives (functions_of p) functions (all_functions p.modules given.program.modules) given.serve
+    each_served P one d given.directives (functions_of p) functions (all_functions p.modules given.program.modules) given.serve
 
 -- ---- frames
 

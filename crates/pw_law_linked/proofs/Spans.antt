@@ -93,7 +93,7 @@ addresses_lawful stays lawful p d functions objects input given =
     let ends = functions_within stays p d functions objects (text_start + 4 * word_limit) given (omega (arith, few)) in
     lawful p d functions objects (behind_of functions objects p.stack) given (returns_words functions objects p.stack (each_below objects p.stack (text_start + 4 * word_limit) functions (omega arith) ends))
 
-each_global : (P : FlowGlobal → Type 0) (gs : List FlowGlobal) → ((g : FlowGlobal) → Contains gs g → P g) → AllByRecursion P gs
+pub each_global : (P : FlowGlobal → Type 0) (gs : List FlowGlobal) → ((g : FlowGlobal) → Contains gs g → P g) → AllByRecursion P gs
 each_global P [] all = tt
 each_global P (g ∷ gs) all = (all g (0, omega arith, refl), each_global P gs (λ h c. all h (suc c.0, omega (arith, c.1), c.2)))
 

@@ -19,7 +19,7 @@ ghost use Rattle.pw_machine.specs.Core.{word_at};
 ghost use Rattle.pw_law_link.specs.Standing.{sites};
 ghost use Rattle.pw_law_code.specs.LinkedAddresses.{linked_addresses};
 ghost use Rattle.pw_run_languages.specs.Acts as lines;
-ghost use Rattle.pw_run_languages.specs.Programs.{Program, functions_of, globals_of};
+ghost use Rattle.pw_run_languages.specs.Programs.{Program, functions_of, globals_of, AreBytes};
 ghost use Rattle.pw_run_languages.specs.Addresses.{AreLawful};
 ghost use Rattle.pw_run_languages.specs.LawfulPrograms.{IsProgram};
 ghost use Rattle.pw_run_languages.specs.Serving.{Serves, AllServe};
@@ -27,7 +27,7 @@ ghost use Rattle.pw_run_languages.specs.Direction.{directed_functions};
 ghost use Rattle.pw_run_languages.specs.LineRun.{turns, IsCalling};
 ghost use Rattle.pw_run_languages.specs.CodeStands.{is_long, AreReady};
 ghost use Rattle.pw_run_languages.specs.SelectionLaws.{arranged, with_items};
-ghost use Rattle.pw_run_languages.specs.LinkingLaws.{AreObjectsOf, AreNamesApart, LinkKeeps, address_of};
+ghost use Rattle.pw_run_languages.specs.LinkingLaws.{AreObjectsOf, AreNamesApart, LinkKeeps, LinkKeepsRuns, address_of};
 ghost use Rattle.pw_law_code.specs.Lawful.{IsLawful};
 ghost use Rattle.pw_law_link_run.specs.Placing.{Stands};
 ghost use Rattle.pw_law_link_run.specs.Simulating.{IsLinked};
@@ -40,16 +40,19 @@ ghost use Rattle.pw_law_linked.specs.InMemory.{HasKnownFixes, IsInMemory};
 ghost use Rattle.pw_law_linked.specs.Whole.{IsInPlace};
 
 use pw_law_code::code::{
-    linked_addresses_are_lawful, placed_code_stands, selected_lines_are_ready,
+    linked_addresses_are_lawful, placed_code_stands, programs_have_lawful_parts,
+    selected_lines_are_ready,
 };
 use pw_law_code::machine::runs_keep_lawful_states;
 use pw_law_levels::selected_functions_are_framed;
-use pw_law_link::laws::{modules_stand_in_order, words_stand_at_their_addresses};
+use pw_law_link::laws::{
+    linked_memories_are_lawful, modules_stand_in_order, words_stand_at_their_addresses,
+};
 use pw_law_link_run::laws::{
     framed_runs_are_met, images_start_as_lines, lawful_starts_are_settings, library_is_there,
     ready_lines_fit, selected_calls_are_conventional,
 };
-use pw_machine::text_words;
+use pw_machine::{data_bytes, text_words};
 
 /// The return address of a call, told by how many turns are left behind it, is that of the word behind its slot.
 pub fn calls_return_behind_their_slots()
@@ -177,6 +180,19 @@ pub fn linked_programs_are_framed()
     selected_functions_are_framed();
 }
 
+/// What the law of linking is given is in memory as it should be: its image is lawful, its data are of bytes and are those that
+/// the lines start with, and what its relocations are of is known.
+pub fn given_programs_are_in_memory()
+    ensures { (p : Program) (d : List (List ℕ × Directives)) (functions : List Located) (objects : List Object) (input : List ℕ) → IsGiven p d functions objects → AreBytes input → IsInMemory p functions objects input }
+{
+    modules_stand_in_order();
+    linked_addresses_are_lawful();
+    programs_have_lawful_parts();
+    linked_memories_are_lawful();
+    data_bytes();
+    runs_keep_lawful_states();
+}
+
 /// So what the law of linking is given is in its place, where the image is lawful, what its relocations are of is known, and its
 /// data are those of the lines. For its words stand in memory at their addresses, and the library and the routines are the last
 /// pieces, and stand behind all functions.
@@ -200,4 +216,14 @@ pub fn linked_programs_run()
     library_is_there();
     images_start_as_lines();
     framed_runs_are_met();
+}
+
+/// The law of linking: of the objects of a lawful program, with directives and with places that serve, the linked image runs as
+/// the lines do, at the addresses of its map, and notes the same, for some words that the routines leave in scratch registers.
+pub fn linking_keeps_runs()
+    ensures { LinkKeepsRuns }
+{
+    given_programs_are_in_memory();
+    given_programs_are_in_place();
+    linked_programs_run();
 }

@@ -8,31 +8,45 @@ use Rattle.pw_law_lower_walk.specs.Parts.{IfAny}
 -- ---- expressions
 
 abbrev mutual
-  -- by its type and its form
-  pub EachNode : (QType → Form → Type 0) → Expression → Type 0
-  EachNode P (Node t y form) = P y form × EachNodeIn P form
+  -- of each node, by its type, its form, and what is said of its parts
+  pub OverNodes : (QType → Form → Type 0 → Type 0) → Expression → Type 0
+  OverNodes own (Node t y form) = own y form (OverParts own form)
 
-  pub EachNodeIn : (QType → Form → Type 0) → Form → Type 0
-  EachNodeIn P (T.Unary op a) = EachNode P a
-  EachNodeIn P (T.Binary op a b) = EachNode P a × EachNode P b
-  EachNodeIn P (T.Logic op a b) = EachNode P a × EachNode P b
-  EachNodeIn P (T.Cond c a b) = EachNode P c × EachNode P a × EachNode P b
-  EachNodeIn P (T.Comma a b) = EachNode P a × EachNode P b
-  EachNodeIn P (T.Assign a b) = EachNode P a × EachNode P b
-  EachNodeIn P (T.Compound op working a b) = EachNode P a × EachNode P b
-  EachNodeIn P (T.Step op a) = EachNode P a
-  EachNodeIn P (T.Cast a) = EachNode P a
-  EachNodeIn P (T.Decay a) = EachNode P a
-  EachNodeIn P (T.Member a offset) = EachNode P a
-  EachNodeIn P (T.Deref a) = EachNode P a
-  EachNodeIn P (T.Address a) = EachNode P a
-  EachNodeIn P (T.Call symbol args) = EachNodeAmong P args
-  EachNodeIn P (T.CallValue a args) = EachNode P a × EachNodeAmong P args
-  EachNodeIn P leaf = Unit {0}
+  pub OverParts : (QType → Form → Type 0 → Type 0) → Form → Type 0
+  OverParts own (T.Unary op a) = OverNodes own a
+  OverParts own (T.Binary op a b) = OverNodes own a × OverNodes own b
+  OverParts own (T.Logic op a b) = OverNodes own a × OverNodes own b
+  OverParts own (T.Cond c a b) = OverNodes own c × OverNodes own a × OverNodes own b
+  OverParts own (T.Comma a b) = OverNodes own a × OverNodes own b
+  OverParts own (T.Assign a b) = OverNodes own a × OverNodes own b
+  OverParts own (T.Compound op working a b) = OverNodes own a × OverNodes own b
+  OverParts own (T.Step op a) = OverNodes own a
+  OverParts own (T.Cast a) = OverNodes own a
+  OverParts own (T.Decay a) = OverNodes own a
+  OverParts own (T.Member a offset) = OverNodes own a
+  OverParts own (T.Deref a) = OverNodes own a
+  OverParts own (T.Address a) = OverNodes own a
+  OverParts own (T.Call symbol args) = OverArguments own args
+  OverParts own (T.CallValue a args) = OverNodes own a × OverArguments own args
+  OverParts own leaf = Unit {0}
 
-  pub EachNodeAmong : (QType → Form → Type 0) → Expressions → Type 0
-  EachNodeAmong P NoExpression = Unit {0}
-  EachNodeAmong P (OneExpression e es) = EachNode P e × EachNodeAmong P es
+  pub OverArguments : (QType → Form → Type 0 → Type 0) → Expressions → Type 0
+  OverArguments own NoExpression = Unit {0}
+  OverArguments own (OneExpression e es) = OverNodes own e × OverArguments own es
+
+-- what holds of a node beside what holds of its parts
+abbrev pub Beside : (QType → Form → Type 0) → QType → Form → Type 0 → Type 0
+Beside P y form rest = P y form × rest
+
+-- by its type and its form
+abbrev pub EachNode : (QType → Form → Type 0) → Expression → Type 0
+EachNode P e = OverNodes (Beside P) e
+
+abbrev pub EachNodeIn : (QType → Form → Type 0) → Form → Type 0
+EachNodeIn P form = OverParts (Beside P) form
+
+abbrev pub EachNodeAmong : (QType → Form → Type 0) → Expressions → Type 0
+EachNodeAmong P args = OverArguments (Beside P) args
 
 -- ---- statements
 

@@ -4,6 +4,7 @@ use Rattle.std.specs.declared.alloc.Global.{Global}
 use Rattle.std.specs.declared.boxed.Box.{Box}
 use Rattle.std.specs.declared.vec.Vec.{Vec}
 use Rattle.std.proofs.Common.{ap, sym, subst, ◌∙◌}
+use Rattle.std.proofs.lemmas.List.Elements.{recursion_from_All}
 use Rattle.pw_types.specs.Spines.{first_in}
 use Rattle.pw_typed.specs.Views.{view_form, view_exprs, view_initialisers, view_stmt_form, view_stmts, view_arms, view_otherwise}
 use Rattle.pw_typed.specs.declared.tree.Arm.{Arm}
@@ -31,7 +32,7 @@ pub block_words : (t : ℕ) (f : TStmtForm) (first count : ℕ) (initialisers : 
     → is ≡ initialisers.items → ss ≡ items.items → All HasWords (view_initialisers is) → WordsInStatements (view_stmts ss) → WordsInStatement (view_stmt_form t f)
 block_words t f first count initialisers items is ss shape one two h k =
     subst WordsInStatement (sym (ap (view_stmt_form t) shape ∙ block_view t first count initialisers items))
-    (subst (λ xs. All HasWords (view_initialisers xs)) one h, subst (λ xs. WordsInStatements (view_stmts xs)) two k)
+    (recursion_from_All HasWords (view_initialisers initialisers.items) (subst (λ xs. All HasWords (view_initialisers xs)) one h), subst (λ xs. WordsInStatements (view_stmts xs)) two k)
 
 pub if_words : (t : ℕ) (f : TStmtForm) (arms : Vec Arm Global) (o : Option (Box TStmt Global)) (all : List Arm) → f ≡ stmt.If arms o → all ≡ arms.items → WordsInArms (view_arms all) → WordsInElse (view_otherwise o)
     → WordsInStatement (view_stmt_form t f)

@@ -237,9 +237,14 @@ globals-kept spots objects kept (g ∷ gs) n memory h =
           (rest.0, subst (λ (k : ℕ). IsGlobalAt rest.0 spots objects k) (let sum : n + suc i ≡ suc n + i = omega arith in sum) rest.1))),
     )
 
-pub moment-keeps : (world : World) (spots : List Spot) (s : State) (m : Machine) → Matches world spots s m → SameGlobals (graphs world) s.objects m.objects
-moment-keeps world spots s m h = record {
+pub moment-kept :
+    (world : World) (spots : List Spot) (objects kept : List Object) → MemoryStands spots objects kept
+    → ((g : ℕ) → g < length (globals_of (graphs world)) → IsGlobalAt (global_size world g) spots objects g) → SameGlobals (graphs world) objects kept
+moment-kept world spots objects kept memory globals = record {
   place = place_by spots;
-  globals = globals-kept spots s.objects m.objects (globals_of (graphs world)) 0 h.memory (λ i l.
-      (global_size world i, subst (λ (k : ℕ). IsGlobalAt (global_size world i) spots s.objects k) (let sum : i ≡ 0 + i = omega arith in sum) (h.globals i l)));
+  globals = globals-kept spots objects kept (globals_of (graphs world)) 0 memory (λ i l.
+      (global_size world i, subst (λ (k : ℕ). IsGlobalAt (global_size world i) spots objects k) (let sum : i ≡ 0 + i = omega arith in sum) (globals i l)));
 }
+
+pub moment-keeps : (world : World) (spots : List Spot) (s : State) (m : Machine) → Matches world spots s m → SameGlobals (graphs world) s.objects m.objects
+moment-keeps world spots s m h = moment-kept world spots s.objects m.objects h.memory h.globals

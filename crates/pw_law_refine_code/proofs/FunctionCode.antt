@@ -21,8 +21,9 @@ use Rattle.pw_lower.specs.Places.{places_of, temps_from}
 use Rattle.pw_lower.specs.Expressions.{scalar_kind}
 use Rattle.pw_lower.specs.Modules.{parameters_stored, closed_at_start, blocks_at_start, start_code, entered, frame_of, lowered_function}
 use Rattle.pw_cmean.specs.Execution.{holds}
+use Rattle.pw_run_languages.specs.Programs.{block_at}
 use Rattle.pw_law_refine.specs.Containing.{same, given, times_closed, begun, ContainsCode}
-use Rattle.pw_law_refine_code.specs.Functions.{code_of_body}
+use Rattle.pw_law_refine_code.specs.Functions.{code_of_body, last_block}
 use Rattle.pw_law_refine_code.proofs.Spreads.{Spread, OfExpressions, one_if, none, same_code, and, emits, adds, given-more, times_closed-append}
 use Rattle.pw_law_refine_code.proofs.Totals.{total, look, of_list, holds-append, holds-contained, total-among, total-within, numbered-length, numbered-total}
 use Rattle.pw_law_refine_code.proofs.Opening.{Opens, opened, opened_at, split}
@@ -196,21 +197,29 @@ module _ (known : OfExpressions) (home : List ℕ) (m : ModuleValue) (f : Functi
       = ap (λ (ls : List ℕ). opened b ls (labels_in f.body) (cases_in f.body)) before-body.labels in
       omega (arith, body-opens.blocks b, before-body.blocks b, start-begins b f.named, names, opens, same_labels)
 
-  pub function-contains : ContainsCode (lowered_function home m.records f) (code_of_body home m.records f)
+  abbrev whole : Code
+  whole = code_of_body home m.records f
+
+  -- the code with its last block closed
+  abbrev closed-off : Code
+  closed-off = cut_here (Return None) 0 whole
+
+  abbrev last : Numbered
+  last = record { number = whole.cur; block = last_block whole }
+
+  closed-once : (b : ℕ) → times_closed b closed-off.closed ≤ given b closed-off.blocks
+  closed-once b = omega (arith, times_closed-append b whole.closed (last ∷ []), begun-once b)
+
+  -- the last block stands in its place, and nothing comes behind the code in it
+  pub function-ends : block_at (lowered_function home m.records f) whole.cur ≡ Some (last_block whole)
   unfolding lowered_function
-  function-contains =
-      let c = code_of_body home m.records f in
-      let d = cut_here (Return None) 0 c in
-      let last : Numbered = record { number = c.cur; block = record { depth = c.depth; ops = c.ops; end = Return None } } in
-      let once = λ (b : ℕ). (let e : times_closed b d.closed ≤ given b d.blocks = omega (arith, times_closed-append b c.closed (last ∷ []), begun-once b) in e) in
-      record {
-        closed = λ b w. stands-there d.closed d.blocks once b (Contains-append_left c.closed (last ∷ []) b w);
-        filled = record {
-          block = last.block;
-          rest = [];
-          there = stands-there d.closed d.blocks once last (Contains-append_right c.closed (last ∷ []) last (0, omega arith, refl));
-          ops = sym (append-nil c.ops);
-        };
-        temps = omega arith;
-        blocks = omega (arith, below-length d.closed d.blocks);
-      }
+  function-ends = stands-there closed-off.closed closed-off.blocks closed-once last (Contains-append_right whole.closed (last ∷ []) last (0, omega arith, refl))
+
+  pub function-contains : ContainsCode (lowered_function home m.records f) whole
+  unfolding lowered_function
+  function-contains = record {
+    closed = λ b w. stands-there closed-off.closed closed-off.blocks closed-once b (Contains-append_left whole.closed (last ∷ []) b w);
+    filled = record { block = last_block whole; rest = []; there = function-ends; ops = sym (append-nil whole.ops) };
+    temps = omega arith;
+    blocks = omega (arith, below-length closed-off.closed closed-off.blocks);
+  }

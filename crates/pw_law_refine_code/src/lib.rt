@@ -2,7 +2,7 @@
 //! a function contains it, and where locals stand.
 #![tactic(auto)]
 
-ghost use Rattle.std.specs.Prelude.{◌≡◌, ◌<◌, ℕ, Bool, Contains, List, length, map};
+ghost use Rattle.std.specs.Prelude.{◌≡◌, ◌<◌, ℕ, Bool, Contains, List, Some, length, map};
 ghost use Rattle.pw_types.specs.Labels.{labels_in, cases_in};
 ghost use Rattle.pw_types.specs.TypedModules.{IsStatement, IsFunction};
 ghost use Rattle.pw_types.specs.TypedTrees.{FunctionValue, ModuleValue, Statement};
@@ -18,7 +18,8 @@ ghost use Rattle.pw_lower.specs.declared.code.Code.{Code};
 ghost use Rattle.pw_lower.specs.declared.place.Ways.{Ways};
 ghost use Rattle.pw_law_refine.specs.Containing.{ContainsCode, Spreads};
 ghost use Rattle.pw_law_refine_code.specs.Ending.{Ends, KeepLabels};
-ghost use Rattle.pw_law_refine_code.specs.Functions.{code_of_body};
+ghost use Rattle.pw_law_refine_code.specs.Functions.{code_of_body, last_block};
+ghost use Rattle.pw_run_languages.specs.Programs.{block_at};
 ghost use Rattle.pw_law_refine_code.specs.Opening.{open_labels, Fits};
 
 use pw_law_lower::later_code_keeps;
@@ -39,6 +40,14 @@ pub fn statements_spread()
 pub fn graphs_contain_functions()
     ensures { (home : List ℕ) (m : ModuleValue) (f : FunctionValue) → IsFunction m f →
         ContainsCode (lowered_function home m.records f) (code_of_body home m.records f) }
+{
+    expressions_spread();
+}
+
+/// The last block of the graph of a well-typed function has the code behind its body and nothing more, and returns no result.
+pub fn functions_end()
+    ensures { (home : List ℕ) (m : ModuleValue) (f : FunctionValue) → IsFunction m f →
+        block_at (lowered_function home m.records f) (code_of_body home m.records f).cur ≡ Some (last_block (code_of_body home m.records f)) }
 {
     expressions_spread();
 }

@@ -2,7 +2,7 @@
 use Rattle.pw_flow.specs.ValidFlow.{kind_size}
 use Rattle.std.proofs.Common.{◌≡◌, ℕ, ◌+◌, ◌%◌, ◌<◌, ◌≤◌, ◌==◌, ◌&&◌, nat_le, Bool, true, false, not, true≢false, if◌then◌else◌, Option, Some, None, List, [], ◌∷◌, length, refl, ap, sym, ◌∙◌, subst, arith}
 use Rattle.std.proofs.lemmas.Bool.{and_from, not-false}
-use Rattle.std.proofs.lemmas.List.{get_or-set_other}
+use Rattle.std.proofs.lemmas.List.{get_or-set_other, set-get_or}
 use Rattle.std.proofs.lemmas.List.Quantifiers.{position-Some}
 use Rattle.std.specs.Prelude.{bytes_eq}
 use Rattle.pw_value.specs.declared.value.Kind.{Kind}
@@ -35,10 +35,10 @@ use Rattle.pw_run_languages.specs.Commands.{command}
 use Rattle.pw_run_languages.specs.Memory as flow
 use Rattle.pw_run_languages.specs.Programs.{Program, globals_of, global_number}
 use Rattle.pw_run_languages.specs.FlowRun as run
-use Rattle.pw_run_languages.specs.FlowRun.{Machine, On, value_in, obeys, is_own_kind}
+use Rattle.pw_run_languages.specs.FlowRun.{Machine, On, value_in, obeys, steps, is_own_kind}
 use Rattle.pw_law_refine.specs.Standing.{Spot, In, spot_of, Stands, MemoryStands}
 use Rattle.pw_law_refine.specs.Activations.{Activation, Numbers, graphs, graph_of, number_of, place_in, local_temps}
-use Rattle.pw_law_refine.specs.Matching.{StandsAt, IsGlobalAt, global_size}
+use Rattle.pw_law_refine.specs.Matching.{StandsAt, IsGlobalAt, global_size, Related}
 use Rattle.pw_law_refine.specs.Containing.{ContainsCode}
 use Rattle.pw_law_refine.specs.Meeting.{Meets}
 use Rattle.pw_law_refine.specs.Expressions.{IsReady, HasValue}
@@ -46,7 +46,7 @@ use Rattle.pw_law_refine_steps.specs.Stretches.{moved_on}
 use Rattle.pw_law_refine_forms.proofs.Bytes.{same-width, value-stands, bytes-stand, may-stand, reads-back, encoding-length, encoding-are, whole-read, whole-new, of-kind}
 use Rattle.pw_law_refine_forms.proofs.Memory.{bytes-of}
 use Rattle.pw_law_refine_forms.proofs.States.{with_objects, related-written, lasts-written, related-kept, lasts-kept}
-use Rattle.pw_law_refine_forms.specs.Accesses.{SuitsType, Covers, ReadsKeep, WritesKeep}
+use Rattle.pw_law_refine_forms.specs.Accesses.{SuitsType, Covers, ReadsKeep, WritesKeep, WritesThroughKeep, WritesStay}
 use Rattle.pw_law_refine_forms.proofs.Laws.{Laws}
 use Rattle.pw_law_refine_forms.proofs.Simulation.{judged}
 use Rattle.pw_law_refine_forms.proofs.Kit.{comes-by}
@@ -306,6 +306,38 @@ kept-writes laws bound x numbers spots assigned purpose ty k at t r j o d s m v 
       };
     })
 
+-- a local that is kept, where the value stands in its temporary already
+pub kept-stays : Laws → WritesStay
+unfolding store objects_now look within source.write give ◌>>=◌ go_on steps
+kept-stays laws bound x numbers spots purpose ty k at t j o s m v e related suits named place room typed sv =
+    judged x.world bound m at (writing purpose s.objects (source_access.width_of ty) (source_access.width_of ty) (V.At (P.Object o 0))) _ s _ (λ none.
+    let own = related.frame.locals j o named in
+    let bytes = (object_at s.objects o).bytes in
+    let w = value_in m.frame t in
+    let new = encoding v (source_access.width_of ty) in
+    let is : type_of own.local.ty ≡ ty = suits own.local own.is in
+    let size : length bytes ≡ source_access.width_of ty =
+    own.size ∙ ap (λ (u : CType). bytes_of x.home.tree.records u) is ∙ scalar-size x.home.tree.records ty k e in
+    let back : source_access.value_in (type_of own.local.ty) (with_bytes new 0 bytes) ≡ v =
+    ap (λ (l : List Byte). source_access.value_in (type_of own.local.ty) l) (whole-new new bytes laws.back (encoding-length ty k v e typed ∙ sym size))
+    ∙ ap (λ (u : CType). source_access.value_in u new) is ∙ reads-back ty k v laws.back e typed in
+    let same : moved_on m.frame.ops t w m ≡ m = ap (λ (temps : List Value). record m { frame = record m.frame { temps = temps } }) (set-get_or m.frame.temps t V.Undefined) in
+    record {
+      count = 0;
+      machine = m;
+      comes = refl;
+      holds = record {
+        later = record {
+          spots = spots;
+          related = subst (λ (n : Machine). Related x numbers spots (record s { objects = written o 0 new s.objects }) n) same
+              (related-kept x numbers spots s m m.frame.ops j o t new w related named place (omega (arith, room, related.frame.temps)) (encoding-are v (source_access.width_of ty))
+              (subst (λ (u : Value). Stands spots u w) (sym back) sv));
+          lasts = lasts-kept numbers spots s m m j o new named refl;
+        };
+        same = refl;
+      };
+    })
+
 named-reads :
     Laws → (bound : ℕ) (x : Activation) (numbers : Numbers) (spots : List Spot) (ty : CType) (k : Kind) (at : Site) (g : List ℕ) (o : ℕ) (d : Code) (s : State) (m : Machine)
     → kind_of ty ≡ Some k → IsReady x numbers spots d s m → ContainsCode (graph_of x) (read_target k (Named g) d).code → SuitsType x ty (Named g)
@@ -379,3 +411,9 @@ writes laws bound x numbers spots assigned purpose ty k at (Kept i) t c s m plac
 writes laws bound x numbers spots assigned purpose ty k at (Named g) t c s m place v e ready holds suits covers fresh typed sv there =
     subst (λ (p : Value). Meets x.world bound m (store purpose at ty p v s) (λ u r n. HasValue x numbers spots assigned (lowered_as (Some t) (write k (Named g) t c)) c s m (Some v) r n)) (sym there.2)
     (named-writes laws bound x numbers spots assigned purpose ty k at g t there.0 c s m v e ready holds suits typed sv there.1)
+
+-- ---- from any temporary
+
+pub writes-through : Laws → WritesThroughKeep
+writes-through laws bound x numbers spots assigned purpose ty k at a t c s m place v e ready holds typed sv there =
+    led-writes laws bound x numbers spots assigned purpose ty k at a t c s m place v e ready holds typed sv there

@@ -152,22 +152,22 @@ record-not-void : (ty : CType) (number : ℕ) → ty ≡ Record number → ty �
 record-not-void ty number e v = true≢false (sym (record-is ty number e) ∙ ap is_record v)
 
 -- a structure or union is put into an object of its type
-puts-record :
-    Laws → (bound : ℕ) (x : Activation) (numbers : Numbers) (spots : List Spot) (assigned : List ℕ) (at : Site) (number to : ℕ) (y : Lowered) (s : State) (m : Machine) (target origin : Value)
+pub puts-record :
+    Laws → (bound : ℕ) (x : Activation) (numbers : Numbers) (spots : List Spot) (assigned : List ℕ) (purpose : Purpose) (at : Site) (number to : ℕ) (y : Lowered) (s : State) (m : Machine) (target origin : Value)
     → IsReady x numbers spots y.code s m → ContainsCode (graph_of x) (copied x.home.tree.records (Record number) to y).code → Stands spots target (value_in m.frame to) → Stands spots origin (value_in m.frame (temp_of y))
-    → Meets x.world bound m (put Assigning at x.home.tree.records (Record number) target origin s) (λ done. HasValue x numbers spots assigned (copied x.home.tree.records (Record number) to y) y.code s m (Some target))
+    → Meets x.world bound m (put purpose at x.home.tree.records (Record number) target origin s) (λ done. HasValue x numbers spots assigned (copied x.home.tree.records (Record number) to y) y.code s m (Some target))
 unfolding put need give stop wrong ◌>>=◌ go_on
-puts-record laws bound x numbers spots assigned at number to y s m target origin ready holds st so = by_layout (layout_of x.home.tree.records (Record number)) refl
+puts-record laws bound x numbers spots assigned purpose at number to y s m target origin ready holds st so = by_layout (layout_of x.home.tree.records (Record number)) refl
   where
     code : Option Layout → Lowered
     code r = value_is to (emit (op.Move to (temp_of y) (unwrap_or (option_map (λ (l : Layout). l.size) r) 0) (unwrap_or (option_map (λ (l : Layout). l.align) r) 1)) y.code)
 
     by_layout : (r : Option Layout) → layout_of x.home.tree.records (Record number) ≡ r
-        → Meets x.world bound m ((need r >>= λ layout. access.copy Assigning at layout target origin) s) (λ done. HasValue x numbers spots assigned (copied x.home.tree.records (Record number) to y) y.code s m (Some target))
+        → Meets x.world bound m ((need r >>= λ layout. access.copy purpose at layout target origin) s) (λ done. HasValue x numbers spots assigned (copied x.home.tree.records (Record number) to y) y.code s m (Some target))
     by_layout None e = tt
     by_layout (Some layout) e =
-        subst (λ (z : Lowered). Meets x.world bound m (access.copy Assigning at layout target origin s) (λ done. HasValue x numbers spots assigned z y.code s m (Some target))) (sym (ap code e))
-        (copies laws bound x numbers spots assigned Assigning at layout to (temp_of y) y.code s m origin target ready (subst (λ (z : Lowered). ContainsCode (graph_of x) z.code) (ap code e) holds) st so)
+        subst (λ (z : Lowered). Meets x.world bound m (access.copy purpose at layout target origin s) (λ done. HasValue x numbers spots assigned z y.code s m (Some target))) (sym (ap code e))
+        (copies laws bound x numbers spots assigned purpose at layout to (temp_of y) y.code s m origin target ready (subst (λ (z : Lowered). ContainsCode (graph_of x) z.code) (ap code e) holds) st so)
 
 record-assigned : (ty : CType) (number : ℕ) (place v : Value) → ty ≡ Record number → assigned ty place v ≡ place
 record-assigned ty number place v e = ap (λ (u : CType). assigned u place v) e
@@ -218,7 +218,7 @@ assigns {A} laws bound t ty a b number F last lasts is first second x numbers sp
     stays laws x numbers spots' b y.code (temp_of y) u u' n n' typed.1.1 (omega (arith, temp, new.since, ready.temps)) (omega (arith, temp, new.given)) q'.0.done in
     subst (λ (T : CType). Meets x.world bound n' ((put Assigning at records T v w >>= λ done. last v w) u') (λ r. HasResult x numbers spots (Node t ty (Assign a b)) c s m (F r))) (sym is)
     (meets-then laws x.world bound n' (put Assigning at records (Record number) v w u') (λ done. last v w) (λ done. HasValue x numbers later [] k z.code u' n' (Some v)) (λ r. HasResult x numbers spots (Node t ty (Assign a b)) c s m (F r))
-    (puts-record laws bound x numbers later [] at number (temp_of y) z u' n' v w (ready-then laws x numbers spots' b y.code u u' n n' (Some w) again q'.0) whole
+    (puts-record laws bound x numbers later [] Assigning at number (temp_of y) z u' n' v w (ready-then laws x numbers spots' b y.code u u' n n' (Some w) again q'.0) whole
     (subst (λ (g : Value). Stands later v g) (sym kept) (laws.stands spots' later v (value_in n.frame (temp_of y)) q'.0.done.later.lasts.more (operand-stands spots' v y.temp n q.stands)))
     (operand-stands later w z.temp n' q'.0.stands))
     (λ done u'' n'' e.

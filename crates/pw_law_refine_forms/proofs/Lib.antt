@@ -1,33 +1,35 @@
-mod Laws
-mod Simulation
-mod Kit
+pub mod Laws
+pub mod Simulation
+pub mod Kit
 mod Bytes
 mod Memory
 mod Places
 mod States
-mod Access
+pub mod Access
 mod Loads
 mod Branches
-mod Truths
+pub mod Truths
 mod Conditions
 mod Logic
 mod Compare
 mod Lvalues
 mod Assign
 mod Cond
-mod Arguments
+pub mod Arguments
 mod Addresses
 mod Globals
-mod Owning
-mod Symbols
+pub mod Owning
+pub mod Symbols
 mod Numbers
 mod Compound
 mod Steps
-mod Strings
+pub mod Strings
 mod Copies
 mod Advances
 mod Sums
 mod Members
 mod Moves
 mod Distances
-mod Plain
+mod PointerUpdates
+mod Initialisers
+pub mod AllForms

@@ -36,13 +36,13 @@ before-scaled g size q d w = by_test (size == 1) w
 before-moved : (g : FlowFn) (k : BinKind) (size p q : ℕ) (d : Code) → ContainsCode g (moved_by k size p q d).code → ContainsCode g d
 before-moved g k size p q d w = before-scaled g size q d (before-fresh g (λ t. op.Bin k t p (temp_of (scaled size q d))) (scaled size q d).code w)
 
-sum-operands : (left : QType) (kind : IntKind) → HasOperands B.Add (PointerTo left) (Int kind)
+pub sum-operands : (left : QType) (kind : IntKind) → HasOperands B.Add (PointerTo left) (Int kind)
 sum-operands (Qualified ty constant volatile) kind x p q d w = before-moved (graph_of x) Add (bytes_of x.home.tree.records ty) p q d w
 
 turned-operands : (right : QType) (kind : IntKind) → HasOperands B.Add (Int kind) (PointerTo right)
 turned-operands (Qualified ty constant volatile) kind x p q d w = before-moved (graph_of x) Add (bytes_of x.home.tree.records ty) q p d w
 
-less-operands : (left : QType) (kind : IntKind) → HasOperands B.Subtract (PointerTo left) (Int kind)
+pub less-operands : (left : QType) (kind : IntKind) → HasOperands B.Subtract (PointerTo left) (Int kind)
 less-operands (Qualified ty constant volatile) kind x p q d w = before-moved (graph_of x) Sub (bytes_of x.home.tree.records ty) p q d w
 
 before-distance : (g : FlowFn) (size p q : ℕ) (d : Code) → ContainsCode g (distance size p q d).code → ContainsCode g d

@@ -86,11 +86,11 @@ to-globals (n ∷ rest) m g h k =
 
 -- ---- one global of a name
 
-distinct-right : (xs ys : List (List ℕ)) → AreDistinct (xs ++ ys) → AreDistinct ys
+pub distinct-right : (xs ys : List (List ℕ)) → AreDistinct (xs ++ ys) → AreDistinct ys
 distinct-right [] ys h = h
 distinct-right (x ∷ xs) ys h = distinct-right xs ys h.1
 
-one-global : (gs : List FlowGlobal) (a b : FlowGlobal) → AreDistinct (map (λ (g : FlowGlobal). g.name) gs) → Contains gs a → Contains gs b → a.name ≡ b.name → a ≡ b
+pub one-global : (gs : List FlowGlobal) (a b : FlowGlobal) → AreDistinct (map (λ (g : FlowGlobal). g.name) gs) → Contains gs a → Contains gs b → a.name ≡ b.name → a ≡ b
 one-global [] a b h ha hb e = absurd (omega (arith, ha.1))
 one-global (g ∷ gs) a b h ha hb e =
     let names = map (λ (g : FlowGlobal). g.name) gs in
@@ -190,7 +190,7 @@ found-at false n o e = absurd (no-number o e)
     no-number : (k : ℕ) → None ≡ Some k → ⊥
     no-number k e = true≢false (sym (ap is_there e))
 
-no-global : FlowGlobal
+abbrev pub no-global : FlowGlobal
 no-global = record { name = []; size = 0; shape = []; kind = None; volatile = false; items = [] }
 
 abbrev own-kind : Kind → Option Kind → Bool

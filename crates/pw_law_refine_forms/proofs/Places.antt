@@ -1,10 +1,13 @@
 -- No two locals have one temporary.
-use Rattle.std.proofs.Common.{◌≡◌, ℕ, zero, suc, ◌+◌, ◌<◌, ◌≤◌, ◌⊎◌, inl, inr, Bool, true, false, true≢false, nat_lt, ltb-true, if◌then◌else◌, Some, List, [], ◌∷◌, slice_get, get_or, refl, ap, sym, ◌∙◌, arith}
-use Rattle.std.proofs.lemmas.Option.{slice_get_within, unwrap_or-slice_get}
+use Rattle.std.proofs.Common.{◌≡◌, ℕ, zero, suc, ◌+◌, ◌<◌, ◌≤◌, ◌⊎◌, inl, inr, Bool, true, false, true≢false, nat_lt, ltb-true, if◌then◌else◌, Some, List, [], ◌∷◌, slice_get, get_or, ◌&&◌, not, refl, ap, sym, ◌∙◌, subst, arith}
+use Rattle.std.proofs.lemmas.Bool.{and_parts}
+use Rattle.std.proofs.lemmas.Option.{slice_get_within, unwrap_or-slice_get, same_Some}
+use Rattle.pw_types.specs.TypeTrees.{CType, Void, Int, Pointer as PointerTo, Array, Function, Record, type_of, is_volatile}
+use Rattle.pw_types.specs.WellTyped.{IsScalar}
 use Rattle.pw_types.specs.TypedTrees.{LocalValue}
 use Rattle.pw_lower.specs.declared.place.LocalPlace.{LocalPlace}
 use Rattle.pw_lower.specs.declared.place.LocalPlace.TheVariants.{Temp, Slot}
-use Rattle.pw_lower.specs.Places.{is_kept, places_from, places_of, addressed_in_statement}
+use Rattle.pw_lower.specs.Places.{is_scalar, has, is_kept, places_from, places_of, addressed_in_statement}
 use Rattle.pw_law_refine.specs.Activations.{Activation, place_in}
 
 temp_at : LocalPlace → ℕ
@@ -111,3 +114,40 @@ places-apart x i j t l r there here d e =
     let f = x.function in
     temps-apart (addressed_in_statement f.body) f.params f.locals 0 f.params 0 i j t l r there here (omega arith)
     (sym (unwrap_or-slice_get (places_of f) i (Temp 0)) ∙ d) (sym (unwrap_or-slice_get (places_of f) j (Temp 0)) ∙ e)
+
+-- ---- what is kept in a temporary is a scalar
+
+head-kept : (b p : Bool) (k temp slot t : ℕ) (xs ys zs : List LocalPlace) → get_or (headed b p k temp slot xs ys zs) 0 (Temp 0) ≡ Temp t → b ≡ true
+unfolding is_temp
+head-kept true p k temp slot t xs ys zs e = refl
+head-kept false p k temp slot t xs ys zs e = absurd (true≢false (sym (ap is_temp e)))
+
+scalar-from : (ty : CType) → is_scalar ty ≡ true → IsScalar ty
+scalar-from (Int kind) e = tt
+scalar-from (PointerTo q) e = tt
+scalar-from Void e = absurd (true≢false (sym e))
+scalar-from (Array q n) e = absurd (true≢false (sym e))
+scalar-from (Function q ps) e = absurd (true≢false (sym e))
+scalar-from (Record n) e = absurd (true≢false (sym e))
+
+kept-in : (addressed : List ℕ) (params : ℕ) (locals : List LocalValue) (k temp slot i t : ℕ) (l : LocalValue) → slice_get locals i ≡ Some l
+    → get_or (places_from addressed params k temp slot locals) i (Temp 0) ≡ Temp t → IsScalar (type_of l.ty)
+kept-in addressed params [] k temp slot i t l there e = absurd (omega (arith, slice_get_within [] i l there))
+kept-in addressed params (own ∷ rest) k temp slot zero t l there e =
+    let kept = head-kept (is_kept addressed k own) (nat_lt k params) k temp slot t
+    (places_from addressed params (k + 1) temp slot rest) (places_from addressed params (k + 1) (temp + 1) slot rest) (places_from addressed params (k + 1) temp (slot + 1) rest) e in
+    subst (λ (a : LocalValue). IsScalar (type_of a.ty)) (same_Some own l there)
+    (scalar-from (type_of own.ty) (and_parts (is_scalar (type_of own.ty)) (not (is_volatile own.ty) && not (has k addressed)) kept).0)
+kept-in addressed params (own ∷ rest) k temp slot (suc i) t l there e =
+    tail-temp (is_kept addressed k own) (nat_lt k params) k temp slot t i
+    (places_from addressed params (k + 1) temp slot rest) (places_from addressed params (k + 1) (temp + 1) slot rest) (places_from addressed params (k + 1) temp (slot + 1) rest)
+    (IsScalar (type_of l.ty))
+    (λ b p d. kept-in addressed params rest (k + 1) temp slot i t l there d)
+    (λ b p d. kept-in addressed params rest (k + 1) (temp + 1) slot i t l there d)
+    (λ b d. kept-in addressed params rest (k + 1) temp (slot + 1) i t l there d)
+    e
+
+pub kept-scalar : (x : Activation) (k t : ℕ) (l : LocalValue) → slice_get x.function.locals k ≡ Some l → place_in x k ≡ Temp t → IsScalar (type_of l.ty)
+kept-scalar x k t l there e =
+    let f = x.function in
+    kept-in (addressed_in_statement f.body) f.params f.locals 0 f.params 0 k t l there (sym (unwrap_or-slice_get (places_of f) k (Temp 0)) ∙ e)

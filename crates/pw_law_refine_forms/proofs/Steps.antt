@@ -52,7 +52,7 @@ use Rattle.pw_law_refine_forms.proofs.Compound.{new-code, fits-binary, promoted-
 -- ---- compound assignments
 
 -- what is assigned behind the place
-rest-within : (la aa ab : List ℕ) (i : ℕ) → Contains (la ++ ab) i → Contains (la ++ aa ++ ab) i
+pub rest-within : (la aa ab : List ℕ) (i : ℕ) → Contains (la ++ ab) i → Contains (la ++ aa ++ ab) i
 rest-within la aa ab i h = elim (Contains-append_cases la ab i h) [
   | inl l ↦ Contains-append_left (la ++ aa) ab i (Contains-append_left la aa i l)
   | inr r ↦ Contains-append_right (la ++ aa) ab i r
@@ -114,7 +114,7 @@ step-fits DecrementBefore x k p = inl (p, refl, refl)
 step-fits DecrementBehind x k p = inl (p, refl, refl)
 
 -- the value is what was stored, or what was read
-step-gives :
+pub step-gives :
     (o : StepOperator) (x : Activation) (numbers : Numbers) (spots : List Spot) (all : List ℕ) (t : ℕ) (z : Lowered) (c : Code) (s w : State) (m n : Machine) (old new : Value)
     → (h : HasValue x numbers spots all z c s m (Some new) w n) → Stands h.done.later.spots old (value_in n.frame t)
     → HasValue x numbers spots all (step_value o t z) c s m (Some (step_result o old new)) w n
@@ -123,7 +123,7 @@ step-gives DecrementBefore x numbers spots all t z c s w m n old new h st = h
 step-gives IncrementBehind x numbers spots all t z c s w m n old new h st = record { done = h.done; behind = h.behind; stands = st }
 step-gives DecrementBehind x numbers spots all t z c s w m n old new h st = record { done = h.done; behind = h.behind; stands = st }
 
-step-code : (o : StepOperator) (t : ℕ) (z : Lowered) → (step_value o t z).code ≡ z.code
+pub step-code : (o : StepOperator) (t : ℕ) (z : Lowered) → (step_value o t z).code ≡ z.code
 step-code IncrementBefore t z = refl
 step-code DecrementBefore t z = refl
 step-code IncrementBehind t z = refl

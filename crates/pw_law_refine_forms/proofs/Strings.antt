@@ -56,7 +56,7 @@ in-flat f (z ∷ xs) x y h k =
     (λ t. Contains-append_right (f z) (flat_map f xs) y (in-flat f xs x y t k)) h
 
 -- the function's graph is one of the program's
-graph-there : (x : Activation) → IsActivation x → Contains (functions_of (graphs x.world)) (graph_of x)
+pub graph-there : (x : Activation) → IsActivation x → Contains (functions_of (graphs x.world)) (graph_of x)
 unfolding lowered
 graph-there x active =
     in-flat (λ (m : FlowModule). m.functions) (map (λ (m : ProgramModule). lowered m.name m.tree) x.world.program.modules) (lowered x.home.name x.home.tree) (graph_of x)
@@ -65,7 +65,7 @@ graph-there x active =
     (in-map (lowered_function x.home.name x.home.tree.records) x.home.tree.functions x.function active.function))
 
 -- an operation of code that a graph contains is one of the graph's
-op-there : (g : FlowFn) (c : Code) (o : Op) → ContainsCode g (emit o c) → Contains (flat_map (λ (b : Block). b.ops) g.blocks) o
+pub op-there : (g : FlowFn) (c : Code) (o : Op) → ContainsCode g (emit o c) → Contains (flat_map (λ (b : Block). b.ops) g.blocks) o
 op-there g c o w =
     let b = w.filled.block in
     let within = slice_get_within g.blocks c.cur b w.filled.there in
@@ -78,12 +78,12 @@ pointer-or p name (Some n) = P.Object n 0
 pointer-or p name None = P.Function (flow.function_number p name)
 
 -- a global whose address code takes is there
-record IsNumbered (x : Activation) (name : List ℕ) : Type 0 where
-  number : ℕ
-  flows : flow.global_number (graphs x.world) name ≡ Some number
-  means : source.pointer_to x.world.program name 0 ≡ Some (P.Object number 0)
+pub record IsNumbered (x : Activation) (name : List ℕ) : Type 0 where
+  pub number : ℕ
+  pub flows : flow.global_number (graphs x.world) name ≡ Some number
+  pub means : source.pointer_to x.world.program name 0 ≡ Some (P.Object number 0)
 
-numbered : (x : Activation) (name : List ℕ) (c : Code) → IsActivation x → ContainsCode (graph_of x) (address_of_global name c).code → IsNumbered x name
+pub numbered : (x : Activation) (name : List ℕ) (c : Code) → IsActivation x → ContainsCode (graph_of x) (address_of_global name c).code → IsNumbered x name
 numbered x name c active holds =
     let o = op.AddrGlobal c.temps name 0 in
     let gs = globals_of (graphs x.world) in
@@ -96,7 +96,7 @@ numbered x name c active holds =
       means = ap (λ (n : Option ℕ). object-or x.world name n) (sym (same-number x.world name) ∙ r.1);
     }
 
-address-reaches :
+pub address-reaches :
     Laws → (bound : ℕ) (x : Activation) (numbers : Numbers) (spots : List Spot) (c : Code) (s : State) (m : Machine) (name : List ℕ)
     → IsReady x numbers spots c s m → ContainsCode (graph_of x) (address_of_global name c).code → (n : IsNumbered x name)
     → Meets x.world bound m (Gives (V.At (P.Object n.number 0)) s) (λ v. HasValue x numbers spots [] (address_of_global name c) c s m (Some v))

@@ -252,7 +252,7 @@ product laws bound x numbers spots size q d u m a false other ready given word i
       holds = value-then laws x numbers spots [] z (with Mul q z) d u u u m n g.machine (Some (V.Num size)) (Some (V.Num (a * size % 2 ^ 32))) ready.related (omega arith) h g.holds;
     })
 
-scaled-later : (size q : ℕ) (d : Code) (b : Bool) → d.temps ≤ (if b then value_is q d else with Mul q (constant size d)).code.temps
+pub scaled-later : (size q : ℕ) (d : Code) (b : Bool) → d.temps ≤ (if b then value_is q d else with Mul q (constant size d)).code.temps
 scaled-later size q d true = omega arith
 scaled-later size q d false = omega arith
 

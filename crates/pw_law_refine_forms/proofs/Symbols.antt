@@ -67,7 +67,7 @@ is_one : {A : Type 0} → Option A → Bool
 is_one None = false
 is_one (Some a) = true
 
-none-some : {A : Type 0} (a : A) → None ≡ Some a → ⊥
+pub none-some : {A : Type 0} (a : A) → None ≡ Some a → ⊥
 unfolding is_one
 none-some a e = true≢false (sym (ap is_one e))
 
@@ -75,7 +75,7 @@ find-by : {A : Type 0} (b : Bool) (y x : A) (rest : Option A) (R : Type 0) → (
 find-by true y x rest R f g e = f e refl
 find-by false y x rest R f g e = g e
 
-find-there : {A : Type 0} (t : A → Bool) (xs : List A) (x : A) → find t xs ≡ Some x → Contains xs x × (t x ≡ true)
+pub find-there : {A : Type 0} (t : A → Bool) (xs : List A) (x : A) → find t xs ≡ Some x → Contains xs x × (t x ≡ true)
 find-there t [] x e = absurd (none-some x e)
 find-there t (y ∷ ys) x e =
     find-by (t y) y x (find t ys) (Contains (y ∷ ys) x × (t x ≡ true))

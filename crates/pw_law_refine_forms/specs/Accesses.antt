@@ -2,6 +2,8 @@
 use Rattle.std.specs.Prelude.{ℕ, ◌≡◌, ◌⊎◌, ◌<◌, ◌≤◌, pos, true, Some, List, [], slice_get, Contains}
 use Rattle.pw_value.specs.declared.value.Kind.{Kind}
 use Rattle.pw_value.specs.declared.value.Value.{Value}
+use Rattle.pw_value.specs.declared.value.Value.TheVariants as V
+use Rattle.pw_value.specs.declared.value.Pointer.TheVariants as P
 use Rattle.pw_types.specs.TypeTrees.{CType, type_of}
 use Rattle.pw_types.specs.TypedTrees.{Expression, LocalValue}
 use Rattle.pw_types.specs.WellTyped.{IsTyped, IsArithmetic, IsLvalue, IsPointer, IsScalar, type_in}
@@ -24,7 +26,8 @@ use Rattle.pw_cmean.specs.Typed.{IsValueOf}
 use Rattle.pw_run_languages.specs.Programs.{global_number}
 use Rattle.pw_run_languages.specs.FlowRun.{Machine, value_in, is_own_kind}
 use Rattle.pw_law_refine.specs.Standing.{Spot, Stands}
-use Rattle.pw_law_refine.specs.Activations.{Activation, IsActivation, Numbers, graphs, graph_of, home_of, env_of, place_in, local_temps, HaveSlots}
+use Rattle.pw_law_refine.specs.Activations.{Activation, IsActivation, Numbers, number_of, graphs, graph_of, home_of, env_of, place_in, local_temps, HaveSlots}
+use Rattle.pw_law_refine.specs.Matching.{Related, Later}
 use Rattle.pw_law_refine.specs.Containing.{ContainsCode}
 use Rattle.pw_law_refine.specs.Meeting.{Meets}
 use Rattle.pw_law_refine.specs.Expressions.{IsReady, HasValue, HasResult, HasTarget, ResultStands, TargetStands, IsOfPlaces}
@@ -58,6 +61,27 @@ WritesKeep =
     TargetStands x numbers spots place target m →
     Meets x.world bound m (store purpose at ty place v s) (λ done. HasValue x numbers spots assigned (lowered_as (Some t) (write k target t c)) c s m (Some v))
 
+-- So it does through an address, from any temporary.
+abbrev pub WritesThroughKeep : Type 0
+WritesThroughKeep =
+    (bound : ℕ) (x : Activation) (numbers : Numbers) (spots : List Spot) (assigned : List ℕ) (purpose : Purpose) (ty : CType) (k : Kind) (at : Site) (a t : ℕ) (c : Code) (s : State) (m : Machine) (place v : Value) →
+    kind_of ty ≡ Some k → IsReady x numbers spots c s m → ContainsCode (graph_of x) (write k (Led a) t c) →
+    IsValueOf ty v → Stands spots v (value_in m.frame t) → Stands spots place (value_in m.frame a) →
+    Meets x.world bound m (store purpose at ty place v s) (λ done. HasValue x numbers spots assigned (lowered_as (Some t) (write k (Led a) t c)) c s m (Some v))
+
+-- The states are related behind something for which the machine does nothing.
+pub record HasStayed (x : Activation) (numbers : Numbers) (spots : List Spot) (s : State) (m : Machine) (done : Unit {0}) (t : State) (n : Machine) : Type 0 where
+  pub later : Later x numbers spots s m t n
+  pub same : n ≡ m
+
+-- For the write of a value to a local that is kept in a temporary, in which the value stands already, nothing is done.
+abbrev pub WritesStay : Type 0
+WritesStay =
+    (bound : ℕ) (x : Activation) (numbers : Numbers) (spots : List Spot) (purpose : Purpose) (ty : CType) (k : Kind) (at : Site) (t j o : ℕ) (s : State) (m : Machine) (v : Value) →
+    kind_of ty ≡ Some k → Related x numbers spots s m → ((l : LocalValue) → slice_get x.function.locals j ≡ Some l → type_of l.ty ≡ ty) →
+    number_of numbers j ≡ Some o → place_in x j ≡ Temp t → t < (graph_of x).temps → IsValueOf ty v → Stands spots v (value_in m.frame t) →
+    Meets x.world bound m (store purpose at ty (V.At (P.Object o 0)) v s) (HasStayed x numbers spots s m)
+
 -- the operators that compare (C90 6.3.8, 6.3.9)
 abbrev pub IsComparison : BinaryOperator → Type 0
 IsComparison Less = Unit {0}
@@ -73,6 +97,12 @@ abbrev pub IsMove : BinaryOperator → CType → CType → Type 0
 IsMove Add left right = (IsPointer left × IsArithmetic right) ⊎ (IsArithmetic left × IsPointer right)
 IsMove Subtract left right = (IsPointer left × IsArithmetic right) ⊎ (IsPointer left × IsPointer right)
 IsMove _ left right = ⊥
+
+-- `+` and `-` (6.3.6)
+abbrev pub IsAdditive : BinaryOperator → Type 0
+IsAdditive Add = Unit {0}
+IsAdditive Subtract = Unit {0}
+IsAdditive _ = ⊥
 
 -- ---- lvalues
 

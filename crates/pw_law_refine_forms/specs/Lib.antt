@@ -1,3 +1,3 @@
 pub mod Accesses
 pub mod Operands
-pub mod Plain
+pub mod Calling

@@ -139,7 +139,7 @@ module _ (test : List ℕ → Bool) where
       ∙ ap (λ (ns : List (List ℕ)). count ns + count (map name_in (start_of m.tree.functions))) (same_names m m.tree.functions)
 
   -- the graphs have the names of the functions, and those of the functions at the start
-  all_modules : (ms : List ProgramModule) → count (map name_in (graphs_in ms)) ≡ count (map called (calls_in ms)) + count (map name_in (starts_in ms))
+  pub all_modules : (ms : List ProgramModule) → count (map name_in (graphs_in ms)) ≡ count (map called (calls_in ms)) + count (map name_in (starts_in ms))
   all_modules [] = refl
   all_modules (m ∷ ms) =
       let a : count (map name_in (graphs_in (m ∷ ms))) ≡ count (map name_in (low m).functions) + count (map name_in (graphs_in ms)) =

@@ -2,6 +2,7 @@ mod Lists
 mod Functions
 mod Named
 mod Numbers
+mod OneName
 mod Bytes
 mod Pairs
 mod Objects

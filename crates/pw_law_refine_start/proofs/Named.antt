@@ -16,7 +16,7 @@ use Rattle.pw_law_refine_start.specs.Named.{IsOfLibrary, IsFoundAs}
 use Rattle.pw_law_refine_start.proofs.Lists.{found, finds, left_distinct, one_named, differs}
 use Rattle.pw_law_refine_start.proofs.Functions.{called, name_in, calls_in, graph_there, found_name, full, shape, unmarked, distinct}
 
-in-library : (name : List ℕ) (f : Callable) → f.name ≡ name → Has f library → IsOfLibrary name f
+pub in-library : (name : List ℕ) (f : Callable) → f.name ≡ name → Has f library → IsOfLibrary name f
 in-library name f e (inl same) = record { function = ExitRun; is = sym same; there = subst (λ (n : List ℕ). library_at n ≡ Some flows.Exit) (ap called same ∙ e) refl }
 in-library name f e (inr (inl same)) = record { function = GetChar; is = sym same; there = subst (λ (n : List ℕ). library_at n ≡ Some flows.GetChar) (ap called same ∙ e) refl }
 in-library name f e (inr (inr (inl same))) = record { function = PutChar; is = sym same; there = subst (λ (n : List ℕ). library_at n ≡ Some flows.PutChar) (ap called same ∙ e) refl }

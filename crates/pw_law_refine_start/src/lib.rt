@@ -29,12 +29,14 @@ pub fn names_have_one_number()
 {}
 
 /// What a name calls is found by both runs alike: a function of the library, or one of a module with its flow graph, which has
-/// its shape; and by a number both find a function of the same name.
+/// its shape; and by a number both find a function of the same name, which is the one that has that name.
 pub fn functions_are_found()
     ensures names { (world : World) (name : List ℕ) (f : Callable) → IsLowerableWorld world → function_named world.program name ≡ Some f →
         IsFoundAs world name f }
     ensures numbers { (world : World) (n : ℕ) (f : Callable) → IsLowerableWorld world → function_at world.program n ≡ Some f →
         flows.function_at (graphs world) n ≡ Some f.name }
+    ensures own { (world : World) (n : ℕ) (f : Callable) → IsLowerableWorld world → function_at world.program n ≡ Some f →
+        function_named world.program f.name ≡ Some f }
 {}
 
 /// The objects at the start: each stands in the object of its own number, has the bytes that stand for its own there,

@@ -85,7 +85,7 @@ store_last p w im b r a c skip at is =
 
 -- ---- far words
 
-abbrev far_words : ℕ → List Word
+abbrev pub far_words : ℕ → List Word
 far_words n = bare (Ldil (left_part n) help) ∷ bare (Ldo (pos (right_part n)) help help) ∷ bare (Addl stack_pointer help help) ∷ []
 
 -- the parts of any number make its low word, and a sum takes no more of it
@@ -95,7 +95,7 @@ low_word n = omega (arith, ints)
 low_sum : (x n : ℕ) → (x + n % 2 ^ 32) % 2 ^ 32 ≡ (x + n) % 2 ^ 32
 low_sum x n = omega arith
 
-far_makes : (p : LineProgram) (w : Addresses) (n : ℕ) (c : Core) → c.skip ≡ false → Makes p w (far_words n) help ((register c 30 + n) % 2 ^ 32) c
+pub far_makes : (p : LineProgram) (w : Addresses) (n : ℕ) (c : Core) → c.skip ≡ false → Makes p w (far_words n) help ((register c 30 + n) % 2 ^ 32) c
 far_makes p w n c skip =
     let v = left_part n * 2048 in
     let low = n % 2 ^ 32 in
@@ -135,12 +135,12 @@ makes_then_stores p w xs ys v a n c m l = record {
   quiet = λ log. noted_joined p w xs ys c m.core log m.acts ∙ (ap (noted p w ys m.core) (m.quiet log) ∙ l.quiet log);
 }
 
-no_displacement : (x y : ℕ) → y ≡ x % 2 ^ 32 → offset_by y (pos 0) ≡ y
+pub no_displacement : (x y : ℕ) → y ≡ x % 2 ^ 32 → offset_by y (pos 0) ≡ y
 no_displacement x y e = omega (arith, ints, e)
 
 -- ---- near or far
 
-abbrev reach_by : Bool → ℤ → Reach
+abbrev pub reach_by : Bool → ℤ → Reach
 reach_by t offset =
     if t
     then record { before = []; base = stack_pointer; displacement = offset }

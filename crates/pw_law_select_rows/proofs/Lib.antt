@@ -2,3 +2,8 @@ pub mod Straight
 pub mod Making
 pub mod Frames
 pub mod Places
+pub mod Shifts
+pub mod Results
+pub mod Computing
+pub mod Scalars
+pub mod Units

@@ -16,7 +16,7 @@ use Rattle.pw_law_direction.specs.Laws.{first_places}
 use Rattle.pw_law_layers.specs.Accepting.{HasNoColon, IsWhole}
 use Rattle.pw_law_layers.specs.Lowering.{flow_program, AreChecked, LoweringKeepsRuns}
 use Rattle.pw_law_layers.specs.Whole.{image_of, IsLaidOut}
-use Rattle.pw_law_analysis.specs.OwedLaws.{IsAnalysed}
+use Rattle.pw_law_analysis.specs.OwedLaws.{IsAnalysed, HoldsOver}
 
 -- ---- the program of texts
 
@@ -58,3 +58,8 @@ pub record IsWholeWith (p : Program) (parts : Parts) (colours stack : ℕ) : Typ
   pub laid_out : IsLaidOut p (flows_in p parts stack) parts.database (functions_under p parts stack) parts.objects
   pub summaries : List Summary
   pub analysed : LoweringKeepsRuns → IsAnalysed p (flows_in p parts stack) summaries colours parts.database (functions_under p parts stack) parts.objects
+
+-- What holds of a built program and of its image's traffic, on an input, over some summaries whose database is that of the build.
+pub record HoldsWith (p : Program) (parts : Parts) (colours stack : ℕ) (input : List ℕ) : Type 0 where
+  pub summaries : List Summary
+  pub holds : HoldsOver p (flows_in p parts stack) summaries colours parts.database (functions_under p parts stack) parts.objects input

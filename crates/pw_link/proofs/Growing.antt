@@ -4,6 +4,8 @@ use Rattle.std.specs.List.{sum_by, position_or_len, AllByRecursion}
 use Rattle.std.proofs.lemmas.Grind.{take_at_read}
 use Rattle.std.proofs.lemmas.List.{take_all, take-map, drop-map, length-map, length-drop}
 use Rattle.std.proofs.lemmas.List.Sums.{sum_by-cons, sum_by_push}
+use Rattle.std.specs.Borrow.{Bor}
+use Rattle.pw_link_interface.specs.Interface.{interface}
 use Rattle.pw_inst.specs.Limits.{routine_count}
 use Rattle.pw_inst.specs.declared.relocation.Fix.{Fix}
 use Rattle.pw_flow.specs.declared.flow.FlowGlobal.{FlowGlobal}
@@ -16,6 +18,11 @@ use Rattle.pw_link.specs.Layout.{Piece, Placed, placed_from, piece_of, Standing,
 use Rattle.pw_flow.specs.ValidFlow.{global_room}
 use Rattle.pw_link.specs.Sizes.{image_of_parts, fault_of_parts}
 use Rattle.pw_link.specs.Linking.{with_fix, with_fixes, linked, size_fault}
+
+-- what borrowed objects show is what the objects show
+pub shown_through : (os : List (Bor Object)) → map interface (map (λ o. o.now) os) ≡ map (λ o. interface o.now) os
+shown_through [] = refl
+shown_through (o ∷ os) = ap (λ is. interface o.now ∷ is) (shown_through os)
 
 pub map_insert : {X Y : Type 0} (f : X → Y) (xs : List X) (i : ℕ) (y : X) → map f (insert xs i y) ≡ insert (map f xs) i (f y)
 map_insert f xs zero y = refl

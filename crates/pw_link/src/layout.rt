@@ -157,9 +157,9 @@ fn image_of_parts(
 
 /// The image of objects, with so many bytes of stack, or the first of the text and the memory that is too
 /// small for it.
-pub(crate) fn laid_out(alloc: Global, objects: &[Object], stack: u32) -> Result<Image, LinkFault>
-    ensures image { IfOk result (λ image. image ≡ linked objects.now stack) }
-    ensures sizes { AnswersSizes result (size_fault objects.now stack) }
+pub(crate) fn laid_out(alloc: Global, objects: &[&Object], stack: u32) -> Result<Image, LinkFault>
+    ensures image { IfOk result (λ image. image ≡ linked (map (λ o. o.now) objects.now) stack) }
+    ensures sizes { AnswersSizes result (size_fault (map (λ o. o.now) objects.now) stack) }
 {
     let order = in_order(alloc, objects)?;
     let names = routine_names(alloc)?;

@@ -10,4 +10,4 @@ mod sites;
 mod text;
 mod words;
 
-pub use linking::link;
+pub use linking::{link, link_checked, link_each};

@@ -32,12 +32,15 @@ fn put<'a>(order: &mut Vec<&'a Object>, object: &'a Object) -> Result<(), AllocE
 }
 
 /// The objects in byte order of their modules' names; those of one name stay in their order.
-pub(crate) fn in_order(alloc: Global, objects: &[Object]) -> Result<Vec<&Object>, AllocError>
-    ensures { IfOk result (λ order. map (λ o. o.now) order.items ≡ in_order objects.now) }
+pub(crate) fn in_order<'a>(
+    alloc: Global,
+    objects: &[&'a Object],
+) -> Result<Vec<&'a Object>, AllocError>
+    ensures { IfOk result (λ order. map (λ o. o.now) order.items ≡ in_order (map (λ o. o.now) objects.now)) }
 {
     let mut order = Vec::new(alloc);
     for object in objects {
-        put(&mut order, object)?;
+        put(&mut order, *object)?;
     }
     Ok(order)
 }

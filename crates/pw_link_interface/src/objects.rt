@@ -28,8 +28,8 @@ fn interface_of(alloc: Global, object: &Object) -> Result<Interface, AllocError>
 
 /// What modules show to each other, in their order, by which `check_program` says whether they make a program.
 /// It fails for want of memory alone.
-pub fn interfaces(alloc: Global, objects: &[Object]) -> Result<Vec<Interface>, AllocError>
-    ensures { IfOk result (λ all. all.items ≡ map interface objects.now) }
+pub fn interfaces(alloc: Global, objects: &[&Object]) -> Result<Vec<Interface>, AllocError>
+    ensures { IfOk result (λ all. all.items ≡ map (λ o. interface o.now) objects.now) }
 {
     let mut all = Vec::new(alloc);
     for object in objects {

@@ -3,3 +3,4 @@ pub mod ObjectLaws
 pub mod FixLaws
 pub mod SelectedLaws
 pub mod CompiledLaws
+pub mod PairLemmas

@@ -20,7 +20,7 @@ addressed_there (symbol.Word word) h = absurd h
 addressed_there symbol.StackLimit h = tt
 addressed_there (symbol.Routine number) h = absurd h
 
-row_there : (l : Line) → IsRow Anything l → LineThere l
+row_there : (l : Line) → IsRow Anything Anything l → LineThere l
 row_there (line.Fixed x k s n) h = addressed_there s h.1
 row_there (line.CallTo (symbol.Named f) r) h = tt
 row_there (line.CallTo (symbol.Word word) r) h = absurd h
@@ -29,4 +29,4 @@ row_there (line.CallTo (symbol.Routine number) r) h = h.1
 row_there l h = tt
 
 pub selected_there : (f : Located) → LinesThere (selected f)
-selected_there f = each_selected Anything LineThere row_there (λ (b : ℕ). tt) f (anything f)
+selected_there f = each_selected Anything Anything LineThere row_there (λ (b : ℕ). tt) f (anything f)

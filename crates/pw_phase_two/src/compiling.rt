@@ -82,15 +82,8 @@ pub fn compile_all(
     ensures lawful { IfOk result (λ v. AllByRecursion object.IsFunction v) }
 {
     let mut compiled = Items::new(alloc);
-    let mut rest = functions;
-    let mut left = directives;
-    while let [f, after @ ..] = rest {
-        let [d, others @ ..] = left else {
-            return Ok(compiled);
-        };
+    for (f, d) in functions.iter().zip(directives) {
         compiled.push(compile(alloc, f, &d.1)?)?;
-        rest = after;
-        left = others;
     }
     Ok(compiled)
 }

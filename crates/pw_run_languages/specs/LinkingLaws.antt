@@ -1,10 +1,10 @@
 -- What linking owes: the linked image runs as the lines of the program do, at the addresses of its map.
 use Rattle.std.specs.Prelude.{ℕ, ◌≡◌, ◌++◌, None, List, map}
-use Rattle.std.specs.List.{flat_map}
+use Rattle.std.specs.List.{flat_map, AllByRecursion}
 use Rattle.pw_flow.specs.ValidFlow.{AreDistinct}
 use Rattle.pw_milli.specs.Library.{routines}
 use Rattle.pw_db.specs.declared.database.Directives.{Directives}
-use Rattle.pw_db.specs.Database.{IsDatabase}
+use Rattle.pw_db.specs.Database.{IsDirectives}
 use Rattle.pw_alloc.specs.declared.located.Located.{Located}
 use Rattle.pw_select.specs.Selection.{selected}
 use Rattle.pw_delay.specs.Placement.{placed}
@@ -16,14 +16,13 @@ use Rattle.pw_link.specs.Linking.{linked, size_fault}
 use Rattle.pw_machine.specs.Start.{image_start}
 use Rattle.pw_run.specs.Runs.{Stage, Refines, Same}
 use Rattle.pw_run_languages.specs.Traces.{Event}
-use Rattle.pw_db_sound.specs.Sound.{Sound}
 use Rattle.pw_run_languages.specs.Programs.{Program, functions_of, globals_of, AreBytes}
-use Rattle.pw_run_languages.specs.LawfulPrograms.{IsProgram, StartFits, graph_of, eligible_names}
+use Rattle.pw_run_languages.specs.LawfulPrograms.{IsProgram, eligible_names}
 use Rattle.pw_run_languages.specs.Direction.{directed_functions}
 use Rattle.pw_run_languages.specs.Serving.{AllServe}
 use Rattle.pw_run_languages.specs.Addresses.{Addresses, AreLawful}
 use Rattle.pw_run_languages.specs.LineRun.{line_run}
-use Rattle.pw_run_languages.specs.SelectionLaws.{placed_program, FramesAre}
+use Rattle.pw_run_languages.specs.SelectionLaws.{placed_program}
 pub use Rattle.pw_run_languages.specs.ImageTrace.{address_of}
 use Rattle.pw_run_languages.specs.MachineRun.{Map, traced_run}
 
@@ -67,9 +66,10 @@ pub record LinkKeeps (p : Program) (functions : List Located) (v : Image) (input
   pub scratch : ℕ → (ℕ → ℕ) → ℕ → ℕ
   pub runs : Refines Same (line_run (placed_program p functions) addresses scratch input) (image_run p functions v input)
 
+-- Of directives it takes that each function's are lawful.
 abbrev pub LinkKeepsRuns : Type 0
 LinkKeepsRuns =
     (p : Program) (d : List (List ℕ × Directives)) (functions : List Located) (objects : List Object) (input : List ℕ) →
-    IsProgram p → AreNamesApart p → IsDatabase d → Sound (graph_of p) d → AllServe (directed_functions p d) functions →
-    FramesAre p functions → StartFits p → AreObjectsOf p functions objects → size_fault objects p.stack ≡ None → AreBytes input →
+    IsProgram p → AreNamesApart p → AllByRecursion (λ f. IsDirectives f.1) d → AllServe (directed_functions p d) functions →
+    AreObjectsOf p functions objects → size_fault objects p.stack ≡ None → AreBytes input →
     LinkKeeps p functions (linked objects p.stack) input

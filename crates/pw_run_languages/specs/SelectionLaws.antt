@@ -4,7 +4,7 @@ use Rattle.std.specs.List.{AllByRecursion}
 use Rattle.pw_value.specs.declared.value.Byte.{Byte}
 use Rattle.pw_value.specs.declared.value.Value.{Value}
 use Rattle.pw_db.specs.declared.database.Directives.{Directives}
-use Rattle.pw_db.specs.Database.{IsDirectives, IsDatabase}
+use Rattle.pw_db.specs.Database.{IsDirectives}
 use Rattle.pw_alloc.specs.declared.located.Located.{Located}
 use Rattle.pw_select.specs.Selection.{selected}
 use Rattle.pw_inst.specs.declared.line.Line.{Line}
@@ -77,5 +77,5 @@ pub record PlacementKeeps (p : Program) (functions : List Located) (w : Addresse
 abbrev pub PlacementKeepsRuns : Type 0
 PlacementKeepsRuns =
     (p : Program) (d : List (List ℕ × Directives)) (functions : List Located) (w : Addresses) (scratch : ℕ → (ℕ → ℕ) → ℕ → ℕ) (input : List ℕ) →
-    IsProgram p → IsDatabase d → AllServe (directed_functions p d) functions → FramesAre p functions →
+    IsProgram p → AllByRecursion (λ f. IsDirectives f.1) d → AllServe (directed_functions p d) functions → FramesAre p functions →
     StartFits p → AreLawful p w → AreBytes input → PlacementKeeps p functions w scratch input

@@ -1,6 +1,13 @@
 -- The loop over modules whose objects were made anew.
-use Rattle.std.proofs.Common.{◌≡◌, ◌<◌, ◌≤◌, ◌-◌, arith, ℕ, Bool, true, false, List, [], ◌∷◌, ◌++◌, length, take, drop, get_or, map, refl, sym, ap, ◌∙◌, subst, append_assoc, append-nil}
-use Rattle.std.proofs.lemmas.List.{length-drop, take_all}
+use Rattle.std.proofs.Common.{◌≡◌, ◌<◌, ◌+◌, arith, ℕ, zero, suc, min, cond, Bool, true, false, Bor, Option, Some, None, List, [], ◌∷◌, ◌++◌, length, drop, drop-cons, get_or, map, refl, sym, ap, ◌∙◌, subst, append_assoc, append-nil}
+use Rattle.std.proofs.iter.Yields.{fronts}
+use Rattle.std.proofs.lemmas.Iterator.{zips}
+use Rattle.std.proofs.lemmas.Slice.Zip.{zip_turn, zip_end}
+use Rattle.std.specs.Iterator.{Yields}
+use Rattle.std.specs.declared.iter.Zip.{Zip}
+use Rattle.std.specs.declared.slice.Iter.{Iter}
+use Rattle.std.specs.Iterator.Adapters.{zip_first, zip_second}
+use Rattle.std.specs.Slice.Iter.{iter_rest}
 use Rattle.std.specs.List.{AllByRecursion}
 use Rattle.pw_fields.specs.FieldLaws.{AreBytes}
 use Rattle.pw_object.specs.declared.object.Object.{Object}
@@ -8,6 +15,8 @@ use Rattle.pw_object.specs.Object.{IsObjectFile}
 use Rattle.pw_store_modules.specs.FileNames.{object_name}
 use Rattle.pw_store_modules.specs.declared.modules.Module.{Module}
 use Rattle.pw_top_answer.specs.Effects.{NamedFile}
+use Rattle.pw_build_objects.specs.declared.remade.Made.{Made}
+use Rattle.pw_build_objects.specs.Choosing.{marks_of, objects_of}
 use Rattle.pw_store_kept.specs.Files.{AreObjectFiles, HoldBytes, made_anew}
 
 -- what was made of the modules so far, with what is to be made of those that are left, is what is to be made of all
@@ -40,55 +49,83 @@ pub fresh_files : (all left : List (List ℕ × Object)) (names : List (List ℕ
 fresh_files all left names files inv e =
     subst (AreObjectFiles all) (append-nil files) (inv.files_so_far [] (subst (λ (zs : List (List ℕ × Object)). AreObjectFiles zs []) (sym e) tt))
 
--- ---- the ends of the three lists
+-- ---- two slices at once
 
-pub no_module : (modules : List Module) (objects : List Object) (fresh : List Bool) → length modules < 1 → made_anew (map (λ m. m.name) modules) objects fresh ≡ []
-no_module [] objects fresh h = refl
-no_module (m ∷ ms) objects fresh h = absurd (omega (arith, h))
+-- where this turn's pair is in the slices
+pub pair_at :
+    {A B : Type 0} (s t u : Zip (Iter A) (Iter B)) (r : Option (Bor A × Bor B)) (ks : List A) (vs : List B) (xs : List (Bor A × Bor B)) (p : Bor A × Bor B)
+    → Yields (zips fronts fronts) s xs t → r ≡ Some p → zips fronts fronts t r u
+    → iter_rest (zip_first s) ≡ ks → iter_rest (zip_second s) ≡ vs
+    → (length xs < length ks) × (length xs < length vs) × (p.0.now ≡ get_or ks (length xs) p.0.now) × (p.1.now ≡ get_or vs (length xs) p.1.now)
+pair_at s t u r ks vs xs p y is steps first second =
+    let z = zip_turn ks vs xs s t u r first second y p is steps in
+    (z.0, z.1, z.2 p.0.now, z.3 p.1.now)
 
-pub no_object : (names : List (List ℕ)) (objects : List Object) (fresh : List Bool) → length objects < 1 → made_anew names objects fresh ≡ []
-no_object [] objects fresh h = refl
-no_object (n ∷ ns) [] fresh h = refl
-no_object (n ∷ ns) (o ∷ os) fresh h = absurd (omega (arith, h))
+-- how many turns there were
+pub pairs_ended :
+    {A B : Type 0} (s t u : Zip (Iter A) (Iter B)) (r : Option (Bor A × Bor B)) (ks : List A) (vs : List B) (xs : List (Bor A × Bor B))
+    → Yields (zips fronts fronts) s xs t → r ≡ None → zips fronts fronts t r u
+    → iter_rest (zip_first s) ≡ ks → iter_rest (zip_second s) ≡ vs
+    → length xs ≡ min (length ks) (length vs)
+pairs_ended s t u r ks vs xs y is steps first second = zip_end ks vs xs s t u r first second y is steps
 
-pub no_mark : (names : List (List ℕ)) (objects : List Object) (fresh : List Bool) → length fresh < 1 → made_anew names objects fresh ≡ []
-no_mark [] objects fresh h = refl
-no_mark (n ∷ ns) [] fresh h = refl
-no_mark (n ∷ ns) (o ∷ os) [] h = refl
-no_mark (n ∷ ns) (o ∷ os) (b ∷ bs) h = absurd (omega (arith, h))
+next_at : {A : Type 0} (xs : List A) (i j : ℕ) (x : A) → j ≡ i + 1 → i < length xs → x ≡ get_or xs i x → drop i xs ≡ x ∷ drop j xs
+next_at xs i j x next h e =
+    let more : suc i ≡ j = omega (arith, next) in
+    drop-cons xs i x h ∙ ap (λ v. v ∷ drop (suc i) xs) (sym e) ∙ ap (λ k. x ∷ drop k xs) more
 
--- ---- one turn
+pub lawful_at : (P : Object → Type 0) (made : List Made) (i : ℕ) (one : Made) → AllByRecursion P (objects_of made) → i < length made → one ≡ get_or made i one → P one.object
+lawful_at P [] i one all h e = absurd (omega (arith, h))
+lawful_at P (m ∷ ms) zero one all h e = subst (λ (x : Made). P x.object) (sym e) all.0
+lawful_at P (m ∷ ms) (suc i) one all h e = lawful_at P ms i one all.1 (omega (arith, h)) e
 
--- what is behind the first of a list
-behind_first : {A : Type 0} (xs : List A) → take (length xs - 1) (drop 1 xs) ≡ drop 1 xs
-behind_first xs = take_all (length xs - 1) (drop 1 xs) (let l = length-drop 1 xs in omega (arith, l))
+-- ---- modules and what was made of them
 
-first_at : {A : Type 0} (xs : List A) (x : A) → 1 ≤ length xs → x ≡ get_or xs 0 x → xs ≡ x ∷ drop 1 xs
-first_at [] x h e = absurd (omega (arith, h))
-first_at (y ∷ ys) x h e = ap (λ v. v ∷ ys) (sym e)
+abbrev pub anew : List Module → List Made → List (List ℕ × Object)
+anew modules made = made_anew (map (λ m. m.name) modules) (objects_of made) (marks_of made)
 
-first_mark : (bs : List Bool) → 1 ≤ length bs → get_or bs 0 false ≡ true → bs ≡ true ∷ drop 1 bs
-first_mark [] h e = absurd (omega (arith, h))
-first_mark (b ∷ bs) h e = ap (λ v. v ∷ bs) e
+no_objects : (modules : List Module) → anew modules [] ≡ []
+no_objects [] = refl
+no_objects (m ∷ ms) = refl
 
--- the first of the modules that are left was made anew
-pub fresh_first : (all : List (List ℕ × Object)) (ms : List Module) (os : List Object) (bs : List Bool) (m : Module) (o : Object) (names names' : List (List ℕ)) (files files' : List NamedFile) (bytes : List ℕ)
-    → FreshSoFar all (made_anew (map (λ x. x.name) ms) os bs) names files → 1 ≤ length ms → m ≡ get_or ms 0 m → 1 ≤ length os → o ≡ get_or os 0 o → 1 ≤ length bs → get_or bs 0 false ≡ true
-    → names' ≡ names ++ m.name ∷ [] → files' ≡ files ++ (object_name m.name, bytes) ∷ [] → IsObjectFile bytes o → AreBytes bytes
-    → FreshSoFar all (made_anew (map (λ x. x.name) (take (length ms - 1) (drop 1 ms))) (take (length os - 1) (drop 1 os)) (take (length bs - 1) (drop 1 bs))) names' files'
-fresh_first all ms os bs m o names names' files files' bytes inv lm em lo eo lb eb n f is fits =
-    let anew : List Module → List Object → List Bool → List (List ℕ × Object) = λ xs ys zs. made_anew (map (λ x. x.name) xs) ys zs in
-    let at : anew ms os bs ≡ (m.name, o) ∷ anew (drop 1 ms) (drop 1 os) (drop 1 bs) =
-    ap (λ (xs : List Module). anew xs os bs) (first_at ms m lm em) ∙ ap (λ (ys : List Object). anew (m ∷ drop 1 ms) ys bs) (first_at os o lo eo) ∙ ap (λ (zs : List Bool). anew (m ∷ drop 1 ms) (o ∷ drop 1 os) zs) (first_mark bs lb eb) in
-    let behind : anew (drop 1 ms) (drop 1 os) (drop 1 bs) ≡ anew (take (length ms - 1) (drop 1 ms)) (take (length os - 1) (drop 1 os)) (take (length bs - 1) (drop 1 bs)) =
-    ap (λ (xs : List Module). anew xs (drop 1 os) (drop 1 bs)) (sym (behind_first ms)) ∙ ap (λ (ys : List Object). anew (take (length ms - 1) (drop 1 ms)) ys (drop 1 bs)) (sym (behind_first os))
-    ∙ ap (λ (zs : List Bool). anew (take (length ms - 1) (drop 1 ms)) (take (length os - 1) (drop 1 os)) zs) (sym (behind_first bs)) in
-    subst (λ (zs : List (List ℕ × Object)). FreshSoFar all zs names' files') behind
-    (fresh_turn all (anew (drop 1 ms) (drop 1 os) (drop 1 bs)) m.name o names names' files files' bytes (subst (λ (zs : List (List ℕ × Object)). FreshSoFar all zs names files) at inv) n f is fits)
+pub none_left : (i : ℕ) (modules : List Module) (made : List Made) → i ≡ min (length modules) (length made) → anew (drop i modules) (drop i made) ≡ []
+none_left zero [] made h = refl
+none_left zero (m ∷ ms) [] h = refl
+none_left zero (m ∷ ms) (one ∷ more) h = absurd (omega arith)
+none_left (suc i) [] made h = refl
+none_left (suc i) (m ∷ ms) [] h = no_objects (drop i ms)
+none_left (suc i) (m ∷ ms) (one ∷ more) h = none_left i ms more (omega arith)
 
-pub lawful_behind : {A : Type 0} (P : A → Type 0) (xs : List A) → AllByRecursion P xs → AllByRecursion P (take (length xs - 1) (drop 1 xs))
-lawful_behind P xs all = subst (AllByRecursion P) (sym (behind_first xs)) (by_first xs all)
-  where
-    by_first : (ys : List _) → AllByRecursion P ys → AllByRecursion P (drop 1 ys)
-    by_first [] h = tt
-    by_first (y ∷ ys) h = h.1
+-- this turn's module stands first among those that are left
+left_at : (modules : List Module) (made : List Made) (i j : ℕ) (m : Module) (one : Made) → j ≡ i + 1 → i < length modules → i < length made → m ≡ get_or modules i m → one ≡ get_or made i one
+    → anew (drop i modules) (drop i made) ≡ anew (m ∷ drop j modules) (one ∷ drop j made)
+left_at modules made i j m one next lm lo em eo =
+    ap (λ (ms : List Module). anew ms (drop i made)) (next_at modules i j m next lm em) ∙ ap (λ (os : List Made). anew (m ∷ drop j modules) os) (next_at made i j one next lo eo)
+
+marked : (b : Bool) (p : List ℕ × Object) (left : List (List ℕ × Object)) → b ≡ true → cond b (p ∷ left) left ≡ p ∷ left
+marked b p left e = ap (λ (x : Bool). cond x (p ∷ left) left) e
+
+unmarked : (b : Bool) (p : List ℕ × Object) (left : List (List ℕ × Object)) → b ≡ false → cond b (p ∷ left) left ≡ left
+unmarked b p left e = ap (λ (x : Bool). cond x (p ∷ left) left) e
+
+-- its object was made anew
+pub fresh_next : (modules : List Module) (made : List Made) (i j : ℕ) (m : Module) (one : Made) (names names' : List (List ℕ)) (files files' : List NamedFile) (bytes : List ℕ) → j ≡ i + 1
+    → i < length modules → i < length made → m ≡ get_or modules i m → one ≡ get_or made i one → one.fresh ≡ true
+    → FreshSoFar (anew modules made) (anew (drop i modules) (drop i made)) names files
+    → names' ≡ names ++ m.name ∷ [] → files' ≡ files ++ (object_name m.name, bytes) ∷ [] → IsObjectFile bytes one.object → AreBytes bytes
+    → FreshSoFar (anew modules made) (anew (drop j modules) (drop j made)) names' files'
+fresh_next modules made i j m one names names' files files' bytes next lm lo em eo b inv n f is fits =
+    let left = anew (drop j modules) (drop j made) in
+    let at : anew (drop i modules) (drop i made) ≡ (m.name, one.object) ∷ left = left_at modules made i j m one next lm lo em eo ∙ marked one.fresh (m.name, one.object) left b in
+    fresh_turn (anew modules made) left m.name one.object names names' files files' bytes
+    (subst (λ (zs : List (List ℕ × Object)). FreshSoFar (anew modules made) zs names files) at inv) n f is fits
+
+-- or it stayed
+pub fresh_skip : (modules : List Module) (made : List Made) (i j : ℕ) (m : Module) (one : Made) (names : List (List ℕ)) (files : List NamedFile) → j ≡ i + 1
+    → i < length modules → i < length made → m ≡ get_or modules i m → one ≡ get_or made i one → one.fresh ≡ false
+    → FreshSoFar (anew modules made) (anew (drop i modules) (drop i made)) names files
+    → FreshSoFar (anew modules made) (anew (drop j modules) (drop j made)) names files
+fresh_skip modules made i j m one names files next lm lo em eo b inv =
+    let left = anew (drop j modules) (drop j made) in
+    let at : anew (drop i modules) (drop i made) ≡ left = left_at modules made i j m one next lm lo em eo ∙ unmarked one.fresh (m.name, one.object) left b in
+    subst (λ (zs : List (List ℕ × Object)). FreshSoFar (anew modules made) zs names files) at inv

@@ -8,9 +8,11 @@ ghost use Rattle.pw_object.specs.Object.{IsObject, IsObjectFile};
 ghost use Rattle.pw_image.specs.Image.{IsImage, IsImageFile};
 ghost use Rattle.pw_store_modules.specs.FileNames.{object_name};
 ghost use Rattle.pw_store_modules.specs.Modules.{is_module_name};
+ghost use Rattle.pw_build_objects.specs.Choosing.{marks_of, objects_of};
 ghost use Rattle.pw_store_kept.specs.Files.{AreObjectFiles, HoldBytes, file_view, made_anew};
 
 use crate::kept::object_name;
+use pw_build_objects::Made;
 use pw_db::Database;
 use pw_files::laws::are_bytes;
 use pw_image::{Image, write_image};
@@ -57,39 +59,22 @@ fn add_file(
 }
 
 /// The files of the objects of modules that were made anew, in the order of the modules.
-fn fresh_files(
-    alloc: Global,
-    modules: &[Module],
-    objects: &[Object],
-    fresh: &[bool],
-) -> Result<FreshFiles, AllocError>
-    requires { AllByRecursion IsObject objects.now }
-    ensures names { IfOk result (λ made. made.names.items ≡ map (λ m. m.0) (made_anew (map (λ m. m.name) modules.now) objects.now fresh.now)) }
-    ensures files { IfOk result (λ made. AreObjectFiles (made_anew (map (λ m. m.name) modules.now) objects.now fresh.now) (map file_view made.files.items)) }
-    ensures bytes { IfOk result (λ made. HoldBytes (map file_view made.files.items)) }
+fn fresh_files(alloc: Global, modules: &[Module], made: &[Made]) -> Result<FreshFiles, AllocError>
+    requires { AllByRecursion IsObject (objects_of made.now) }
+    ensures names { IfOk result (λ files. files.names.items ≡ map (λ m. m.0) (made_anew (map (λ m. m.name) modules.now) (objects_of made.now) (marks_of made.now))) }
+    ensures files { IfOk result (λ files. AreObjectFiles (made_anew (map (λ m. m.name) modules.now) (objects_of made.now) (marks_of made.now)) (map file_view files.files.items)) }
+    ensures bytes { IfOk result (λ files. HoldBytes (map file_view files.files.items)) }
 {
-    let mut made = FreshFiles {
+    let mut files = FreshFiles {
         names: Vec::new(alloc),
         files: Vec::new(alloc),
     };
-    let mut rest = modules;
-    let mut left = objects;
-    let mut flags = fresh;
-    while let [which, after @ ..] = rest {
-        let [object, others @ ..] = left else {
-            return Ok(made);
-        };
-        let [is_fresh, more @ ..] = flags else {
-            return Ok(made);
-        };
-        if *is_fresh {
-            add_file(alloc, &mut made, &which.name, object)?;
+    for (which, one) in modules.iter().zip(made) {
+        if one.fresh {
+            add_file(alloc, &mut files, &which.name, &one.object)?;
         }
-        rest = after;
-        left = others;
-        flags = more;
     }
-    Ok(made)
+    Ok(files)
 }
 
 /// The bytes of the files of a program, and the files of those of its objects that were made anew.
@@ -106,20 +91,19 @@ pub fn files_of(
     alloc: Global,
     modules: &[Module],
     database: &Database,
-    objects: &[Object],
-    fresh: &[bool],
+    made: &[Made],
     image: &Image,
 ) -> Result<ProgramFiles, AllocError>
     requires database { IsDatabase database.now.functions }
-    requires objects { AllByRecursion IsObject objects.now }
+    requires objects { AllByRecursion IsObject (objects_of made.now) }
     requires image { IsImage image.now }
-    ensures names { IfOk result (λ files. files.fresh.names.items ≡ map (λ m. m.0) (made_anew (map (λ m. m.name) modules.now) objects.now fresh.now)) }
-    ensures objects { IfOk result (λ files. AreObjectFiles (made_anew (map (λ m. m.name) modules.now) objects.now fresh.now) (map file_view files.fresh.files.items)) }
+    ensures names { IfOk result (λ files. files.fresh.names.items ≡ map (λ m. m.0) (made_anew (map (λ m. m.name) modules.now) (objects_of made.now) (marks_of made.now))) }
+    ensures objects { IfOk result (λ files. AreObjectFiles (made_anew (map (λ m. m.name) modules.now) (objects_of made.now) (marks_of made.now)) (map file_view files.fresh.files.items)) }
     ensures bytes { IfOk result (λ files. HoldBytes (map file_view files.fresh.files.items)) }
     ensures database { IfOk result (λ files. IsDatabaseFile files.database.items database.now.functions) }
     ensures image { IfOk result (λ files. (names : List (List ℕ)) × IsImageFile files.image.items (record { names = names; value = image.now })) }
 {
-    let fresh = fresh_files(alloc, modules, objects, fresh)?;
+    let fresh = fresh_files(alloc, modules, made)?;
     let database = pw_db::write(alloc, database)?;
     let image = write_image(alloc, image)?;
     Ok(ProgramFiles {

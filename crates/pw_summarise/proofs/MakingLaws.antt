@@ -13,7 +13,7 @@ use Rattle.pw_summary.specs.declared.summary.Summary.{Summary}
 use Rattle.pw_summarise.specs.Summarises.{IsOrdered, addressed, in_module, taken_of, escaped_of, global_entry, function_entry, function_entries, IsUsesOf, AreUsesOf, Summarises}
 use Rattle.pw_files.proofs.Standing.{Has, contains_by}
 use Rattle.pw_files.proofs.Views.{seen}
-use Rattle.pw_summarise.proofs.Orders.{ordered_map, table_ordered}
+use Rattle.pw_summarise.proofs.Orders.{ordered_map}
 use Rattle.pw_summarise.proofs.ShapeLaws.{taken_ordered, escaped_ordered}
 use Rattle.pw_flow.proofs.Once.{distinct_left, distinct_right}
 
@@ -65,7 +65,7 @@ pub record AreLists (m : FlowModule) (sorted : List (Bor FlowFn)) (addresses : L
   pub functions : s.functions ≡ map (λ f. function_entry f.now) sorted
   pub declared : IsOrdered (λ d. d.0) m.declared s.declared
   pub addressed : IsTableOf addresses (in_module addressed m)
-  pub used : IsTableOf s.used (named_in m)
+  pub used : IsOrdered (λ name. name) (named_in m) s.used
   pub taken : s.taken ≡ taken_of s.functions s.declared addresses
   pub escaped : s.escaped ≡ escaped_of s.functions s.declared addresses
   pub zip : AllZip (λ f u. IsUsesOf f.now u) sorted us
@@ -80,7 +80,7 @@ summarised m sorted addresses us s are =
       globals = are.globals;
       functions = functions;
       declared = are.declared;
-      used = table_ordered s.used (named_in m) are.used;
+      used = are.used;
       taken = subst (λ (fs : List (List ℕ × List ℕ)). IsOrdered (λ f. f.0) (taken_of (function_entries m) m.declared (in_module addressed m)) fs) (sym are.taken)
           (taken_ordered (function_entries m) m.declared s.functions s.declared addresses (in_module addressed m) functions are.declared are.addressed);
       escaped = subst (λ (ns : List (List ℕ)). IsOrdered (λ n. n) (escaped_of (function_entries m) m.declared (in_module addressed m)) ns) (sym are.escaped)

@@ -10,5 +10,5 @@ mod taken;
 mod uses;
 mod weights;
 
-pub use making::summarise;
+pub use making::{Interface, interface_of, summarise};
 pub use weights::{DEEPEST, WEIGHT_LIMIT, limits_of_weights};

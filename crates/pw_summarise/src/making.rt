@@ -14,19 +14,44 @@ use crate::names::{Part, module_names};
 use crate::taken::{escaped, taken};
 use crate::uses::all_uses;
 use pw_flow::{FlowFn, FlowModule};
+use pw_items::Items;
 use pw_summary::{Defined, Summary, Used, summary_of};
+use pw_value::{Name, Shape};
 use std::alloc::{AllocError, Global};
 
-/// What a module defines and declares, whose functions stand sorted beside it.
-fn defined_of(alloc: Global, flow: &FlowModule, sorted: &[&FlowFn]) -> Result<Defined, AllocError>
+/// The external names that a module declares or defines, with their shapes, and those that its operations and items use, each
+/// once and in byte order.
+#[derive(Drop)]
+pub struct Interface {
+    pub declared: Items<(Name, Shape)>,
+    pub used: Items<Name>,
+}
+
+/// What a lawful module declares and what it uses.
+pub fn interface_of(alloc: Global, flow: &FlowModule) -> Result<Interface, AllocError>
+    requires { IsValid flow.now }
+    ensures declared { IfOk result (λ i. IsOrdered (λ d. d.0) flow.now.declared i.declared) }
+    ensures used { IfOk result (λ i. IsOrdered (λ name. name) (named_in flow.now) i.used) }
+{
+    let declared = declared_of(alloc, flow.declared.as_slice())?;
+    let used = module_names(alloc, Part::Named, flow)?;
+    Ok(Interface { declared, used })
+}
+
+/// What a module defines, whose functions stand sorted beside it, with what it declares.
+fn defined_of(
+    alloc: Global,
+    flow: &FlowModule,
+    sorted: &[&FlowFn],
+    declared: Items<(Name, Shape)>,
+) -> Result<Defined, AllocError>
     requires { IsValid flow.now }
     ensures globals { IfOk result (λ d. IsOrdered (λ g. g.0) (map global_entry flow.now.globals) d.globals) }
     ensures functions { IfOk result (λ d. d.functions ≡ map (λ f. function_entry f.now) sorted.now) }
-    ensures declared { IfOk result (λ d. IsOrdered (λ e. e.0) flow.now.declared d.declared) }
+    ensures declared { IfOk result (λ d. d.declared ≡ declared) }
 {
     let globals = globals_of(alloc, flow.globals.as_slice())?;
     let functions = function_entries(alloc, sorted)?;
-    let declared = declared_of(alloc, flow.declared.as_slice())?;
     Ok(Defined {
         globals,
         functions,
@@ -34,16 +59,17 @@ fn defined_of(alloc: Global, flow: &FlowModule, sorted: &[&FlowFn]) -> Result<De
     })
 }
 
-/// What a module uses, whose functions stand sorted beside it.
+/// What a module uses, whose functions stand sorted beside it: these names, and what its functions do with them.
 fn used_of(
     alloc: Global,
     flow: &FlowModule,
     defined: &Defined,
     sorted: &[&FlowFn],
+    used: Items<Name>,
 ) -> Result<Used, AllocError>
     requires functions { IsRising (map (λ f. f.0) defined.now.functions) }
     requires declared { IsRising (map (λ e. e.0) defined.now.declared) }
-    ensures used { IfOk result (λ u. IsTableOf u.used (named_in flow.now)) }
+    ensures used { IfOk result (λ u. u.used ≡ used) }
     ensures addresses { IfOk result (λ u. (names : List (List ℕ)) × IsTableOf names (in_module addressed flow.now)
         × (u.taken ≡ taken_of defined.now.functions defined.now.declared names)
         × (u.escaped ≡ escaped_of defined.now.functions defined.now.declared names)) }
@@ -54,7 +80,6 @@ fn used_of(
     let addressed = module_names(alloc, Part::Addressed, flow)?;
     let taken = taken(alloc, functions, declared, addressed.as_slice())?;
     let escaped = escaped(alloc, functions, declared, addressed.as_slice())?;
-    let used = module_names(alloc, Part::Named, flow)?;
     let uses = all_uses(alloc, sorted)?;
     Ok(Used {
         used,
@@ -71,8 +96,9 @@ pub fn summarise(alloc: Global, flow: &FlowModule) -> Result<Summary, AllocError
     ensures lawful { IfOk result (λ s. IsSummary s) }
 {
     let sorted = sorted_functions(alloc, flow.functions.as_slice())?;
-    let defined = defined_of(alloc, flow, &sorted)?;
-    let used = used_of(alloc, flow, &defined, &sorted)?;
+    let interface = interface_of(alloc, flow)?;
+    let defined = defined_of(alloc, flow, &sorted, interface.declared)?;
+    let used = used_of(alloc, flow, &defined, &sorted, interface.used)?;
     let name = flow.name.copy(alloc)?;
     Ok(summary_of(name, defined, used))
 }

@@ -30,20 +30,20 @@ use Rattle.pw_db.specs.Database.{IsDirectives, empty}
 use Rattle.pw_db.specs.declared.database.Role.{Role}
 use Rattle.pw_db.specs.declared.database.Role.TheVariants.{Entry, Member}
 
-abbrev places : List Located
+abbrev pub places : List Located
 places = map allocated (directed_functions bumping bump_directives)
 
-abbrev objects : List Object
+abbrev pub objects : List Object
 objects = whole_object (codes "a") [] [] [] [] (global (codes "n") ∷ []) (map compiled places) ∷ []
 
 -- with the frames of the map, and a stack
-abbrev graphs : ℕ → Program
+abbrev pub graphs : ℕ → Program
 graphs stack = record { modules = bumping.modules; frame_of = frame_in (linked objects stack); stack = stack }
 
 nothing_lawful : IsDirectives empty
 nothing_lawful = record { each = tt; numbers = tt; globals = tt; registers = tt; free = refl }
 
-all_serve : AllServe (directed_functions bumping bump_directives) places
+pub all_serve : AllServe (directed_functions bumping bump_directives) places
 all_serve = (
   allocation_serves bump (only_of Member) _ lawful_bump (lawful_only Member) refl,
   (
@@ -55,11 +55,11 @@ all_serve = (
     only_of : Role → Directives
     only_of role = only n_web role
 
-small : size_fault objects 4096 ≡ None
+pub small : size_fault objects 4096 ≡ None
 unfolding directed allocated entered_from selected entered_lines placed laid
 small = refl
 
-built : (p : source.Program) → Implements p (graphs 4096) → IsBuilt p (graphs 4096) bump_directives places objects
+pub built : (p : source.Program) → Implements p (graphs 4096) → IsBuilt p (graphs 4096) bump_directives places objects
 unfolding graph_of
 built p implements = record {
   implements = implements;

@@ -21,7 +21,7 @@ name_at a =
     if a == 4352 then codes "$start" else if a == 4608 then codes "main" else if a == 4864 then codes "putchar" else
     if a == 5120 then codes "exit" else if a == 5376 then codes "getchar" else codes "bump"
 
-abbrev addresses : Addresses
+abbrev pub addresses : Addresses
 addresses = record { named = place; routine = λ k. 7424; behind = λ name turns. 6144; data_start = 8192; base = 16384; limit = 20480 }
 
 of_globals : (P : FlowGlobal → Type 0) → P (global (codes "n")) → (g : FlowGlobal) → Contains (globals_of bumping) g → P g
@@ -33,7 +33,7 @@ of_names P h f c = All-contains P (names_of bumping) f (All-from_recursion P (na
 named_back : (f : List ℕ) → Contains (names_of bumping) f → name_at (place f) ≡ f
 named_back = of_names (λ f. name_at (place f) ≡ f) (refl, (refl, (refl, (refl, (refl, (refl, tt))))))
 
-lawful : AreLawful bumping addresses
+pub lawful : AreLawful bumping addresses
 lawful = record {
   aligned = of_globals (λ g. place g.name % 8 ≡ 0) refl;
   above = of_globals (λ g. 8192 ≤ place g.name) (omega arith);

@@ -14,3 +14,7 @@ mod WordRows
 mod SourceRows
 mod AcceptedRows
 mod BuiltRows
+mod WrittenLists
+mod RunEnds
+mod PremiseRows
+mod WrongRows

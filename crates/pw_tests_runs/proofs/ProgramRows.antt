@@ -187,7 +187,7 @@ all_rightly = (
   ),
 )
 
-lawful_program : IsProgram bumping
+pub lawful_program : IsProgram bumping
 unfolding are_distinct
 lawful_program = record {
   modules = (lawful_module, tt);

@@ -26,7 +26,7 @@ abbrev main : FlowFn
 main = function (codes "main") (codes "fi") 0 3
     (block (Const 0 7 ∷ Call None (codes "bump") [] ∷ LoadG 1 (codes "n") W32 ∷ Bin Add 2 0 1 ∷ []) (Return (Some 2)) ∷ [])
 
-abbrev holding : FlowFn → Program
+abbrev pub holding : FlowFn → Program
 holding f = program (global (codes "n") ∷ []) (f ∷ main ∷ []) 4096
 
 abbrev placed_as : FlowFn → List Place → List ℕ → Located
@@ -36,13 +36,12 @@ placed_as f places saved = record { body = directed f empty; places = places; sa
 abbrev in_registers : ℕ → ℕ → List Place
 in_registers r q = Reg r ∷ Reg q ∷ Slot (pos 48) ∷ []
 
+abbrev pub located : FlowFn → List ℕ → ℕ → List Located
+located f saved k =
+    placed_as f (in_registers 3 19) saved ∷ placed_as main (in_registers k 20) (3 ∷ []) ∷ placed_as start (Slot (pos 48) ∷ []) [] ∷ []
+
 abbrev places : FlowFn → List ℕ → ℕ → PlacedProgram
-places f saved k =
-    with_functions (holding f) (
-    placed_as f (in_registers 3 19) saved
-    ∷ placed_as main (in_registers k 20) (3 ∷ [])
-    ∷ placed_as start (Slot (pos 48) ∷ []) []
-    ∷ [])
+places f saved k = with_functions (holding f) (located f saved k)
 
 kept_runs : story (placed_run (places bump (3 ∷ []) 3) [] 40) ≡ codes " ($start (main (bump <n >n )bump <n )main (exit = 8 "
 unfolding placed_run steps step command.command directed entered_from

@@ -288,7 +288,7 @@ saved_above a b r w (e, inl s) is c =
     subst (λ (n : List ℕ). Saves functions n r) (sym (calls_bump a b s.0 c)) (subst (λ (q : ℕ). Saves functions main_name q) three main_saves)
 saved_above a b r w (e, inr m) is c = absurd (no_entry_of_bump Member m.1 refl)
 
-guarded : AreGuarded graph bump_directives functions
+pub guarded : AreGuarded graph bump_directives functions
 guarded a b r c (member m) = inr (saved_above a b r m.web (seat m.web b Member m.has) m.is c)
 guarded a b r c (free ds there k) = absurd (none_free b r (record { directives = ds; there = there; register = k }))
 

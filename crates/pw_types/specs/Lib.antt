@@ -12,6 +12,7 @@ pub mod Views
 pub mod Codes
 pub mod Rooms
 pub mod Spines
+pub mod Collected
 pub mod Labels
 pub mod WellTyped
 pub mod TypedModules

@@ -1,5 +1,5 @@
 use Rattle.pw_law_refine_forms.proofs.Laws.{Laws}
-use Rattle.pw_law_refine_forms.proofs.Access.{reads, writes}
+use Rattle.pw_law_refine_forms.proofs.Access.{reads, writes, writes-through, kept-stays}
 use Rattle.pw_law_refine_forms.proofs.accesses_keep.Goals as goal
 
 all : goal.After-ranges_of_bytes → Laws
@@ -32,3 +32,9 @@ returns-clause-reads c = reads (all c)
 
 pub returns-clause-writes : goal.returns-clause-writes
 returns-clause-writes c = writes (all c)
+
+pub returns-clause-through : goal.returns-clause-through
+returns-clause-through c = writes-through (all c)
+
+pub returns-clause-kept : goal.returns-clause-kept
+returns-clause-kept c = kept-stays (all c)

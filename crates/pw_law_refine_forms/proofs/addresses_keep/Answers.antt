@@ -51,7 +51,7 @@ pub returns-clause-of_derefs : goal.returns-clause-of_derefs
 returns-clause-of_derefs c = address-of-deref (all c)
 
 pub returns-clause-arguments : goal.returns-clause-arguments
-returns-clause-arguments c = λ bound keeps. arguments-keep (all c) bound keeps
+returns-clause-arguments c = arguments-keep (all c)
 
 pub returns-clause-strings : goal.returns-clause-strings
 returns-clause-strings c = string-address (all c)

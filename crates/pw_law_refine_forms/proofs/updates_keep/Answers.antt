@@ -1,6 +1,7 @@
 use Rattle.pw_law_refine_forms.proofs.Laws.{Laws}
 use Rattle.pw_law_refine_forms.proofs.Numbers.{NumberLaws}
 use Rattle.pw_law_refine_forms.proofs.Steps.{compound-keeps, step-keeps}
+use Rattle.pw_law_refine_forms.proofs.PointerUpdates.{pointer-compound-keeps, pointer-step-keeps}
 use Rattle.pw_law_refine_forms.proofs.Copies.{record-assign-keeps, record-assign-address}
 use Rattle.pw_law_refine_forms.proofs.updates_keep.Goals as goal
 
@@ -37,6 +38,12 @@ returns-clause-compounds c = compound-keeps (all c) (nums c)
 
 pub returns-clause-steps : goal.returns-clause-steps
 returns-clause-steps c = step-keeps (all c) (nums c)
+
+pub returns-clause-pointer_compounds : goal.returns-clause-pointer_compounds
+returns-clause-pointer_compounds c = pointer-compound-keeps (all c)
+
+pub returns-clause-pointer_steps : goal.returns-clause-pointer_steps
+returns-clause-pointer_steps c = pointer-step-keeps (all c)
 
 pub returns-clause-records : goal.returns-clause-records
 returns-clause-records c = record-assign-keeps (all c)

@@ -10,7 +10,7 @@ use Rattle.pw_build_files.proofs.program.built_of.Goals as goal
 
 pub returns-in-Ok-clause-many : goal.returns-in-Ok-clause-many
 returns-in-Ok-clause-many g c =
-    as_many c.args.modules.now c.in_ok-flows.flows.items c.in_ok-kept.kept.items c.args.opts.now c.in-Ok.built c.in_ok-flows.ensures.flows (rw c.deref.ensures.value at c.in-Ok.ensures.built)
+    as_many c.args.modules.now c.in_ok-flows.flows.items c.in_ok-kept.kept.items c.args.opts.now c.in-Ok.built c.in_ok-flows.ensures.flows c.in-Ok.ensures.built
 
 pub returns-in-Ok-clause-few : goal.returns-in-Ok-clause-few
 returns-in-Ok-clause-few g c = few_modules c.args.modules.now c.in_ok-flows.flows.items c.in_ok-flows.ensures.flows
@@ -28,14 +28,14 @@ returns-in_err-kept-clause-bound g c = not_counted (first_phases (map source c.a
 
 pub returns-in-Ok-clause-bound : goal.returns-in-Ok-clause-bound
 returns-in-Ok-clause-bound g c =
-    flows_counted (first_phases (map source c.args.modules.now)) c.in_ok-flows.flows.items c.args.steps.now c.complete.new.steps c.in_ok-flows.ensures.flows (rw c.deref.ensures.value at c.complete.ensures.bound)
+    flows_counted (first_phases (map source c.args.modules.now)) c.in_ok-flows.flows.items c.args.steps.now c.complete.new.steps c.in_ok-flows.ensures.flows c.complete.ensures.bound
 
 pub returns-in-Err-NoMemory-clause-bound : goal.returns-in-Err-NoMemory-clause-bound
 returns-in-Err-NoMemory-clause-bound g c =
-    flows_counted (first_phases (map source c.args.modules.now)) c.in_ok-flows.flows.items c.args.steps.now c.complete.new.steps c.in_ok-flows.ensures.flows (rw c.deref.ensures.value at c.complete.ensures.bound)
+    flows_counted (first_phases (map source c.args.modules.now)) c.in_ok-flows.flows.items c.args.steps.now c.complete.new.steps c.in_ok-flows.ensures.flows c.complete.ensures.bound
 
 pub returns-clause-counted_fault : goal.returns-clause-counted_fault
 returns-clause-counted_fault g c =
     let other : c.in-Err.fault ≢ link.NoMemory = search rules in
     made_counted (map source c.args.modules.now) c.in_ok-flows.flows.items c.in_ok-kept.kept.items (λ told. map (λ m. kept_object told.files m.name) c.args.modules.now) c.args.opts.now.colours c.args.steps.now c.complete.new.steps c.in-Err.fault
-    (g.S.Store.told c.args.store.now) c.in_ok-flows.ensures.flows c.in_ok-kept.ensures.objects (not_want other (rw c.deref.ensures.value at c.in-Err.ensures.counted_fault))
+    (g.S.Store.told c.args.store.now) c.in_ok-flows.ensures.flows c.in_ok-kept.ensures.objects (not_want other c.in-Err.ensures.counted_fault)

@@ -22,4 +22,4 @@ returns-clause-image c =
     let again = ap (map module_of) c.deref-3.ensures.value ∙ c.in_ok-order.ensures in
     let pieces = ap (map piece_view) c.deref-4.ensures.value ∙ c.in_ok-pieces.ensures ∙ ap (λ (order : List Object). function_pieces order ++ routine_pieces) first in
     let globals = ap (map global_of) c.deref-5.ensures.value ∙ c.in_ok-globals.ensures ∙ ap (flat_map (λ (o : Object). o.globals)) again in
-    subst (λ (v : Image). IfOk c.image_of_parts.result (λ image. image ≡ v)) (linked_by c.args.objects.now c.args.stack _ _ pieces globals) c.image_of_parts.ensures.image
+    subst (λ (v : Image). IfOk c.image_of_parts.result (λ image. image ≡ v)) (linked_by (map module_of c.args.objects.now) c.args.stack _ _ pieces globals) c.image_of_parts.ensures.image

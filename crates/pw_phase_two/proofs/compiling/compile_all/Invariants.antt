@@ -1,18 +1,12 @@
-use Rattle.std.proofs.Common.{◌≡◌, ◌++◌, length}
+use Rattle.std.proofs.Common.{◌≡◌, ◌++◌, drop, length}
 use Rattle.std.specs.List.{AllByRecursion}
-use Rattle.pw_flow.specs.ValidFlow.{IsFunction}
 use Rattle.pw_object.specs.Functions as object
-use Rattle.pw_db.specs.Database.{IsDirectives}
 use Rattle.pw_phase_two.specs.Phases.{all_compiled}
 use Rattle.pw_phase_two.proofs.compiling.compile_all.Given as goal
 
-abbrev pub invariant-loop-rest : goal.invariant-loop-rest
-invariant-loop-rest l = record {
-  so_far : l.compiled ++ all_compiled l.rest l.left ≡ all_compiled l.functions l.directives;
-  functions : AllByRecursion IsFunction l.rest;
-  lawful : AllByRecursion (λ d. IsDirectives d.1) l.left;
+-- the functions that are left are still to be compiled
+abbrev pub invariant-loop-f : goal.invariant-loop-f
+invariant-loop-f l = record {
+  so_far : l.compiled ++ all_compiled (drop (length l.yielded) l.functions) (drop (length l.yielded) l.directives) ≡ all_compiled l.functions l.directives;
   made : AllByRecursion object.IsFunction l.compiled;
 }
-
-abbrev pub decreases-loop-rest : goal.decreases-loop-rest
-decreases-loop-rest l = length l.rest

@@ -1,20 +1,33 @@
+use Rattle.std.proofs.Common.{rules, length}
+use Rattle.std.proofs.lemmas.List.{length_push}
 use Rattle.pw_object.specs.Object.{IsObject}
-use Rattle.pw_store_kept.proofs.FreshLemmas.{fresh_files, fresh_first, lawful_behind, no_mark, no_module, no_object}
+use Rattle.pw_store_kept.proofs.FreshLemmas.{anew, fresh_files, fresh_next, fresh_names, fresh_skip, lawful_at, none_left, pair_at, pairs_ended}
 use Rattle.pw_store_kept.proofs.files.fresh_files.Goals as goal
 
-pub returns-in_default-left-clause-files : goal.returns-in_default-left-clause-files
-returns-in_default-left-clause-files c = fresh_files _ _ _ _ c.loop-rest.invariant.so_far (no_object _ _ _ c.in_default-left.len_below)
+pub add_file-requires-clause-object : goal.add_file-requires-clause-object
+add_file-requires-clause-object c =
+    let z = pair_at _ c.loop-which.which-iterator c.next.new.self c.next.result c.args.modules.now c.args.made.now c.loop-which.yielded (c.in-Some.which, c.in-Some.one) c.loop-which.yielded_by c.in-Some.is c.next.ensures.steps (first_of (cc, search rules)) (first_of (cc, search rules)) in
+    lawful_at IsObject c.args.made.now (length c.loop-which.yielded) c.in-Some.one.now c.requires z.1 z.3
 
-pub returns-in_default-flags-clause-files : goal.returns-in_default-flags-clause-files
-returns-in_default-flags-clause-files c = fresh_files _ _ _ _ c.loop-rest.invariant.so_far (no_mark _ _ _ c.in_default-flags.len_below)
+pub loop-which-preserved-in_ok-add_file : goal.loop-which-preserved-in_ok-add_file
+loop-which-preserved-in_ok-add_file c =
+    let z = pair_at _ c.loop-which.which-iterator c.next.new.self c.next.result c.args.modules.now c.args.made.now c.loop-which.yielded (c.in-Some.which, c.in-Some.one) c.loop-which.yielded_by c.in-Some.is c.next.ensures.steps (first_of (cc, search rules)) (first_of (cc, search rules)) in
+    fresh_next c.args.modules.now c.args.made.now (length c.loop-which.yielded) _ c.in-Some.which.now c.in-Some.one.now _ _ _ _ _ (length_push c.loop-which.yielded (c.in-Some.which, c.in-Some.one))
+    z.0 z.1 z.2 z.3 (first_of (cc, search rules)) c.loop-which.invariant
+    c.in_ok-add_file.ensures.name c.in_ok-add_file.ensures.file.3 c.in_ok-add_file.ensures.file.1 c.in_ok-add_file.ensures.file.2
+
+pub loop-which-preserved : goal.loop-which-preserved
+loop-which-preserved c =
+    let z = pair_at _ c.loop-which.which-iterator c.next.new.self c.next.result c.args.modules.now c.args.made.now c.loop-which.yielded (c.in-Some.which, c.in-Some.one) c.loop-which.yielded_by c.in-Some.is c.next.ensures.steps (first_of (cc, search rules)) (first_of (cc, search rules)) in
+    fresh_skip c.args.modules.now c.args.made.now (length c.loop-which.yielded) _ c.in-Some.which.now c.in-Some.one.now _ _ (length_push c.loop-which.yielded (c.in-Some.which, c.in-Some.one))
+    z.0 z.1 z.2 z.3 (first_of (cc, search rules)) c.loop-which.invariant
+
+pub returns-clause-names : goal.returns-clause-names
+returns-clause-names c =
+    let n = pairs_ended _ c.loop-which.which-iterator c.next.new.self c.next.result c.args.modules.now c.args.made.now c.loop-which.yielded c.loop-which.yielded_by c.in-None.is c.next.ensures.steps (first_of (cc, search rules)) (first_of (cc, search rules)) in
+    fresh_names _ _ _ _ c.loop-which.invariant (none_left (length c.loop-which.yielded) c.args.modules.now c.args.made.now n)
 
 pub returns-clause-files : goal.returns-clause-files
-returns-clause-files c = fresh_files _ _ _ _ c.loop-rest.invariant.so_far (no_module _ _ _ c.in_default.len_below)
-
-pub loop-rest-preserved-in_ok-add_file : goal.loop-rest-preserved-in_ok-add_file
-loop-rest-preserved-in_ok-add_file c = record {
-  so_far = fresh_first _ c.loop-rest.rest.now c.loop-rest.left.now c.loop-rest.flags.now c.which-item.result c.object-item.result _ _ _ _ _ c.loop-rest.invariant.so_far
-      c.in-len1-up.len_at_least c.which-item.is c.in-len1-up-left.len_at_least c.object-item.is c.in-len1-up-flags.len_at_least c.if-is_fresh.true
-      c.in_ok-add_file.ensures.name c.in_ok-add_file.ensures.file.3 c.in_ok-add_file.ensures.file.1 c.in_ok-add_file.ensures.file.2;
-  lawful = lawful_behind IsObject c.loop-rest.left.now c.loop-rest.invariant.lawful;
-}
+returns-clause-files c =
+    let n = pairs_ended _ c.loop-which.which-iterator c.next.new.self c.next.result c.args.modules.now c.args.made.now c.loop-which.yielded c.loop-which.yielded_by c.in-None.is c.next.ensures.steps (first_of (cc, search rules)) (first_of (cc, search rules)) in
+    fresh_files _ _ _ _ c.loop-which.invariant (none_left (length c.loop-which.yielded) c.args.modules.now c.args.made.now n)

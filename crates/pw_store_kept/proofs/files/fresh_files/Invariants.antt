@@ -1,15 +1,9 @@
-use Rattle.std.proofs.Common.{length, map}
-use Rattle.std.specs.List.{AllByRecursion}
-use Rattle.pw_object.specs.Object.{IsObject}
-use Rattle.pw_store_kept.specs.Files.{file_view, made_anew}
-use Rattle.pw_store_kept.proofs.FreshLemmas.{FreshSoFar}
+use Rattle.std.proofs.Common.{drop, length, map}
+use Rattle.pw_build_objects.specs.Choosing.{marks_of, objects_of}
+use Rattle.pw_store_kept.specs.Files.{file_view}
+use Rattle.pw_store_kept.proofs.FreshLemmas.{FreshSoFar, anew}
 use Rattle.pw_store_kept.proofs.files.fresh_files.Given as goal
 
-abbrev pub invariant-loop-rest : goal.invariant-loop-rest
-invariant-loop-rest l = record {
-  so_far : FreshSoFar (made_anew (map (λ m. m.name) l.modules) l.objects l.fresh) (made_anew (map (λ m. m.name) l.rest) l.left l.flags) l.made.names.items (map file_view l.made.files.items);
-  lawful : AllByRecursion IsObject l.left;
-}
-
-abbrev pub decreases-loop-rest : goal.decreases-loop-rest
-decreases-loop-rest l = length l.rest
+abbrev pub invariant-loop-which : goal.invariant-loop-which
+invariant-loop-which l =
+    FreshSoFar (anew l.modules l.made) (anew (drop (length l.yielded) l.modules) (drop (length l.yielded) l.made)) l.files.names.items (map file_view l.files.files.items)

@@ -1,4 +1,4 @@
-use Rattle.std.proofs.Common.{List, map, sym, subst}
+use Rattle.std.proofs.Common.{List, map, refl, sym, subst}
 use Rattle.pw_flow.specs.declared.flow.FlowGlobal.{FlowGlobal}
 use Rattle.pw_flow.specs.ValidFlow.{AreDistinct}
 use Rattle.pw_summarise.specs.Summarises.{global_entry}
@@ -12,5 +12,5 @@ pub returns : goal.returns
 returns c = record {
   globals = rw c.as_slice.ensures at c.in_ok-globals.ensures;
   functions = c.in_ok-functions.ensures;
-  declared = rw c.as_slice-2.ensures at c.in_ok-declared.ensures;
+  declared = refl;
 }

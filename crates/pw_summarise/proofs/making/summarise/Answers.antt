@@ -1,8 +1,10 @@
-use Rattle.std.proofs.Common.{List, map, refl, sym, subst}
+use Rattle.std.proofs.Common.{ℕ, List, map, refl, sym, subst}
 use Rattle.pw_flow.specs.declared.flow.FlowFn.{FlowFn}
 use Rattle.pw_flow.specs.ValidFlow.{AreDistinct}
 use Rattle.pw_summary.specs.declared.summary.Summary.{Summary}
-use Rattle.pw_summarise.specs.Summarises.{Summarises}
+use Rattle.pw_files.specs.Rising.{IsRising}
+use Rattle.pw_flow.specs.FlowGraph.{named_in}
+use Rattle.pw_summarise.specs.Summarises.{IsOrdered, Summarises}
 use Rattle.pw_summarise.proofs.LawfulLaws.{lawful}
 use Rattle.pw_summarise.proofs.MakingLaws.{functions_differ, entries_ordered, summarised}
 use Rattle.pw_summarise.proofs.making.summarise.Goals as goal
@@ -15,7 +17,8 @@ used_of-requires-clause-functions c =
     rw (c.in_ok-defined.ensures.functions, c.deref.ensures.value) (entries_ordered c.as_slice.result.now c.in_ok-sorted.sorted.items c.in_ok-sorted.ensures).rising
 
 pub used_of-requires-clause-declared : goal.used_of-requires-clause-declared
-used_of-requires-clause-declared c = c.in_ok-defined.ensures.declared.rising
+used_of-requires-clause-declared c =
+    subst (λ (ds : List (List ℕ × List ℕ)). IsRising (map (λ e. e.0) ds)) (sym c.in_ok-defined.ensures.declared) c.in_ok-interface.ensures.declared.rising
 
 pub returns : goal.returns
 returns c =
@@ -38,9 +41,9 @@ returns c =
       globals = c.in_ok-defined.ensures.globals;
       in_order = rw c.as_slice.ensures at c.in_ok-sorted.ensures;
       functions = rw c.deref.ensures.value at c.in_ok-defined.ensures.functions;
-      declared = c.in_ok-defined.ensures.declared;
+      declared = subst (λ (ds : List (List ℕ × List ℕ)). IsOrdered (λ e. e.0) m.declared ds) (sym c.in_ok-defined.ensures.declared) c.in_ok-interface.ensures.declared;
       addressed = from.1;
-      used = c.in_ok-used.ensures.used;
+      used = subst (λ (ns : List (List ℕ)). IsOrdered (λ name. name) (named_in m) ns) (sym c.in_ok-used.ensures.used) c.in_ok-interface.ensures.used;
       taken = from.2;
       escaped = from.3;
       zip = rw c.deref-2.ensures.value at c.in_ok-used.ensures.uses;

@@ -1,3 +1,4 @@
+use Rattle.std.proofs.Common.{refl}
 use Rattle.pw_summarise.proofs.making.used_of.Goals as goal
 
 pub taken-requires-clause-functions : goal.taken-requires-clause-functions
@@ -14,7 +15,7 @@ escaped-requires-clause-declared c = rw c.as_slice-declared.ensures c.requires.d
 
 pub returns : goal.returns
 returns c = record {
-  used = c.in_ok-used.ensures;
+  used = refl;
   addresses = (
     c.in_ok-addressed.addressed,
     c.in_ok-addressed.ensures,

@@ -1,0 +1,16 @@
+//! The law of lowering, without code: the flow graphs of accepted programs of checked texts do what the programs mean.
+#![tactic(auto)]
+
+ghost use Rattle.pw_law_layers.specs.Lowering.{LoweringKeepsRuns};
+
+use pw_law_accept::lowering_rests_on_programs;
+use pw_law_refine_whole::programs_keep_runs;
+
+/// The flow graphs of each accepted program of checked texts do what the program means, with any frames that the library does
+/// not need, any stack that may be asked for, and any input.
+pub fn lowering_keeps_runs()
+    ensures { LoweringKeepsRuns }
+{
+    programs_keep_runs();
+    lowering_rests_on_programs();
+}

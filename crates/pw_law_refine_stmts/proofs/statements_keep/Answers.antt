@@ -1,0 +1,31 @@
+use Rattle.pw_law_refine_stmts.proofs.Laws.{Laws}
+use Rattle.pw_law_refine_stmts.proofs.All.{statement-keeps}
+use Rattle.pw_law_refine_stmts.proofs.statements_keep.Goals as goal
+
+all : goal.After-values_have_types → Laws
+all c = record {
+  more = c.machines_step_on.ensures.steps;
+  rise = c.machines_step_on.ensures.events;
+  fresh = c.operations_step.ensures.fresh;
+  lasts = c.stretches_last.ensures.lasts;
+  later = c.later_code_keeps.ensures.expressions;
+  grows = c.later_code_keeps.ensures.statements;
+  contain = c.graphs_contain_the_parts.ensures.expressions;
+  contains = c.graphs_contain_the_parts.ensures.statements;
+  alike = c.expressions_spread.ensures.labels;
+  results = c.results_are_new.ensures;
+  ends = c.statements_end.ensures.ends;
+  labels = c.statements_end.ensures.labels;
+  ranges = c.functions_stay_in_range.ensures;
+  lists = c.parts_are_set.ensures.lists;
+  labelled = c.parts_are_set.ensures.labelled;
+  blocks = c.parts_are_set.ensures.blocks;
+  ifs = c.parts_are_set.ensures.ifs;
+  arms = c.parts_are_set.ensures.arms;
+  loops = c.parts_are_set.ensures.loops;
+  switches = c.parts_are_set.ensures.switches;
+  types = c.values_have_types.ensures.expressions;
+}
+
+pub returns : goal.returns
+returns c = λ bound expressions conditions locals initialisers k less a. statement-keeps (all c) bound expressions conditions locals initialisers a k less

@@ -1,0 +1,6 @@
+mod Laws
+mod Simulation
+mod Fitting
+mod Parameters
+mod Functions
+mod Parts

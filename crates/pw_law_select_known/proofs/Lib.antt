@@ -1,0 +1,8 @@
+mod Lists
+mod Parts
+pub mod Values
+pub mod Commands
+pub mod Functions
+pub mod Starting
+pub mod Running
+pub mod Noting

@@ -1,0 +1,10 @@
+pub mod Naming
+pub mod Values
+pub mod Straightness
+pub mod Following
+pub mod Computing
+pub mod Noting
+pub mod Accessing
+pub mod Routines
+pub mod Moving
+pub mod All

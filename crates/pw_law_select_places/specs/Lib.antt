@@ -1,0 +1,3 @@
+pub mod Places
+pub mod Objects
+pub mod Rows
