@@ -3,28 +3,37 @@
 use Rattle.std.specs.Prelude.{◌≡◌, ℕ, Bool, true, false, not, ◌&&◌, ◌==◌, if◌then◌else◌, List, [], ◌∷◌, ◌++◌, map, codes, is_some, Option, Some, None, Result, Ok, Err, option_and_then, option_map}
 use Rattle.pw_token.specs.Roles.{spelling}
 use Rattle.pw_token.specs.declared.token.Token.{Token}
+use Rattle.pw_cpp.specs.declared.source.Digits.{Digits}
 use Rattle.pw_cpp_condition.specs.Grammar.{Means}
 use Rattle.pw_cpp_condition.specs.Words.{item_of}
 use Rattle.pw_cpp_condition.specs.declared.word.Item.{Item}
 use Rattle.pw_cpp_expand.specs.Expansion.{Expands, Outcome, Done, Stopped}
-use Rattle.pw_cpp_expand.specs.Lookahead.{Alone, Lexeme, Progress, fresh}
+use Rattle.pw_cpp_expand.specs.Lookahead.{Lexeme, fresh}
+use Rattle.pw_cpp_expand.specs.declared.progress.Mode.TheVariants.{Alone}
+use Rattle.pw_cpp_expand.specs.declared.progress.Progress.{Progress}
 use Rattle.pw_cpp_expand.specs.declared.progress.ExpandFault.{ExpandFault}
 use Rattle.pw_cpp_macros.specs.Definitions.{is_spelled, is_word}
 use Rattle.pw_cpp_macros.specs.Macros.{Macros, find}
 use Rattle.pw_cpp_values.specs.Arithmetic.{is_true}
 use Rattle.pw_cpp_values.specs.declared.arithmetic.Number.{Number}
 
--- the tokens that stand for what `defined` says: the digits 1 and 0, which stand in the source before all files
-pub record Digits : Type 0 where
-  pub zero_token : Token
-  pub one_token : Token
-
+-- the token that stands for what `defined` says: the digit 1 or 0, which stand in the source before all files
 abbrev pub truth_token : Digits → Macros → List ℕ → Token
-truth_token digits macros name = if is_some (find macros name) then digits.one_token else digits.zero_token
+truth_token digits macros name = if is_some (find macros name) then digits.one else digits.zero
 
 -- a digit in the place of a `defined`
 abbrev pub said : List ℕ → Macros → Digits → Token → Token → Lexeme
 said source macros digits defined name = record { token = truth_token digits macros (spelling source name); hidden = []; place = defined.at }
+
+-- the name behind a `defined`, with the count of its tokens
+abbrev pub name_in_parentheses : List ℕ → Token → List Token → Option (Token × ℕ)
+name_in_parentheses source open (name ∷ close ∷ rest) = if is_spelled source (codes "(") open && is_word name && is_spelled source (codes ")") close then Some (name, 3) else None
+name_in_parentheses source open (name ∷ []) = None
+name_in_parentheses source open [] = None
+
+abbrev pub defined_name : List ℕ → List Token → Option (Token × ℕ)
+defined_name source [] = None
+defined_name source (name ∷ rest) = if is_word name then Some (name, 1) else name_in_parentheses source name rest
 
 -- the tokens with each `defined X` and `defined ( X )` taken; None where a `defined` has neither form
 abbrev pub with_defined : List ℕ → Macros → Digits → List Token → Option (List Lexeme)
@@ -65,15 +74,15 @@ decided_by None produced = Faulty
 abbrev pub decided : Number → ℕ → Verdict
 decided number produced = decided_by number.word produced
 
-pub data Judges (source text : List ℕ) (macros : Macros) (digits : Digits) (tokens : List Token) (p : Progress) : Verdict → Type 0 where
-  malformed : with_defined source macros digits tokens ≡ None → Judges source text macros digits tokens p Faulty
-  stops : (taken : List Lexeme) (fault : ExpandFault) → with_defined source macros digits tokens ≡ Some taken → Expands source text macros Alone taken p (Stopped fault)
-      → Judges source text macros digits tokens p (Stops fault)
-  no_items : (taken out : List Lexeme) (q : Progress) → with_defined source macros digits tokens ≡ Some taken → Expands source text macros Alone taken p (Done out q)
-      → items_of source out ≡ None → Judges source text macros digits tokens p Faulty
+pub data Judges (source : List ℕ) (macros : Macros) (digits : Digits) (tokens : List Token) (p : Progress) : Verdict → Type 0 where
+  malformed : with_defined source macros digits tokens ≡ None → Judges source macros digits tokens p Faulty
+  stops : (taken : List Lexeme) (fault : ExpandFault) → with_defined source macros digits tokens ≡ Some taken → Expands source source macros Alone taken p (Stopped fault)
+      → Judges source macros digits tokens p (Stops fault)
+  no_items : (taken out : List Lexeme) (q : Progress) → with_defined source macros digits tokens ≡ Some taken → Expands source source macros Alone taken p (Done out q)
+      → items_of source out ≡ None → Judges source macros digits tokens p Faulty
   no_expression : (taken out : List Lexeme) (q : Progress) (items : List Item) → with_defined source macros digits tokens ≡ Some taken
-      → Expands source text macros Alone taken p (Done out q) → items_of source out ≡ Some items → ((number : Number) → Means items number → ⊥)
-      → Judges source text macros digits tokens p Faulty
+      → Expands source source macros Alone taken p (Done out q) → items_of source out ≡ Some items → ((number : Number) → Means items number → ⊥)
+      → Judges source macros digits tokens p Faulty
   evaluated : (taken out : List Lexeme) (q : Progress) (items : List Item) (number : Number) → with_defined source macros digits tokens ≡ Some taken
-      → Expands source text macros Alone taken p (Done out q) → items_of source out ≡ Some items → Means items number
-      → Judges source text macros digits tokens p (decided number q.produced)
+      → Expands source source macros Alone taken p (Done out q) → items_of source out ≡ Some items → Means items number
+      → Judges source macros digits tokens p (decided number q.produced)

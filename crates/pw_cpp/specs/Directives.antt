@@ -4,13 +4,16 @@
 use Rattle.std.specs.Prelude.{◌≡◌, ℕ, ◌+◌, Bool, true, false, not, ◌&&◌, ◌||◌, ◌==◌, if◌then◌else◌, List, [], ◌∷◌, ◌++◌, drop, length, codes, bytes_eq, is_some, Option, Some, None, Result, Ok, Err}
 use Rattle.pw_token.specs.Roles.{spelling}
 use Rattle.pw_token.specs.declared.token.Token.{Token}
-use Rattle.pw_cpp.specs.Conditions.{Digits, Judges, Holds, Faulty, Stops}
-use Rattle.pw_cpp.specs.Groups.{Section, Sections, opened, with_elif, with_else}
+use Rattle.pw_cpp.specs.Conditions.{Judges, Holds, Faulty, Stops}
+use Rattle.pw_cpp.specs.Groups.{Sections, opened, with_elif, with_else}
+use Rattle.pw_cpp.specs.declared.directive.Fault.{Fault}
 use Rattle.pw_cpp.specs.declared.fault.CppKind.{CppKind}
 use Rattle.pw_cpp.specs.declared.fault.CppKind.TheVariants as kind
 use Rattle.pw_cpp.specs.declared.fault.CppWhich.TheVariants as which
+use Rattle.pw_cpp.specs.declared.source.Digits.{Digits}
 use Rattle.pw_cpp_expand.specs.Expansion.{produced_limit}
-use Rattle.pw_cpp_expand.specs.Lookahead.{Progress, output_limit}
+use Rattle.pw_cpp_expand.specs.Lookahead.{output_limit}
+use Rattle.pw_cpp_expand.specs.declared.progress.Progress.{Progress}
 use Rattle.pw_cpp_expand.specs.declared.progress.ExpandFault.{ExpandFault}
 use Rattle.pw_cpp_expand.specs.declared.progress.ExpandFault.TheVariants as stop
 use Rattle.pw_cpp_macros.specs.Definitions.{definition_of, is_word}
@@ -22,11 +25,7 @@ use Rattle.pw_cpp_macros.specs.declared.definition.Definition.{Definition}
 use Rattle.pw_cpp_macros.specs.declared.table.MacroFault.{MacroFault}
 use Rattle.pw_cpp_macros.specs.declared.table.MacroFault.TheVariants as table
 
--- a fault of a file, at a place of it
-pub record Fault : Type 0 where
-  pub kind : CppKind
-  pub place : ℕ
-
+-- a fault of a file, at a place of the source
 abbrev pub fault : CppKind → ℕ → Fault
 fault kind place = record { kind = kind; place = place }
 
@@ -105,37 +104,37 @@ endif_effect s hash [] (section ∷ outer) = Becomes (standing s.macros outer s.
 
 -- What the directive of a line does whose tokens behind its name are these; `hash` is the place of its `#`. An `#elif` behind a group that
 -- was taken is not evaluated.
-pub data Does (source text : List ℕ) (digits : Digits) (s : Standing) (hash : ℕ) : List ℕ → List Token → Effect → Type 0 where
-  defines : (tokens : List Token) → Does source text digits s hash (codes "define") tokens (with_definition source s hash (definition_of source tokens))
-  undefines : (tokens : List Token) → Does source text digits s hash (codes "undef") tokens (with_undefined s hash (one_name source tokens))
-  tests : (tokens : List Token) → Does source text digits s hash (codes "ifdef") tokens (with_test true s hash (one_name source tokens))
-  tests_not : (tokens : List Token) → Does source text digits s hash (codes "ifndef") tokens (with_test false s hash (one_name source tokens))
-  ends : (tokens : List Token) → Does source text digits s hash (codes "endif") tokens (endif_effect s hash tokens s.sections)
-  turns : (tokens : List Token) → Does source text digits s hash (codes "else") tokens (else_effect s hash tokens s.sections)
-  errs : (tokens : List Token) → Does source text digits s hash (codes "error") tokens (Fails (fault kind.Error hash))
+pub data Does (source : List ℕ) (digits : Digits) (s : Standing) (hash : ℕ) : List ℕ → List Token → Effect → Type 0 where
+  defines : (tokens : List Token) → Does source digits s hash (codes "define") tokens (with_definition source s hash (definition_of source tokens))
+  undefines : (tokens : List Token) → Does source digits s hash (codes "undef") tokens (with_undefined s hash (one_name source tokens))
+  tests : (tokens : List Token) → Does source digits s hash (codes "ifdef") tokens (with_test true s hash (one_name source tokens))
+  tests_not : (tokens : List Token) → Does source digits s hash (codes "ifndef") tokens (with_test false s hash (one_name source tokens))
+  ends : (tokens : List Token) → Does source digits s hash (codes "endif") tokens (endif_effect s hash tokens s.sections)
+  turns : (tokens : List Token) → Does source digits s hash (codes "else") tokens (else_effect s hash tokens s.sections)
+  errs : (tokens : List Token) → Does source digits s hash (codes "error") tokens (Fails (fault kind.Error hash))
 
-  opens : (tokens : List Token) (p : Progress) (holds : Bool) (produced : ℕ) → p.produced ≡ s.produced → Judges source text s.macros digits tokens p (Holds holds produced)
-      → Does source text digits s hash (codes "if") tokens (Becomes (standing s.macros (opened holds s.sections) produced))
-  opens_none : (tokens : List Token) (p : Progress) → p.produced ≡ s.produced → Judges source text s.macros digits tokens p Faulty
-      → Does source text digits s hash (codes "if") tokens (Fails (fault kind.Condition hash))
-  opens_stopped : (tokens : List Token) (p : Progress) (f : ExpandFault) → p.produced ≡ s.produced → Judges source text s.macros digits tokens p (Stops f)
-      → Does source text digits s hash (codes "if") tokens (Fails (fault_of_expansion f))
+  opens : (tokens : List Token) (p : Progress) (holds : Bool) (produced : ℕ) → p.produced ≡ s.produced → Judges source s.macros digits tokens p (Holds holds produced)
+      → Does source digits s hash (codes "if") tokens (Becomes (standing s.macros (opened holds s.sections) produced))
+  opens_none : (tokens : List Token) (p : Progress) → p.produced ≡ s.produced → Judges source s.macros digits tokens p Faulty
+      → Does source digits s hash (codes "if") tokens (Fails (fault kind.Condition hash))
+  opens_stopped : (tokens : List Token) (p : Progress) (f : ExpandFault) → p.produced ≡ s.produced → Judges source s.macros digits tokens p (Stops f)
+      → Does source digits s hash (codes "if") tokens (Fails (fault_of_expansion f))
 
-  elif_alone : (tokens : List Token) → s.sections ≡ [] → Does source text digits s hash (codes "elif") tokens (Fails (fault kind.Condition hash))
+  elif_alone : (tokens : List Token) → s.sections ≡ [] → Does source digits s hash (codes "elif") tokens (Fails (fault kind.Condition hash))
   elif_late : (tokens : List Token) (section : Section) (outer : Sections) → s.sections ≡ section ∷ outer → section.behind_else ≡ true
-      → Does source text digits s hash (codes "elif") tokens (Fails (fault kind.Condition hash))
+      → Does source digits s hash (codes "elif") tokens (Fails (fault kind.Condition hash))
   elif_taken : (tokens : List Token) (section : Section) (outer : Sections) → s.sections ≡ section ∷ outer → section.behind_else ≡ false → section.taken ≡ true
-      → Does source text digits s hash (codes "elif") tokens (Becomes (standing s.macros (with_elif false section ∷ outer) s.produced))
+      → Does source digits s hash (codes "elif") tokens (Becomes (standing s.macros (with_elif false section ∷ outer) s.produced))
   elif : (tokens : List Token) (section : Section) (outer : Sections) (p : Progress) (holds : Bool) (produced : ℕ)
       → s.sections ≡ section ∷ outer → section.behind_else ≡ false → section.taken ≡ false → p.produced ≡ s.produced
-      → Judges source text s.macros digits tokens p (Holds holds produced)
-      → Does source text digits s hash (codes "elif") tokens (Becomes (standing s.macros (with_elif holds section ∷ outer) produced))
+      → Judges source s.macros digits tokens p (Holds holds produced)
+      → Does source digits s hash (codes "elif") tokens (Becomes (standing s.macros (with_elif holds section ∷ outer) produced))
   elif_none : (tokens : List Token) (section : Section) (outer : Sections) (p : Progress)
-      → s.sections ≡ section ∷ outer → section.behind_else ≡ false → section.taken ≡ false → p.produced ≡ s.produced → Judges source text s.macros digits tokens p Faulty
-      → Does source text digits s hash (codes "elif") tokens (Fails (fault kind.Condition hash))
+      → s.sections ≡ section ∷ outer → section.behind_else ≡ false → section.taken ≡ false → p.produced ≡ s.produced → Judges source s.macros digits tokens p Faulty
+      → Does source digits s hash (codes "elif") tokens (Fails (fault kind.Condition hash))
   elif_stopped : (tokens : List Token) (section : Section) (outer : Sections) (p : Progress) (f : ExpandFault)
-      → s.sections ≡ section ∷ outer → section.behind_else ≡ false → section.taken ≡ false → p.produced ≡ s.produced → Judges source text s.macros digits tokens p (Stops f)
-      → Does source text digits s hash (codes "elif") tokens (Fails (fault_of_expansion f))
+      → s.sections ≡ section ∷ outer → section.behind_else ≡ false → section.taken ≡ false → p.produced ≡ s.produced → Judges source s.macros digits tokens p (Stops f)
+      → Does source digits s hash (codes "elif") tokens (Fails (fault_of_expansion f))
 
 -- the words that have a meaning of their own, besides `pragma` and `include`
 abbrev pub is_directive : List ℕ → Bool

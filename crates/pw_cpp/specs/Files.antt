@@ -4,14 +4,17 @@ use Rattle.std.specs.List.{list_any, flat_map, starts_with}
 use Rattle.pw_token.specs.Places.{line_at}
 use Rattle.pw_token.specs.Roles.{spelling}
 use Rattle.pw_token.specs.declared.token.Token.{Token}
-use Rattle.pw_cpp.specs.Conditions.{Digits}
-use Rattle.pw_cpp.specs.Directives.{Does, Effect, Becomes, Fails, Fault, Standing, fault, fault_of_expansion, is_directive, standing}
-use Rattle.pw_cpp.specs.Groups.{Nested, Section, Sections, is_opening, is_reading, is_turn, nested_after}
+use Rattle.pw_cpp.specs.Directives.{Does, Effect, Becomes, Fails, Standing, fault, fault_of_expansion, is_directive, standing}
+use Rattle.pw_cpp.specs.Groups.{Nested, Sections, is_opening, is_reading, is_turn, nested_after}
+use Rattle.pw_cpp.specs.declared.directive.Fault.{Fault}
 use Rattle.pw_cpp.specs.declared.fault.CppKind.{CppKind}
 use Rattle.pw_cpp.specs.declared.fault.CppKind.TheVariants as kind
 use Rattle.pw_cpp.specs.declared.fault.CppWhich.TheVariants as which
+use Rattle.pw_cpp.specs.declared.source.Digits.{Digits}
 use Rattle.pw_cpp_expand.specs.Expansion.{Expands, Outcome, Done, Stopped}
-use Rattle.pw_cpp_expand.specs.Lookahead.{InText, Lexeme, Progress, ReadsOn, Tokens, Fault as Unread, fresh}
+use Rattle.pw_cpp_expand.specs.Lookahead.{Lexeme, ReadsOn, Tokens, Fault as Unread, fresh}
+use Rattle.pw_cpp_expand.specs.declared.progress.Mode.TheVariants.{InText}
+use Rattle.pw_cpp_expand.specs.declared.progress.Progress.{Progress}
 use Rattle.pw_cpp_expand.specs.declared.progress.ExpandFault.{ExpandFault}
 use Rattle.pw_cpp_lines.specs.Heads.{IsHead, header_name}
 use Rattle.pw_cpp_lines.specs.Lines.{Lexes, PassesSpace}
@@ -180,12 +183,12 @@ mutual
     directive : (depth : ℕ) (file : File) (at : ℕ) (r : Reading) (hash : ℕ) (name : Span) (first word : Token) (tokens : List Token) (next : ℕ) (s : Standing) (found : Result_of)
         → at < file.end → lexes_whole r (name_of source name) ≡ true → IsHead (text_of source file) at (head.Directive hash name)
         → Lexes (text_of source file) hash (Ok (record { tokens = first ∷ word ∷ tokens; next = next }))
-        → Does source (text_of source file) digits r.standing_is hash (name_of source name) tokens (Becomes s)
+        → Does source digits r.standing_is hash (name_of source name) tokens (Becomes s)
         → ReadsLines source files digits depth file next (with_standing r s) found → ReadsLines source files digits depth file at r found
     directive_fails : (depth : ℕ) (file : File) (at : ℕ) (r : Reading) (hash : ℕ) (name : Span) (first word : Token) (tokens : List Token) (next : ℕ) (f : Fault)
         → at < file.end → lexes_whole r (name_of source name) ≡ true → IsHead (text_of source file) at (head.Directive hash name)
         → Lexes (text_of source file) hash (Ok (record { tokens = first ∷ word ∷ tokens; next = next }))
-        → Does source (text_of source file) digits r.standing_is hash (name_of source name) tokens (Fails f)
+        → Does source digits r.standing_is hash (name_of source name) tokens (Fails f)
         → ReadsLines source files digits depth file at r (Faulted file.name f)
     empty : (depth : ℕ) (file : File) (at : ℕ) (r : Reading) (hash : ℕ) (name : Span) (first : Token) (next : ℕ) (found : Result_of)
         → at < file.end → is_reading r.standing_is.sections ≡ true → IsHead (text_of source file) at (head.Directive hash name)

@@ -1,12 +1,8 @@
 -- Groups of conditional inclusion (ISO/IEC 9899:1990, 6.8.1).
 use Rattle.std.specs.Prelude.{ℕ, Bool, true, false, not, ◌&&◌, ◌||◌, if◌then◌else◌, List, [], ◌∷◌, Option, Some, None, codes, bytes_eq}
+use Rattle.pw_cpp.specs.declared.groups.Section.{Section}
 
--- An open `#if`: whether a group of it was taken before or is, whether the group at hand is taken, and whether its `#else` was read.
-pub record Section : Type 0 where
-  pub taken : Bool
-  pub active : Bool
-  pub behind_else : Bool
-
+-- An open `#if` says whether a group of it was taken before or is, whether the group at hand is taken, and whether its `#else` was read.
 abbrev pub section : Bool → Bool → Bool → Section
 section taken active behind_else = record { taken = taken; active = active; behind_else = behind_else }
 

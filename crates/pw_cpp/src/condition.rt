@@ -1,8 +1,16 @@
 //! The conditions of `#if` and `#elif`.
 
+ghost use Rattle.std.specs.Prelude.{◌≡◌, ◌≤◌, All, length, option_map, IfOk, IfSome};
+ghost use Rattle.pw_cpp.specs.Answers.{AnswersJudgement, IsVerdictOf};
+ghost use Rattle.pw_cpp.specs.Conditions as spec;
+ghost use Rattle.pw_token.specs.Roles.{spelling};
+ghost use Rattle.pw_cpp_expand.specs.AtHand.{IsWithinLimits};
+ghost use Rattle.pw_cpp_expand.specs.Numbered.{HaveEmpty, all_named};
+ghost use Rattle.pw_cpp_sets.specs.Sets.{Keeps, Known};
+
 use crate::source::Digits;
 use pw_cpp_condition::{Item, evaluate, item_of};
-use pw_cpp_expand::{ExpandFault, Lexeme, Progress, expand_alone};
+use pw_cpp_expand::{ExpandFault, Lexeme, Progress, expand_alone, fresh};
 use pw_cpp_macros::{Macros, is_spelled, is_word, spelled};
 use pw_cpp_sets::Sets;
 use pw_items::Items;
@@ -17,16 +25,10 @@ pub enum Verdict {
     Faulty,
 }
 
-fn fresh(token: Token) -> Lexeme {
-    Lexeme {
-        token,
-        hidden: 0,
-        place: token.at,
-    }
-}
-
 /// The digit that says whether a name is a macro's, in the place of a `defined`.
-fn said(source: &[u8], macros: &Macros<'_>, digits: Digits, place: usize, name: Token) -> Lexeme {
+fn said(source: &[u8], macros: &Macros<'_>, digits: Digits, place: usize, name: Token) -> Lexeme
+    ensures { result ≡ record { token = spec.truth_token digits macros.now (spelling source.now name); hidden = 0; place = place } }
+{
     let token = match macros.find(spelled(source, name)) {
         Some(_) => digits.one,
         None => digits.zero,
@@ -39,7 +41,9 @@ fn said(source: &[u8], macros: &Macros<'_>, digits: Digits, place: usize, name: 
 }
 
 /// The name behind a `defined`, and how many tokens it takes with its parentheses, or None where it has not the form of one.
-fn defined_name(source: &[u8], tokens: &[Token]) -> Option<(Token, usize)> {
+fn defined_name(source: &[u8], tokens: &[Token]) -> Option<(Token, usize)>
+    ensures { result ≡ spec.defined_name source.now tokens.now }
+{
     match tokens {
         [name, ..] if is_word(*name) => Some((*name, 1)),
         [open, name, close, ..]
@@ -58,7 +62,10 @@ fn with_defined(
     macros: &Macros<'_>,
     digits: Digits,
     tokens: &[Token],
-) -> Result<Option<Items<Lexeme>>, AllocError> {
+) -> Result<Option<Items<Lexeme>>, AllocError>
+    ensures taken { IfOk result (λ taken. (known : Known) → HaveEmpty known → option_map (all_named known) taken ≡ spec.with_defined source.now macros.now digits tokens.now) }
+    ensures known { IfOk result (λ taken. IfSome taken (All (λ lexeme. lexeme.hidden ≡ 0))) }
+{
     let mut taken = Items::new(alloc);
     let mut left = tokens;
     while let [token, rest @ ..] = left {
@@ -81,7 +88,9 @@ fn items_of(
     alloc: Global,
     source: &[u8],
     tokens: &[Lexeme],
-) -> Result<Option<Items<Item>>, AllocError> {
+) -> Result<Option<Items<Item>>, AllocError>
+    ensures { IfOk result (λ items. (known : Known) → items ≡ spec.items_of source.now (all_named known tokens.now)) }
+{
     let mut items = Items::new(alloc);
     for lexeme in tokens {
         let bytes = spelled(source, lexeme.token);
@@ -94,7 +103,9 @@ fn items_of(
 }
 
 /// What tokens that are expanded come to.
-fn verdict(alloc: Global, source: &[u8], tokens: &[Lexeme]) -> Result<Verdict, AllocError> {
+fn verdict(alloc: Global, source: &[u8], tokens: &[Lexeme]) -> Result<Verdict, AllocError>
+    ensures { IfOk result (λ verdict. (known : Known) → IsVerdictOf source.now (all_named known tokens.now) verdict) }
+{
     let Some(items) = items_of(alloc, source, tokens)? else {
         return Ok(Verdict::Faulty);
     };
@@ -120,20 +131,17 @@ pub fn judge<'a>(
     digits: Digits,
     tokens: &[Token],
     progress: &mut Progress,
-) -> Result<Verdict, ExpandFault> {
+) -> Result<Verdict, ExpandFault>
+    requires within { progress.old.next ≤ length source.now }
+    requires limits { IsWithinLimits progress.old }
+    requires empty { HaveEmpty sets.old }
+    ensures keeps { Keeps sets.old sets.new }
+    ensures limits { IfOk result (λ _. IsWithinLimits progress.new) }
+    ensures judges { AnswersJudgement source.now macros.now digits tokens.now progress.old progress.new result }
+{
     let Some(taken) = with_defined(alloc, source, macros, digits, tokens)? else {
         return Ok(Verdict::Faulty);
     };
-    let out = expand_alone(alloc, source, macros, sets, reversed(alloc, taken)?, progress)?;
+    let out = expand_alone(alloc, source, macros, sets, taken, progress)?;
     Ok(verdict(alloc, source, out.as_slice())?)
-}
-
-/// The lexemes with the last one first, as those at hand are kept.
-fn reversed(alloc: Global, lexemes: Items<Lexeme>) -> Result<Items<Lexeme>, AllocError> {
-    let mut lexemes = lexemes;
-    let mut turned = Items::new(alloc);
-    while let Some(lexeme) = lexemes.pop() {
-        turned.push(lexeme)?;
-    }
-    Ok(turned)
 }

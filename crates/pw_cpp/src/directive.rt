@@ -1,5 +1,13 @@
 //! Directives that are read.
 
+ghost use Rattle.std.specs.Prelude.{◌≡◌, ◌≤◌, ◌+◌, ◌++◌, ◌∷◌, [], length, option_map, IfOk, IfErr, MatchResult};
+ghost use Rattle.pw_cpp.specs.Answers.{IsFaultOf, Obeys, standing_of};
+ghost use Rattle.pw_cpp.specs.Directives as spec;
+ghost use Rattle.pw_cpp_expand.specs.AtHand.{IsWithinLimits};
+ghost use Rattle.pw_cpp_expand.specs.Expansion.{produced_limit};
+ghost use Rattle.pw_cpp_expand.specs.Numbered.{HaveEmpty};
+ghost use Rattle.pw_cpp_sets.specs.Sets.{Keeps};
+
 use crate::condition::{Verdict, judge};
 use crate::fault::{CppKind, CppWhich};
 use crate::groups::{Section, opened, with_elif, with_else};
@@ -21,14 +29,19 @@ pub struct Fault {
 }
 
 /// The fault of a limit: the number is the first that passes it.
-pub fn limit(which: CppWhich, most: usize, place: usize) -> Fault {
+pub fn limit(which: CppWhich, most: usize, place: usize) -> Fault
+    requires { most < u64.MAX }
+    ensures { result ≡ spec.fault (CppKind.Limit which (most + 1)) place }
+{
     Fault {
         kind: CppKind::Limit(which, most as u64 + 1),
         place,
     }
 }
 
-pub fn of_expansion(fault: ExpandFault) -> Fault {
+pub fn of_expansion(fault: ExpandFault) -> Fault
+    ensures { result ≡ spec.fault_of_expansion fault }
+{
     match fault {
         ExpandFault::Lex { at } => Fault { kind: CppKind::Lex, place: at },
         ExpandFault::Call { at } => Fault { kind: CppKind::Macro, place: at },
@@ -38,7 +51,9 @@ pub fn of_expansion(fault: ExpandFault) -> Fault {
     }
 }
 
-fn of_definition(fault: DefineFault, place: usize) -> Fault {
+fn of_definition(fault: DefineFault, place: usize) -> Fault
+    ensures { result ≡ spec.fault (spec.kind_of_define fault) place }
+{
     match fault {
         DefineFault::Form => Fault { kind: CppKind::Directive, place },
         DefineFault::Repeated | DefineFault::Hash => Fault { kind: CppKind::Macro, place },
@@ -47,7 +62,9 @@ fn of_definition(fault: DefineFault, place: usize) -> Fault {
     }
 }
 
-fn of_macro(fault: MacroFault, place: usize) -> Fault {
+fn of_macro(fault: MacroFault, place: usize) -> Fault
+    ensures { result ≡ spec.fault (spec.kind_of_macro fault) place }
+{
     match fault {
         MacroFault::Differs => Fault { kind: CppKind::Macro, place },
         MacroFault::Full => limit(CppWhich::Macros, MACRO_LIMIT, place),
@@ -76,7 +93,9 @@ pub struct Directive<'t> {
     pub hash: usize,
 }
 
-fn one_name<'a>(source: &'a [u8], tokens: &[Token]) -> Option<&'a [u8]> {
+fn one_name<'a>(source: &'a [u8], tokens: &[Token]) -> Option<&'a [u8]>
+    ensures { option_map (λ name. name.now) result ≡ spec.one_name source.now tokens.now }
+{
     match tokens {
         [token] if is_word(*token) => Some(spelled(source, *token)),
         _ => None,
@@ -170,7 +189,14 @@ impl<'a> Standing<'a> {
         source: &'a [u8],
         digits: Digits,
         d: Directive<'_>,
-    ) -> Result<(), Fault> {
+    ) -> Result<(), Fault>
+        requires limits { self.old.produced ≤ produced_limit }
+        requires empty { HaveEmpty self.old.sets }
+        ensures obeys { Obeys source.now digits d self.old self.new result }
+        ensures keeps { Keeps self.old.sets self.new.sets }
+        ensures limits { IfOk result (λ _. self.new.produced ≤ produced_limit) }
+        ensures nested { IfOk result (λ _. self.new.nested ≡ self.old.nested) }
+    {
         if d.name == b"define" {
             self.define(alloc, source, d)
         } else if d.name == b"undef" {

@@ -1,5 +1,14 @@
 //! Files, line by line.
 
+ghost use Rattle.std.specs.Prelude.{◌≡◌, ◌≤◌, ◌<◌, ◌↔◌, length, map, reverse, slice_get, Some, IfOk, IsTrue};
+ghost use Rattle.pw_cpp.specs.Answers.{AnswersCpp, IsRead, IsWithin, Keeps, ReadsWhole, StepsFile, digits_of, reads_of, source_of, spans_of};
+ghost use Rattle.pw_cpp.specs.Files.{File, output_of, rows_of};
+ghost use Rattle.pw_cpp.specs.Groups.{is_reading};
+ghost use Rattle.pw_cpp_expand.specs.Numbered.{all_named};
+ghost use Rattle.pw_cpp_lines.specs.Heads.{IsHead};
+ghost use Rattle.pw_cpp_lines.specs.Lines.{AnswersLine};
+ghost use Rattle.pw_cpp_sets.specs.Sets.{Known};
+
 use crate::directive::{Directive, Fault, Standing, limit, of_expansion};
 use crate::fault::{CppFault, CppKind, CppWhich};
 use crate::groups::{Section, is_opening, is_turn};
@@ -46,7 +55,9 @@ impl<'a> Reader<'a> {
         }
     }
 
-    fn is_reading(&self) -> bool {
+    fn is_reading(&self) -> bool
+        ensures { result ≡ is_reading (reverse self.now.standing.sections) }
+    {
         match self.standing.sections.as_slice().last() {
             Some(section) => section.active,
             None => true,
@@ -54,7 +65,14 @@ impl<'a> Reader<'a> {
     }
 
     /// Reads a file at a depth of includes.
-    fn read_file(&mut self, index: usize, depth: usize) -> Result<(), Fault> {
+    fn read_file(&mut self, index: usize, depth: usize) -> Result<(), Fault>
+        requires index { index < length self.old.spans.now }
+        requires depth { depth ≤ DEPTH_LIMIT }
+        requires within { IsWithin self.old }
+        ensures keeps { Keeps self.old self.new }
+        ensures within { IfOk result (λ _. IsWithin self.new) }
+        ensures reads { (file : File) → slice_get (reads_of self.old) index ≡ Some file → ReadsWhole digits_of depth file self.old self.new result }
+    {
         let span = self.spans[index];
         if TEXT_LIMIT < span.end - span.from {
             return Err(limit(CppWhich::Length, TEXT_LIMIT, span.from));
@@ -77,7 +95,13 @@ impl<'a> Reader<'a> {
     }
 
     /// Reads the line that begins at a place, and answers where the next one begins.
-    fn read_line(&mut self, text: &'a [u8], at: usize, depth: usize) -> Result<usize, Fault> {
+    fn read_line(&mut self, text: &'a [u8], at: usize, depth: usize) -> Result<usize, Fault>
+        requires place { at < length text.now }
+        requires within { IsWithin self.old }
+        ensures keeps { Keeps self.old self.new }
+        ensures within { IfOk result (λ next. IsWithin self.new × (at < next) × (next ≤ length text.now)) }
+        ensures steps { (file : File) → IsRead self.old file text.now → StepsFile digits_of depth file at self.old self.new result }
+    {
         match head_of(text, at) {
             Head::Marker { hash } => Ok(pass_rest(text, hash)),
             Head::Text if self.is_reading() => self.read_text(text, at),
@@ -288,7 +312,9 @@ pub fn preprocess(
     alloc: Global,
     files: &[(Name, Vec<u8>)],
     name: &Name,
-) -> Result<Vec<u8>, CppFault> {
+) -> Result<Vec<u8>, CppFault>
+    ensures { AnswersCpp (source_of files.now) (spans_of files.now) digits_of name.now result }
+{
     let source = source_of(alloc, files)?;
     let mut reader = Reader {
         alloc,

@@ -8,23 +8,24 @@ use Rattle.pw_cpp_condition.specs.declared.word.Item.{Item}
 use Rattle.pw_cpp_condition.proofs.Marks.{Continues}
 
 -- one more is the innermost
-pub reverse-pushed : {A : Type 0} (old new : List A) (x : A) → new ≡ old ++ x ∷ [] → reverse new ≡ x ∷ reverse old
-reverse-pushed old new x e = ap reverse e ∙ reverse-append old (x ∷ [])
+pub reverse_pushed : {A : Type 0} (xs : List A) (x : A) → reverse (xs ++ x ∷ []) ≡ x ∷ reverse xs
+reverse_pushed xs x = reverse-append xs (x ∷ [])
 
-pub reduce-on : (k : ℕ) (v : Number) (f : Frame) (old new : List Frame) → old ≡ new ++ f ∷ [] → binds k f ≡ true → reduced k v (reverse old) ≡ reduced k (applied f v) (reverse new)
-reduce-on k v f old new e b = ap (reduced k v) (reverse-pushed new old f e) ∙ more
+-- the innermost takes an operand or not
+pub reduced_more : (k : ℕ) (v : Number) (f : Frame) (old new : List Frame) → old ≡ new ++ f ∷ [] → binds k f ≡ true → reduced k v (reverse old) ≡ reduced k (applied f v) (reverse new)
+reduced_more k v f old new e b = ap (λ x. reduced k v (reverse x)) e ∙ ap (reduced k v) (reverse_pushed new f) ∙ more
   where
     more : reduced k v (f ∷ reverse new) ≡ reduced k (applied f v) (reverse new)
     more = rw b refl
 
-pub reduce-stop : (k : ℕ) (v : Number) (f : Frame) (old new : List Frame) → old ≡ new ++ f ∷ [] → binds k f ≡ false → reduced k v (reverse old) ≡ (v, f ∷ reverse new)
-reduce-stop k v f old new e b = ap (reduced k v) (reverse-pushed new old f e) ∙ stop
+pub reduced_less : (k : ℕ) (v : Number) (f : Frame) (old new : List Frame) → old ≡ new ++ f ∷ [] → binds k f ≡ false → reduced k v (reverse old) ≡ (v, f ∷ reverse new)
+reduced_less k v f old new e b = ap (λ x. reduced k v (reverse x)) e ∙ ap (reduced k v) (reverse_pushed new f) ∙ stop
   where
     stop : reduced k v (f ∷ reverse new) ≡ (v, f ∷ reverse new)
     stop = rw b refl
 
-pub reduce-none : (k : ℕ) (v : Number) (old : List Frame) → old ≡ [] → reduced k v (reverse old) ≡ (v, [])
-reduce-none k v old e = ap (λ x. reduced k v (reverse x)) e
+pub reduced_none : (k : ℕ) (v : Number) (old : List Frame) → old ≡ [] → reduced k v (reverse old) ≡ (v, [])
+reduced_none k v old e = ap (λ x. reduced k v (reverse x)) e
 
 -- ---- steps
 

@@ -69,13 +69,32 @@ with_inner None frames = frames
 abbrev pub State : Type 0
 State = Option Number × List Frame
 
+-- the condition of a `?` that waits
+abbrev pub asked : Frame → Option Number
+asked (Question c) = Some c
+asked Group = None
+asked (Prefix op) = None
+asked (Between op a) = None
+asked (Colon c a) = None
+
+abbrev pub is_group : Frame → Bool
+is_group Group = true
+is_group (Prefix op) = false
+is_group (Between op a) = false
+is_group (Question c) = false
+is_group (Colon c a) = false
+
+-- with one more frame an operand is wanted
+abbrev pub waiting_in : List Frame → Frame → State
+waiting_in frames frame = (None, frame ∷ frames)
+
 abbrev pub parted : Number → List Frame → Option State
-parted v (Question c ∷ frames) = Some (None, Colon c v ∷ frames)
-parted v _ = None
+parted v [] = None
+parted v (frame ∷ frames) = option_map (λ c. waiting_in frames (Colon c v)) (asked frame)
 
 abbrev pub closed : Number → List Frame → Option State
-closed v (Group ∷ frames) = Some (Some v, frames)
-closed v _ = None
+closed v [] = None
+closed v (frame ∷ frames) = if is_group frame then Some (Some v, frames) else None
 
 abbrev pub follow_level : Follow → ℕ
 follow_level (Goes op) = level op
@@ -85,17 +104,13 @@ follow_level Closes = choice_level
 
 -- what follows an operand that was reduced so far
 abbrev pub followed : Follow → Number → List Frame → Option State
-followed (Goes op) v frames = Some (None, Between op v ∷ frames)
-followed Asks v frames = Some (None, Question v ∷ frames)
+followed (Goes op) v frames = Some (waiting_in frames (Between op v))
+followed Asks v frames = Some (waiting_in frames (Question v))
 followed Parts v frames = parted v frames
 followed Closes v frames = closed v frames
 
 abbrev pub following : Number → List Frame → Follow → Option State
 following v frames follow = let held = reduced (follow_level follow) v frames in followed follow held.0 held.1
-
--- with one more frame an operand is wanted
-abbrev pub waiting_in : List Frame → Frame → State
-waiting_in frames frame = (None, frame ∷ frames)
 
 abbrev pub step : Option Number → List Frame → Item → Option State
 step None frames (item.Operand n) = Some (Some n, frames)

@@ -133,6 +133,23 @@ fn applied(frame: Frame, operand: Number) -> Number
     }
 }
 
+/// The condition of a `?` that waits.
+pub fn asked(frame: Frame) -> Option<Number>
+    ensures { result ≡ spec.asked frame }
+{
+    match frame {
+        Frame::Question(condition) => Some(condition),
+        Frame::Group | Frame::Prefix(_) | Frame::Between(_, _) | Frame::Colon(_, _) => None,
+    }
+}
+
+/// Whether a frame is a `(`.
+pub fn is_group(frame: Frame) -> bool
+    ensures { result ≡ spec.is_group frame }
+{
+    matches!(frame, Frame::Group)
+}
+
 /// What operands and frames became.
 #[derive(Clone, Copy)]
 pub struct Reduced {

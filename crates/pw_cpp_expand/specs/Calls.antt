@@ -5,8 +5,11 @@ use Rattle.pw_token.specs.Roles.{spelling}
 use Rattle.pw_token.specs.declared.token.Token.{Token}
 use Rattle.pw_cpp_macros.specs.Definitions.{is_spelled, is_word}
 use Rattle.pw_cpp_macros.specs.declared.definition.Macro.{Macro}
-use Rattle.pw_cpp_expand.specs.Lookahead.{Ahead, At, Faulty, Lexeme, LooksAhead, Mode, Progress}
+use Rattle.pw_cpp_expand.specs.Lookahead.{Ahead, At, Faulty, Lexeme, LooksAhead}
 use Rattle.pw_cpp_expand.specs.declared.progress.ExpandFault.{ExpandFault}
+use Rattle.pw_cpp_expand.specs.declared.progress.Mode.{Mode}
+use Rattle.pw_cpp_expand.specs.declared.progress.Progress.{Progress}
+use Rattle.pw_cpp_sets.specs.Sets.{contains, shared}
 
 abbrev pub is_mark : List ℕ → List ℕ → Lexeme → Bool
 is_mark source bytes lexeme = is_spelled source bytes lexeme.token
@@ -53,13 +56,6 @@ arguments_of [] ([] ∷ []) = []
 arguments_of parameters arguments = arguments
 
 -- ---- the result
-
-abbrev pub contains : List (List ℕ) → List ℕ → Bool
-contains names name = list_any (bytes_eq name) names
-
--- what two sets share
-abbrev pub shared : List (List ℕ) → List (List ℕ) → List (List ℕ)
-shared one other = filter (contains other) one
 
 -- a token of the replacement of a macro whose name stands at a place
 abbrev pub made : List (List ℕ) → ℕ → Token → Lexeme

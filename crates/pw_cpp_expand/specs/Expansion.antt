@@ -6,10 +6,14 @@ use Rattle.pw_token.specs.declared.token.Token.{Token}
 use Rattle.pw_cpp_macros.specs.Definitions.{is_spelled, is_word}
 use Rattle.pw_cpp_macros.specs.Macros.{Macros, find}
 use Rattle.pw_cpp_macros.specs.declared.definition.Macro.{Macro}
-use Rattle.pw_cpp_expand.specs.Calls.{Called, Closed, Open, Fails, Collects, arguments_of, contains, is_mark, is_used, made, passed, shared}
-use Rattle.pw_cpp_expand.specs.Lookahead.{Ahead, At, Faulty, Lexeme, LooksAhead, Mode, InText, Alone, Progress, output_limit}
+use Rattle.pw_cpp_expand.specs.Calls.{Called, Closed, Open, Fails, Collects, arguments_of, is_mark, is_used, made, passed}
+use Rattle.pw_cpp_expand.specs.Lookahead.{Ahead, At, Faulty, Lexeme, LooksAhead, output_limit}
 use Rattle.pw_cpp_expand.specs.declared.progress.ExpandFault.{ExpandFault}
 use Rattle.pw_cpp_expand.specs.declared.progress.ExpandFault.TheVariants.{Call, Length, Produced}
+use Rattle.pw_cpp_expand.specs.declared.progress.Mode.{Mode}
+use Rattle.pw_cpp_expand.specs.declared.progress.Mode.TheVariants.{InText, Alone}
+use Rattle.pw_cpp_expand.specs.declared.progress.Progress.{Progress}
+use Rattle.pw_cpp_sets.specs.Sets.{contains, shared}
 
 -- tokens that replacements may produce
 abbrev pub produced_limit : ℕ

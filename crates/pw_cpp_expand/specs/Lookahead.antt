@@ -6,9 +6,14 @@ use Rattle.pw_cpp_lines.specs.Lines.{Lexes}
 use Rattle.pw_cpp_lines.specs.Passing.{PassesRest}
 use Rattle.pw_cpp_lines.specs.declared.head.Head.TheVariants as head
 use Rattle.pw_cpp_lines.specs.declared.head.Span.{Span}
+use Rattle.pw_cpp_lines.specs.declared.line.LineFault.{LineFault}
+use Rattle.pw_cpp_lines.specs.declared.line.LineFault.TheVariants as no
 use Rattle.pw_cpp_lines.specs.declared.line.LineFault.TheVariants.{Bad}
 use Rattle.pw_cpp_expand.specs.declared.progress.ExpandFault.{ExpandFault}
-use Rattle.pw_cpp_expand.specs.declared.progress.ExpandFault.TheVariants.{Lex, Length}
+use Rattle.pw_cpp_expand.specs.declared.progress.ExpandFault.TheVariants.{Lex, Length, NoMemory}
+use Rattle.pw_cpp_expand.specs.declared.progress.Mode.{Mode}
+use Rattle.pw_cpp_expand.specs.declared.progress.Mode.TheVariants.{InText, Alone}
+use Rattle.pw_cpp_expand.specs.declared.progress.Progress.{Progress}
 
 -- a token that may not be replaced by the names in its set, at the place where it stands: its own, or that of the macro's name
 -- that it came from
@@ -25,18 +30,10 @@ fresh token = record { token = token; hidden = []; place = token.at }
 abbrev pub output_limit : ℕ
 output_limit = 1048576
 
--- How far a text has come: the place of the next line; where the text lines begin that were read; how many tokens replacements have
--- produced; and how long the output is.
-pub record Progress : Type 0 where
-  pub next : ℕ
-  pub rows : List ℕ
-  pub produced : ℕ
-  pub size : ℕ
-
--- Text lines are read on; or there are none, in an argument by itself and in `#if`.
-pub data Mode : Type 0 where
-  InText : Mode
-  Alone : Mode
+-- the fault of a line that has to be read
+abbrev pub of_line : LineFault → ExpandFault
+of_line (Bad place) = Lex place
+of_line no.NoMemory = NoMemory
 
 -- ---- the next line
 

@@ -1,5 +1,9 @@
 //! The arguments of a call.
 
+ghost use Rattle.std.specs.Prelude.{◌≡◌, ◌≤◌, ◌++◌, ◌∷◌, [], length, OnOk, IfOk};
+ghost use Rattle.pw_cpp_expand.specs.Calls as spec;
+ghost use Rattle.pw_cpp_expand.specs.Numbered.{AnswersCall};
+
 use crate::ahead::look_ahead;
 use crate::progress::{ExpandFault, Lexeme, Mode, Progress};
 use pw_cpp_macros::is_spelled;
@@ -42,7 +46,10 @@ struct Collected {
 }
 
 /// Begins another argument.
-fn next_argument(alloc: Global, collected: &mut Collected) -> Result<(), AllocError> {
+fn next_argument(alloc: Global, collected: &mut Collected) -> Result<(), AllocError>
+    ensures whole { OnOk result (collected.new.whole ≡ collected.old.whole ++ collected.old.last ∷ []) }
+    ensures last { OnOk result (collected.new.last ≡ []) }
+{
     let mut last = Items::new(alloc);
     std::mem::swap(&mut last, &mut collected.last);
     collected.whole.push(last)
@@ -56,7 +63,11 @@ pub fn collect(
     mode: Mode,
     pending: &mut Items<Lexeme>,
     progress: &mut Progress,
-) -> Result<Option<Arguments>, ExpandFault> {
+) -> Result<Option<Arguments>, ExpandFault>
+    requires { progress.old.next ≤ length text.now }
+    ensures answers { AnswersCall source.now text.now mode pending.old progress.old pending.new progress.new result }
+    ensures within { progress.new.next ≤ length text.now }
+{
     let mut collected = Collected {
         whole: Items::new(alloc),
         last: Items::new(alloc),
@@ -81,7 +92,9 @@ pub fn collect(
     }
 }
 
-fn closed(collected: Collected, close: Lexeme) -> Result<Arguments, AllocError> {
+fn closed(collected: Collected, close: Lexeme) -> Result<Arguments, AllocError>
+    ensures { IfOk result (λ found. (found.arguments ≡ collected.whole ++ collected.last ∷ []) × (found.close ≡ close)) }
+{
     let Collected { whole, last } = collected;
     let mut arguments = whole;
     arguments.push(last)?;

@@ -1,5 +1,12 @@
 //! Expansion of tokens, on a stack of open calls.
 
+ghost use Rattle.std.specs.Prelude.{◌≡◌, ◌≤◌, ◌<◌, ◌++◌, ◌∷◌, [], length, map, reverse, option_map, All, IfOk, IfSome, IsTrue, ◌↔◌};
+ghost use Rattle.pw_cpp_expand.specs.AtHand.{AnswersExpansion, ComesTo, IsCallKnown, IsCallOpened, IsKnown, IsReplacedBy, IsStepTo, IsWaiting, IsWithinLimits, PutsOut, PutsResult, mode_at};
+ghost use Rattle.pw_cpp_expand.specs.Expansion as spec;
+ghost use Rattle.pw_cpp_expand.specs.Lookahead as ahead;
+ghost use Rattle.pw_cpp_expand.specs.Numbered.{AreKnown, HaveEmpty, all_named, at_hand, named};
+ghost use Rattle.pw_cpp_sets.specs.Sets.{Keeps, Known};
+
 use crate::ahead::{look_ahead, put_fresh};
 use crate::arguments::collect;
 use crate::progress::{ExpandFault, Lexeme, Mode, OUTPUT_LIMIT, PRODUCED_LIMIT, Progress};
@@ -52,7 +59,10 @@ struct Ground<'a, 'm> {
     macros: &'m Macros<'a>,
 }
 
-fn macro_of<'a, 'm>(ground: Ground<'a, 'm>, sets: &Sets<'a>, lexeme: Lexeme) -> Option<&'m Macro> {
+fn macro_of<'a, 'm>(ground: Ground<'a, 'm>, sets: &Sets<'a>, lexeme: Lexeme) -> Option<&'m Macro>
+    requires { lexeme.hidden < length sets.now }
+    ensures { option_map (λ found. found.now) result ≡ spec.macro_of ground.source.now ground.macros.now (named sets.now lexeme) }
+{
     if !is_word(lexeme.token) {
         return None;
     }
@@ -64,12 +74,17 @@ fn macro_of<'a, 'm>(ground: Ground<'a, 'm>, sets: &Sets<'a>, lexeme: Lexeme) -> 
 }
 
 impl<'m> Expander<'m> {
-    fn mode(&self) -> Mode {
+    fn mode(&self) -> Mode
+        ensures { result ≡ mode_at self.now }
+    {
         if self.calls.is_empty() { self.mode } else { Mode::Alone }
     }
 
     /// Lets a token stand.
-    fn put_out(&mut self, lexeme: Lexeme, progress: &mut Progress) -> Result<(), ExpandFault> {
+    fn put_out(&mut self, lexeme: Lexeme, progress: &mut Progress) -> Result<(), ExpandFault>
+        requires { progress.old.size ≤ spec.output_limit }
+        ensures { PutsOut lexeme self.old progress.old self.new progress.new result }
+    {
         if self.mode() == Mode::InText {
             let room = lexeme.token.len + 1;
             if OUTPUT_LIMIT - progress.size < room {
@@ -84,18 +99,28 @@ impl<'m> Expander<'m> {
     /// Puts what replaces a name or a call in front of the tokens at hand.
     fn put_result(
         &mut self,
-        result: &[Lexeme],
+        made: Items<Lexeme>,
         place: usize,
         progress: &mut Progress,
-    ) -> Result<(), ExpandFault> {
-        if PRODUCED_LIMIT - progress.produced < result.len() {
+    ) -> Result<(), ExpandFault>
+        requires { progress.old.produced ≤ spec.produced_limit }
+        ensures { PutsResult made place self.old progress.old self.new progress.new result }
+    {
+        if PRODUCED_LIMIT - progress.produced < made.len() {
             return Err(ExpandFault::Produced { at: place });
         }
-        progress.produced += result.len();
-        let mut left = result;
-        while let [before @ .., lexeme] = left {
-            self.pending.push(*lexeme)?;
-            left = before;
+        progress.produced += made.len();
+        self.put_in_front(made)?;
+        Ok(())
+    }
+
+    /// Puts tokens in front of those at hand.
+    fn put_in_front(&mut self, tokens: Items<Lexeme>) -> Result<(), AllocError>
+        ensures { IfOk result (λ _. self.new ≡ record self.old { pending = self.old.pending ++ reverse tokens }) }
+    {
+        let mut tokens = tokens;
+        while let Some(lexeme) = tokens.pop() {
+            self.pending.push(lexeme)?;
         }
         Ok(())
     }
@@ -107,7 +132,18 @@ impl<'m> Expander<'m> {
         sets: &mut Sets<'a>,
         call: Call<'m>,
         progress: &mut Progress,
-    ) -> Result<(), ExpandFault> {
+    ) -> Result<(), ExpandFault>
+        requires within { progress.old.next ≤ length ground.text.now }
+        requires known { IsKnown sets.old self.old }
+        requires limits { IsWithinLimits progress.old }
+        requires call { IsCallKnown sets.old call }
+        requires waiting { call.waiting ≡ [] }
+        requires pending { self.old.pending ≡ [] }
+        ensures keeps { Keeps sets.old sets.new }
+        ensures within { progress.new.next ≤ length ground.text.now }
+        ensures known { IfOk result (λ _. IsKnown sets.new self.new × IsWithinLimits progress.new) }
+        ensures comes { IsStepTo (λ outcome. IsReplacedBy ground.source.now ground.text.now ground.macros.now sets.old self.old call progress.old outcome) ground.source.now ground.text.now ground.macros.now sets.new self.new progress.new result }
+    {
         let result = result_of(
             ground.alloc,
             ground.source,
@@ -118,7 +154,7 @@ impl<'m> Expander<'m> {
         )?;
         self.pending = call.behind;
         self.out = call.before;
-        self.put_result(result.as_slice(), call.replaced.place, progress)
+        self.put_result(result, call.replaced.place, progress)
     }
 
     /// Goes on with the innermost call behind the argument that is expanded.
@@ -128,7 +164,17 @@ impl<'m> Expander<'m> {
         sets: &mut Sets<'a>,
         call: Call<'m>,
         progress: &mut Progress,
-    ) -> Result<(), ExpandFault> {
+    ) -> Result<(), ExpandFault>
+        requires within { progress.old.next ≤ length ground.text.now }
+        requires known { IsKnown sets.old self.old }
+        requires limits { IsWithinLimits progress.old }
+        requires call { IsCallKnown sets.old call }
+        requires pending { self.old.pending ≡ [] }
+        ensures keeps { Keeps sets.old sets.new }
+        ensures within { progress.new.next ≤ length ground.text.now }
+        ensures known { IfOk result (λ _. IsKnown sets.new self.new × IsWithinLimits progress.new) }
+        ensures comes { IsStepTo (λ outcome. ComesTo ground.source.now ground.text.now ground.macros.now sets.old (record self.old { calls = self.old.calls ++ call ∷ [] }) progress.old outcome) ground.source.now ground.text.now ground.macros.now sets.new self.new progress.new result }
+    {
         let mut call = call;
         let mut tokens = Items::new(ground.alloc);
         std::mem::swap(&mut tokens, &mut self.out);
@@ -140,20 +186,18 @@ impl<'m> Expander<'m> {
             None => self.replace_call(ground, sets, call, progress),
             Some(next) => {
                 call.parameter = next.parameter;
-                self.begin_argument(call, next.tokens.as_slice())
+                Ok(self.begin_argument(call, next.tokens)?)
             }
         }
     }
 
     /// Begins with an argument of a call.
-    fn begin_argument(&mut self, call: Call<'m>, tokens: &[Lexeme]) -> Result<(), ExpandFault> {
+    fn begin_argument(&mut self, call: Call<'m>, tokens: Items<Lexeme>) -> Result<(), AllocError>
+        requires pending { self.old.pending ≡ [] }
+        ensures { IfOk result (λ _. self.new ≡ record self.old { calls = self.old.calls ++ call ∷ []; pending = reverse tokens }) }
+    {
         self.calls.push(call)?;
-        let mut left = tokens;
-        while let [before @ .., lexeme] = left {
-            self.pending.push(*lexeme)?;
-            left = before;
-        }
-        Ok(())
+        self.put_in_front(tokens)
     }
 
     /// Replaces the name of a macro that takes no arguments.
@@ -164,7 +208,18 @@ impl<'m> Expander<'m> {
         name: Lexeme,
         meaning: &Macro,
         progress: &mut Progress,
-    ) -> Result<(), ExpandFault> {
+    ) -> Result<(), ExpandFault>
+        requires within { progress.old.next ≤ length ground.text.now }
+        requires known { IsKnown sets.old self.old }
+        requires limits { IsWithinLimits progress.old }
+        requires name { name.hidden < length sets.old }
+        requires meant { spec.macro_of ground.source.now ground.macros.now (named sets.old name) ≡ Some meaning.now }
+        requires alone { meaning.now.parameters ≡ None }
+        ensures keeps { Keeps sets.old sets.new }
+        ensures within { progress.new.next ≤ length ground.text.now }
+        ensures known { IfOk result (λ _. IsKnown sets.new self.new × IsWithinLimits progress.new) }
+        ensures comes { IsStepTo (λ outcome. ComesTo ground.source.now ground.text.now ground.macros.now sets.old (record self.old { pending = self.old.pending ++ name ∷ [] }) progress.old outcome) ground.source.now ground.text.now ground.macros.now sets.new self.new progress.new result }
+    {
         let spelling = spelled(ground.source, name.token);
         let replaced = Replaced {
             hidden: sets.with_name(spelling, name.hidden)?,
@@ -172,7 +227,7 @@ impl<'m> Expander<'m> {
         };
         let replacement = meaning.replacement.as_slice();
         let result = result_of(ground.alloc, ground.source, sets, replaced, &[], replacement)?;
-        self.put_result(result.as_slice(), name.place, progress)
+        self.put_result(result, name.place, progress)
     }
 
     /// Begins with a call, behind its `(`.
@@ -184,14 +239,25 @@ impl<'m> Expander<'m> {
         meaning: &'m Macro,
         parameters: &[Token],
         progress: &mut Progress,
-    ) -> Result<(), ExpandFault> {
+    ) -> Result<(), ExpandFault>
+        requires within { progress.old.next ≤ length ground.text.now }
+        requires known { IsKnown sets.old self.old }
+        requires limits { IsWithinLimits progress.old }
+        requires name { name.hidden < length sets.old }
+        requires meant { spec.macro_of ground.source.now ground.macros.now (named sets.old name) ≡ Some meaning.now }
+        requires parameters { meaning.now.parameters ≡ Some parameters.now }
+        ensures keeps { Keeps sets.old sets.new }
+        ensures within { progress.new.next ≤ length ground.text.now }
+        ensures known { IfOk result (λ _. IsKnown sets.new self.new × IsWithinLimits progress.new) }
+        ensures comes { IsStepTo (λ outcome. IsCallOpened ground.source.now ground.text.now ground.macros.now sets.old self.old name progress.old outcome) ground.source.now ground.text.now ground.macros.now sets.new self.new progress.new result }
+    {
         let fault = ExpandFault::Call { at: name.place };
         let mode = self.mode();
         let Ground { alloc, source, text, .. } = ground;
         let Some(found) = collect(alloc, source, text, mode, &mut self.pending, progress)? else {
             return Err(fault);
         };
-        let Some(waiting) = waiting_of(alloc, source, parameters, meaning, found.arguments)? else {
+        let Some(waiting) = waiting_of(alloc, source, parameters, meaning.replacement.as_slice(), found.arguments)? else {
             return Err(fault);
         };
         let shared = sets.shared(alloc, name.hidden, found.close.hidden)?;
@@ -219,7 +285,7 @@ impl<'m> Expander<'m> {
             Some(raw) => {
                 let mut call = call;
                 call.parameter = raw.parameter;
-                self.begin_argument(call, raw.tokens.as_slice())
+                Ok(self.begin_argument(call, raw.tokens)?)
             }
         }
     }
@@ -233,7 +299,18 @@ impl<'m> Expander<'m> {
         meaning: &'m Macro,
         parameters: &[Token],
         progress: &mut Progress,
-    ) -> Result<(), ExpandFault> {
+    ) -> Result<(), ExpandFault>
+        requires within { progress.old.next ≤ length ground.text.now }
+        requires known { IsKnown sets.old self.old }
+        requires limits { IsWithinLimits progress.old }
+        requires name { name.hidden < length sets.old }
+        requires meant { spec.macro_of ground.source.now ground.macros.now (named sets.old name) ≡ Some meaning.now }
+        requires parameters { meaning.now.parameters ≡ Some parameters.now }
+        ensures keeps { Keeps sets.old sets.new }
+        ensures within { progress.new.next ≤ length ground.text.now }
+        ensures known { IfOk result (λ _. IsKnown sets.new self.new × IsWithinLimits progress.new) }
+        ensures comes { IsStepTo (λ outcome. ComesTo ground.source.now ground.text.now ground.macros.now sets.old (record self.old { pending = self.old.pending ++ name ∷ [] }) progress.old outcome) ground.source.now ground.text.now ground.macros.now sets.new self.new progress.new result }
+    {
         let mode = self.mode();
         look_ahead(ground.alloc, ground.text, mode, &mut self.pending, progress)?;
         match self.pending.pop() {
@@ -254,7 +331,16 @@ impl<'m> Expander<'m> {
         sets: &mut Sets<'a>,
         lexeme: Lexeme,
         progress: &mut Progress,
-    ) -> Result<(), ExpandFault> {
+    ) -> Result<(), ExpandFault>
+        requires within { progress.old.next ≤ length ground.text.now }
+        requires known { IsKnown sets.old self.old }
+        requires limits { IsWithinLimits progress.old }
+        requires lexeme { lexeme.hidden < length sets.old }
+        ensures keeps { Keeps sets.old sets.new }
+        ensures within { progress.new.next ≤ length ground.text.now }
+        ensures known { IfOk result (λ _. IsKnown sets.new self.new × IsWithinLimits progress.new) }
+        ensures comes { IsStepTo (λ outcome. ComesTo ground.source.now ground.text.now ground.macros.now sets.old (record self.old { pending = self.old.pending ++ lexeme ∷ [] }) progress.old outcome) ground.source.now ground.text.now ground.macros.now sets.new self.new progress.new result }
+    {
         let Some(meaning) = macro_of(ground, sets, lexeme) else {
             return self.put_out(lexeme, progress);
         };
@@ -277,7 +363,17 @@ impl<'m> Expander<'m> {
         ground: Ground<'a, 'm>,
         sets: &mut Sets<'a>,
         progress: &mut Progress,
-    ) -> Result<(), ExpandFault> {
+    ) -> Result<(), ExpandFault>
+        requires within { progress.old.next ≤ length ground.text.now }
+        requires known { IsKnown sets.old self.old }
+        requires limits { IsWithinLimits progress.old }
+        requires empty { HaveEmpty sets.old }
+        ensures keeps { Keeps sets.old sets.new }
+        ensures within { progress.new.next ≤ length ground.text.now }
+        ensures known { IfOk result (λ _. IsKnown sets.new self.new × IsWithinLimits progress.new) }
+        ensures done { IfOk result (λ _. (self.new.pending ≡ []) × (self.new.calls ≡ [])) }
+        ensures comes { IsStepTo (λ outcome. ComesTo ground.source.now ground.text.now ground.macros.now sets.old self.old progress.old outcome) ground.source.now ground.text.now ground.macros.now sets.new self.new progress.new result }
+    {
         loop {
             match self.pending.pop() {
                 Some(lexeme) => self.expand_one(ground, sets, lexeme, progress)?,
@@ -296,33 +392,36 @@ fn waiting_of(
     alloc: Global,
     source: &[u8],
     parameters: &[Token],
-    meaning: &Macro,
+    replacement: &[Token],
     arguments: Items<Items<Lexeme>>,
-) -> Result<Option<Items<Raw>>, AllocError> {
+) -> Result<Option<Items<Raw>>, AllocError>
+    ensures waits { (known : Known) → IfOk result (IsWaiting source.now known parameters.now replacement.now arguments) }
+    ensures known { (known : Known) → All (AreKnown known) arguments → IfOk result (λ found. IfSome found (All (λ raw. AreKnown known raw.tokens))) }
+{
     let mut arguments = arguments;
+    if parameters.is_empty() && is_one_empty(&arguments) {
+        arguments.pop();
+    }
+    if arguments.len() != parameters.len() {
+        return Ok(None);
+    }
     let mut waiting = Items::new(alloc);
-    let mut left = parameters;
-    while let [before @ .., parameter] = left {
-        let Some(tokens) = arguments.pop() else {
-            return Ok(None);
-        };
-        if is_used(source, meaning.replacement.as_slice(), *parameter) {
+    for parameter in parameters.iter().rev() {
+        if let Some(tokens) = arguments.pop() && is_used(source, replacement, *parameter) {
             waiting.push(Raw {
                 parameter: *parameter,
                 tokens,
             })?;
         }
-        left = before;
     }
-    // A macro without parameters has one argument, which is empty.
-    if parameters.is_empty() {
-        let alone = arguments.len() == 1;
-        return match arguments.pop() {
-            Some(tokens) if alone && tokens.is_empty() => Ok(Some(waiting)),
-            _ => Ok(None),
-        };
-    }
-    Ok(if arguments.is_empty() { Some(waiting) } else { None })
+    Ok(Some(waiting))
+}
+
+/// Whether there is one argument alone, which is empty.
+fn is_one_empty(arguments: &Items<Items<Lexeme>>) -> bool
+    ensures { IsTrue result ↔ (arguments.now ≡ [] ∷ []) }
+{
+    matches!(arguments.as_slice(), [argument] if argument.is_empty())
 }
 
 /// The tokens of a text line with what its calls read further, expanded.
@@ -332,12 +431,25 @@ pub fn expand_text<'a>(
     text: &'a [u8],
     macros: &Macros<'a>,
     sets: &mut Sets<'a>,
-    tokens: &[Token],
+    tokens: Items<Token>,
     progress: &mut Progress,
-) -> Result<Items<Lexeme>, ExpandFault> {
+) -> Result<Items<Lexeme>, ExpandFault>
+    requires within { progress.old.next ≤ length text.now }
+    requires limits { IsWithinLimits progress.old }
+    requires empty { HaveEmpty sets.old }
+    ensures keeps { Keeps sets.old sets.new }
+    ensures within { progress.new.next ≤ length text.now }
+    ensures known { IfOk result (λ out. AreKnown sets.new out × IsWithinLimits progress.new) }
+    ensures answers { AnswersExpansion source.now text.now macros.now Mode.InText sets.new (map ahead.fresh tokens) progress.old progress.new result }
+{
     let mut pending = Items::new(alloc);
     put_fresh(tokens, &mut pending)?;
-    let ground = Ground { alloc, source, text, macros };
+    let ground = Ground {
+        alloc,
+        source,
+        text,
+        macros,
+    };
     expanded(ground, sets, Mode::InText, pending, progress)
 }
 
@@ -347,11 +459,37 @@ pub fn expand_alone<'a>(
     source: &'a [u8],
     macros: &Macros<'a>,
     sets: &mut Sets<'a>,
-    pending: Items<Lexeme>,
+    tokens: Items<Lexeme>,
     progress: &mut Progress,
-) -> Result<Items<Lexeme>, ExpandFault> {
-    let ground = Ground { alloc, source, text: source, macros };
-    expanded(ground, sets, Mode::Alone, pending, progress)
+) -> Result<Items<Lexeme>, ExpandFault>
+    requires within { progress.old.next ≤ length source.now }
+    requires limits { IsWithinLimits progress.old }
+    requires empty { HaveEmpty sets.old }
+    requires known { AreKnown sets.old tokens }
+    ensures keeps { Keeps sets.old sets.new }
+    ensures within { progress.new.next ≤ length source.now }
+    ensures known { IfOk result (λ out. AreKnown sets.new out × IsWithinLimits progress.new) }
+    ensures answers { AnswersExpansion source.now source.now macros.now Mode.Alone sets.new (all_named sets.old tokens) progress.old progress.new result }
+{
+    let ground = Ground {
+        alloc,
+        source,
+        text: source,
+        macros,
+    };
+    expanded(ground, sets, Mode::Alone, turned(alloc, tokens)?, progress)
+}
+
+/// Tokens with the last one first, as those at hand are kept.
+fn turned(alloc: Global, tokens: Items<Lexeme>) -> Result<Items<Lexeme>, AllocError>
+    ensures { IfOk result (λ turned. turned ≡ reverse tokens) }
+{
+    let mut tokens = tokens;
+    let mut turned = Items::new(alloc);
+    while let Some(token) = tokens.pop() {
+        turned.push(token)?;
+    }
+    Ok(turned)
 }
 
 fn expanded<'a, 'm>(
@@ -360,7 +498,16 @@ fn expanded<'a, 'm>(
     mode: Mode,
     pending: Items<Lexeme>,
     progress: &mut Progress,
-) -> Result<Items<Lexeme>, ExpandFault> {
+) -> Result<Items<Lexeme>, ExpandFault>
+    requires within { progress.old.next ≤ length ground.text.now }
+    requires limits { IsWithinLimits progress.old }
+    requires empty { HaveEmpty sets.old }
+    requires known { AreKnown sets.old pending }
+    ensures keeps { Keeps sets.old sets.new }
+    ensures within { progress.new.next ≤ length ground.text.now }
+    ensures known { IfOk result (λ out. AreKnown sets.new out × IsWithinLimits progress.new) }
+    ensures answers { AnswersExpansion ground.source.now ground.text.now ground.macros.now mode sets.new (at_hand sets.old pending) progress.old progress.new result }
+{
     let mut expander = Expander {
         mode,
         pending,

@@ -7,5 +7,6 @@ mod expansion;
 mod progress;
 mod result;
 
+pub use ahead::fresh;
 pub use expansion::{Expander, expand_alone, expand_text};
 pub use progress::{ExpandFault, Lexeme, Mode, OUTPUT_LIMIT, PRODUCED_LIMIT, Progress};

@@ -1,5 +1,8 @@
 //! What is expanded, and how far it has come.
 
+ghost use Rattle.std.specs.Prelude.{◌≡◌};
+ghost use Rattle.pw_cpp_expand.specs.Lookahead as spec;
+
 use pw_cpp_lines::LineFault;
 use pw_items::Items;
 use pw_token::Token;
@@ -70,7 +73,9 @@ impl From<AllocError> for ExpandFault {
 }
 
 /// The fault of a line that has to be read.
-pub fn of_line(fault: LineFault) -> ExpandFault {
+pub fn of_line(fault: LineFault) -> ExpandFault
+    ensures { result ≡ spec.of_line fault }
+{
     match fault {
         LineFault::Bad { at } => ExpandFault::Lex { at },
         LineFault::NoMemory => ExpandFault::NoMemory,

@@ -1,3 +1,5 @@
+pub mod Comments
 pub mod Cutting
 pub mod OneLine
-pub mod StepLaws
+pub mod Quotes
+pub mod Walks

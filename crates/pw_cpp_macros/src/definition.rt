@@ -56,27 +56,13 @@ fn is_among(text: &[u8], tokens: &[Token], token: Token) -> bool
     ensures { result ≡ spec.is_among text.now tokens.now token }
 {
     let bytes = spelled(text, token);
-    let mut left = tokens;
-    while let [other, others @ ..] = left {
-        if is_spelled(text, bytes, *other) {
-            return true;
-        }
-        left = others;
-    }
-    false
+    tokens.iter().any(|other| is_spelled(text, bytes, *other))
 }
 
 fn has_hash(text: &[u8], tokens: &[Token]) -> bool
     ensures { result ≡ list_any (spec.is_hash text.now) tokens.now }
 {
-    let mut left = tokens;
-    while let [token, others @ ..] = left {
-        if is_hash(text, *token) {
-            return true;
-        }
-        left = others;
-    }
-    false
+    tokens.iter().any(|token| is_hash(text, *token))
 }
 
 /// Adds a parameter to those that stand before it.

@@ -14,7 +14,10 @@ pub fn spelled<'a>(text: &'a [u8], token: Token) -> &'a [u8]
         return &[];
     }
     let rest = &text[token.at..];
-    &rest[..token.len.min(rest.len())]
+    if token.len < rest.len() {
+        return &rest[..token.len];
+    }
+    rest
 }
 
 /// Whether a token is a word, which may be a keyword.

@@ -1,10 +1,17 @@
 -- Sets by their nodes.
-use Rattle.std.proofs.Common.{◌≡◌, Option, Some, None, slice_get, ℕ, zero, suc, ◌+◌, ◌<◌, ◌≤◌, Bool, true, false, ◌||◌, List, [], ◌∷◌, ◌++◌, length, get_or, map, refl, sym, ap, ◌∙◌, subst, append_assoc, length-append, arith}
-use Rattle.std.proofs.lemmas.List.{append-nil}
+use Rattle.std.proofs.Common.{◌≡◌, Option, Some, None, slice_get, ℕ, zero, suc, ◌+◌, ◌-◌, ◌<◌, ◌≤◌, Bool, true, false, ◌||◌, List, [], ◌∷◌, ◌++◌, length, get_or, map, refl, sym, ap, ◌∙◌, subst, append_assoc, length-append, arith}
+use Rattle.std.proofs.lemmas.List.{append-nil, map-append}
+use Rattle.std.proofs.lemmas.List.Folds.{list_any-append}
+use Rattle.std.proofs.lemmas.Slice.Eq.{bytes_eq-Decides}
+use Rattle.std.specs.Borrow.{Bor}
 use Rattle.std.specs.List.{list_any}
 use Rattle.std.specs.Prelude.{fold, filter, bytes_eq}
-use Rattle.pw_cpp_sets.specs.Sets.{AreBehind, Keeps, Known, Names, contains, set_at, sets_of, shared, with_node}
+use Rattle.pw_cpp_sets.specs.Sets.{AreBehind, IsMadeBy, Keeps, Known, Names, contains, set_at, sets_of, shared, with_node}
 use Rattle.pw_cpp_sets.specs.declared.sets.Node.{Node}
+
+-- a name as contracts see it
+abbrev pub said : Bor (List ℕ) → List ℕ
+said name = name.now
 
 -- ---- what is known stays
 
@@ -94,26 +101,79 @@ node-in (n ∷ nodes) known count l h (suc k) node e =
     let Q : ℕ → Type 0 = λ x. MakesSet (fold with_node (with_node known n) nodes) (suc (suc count) + k) node x in
     subst P (omega arith) (subst Q (omega arith) r)
 
--- the set of a number above 0 has the name of its node and the set that the node names, which is known before
-pub node-set : (nodes : List Node) (k : ℕ) (node : Node) → AreBehind 0 nodes → slice_get nodes k ≡ Some node → MakesSet (sets_of nodes) (suc k) node k
-node-set nodes k node h e =
-    let r = node-in nodes ([] ∷ []) 0 refl h k node e in
-    let P : ℕ → Type 0 = λ x. MakesSet (sets_of nodes) x node k in
-    let Q : ℕ → Type 0 = λ x. MakesSet (sets_of nodes) (suc 0 + k) node x in
-    subst P (omega arith) (subst Q (omega arith) r)
+-- a node makes the set of its number
+pub made-by : (nodes : List Node) (set : ℕ) (node : Node) → AreBehind 0 nodes → 0 < set → slice_get nodes (set - 1) ≡ Some node → IsMadeBy nodes set node
+made-by nodes set node h some e =
+    let r = node-in nodes ([] ∷ []) 0 refl h (set - 1) node e in
+    let same : suc 0 + (set - 1) ≡ set = omega (arith, some) in
+    record { adds = ap (set_at (sets_of nodes)) (sym same) ∙ r.is; before = omega (arith, r.before, some) }
+
+-- number 0 is the empty set
+pub empty-set : (nodes : List Node) (set : ℕ) → set ≡ 0 → set_at (sets_of nodes) set ≡ []
+empty-set nodes set e = ap (set_at (sets_of nodes)) e ∙ set-kept ([] ∷ []) (sets_of nodes) 0 (fold-keeps nodes ([] ∷ [])) (omega arith)
 
 -- ---- what steps from a set to the others find
 
--- a name is in a set where it is the first one, or in the others
-pub found-first : (final : Known) (number : ℕ) (node : Node) (most : ℕ) (name : List ℕ) → MakesSet final number node most → bytes_eq name node.name.now ≡ true → contains (set_at final number) name ≡ true
-found-first final number node most name m e = ap (λ x. contains x name) m.is ∙ first
-  where
-    first : (bytes_eq name node.name.now || contains (set_at final node.rest) name) ≡ true
-    first = rw e refl
+module _ (nodes : List Node) (set : ℕ) (node : Node) (m : IsMadeBy nodes set node) where
+  -- a name is in a set where it is the first one, or in the others
+  pub found-first : (name : List ℕ) → bytes_eq name node.name.now ≡ true → contains (set_at (sets_of nodes) set) name ≡ true
+  found-first name e = ap (λ x. contains x name) m.adds ∙ first
+    where
+      first : (bytes_eq name node.name.now || contains (set_at (sets_of nodes) node.rest) name) ≡ true
+      first = rw e refl
 
-pub found-later : (final : Known) (number : ℕ) (node : Node) (most : ℕ) (name : List ℕ) → MakesSet final number node most → bytes_eq name node.name.now ≡ false
-    → contains (set_at final number) name ≡ contains (set_at final node.rest) name
-found-later final number node most name m e = ap (λ x. contains x name) m.is ∙ later
+  pub found-later : (name : List ℕ) → bytes_eq name node.name.now ≡ false → contains (set_at (sets_of nodes) set) name ≡ contains (set_at (sets_of nodes) node.rest) name
+  found-later name e = ap (λ x. contains x name) m.adds ∙ later
+    where
+      later : (bytes_eq name node.name.now || contains (set_at (sets_of nodes) node.rest) name) ≡ contains (set_at (sets_of nodes) node.rest) name
+      later = rw e refl
+
+  -- the names of a set are its first one and those of the others
+  pub names-more : (found : List (Bor (List ℕ))) → map said (found ++ node.name ∷ []) ++ set_at (sets_of nodes) node.rest ≡ map said found ++ set_at (sets_of nodes) set
+  names-more found =
+      ap (λ x. x ++ set_at (sets_of nodes) node.rest) (map-append said found (node.name ∷ []))
+      ∙ append_assoc (map said found) (node.name.now ∷ []) (set_at (sets_of nodes) node.rest)
+      ∙ ap (λ x. map said found ++ x) (sym m.adds)
+
+  pub shared-more : (found : List (Bor (List ℕ))) (other : Names) → contains other node.name.now ≡ true
+      → map said (found ++ node.name ∷ []) ++ shared (set_at (sets_of nodes) node.rest) other ≡ map said found ++ shared (set_at (sets_of nodes) set) other
+  shared-more found other e =
+      ap (λ x. x ++ shared (set_at (sets_of nodes) node.rest) other) (map-append said found (node.name ∷ []))
+      ∙ append_assoc (map said found) (node.name.now ∷ []) (shared (set_at (sets_of nodes) node.rest) other)
+      ∙ ap (λ x. map said found ++ x) (kept ∙ ap (λ x. shared x other) (sym m.adds))
+    where
+      kept : node.name.now ∷ shared (set_at (sets_of nodes) node.rest) other ≡ shared (node.name.now ∷ set_at (sets_of nodes) node.rest) other
+      kept = rw e refl
+
+  pub shared-less : (other : Names) → contains other node.name.now ≡ false → shared (set_at (sets_of nodes) node.rest) other ≡ shared (set_at (sets_of nodes) set) other
+  shared-less other e = dropped ∙ ap (λ x. shared x other) (sym m.adds)
+    where
+      dropped : shared (set_at (sets_of nodes) node.rest) other ≡ shared (node.name.now ∷ set_at (sets_of nodes) node.rest) other
+      dropped = rw e refl
+
+-- nothing is left of the empty set
+pub names-all : (found : List (Bor (List ℕ))) (left whole : Names) → map said found ++ left ≡ whole → left ≡ [] → map said found ≡ whole
+names-all found left whole h e = sym (append-nil (map said found)) ∙ ap (λ x. map said found ++ x) (sym e) ∙ h
+
+-- a set shares all with itself
+all_in : (before names : Names) → filter (contains (before ++ names)) names ≡ names
+all_in before [] = refl
+all_in before (name ∷ names) = by (contains (before ++ name ∷ names) name) refl there (all_in (before ++ name ∷ []) names)
   where
-    later : (bytes_eq name node.name.now || contains (set_at final node.rest) name) ≡ contains (set_at final node.rest) name
-    later = rw e refl
+    there : contains (before ++ name ∷ names) name ≡ true
+    there = list_any-append (bytes_eq name) before (name ∷ names) ∙ ap (λ x. list_any (bytes_eq name) before || (x || list_any (bytes_eq name) names)) ((bytes_eq-Decides name name).1 refl) ∙ or_true (list_any (bytes_eq name) before)
+      where
+        or_true : (b : Bool) → (b || true) ≡ true
+        or_true true = refl
+        or_true false = refl
+
+    by : (b : Bool) → contains (before ++ name ∷ names) name ≡ b → b ≡ true → filter (contains ((before ++ name ∷ []) ++ names)) names ≡ names
+        → filter (contains (before ++ name ∷ names)) (name ∷ names) ≡ name ∷ names
+    by b e t below = rw (e ∙ t) (ap (λ x. name ∷ x) (ap (λ x. filter (contains x) names) (sym (append_assoc before (name ∷ []) names)) ∙ below))
+
+pub shared-self : (names : Names) → shared names names ≡ names
+shared-self names = all_in [] names
+
+-- a name that is put in front of a set, and those before it
+pub names-front : (before : List (Bor (List ℕ))) (name : Bor (List ℕ)) (done : Names) → map said (before ++ name ∷ []) ++ done ≡ map said before ++ name.now ∷ done
+names-front before name done = ap (λ x. x ++ done) (map-append said before (name ∷ [])) ∙ append_assoc (map said before) (name.now ∷ []) done

@@ -1,5 +1,5 @@
 -- Sets of names that are known by numbers: a set is a list of names, of which only membership counts.
-use Rattle.std.specs.Prelude.{◌≡◌, ℕ, suc, ◌≤◌, Bool, List, [], ◌∷◌, ◌++◌, fold, filter, length, bytes_eq, slice_index_or}
+use Rattle.std.specs.Prelude.{◌≡◌, ℕ, suc, ◌<◌, ◌≤◌, Bool, List, [], ◌∷◌, ◌++◌, fold, filter, length, bytes_eq, slice_index_or}
 use Rattle.std.specs.List.{list_any}
 use Rattle.pw_cpp_sets.specs.declared.sets.Node.{Node}
 
@@ -40,3 +40,8 @@ shared one other = filter (contains other) one
 abbrev pub AreBehind : ℕ → List Node → Type 0
 AreBehind count [] = Unit {0}
 AreBehind count (node ∷ nodes) = (node.rest ≤ count) × AreBehind (suc count) nodes
+
+-- The set of a number is made by the node: it has the node's name besides those of the set that the node names, which is known before it.
+pub record IsMadeBy (nodes : List Node) (set : ℕ) (node : Node) : Type 0 where
+  pub adds : set_at (sets_of nodes) set ≡ node.name.now ∷ set_at (sets_of nodes) node.rest
+  pub before : node.rest < set

@@ -1,7 +1,8 @@
 //! Sets of names.
 
-ghost use Rattle.std.specs.Prelude.{◌≡◌, ◌<◌, [], ◌∷◌, ◌++◌, length, map, IfOk, IsTrue};
+ghost use Rattle.std.specs.Prelude.{◌≡◌, ◌<◌, ◌≤◌, [], ◌∷◌, ◌++◌, length, map, IfOk, MatchOption};
 ghost use Rattle.pw_cpp_sets.specs.Sets as spec;
+ghost use Rattle.pw_cpp_sets.specs.Sets.{AreBehind, IsMadeBy, Keeps, set_at, sets_of};
 
 use std::alloc::{AllocError, Global};
 use std::marker::Model;
@@ -21,14 +22,84 @@ pub struct Sets<'a> {
 }
 
 impl<'a> Model for Sets<'a> {
-    ghost use Rattle.pw_cpp_sets.specs.Sets.{Known, sets_of};
-    ghost use Rattle.pw_cpp_sets.specs.Sets.{AreBehind};
+    ghost use Rattle.pw_cpp_sets.specs.Sets.{AreBehind, Known, sets_of};
 
     ghost Value = { Known };
 
     ghost view = { λ inside. sets_of inside.nodes.items };
 
     ghost invariant = { λ inside. AreBehind 0 inside.nodes.items };
+}
+
+/// The node that makes a set, or None for the empty set.
+fn node_of<'a>(nodes: &[Node<'a>], set: usize) -> Option<Node<'a>>
+    requires known { set ≤ length nodes.now }
+    requires behind { AreBehind 0 nodes.now }
+    ensures { MatchOption result (set_at (sets_of nodes.now) set ≡ []) (IsMadeBy nodes.now set) }
+{
+    if set == 0 {
+        return None;
+    }
+    let node = nodes[set - 1];
+    Some(node)
+}
+
+/// Whether a name is in a set.
+fn is_in(nodes: &[Node], set: usize, name: &[u8]) -> bool
+    requires known { set ≤ length nodes.now }
+    requires behind { AreBehind 0 nodes.now }
+    ensures { result ≡ spec.contains (set_at (sets_of nodes.now) set) name.now }
+{
+    let mut number = set;
+    while let Some(node) = node_of(nodes, number) {
+        if name == node.name {
+            return true;
+        }
+        number = node.rest;
+    }
+    false
+}
+
+/// The names of a set, the first one first.
+fn names_of<'a>(
+    alloc: Global,
+    nodes: &[Node<'a>],
+    set: usize,
+) -> Result<Vec<&'a [u8]>, AllocError>
+    requires known { set ≤ length nodes.now }
+    requires behind { AreBehind 0 nodes.now }
+    ensures { IfOk result (λ names. map (λ name. name.now) names.items ≡ set_at (sets_of nodes.now) set) }
+{
+    let mut names = Vec::new(alloc);
+    let mut number = set;
+    while let Some(node) = node_of(nodes, number) {
+        names.push(node.name)?;
+        number = node.rest;
+    }
+    Ok(names)
+}
+
+/// The names of a set that are in another one too.
+fn names_shared<'a>(
+    alloc: Global,
+    nodes: &[Node<'a>],
+    one: usize,
+    other: usize,
+) -> Result<Vec<&'a [u8]>, AllocError>
+    requires one { one ≤ length nodes.now }
+    requires other { other ≤ length nodes.now }
+    requires behind { AreBehind 0 nodes.now }
+    ensures { IfOk result (λ names. map (λ name. name.now) names.items ≡ spec.shared (set_at (sets_of nodes.now) one) (set_at (sets_of nodes.now) other)) }
+{
+    let mut names = Vec::new(alloc);
+    let mut number = one;
+    while let Some(node) = node_of(nodes, number) {
+        if is_in(nodes, other, node.name) {
+            names.push(node.name)?;
+        }
+        number = node.rest;
+    }
+    Ok(names)
 }
 
 impl<'a> Sets<'a> {
@@ -44,55 +115,31 @@ impl<'a> Sets<'a> {
     /// Whether a name is in a set.
     pub fn contains(&self, set: usize, name: &[u8]) -> bool
         requires { set < length self.now }
-        ensures { result ≡ spec.contains (spec.set_at self.now set) name.now }
+        ensures { result ≡ spec.contains (set_at self.now set) name.now }
     {
-        let mut set = set;
-        while set > 0 {
-            let node = self.nodes[set - 1];
-            if node.name == name {
-                return true;
-            }
-            set = node.rest;
-        }
-        false
+        is_in(&self.nodes, set, name)
     }
 
     /// The number of a new set, which has a name and those of a set.
     pub fn with_name(&mut self, name: &'a [u8], set: usize) -> Result<usize, AllocError>
         requires { set < length self.old }
-        ensures keeps { spec.Keeps self.old self.new }
-        ensures number { IfOk result (λ number. (number < length self.new) × (spec.set_at self.new number ≡ name.now ∷ spec.set_at self.old set)) }
+        ensures keeps { Keeps self.old self.new }
+        ensures number { IfOk result (λ number. (number < length self.new) × (set_at self.new number ≡ name.now ∷ set_at self.old set)) }
     {
         self.nodes.push(Node { name, rest: set })?;
         Ok(self.nodes.len())
     }
 
-    /// The names of a set, the first one first.
-    fn names_of(&self, alloc: Global, set: usize) -> Result<Vec<&'a [u8]>, AllocError>
-        requires { set < length self.now }
-        ensures { IfOk result (λ names. map (λ name. name.now) names.items ≡ spec.set_at self.now set) }
-    {
-        let mut names = Vec::new(alloc);
-        let mut set = set;
-        while set > 0 {
-            let node = self.nodes[set - 1];
-            names.push(node.name)?;
-            set = node.rest;
-        }
-        Ok(names)
-    }
-
     /// The number of a set that has these names in front of those of a set.
-    fn with_names(&mut self, names: &[&'a [u8]], set: usize) -> Result<usize, AllocError>
+    fn with_names(&mut self, names: Vec<&'a [u8]>, set: usize) -> Result<usize, AllocError>
         requires { set < length self.old }
-        ensures keeps { spec.Keeps self.old self.new }
-        ensures number { IfOk result (λ number. (number < length self.new) × (spec.set_at self.new number ≡ map (λ name. name.now) names.now ++ spec.set_at self.old set)) }
+        ensures keeps { Keeps self.old self.new }
+        ensures number { IfOk result (λ number. (number < length self.new) × (set_at self.new number ≡ map (λ name. name.now) names.items ++ set_at self.old set)) }
     {
+        let mut names = names;
         let mut number = set;
-        let mut left = names;
-        while let [before @ .., last] = left {
-            number = self.with_name(last, number)?;
-            left = before;
+        while let Some(name) = names.pop() {
+            number = self.with_name(name, number)?;
         }
         Ok(number)
     }
@@ -101,47 +148,24 @@ impl<'a> Sets<'a> {
     pub fn joined(&mut self, alloc: Global, one: usize, other: usize) -> Result<usize, AllocError>
         requires one { one < length self.old }
         requires other { other < length self.old }
-        ensures keeps { spec.Keeps self.old self.new }
-        ensures number { IfOk result (λ number. (number < length self.new) × (spec.set_at self.new number ≡ spec.set_at self.old one ++ spec.set_at self.old other)) }
+        ensures keeps { Keeps self.old self.new }
+        ensures number { IfOk result (λ number. (number < length self.new) × (set_at self.new number ≡ set_at self.old one ++ set_at self.old other)) }
     {
-        let names = self.names_of(alloc, one)?;
-        self.with_names(names.as_slice(), other)
-    }
-
-    /// The names of a set that are in another one too.
-    fn names_shared(
-        &self,
-        alloc: Global,
-        one: usize,
-        other: usize,
-    ) -> Result<Vec<&'a [u8]>, AllocError>
-        requires one { one < length self.now }
-        requires other { other < length self.now }
-        ensures { IfOk result (λ names. map (λ name. name.now) names.items ≡ spec.shared (spec.set_at self.now one) (spec.set_at self.now other)) }
-    {
-        let mut names = Vec::new(alloc);
-        let mut set = one;
-        while set > 0 {
-            let node = self.nodes[set - 1];
-            if self.contains(other, node.name) {
-                names.push(node.name)?;
-            }
-            set = node.rest;
-        }
-        Ok(names)
+        let names = names_of(alloc, &self.nodes, one)?;
+        self.with_names(names, other)
     }
 
     /// The number of a set that has what two sets share.
     pub fn shared(&mut self, alloc: Global, one: usize, other: usize) -> Result<usize, AllocError>
         requires one { one < length self.old }
         requires other { other < length self.old }
-        ensures keeps { spec.Keeps self.old self.new }
-        ensures number { IfOk result (λ number. (number < length self.new) × (spec.set_at self.new number ≡ spec.shared (spec.set_at self.old one) (spec.set_at self.old other))) }
+        ensures keeps { Keeps self.old self.new }
+        ensures number { IfOk result (λ number. (number < length self.new) × (set_at self.new number ≡ spec.shared (set_at self.old one) (set_at self.old other))) }
     {
         if one == other {
             return Ok(one);
         }
-        let names = self.names_shared(alloc, one, other)?;
-        self.with_names(names.as_slice(), 0)
+        let names = names_shared(alloc, &self.nodes, one, other)?;
+        self.with_names(names, 0)
     }
 }

@@ -18,6 +18,10 @@ abbrev pub outcome : Result ℕ WordFault → Option ℕ
 outcome (Ok n) = Some n
 outcome (Err fault) = None
 
+-- what comes of words of unsigned long, or of long
+abbrev pub either_word : Bool → Result ℕ WordFault → Result ℕ WordFault → Option ℕ
+either_word unsigned of_unsigned of_signed = outcome (if unsigned then of_unsigned else of_signed)
+
 -- a truth value as a number
 abbrev pub truth : Bool → ℕ
 truth true = 1
@@ -30,7 +34,7 @@ is_true n = not (n == 0)
 
 abbrev pub unary_word : UnaryOperator → Bool → ℕ → Option ℕ
 unary_word U.Plus unsigned n = Some n
-unary_word U.Minus unsigned n = if unsigned then Some (unsigned_negation n) else outcome (signed_negation n)
+unary_word U.Minus unsigned n = either_word unsigned (Ok (unsigned_negation n)) (signed_negation n)
 unary_word U.Complement unsigned n = Some (complement n)
 unary_word U.Not unsigned n = Some (truth (n == 0))
 
@@ -45,9 +49,6 @@ abbrev pub unary : UnaryOperator → Number → Number
 unary op a = number (keeps_type op && a.unsigned) (option_and_then (unary_word op a.unsigned) a.word)
 
 -- ---- binary operators (6.3.5 to 6.3.12)
-
-abbrev pub either_word : Bool → Result ℕ WordFault → Result ℕ WordFault → Option ℕ
-either_word unsigned of_unsigned of_signed = outcome (if unsigned then of_unsigned else of_signed)
 
 abbrev pub either_truth : Bool → Bool → Bool → Option ℕ
 either_truth unsigned of_unsigned of_signed = Some (truth (if unsigned then of_unsigned else of_signed))

@@ -35,13 +35,23 @@ fn truth(holds: bool) -> u32
     if holds { 1 } else { 0 }
 }
 
+fn either_word(
+    unsigned: bool,
+    of_unsigned: Result<u32, WordFault>,
+    of_signed: Result<u32, WordFault>,
+) -> Option<u32>
+    ensures { result ≡ spec.either_word unsigned of_unsigned of_signed }
+{
+    outcome(if unsigned { of_unsigned } else { of_signed })
+}
+
 fn unary_word(op: UnaryOperator, unsigned: bool, a: u32) -> Option<u32>
     ensures { result ≡ spec.unary_word op unsigned a }
 {
     match op {
         UnaryOperator::Plus => Some(a),
-        UnaryOperator::Minus if unsigned => Some(unsigned_negation(a)),
-        UnaryOperator::Minus => outcome(signed_negation(a)),
+        UnaryOperator::Minus =>
+            either_word(unsigned, Ok(unsigned_negation(a)), signed_negation(a)),
         UnaryOperator::Complement => Some(complement(a)),
         UnaryOperator::Not => Some(truth(a == 0)),
     }
@@ -72,16 +82,6 @@ pub fn unary(op: UnaryOperator, a: Number) -> Number
     let unsigned = keeps_type(op) && a.unsigned;
     let word = unary_result(op, a.unsigned, a.word);
     Number { unsigned, word }
-}
-
-fn either_word(
-    unsigned: bool,
-    of_unsigned: Result<u32, WordFault>,
-    of_signed: Result<u32, WordFault>,
-) -> Option<u32>
-    ensures { result ≡ spec.either_word unsigned of_unsigned of_signed }
-{
-    outcome(if unsigned { of_unsigned } else { of_signed })
 }
 
 fn either_truth(unsigned: bool, of_unsigned: bool, of_signed: bool) -> Option<u32>

@@ -1,15 +1,11 @@
--- Steps over a line that is passed over.
-use Rattle.std.proofs.Common.{◌≡◌, ℕ, zero, suc, ◌+◌, ◌-◌, ◌<◌, ◌≤◌, Bool, true, false, eqb, List, drop, length, get_or, refl, sym, ap, ◌∙◌, subst, inl, inr, arith}
-use Rattle.std.proofs.lemmas.Bool.{eqb-true, cases_lt}
+-- Comments in a line that is passed over.
+use Rattle.std.proofs.Common.{◌≡◌, ℕ, ◌-◌, Bool, true, false, eqb, List, drop, length, get_or, refl, sym, ap, ◌∙◌, arith}
+use Rattle.std.proofs.lemmas.Bool.{eqb-true}
 use Rattle.std.proofs.lemmas.List.{get_or-drop}
 use Rattle.pw_token.specs.Pieces.{piece_at, found_piece}
 use Rattle.pw_token.specs.Scanning.{comment_len}
 use Rattle.pw_token.specs.declared.piece.PieceKind.TheVariants as piece
-use Rattle.pw_cpp_lines.specs.Passing.{Steps, comment_found, is_raw_end, opens_comment, or_else, step_len}
-
-pub steps-more : (text : List ℕ) (at : ℕ) (n mid : ℕ) → Steps text at n mid → is_raw_end text mid ≡ false → Steps text at (suc n) (mid + step_len text mid)
-steps-more text at zero mid h e = let P : ℕ → Type 0 = λ x. Steps text x 1 (mid + step_len text mid) in subst P (sym h) (e, refl)
-steps-more text at (suc n) mid h e = (h.0, steps-more text (at + step_len text at) n mid h.1 e)
+use Rattle.pw_cpp_lines.specs.Passing.{comment_found, opens_comment, or_else, step_len}
 
 -- the comment that is found where one opens
 comment_at : (t : List ℕ) → get_or t 0 0 ≡ 47 → get_or t 1 0 ≡ 42 → comment_found (piece_at false t) ≡ comment_len t
@@ -31,15 +27,6 @@ comment-there text at e = comment_at (drop at text) first second
 
     second : get_or (drop at text) 1 0 ≡ 42
     second = grind (arith, get_or-drop)
-
--- a line that does not end before a place, nor at it
-pub ends-later : (text : List ℕ) (at end : ℕ) → ((k : ℕ) → at ≤ k → k < end → is_raw_end text k ≡ false) → is_raw_end text end ≡ false
-    → (k : ℕ) → at ≤ k → k < end + 1 → is_raw_end text k ≡ false
-ends-later text at end h e k a b =
-    elim (cases_lt k end) [
-      | inl l ↦ h k a l
-      | inr l ↦ let same : k ≡ end = omega (arith, l, b) in ap (is_raw_end text) same ∙ e
-    ]
 
 pub step-comment : (text : List ℕ) (at len r : ℕ) → opens_comment text at ≡ true → len ≡ comment_found (piece_at false (drop at text)) → r ≡ or_else len (length text - at)
     → r ≡ step_len text at

@@ -1,0 +1,11 @@
+use Rattle.std.proofs.Common.{◌≡◌, ◌∙◌, sym, arith}
+use Rattle.pw_cpp_sets.proofs.Nodes.{found-first, found-later}
+use Rattle.pw_cpp_sets.proofs.sets.is_in.Goals as goal
+
+pub loop-node-preserved : goal.loop-node-preserved
+loop-node-preserved c =
+    let made = c.in-Some.ensures in
+    (
+      omega (arith, made.before, c.loop-node.invariant.0),
+      sym (found-later c.args.nodes.now c.loop-node.number c.in-Some.node made c.args.name.now ?) ∙ c.loop-node.invariant.1,
+    )
