@@ -8,7 +8,7 @@ use Rattle.pw_cpp.specs.Directives.{Becomes, Does, Fails, Standing, standing}
 use Rattle.pw_cpp.specs.Files.{Faulted, File, Preprocesses, Read, Reading, ReadsFile, ReadsLines, Result_of, begins, file_named, output_of, text_of, with_standing}
 use Rattle.pw_cpp.specs.declared.file.Reader.{Reader}
 use Rattle.pw_cpp.specs.declared.fault.CppFault.{CppFault}
-use Rattle.pw_cpp.specs.declared.source.Span.{Span}
+use Rattle.pw_cpp.specs.declared.source.Place.{Place}
 use Rattle.pw_cpp.specs.declared.condition.Verdict.{Verdict as Judged}
 use Rattle.pw_cpp.specs.declared.condition.Verdict.TheVariants as judged
 use Rattle.pw_cpp.specs.declared.directive.Directive.{Directive}
@@ -59,7 +59,7 @@ Obeys source digits d old new (Err fault) = IsFaultOf fault (λ f. Does source d
 -- ---- files
 
 -- where files stand in the source, with their names
-abbrev pub files_of : List (List ℕ) → List Span → List File
+abbrev pub files_of : List (List ℕ) → List Place → List File
 files_of (name ∷ names) (span ∷ spans) = record { name = name; from = span.from; end = span.end } ∷ files_of names spans
 files_of _ _ = []
 

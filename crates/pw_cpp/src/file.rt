@@ -13,10 +13,10 @@ use crate::directive::{Directive, Fault, Standing, limit, of_expansion};
 use crate::fault::{CppFault, CppKind, CppWhich};
 use crate::groups::{Section, is_opening, is_turn};
 use crate::header::{DEPTH_LIMIT, HEADER_NAME_LIMIT, is_header};
-use crate::source::{Digits, Source, Span, digits, source_of};
+use crate::source::{Place, Source, digits, source_of};
 use pw_cpp_expand::{Lexeme, OUTPUT_LIMIT, Progress, expand_text};
 use pw_cpp_lines::{
-    Head, Line, LineFault, head_of, header_name, lex_line, pass_line, pass_rest, pass_space,
+    Head, Line, LineFault, Span, head_of, header_name, lex_line, pass_line, pass_rest, pass_space,
 };
 use pw_cpp_macros::{Macros, spelled};
 use pw_cpp_sets::Sets;
@@ -31,20 +31,34 @@ struct Reader<'a> {
     alloc: Global,
     source: &'a [u8],
     files: &'a [(Name, Vec<u8>)],
-    spans: &'a [Span],
+    spans: &'a [Place],
     standing: Standing<'a>,
     out: Vec<u8>,
 }
 
-fn no_memory(place: usize) -> Fault {
+fn no_memory(place: usize) -> Fault
+    ensures { result ≡ fault CppKind.NoMemory place }
+{
     Fault {
         kind: CppKind::NoMemory,
         place,
     }
 }
 
+/// The bytes of a name.
+fn word_of(text: &[u8], name: Span) -> &[u8]
+    requires { name.at + name.len ≤ length text.now }
+    ensures { result.now ≡ name_of text.now name }
+{
+    &text[name.at..name.at + name.len]
+}
+
 impl<'a> Reader<'a> {
-    fn lexed(&self, text: &[u8], at: usize) -> Result<Line, Fault> {
+    fn lexed(&self, text: &[u8], at: usize) -> Result<Line, Fault>
+        requires { at ≤ length text.now }
+        ensures lexes { IsLexed text.now at result }
+        ensures within { IfOk result (λ line. line.next ≤ length text.now) }
+    {
         match lex_line(self.alloc, text, at) {
             Ok(line) => Ok(line),
             Err(LineFault::Bad { at }) => Err(Fault {
@@ -107,16 +121,15 @@ impl<'a> Reader<'a> {
             Head::Text if self.is_reading() => self.read_text(text, at),
             Head::Text => Ok(pass_line(text, at)),
             Head::Directive { hash, name } => {
-                let word = &text[name.at..name.at + name.len];
-                let behind = name.at + name.len;
+                let word = word_of(text, name);
                 if self.is_reading() && word == b"pragma" {
-                    Ok(pass_rest(text, behind))
+                    Ok(pass_rest(text, name.at + name.len))
                 } else if self.is_reading() && word == b"include" {
-                    self.include(text, hash, behind, depth)
+                    self.include(text, at, hash, name, depth)
                 } else if self.is_reading() || (self.standing.nested.is_empty() && is_turn(word)) {
-                    self.obey(text, hash, word)
+                    self.obey(text, at, hash, name)
                 } else {
-                    self.pass_directive(text, at, hash, word)
+                    self.pass_directive(text, at, hash, name)
                 }
             }
         }
@@ -128,8 +141,17 @@ impl<'a> Reader<'a> {
         text: &[u8],
         at: usize,
         hash: usize,
-        word: &[u8],
-    ) -> Result<usize, Fault> {
+        name: Span,
+    ) -> Result<usize, Fault>
+        requires place { at < length text.now }
+        requires head { IsHead text.now at (Head.Directive hash name) }
+        requires passed { is_looked_at_by self.old (name_of text.now name) ≡ false }
+        requires within { IsWithin self.old }
+        ensures keeps { Keeps self.old self.new }
+        ensures within { IfOk result (λ next. IsWithin self.new × (at < next) × (next ≤ length text.now)) }
+        ensures steps { (depth : ℕ) (file : File) → IsRead self.old file text.now → StepsFile digits_of depth file at self.old self.new result }
+    {
+        let word = word_of(text, name);
         let nested = &mut self.standing.nested;
         if is_opening(word) {
             if nested.push(false).is_err() {
@@ -151,7 +173,16 @@ impl<'a> Reader<'a> {
     }
 
     /// Obeys a directive whose line lexes whole.
-    fn obey(&mut self, text: &'a [u8], hash: usize, word: &[u8]) -> Result<usize, Fault> {
+    fn obey(&mut self, text: &'a [u8], at: usize, hash: usize, name: Span) -> Result<usize, Fault>
+        requires place { at < length text.now }
+        requires head { IsHead text.now at (Head.Directive hash name) }
+        requires read { is_lexed_whole_by self.old (name_of text.now name) ≡ true }
+        requires within { IsWithin self.old }
+        ensures keeps { Keeps self.old self.new }
+        ensures within { IfOk result (λ next. IsWithin self.new × (at < next) × (next ≤ length text.now)) }
+        ensures steps { (depth : ℕ) (file : File) → IsRead self.old file text.now → StepsFile digits_of depth file at self.old self.new result }
+    {
+        let word = word_of(text, name);
         let line = self.lexed(text, hash)?;
         let next = line.next;
         let wrong = Fault {
@@ -174,7 +205,15 @@ impl<'a> Reader<'a> {
     }
 
     /// Reads a text line with what its calls read further, and puts out what it comes to.
-    fn read_text(&mut self, text: &'a [u8], at: usize) -> Result<usize, Fault> {
+    fn read_text(&mut self, text: &'a [u8], at: usize) -> Result<usize, Fault>
+        requires place { at < length text.now }
+        requires head { IsHead text.now at Head.Text }
+        requires read { is_reading (reverse self.old.standing.sections) ≡ true }
+        requires within { IsWithin self.old }
+        ensures keeps { Keeps self.old self.new }
+        ensures within { IfOk result (λ next. IsWithin self.new × (at < next) × (next ≤ length text.now)) }
+        ensures steps { (depth : ℕ) (file : File) → IsRead self.old file text.now → StepsFile digits_of depth file at self.old self.new result }
+    {
         let line = self.lexed(text, at)?;
         let size = self.out.len();
         if OUTPUT_LIMIT <= size {
@@ -205,7 +244,11 @@ impl<'a> Reader<'a> {
     }
 
     /// Puts out rows: each token in the row in which its place lies, with a space behind it, and a newline behind each row.
-    fn put_rows(&mut self, rows: &[usize], out: &[Lexeme]) -> Result<(), AllocError> {
+    fn put_rows(&mut self, rows: &[usize], out: &[Lexeme]) -> Result<(), AllocError>
+        ensures keeps { Keeps self.old self.new }
+        ensures standing { self.new.standing ≡ self.old.standing }
+        ensures put { (known : Known) → IsInRows rows.now out.now → IfOk result (λ _. self.new.out.items ≡ self.old.out.items ++ output_of self.old.source.now (rows_of rows.now (all_named known out.now))) }
+    {
         let mut left = rows;
         for lexeme in out {
             while let [_, next, ..] = left {
@@ -225,7 +268,9 @@ impl<'a> Reader<'a> {
     }
 
     /// The number of the file of this name.
-    fn file_named(&self, name: &[u8]) -> Option<usize> {
+    fn file_named(&self, name: &[u8]) -> Option<usize>
+        ensures { result ≡ position (λ file. bytes_eq file.0 name.now) self.now.files.now }
+    {
         self.files.iter().position(|file| file.0.as_bytes() == name)
     }
 
@@ -233,10 +278,22 @@ impl<'a> Reader<'a> {
     fn include(
         &mut self,
         text: &'a [u8],
+        at: usize,
         hash: usize,
-        behind: usize,
+        name: Span,
         depth: usize,
-    ) -> Result<usize, Fault> {
+    ) -> Result<usize, Fault>
+        requires place { at < length text.now }
+        requires depth { depth ≤ DEPTH_LIMIT }
+        requires head { IsHead text.now at (Head.Directive hash name) }
+        requires read { is_reading (reverse self.old.standing.sections) ≡ true }
+        requires word { name_of text.now name ≡ codes "include" }
+        requires within { IsWithin self.old }
+        ensures keeps { Keeps self.old self.new }
+        ensures within { IfOk result (λ next. IsWithin self.new × (at < next) × (next ≤ length text.now)) }
+        ensures steps { (file : File) → IsRead self.old file text.now → StepsFile digits_of depth file at self.old self.new result }
+    {
+        let behind = name.at + name.len;
         let wrong = Fault {
             kind: CppKind::Directive,
             place: hash,
@@ -279,7 +336,9 @@ impl<'a> Reader<'a> {
 }
 
 /// The file of a place of the source.
-fn file_at(spans: &[Span], place: usize) -> usize {
+fn file_at(spans: &[Place], place: usize) -> usize
+    ensures { result ≡ position_or_len (λ span. nat_le place span.end) spans.now ⊎ result ≡ 0 }
+{
     match spans.iter().position(|span| place <= span.end) {
         Some(index) => index,
         None => 0,
@@ -292,7 +351,9 @@ fn placed(
     source: &Source,
     files: &[(Name, Vec<u8>)],
     fault: Fault,
-) -> Result<CppFault, AllocError> {
+) -> Result<CppFault, AllocError>
+    ensures { IfOk result (IsPlacedFault source.bytes.items.now files.now source.spans.items fault) }
+{
     let index = file_at(source.spans.as_slice(), fault.place);
     let span = source.spans[index];
     let text = &source.bytes.as_slice()[span.from..span.end];

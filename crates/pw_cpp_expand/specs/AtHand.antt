@@ -57,9 +57,9 @@ opened source known call = record {
 -- Arguments that wait are expanded one by one, each by itself.
 pub data ExpandsWaiting (source text : List ℕ) (macros : Macros) : List Named → Progress → Arguments → Type 0 where
   none : (p : Progress) → ExpandsWaiting source text macros [] p (Expanded [] p)
-  one : (name : List ℕ) (tokens out : List Lexeme) (others : List Named) (p q : Progress) (found : Arguments)
-      → Expands source text macros Alone tokens p (Done out q) → ExpandsWaiting source text macros others q found
-      → ExpandsWaiting source text macros ((name, tokens) ∷ others) p (with_argument name out found)
+  one : (name : List ℕ) (tokens out : List Lexeme) (others : List Named) (p q : Progress) (found more : Arguments)
+      → Expands source text macros Alone tokens p (Done out q) → ExpandsWaiting source text macros others q more → found ≡ with_argument name out more
+      → ExpandsWaiting source text macros ((name, tokens) ∷ others) p found
   refused : (name : List ℕ) (tokens : List Lexeme) (others : List Named) (p : Progress) (fault : ExpandFault)
       → Expands source text macros Alone tokens p (Stopped fault) → ExpandsWaiting source text macros ((name, tokens) ∷ others) p (Refused fault)
 
@@ -70,8 +70,8 @@ with_before out (Stopped fault) = Stopped fault
 
 -- What is at hand comes to: the tokens that are to be expanded, those that stand before them, and the open calls, the innermost first.
 pub data Comes (source text : List ℕ) (macros : Macros) (mode : Mode) : List Opened → List Lexeme → List Lexeme → Progress → Outcome → Type 0 where
-  alone : (pending out : List Lexeme) (p : Progress) (outcome : Outcome) → Expands source text macros mode pending p outcome
-      → Comes source text macros mode [] pending out p (with_before out outcome)
+  alone : (pending out : List Lexeme) (p : Progress) (outcome more : Outcome) → Expands source text macros mode pending p more → outcome ≡ with_before out more
+      → Comes source text macros mode [] pending out p outcome
   stopped : (call : Opened) (calls : List Opened) (pending out : List Lexeme) (p : Progress) (fault : ExpandFault)
       → Expands source text macros Alone pending p (Stopped fault) → Comes source text macros mode (call ∷ calls) pending out p (Stopped fault)
   refused : (call : Opened) (calls : List Opened) (pending out more : List Lexeme) (p q : Progress) (fault : ExpandFault)

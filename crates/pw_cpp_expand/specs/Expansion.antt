@@ -1,5 +1,5 @@
 -- Macro expansion (ISO/IEC 9899:1990, 6.8.3): a token carries the names that it may not be replaced by.
-use Rattle.std.specs.Prelude.{◌≡◌, ℕ, ◌+◌, ◌≤◌, ◌<◌, Bool, true, false, not, ◌||◌, if◌then◌else◌, List, [], ◌∷◌, ◌++◌, length, map, take, codes, bytes_eq, Option, Some, None}
+use Rattle.std.specs.Prelude.{◌≡◌, ℕ, ◌+◌, ◌≤◌, ◌<◌, Bool, true, false, not, ◌||◌, if◌then◌else◌, List, [], ◌∷◌, ◌++◌, length, map, codes, bytes_eq, Option, Some, None}
 use Rattle.std.specs.List.{flat_map, list_any}
 use Rattle.pw_token.specs.Roles.{spelling}
 use Rattle.pw_token.specs.declared.token.Token.{Token}
@@ -69,92 +69,78 @@ abbrev pub macro_of : List ℕ → Macros → Lexeme → Option Macro
 macro_of source macros lexeme =
     if not (is_word lexeme.token) || contains lexeme.hidden (spelling source lexeme.token) then None else find macros (spelling source lexeme.token)
 
+-- What the first of the tokens at hand comes to: it stands, and these are ahead of it; it is replaced by some, with others behind them;
+-- or there is a fault.
+pub data Turn : Type 0 where
+  Stands : List Lexeme → Progress → Turn
+  Becomes : List Lexeme → List Lexeme → Progress → Turn
+  Faults : ExpandFault → Turn
+
+-- a call whose arguments come to these, with the names that its result may not be replaced by, and what stands behind it
+abbrev pub replaced_call : List ℕ → List (List ℕ) → ℕ → List Token → List Lexeme → Arguments → Turn
+replaced_call source hidden place replacement behind (Expanded arguments p) = Becomes (result_of source hidden place arguments replacement) behind p
+replaced_call source hidden place replacement behind (Refused fault) = Faults fault
+
+abbrev pub begins_call : List ℕ → List Lexeme → Bool
+begins_call source [] = false
+begins_call source (first ∷ rest) = is_mark source (codes "(") first
+
 mutual
   -- Tokens are expanded, the first of them first, and what replaces it is read again together with what stands behind it. Where they
   -- end, they end, unless a call is looked for.
   pub data Expands (source text : List ℕ) (macros : Macros) : Mode → List Lexeme → Progress → Outcome → Type 0 where
     ends : (mode : Mode) (p : Progress) → Expands source text macros mode [] p (Done [] p)
-
-    stands : (mode : Mode) (t : Lexeme) (rest : List Lexeme) (p : Progress) (outcome : Outcome) → macro_of source macros t ≡ None → p.size + room mode t ≤ output_limit
-        → Expands source text macros mode rest (putting mode t p) outcome → Expands source text macros mode (t ∷ rest) p (with_first t outcome)
-
-    too_long : (mode : Mode) (t : Lexeme) (rest : List Lexeme) (p : Progress) → macro_of source macros t ≡ None → output_limit < p.size + room mode t
-        → Expands source text macros mode (t ∷ rest) p (Stopped (Length t.place))
-
-    object : (mode : Mode) (t : Lexeme) (rest : List Lexeme) (p : Progress) (m : Macro) (result : List Lexeme) (outcome : Outcome)
-        → macro_of source macros t ≡ Some m → m.parameters ≡ None
-        → result ≡ map (made (spelling source t.token ∷ t.hidden) t.place) m.replacement → p.produced + length result ≤ produced_limit
-        → Expands source text macros mode (result ++ rest) (producing p (length result)) outcome → Expands source text macros mode (t ∷ rest) p outcome
-
-    too_many : (mode : Mode) (t : Lexeme) (rest : List Lexeme) (p : Progress) (m : Macro) → macro_of source macros t ≡ Some m → m.parameters ≡ None
-        → produced_limit < p.produced + length m.replacement → Expands source text macros mode (t ∷ rest) p (Stopped (Produced t.place))
-
-    -- the name of a macro that takes arguments stands where no `(` follows
-    uncalled : (mode : Mode) (t : Lexeme) (rest ahead : List Lexeme) (p q : Progress) (m : Macro) (parameters : List Token) (outcome : Outcome)
-        → macro_of source macros t ≡ Some m → m.parameters ≡ Some parameters → LooksAhead text mode rest p (At ahead q)
-        → list_any (is_mark source (codes "(")) (take 1 ahead) ≡ false → q.size + room mode t ≤ output_limit
-        → Expands source text macros mode ahead (putting mode t q) outcome → Expands source text macros mode (t ∷ rest) p (with_first t outcome)
-
-    uncalled_too_long : (mode : Mode) (t : Lexeme) (rest ahead : List Lexeme) (p q : Progress) (m : Macro) (parameters : List Token)
-        → macro_of source macros t ≡ Some m → m.parameters ≡ Some parameters → LooksAhead text mode rest p (At ahead q)
-        → list_any (is_mark source (codes "(")) (take 1 ahead) ≡ false → output_limit < q.size + room mode t
-        → Expands source text macros mode (t ∷ rest) p (Stopped (Length t.place))
-
-    fails_ahead : (mode : Mode) (t : Lexeme) (rest : List Lexeme) (p : Progress) (m : Macro) (parameters : List Token) (fault : ExpandFault)
-        → macro_of source macros t ≡ Some m → m.parameters ≡ Some parameters → LooksAhead text mode rest p (Faulty fault) → Expands source text macros mode (t ∷ rest) p (Stopped fault)
-
-    -- a call: its arguments, each by itself, and the result with the names that the macro's name and the closing `)` may both not be
-    -- replaced by, and the macro's
-    call : (mode : Mode) (t open close : Lexeme) (rest behind after : List Lexeme) (p q r s : Progress) (m : Macro) (parameters : List Token)
-        (arguments : List (List Lexeme)) (expanded : List (List ℕ × List Lexeme)) (result : List Lexeme) (outcome : Outcome)
-        → macro_of source macros t ≡ Some m → m.parameters ≡ Some parameters → LooksAhead text mode rest p (At (open ∷ behind) q) → is_mark source (codes "(") open ≡ true
-        → Collects source text mode 0 ([] ∷ []) behind q (Closed arguments close after r) → length (arguments_of parameters arguments) ≡ length parameters
-        → ExpandsArguments source text macros m.replacement parameters (arguments_of parameters arguments) r (Expanded expanded s)
-        → result ≡ result_of source (spelling source t.token ∷ shared t.hidden close.hidden) t.place expanded m.replacement
-        → s.produced + length result ≤ produced_limit
-        → Expands source text macros mode (result ++ after) (producing s (length result)) outcome → Expands source text macros mode (t ∷ rest) p outcome
-
-    call_too_many : (mode : Mode) (t open close : Lexeme) (rest behind after : List Lexeme) (p q r s : Progress) (m : Macro) (parameters : List Token)
-        (arguments : List (List Lexeme)) (expanded : List (List ℕ × List Lexeme))
-        → macro_of source macros t ≡ Some m → m.parameters ≡ Some parameters → LooksAhead text mode rest p (At (open ∷ behind) q) → is_mark source (codes "(") open ≡ true
-        → Collects source text mode 0 ([] ∷ []) behind q (Closed arguments close after r) → length (arguments_of parameters arguments) ≡ length parameters
-        → ExpandsArguments source text macros m.replacement parameters (arguments_of parameters arguments) r (Expanded expanded s)
-        → produced_limit < s.produced + length (result_of source (spelling source t.token ∷ shared t.hidden close.hidden) t.place expanded m.replacement)
-        → Expands source text macros mode (t ∷ rest) p (Stopped (Produced t.place))
-
-    call_open : (mode : Mode) (t open : Lexeme) (rest behind : List Lexeme) (p q : Progress) (m : Macro) (parameters : List Token)
-        → macro_of source macros t ≡ Some m → m.parameters ≡ Some parameters → LooksAhead text mode rest p (At (open ∷ behind) q) → is_mark source (codes "(") open ≡ true
-        → Collects source text mode 0 ([] ∷ []) behind q Open → Expands source text macros mode (t ∷ rest) p (Stopped (Call t.place))
-
-    call_fails : (mode : Mode) (t open : Lexeme) (rest behind : List Lexeme) (p q : Progress) (m : Macro) (parameters : List Token) (fault : ExpandFault)
-        → macro_of source macros t ≡ Some m → m.parameters ≡ Some parameters → LooksAhead text mode rest p (At (open ∷ behind) q) → is_mark source (codes "(") open ≡ true
-        → Collects source text mode 0 ([] ∷ []) behind q (Fails fault) → Expands source text macros mode (t ∷ rest) p (Stopped fault)
-
-    call_count : (mode : Mode) (t open close : Lexeme) (rest behind after : List Lexeme) (p q r : Progress) (m : Macro) (parameters : List Token) (arguments : List (List Lexeme))
-        → macro_of source macros t ≡ Some m → m.parameters ≡ Some parameters → LooksAhead text mode rest p (At (open ∷ behind) q) → is_mark source (codes "(") open ≡ true
-        → Collects source text mode 0 ([] ∷ []) behind q (Closed arguments close after r) → (length (arguments_of parameters arguments) ≡ length parameters → ⊥)
-        → Expands source text macros mode (t ∷ rest) p (Stopped (Call t.place))
-
-    call_refused : (mode : Mode) (t open close : Lexeme) (rest behind after : List Lexeme) (p q r : Progress) (m : Macro) (parameters : List Token)
-        (arguments : List (List Lexeme)) (fault : ExpandFault)
-        → macro_of source macros t ≡ Some m → m.parameters ≡ Some parameters → LooksAhead text mode rest p (At (open ∷ behind) q) → is_mark source (codes "(") open ≡ true
-        → Collects source text mode 0 ([] ∷ []) behind q (Closed arguments close after r) → length (arguments_of parameters arguments) ≡ length parameters
-        → ExpandsArguments source text macros m.replacement parameters (arguments_of parameters arguments) r (Refused fault)
+    stands : (mode : Mode) (t : Lexeme) (rest ahead : List Lexeme) (p q : Progress) (outcome more : Outcome) → Turns source text macros mode t rest p (Stands ahead q)
+        → q.size + room mode t ≤ output_limit → Expands source text macros mode ahead (putting mode t q) more → outcome ≡ with_first t more
+        → Expands source text macros mode (t ∷ rest) p outcome
+    too_long : (mode : Mode) (t : Lexeme) (rest ahead : List Lexeme) (p q : Progress) → Turns source text macros mode t rest p (Stands ahead q)
+        → output_limit < q.size + room mode t → Expands source text macros mode (t ∷ rest) p (Stopped (Length t.place))
+    becomes : (mode : Mode) (t : Lexeme) (rest result behind : List Lexeme) (p q : Progress) (outcome : Outcome) → Turns source text macros mode t rest p (Becomes result behind q)
+        → q.produced + length result ≤ produced_limit → Expands source text macros mode (result ++ behind) (producing q (length result)) outcome
+        → Expands source text macros mode (t ∷ rest) p outcome
+    too_many : (mode : Mode) (t : Lexeme) (rest result behind : List Lexeme) (p q : Progress) → Turns source text macros mode t rest p (Becomes result behind q)
+        → produced_limit < q.produced + length result → Expands source text macros mode (t ∷ rest) p (Stopped (Produced t.place))
+    faults : (mode : Mode) (t : Lexeme) (rest : List Lexeme) (p : Progress) (fault : ExpandFault) → Turns source text macros mode t rest p (Faults fault)
         → Expands source text macros mode (t ∷ rest) p (Stopped fault)
+
+  -- A token that is no macro's name, or may not be replaced, stands. One that is a macro's is replaced, or begins a call; and it stands
+  -- where its macro takes arguments and no `(` follows.
+  pub data Turns (source text : List ℕ) (macros : Macros) : Mode → Lexeme → List Lexeme → Progress → Turn → Type 0 where
+    no_macro : (mode : Mode) (t : Lexeme) (rest : List Lexeme) (p : Progress) → macro_of source macros t ≡ None → Turns source text macros mode t rest p (Stands rest p)
+    object : (mode : Mode) (t : Lexeme) (rest : List Lexeme) (p : Progress) (m : Macro) (result : List Lexeme) → macro_of source macros t ≡ Some m → m.parameters ≡ None
+        → result ≡ map (made (spelling source t.token ∷ t.hidden) t.place) m.replacement → Turns source text macros mode t rest p (Becomes result rest p)
+    uncalled : (mode : Mode) (t : Lexeme) (rest ahead : List Lexeme) (p q : Progress) (m : Macro) (parameters : List Token)
+        → macro_of source macros t ≡ Some m → m.parameters ≡ Some parameters → LooksAhead text mode rest p (At ahead q) → begins_call source ahead ≡ false
+        → Turns source text macros mode t rest p (Stands ahead q)
+    unread : (mode : Mode) (t : Lexeme) (rest : List Lexeme) (p : Progress) (m : Macro) (parameters : List Token) (fault : ExpandFault)
+        → macro_of source macros t ≡ Some m → m.parameters ≡ Some parameters → LooksAhead text mode rest p (Faulty fault) → Turns source text macros mode t rest p (Faults fault)
+    called : (mode : Mode) (t first : Lexeme) (rest behind : List Lexeme) (p q : Progress) (m : Macro) (parameters : List Token) (found : Called) (turn : Turn)
+        → macro_of source macros t ≡ Some m → m.parameters ≡ Some parameters → LooksAhead text mode rest p (At (first ∷ behind) q) → is_mark source (codes "(") first ≡ true
+        → Collects source text mode 0 ([] ∷ []) behind q found → Calls source text macros m parameters t found turn → Turns source text macros mode t rest p turn
+
+  -- A call that closes has as many arguments as parameters. Each is expanded by itself, and the result may not be replaced by the names
+  -- that the macro's name and the closing `)` may both not be replaced by, nor by the macro's.
+  pub data Calls (source text : List ℕ) (macros : Macros) : Macro → List Token → Lexeme → Called → Turn → Type 0 where
+    open_call : (m : Macro) (parameters : List Token) (t : Lexeme) → Calls source text macros m parameters t Open (Faults (Call t.place))
+    unread_call : (m : Macro) (parameters : List Token) (t : Lexeme) (fault : ExpandFault) → Calls source text macros m parameters t (Fails fault) (Faults fault)
+    miscounted : (m : Macro) (parameters : List Token) (t close : Lexeme) (arguments : List (List Lexeme)) (behind : List Lexeme) (p : Progress)
+        → (length (arguments_of parameters arguments) ≡ length parameters → ⊥) → Calls source text macros m parameters t (Closed arguments close behind p) (Faults (Call t.place))
+    closed : (m : Macro) (parameters : List Token) (t close : Lexeme) (arguments : List (List Lexeme)) (behind : List Lexeme) (p : Progress) (found : Arguments) (turn : Turn)
+        → length (arguments_of parameters arguments) ≡ length parameters
+        → ExpandsArguments source text macros m.replacement parameters (arguments_of parameters arguments) p found
+        → turn ≡ replaced_call source (spelling source t.token ∷ shared t.hidden close.hidden) t.place m.replacement behind found
+        → Calls source text macros m parameters t (Closed arguments close behind p) turn
 
   -- The arguments of a call, in the order of the parameters: one whose parameter stands in the replacement is expanded by itself.
   pub data ExpandsArguments (source text : List ℕ) (macros : Macros) : List Token → List Token → List (List Lexeme) → Progress → Arguments → Type 0 where
     none : (replacement : List Token) (p : Progress) → ExpandsArguments source text macros replacement [] [] p (Expanded [] p)
-
     unused : (replacement : List Token) (parameter : Token) (parameters : List Token) (argument : List Lexeme) (arguments : List (List Lexeme)) (p : Progress) (found : Arguments)
         → is_used source replacement parameter ≡ false → ExpandsArguments source text macros replacement parameters arguments p found
         → ExpandsArguments source text macros replacement (parameter ∷ parameters) (argument ∷ arguments) p found
-
-    used : (replacement : List Token) (parameter : Token) (parameters : List Token) (argument out : List Lexeme) (arguments : List (List Lexeme)) (p q : Progress) (found : Arguments)
+    used : (replacement : List Token) (parameter : Token) (parameters : List Token) (argument out : List Lexeme) (arguments : List (List Lexeme)) (p q : Progress) (found more : Arguments)
         → is_used source replacement parameter ≡ true → Expands source text macros Alone argument p (Done out q)
-        → ExpandsArguments source text macros replacement parameters arguments q found
-        → ExpandsArguments source text macros replacement (parameter ∷ parameters) (argument ∷ arguments) p (with_argument (spelling source parameter) out found)
-
+        → ExpandsArguments source text macros replacement parameters arguments q more → found ≡ with_argument (spelling source parameter) out more
+        → ExpandsArguments source text macros replacement (parameter ∷ parameters) (argument ∷ arguments) p found
     refused : (replacement : List Token) (parameter : Token) (parameters : List Token) (argument : List Lexeme) (arguments : List (List Lexeme)) (p : Progress) (fault : ExpandFault)
         → is_used source replacement parameter ≡ true → Expands source text macros Alone argument p (Stopped fault)
         → ExpandsArguments source text macros replacement (parameter ∷ parameters) (argument ∷ arguments) p (Refused fault)
