@@ -1,11 +1,12 @@
 -- What the calls of the preprocessor answer.
-use Rattle.std.specs.Prelude.{◌≡◌, ℕ, ◌≤◌, Bool, ◌+◌, reverse, map, length, codes, ◌⊎◌, List, [], ◌∷◌, ◌++◌, Option, Some, None, Result, Ok, Err}
+use Rattle.std.specs.Prelude.{◌≡◌, ℕ, ◌≤◌, Bool, not, ◌&&◌, ◌||◌, nat_le, bytes_eq, All, ◌+◌, reverse, map, length, codes, ◌⊎◌, List, [], ◌∷◌, ◌++◌, Option, Some, None, Result, Ok, Err}
 use Rattle.std.specs.Vec.{Vec}
 use Rattle.pw_token.specs.declared.token.Token.{Token}
 use Rattle.pw_token.specs.declared.token.TokenKind.TheVariants as token
 use Rattle.pw_cpp.specs.Conditions.{Judges, Holds, Faulty, Stops, items_of}
-use Rattle.pw_cpp.specs.Directives.{Becomes, Does, Fails, Standing, standing}
-use Rattle.pw_cpp.specs.Files.{Faulted, File, Preprocesses, Read, Reading, ReadsFile, ReadsLines, Result_of, begins, file_named, output_of, text_of, with_standing}
+use Rattle.pw_cpp.specs.Directives.{Becomes, Does, Fails, Standing, fault, standing}
+use Rattle.pw_cpp.specs.Files.{Faulted, File, Preprocesses, Read, Reading, ReadsFile, ReadsLines, Result_of, begins, file_named, line_of, output_of, text_of, with_standing}
+use Rattle.pw_cpp.specs.Groups.{is_reading, is_turn}
 use Rattle.pw_cpp.specs.declared.file.Reader.{Reader}
 use Rattle.pw_cpp.specs.declared.fault.CppFault.{CppFault}
 use Rattle.pw_cpp.specs.declared.source.Place.{Place}
@@ -23,6 +24,10 @@ use Rattle.pw_cpp_expand.specs.Lookahead.{Lexeme, output_limit}
 use Rattle.pw_cpp_expand.specs.Numbered.{HaveEmpty, IsFault}
 use Rattle.pw_cpp_expand.specs.declared.progress.ExpandFault.{ExpandFault}
 use Rattle.pw_cpp_expand.specs.declared.progress.Progress.{Progress}
+use Rattle.pw_cpp_expand.specs.declared.progress.Lexeme.{Lexeme as Numbered}
+use Rattle.pw_cpp_lines.specs.Lines.{Lexes}
+use Rattle.pw_cpp_lines.specs.declared.line.Line.{Line}
+use Rattle.pw_cpp_lines.specs.declared.line.LineFault.TheVariants.{Bad}
 use Rattle.pw_cpp_macros.specs.Macros.{Macros}
 use Rattle.pw_cpp_values.specs.Arithmetic.{is_true}
 use Rattle.pw_cpp_values.specs.declared.arithmetic.Number.{Number}
@@ -105,6 +110,36 @@ IsRead reader file text = (text ≡ text_of reader.source.now file) × (file_nam
 -- what reading keeps within its bounds
 abbrev pub IsWithin : Reader → Type 0
 IsWithin reader = (reader.standing.produced ≤ produced_limit) × HaveEmpty reader.standing.sets × (length reader.out.items ≤ output_limit)
+
+-- ---- parts of a line's reading
+
+abbrev pub IsLexed : List ℕ → ℕ → Result Line Fault → Type 0
+IsLexed text at (Ok line) = Lexes text at (Ok line)
+IsLexed text at (Err found) = IsFaultOf found (λ f. (place : ℕ) × Lexes text at (Err (Bad place)) × (f ≡ fault kind.Lex place))
+
+-- a directive is looked at, or its line lexes whole
+abbrev pub is_looked_at_by : Reader → List ℕ → Bool
+is_looked_at_by reader name = is_reading (reverse reader.standing.sections) || (nat_le (length reader.standing.nested) 0 && is_turn name)
+
+abbrev pub is_lexed_whole_by : Reader → List ℕ → Bool
+is_lexed_whole_by reader name = is_looked_at_by reader name && not (bytes_eq name (codes "pragma")) && not (bytes_eq name (codes "include"))
+
+-- from each to the next no less
+abbrev pub AreAscending : List ℕ → Type 0
+AreAscending [] = Unit {0}
+AreAscending (x ∷ []) = Unit {0}
+AreAscending (x ∷ y ∷ more) = (x ≤ y) × AreAscending (y ∷ more)
+
+-- tokens stand in the order of their places, none before the first row
+abbrev pub IsInRows : List ℕ → List Numbered → Type 0
+IsInRows [] out = ⊥
+IsInRows (first ∷ rows) out = AreAscending (first ∷ rows) × AreAscending (map (λ l. l.place) out) × All (λ l. first ≤ l.place) out
+
+-- a fault with its file's name and its line
+abbrev pub IsPlacedFault : List ℕ → List (List ℕ × Vec ℕ) → List Place → Fault → CppFault → Type 0
+IsPlacedFault source files spans f found =
+    (inner : File) → file_named (files_of (names_of files) spans) inner.name ≡ Some inner → IsPlaceOf inner f.place
+    → found ≡ record { kind = f.kind; file = inner.name; line = line_of source inner f.place }
 
 -- nothing but how reading stands changes
 abbrev pub Keeps : Reader → Reader → Type 0

@@ -1,12 +1,12 @@
 //! Files, line by line.
 
-ghost use Rattle.std.specs.Prelude.{◌≡◌, ◌≤◌, ◌<◌, ◌↔◌, length, map, reverse, slice_get, Some, IfOk, IsTrue};
-ghost use Rattle.pw_cpp.specs.Answers.{AnswersCpp, IsRead, IsWithin, Keeps, ReadsWhole, StepsFile, digits_of, reads_of, source_of, spans_of};
-ghost use Rattle.pw_cpp.specs.Files.{File, output_of, rows_of};
+ghost use Rattle.std.specs.Prelude.{◌≡◌, ◌≤◌, ◌<◌, ◌+◌, ◌++◌, ℕ, true, false, length, reverse, nat_le, position, unwrap_or, slice_get, bytes_eq, codes, Some, IfOk};
+ghost use Rattle.pw_cpp.specs.Answers.{AnswersCpp, IsInRows, IsLexed, IsPlacedFault, IsRead, IsWithin, Keeps, ReadsWhole, StepsFile, digits_of, is_lexed_whole_by, is_looked_at_by, reads_of, source_of, spans_of};
+ghost use Rattle.pw_cpp.specs.Directives.{fault};
+ghost use Rattle.pw_cpp.specs.Files.{File, name_of, output_of, rows_of};
 ghost use Rattle.pw_cpp.specs.Groups.{is_reading};
 ghost use Rattle.pw_cpp_expand.specs.Numbered.{all_named};
 ghost use Rattle.pw_cpp_lines.specs.Heads.{IsHead};
-ghost use Rattle.pw_cpp_lines.specs.Lines.{AnswersLine};
 ghost use Rattle.pw_cpp_sets.specs.Sets.{Known};
 
 use crate::directive::{Directive, Fault, Standing, limit, of_expansion};
@@ -335,14 +335,11 @@ impl<'a> Reader<'a> {
     }
 }
 
-/// The file of a place of the source.
+/// The number of the file of a place of the source.
 fn file_at(spans: &[Place], place: usize) -> usize
-    ensures { result ≡ position_or_len (λ span. nat_le place span.end) spans.now ⊎ result ≡ 0 }
+    ensures { result ≡ unwrap_or (position (λ span. nat_le place span.end) spans.now) 0 }
 {
-    match spans.iter().position(|span| place <= span.end) {
-        Some(index) => index,
-        None => 0,
-    }
+    spans.iter().position(|span| place <= span.end).unwrap_or(0)
 }
 
 /// A fault with its file and its line.
