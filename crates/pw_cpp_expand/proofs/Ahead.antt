@@ -1,7 +1,7 @@
 -- Lines that are read as they are needed, and the tokens that stand ahead.
 use Rattle.std.proofs.Common.{◌≡◌, ℕ, zero, suc, ◌+◌, ◌<◌, ◌≤◌, Bool, true, false, if◌then◌else◌, List, [], ◌∷◌, ◌++◌, length, map, reverse, Result, Ok, Err, Option, Some, None, inl, inr, refl, sym, ap, ◌∙◌, subst, append_assoc, arith}
 use Rattle.std.proofs.lemmas.List.{append-nil, map-append, reverse-append, reverse-reverse}
-use Rattle.std.proofs.lemmas.Bool.{eqb-true, leb-true}
+use Rattle.std.proofs.lemmas.Bool.{eqb-true, le-leb, leb-true, lt-leb}
 use Rattle.std.specs.Prelude.{nat_le}
 use Rattle.pw_token.specs.declared.token.Token.{Token}
 use Rattle.pw_cpp_lines.specs.Heads.{IsHead, is_hash}
@@ -11,7 +11,7 @@ use Rattle.pw_cpp_lines.specs.declared.head.Head.TheVariants as head
 use Rattle.pw_cpp_lines.specs.declared.line.Line.{Line}
 use Rattle.pw_cpp_lines.specs.declared.line.LineFault.{LineFault}
 use Rattle.pw_cpp_lines.specs.declared.line.LineFault.TheVariants as no
-use Rattle.pw_cpp_expand.specs.Lookahead.{Ahead, At, Faulty, Further, Nothing, Tokens, Fault, Lexeme, LooksAhead, ReadsOn, bad, ends, here, alone, line, long, marker, nothing, of_line, output_limit, directive}
+use Rattle.pw_cpp_expand.specs.Lookahead.{Ahead, At, Faulty, Further, Nothing, Tokens, Fault, Lexeme, LooksAhead, ReadsOn, here, alone, marker, of_line, of_text_line, output_limit, read_to, reads, text_line}
 use Rattle.pw_cpp_expand.specs.Lookahead as ahead
 use Rattle.pw_cpp_expand.specs.Numbered.{AnswersAhead, AnswersFurther, AnswersTextLine, HaveEmpty, all_named, at_hand, fresh, named}
 use Rattle.pw_cpp_expand.specs.declared.progress.ExpandFault.{ExpandFault}
@@ -25,16 +25,24 @@ use Rattle.pw_cpp_sets.specs.Sets.{Known, set_at}
 -- ---- a text line
 
 module _ (text : List ℕ) (at : ℕ) (p q : Progress) (within : at < length text) (is_text : IsHead text at head.Text) where
+  of_found : (found : Result Line LineFault) (further : Further) → Lexes text at found → further ≡ of_text_line at p found → ReadsOn text at p further
+  of_found found further lexes e = reads at p head.Text further within is_text (text_line at p found further lexes e)
+
   pub line-faulty : (fault : LineFault) → AnswersLine text at (Err fault) → AnswersTextLine text at p q (Err (of_line fault))
-  line-faulty (no.Bad place) a = inr (bad at p place within is_text a)
+  line-faulty (no.Bad place) a = inr (of_found (Err (no.Bad place)) _ a refl)
   line-faulty no.NoMemory a = inl refl
 
   pub line-long : (found : Line) → AnswersLine text at (Ok found) → output_limit ≤ p.size → AnswersTextLine text at p q (Err (Length at))
-  line-long found a l = inr (long at p found.tokens found.next within is_text a l)
+  line-long found a l = inr (of_found (Ok found) (Fault (Length at)) a is)
+    where
+      is : Fault (Length at) ≡ of_text_line at p (Ok found)
+      is = rw (le-leb output_limit p.size l) refl
 
-  pub line-read : (found : Line) → AnswersLine text at (Ok found) → p.size < output_limit
-      → q ≡ record { next = found.next; rows = p.rows ++ at ∷ []; produced = p.produced; size = p.size + 1 } → AnswersTextLine text at p q (Ok found.tokens)
-  line-read found a l e = let P : Progress → Type 0 = λ x. ReadsOn text at p (Tokens found.tokens x) in subst P (sym e) (line at p found.tokens found.next within is_text a l)
+  pub line-read : (found : Line) → AnswersLine text at (Ok found) → p.size < output_limit → q ≡ read_to p at found.next → AnswersTextLine text at p q (Ok found.tokens)
+  line-read found a l e = of_found (Ok found) (Tokens found.tokens q) a is
+    where
+      is : Tokens found.tokens q ≡ of_text_line at p (Ok found)
+      is = rw (lt-leb p.size output_limit l) (ap (Tokens found.tokens) e)
 
 -- ---- markers that are passed over
 
@@ -64,7 +72,7 @@ abbrev pub Leads : List ℕ → ℕ → Progress → Type 0
 Leads text at p = (further : Further) → ReadsOn text at p further → ReadsOn text p.next p further
 
 pub leads-on : (text : List ℕ) (at hash next : ℕ) (p : Progress) → at < length text → IsHead text at (head.Marker hash) → PassesRest text hash next → Leads text at p → Leads text next p
-leads-on text at hash next p w h r k further reads = k further (marker at p hash next further w h r reads)
+leads-on text at hash next p w h r k further read = k further (reads at p (head.Marker hash) further w h (marker at p hash next further r read))
 
 -- ---- tokens as they are read
 

@@ -1,15 +1,16 @@
 -- Calls of macros that take arguments (ISO/IEC 9899:1990, 6.8.3).
-use Rattle.std.specs.Prelude.{◌≡◌, ℕ, zero, suc, ◌+◌, ◌==◌, ◌&&◌, Bool, true, false, not, if◌then◌else◌, List, [], ◌∷◌, ◌++◌, length, codes, bytes_eq, filter}
+use Rattle.std.specs.Prelude.{ℕ, zero, suc, ◌&&◌, Bool, if◌then◌else◌, List, [], ◌∷◌, ◌++◌, codes}
 use Rattle.std.specs.List.{list_any}
 use Rattle.pw_token.specs.Roles.{spelling}
 use Rattle.pw_token.specs.declared.token.Token.{Token}
 use Rattle.pw_cpp_macros.specs.Definitions.{is_spelled, is_word}
 use Rattle.pw_cpp_macros.specs.declared.definition.Macro.{Macro}
 use Rattle.pw_cpp_expand.specs.Lookahead.{Ahead, At, Faulty, Lexeme, LooksAhead}
+use Rattle.pw_cpp_expand.specs.declared.arguments.Part.{Part}
+use Rattle.pw_cpp_expand.specs.declared.arguments.Part.TheVariants as part
 use Rattle.pw_cpp_expand.specs.declared.progress.ExpandFault.{ExpandFault}
 use Rattle.pw_cpp_expand.specs.declared.progress.Mode.{Mode}
 use Rattle.pw_cpp_expand.specs.declared.progress.Progress.{Progress}
-use Rattle.pw_cpp_sets.specs.Sets.{contains, shared}
 
 abbrev pub is_mark : List ℕ → List ℕ → Lexeme → Bool
 is_mark source bytes lexeme = is_spelled source bytes lexeme.token
@@ -29,26 +30,34 @@ pub data Called : Type 0 where
   Open : Called
   Fails : ExpandFault → Called
 
-pub data Collects (source text : List ℕ) (mode : Mode) : ℕ → List (List Lexeme) → List Lexeme → Progress → Called → Type 0 where
-  open_end : (depth : ℕ) (arguments : List (List Lexeme)) (pending : List Lexeme) (p q : Progress) → LooksAhead text mode pending p (At [] q) → Collects source text mode depth arguments pending p Open
-  faulty : (depth : ℕ) (arguments : List (List Lexeme)) (pending : List Lexeme) (p : Progress) (fault : ExpandFault) → LooksAhead text mode pending p (Faulty fault)
-      → Collects source text mode depth arguments pending p (Fails fault)
-  opens : (depth : ℕ) (arguments : List (List Lexeme)) (pending rest : List Lexeme) (p q : Progress) (mark : Lexeme) (called : Called)
-      → LooksAhead text mode pending p (At (mark ∷ rest) q) → is_mark source (codes "(") mark ≡ true
-      → Collects source text mode (suc depth) (lengthened arguments mark) rest q called → Collects source text mode depth arguments pending p called
-  closes_inner : (depth : ℕ) (arguments : List (List Lexeme)) (pending rest : List Lexeme) (p q : Progress) (mark : Lexeme) (called : Called)
-      → LooksAhead text mode pending p (At (mark ∷ rest) q) → is_mark source (codes ")") mark ≡ true
-      → Collects source text mode depth (lengthened arguments mark) rest q called → Collects source text mode (suc depth) arguments pending p called
-  closes : (arguments : List (List Lexeme)) (pending rest : List Lexeme) (p q : Progress) (mark : Lexeme)
-      → LooksAhead text mode pending p (At (mark ∷ rest) q) → is_mark source (codes ")") mark ≡ true
-      → Collects source text mode zero arguments pending p (Closed arguments mark rest q)
-  parts : (arguments : List (List Lexeme)) (pending rest : List Lexeme) (p q : Progress) (mark : Lexeme) (called : Called)
-      → LooksAhead text mode pending p (At (mark ∷ rest) q) → is_mark source (codes ",") mark ≡ true
-      → Collects source text mode zero (arguments ++ [] ∷ []) rest q called → Collects source text mode zero arguments pending p called
-  goes_on : (depth : ℕ) (arguments : List (List Lexeme)) (pending rest : List Lexeme) (p q : Progress) (lexeme : Lexeme) (called : Called)
-      → LooksAhead text mode pending p (At (lexeme ∷ rest) q) → is_mark source (codes "(") lexeme ≡ false → is_mark source (codes ")") lexeme ≡ false
-      → (is_mark source (codes ",") lexeme && (depth == 0)) ≡ false
-      → Collects source text mode depth (lengthened arguments lexeme) rest q called → Collects source text mode depth arguments pending p called
+-- what a token does to the arguments
+abbrev pub part_of : List ℕ → Lexeme → Part
+part_of source t =
+    if is_mark source (codes "(") t then part.Opens else (if is_mark source (codes ")") t then part.Closes else (if is_mark source (codes ",") t then part.Parts else part.GoesOn))
+
+mutual
+  pub data Collects (source text : List ℕ) (mode : Mode) : ℕ → List (List Lexeme) → List Lexeme → Progress → Called → Type 0 where
+    looks : (depth : ℕ) (arguments : List (List Lexeme)) (pending : List Lexeme) (p : Progress) (ahead : Ahead) (called : Called) → LooksAhead text mode pending p ahead
+        → CollectsFrom source text mode depth arguments ahead called → Collects source text mode depth arguments pending p called
+
+  pub data CollectsFrom (source text : List ℕ) (mode : Mode) : ℕ → List (List Lexeme) → Ahead → Called → Type 0 where
+    open_end : (depth : ℕ) (arguments : List (List Lexeme)) (q : Progress) → CollectsFrom source text mode depth arguments (At [] q) Open
+    faulty : (depth : ℕ) (arguments : List (List Lexeme)) (fault : ExpandFault) → CollectsFrom source text mode depth arguments (Faulty fault) (Fails fault)
+    token : (depth : ℕ) (arguments : List (List Lexeme)) (t : Lexeme) (rest : List Lexeme) (q : Progress) (called : Called)
+        → CollectsPart source text mode (part_of source t) depth arguments t rest q called → CollectsFrom source text mode depth arguments (At (t ∷ rest) q) called
+
+  pub data CollectsPart (source text : List ℕ) (mode : Mode) : Part → ℕ → List (List Lexeme) → Lexeme → List Lexeme → Progress → Called → Type 0 where
+    opens : (depth : ℕ) (arguments : List (List Lexeme)) (t : Lexeme) (rest : List Lexeme) (q : Progress) (called : Called)
+        → Collects source text mode (suc depth) (lengthened arguments t) rest q called → CollectsPart source text mode part.Opens depth arguments t rest q called
+    closes_inner : (depth : ℕ) (arguments : List (List Lexeme)) (t : Lexeme) (rest : List Lexeme) (q : Progress) (called : Called)
+        → Collects source text mode depth (lengthened arguments t) rest q called → CollectsPart source text mode part.Closes (suc depth) arguments t rest q called
+    closes : (arguments : List (List Lexeme)) (t : Lexeme) (rest : List Lexeme) (q : Progress) → CollectsPart source text mode part.Closes zero arguments t rest q (Closed arguments t rest q)
+    parts : (arguments : List (List Lexeme)) (t : Lexeme) (rest : List Lexeme) (q : Progress) (called : Called)
+        → Collects source text mode zero (arguments ++ [] ∷ []) rest q called → CollectsPart source text mode part.Parts zero arguments t rest q called
+    parts_inner : (depth : ℕ) (arguments : List (List Lexeme)) (t : Lexeme) (rest : List Lexeme) (q : Progress) (called : Called)
+        → Collects source text mode (suc depth) (lengthened arguments t) rest q called → CollectsPart source text mode part.Parts (suc depth) arguments t rest q called
+    goes_on : (depth : ℕ) (arguments : List (List Lexeme)) (t : Lexeme) (rest : List Lexeme) (q : Progress) (called : Called)
+        → Collects source text mode depth (lengthened arguments t) rest q called → CollectsPart source text mode part.GoesOn depth arguments t rest q called
 
 -- Behind the `(` stands one argument, at first empty; of a macro without parameters one that is empty is none.
 abbrev pub arguments_of : List Token → List (List Lexeme) → List (List Lexeme)

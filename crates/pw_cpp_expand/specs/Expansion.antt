@@ -90,33 +90,38 @@ mutual
   -- end, they end, unless a call is looked for.
   pub data Expands (source text : List ℕ) (macros : Macros) : Mode → List Lexeme → Progress → Outcome → Type 0 where
     ends : (mode : Mode) (p : Progress) → Expands source text macros mode [] p (Done [] p)
-    stands : (mode : Mode) (t : Lexeme) (rest ahead : List Lexeme) (p q : Progress) (outcome more : Outcome) → Turns source text macros mode t rest p (Stands ahead q)
-        → q.size + room mode t ≤ output_limit → Expands source text macros mode ahead (putting mode t q) more → outcome ≡ with_first t more
+    turns : (mode : Mode) (t : Lexeme) (rest : List Lexeme) (p : Progress) (turn : Turn) (outcome : Outcome)
+        → Turns source text macros mode t rest p (macro_of source macros t) turn → Follows source text macros mode t turn outcome
         → Expands source text macros mode (t ∷ rest) p outcome
-    too_long : (mode : Mode) (t : Lexeme) (rest ahead : List Lexeme) (p q : Progress) → Turns source text macros mode t rest p (Stands ahead q)
-        → output_limit < q.size + room mode t → Expands source text macros mode (t ∷ rest) p (Stopped (Length t.place))
-    becomes : (mode : Mode) (t : Lexeme) (rest result behind : List Lexeme) (p q : Progress) (outcome : Outcome) → Turns source text macros mode t rest p (Becomes result behind q)
-        → q.produced + length result ≤ produced_limit → Expands source text macros mode (result ++ behind) (producing q (length result)) outcome
-        → Expands source text macros mode (t ∷ rest) p outcome
-    too_many : (mode : Mode) (t : Lexeme) (rest result behind : List Lexeme) (p q : Progress) → Turns source text macros mode t rest p (Becomes result behind q)
-        → produced_limit < q.produced + length result → Expands source text macros mode (t ∷ rest) p (Stopped (Produced t.place))
-    faults : (mode : Mode) (t : Lexeme) (rest : List Lexeme) (p : Progress) (fault : ExpandFault) → Turns source text macros mode t rest p (Faults fault)
-        → Expands source text macros mode (t ∷ rest) p (Stopped fault)
 
-  -- A token that is no macro's name, or may not be replaced, stands. One that is a macro's is replaced, or begins a call; and it stands
-  -- where its macro takes arguments and no `(` follows.
-  pub data Turns (source text : List ℕ) (macros : Macros) : Mode → Lexeme → List Lexeme → Progress → Turn → Type 0 where
-    no_macro : (mode : Mode) (t : Lexeme) (rest : List Lexeme) (p : Progress) → macro_of source macros t ≡ None → Turns source text macros mode t rest p (Stands rest p)
-    object : (mode : Mode) (t : Lexeme) (rest : List Lexeme) (p : Progress) (m : Macro) (result : List Lexeme) → macro_of source macros t ≡ Some m → m.parameters ≡ None
-        → result ≡ map (made (spelling source t.token ∷ t.hidden) t.place) m.replacement → Turns source text macros mode t rest p (Becomes result rest p)
-    uncalled : (mode : Mode) (t : Lexeme) (rest ahead : List Lexeme) (p q : Progress) (m : Macro) (parameters : List Token)
-        → macro_of source macros t ≡ Some m → m.parameters ≡ Some parameters → LooksAhead text mode rest p (At ahead q) → begins_call source ahead ≡ false
-        → Turns source text macros mode t rest p (Stands ahead q)
-    unread : (mode : Mode) (t : Lexeme) (rest : List Lexeme) (p : Progress) (m : Macro) (parameters : List Token) (fault : ExpandFault)
-        → macro_of source macros t ≡ Some m → m.parameters ≡ Some parameters → LooksAhead text mode rest p (Faulty fault) → Turns source text macros mode t rest p (Faults fault)
-    called : (mode : Mode) (t first : Lexeme) (rest behind : List Lexeme) (p q : Progress) (m : Macro) (parameters : List Token) (found : Called) (turn : Turn)
-        → macro_of source macros t ≡ Some m → m.parameters ≡ Some parameters → LooksAhead text mode rest p (At (first ∷ behind) q) → is_mark source (codes "(") first ≡ true
-        → Collects source text mode 0 ([] ∷ []) behind q found → Calls source text macros m parameters t found turn → Turns source text macros mode t rest p turn
+  -- what follows the turn of a token
+  pub data Follows (source text : List ℕ) (macros : Macros) : Mode → Lexeme → Turn → Outcome → Type 0 where
+    stands : (mode : Mode) (t : Lexeme) (ahead : List Lexeme) (q : Progress) (outcome more : Outcome) → q.size + room mode t ≤ output_limit
+        → Expands source text macros mode ahead (putting mode t q) more → outcome ≡ with_first t more → Follows source text macros mode t (Stands ahead q) outcome
+    too_long : (mode : Mode) (t : Lexeme) (ahead : List Lexeme) (q : Progress) → output_limit < q.size + room mode t
+        → Follows source text macros mode t (Stands ahead q) (Stopped (Length t.place))
+    becomes : (mode : Mode) (t : Lexeme) (result behind : List Lexeme) (q : Progress) (outcome : Outcome) → q.produced + length result ≤ produced_limit
+        → Expands source text macros mode (result ++ behind) (producing q (length result)) outcome → Follows source text macros mode t (Becomes result behind q) outcome
+    too_many : (mode : Mode) (t : Lexeme) (result behind : List Lexeme) (q : Progress) → produced_limit < q.produced + length result
+        → Follows source text macros mode t (Becomes result behind q) (Stopped (Produced t.place))
+    faults : (mode : Mode) (t : Lexeme) (fault : ExpandFault) → Follows source text macros mode t (Faults fault) (Stopped fault)
+
+  -- A token that is no macro's name, or may not be replaced, stands. One that is a macro's is replaced, or what is ahead is looked at.
+  pub data Turns (source text : List ℕ) (macros : Macros) : Mode → Lexeme → List Lexeme → Progress → Option Macro → Turn → Type 0 where
+    no_macro : (mode : Mode) (t : Lexeme) (rest : List Lexeme) (p : Progress) → Turns source text macros mode t rest p None (Stands rest p)
+    object : (mode : Mode) (t : Lexeme) (rest : List Lexeme) (p : Progress) (m : Macro) (result : List Lexeme) → m.parameters ≡ None
+        → result ≡ map (made (spelling source t.token ∷ t.hidden) t.place) m.replacement → Turns source text macros mode t rest p (Some m) (Becomes result rest p)
+    looks : (mode : Mode) (t : Lexeme) (rest : List Lexeme) (p : Progress) (m : Macro) (parameters : List Token) (ahead : Ahead) (turn : Turn) → m.parameters ≡ Some parameters
+        → LooksAhead text mode rest p ahead → Meets source text macros mode t m parameters ahead turn → Turns source text macros mode t rest p (Some m) turn
+
+  -- The name of a macro that takes arguments stands where no `(` is ahead, and begins a call where one is.
+  pub data Meets (source text : List ℕ) (macros : Macros) : Mode → Lexeme → Macro → List Token → Ahead → Turn → Type 0 where
+    unread : (mode : Mode) (t : Lexeme) (m : Macro) (parameters : List Token) (fault : ExpandFault) → Meets source text macros mode t m parameters (Faulty fault) (Faults fault)
+    uncalled : (mode : Mode) (t : Lexeme) (m : Macro) (parameters : List Token) (ahead : List Lexeme) (q : Progress) → begins_call source ahead ≡ false
+        → Meets source text macros mode t m parameters (At ahead q) (Stands ahead q)
+    called : (mode : Mode) (t first : Lexeme) (m : Macro) (parameters : List Token) (behind : List Lexeme) (q : Progress) (found : Called) (turn : Turn)
+        → is_mark source (codes "(") first ≡ true → Collects source text mode 0 ([] ∷ []) behind q found → Calls source text macros m parameters t found turn
+        → Meets source text macros mode t m parameters (At (first ∷ behind) q) turn
 
   -- A call that closes has as many arguments as parameters. Each is expanded by itself, and the result may not be replaced by the names
   -- that the macro's name and the closing `)` may both not be replaced by, nor by the macro's.

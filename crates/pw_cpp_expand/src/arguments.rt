@@ -2,7 +2,8 @@
 
 ghost use Rattle.std.specs.Prelude.{◌≡◌, ◌≤◌, ◌++◌, ◌∷◌, [], length, OnOk, IfOk};
 ghost use Rattle.pw_cpp_expand.specs.Calls as spec;
-ghost use Rattle.pw_cpp_expand.specs.Numbered.{AnswersCall};
+ghost use Rattle.pw_cpp_expand.specs.Numbered.{AnswersCall, named};
+ghost use Rattle.pw_cpp_sets.specs.Sets.{Known};
 
 use crate::ahead::look_ahead;
 use crate::progress::{ExpandFault, Lexeme, Mode, Progress};
@@ -19,14 +20,16 @@ pub struct Arguments {
 
 /// What a token does to the arguments.
 #[derive(Clone, Copy)]
-enum Part {
+pub enum Part {
     Opens,
     Closes,
     Parts,
     GoesOn,
 }
 
-fn part_of(source: &[u8], lexeme: Lexeme) -> Part {
+fn part_of(source: &[u8], lexeme: Lexeme) -> Part
+    ensures { (known : Known) → result ≡ spec.part_of source.now (named known lexeme) }
+{
     if is_spelled(source, b"(", lexeme.token) {
         Part::Opens
     } else if is_spelled(source, b")", lexeme.token) {
