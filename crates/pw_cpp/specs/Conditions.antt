@@ -27,9 +27,9 @@ said source macros digits defined name = record { token = truth_token digits mac
 
 -- the name behind a `defined`, with the count of its tokens
 abbrev pub name_in_parentheses : List ℕ → Token → List Token → Option (Token × ℕ)
-name_in_parentheses source open (name ∷ close ∷ rest) = if is_spelled source (codes "(") open && is_word name && is_spelled source (codes ")") close then Some (name, 3) else None
-name_in_parentheses source open (name ∷ []) = None
-name_in_parentheses source open [] = None
+name_in_parentheses source first (name ∷ close ∷ rest) = if is_spelled source (codes "(") first && is_word name && is_spelled source (codes ")") close then Some (name, 3) else None
+name_in_parentheses source first (name ∷ []) = None
+name_in_parentheses source first [] = None
 
 abbrev pub defined_name : List ℕ → List Token → Option (Token × ℕ)
 defined_name source [] = None
@@ -47,13 +47,13 @@ with_defined source macros digits (t ∷ name ∷ third ∷ []) =
     if is_spelled source (codes "defined") t
     then (if is_word name then option_map (λ later. said source macros digits t name ∷ later) (with_defined source macros digits (third ∷ [])) else None)
     else option_map (λ later. fresh t ∷ later) (with_defined source macros digits (name ∷ third ∷ []))
-with_defined source macros digits (t ∷ open ∷ name ∷ close ∷ rest) =
+with_defined source macros digits (t ∷ first ∷ name ∷ close ∷ rest) =
     if is_spelled source (codes "defined") t
-    then (if is_word open then option_map (λ later. said source macros digits t open ∷ later) (with_defined source macros digits (name ∷ close ∷ rest))
-      else (if is_spelled source (codes "(") open && is_word name && is_spelled source (codes ")") close
+    then (if is_word first then option_map (λ later. said source macros digits t first ∷ later) (with_defined source macros digits (name ∷ close ∷ rest))
+      else (if is_spelled source (codes "(") first && is_word name && is_spelled source (codes ")") close
         then option_map (λ later. said source macros digits t name ∷ later) (with_defined source macros digits rest)
         else None))
-    else option_map (λ later. fresh t ∷ later) (with_defined source macros digits (open ∷ name ∷ close ∷ rest))
+    else option_map (λ later. fresh t ∷ later) (with_defined source macros digits (first ∷ name ∷ close ∷ rest))
 
 -- the items that tokens are; None where one of them is none
 abbrev pub items_of : List ℕ → List Lexeme → Option (List Item)

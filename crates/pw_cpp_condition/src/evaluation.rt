@@ -15,6 +15,7 @@ use std::alloc::{AllocError, Global};
 type Outcome = Result<Option<Option<Number>>, AllocError>;
 
 /// Puts the inner frame back within the others, if there is one.
+#[tactic(auto, using(crate::proofs::Stack::reverse_pushed))]
 fn put_back(inner: Option<Frame>, frames: &mut Items<Frame>) -> Result<(), AllocError>
     ensures { OnOk result (reverse frames.new ≡ spec.with_inner inner (reverse frames.old)) }
 {
@@ -25,6 +26,7 @@ fn put_back(inner: Option<Frame>, frames: &mut Items<Frame>) -> Result<(), Alloc
 }
 
 /// Puts a frame within the others.
+#[tactic(auto, using(crate::proofs::Stack::reverse_pushed))]
 fn push(frame: Frame, frames: &mut Items<Frame>) -> Outcome
     ensures { IfOk result (λ next. option_map (λ last. (last, reverse frames.new)) next ≡ Some (spec.waiting_in (reverse frames.old) frame)) }
 {

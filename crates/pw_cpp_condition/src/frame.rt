@@ -160,6 +160,7 @@ pub struct Reduced {
 }
 
 /// Gives an operand to the innermost frames as long as they bind at a level.
+#[tactic(auto, using(crate::proofs::Stack::reduced_less, crate::proofs::Stack::reduced_none))]
 pub fn reduce(at: u8, first: Number, frames: &mut Items<Frame>) -> Reduced
     ensures same { spec.reduced at first (reverse frames.old) ≡ (result.operand, spec.with_inner result.inner (reverse frames.new)) }
     ensures all { result.inner ≡ None → frames.new ≡ [] }

@@ -42,7 +42,7 @@ module _ (text : List ℕ) (at : ℕ) (p q : Progress) (within : at < length tex
   line-read found a l e = of_found (Ok found) (Tokens found.tokens q) a is
     where
       is : Tokens found.tokens q ≡ of_text_line at p (Ok found)
-      is = rw (lt-leb p.size output_limit l) (ap (Tokens found.tokens) e)
+      is = rw (lt-leb output_limit p.size l) (ap (Tokens found.tokens) e)
 
 -- ---- markers that are passed over
 

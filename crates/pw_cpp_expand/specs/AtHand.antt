@@ -60,7 +60,7 @@ pub data ExpandsWaiting (source text : List ℕ) (macros : Macros) : List Named 
   one : (name : List ℕ) (tokens out : List Lexeme) (others : List Named) (p q : Progress) (found more : Arguments)
       → Expands source text macros Alone tokens p (Done out q) → ExpandsWaiting source text macros others q more → found ≡ with_argument name out more
       → ExpandsWaiting source text macros ((name, tokens) ∷ others) p found
-  refused : (name : List ℕ) (tokens : List Lexeme) (others : List Named) (p : Progress) (fault : ExpandFault)
+  refused_one : (name : List ℕ) (tokens : List Lexeme) (others : List Named) (p : Progress) (fault : ExpandFault)
       → Expands source text macros Alone tokens p (Stopped fault) → ExpandsWaiting source text macros ((name, tokens) ∷ others) p (Refused fault)
 
 -- behind tokens that stand
@@ -143,7 +143,7 @@ IsReplacedBy source text macros known e call p outcome =
 -- the call of a name whose `(` was read comes to
 abbrev pub IsCallOpened : List ℕ → List ℕ → Macros → Known → Expander → Numbered → Progress → Outcome → Type 0
 IsCallOpened source text macros known e name p outcome =
-    (open : Lexeme) (rest : List Lexeme) (start : Progress) → LooksAhead text (mode_at e) rest start (At (open ∷ at_hand known e.pending) p) → is_mark source (codes "(") open ≡ true
+    (first : Lexeme) (rest : List Lexeme) (start : Progress) → LooksAhead text (mode_at e) rest start (At (first ∷ at_hand known e.pending) p) → is_mark source (codes "(") first ≡ true
     → Comes source text macros e.mode (map (opened source known) (reverse e.calls)) (named known name ∷ rest) (all_named known e.out) start outcome
 
 -- ---- the arguments of a call that are expanded

@@ -29,17 +29,17 @@ GoesOn text at end = (at ≤ end) × ((k : ℕ) → at ≤ k → k < end → is_
 
 rest_goes_on : (text : List ℕ) (at n end : ℕ) → Walks passed.Rest text at n end → GoesOn text at end
 rest_goes_on text at zero end h = (omega (arith, h), λ k a b. absurd (omega (arith, h, a, b)))
-rest_goes_on text at (suc n) end h = (omega (arith, below.0), all)
+rest_goes_on text at (suc n) end h = from (rest_goes_on text (at + h.0) n end h.2)
   where
-    below : GoesOn text (at + h.0) end
-    below = rest_goes_on text (at + h.0) n end h.2
-
-    all : (k : ℕ) → at ≤ k → k < end → is_raw_end text k ≡ false
-    all k a b =
-        elim (cases_lt at k) [
-          | inl l ↦ below.1 k (omega (arith, l, h.1.1)) b
-          | inr l ↦ let same : k ≡ at = omega (arith, l, a) in ap (is_raw_end text) same ∙ h.1.0
-        ]
+    from : GoesOn text (at + h.0) end → GoesOn text at end
+    from below = (omega (arith, below.0), all)
+      where
+        all : (k : ℕ) → at ≤ k → k < end → is_raw_end text k ≡ false
+        all k a b =
+            elim (cases_lt at k) [
+              | inl l ↦ below.1 k (omega (arith, l, h.1.1)) b
+              | inr l ↦ let same : k ≡ at = omega (arith, l, a) in ap (is_raw_end text) same ∙ h.1.0
+            ]
 
 pub rest-passed : (text : List ℕ) (at end next : ℕ) → Walked passed.Rest text at end → next ≡ behind_line text end → PassesRest text at next
 rest-passed text at end next h e =

@@ -66,7 +66,6 @@ fn space_len(found: Option<(PieceKind, usize)>) -> usize
     }
 }
 
-/// The blank or comment that stands in a line at a place.
 fn space_step(text: &[u8], at: usize) -> Option<usize>
     requires { at ≤ length text.now }
     ensures step { IsStep Passed.Space text.now at result }
@@ -97,6 +96,30 @@ fn step_len(unclosed: &mut Unclosed, text: &[u8], at: usize) -> usize
     unclosed.len_at(text, at)
 }
 
+fn rest_step(text: &[u8], at: usize) -> Option<usize>
+    requires { at ≤ length text.now }
+    ensures step { IsStep Passed.Rest text.now at result }
+    ensures within { IfSome result (λ len. (0 < len) × (at + len ≤ length text.now)) }
+{
+    if is_raw_end(text, at) {
+        return None;
+    }
+    Some(1)
+}
+
+fn line_step(unclosed: &mut Unclosed, text: &[u8], at: usize) -> Option<usize>
+    requires within { at ≤ length text.now }
+    requires unclosed { AreUnclosed text.now at unclosed.old }
+    ensures step { IsStep Passed.Line text.now at result }
+    ensures within { IfSome result (λ len. (0 < len) × (at + len ≤ length text.now)) }
+    ensures unclosed { AreUnclosed text.now at unclosed.new }
+{
+    if is_raw_end(text, at) {
+        return None;
+    }
+    Some(step_len(unclosed, text, at))
+}
+
 /// The step that there is at a place.
 fn step(passed: Passed, unclosed: &mut Unclosed, text: &[u8], at: usize) -> Option<usize>
     requires within { at ≤ length text.now }
@@ -107,9 +130,8 @@ fn step(passed: Passed, unclosed: &mut Unclosed, text: &[u8], at: usize) -> Opti
 {
     match passed {
         Passed::Space => space_step(text, at),
-        Passed::Rest | Passed::Line if is_raw_end(text, at) => None,
-        Passed::Rest => Some(1),
-        Passed::Line => Some(step_len(unclosed, text, at)),
+        Passed::Rest => rest_step(text, at),
+        Passed::Line => line_step(unclosed, text, at),
     }
 }
 
