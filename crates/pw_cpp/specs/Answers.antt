@@ -3,9 +3,10 @@ use Rattle.std.specs.Prelude.{◌≡◌, ℕ, ◌≤◌, Bool, not, ◌&&◌, �
 use Rattle.std.specs.Vec.{Vec}
 use Rattle.pw_token.specs.declared.token.Token.{Token}
 use Rattle.pw_token.specs.declared.token.TokenKind.TheVariants as token
-use Rattle.pw_cpp.specs.Conditions.{Judges, Holds, Faulty, Stops, items_of}
+use Rattle.pw_cpp.specs.Conditions.{Judges, Holds, Faulty, items_of}
+use Rattle.pw_cpp.specs.Conditions as condition
 use Rattle.pw_cpp.specs.Directives.{Becomes, Does, Fails, Standing, fault, standing}
-use Rattle.pw_cpp.specs.Files.{Faulted, File, Preprocesses, Read, Reading, ReadsFile, ReadsLines, Result_of, begins, file_named, line_of, output_of, text_of, with_standing}
+use Rattle.pw_cpp.specs.Files.{Faulted, File, GoesOn, Include, Includes, Obeys, Passed, Pragma, Preprocesses, Read, Reading, ReadsFile, ReadsLine, ReadsText, Result_of, Step, Stops, Use, Whole, after_passed, begins, file_named, line_of, name_of, output_of, passing, progress, text_of, with_standing}
 use Rattle.pw_cpp.specs.Groups.{is_reading, is_turn}
 use Rattle.pw_cpp.specs.declared.file.Reader.{Reader}
 use Rattle.pw_cpp.specs.declared.fault.CppFault.{CppFault}
@@ -20,13 +21,18 @@ use Rattle.pw_cpp.specs.declared.source.Digits.{Digits}
 use Rattle.pw_cpp_condition.specs.Grammar.{Means}
 use Rattle.pw_cpp_condition.specs.declared.word.Item.{Item}
 use Rattle.pw_cpp_expand.specs.Expansion.{produced_limit}
-use Rattle.pw_cpp_expand.specs.Lookahead.{Lexeme, output_limit}
+use Rattle.pw_cpp_expand.specs.Lookahead.{Further, Lexeme, ReadsOn, output_limit}
 use Rattle.pw_cpp_expand.specs.Numbered.{HaveEmpty, IsFault}
 use Rattle.pw_cpp_expand.specs.declared.progress.ExpandFault.{ExpandFault}
 use Rattle.pw_cpp_expand.specs.declared.progress.Progress.{Progress}
 use Rattle.pw_cpp_expand.specs.declared.progress.Lexeme.{Lexeme as Numbered}
-use Rattle.pw_cpp_lines.specs.Lines.{Lexes}
+use Rattle.pw_cpp_lines.specs.Heads.{IsHead, header_name}
+use Rattle.pw_cpp_lines.specs.Lines.{Lexes, PassesSpace}
+use Rattle.pw_cpp_lines.specs.Passing.{PassesLine}
+use Rattle.pw_cpp_lines.specs.declared.head.Head.{Head}
+use Rattle.pw_cpp_lines.specs.declared.head.Span.{Span}
 use Rattle.pw_cpp_lines.specs.declared.line.Line.{Line}
+use Rattle.pw_cpp_lines.specs.declared.line.LineFault.{LineFault}
 use Rattle.pw_cpp_lines.specs.declared.line.LineFault.TheVariants.{Bad}
 use Rattle.pw_cpp_macros.specs.Macros.{Macros}
 use Rattle.pw_cpp_values.specs.Arithmetic.{is_true}
@@ -45,7 +51,7 @@ IsVerdictOf source out judged.Faulty =
 abbrev pub AnswersJudgement : List ℕ → Macros → Digits → List Token → Progress → Progress → Result Judged ExpandFault → Type 0
 AnswersJudgement source macros digits tokens p q (Ok (judged.Holds holds)) = Judges source macros digits tokens p (Holds holds q.produced)
 AnswersJudgement source macros digits tokens p q (Ok judged.Faulty) = Judges source macros digits tokens p Faulty
-AnswersJudgement source macros digits tokens p q (Err fault) = IsFault fault (λ f. Judges source macros digits tokens p (Stops f))
+AnswersJudgement source macros digits tokens p q (Err fault) = IsFault fault (λ f. Judges source macros digits tokens p (condition.Stops f))
 
 -- ---- directives
 
@@ -57,9 +63,9 @@ standing_of kept = standing kept.macros (reverse kept.sections) kept.produced
 abbrev pub IsFaultOf : Fault → (Fault → Type 0) → Type 0
 IsFaultOf f Is = (f.kind ≡ kind.NoMemory) ⊎ Is f
 
-abbrev pub Obeys : List ℕ → Digits → Directive → Kept → Kept → Result (Unit {0}) Fault → Type 0
-Obeys source digits d old new (Ok done) = Does source digits (standing_of old) d.hash d.name.now d.tokens.now (Becomes (standing_of new))
-Obeys source digits d old new (Err fault) = IsFaultOf fault (λ f. Does source digits (standing_of old) d.hash d.name.now d.tokens.now (Fails f))
+abbrev pub AnswersEffect : List ℕ → Digits → Directive → Kept → Kept → Result (Unit {0}) Fault → Type 0
+AnswersEffect source digits d old new (Ok done) = Does source digits (standing_of old) d.hash d.name.now d.tokens.now (Becomes (standing_of new))
+AnswersEffect source digits d old new (Err fault) = IsFaultOf fault (λ f. Does source digits (standing_of old) d.hash d.name.now d.tokens.now (Fails f))
 
 -- ---- files
 
@@ -86,14 +92,30 @@ IsPlaceOf file place = (file.from ≤ place) × (place ≤ file.end)
 abbrev pub reads_of : Reader → List File
 reads_of reader = files_of (names_of reader.files.now) reader.spans.now
 
--- A step of a file leads from a place to another; a fault stands in the file that it names.
-abbrev pub StepsFile : Digits → ℕ → File → ℕ → Reader → Reader → Result ℕ Fault → Type 0
-StepsFile digits depth file at old new (Ok next) =
-    (r : Reading) → StandsAs old r
-    → (s : Reading) × StandsAs new s × ((found : Result_of) → ReadsLines old.source.now (reads_of old) digits depth file next s found → ReadsLines old.source.now (reads_of old) digits depth file at r found)
-StepsFile digits depth file at old new (Err fault) =
+-- What a call answers that does a step of a file: where reading goes on, and how it stands there; or a fault, in the file that it names.
+abbrev pub AnswersStep : Reader → Reader → (Reading → Step → Type 0) → Result ℕ Fault → Type 0
+AnswersStep old new Does (Ok next) = (r : Reading) → StandsAs old r → (s : Reading) × StandsAs new s × Does r (GoesOn next s)
+AnswersStep old new Does (Err fault) =
     IsFaultOf fault (λ f. (inner : File) × (file_named (reads_of old) inner.name ≡ Some inner) × IsPlaceOf inner f.place
-        × ((r : Reading) → StandsAs old r → ReadsLines old.source.now (reads_of old) digits depth file at r (Faulted inner.name f)))
+        × ((r : Reading) → StandsAs old r → Does r (Stops inner.name f)))
+
+-- what is done with the line at a place of a file
+abbrev pub DoesLine : List ℕ → List File → Digits → ℕ → File → ℕ → Reading → Step → Type 0
+DoesLine source files digits depth file at r step = (what : Head) × IsHead (text_of source file) at what × ReadsLine source files digits depth file at r what step
+
+abbrev pub DoesText : List ℕ → File → ℕ → Reading → Step → Type 0
+DoesText source file at r step = (further : Further) × ReadsOn (text_of source file) at (progress r at) further × ReadsText source file r further step
+
+abbrev pub DoesWhole : List ℕ → Digits → File → ℕ → Span → Reading → Step → Type 0
+DoesWhole source digits file hash name r step = (found : Result Line LineFault) × Lexes (text_of source file) hash found × Obeys source digits file r hash (name_of source name) found step
+
+abbrev pub DoesPassed : List ℕ → File → ℕ → ℕ → Span → Reading → Step → Type 0
+DoesPassed source file at hash name r step = (next : ℕ) × PassesLine (text_of source file) at next × (step ≡ after_passed file hash next r (passing (name_of source name) r.nested))
+
+abbrev pub DoesInclude : List ℕ → List File → Digits → ℕ → File → ℕ → Span → Reading → Step → Type 0
+DoesInclude source files digits depth file hash name r step =
+    (start : ℕ) × PassesSpace (text_of source file) (name.at + name.len) start
+    × Includes source files digits depth file r hash (name.at + name.len) (header_name (text_of source file) start) step
 
 -- a file that is read to its end
 abbrev pub ReadsWhole : Digits → ℕ → File → Reader → Reader → Result (Unit {0}) Fault → Type 0
@@ -117,12 +139,12 @@ abbrev pub IsLexed : List ℕ → ℕ → Result Line Fault → Type 0
 IsLexed text at (Ok line) = Lexes text at (Ok line)
 IsLexed text at (Err found) = IsFaultOf found (λ f. (place : ℕ) × Lexes text at (Err (Bad place)) × (f ≡ fault kind.Lex place))
 
--- a directive is looked at, or its line lexes whole
-abbrev pub is_looked_at_by : Reader → List ℕ → Bool
-is_looked_at_by reader name = is_reading (reverse reader.standing.sections) || (nat_le (length reader.standing.nested) 0 && is_turn name)
-
-abbrev pub is_lexed_whole_by : Reader → List ℕ → Bool
-is_lexed_whole_by reader name = is_looked_at_by reader name && not (bytes_eq name (codes "pragma")) && not (bytes_eq name (codes "include"))
+-- what is done with a directive
+abbrev pub use_by : Reader → List ℕ → Use
+use_by reader name =
+    if is_reading (reverse reader.standing.sections) && bytes_eq name (codes "pragma") then Pragma
+    else (if is_reading (reverse reader.standing.sections) && bytes_eq name (codes "include") then Include
+    else (if is_reading (reverse reader.standing.sections) || (nat_le (length reader.standing.nested) 0 && is_turn name) then Whole else Passed))
 
 -- from each to the next no less
 abbrev pub AreAscending : List ℕ → Type 0

@@ -10,6 +10,7 @@ use Rattle.pw_cpp.specs.declared.directive.Fault.{Fault}
 use Rattle.pw_cpp.specs.declared.fault.CppKind.{CppKind}
 use Rattle.pw_cpp.specs.declared.fault.CppKind.TheVariants as kind
 use Rattle.pw_cpp.specs.declared.fault.CppWhich.TheVariants as which
+use Rattle.pw_cpp.specs.declared.groups.Section.{Section}
 use Rattle.pw_cpp.specs.declared.source.Digits.{Digits}
 use Rattle.pw_cpp_expand.specs.Expansion.{produced_limit}
 use Rattle.pw_cpp_expand.specs.Lookahead.{output_limit}

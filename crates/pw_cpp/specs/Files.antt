@@ -12,15 +12,19 @@ use Rattle.pw_cpp.specs.declared.fault.CppKind.TheVariants as kind
 use Rattle.pw_cpp.specs.declared.fault.CppWhich.TheVariants as which
 use Rattle.pw_cpp.specs.declared.source.Digits.{Digits}
 use Rattle.pw_cpp_expand.specs.Expansion.{Expands, Outcome, Done, Stopped}
-use Rattle.pw_cpp_expand.specs.Lookahead.{Lexeme, ReadsOn, Tokens, Fault as Unread, fresh}
+use Rattle.pw_cpp_expand.specs.Lookahead.{Further, Lexeme, ReadsOn, Tokens, Fault as Unread, fresh}
 use Rattle.pw_cpp_expand.specs.declared.progress.Mode.TheVariants.{InText}
 use Rattle.pw_cpp_expand.specs.declared.progress.Progress.{Progress}
 use Rattle.pw_cpp_expand.specs.declared.progress.ExpandFault.{ExpandFault}
 use Rattle.pw_cpp_lines.specs.Heads.{IsHead, header_name}
 use Rattle.pw_cpp_lines.specs.Lines.{Lexes, PassesSpace}
 use Rattle.pw_cpp_lines.specs.Passing.{PassesLine, PassesRest}
+use Rattle.pw_cpp_lines.specs.declared.head.Head.{Head}
 use Rattle.pw_cpp_lines.specs.declared.head.Head.TheVariants as head
 use Rattle.pw_cpp_lines.specs.declared.head.Span.{Span}
+use Rattle.pw_cpp_lines.specs.declared.line.Line.{Line}
+use Rattle.pw_cpp_lines.specs.declared.line.LineFault.{LineFault}
+use Rattle.pw_cpp_lines.specs.declared.line.LineFault.TheVariants as no
 use Rattle.pw_cpp_lines.specs.declared.line.LineFault.TheVariants.{Bad}
 
 -- ---- files
@@ -49,10 +53,13 @@ ends_in name ending = nat_le (length ending) (length name) && bytes_eq (drop (le
 
 -- 1 to 400 bytes, the last two `.h`, and neither a space nor a newline
 abbrev pub is_header : List ℕ → Bool
-is_header name = nat_le (length name) 400 && ends_in name (codes ".h") && not (list_any (λ b. b == 32 || b == 10) name)
+is_header name = nat_le (length name) header_name_limit && ends_in name (codes ".h") && not (list_any (λ b. b == 32 || b == 10) name)
 
 abbrev pub depth_limit : ℕ
 depth_limit = 16
+
+abbrev pub header_name_limit : ℕ
+header_name_limit = 400
 
 abbrev pub length_limit : ℕ
 length_limit = 1048576
@@ -125,140 +132,166 @@ name_of source name = take name.len (drop name.at source)
 abbrev pub is_looked_at : Reading → List ℕ → Bool
 is_looked_at r name = is_reading r.standing_is.sections || (nat_le (length r.nested) 0 && is_turn name)
 
--- one whose line lexes whole
-abbrev pub lexes_whole : Reading → List ℕ → Bool
-lexes_whole r name = is_looked_at r name && not (bytes_eq name (codes "pragma")) && not (bytes_eq name (codes "include"))
+-- no directive, and not the empty one: a `##` begins the line, or the word has no meaning
+abbrev pub is_unknown : List ℕ → List Token → Bool
+is_unknown name [] = true
+is_unknown name (first ∷ []) = not (first.len == 1)
+is_unknown name (first ∷ word ∷ tokens) = not (is_directive name) || not (first.len == 1)
 
--- no directive, and not the empty one
-abbrev pub is_unknown : List ℕ → Token → List Token → Bool
-is_unknown name first [] = not (first.len == 1)
-is_unknown name first (token ∷ tokens) = not (is_directive name) || not (first.len == 1)
+-- What is done with a directive: `#pragma` and `#include` have lines of their own, the line of any other that is looked at lexes whole,
+-- and the others are passed over.
+pub data Use : Type 0 where
+  Pragma : Use
+  Include : Use
+  Whole : Use
+  Passed : Use
+
+abbrev pub use_of : Reading → List ℕ → Use
+use_of r name =
+    if is_reading r.standing_is.sections && bytes_eq name (codes "pragma") then Pragma
+    else (if is_reading r.standing_is.sections && bytes_eq name (codes "include") then Include
+    else (if is_looked_at r name then Whole else Passed))
 
 -- what the name of a directive that is passed over does to the sections within the group; None where it may not stand there
 abbrev pub passing : List ℕ → Nested → Option Nested
 passing name [] = if is_opening name then Some (false ∷ []) else Some []
 passing name (behind_else ∷ outer) = nested_after name behind_else outer
 
+-- ---- what a line does
+
+-- reading goes on at a place, or there is a fault of a file
+pub data Step : Type 0 where
+  GoesOn : ℕ → Reading → Step
+  Stops : List ℕ → Fault → Step
+
+-- a line has no tokens
+abbrev pub unlexed : File → LineFault → Step
+unlexed file (Bad place) = Stops file.name (fault kind.Lex place)
+unlexed file no.NoMemory = Stops file.name (fault kind.NoMemory 0)
+
+-- a text line with what its calls read further is expanded
+abbrev pub after_text : File → Reading → Outcome → Step
+after_text file r (Done out q) = GoesOn q.next (with_text r out q)
+after_text file r (Stopped f) = Stops file.name (fault_of_expansion f)
+
+-- a directive is obeyed
+abbrev pub after_effect : File → Reading → ℕ → Effect → Step
+after_effect file r next (Becomes s) = GoesOn next (with_standing r s)
+after_effect file r next (Fails f) = Stops file.name f
+
+-- a header is read, and the sections of the file that includes it are at hand again
+abbrev pub after_header : Reading → ℕ → Result_of → Step
+after_header r next (Read s) = GoesOn next (with_standing s (begins r.standing_is.sections s.standing_is))
+after_header r next (Faulted name f) = Stops name f
+
+-- an include whose header does not stand in quotes
+abbrev pub after_unquoted : File → ℕ → Result Line LineFault → Step
+after_unquoted file hash (Ok found) = Stops file.name (fault kind.Directive hash)
+after_unquoted file hash (Err f) = unlexed file f
+
+-- a header's name that is empty or too long, or with tokens behind it
+abbrev pub is_wrong_include : Span → Line → Bool
+is_wrong_include x found = x.len == 0 || not (nat_le x.len header_name_limit) || not (nat_le (length found.tokens) 0)
+
+-- a group that is passed over has a directive
+abbrev pub after_passed : File → ℕ → ℕ → Reading → Option Nested → Step
+after_passed file hash next r (Some nested) = GoesOn next (with_nested r nested)
+after_passed file hash next r None = Stops file.name (fault kind.Condition hash)
+
+-- the end of a file, where no section may be open
+abbrev pub ended_in : File → Reading → Sections → Result_of
+ended_in file r [] = Read r
+ended_in file r (section ∷ outer) = Faulted file.name (fault kind.Condition file.end)
+
 mutual
   -- A file at a depth of includes is read whole, from its beginning on; no section of a file is another's.
   pub data ReadsFile (source : List ℕ) (files : List File) (digits : Digits) : ℕ → File → Reading → Result_of → Type 0 where
-    too_long : (depth : ℕ) (file : File) (r : Reading) → length_limit < size_of file
-        → ReadsFile source files digits depth file r (Faulted file.name (fault (kind.Limit which.Length (length_limit + 1)) file.from))
+    too_long : (depth : ℕ) (file : File) (r : Reading) (found : Result_of) → length_limit < size_of file
+        → found ≡ Faulted file.name (fault (kind.Limit which.Length (length_limit + 1)) file.from) → ReadsFile source files digits depth file r found
     whole : (depth : ℕ) (file : File) (r : Reading) (found : Result_of) → size_of file ≤ length_limit
         → ReadsLines source files digits depth file file.from (with_standing r (begins [] r.standing_is)) found → ReadsFile source files digits depth file r found
 
   -- the lines of a file from a place on
   pub data ReadsLines (source : List ℕ) (files : List File) (digits : Digits) : ℕ → File → ℕ → Reading → Result_of → Type 0 where
-    ends : (depth : ℕ) (file : File) (r : Reading) → r.standing_is.sections ≡ [] → ReadsLines source files digits depth file file.end r (Read r)
-    ends_open : (depth : ℕ) (file : File) (r : Reading) (section : Section) (outer : Sections) → r.standing_is.sections ≡ section ∷ outer
-        → ReadsLines source files digits depth file file.end r (Faulted file.name (fault kind.Condition file.end))
+    ends : (depth : ℕ) (file : File) (at : ℕ) (r : Reading) (found : Result_of) → file.end ≤ at → found ≡ ended_in file r r.standing_is.sections
+        → ReadsLines source files digits depth file at r found
+    line : (depth : ℕ) (file : File) (at : ℕ) (r : Reading) (what : Head) (step : Step) (found : Result_of) → at < file.end → IsHead (text_of source file) at what
+        → ReadsLine source files digits depth file at r what step → Continues source files digits depth file step found → ReadsLines source files digits depth file at r found
 
-    -- text: a line of it, with what its calls read further
-    text : (depth : ℕ) (file : File) (at : ℕ) (r : Reading) (tokens : List Token) (p q : Progress) (out : List Lexeme) (found : Result_of)
-        → at < file.end → is_reading r.standing_is.sections ≡ true → IsHead (text_of source file) at head.Text
-        → ReadsOn (text_of source file) at (progress r at) (Tokens tokens p)
-        → Expands source (text_of source file) r.standing_is.macros InText (map fresh tokens) p (Done out q)
-        → ReadsLines source files digits depth file q.next (with_text r out q) found → ReadsLines source files digits depth file at r found
-    text_stops : (depth : ℕ) (file : File) (at : ℕ) (r : Reading) (tokens : List Token) (p : Progress) (f : ExpandFault)
-        → at < file.end → is_reading r.standing_is.sections ≡ true → IsHead (text_of source file) at head.Text
-        → ReadsOn (text_of source file) at (progress r at) (Tokens tokens p)
-        → Expands source (text_of source file) r.standing_is.macros InText (map fresh tokens) p (Stopped f)
-        → ReadsLines source files digits depth file at r (Faulted file.name (fault_of_expansion f))
-    text_unread : (depth : ℕ) (file : File) (at : ℕ) (r : Reading) (f : ExpandFault)
-        → at < file.end → is_reading r.standing_is.sections ≡ true → IsHead (text_of source file) at head.Text
-        → ReadsOn (text_of source file) at (progress r at) (Unread f) → ReadsLines source files digits depth file at r (Faulted file.name (fault_of_expansion f))
+  pub data Continues (source : List ℕ) (files : List File) (digits : Digits) : ℕ → File → Step → Result_of → Type 0 where
+    goes_on : (depth : ℕ) (file : File) (next : ℕ) (r : Reading) (found : Result_of) → ReadsLines source files digits depth file next r found
+        → Continues source files digits depth file (GoesOn next r) found
+    stops : (depth : ℕ) (file : File) (name : List ℕ) (f : Fault) → Continues source files digits depth file (Stops name f) (Faulted name f)
 
-    -- a marker, also in a group that is passed over
-    marker : (depth : ℕ) (file : File) (at : ℕ) (r : Reading) (hash next : ℕ) (found : Result_of)
-        → at < file.end → IsHead (text_of source file) at (head.Marker hash) → PassesRest (text_of source file) hash next
-        → ReadsLines source files digits depth file next r found → ReadsLines source files digits depth file at r found
+  -- A line is read where the group is taken. A marker is passed over anywhere.
+  pub data ReadsLine (source : List ℕ) (files : List File) (digits : Digits) : ℕ → File → ℕ → Reading → Head → Step → Type 0 where
+    marker : (depth : ℕ) (file : File) (at : ℕ) (r : Reading) (hash next : ℕ) → PassesRest (text_of source file) hash next
+        → ReadsLine source files digits depth file at r (head.Marker hash) (GoesOn next r)
+    text : (depth : ℕ) (file : File) (at : ℕ) (r : Reading) (further : Further) (step : Step) → is_reading r.standing_is.sections ≡ true
+        → ReadsOn (text_of source file) at (progress r at) further → ReadsText source file r further step → ReadsLine source files digits depth file at r head.Text step
+    passed_text : (depth : ℕ) (file : File) (at : ℕ) (r : Reading) (next : ℕ) → is_reading r.standing_is.sections ≡ false → PassesLine (text_of source file) at next
+        → ReadsLine source files digits depth file at r head.Text (GoesOn next r)
+    directive : (depth : ℕ) (file : File) (at : ℕ) (r : Reading) (hash : ℕ) (name : Span) (step : Step)
+        → ReadsDirective source files digits depth file at r hash name (use_of r (name_of source name)) step
+        → ReadsLine source files digits depth file at r (head.Directive hash name) step
 
-    -- `#pragma` is passed over
-    pragma : (depth : ℕ) (file : File) (at : ℕ) (r : Reading) (hash : ℕ) (name : Span) (next : ℕ) (found : Result_of)
-        → at < file.end → is_reading r.standing_is.sections ≡ true → IsHead (text_of source file) at (head.Directive hash name)
-        → name_of source name ≡ codes "pragma" → PassesRest (text_of source file) (name.at + name.len) next
-        → ReadsLines source files digits depth file next r found → ReadsLines source files digits depth file at r found
+  pub data ReadsText (source : List ℕ) : File → Reading → Further → Step → Type 0 where
+    unread : (file : File) (r : Reading) (f : ExpandFault) → ReadsText source file r (Unread f) (Stops file.name (fault_of_expansion f))
+    expands : (file : File) (r : Reading) (tokens : List Token) (p : Progress) (outcome : Outcome) (step : Step)
+        → Expands source (text_of source file) r.standing_is.macros InText (map fresh tokens) p outcome → step ≡ after_text file r outcome
+        → ReadsText source file r (Tokens tokens p) step
 
-    -- a directive of its own word, or the empty one
-    directive : (depth : ℕ) (file : File) (at : ℕ) (r : Reading) (hash : ℕ) (name : Span) (first word : Token) (tokens : List Token) (next : ℕ) (s : Standing) (found : Result_of)
-        → at < file.end → lexes_whole r (name_of source name) ≡ true → IsHead (text_of source file) at (head.Directive hash name)
-        → Lexes (text_of source file) hash (Ok (record { tokens = first ∷ word ∷ tokens; next = next }))
-        → Does source digits r.standing_is hash (name_of source name) tokens (Becomes s)
-        → ReadsLines source files digits depth file next (with_standing r s) found → ReadsLines source files digits depth file at r found
-    directive_fails : (depth : ℕ) (file : File) (at : ℕ) (r : Reading) (hash : ℕ) (name : Span) (first word : Token) (tokens : List Token) (next : ℕ) (f : Fault)
-        → at < file.end → lexes_whole r (name_of source name) ≡ true → IsHead (text_of source file) at (head.Directive hash name)
-        → Lexes (text_of source file) hash (Ok (record { tokens = first ∷ word ∷ tokens; next = next }))
-        → Does source digits r.standing_is hash (name_of source name) tokens (Fails f)
-        → ReadsLines source files digits depth file at r (Faulted file.name f)
-    empty : (depth : ℕ) (file : File) (at : ℕ) (r : Reading) (hash : ℕ) (name : Span) (first : Token) (next : ℕ) (found : Result_of)
-        → at < file.end → is_reading r.standing_is.sections ≡ true → IsHead (text_of source file) at (head.Directive hash name)
-        → Lexes (text_of source file) hash (Ok (record { tokens = first ∷ []; next = next })) → first.len ≡ 1
-        → ReadsLines source files digits depth file next r found → ReadsLines source files digits depth file at r found
-    unknown : (depth : ℕ) (file : File) (at : ℕ) (r : Reading) (hash : ℕ) (name : Span) (first : Token) (tokens : List Token) (next : ℕ)
-        → at < file.end → is_reading r.standing_is.sections ≡ true → IsHead (text_of source file) at (head.Directive hash name)
-        → Lexes (text_of source file) hash (Ok (record { tokens = first ∷ tokens; next = next }))
-        → is_unknown (name_of source name) first tokens ≡ true → lexes_whole r (name_of source name) ≡ true → ReadsLines source files digits depth file at r (Faulted file.name (fault kind.Directive hash))
-    no_tokens : (depth : ℕ) (file : File) (at : ℕ) (r : Reading) (hash : ℕ) (name : Span) (place : ℕ)
-        → at < file.end → lexes_whole r (name_of source name) ≡ true → IsHead (text_of source file) at (head.Directive hash name)
-        → Lexes (text_of source file) hash (Err (Bad place)) → ReadsLines source files digits depth file at r (Faulted file.name (fault kind.Lex place))
+  pub data ReadsDirective (source : List ℕ) (files : List File) (digits : Digits) : ℕ → File → ℕ → Reading → ℕ → Span → Use → Step → Type 0 where
+    pragma : (depth : ℕ) (file : File) (at : ℕ) (r : Reading) (hash : ℕ) (name : Span) (next : ℕ) → PassesRest (text_of source file) (name.at + name.len) next
+        → ReadsDirective source files digits depth file at r hash name Pragma (GoesOn next r)
+    include : (depth : ℕ) (file : File) (at : ℕ) (r : Reading) (hash : ℕ) (name : Span) (start : ℕ) (step : Step)
+        → PassesSpace (text_of source file) (name.at + name.len) start
+        → Includes source files digits depth file r hash (name.at + name.len) (header_name (text_of source file) start) step
+        → ReadsDirective source files digits depth file at r hash name Include step
+    whole_line : (depth : ℕ) (file : File) (at : ℕ) (r : Reading) (hash : ℕ) (name : Span) (found : Result Line LineFault) (step : Step)
+        → Lexes (text_of source file) hash found → Obeys source digits file r hash (name_of source name) found step
+        → ReadsDirective source files digits depth file at r hash name Whole step
+    passed : (depth : ℕ) (file : File) (at : ℕ) (r : Reading) (hash : ℕ) (name : Span) (next : ℕ) (step : Step) → PassesLine (text_of source file) at next
+        → step ≡ after_passed file hash next r (passing (name_of source name) r.nested) → ReadsDirective source files digits depth file at r hash name Passed step
 
-    -- an include: a header in quotes and nothing behind it
-    include : (depth : ℕ) (file header : File) (at : ℕ) (r s : Reading) (hash : ℕ) (name x : Span) (start next : ℕ) (found : Result_of)
-        → at < file.end → is_reading r.standing_is.sections ≡ true → IsHead (text_of source file) at (head.Directive hash name)
-        → name_of source name ≡ codes "include" → PassesSpace (text_of source file) (name.at + name.len) start → header_name (text_of source file) start ≡ Some x
-        → Lexes (text_of source file) (x.at + x.len + 1) (Ok (record { tokens = []; next = next }))
-        → header_of files (name_of source x) ≡ Some header → depth < depth_limit
-        → ReadsFile source files digits (suc depth) header r (Read s)
-        → ReadsLines source files digits depth file next (with_standing s (begins r.standing_is.sections s.standing_is)) found → ReadsLines source files digits depth file at r found
-    include_faulted : (depth : ℕ) (file header : File) (at : ℕ) (r : Reading) (hash : ℕ) (name x : Span) (start next : ℕ) (inner : List ℕ) (f : Fault)
-        → at < file.end → is_reading r.standing_is.sections ≡ true → IsHead (text_of source file) at (head.Directive hash name)
-        → name_of source name ≡ codes "include" → PassesSpace (text_of source file) (name.at + name.len) start → header_name (text_of source file) start ≡ Some x
-        → Lexes (text_of source file) (x.at + x.len + 1) (Ok (record { tokens = []; next = next }))
-        → header_of files (name_of source x) ≡ Some header → depth < depth_limit
-        → ReadsFile source files digits (suc depth) header r (Faulted inner f) → ReadsLines source files digits depth file at r (Faulted inner f)
-    too_deep : (depth : ℕ) (file header : File) (at : ℕ) (r : Reading) (hash : ℕ) (name x : Span) (start next : ℕ)
-        → at < file.end → is_reading r.standing_is.sections ≡ true → IsHead (text_of source file) at (head.Directive hash name)
-        → name_of source name ≡ codes "include" → PassesSpace (text_of source file) (name.at + name.len) start → header_name (text_of source file) start ≡ Some x
-        → Lexes (text_of source file) (x.at + x.len + 1) (Ok (record { tokens = []; next = next }))
-        → header_of files (name_of source x) ≡ Some header → depth_limit ≤ depth
-        → ReadsLines source files digits depth file at r (Faulted file.name (fault (kind.Limit which.Depth (depth_limit + 1)) hash))
-    no_header : (depth : ℕ) (file : File) (at : ℕ) (r : Reading) (hash : ℕ) (name x : Span) (start next : ℕ)
-        → at < file.end → is_reading r.standing_is.sections ≡ true → IsHead (text_of source file) at (head.Directive hash name)
-        → name_of source name ≡ codes "include" → PassesSpace (text_of source file) (name.at + name.len) start → header_name (text_of source file) start ≡ Some x
-        → Lexes (text_of source file) (x.at + x.len + 1) (Ok (record { tokens = []; next = next }))
-        → 1 ≤ x.len → x.len ≤ 400 → header_of files (name_of source x) ≡ None
-        → ReadsLines source files digits depth file at r (Faulted file.name (fault (kind.Include (name_of source x)) hash))
-    not_quoted : (depth : ℕ) (file : File) (at : ℕ) (r : Reading) (hash : ℕ) (name : Span) (start : ℕ) (tokens : List Token) (next : ℕ)
-        → at < file.end → is_reading r.standing_is.sections ≡ true → IsHead (text_of source file) at (head.Directive hash name)
-        → name_of source name ≡ codes "include" → PassesSpace (text_of source file) (name.at + name.len) start → header_name (text_of source file) start ≡ None
-        → Lexes (text_of source file) (name.at + name.len) (Ok (record { tokens = tokens; next = next }))
-        → ReadsLines source files digits depth file at r (Faulted file.name (fault kind.Directive hash))
-    not_quoted_bad : (depth : ℕ) (file : File) (at : ℕ) (r : Reading) (hash : ℕ) (name : Span) (start place : ℕ)
-        → at < file.end → is_reading r.standing_is.sections ≡ true → IsHead (text_of source file) at (head.Directive hash name)
-        → name_of source name ≡ codes "include" → PassesSpace (text_of source file) (name.at + name.len) start → header_name (text_of source file) start ≡ None
-        → Lexes (text_of source file) (name.at + name.len) (Err (Bad place)) → ReadsLines source files digits depth file at r (Faulted file.name (fault kind.Lex place))
-    quoted_wrong : (depth : ℕ) (file : File) (at : ℕ) (r : Reading) (hash : ℕ) (name x : Span) (start : ℕ) (tokens : List Token) (next : ℕ)
-        → at < file.end → is_reading r.standing_is.sections ≡ true → IsHead (text_of source file) at (head.Directive hash name)
-        → name_of source name ≡ codes "include" → PassesSpace (text_of source file) (name.at + name.len) start → header_name (text_of source file) start ≡ Some x
-        → Lexes (text_of source file) (x.at + x.len + 1) (Ok (record { tokens = tokens; next = next }))
-        → ((x.len == 0) || not (nat_le x.len 400) || not (nat_le (length tokens) 0)) ≡ true
-        → ReadsLines source files digits depth file at r (Faulted file.name (fault kind.Directive hash))
-    quoted_bad : (depth : ℕ) (file : File) (at : ℕ) (r : Reading) (hash : ℕ) (name x : Span) (start place : ℕ)
-        → at < file.end → is_reading r.standing_is.sections ≡ true → IsHead (text_of source file) at (head.Directive hash name)
-        → name_of source name ≡ codes "include" → PassesSpace (text_of source file) (name.at + name.len) start → header_name (text_of source file) start ≡ Some x
-        → Lexes (text_of source file) (x.at + x.len + 1) (Err (Bad place)) → ReadsLines source files digits depth file at r (Faulted file.name (fault kind.Lex place))
+  -- A line that lexes whole is empty behind its `#`, or has a directive's own word; any other is a fault.
+  pub data Obeys (source : List ℕ) (digits : Digits) : File → Reading → ℕ → List ℕ → Result Line LineFault → Step → Type 0 where
+    no_tokens : (file : File) (r : Reading) (hash : ℕ) (name : List ℕ) (f : LineFault) (step : Step) → step ≡ unlexed file f
+        → Obeys source digits file r hash name (Err f) step
+    empty : (file : File) (r : Reading) (hash : ℕ) (name : List ℕ) (found : Line) (first : Token) → found.tokens ≡ first ∷ [] → first.len ≡ 1
+        → Obeys source digits file r hash name (Ok found) (GoesOn found.next r)
+    obeyed : (file : File) (r : Reading) (hash : ℕ) (name : List ℕ) (found : Line) (first word : Token) (tokens : List Token) (effect : Effect) (step : Step)
+        → found.tokens ≡ first ∷ word ∷ tokens → first.len ≡ 1 → is_directive name ≡ true → Does source digits r.standing_is hash name tokens effect
+        → step ≡ after_effect file r found.next effect → Obeys source digits file r hash name (Ok found) step
+    unknown : (file : File) (r : Reading) (hash : ℕ) (name : List ℕ) (found : Line) → is_unknown name found.tokens ≡ true
+        → Obeys source digits file r hash name (Ok found) (Stops file.name (fault kind.Directive hash))
 
-    -- a line that is passed over
-    passed : (depth : ℕ) (file : File) (at : ℕ) (r : Reading) (next : ℕ) (found : Result_of)
-        → at < file.end → is_reading r.standing_is.sections ≡ false → IsHead (text_of source file) at head.Text → PassesLine (text_of source file) at next
-        → ReadsLines source files digits depth file next r found → ReadsLines source files digits depth file at r found
-    passed_directive : (depth : ℕ) (file : File) (at : ℕ) (r : Reading) (hash : ℕ) (name : Span) (nested : Nested) (next : ℕ) (found : Result_of)
-        → at < file.end → is_looked_at r (name_of source name) ≡ false → IsHead (text_of source file) at (head.Directive hash name)
-        → passing (name_of source name) r.nested ≡ Some nested → PassesLine (text_of source file) at next
-        → ReadsLines source files digits depth file next (with_nested r nested) found → ReadsLines source files digits depth file at r found
-    passed_wrong : (depth : ℕ) (file : File) (at : ℕ) (r : Reading) (hash : ℕ) (name : Span)
-        → at < file.end → is_looked_at r (name_of source name) ≡ false → IsHead (text_of source file) at (head.Directive hash name)
-        → passing (name_of source name) r.nested ≡ None → ReadsLines source files digits depth file at r (Faulted file.name (fault kind.Condition hash))
+  -- The header of an include stands in quotes, with nothing behind it.
+  pub data Includes (source : List ℕ) (files : List File) (digits : Digits) : ℕ → File → Reading → ℕ → ℕ → Option Span → Step → Type 0 where
+    unquoted : (depth : ℕ) (file : File) (r : Reading) (hash behind : ℕ) (found : Result Line LineFault) (step : Step) → Lexes (text_of source file) behind found
+        → step ≡ after_unquoted file hash found → Includes source files digits depth file r hash behind None step
+    quoted : (depth : ℕ) (file : File) (r : Reading) (hash behind : ℕ) (x : Span) (found : Result Line LineFault) (step : Step)
+        → Lexes (text_of source file) (x.at + x.len + 1) found → IncludesQuoted source files digits depth file r hash x found step
+        → Includes source files digits depth file r hash behind (Some x) step
+
+  pub data IncludesQuoted (source : List ℕ) (files : List File) (digits : Digits) : ℕ → File → Reading → ℕ → Span → Result Line LineFault → Step → Type 0 where
+    no_rest : (depth : ℕ) (file : File) (r : Reading) (hash : ℕ) (x : Span) (f : LineFault) (step : Step) → step ≡ unlexed file f
+        → IncludesQuoted source files digits depth file r hash x (Err f) step
+    wrong : (depth : ℕ) (file : File) (r : Reading) (hash : ℕ) (x : Span) (found : Line) → is_wrong_include x found ≡ true
+        → IncludesQuoted source files digits depth file r hash x (Ok found) (Stops file.name (fault kind.Directive hash))
+    named : (depth : ℕ) (file : File) (r : Reading) (hash : ℕ) (x : Span) (found : Line) (step : Step) → is_wrong_include x found ≡ false
+        → IncludesHeader source files digits depth file r hash found.next (name_of source x) (header_of files (name_of source x)) step
+        → IncludesQuoted source files digits depth file r hash x (Ok found) step
+
+  -- The header is read one deeper, if it is there and not too deep.
+  pub data IncludesHeader (source : List ℕ) (files : List File) (digits : Digits) : ℕ → File → Reading → ℕ → ℕ → List ℕ → Option File → Step → Type 0 where
+    no_header : (depth : ℕ) (file : File) (r : Reading) (hash next : ℕ) (name : List ℕ)
+        → IncludesHeader source files digits depth file r hash next name None (Stops file.name (fault (kind.Include name) hash))
+    too_deep : (depth : ℕ) (file header : File) (r : Reading) (hash next : ℕ) (name : List ℕ) → depth_limit ≤ depth
+        → IncludesHeader source files digits depth file r hash next name (Some header) (Stops file.name (fault (kind.Limit which.Depth (depth_limit + 1)) hash))
+    header : (depth : ℕ) (file inner : File) (r : Reading) (hash next : ℕ) (name : List ℕ) (found : Result_of) (step : Step) → depth < depth_limit
+        → ReadsFile source files digits (suc depth) inner r found → step ≡ after_header r next found
+        → IncludesHeader source files digits depth file r hash next name (Some inner) step
 
 -- ---- all
 

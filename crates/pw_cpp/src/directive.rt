@@ -1,7 +1,7 @@
 //! Directives that are read.
 
 ghost use Rattle.std.specs.Prelude.{◌≡◌, ◌≤◌, ◌+◌, ◌++◌, ◌∷◌, [], length, option_map, IfOk, IfErr, MatchResult};
-ghost use Rattle.pw_cpp.specs.Answers.{IsFaultOf, Obeys, standing_of};
+ghost use Rattle.pw_cpp.specs.Answers.{AnswersEffect};
 ghost use Rattle.pw_cpp.specs.Directives as spec;
 ghost use Rattle.pw_cpp_expand.specs.AtHand.{IsWithinLimits};
 ghost use Rattle.pw_cpp_expand.specs.Expansion.{produced_limit};
@@ -192,7 +192,7 @@ impl<'a> Standing<'a> {
     ) -> Result<(), Fault>
         requires limits { self.old.produced ≤ produced_limit }
         requires empty { HaveEmpty self.old.sets }
-        ensures obeys { Obeys source.now digits d self.old self.new result }
+        ensures obeys { AnswersEffect source.now digits d self.old self.new result }
         ensures keeps { Keeps self.old.sets self.new.sets }
         ensures limits { IfOk result (λ _. self.new.produced ≤ produced_limit) }
         ensures nested { IfOk result (λ _. self.new.nested ≡ self.old.nested) }

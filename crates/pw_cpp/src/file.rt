@@ -1,9 +1,9 @@
 //! Files, line by line.
 
-ghost use Rattle.std.specs.Prelude.{◌≡◌, ◌≤◌, ◌<◌, ◌+◌, ◌++◌, ℕ, true, false, length, reverse, nat_le, position, unwrap_or, slice_get, bytes_eq, codes, Some, IfOk};
-ghost use Rattle.pw_cpp.specs.Answers.{AnswersCpp, IsInRows, IsLexed, IsPlacedFault, IsRead, IsWithin, Keeps, ReadsWhole, StepsFile, digits_of, is_lexed_whole_by, is_looked_at_by, reads_of, source_of, spans_of};
+ghost use Rattle.std.specs.Prelude.{◌≡◌, ◌≤◌, ◌<◌, ◌+◌, ◌++◌, ℕ, true, false, length, reverse, nat_le, position, unwrap_or, slice_get, bytes_eq, Some, IfOk};
+ghost use Rattle.pw_cpp.specs.Answers.{AnswersCpp, AnswersStep, DoesInclude, DoesLine, DoesPassed, DoesText, DoesWhole, IsInRows, IsLexed, IsPlacedFault, IsRead, IsWithin, Keeps, ReadsWhole, digits_of, reads_of, source_of, spans_of, use_by};
 ghost use Rattle.pw_cpp.specs.Directives.{fault};
-ghost use Rattle.pw_cpp.specs.Files.{File, name_of, output_of, rows_of};
+ghost use Rattle.pw_cpp.specs.Files.{File, Include, Passed, Whole, name_of, output_of, rows_of};
 ghost use Rattle.pw_cpp.specs.Groups.{is_reading};
 ghost use Rattle.pw_cpp_expand.specs.Numbered.{all_named};
 ghost use Rattle.pw_cpp_lines.specs.Heads.{IsHead};
@@ -114,7 +114,7 @@ impl<'a> Reader<'a> {
         requires within { IsWithin self.old }
         ensures keeps { Keeps self.old self.new }
         ensures within { IfOk result (λ next. IsWithin self.new × (at < next) × (next ≤ length text.now)) }
-        ensures steps { (file : File) → IsRead self.old file text.now → StepsFile digits_of depth file at self.old self.new result }
+        ensures steps { (file : File) → IsRead self.old file text.now → AnswersStep self.old self.new (DoesLine self.old.source.now (reads_of self.old) digits_of depth file at) result }
     {
         match head_of(text, at) {
             Head::Marker { hash } => Ok(pass_rest(text, hash)),
@@ -145,11 +145,11 @@ impl<'a> Reader<'a> {
     ) -> Result<usize, Fault>
         requires place { at < length text.now }
         requires head { IsHead text.now at (Head.Directive hash name) }
-        requires passed { is_looked_at_by self.old (name_of text.now name) ≡ false }
+        requires passed { use_by self.old (name_of text.now name) ≡ Passed }
         requires within { IsWithin self.old }
         ensures keeps { Keeps self.old self.new }
         ensures within { IfOk result (λ next. IsWithin self.new × (at < next) × (next ≤ length text.now)) }
-        ensures steps { (depth : ℕ) (file : File) → IsRead self.old file text.now → StepsFile digits_of depth file at self.old self.new result }
+        ensures steps { (file : File) → IsRead self.old file text.now → AnswersStep self.old self.new (DoesPassed self.old.source.now file at hash name) result }
     {
         let word = word_of(text, name);
         let nested = &mut self.standing.nested;
@@ -176,11 +176,11 @@ impl<'a> Reader<'a> {
     fn obey(&mut self, text: &'a [u8], at: usize, hash: usize, name: Span) -> Result<usize, Fault>
         requires place { at < length text.now }
         requires head { IsHead text.now at (Head.Directive hash name) }
-        requires read { is_lexed_whole_by self.old (name_of text.now name) ≡ true }
+        requires read { use_by self.old (name_of text.now name) ≡ Whole }
         requires within { IsWithin self.old }
         ensures keeps { Keeps self.old self.new }
         ensures within { IfOk result (λ next. IsWithin self.new × (at < next) × (next ≤ length text.now)) }
-        ensures steps { (depth : ℕ) (file : File) → IsRead self.old file text.now → StepsFile digits_of depth file at self.old self.new result }
+        ensures steps { (file : File) → IsRead self.old file text.now → AnswersStep self.old self.new (DoesWhole self.old.source.now digits_of file hash name) result }
     {
         let word = word_of(text, name);
         let line = self.lexed(text, hash)?;
@@ -212,7 +212,7 @@ impl<'a> Reader<'a> {
         requires within { IsWithin self.old }
         ensures keeps { Keeps self.old self.new }
         ensures within { IfOk result (λ next. IsWithin self.new × (at < next) × (next ≤ length text.now)) }
-        ensures steps { (depth : ℕ) (file : File) → IsRead self.old file text.now → StepsFile digits_of depth file at self.old self.new result }
+        ensures steps { (file : File) → IsRead self.old file text.now → AnswersStep self.old self.new (DoesText self.old.source.now file at) result }
     {
         let line = self.lexed(text, at)?;
         let size = self.out.len();
@@ -286,12 +286,11 @@ impl<'a> Reader<'a> {
         requires place { at < length text.now }
         requires depth { depth ≤ DEPTH_LIMIT }
         requires head { IsHead text.now at (Head.Directive hash name) }
-        requires read { is_reading (reverse self.old.standing.sections) ≡ true }
-        requires word { name_of text.now name ≡ codes "include" }
+        requires read { use_by self.old (name_of text.now name) ≡ Include }
         requires within { IsWithin self.old }
         ensures keeps { Keeps self.old self.new }
         ensures within { IfOk result (λ next. IsWithin self.new × (at < next) × (next ≤ length text.now)) }
-        ensures steps { (file : File) → IsRead self.old file text.now → StepsFile digits_of depth file at self.old self.new result }
+        ensures steps { (file : File) → IsRead self.old file text.now → AnswersStep self.old self.new (DoesInclude self.old.source.now (reads_of self.old) digits_of depth file hash name) result }
     {
         let behind = name.at + name.len;
         let wrong = Fault {
