@@ -5,7 +5,7 @@ use Rattle.pw_token.specs.declared.token.Token.{Token}
 use Rattle.pw_token.specs.declared.token.TokenKind.TheVariants as token
 use Rattle.pw_cpp.specs.Conditions.{Judges, Holds, Faulty, items_of}
 use Rattle.pw_cpp.specs.Conditions as condition
-use Rattle.pw_cpp.specs.Directives.{Becomes, Does, Fails, Standing, fault, standing}
+use Rattle.pw_cpp.specs.Directives.{Becomes, DoesWord, Fails, Standing, fault, standing, word_of}
 use Rattle.pw_cpp.specs.Files.{Faulted, File, GoesOn, Include, Includes, Obeys, Passed, Pragma, Preprocesses, Read, Reading, ReadsFile, ReadsLine, ReadsText, Result_of, Step, Stops, Use, Whole, after_passed, begins, file_named, line_of, name_of, output_of, passing, progress, text_of, with_standing}
 use Rattle.pw_cpp.specs.Groups.{is_reading, is_turn}
 use Rattle.pw_cpp.specs.declared.file.Reader.{Reader}
@@ -48,10 +48,14 @@ IsVerdictOf source out judged.Faulty =
     (items_of source out ≡ None)
     ⊎ ((items : List Item) × (items_of source out ≡ Some items) × (((number : Number) → Means items number → ⊥) ⊎ ((number : Number) × Means items number × (number.word ≡ None))))
 
-abbrev pub AnswersJudgement : List ℕ → Macros → Digits → List Token → Progress → Progress → Result Judged ExpandFault → Type 0
-AnswersJudgement source macros digits tokens p q (Ok (judged.Holds holds)) = Judges source macros digits tokens p (Holds holds q.produced)
-AnswersJudgement source macros digits tokens p q (Ok judged.Faulty) = Judges source macros digits tokens p Faulty
-AnswersJudgement source macros digits tokens p q (Err fault) = IsFault fault (λ f. Judges source macros digits tokens p (condition.Stops f))
+-- how far a condition has come before it is judged: nothing but tokens produced before
+abbrev pub IsJudging : Progress → Type 0
+IsJudging p = p ≡ record { next = 0; rows = []; produced = p.produced; size = 0 }
+
+abbrev pub AnswersJudgement : List ℕ → Macros → Digits → List Token → ℕ → ℕ → Result Judged ExpandFault → Type 0
+AnswersJudgement source macros digits tokens before after (Ok (judged.Holds holds)) = Judges source macros digits tokens before (Holds holds after)
+AnswersJudgement source macros digits tokens before after (Ok judged.Faulty) = Judges source macros digits tokens before Faulty
+AnswersJudgement source macros digits tokens before after (Err fault) = IsFault fault (λ f. Judges source macros digits tokens before (condition.Stops f))
 
 -- ---- directives
 
@@ -64,8 +68,8 @@ abbrev pub IsFaultOf : Fault → (Fault → Type 0) → Type 0
 IsFaultOf f Is = (f.kind ≡ kind.NoMemory) ⊎ Is f
 
 abbrev pub AnswersEffect : List ℕ → Digits → Directive → Kept → Kept → Result (Unit {0}) Fault → Type 0
-AnswersEffect source digits d old new (Ok done) = Does source digits (standing_of old) d.hash d.name.now d.tokens.now (Becomes (standing_of new))
-AnswersEffect source digits d old new (Err fault) = IsFaultOf fault (λ f. Does source digits (standing_of old) d.hash d.name.now d.tokens.now (Fails f))
+AnswersEffect source digits d old new (Ok done) = DoesWord source digits (standing_of old) d.hash d.tokens.now (word_of d.name.now) (Becomes (standing_of new))
+AnswersEffect source digits d old new (Err fault) = IsFaultOf fault (λ f. DoesWord source digits (standing_of old) d.hash d.tokens.now (word_of d.name.now) (Fails f))
 
 -- ---- files
 

@@ -74,15 +74,23 @@ decided_by None produced = Faulty
 abbrev pub decided : Number → ℕ → Verdict
 decided number produced = decided_by number.word produced
 
-pub data Judges (source : List ℕ) (macros : Macros) (digits : Digits) (tokens : List Token) (p : Progress) : Verdict → Type 0 where
-  malformed : with_defined source macros digits tokens ≡ None → Judges source macros digits tokens p Faulty
-  stops : (taken : List Lexeme) (fault : ExpandFault) → with_defined source macros digits tokens ≡ Some taken → Expands source source macros Alone taken p (Stopped fault)
-      → Judges source macros digits tokens p (Stops fault)
-  no_items : (taken out : List Lexeme) (q : Progress) → with_defined source macros digits tokens ≡ Some taken → Expands source source macros Alone taken p (Done out q)
-      → items_of source out ≡ None → Judges source macros digits tokens p Faulty
-  no_expression : (taken out : List Lexeme) (q : Progress) (items : List Item) → with_defined source macros digits tokens ≡ Some taken
-      → Expands source source macros Alone taken p (Done out q) → items_of source out ≡ Some items → ((number : Number) → Means items number → ⊥)
-      → Judges source macros digits tokens p Faulty
-  evaluated : (taken out : List Lexeme) (q : Progress) (items : List Item) (number : Number) → with_defined source macros digits tokens ≡ Some taken
-      → Expands source source macros Alone taken p (Done out q) → items_of source out ≡ Some items → Means items number
-      → Judges source macros digits tokens p (decided number q.produced)
+-- items that are an expression come to its number; where they are none, or there is no item for a token, there is no value
+pub data JudgesItems : Option (List Item) → ℕ → Verdict → Type 0 where
+  no_items : (produced : ℕ) → JudgesItems None produced Faulty
+  no_expression : (items : List Item) (produced : ℕ) → ((number : Number) → Means items number → ⊥) → JudgesItems (Some items) produced Faulty
+  evaluated : (items : List Item) (produced : ℕ) (number : Number) (verdict : Verdict) → Means items number → verdict ≡ decided number produced
+      → JudgesItems (Some items) produced verdict
+
+pub data JudgesOutcome (source : List ℕ) : Outcome → Verdict → Type 0 where
+  stopped : (fault : ExpandFault) → JudgesOutcome source (Stopped fault) (Stops fault)
+  done : (out : List Lexeme) (q : Progress) (verdict : Verdict) → JudgesItems (items_of source out) q.produced verdict → JudgesOutcome source (Done out q) verdict
+
+pub data JudgesTaken (source : List ℕ) (macros : Macros) (p : Progress) : Option (List Lexeme) → Verdict → Type 0 where
+  malformed : JudgesTaken source macros p None Faulty
+  expanded : (taken : List Lexeme) (outcome : Outcome) (verdict : Verdict) → Expands source source macros Alone taken p outcome → JudgesOutcome source outcome verdict
+      → JudgesTaken source macros p (Some taken) verdict
+
+-- what the tokens of a condition come to, where so many tokens were produced before
+abbrev pub Judges : List ℕ → Macros → Digits → List Token → ℕ → Verdict → Type 0
+Judges source macros digits tokens produced verdict =
+    JudgesTaken source macros (record { next = 0; rows = []; produced = produced; size = 0 }) (with_defined source macros digits tokens) verdict

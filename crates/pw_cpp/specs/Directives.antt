@@ -4,7 +4,7 @@
 use Rattle.std.specs.Prelude.{◌≡◌, ℕ, ◌+◌, Bool, true, false, not, ◌&&◌, ◌||◌, ◌==◌, if◌then◌else◌, List, [], ◌∷◌, ◌++◌, drop, length, codes, bytes_eq, is_some, Option, Some, None, Result, Ok, Err}
 use Rattle.pw_token.specs.Roles.{spelling}
 use Rattle.pw_token.specs.declared.token.Token.{Token}
-use Rattle.pw_cpp.specs.Conditions.{Judges, Holds, Faulty, Stops}
+use Rattle.pw_cpp.specs.Conditions.{Judges, Verdict, Holds, Faulty, Stops}
 use Rattle.pw_cpp.specs.Groups.{Sections, opened, with_elif, with_else}
 use Rattle.pw_cpp.specs.declared.directive.Fault.{Fault}
 use Rattle.pw_cpp.specs.declared.fault.CppKind.{CppKind}
@@ -14,7 +14,6 @@ use Rattle.pw_cpp.specs.declared.groups.Section.{Section}
 use Rattle.pw_cpp.specs.declared.source.Digits.{Digits}
 use Rattle.pw_cpp_expand.specs.Expansion.{produced_limit}
 use Rattle.pw_cpp_expand.specs.Lookahead.{output_limit}
-use Rattle.pw_cpp_expand.specs.declared.progress.Progress.{Progress}
 use Rattle.pw_cpp_expand.specs.declared.progress.ExpandFault.{ExpandFault}
 use Rattle.pw_cpp_expand.specs.declared.progress.ExpandFault.TheVariants as stop
 use Rattle.pw_cpp_macros.specs.Definitions.{definition_of, is_word}
@@ -103,42 +102,67 @@ endif_effect s hash (token ∷ others) sections = Fails (fault kind.Directive ha
 endif_effect s hash [] [] = Fails (fault kind.Condition hash)
 endif_effect s hash [] (section ∷ outer) = Becomes (standing s.macros outer s.produced)
 
--- What the directive of a line does whose tokens behind its name are these; `hash` is the place of its `#`. An `#elif` behind a group that
--- was taken is not evaluated.
-pub data Does (source : List ℕ) (digits : Digits) (s : Standing) (hash : ℕ) : List ℕ → List Token → Effect → Type 0 where
-  defines : (tokens : List Token) → Does source digits s hash (codes "define") tokens (with_definition source s hash (definition_of source tokens))
-  undefines : (tokens : List Token) → Does source digits s hash (codes "undef") tokens (with_undefined s hash (one_name source tokens))
-  tests : (tokens : List Token) → Does source digits s hash (codes "ifdef") tokens (with_test true s hash (one_name source tokens))
-  tests_not : (tokens : List Token) → Does source digits s hash (codes "ifndef") tokens (with_test false s hash (one_name source tokens))
-  ends : (tokens : List Token) → Does source digits s hash (codes "endif") tokens (endif_effect s hash tokens s.sections)
-  turns : (tokens : List Token) → Does source digits s hash (codes "else") tokens (else_effect s hash tokens s.sections)
-  errs : (tokens : List Token) → Does source digits s hash (codes "error") tokens (Fails (fault kind.Error hash))
+-- what the condition of a `#if`, or of an `#elif` of this section, does
+abbrev pub if_effect : Standing → ℕ → Verdict → Effect
+if_effect s hash (Holds holds produced) = Becomes (standing s.macros (opened holds s.sections) produced)
+if_effect s hash Faulty = Fails (fault kind.Condition hash)
+if_effect s hash (Stops f) = Fails (fault_of_expansion f)
 
-  opens : (tokens : List Token) (p : Progress) (holds : Bool) (produced : ℕ) → p.produced ≡ s.produced → Judges source s.macros digits tokens p (Holds holds produced)
-      → Does source digits s hash (codes "if") tokens (Becomes (standing s.macros (opened holds s.sections) produced))
-  opens_none : (tokens : List Token) (p : Progress) → p.produced ≡ s.produced → Judges source s.macros digits tokens p Faulty
-      → Does source digits s hash (codes "if") tokens (Fails (fault kind.Condition hash))
-  opens_stopped : (tokens : List Token) (p : Progress) (f : ExpandFault) → p.produced ≡ s.produced → Judges source s.macros digits tokens p (Stops f)
-      → Does source digits s hash (codes "if") tokens (Fails (fault_of_expansion f))
+abbrev pub elif_effect : Standing → ℕ → Section → Sections → Verdict → Effect
+elif_effect s hash section outer (Holds holds produced) = Becomes (standing s.macros (with_elif holds section ∷ outer) produced)
+elif_effect s hash section outer Faulty = Fails (fault kind.Condition hash)
+elif_effect s hash section outer (Stops f) = Fails (fault_of_expansion f)
 
-  elif_alone : (tokens : List Token) → s.sections ≡ [] → Does source digits s hash (codes "elif") tokens (Fails (fault kind.Condition hash))
-  elif_late : (tokens : List Token) (section : Section) (outer : Sections) → s.sections ≡ section ∷ outer → section.behind_else ≡ true
-      → Does source digits s hash (codes "elif") tokens (Fails (fault kind.Condition hash))
-  elif_taken : (tokens : List Token) (section : Section) (outer : Sections) → s.sections ≡ section ∷ outer → section.behind_else ≡ false → section.taken ≡ true
-      → Does source digits s hash (codes "elif") tokens (Becomes (standing s.macros (with_elif false section ∷ outer) s.produced))
-  elif : (tokens : List Token) (section : Section) (outer : Sections) (p : Progress) (holds : Bool) (produced : ℕ)
-      → s.sections ≡ section ∷ outer → section.behind_else ≡ false → section.taken ≡ false → p.produced ≡ s.produced
-      → Judges source s.macros digits tokens p (Holds holds produced)
-      → Does source digits s hash (codes "elif") tokens (Becomes (standing s.macros (with_elif holds section ∷ outer) produced))
-  elif_none : (tokens : List Token) (section : Section) (outer : Sections) (p : Progress)
-      → s.sections ≡ section ∷ outer → section.behind_else ≡ false → section.taken ≡ false → p.produced ≡ s.produced → Judges source s.macros digits tokens p Faulty
-      → Does source digits s hash (codes "elif") tokens (Fails (fault kind.Condition hash))
-  elif_stopped : (tokens : List Token) (section : Section) (outer : Sections) (p : Progress) (f : ExpandFault)
-      → s.sections ≡ section ∷ outer → section.behind_else ≡ false → section.taken ≡ false → p.produced ≡ s.produced → Judges source s.macros digits tokens p (Stops f)
-      → Does source digits s hash (codes "elif") tokens (Fails (fault_of_expansion f))
+-- An `#elif` behind a group that was taken is not evaluated.
+pub data TurnsElif (source : List ℕ) (digits : Digits) (s : Standing) (hash : ℕ) (tokens : List Token) : Sections → Effect → Type 0 where
+  alone : TurnsElif source digits s hash tokens [] (Fails (fault kind.Condition hash))
+  late : (section : Section) (outer : Sections) → section.behind_else ≡ true → TurnsElif source digits s hash tokens (section ∷ outer) (Fails (fault kind.Condition hash))
+  taken : (section : Section) (outer : Sections) (effect : Effect) → section.behind_else ≡ false → section.taken ≡ true
+      → effect ≡ Becomes (standing s.macros (with_elif false section ∷ outer) s.produced) → TurnsElif source digits s hash tokens (section ∷ outer) effect
+  judged : (section : Section) (outer : Sections) (verdict : Verdict) (effect : Effect) → section.behind_else ≡ false → section.taken ≡ false
+      → Judges source s.macros digits tokens s.produced verdict → effect ≡ elif_effect s hash section outer verdict → TurnsElif source digits s hash tokens (section ∷ outer) effect
+
+-- ---- words
 
 -- the words that have a meaning of their own, besides `pragma` and `include`
-abbrev pub is_directive : List ℕ → Bool
-is_directive name =
-    bytes_eq name (codes "define") || bytes_eq name (codes "undef") || bytes_eq name (codes "if") || bytes_eq name (codes "ifdef") || bytes_eq name (codes "ifndef") ||
-    bytes_eq name (codes "elif") || bytes_eq name (codes "else") || bytes_eq name (codes "endif") || bytes_eq name (codes "error")
+pub data Word : Type 0 where
+  Define : Word
+  Undef : Word
+  If : Word
+  Ifdef : Word
+  Ifndef : Word
+  Elif : Word
+  Else : Word
+  Endif : Word
+  Error : Word
+
+abbrev pub word_of : List ℕ → Option Word
+word_of name =
+    if bytes_eq name (codes "define") then Some Define
+    else (if bytes_eq name (codes "undef") then Some Undef
+    else (if bytes_eq name (codes "if") then Some If
+    else (if bytes_eq name (codes "ifdef") then Some Ifdef
+    else (if bytes_eq name (codes "ifndef") then Some Ifndef
+    else (if bytes_eq name (codes "elif") then Some Elif
+    else (if bytes_eq name (codes "else") then Some Else
+    else (if bytes_eq name (codes "endif") then Some Endif
+    else (if bytes_eq name (codes "error") then Some Error
+    else None))))))))
+
+-- What the directive of a line does whose tokens behind its word are these; `hash` is the place of its `#`.
+pub data Does (source : List ℕ) (digits : Digits) (s : Standing) (hash : ℕ) (tokens : List Token) : Word → Effect → Type 0 where
+  defines : (effect : Effect) → effect ≡ with_definition source s hash (definition_of source tokens) → Does source digits s hash tokens Define effect
+  undefines : (effect : Effect) → effect ≡ with_undefined s hash (one_name source tokens) → Does source digits s hash tokens Undef effect
+  opens : (verdict : Verdict) (effect : Effect) → Judges source s.macros digits tokens s.produced verdict → effect ≡ if_effect s hash verdict
+      → Does source digits s hash tokens If effect
+  tests : (effect : Effect) → effect ≡ with_test true s hash (one_name source tokens) → Does source digits s hash tokens Ifdef effect
+  tests_not : (effect : Effect) → effect ≡ with_test false s hash (one_name source tokens) → Does source digits s hash tokens Ifndef effect
+  goes_on : (effect : Effect) → TurnsElif source digits s hash tokens s.sections effect → Does source digits s hash tokens Elif effect
+  turns : (effect : Effect) → effect ≡ else_effect s hash tokens s.sections → Does source digits s hash tokens Else effect
+  ends : (effect : Effect) → effect ≡ endif_effect s hash tokens s.sections → Does source digits s hash tokens Endif effect
+  errs : Does source digits s hash tokens Error (Fails (fault kind.Error hash))
+
+-- a directive without a meaning is a fault
+abbrev pub DoesWord : List ℕ → Digits → Standing → ℕ → List Token → Option Word → Effect → Type 0
+DoesWord source digits s hash tokens (Some word) effect = Does source digits s hash tokens word effect
+DoesWord source digits s hash tokens None effect = effect ≡ Fails (fault kind.Directive hash)

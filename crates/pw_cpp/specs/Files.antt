@@ -4,7 +4,7 @@ use Rattle.std.specs.List.{list_any, flat_map, starts_with}
 use Rattle.pw_token.specs.Places.{line_at}
 use Rattle.pw_token.specs.Roles.{spelling}
 use Rattle.pw_token.specs.declared.token.Token.{Token}
-use Rattle.pw_cpp.specs.Directives.{Does, Effect, Becomes, Fails, Standing, fault, fault_of_expansion, is_directive, standing}
+use Rattle.pw_cpp.specs.Directives.{DoesWord, Effect, Becomes, Fails, Standing, fault, fault_of_expansion, standing, word_of}
 use Rattle.pw_cpp.specs.Groups.{Nested, Sections, is_opening, is_reading, is_turn, nested_after}
 use Rattle.pw_cpp.specs.declared.directive.Fault.{Fault}
 use Rattle.pw_cpp.specs.declared.fault.CppKind.{CppKind}
@@ -132,12 +132,6 @@ name_of source name = take name.len (drop name.at source)
 abbrev pub is_looked_at : Reading → List ℕ → Bool
 is_looked_at r name = is_reading r.standing_is.sections || (nat_le (length r.nested) 0 && is_turn name)
 
--- no directive, and not the empty one: a `##` begins the line, or the word has no meaning
-abbrev pub is_unknown : List ℕ → List Token → Bool
-is_unknown name [] = true
-is_unknown name (first ∷ []) = not (first.len == 1)
-is_unknown name (first ∷ word ∷ tokens) = not (is_directive name) || not (first.len == 1)
-
 -- What is done with a directive: `#pragma` and `#include` have lines of their own, the line of any other that is looked at lexes whole,
 -- and the others are passed over.
 pub data Use : Type 0 where
@@ -231,7 +225,7 @@ mutual
         → ReadsOn (text_of source file) at (progress r at) further → ReadsText source file r further step → ReadsLine source files digits depth file at r head.Text step
     passed_text : (depth : ℕ) (file : File) (at : ℕ) (r : Reading) (next : ℕ) → is_reading r.standing_is.sections ≡ false → PassesLine (text_of source file) at next
         → ReadsLine source files digits depth file at r head.Text (GoesOn next r)
-    directive : (depth : ℕ) (file : File) (at : ℕ) (r : Reading) (hash : ℕ) (name : Span) (step : Step)
+    directive_line : (depth : ℕ) (file : File) (at : ℕ) (r : Reading) (hash : ℕ) (name : Span) (step : Step)
         → ReadsDirective source files digits depth file at r hash name (use_of r (name_of source name)) step
         → ReadsLine source files digits depth file at r (head.Directive hash name) step
 
@@ -254,17 +248,22 @@ mutual
     passed : (depth : ℕ) (file : File) (at : ℕ) (r : Reading) (hash : ℕ) (name : Span) (next : ℕ) (step : Step) → PassesLine (text_of source file) at next
         → step ≡ after_passed file hash next r (passing (name_of source name) r.nested) → ReadsDirective source files digits depth file at r hash name Passed step
 
-  -- A line that lexes whole is empty behind its `#`, or has a directive's own word; any other is a fault.
+  -- A line that lexes whole begins with a `#` alone, and is empty behind it, or a directive with its word.
   pub data Obeys (source : List ℕ) (digits : Digits) : File → Reading → ℕ → List ℕ → Result Line LineFault → Step → Type 0 where
     no_tokens : (file : File) (r : Reading) (hash : ℕ) (name : List ℕ) (f : LineFault) (step : Step) → step ≡ unlexed file f
         → Obeys source digits file r hash name (Err f) step
-    empty : (file : File) (r : Reading) (hash : ℕ) (name : List ℕ) (found : Line) (first : Token) → found.tokens ≡ first ∷ [] → first.len ≡ 1
-        → Obeys source digits file r hash name (Ok found) (GoesOn found.next r)
-    obeyed : (file : File) (r : Reading) (hash : ℕ) (name : List ℕ) (found : Line) (first word : Token) (tokens : List Token) (effect : Effect) (step : Step)
-        → found.tokens ≡ first ∷ word ∷ tokens → first.len ≡ 1 → is_directive name ≡ true → Does source digits r.standing_is hash name tokens effect
-        → step ≡ after_effect file r found.next effect → Obeys source digits file r hash name (Ok found) step
-    unknown : (file : File) (r : Reading) (hash : ℕ) (name : List ℕ) (found : Line) → is_unknown name found.tokens ≡ true
-        → Obeys source digits file r hash name (Ok found) (Stops file.name (fault kind.Directive hash))
+    tokens : (file : File) (r : Reading) (hash : ℕ) (name : List ℕ) (found : Line) (step : Step) → ObeysTokens source digits file r hash name found.next found.tokens step
+        → Obeys source digits file r hash name (Ok found) step
+
+  pub data ObeysTokens (source : List ℕ) (digits : Digits) : File → Reading → ℕ → List ℕ → ℕ → List Token → Step → Type 0 where
+    nothing : (file : File) (r : Reading) (hash : ℕ) (name : List ℕ) (next : ℕ) → ObeysTokens source digits file r hash name next [] (Stops file.name (fault kind.Directive hash))
+    empty : (file : File) (r : Reading) (hash : ℕ) (name : List ℕ) (next : ℕ) (first : Token) (step : Step)
+        → step ≡ (if first.len == 1 then GoesOn next r else Stops file.name (fault kind.Directive hash)) → ObeysTokens source digits file r hash name next (first ∷ []) step
+    two_hashes : (file : File) (r : Reading) (hash : ℕ) (name : List ℕ) (next : ℕ) (first word : Token) (others : List Token) → (first.len == 1) ≡ false
+        → ObeysTokens source digits file r hash name next (first ∷ word ∷ others) (Stops file.name (fault kind.Directive hash))
+    directive : (file : File) (r : Reading) (hash : ℕ) (name : List ℕ) (next : ℕ) (first word : Token) (others : List Token) (effect : Effect) (step : Step)
+        → (first.len == 1) ≡ true → DoesWord source digits r.standing_is hash others (word_of name) effect → step ≡ after_effect file r next effect
+        → ObeysTokens source digits file r hash name next (first ∷ word ∷ others) step
 
   -- The header of an include stands in quotes, with nothing behind it.
   pub data Includes (source : List ℕ) (files : List File) (digits : Digits) : ℕ → File → Reading → ℕ → ℕ → Option Span → Step → Type 0 where

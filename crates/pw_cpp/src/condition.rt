@@ -1,7 +1,7 @@
 //! The conditions of `#if` and `#elif`.
 
 ghost use Rattle.std.specs.Prelude.{◌≡◌, ◌≤◌, All, length, option_map, IfOk, IfSome};
-ghost use Rattle.pw_cpp.specs.Answers.{AnswersJudgement, IsVerdictOf};
+ghost use Rattle.pw_cpp.specs.Answers.{AnswersJudgement, IsJudging, IsVerdictOf};
 ghost use Rattle.pw_cpp.specs.Conditions as spec;
 ghost use Rattle.pw_token.specs.Roles.{spelling};
 ghost use Rattle.pw_cpp_expand.specs.AtHand.{IsWithinLimits};
@@ -132,12 +132,12 @@ pub fn judge<'a>(
     tokens: &[Token],
     progress: &mut Progress,
 ) -> Result<Verdict, ExpandFault>
-    requires within { progress.old.next ≤ length source.now }
+    requires fresh { IsJudging progress.old }
     requires limits { IsWithinLimits progress.old }
     requires empty { HaveEmpty sets.old }
     ensures keeps { Keeps sets.old sets.new }
     ensures limits { IfOk result (λ _. IsWithinLimits progress.new) }
-    ensures judges { AnswersJudgement source.now macros.now digits tokens.now progress.old progress.new result }
+    ensures judges { AnswersJudgement source.now macros.now digits tokens.now progress.old.produced progress.new.produced result }
 {
     let Some(taken) = with_defined(alloc, source, macros, digits, tokens)? else {
         return Ok(Verdict::Faulty);

@@ -178,3 +178,6 @@ module _ (one_head : OneHead) (one_line : OneLine) (one_rest : OneRest) where
   pub one-outcome : (source text : List ℕ) (macros : Macros) (mode : Mode) (pending : List Lexeme) (p : Progress) (x y : Outcome)
       → Expands source text macros mode pending p x → Expands source text macros mode pending p y → x ≡ y
   one-outcome = one_outcome
+
+  pub one-reading : (text : List ℕ) (at : ℕ) (p : Progress) (x y : Further) → ReadsOn text at p x → ReadsOn text at p y → x ≡ y
+  one-reading = one_reading

@@ -4,9 +4,11 @@
 mod ahead;
 mod arguments;
 mod expansion;
+mod laws;
 mod progress;
 mod result;
 
 pub use ahead::fresh;
-pub use expansion::{Expander, expand_alone, expand_text};
+pub use expansion::{expand_alone, expand_text};
+pub use laws::{one_outcome, one_reading};
 pub use progress::{ExpandFault, Lexeme, Mode, OUTPUT_LIMIT, PRODUCED_LIMIT, Progress};

@@ -1,9 +1,10 @@
 //! What a `#define` says.
 
-ghost use Rattle.std.specs.Prelude.{◌≡◌, ◌⊎◌, [], Ok, Err, Some, OnOk, IfErr};
+ghost use Rattle.std.specs.Prelude.{◌≡◌, ◌⊎◌, ◌+◌, ◌==◌, List, [], ◌∷◌, Ok, Err, Some, OnOk, IfErr};
 ghost use Rattle.std.specs.List.{list_any};
 ghost use Rattle.pw_cpp_macros.specs.Definitions as spec;
 ghost use Rattle.pw_cpp_macros.specs.Definitions.{Answers, and_then};
+ghost use Rattle.pw_token.specs.declared.token.Token.{Token};
 
 use crate::word::{is_hash, is_spelled, is_word, spelled};
 use pw_items::Items;
@@ -115,8 +116,11 @@ fn with_parameters(
 {
     let mut names = Items::new(alloc);
     let mut left = tokens;
-    while let [parameter, mark, rest @ ..] = left {
+    while let [parameter, after @ ..] = left {
         add_parameter(text, &mut names, *parameter)?;
+        let [mark, rest @ ..] = after else {
+            return Err(DefineFault::Form);
+        };
         if is_spelled(text, b")", *mark) {
             return with_replacement(alloc, text, name, Some(names), rest);
         }
@@ -124,9 +128,6 @@ fn with_parameters(
             return Err(DefineFault::Form);
         }
         left = rest;
-    }
-    if let [parameter] = left {
-        add_parameter(text, &mut names, *parameter)?;
     }
     Err(DefineFault::Form)
 }
@@ -140,21 +141,30 @@ fn with_list(
 ) -> Result<Definition, DefineFault>
     ensures { Answers (and_then (spec.parameter_list text.now tokens.now) (λ list. spec.with_replacement text.now name (Some list.0) list.1)) result }
 {
-    match tokens {
-        [first, rest @ ..] if is_spelled(text, b")", *first) =>
-            with_replacement(alloc, text, name, Some(Items::new(alloc)), rest),
-        _ => with_parameters(alloc, text, name, tokens),
+    let [first, rest @ ..] = tokens else {
+        return Err(DefineFault::Form);
+    };
+    if is_spelled(text, b")", *first) {
+        return with_replacement(alloc, text, name, Some(Items::new(alloc)), rest);
+    }
+    with_parameters(alloc, text, name, tokens)
+}
+
+/// Whether a token begins where another ends.
+fn stands_directly_behind(name: Token, first: Token) -> bool
+    ensures { result ≡ (first.at == name.at + name.len) }
+{
+    match name.at.checked_add(name.len) {
+        Some(end) => first.at == end,
+        None => false,
     }
 }
 
-/// Whether a `(` stands directly behind a name.
-fn opens_parameters(text: &[u8], name: Token, tokens: &[Token]) -> bool
-    ensures { result ≡ spec.opens_parameters text.now name tokens.now }
+/// Whether a token is a `(` that stands directly behind a name.
+fn opens_parameters(text: &[u8], name: Token, first: Token) -> bool
+    ensures { (rest : List Token) → result ≡ spec.opens_parameters text.now name (first ∷ rest) }
 {
-    match tokens {
-        [first, ..] => is_spelled(text, b"(", *first) && name.at.checked_add(name.len) == Some(first.at),
-        [] => false,
-    }
+    is_spelled(text, b"(", first) && stands_directly_behind(name, first)
 }
 
 /// What a `#define` says, from its tokens behind the word `define`.
@@ -175,9 +185,11 @@ pub fn definition_of(
     if !is_word(*name) {
         return Err(DefineFault::Form);
     }
-    if opens_parameters(text, *name, rest) {
-        with_list(alloc, text, *name, &rest[1..])
-    } else {
-        with_replacement(alloc, text, *name, None, rest)
+    let [first, behind @ ..] = rest else {
+        return with_replacement(alloc, text, *name, None, rest);
+    };
+    if opens_parameters(text, *name, *first) {
+        return with_list(alloc, text, *name, behind);
     }
+    with_replacement(alloc, text, *name, None, rest)
 }

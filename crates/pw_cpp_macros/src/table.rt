@@ -9,7 +9,7 @@ use crate::word::spelled;
 use indexmap::IndexMap;
 use pw_items::Items;
 use pw_token::Token;
-use std::alloc::{AllocFailed, Global};
+use std::alloc::Global;
 use std::marker::Model;
 
 /// The greatest count of macros at once.
@@ -41,16 +41,6 @@ pub enum MacroFault {
     NoMemory,
 }
 
-impl<T: Drop> From<AllocFailed<T>> for MacroFault {
-    ghost use Rattle.pw_cpp_macros.specs.declared.table.MacroFault.TheVariants.{NoMemory};
-
-    ghost from_gives = { λ _ fault. fault ≡ NoMemory };
-
-    fn from(_error: AllocFailed<T>) -> Self {
-        MacroFault::NoMemory
-    }
-}
-
 /// Whether two lists of tokens have the same spellings in the same order.
 fn is_spelled_alike(text: &[u8], one: &[Token], other: &[Token]) -> bool
     ensures { result ≡ spec.is_spelled_alike text.now one.now other.now }
@@ -77,10 +67,12 @@ fn has_parameters_alike(
 ) -> bool
     ensures { result ≡ spec.has_parameters_alike text.now one.now other.now }
 {
-    match (one, other) {
-        (None, None) => true,
-        (Some(a), Some(b)) => is_spelled_alike(text, a.as_slice(), b.as_slice()),
-        _ => false,
+    match one {
+        None => other.is_none(),
+        Some(a) => match other {
+            None => false,
+            Some(b) => is_spelled_alike(text, a.as_slice(), b.as_slice()),
+        },
     }
 }
 
@@ -118,17 +110,18 @@ impl<'a> Macros<'a> {
     {
         let name = spelled(text, definition.name);
         if let Some(old) = self.table.get(name) {
-            return if is_alike(text, old, &definition.meaning) {
-                Ok(())
-            } else {
-                Err(MacroFault::Differs)
-            };
+            if is_alike(text, old, &definition.meaning) {
+                return Ok(());
+            }
+            return Err(MacroFault::Differs);
         }
         if self.table.len() >= MACRO_LIMIT {
             return Err(MacroFault::Full);
         }
-        self.table.insert(name, definition.meaning)?;
-        Ok(())
+        match self.table.insert(name, definition.meaning) {
+            Ok(_) => Ok(()),
+            Err(_) => Err(MacroFault::NoMemory),
+        }
     }
 
     /// Takes a name's macro away, where there is one.
