@@ -7,6 +7,8 @@ use Rattle.pw_token.specs.declared.token.Token.{Token}
 use Rattle.pw_cpp.specs.Conditions.{Judges, Verdict, Holds, Faulty, Stops}
 use Rattle.pw_cpp.specs.Groups.{Sections, opened, with_elif, with_else}
 use Rattle.pw_cpp.specs.declared.directive.Fault.{Fault}
+use Rattle.pw_cpp.specs.declared.directive.Word.{Word}
+use Rattle.pw_cpp.specs.declared.directive.Word.TheVariants.{Define, Undef, If, Ifdef, Ifndef, Elif, Else, Endif, Error}
 use Rattle.pw_cpp.specs.declared.fault.CppKind.{CppKind}
 use Rattle.pw_cpp.specs.declared.fault.CppKind.TheVariants as kind
 use Rattle.pw_cpp.specs.declared.fault.CppWhich.TheVariants as which
@@ -125,17 +127,6 @@ pub data TurnsElif (source : List ℕ) (digits : Digits) (s : Standing) (hash : 
 -- ---- words
 
 -- the words that have a meaning of their own, besides `pragma` and `include`
-pub data Word : Type 0 where
-  Define : Word
-  Undef : Word
-  If : Word
-  Ifdef : Word
-  Ifndef : Word
-  Elif : Word
-  Else : Word
-  Endif : Word
-  Error : Word
-
 abbrev pub word_of : List ℕ → Option Word
 word_of name =
     if bytes_eq name (codes "define") then Some Define

@@ -28,6 +28,12 @@ pub struct Fault {
     pub place: usize,
 }
 
+pub fn faulty(kind: CppKind, place: usize) -> Fault
+    ensures { result ≡ spec.fault kind place }
+{
+    Fault { kind, place }
+}
+
 /// The fault of a limit: the number is the first that passes it.
 pub fn limit(which: CppWhich, most: usize, place: usize) -> Fault
     requires { most < u64.MAX }
@@ -43,11 +49,11 @@ pub fn of_expansion(fault: ExpandFault) -> Fault
     ensures { result ≡ spec.fault_of_expansion fault }
 {
     match fault {
-        ExpandFault::Lex { at } => Fault { kind: CppKind::Lex, place: at },
-        ExpandFault::Call { at } => Fault { kind: CppKind::Macro, place: at },
+        ExpandFault::Lex { at } => faulty(CppKind::Lex, at),
+        ExpandFault::Call { at } => faulty(CppKind::Macro, at),
         ExpandFault::Produced { at } => limit(CppWhich::Produced, PRODUCED_LIMIT, at),
         ExpandFault::Length { at } => limit(CppWhich::Length, OUTPUT_LIMIT, at),
-        ExpandFault::NoMemory => Fault { kind: CppKind::NoMemory, place: 0 },
+        ExpandFault::NoMemory => faulty(CppKind::NoMemory, 0),
     }
 }
 
@@ -55,10 +61,10 @@ fn of_definition(fault: DefineFault, place: usize) -> Fault
     ensures { result ≡ spec.fault (spec.kind_of_define fault) place }
 {
     match fault {
-        DefineFault::Form => Fault { kind: CppKind::Directive, place },
-        DefineFault::Repeated | DefineFault::Hash => Fault { kind: CppKind::Macro, place },
+        DefineFault::Form => faulty(CppKind::Directive, place),
+        DefineFault::Repeated | DefineFault::Hash => faulty(CppKind::Macro, place),
         DefineFault::TooMany => limit(CppWhich::Parameters, PARAMETER_LIMIT, place),
-        DefineFault::NoMemory => Fault { kind: CppKind::NoMemory, place },
+        DefineFault::NoMemory => faulty(CppKind::NoMemory, place),
     }
 }
 
@@ -66,9 +72,9 @@ fn of_macro(fault: MacroFault, place: usize) -> Fault
     ensures { result ≡ spec.fault (spec.kind_of_macro fault) place }
 {
     match fault {
-        MacroFault::Differs => Fault { kind: CppKind::Macro, place },
+        MacroFault::Differs => faulty(CppKind::Macro, place),
         MacroFault::Full => limit(CppWhich::Macros, MACRO_LIMIT, place),
-        MacroFault::NoMemory => Fault { kind: CppKind::NoMemory, place },
+        MacroFault::NoMemory => faulty(CppKind::NoMemory, place),
     }
 }
 
@@ -83,6 +89,37 @@ pub struct Standing<'a> {
     pub nested: Items<bool>,
     /// How many tokens replacements have produced.
     pub produced: usize,
+}
+
+/// A word that has a meaning of its own, besides `pragma` and `include`.
+#[derive(Clone, Copy)]
+pub enum Word {
+    Define,
+    Undef,
+    If,
+    Ifdef,
+    Ifndef,
+    Elif,
+    Else,
+    Endif,
+    Error,
+}
+
+fn word_of(name: &[u8]) -> Option<Word>
+    ensures { result ≡ spec.word_of name.now }
+{
+    match name {
+        b"define" => Some(Word::Define),
+        b"undef" => Some(Word::Undef),
+        b"if" => Some(Word::If),
+        b"ifdef" => Some(Word::Ifdef),
+        b"ifndef" => Some(Word::Ifndef),
+        b"elif" => Some(Word::Elif),
+        b"else" => Some(Word::Else),
+        b"endif" => Some(Word::Endif),
+        b"error" => Some(Word::Error),
+        _ => None,
+    }
 }
 
 /// A directive: its name, the tokens behind it, and the place of its `#`.
@@ -114,10 +151,23 @@ impl<'a> Standing<'a> {
         }
     }
 
+    fn undefine(&mut self, source: &'a [u8], d: Directive<'_>) -> Result<(), Fault> {
+        let name = Self::name_of(source, d)?;
+        self.macros.undefine(name);
+        Ok(())
+    }
+
+    /// Opens a section that is taken where a name is a macro's, or where it is none.
+    fn test(&mut self, wanted: bool, source: &'a [u8], d: Directive<'_>) -> Result<(), Fault> {
+        let name = Self::name_of(source, d)?;
+        let is_macro = self.macros.find(name).is_some();
+        self.open(opened(if wanted { is_macro } else { !is_macro }), d.hash)
+    }
+
     fn open(&mut self, section: Section, place: usize) -> Result<(), Fault> {
         match self.sections.push(section) {
             Ok(()) => Ok(()),
-            Err(_) => Err(Fault { kind: CppKind::NoMemory, place }),
+            Err(_) => Err(faulty(CppKind::NoMemory, place)),
         }
     }
 
@@ -125,7 +175,7 @@ impl<'a> Standing<'a> {
     fn name_of(source: &'a [u8], d: Directive<'_>) -> Result<&'a [u8], Fault> {
         match one_name(source, d.tokens) {
             Some(name) => Ok(name),
-            None => Err(Fault { kind: CppKind::Directive, place: d.hash }),
+            None => Err(faulty(CppKind::Directive, d.hash)),
         }
     }
 
@@ -148,38 +198,52 @@ impl<'a> Standing<'a> {
                 self.produced = progress.produced;
                 Ok(holds)
             }
-            Ok(Verdict::Faulty) => Err(Fault { kind: CppKind::Condition, place: d.hash }),
+            Ok(Verdict::Faulty) => Err(faulty(CppKind::Condition, d.hash)),
             Err(fault) => Err(of_expansion(fault)),
         }
     }
 
-    /// The innermost section, of which a further group begins or which ends.
-    fn innermost(&mut self, d: Directive<'_>, ends: bool) -> Result<Section, Fault> {
-        match self.sections.pop() {
-            Some(section) if ends || !section.behind_else => Ok(section),
-            _ => Err(Fault { kind: CppKind::Condition, place: d.hash }),
-        }
-    }
-
-    fn turn(
+    /// Goes on with another group of the innermost section.
+    fn turn_elif(
         &mut self,
         alloc: Global,
         source: &'a [u8],
         digits: Digits,
         d: Directive<'_>,
     ) -> Result<(), Fault> {
-        if d.name != b"elif" && !d.tokens.is_empty() {
-            return Err(Fault { kind: CppKind::Directive, place: d.hash });
-        }
-        let section = self.innermost(d, d.name == b"endif")?;
-        if d.name == b"endif" {
-            return Ok(());
-        }
-        if d.name == b"else" {
-            return self.open(with_else(section), d.hash);
+        let section = self.innermost(d)?;
+        if section.behind_else {
+            return Err(faulty(CppKind::Condition, d.hash));
         }
         let holds = !section.taken && self.holds(alloc, source, digits, d)?;
         self.open(with_elif(holds, section), d.hash)
+    }
+
+    fn turn_else(&mut self, d: Directive<'_>) -> Result<(), Fault> {
+        if !d.tokens.is_empty() {
+            return Err(faulty(CppKind::Directive, d.hash));
+        }
+        let section = self.innermost(d)?;
+        if section.behind_else {
+            return Err(faulty(CppKind::Condition, d.hash));
+        }
+        self.open(with_else(section), d.hash)
+    }
+
+    fn end(&mut self, d: Directive<'_>) -> Result<(), Fault> {
+        if !d.tokens.is_empty() {
+            return Err(faulty(CppKind::Directive, d.hash));
+        }
+        self.innermost(d)?;
+        Ok(())
+    }
+
+    /// Takes the innermost section off the others.
+    fn innermost(&mut self, d: Directive<'_>) -> Result<Section, Fault> {
+        match self.sections.pop() {
+            Some(section) => Ok(section),
+            None => Err(faulty(CppKind::Condition, d.hash)),
+        }
     }
 
     /// Does what a directive says, but for `#include` and `#pragma`.
@@ -197,25 +261,22 @@ impl<'a> Standing<'a> {
         ensures limits { IfOk result (λ _. self.new.produced ≤ produced_limit) }
         ensures nested { IfOk result (λ _. self.new.nested ≡ self.old.nested) }
     {
-        if d.name == b"define" {
-            self.define(alloc, source, d)
-        } else if d.name == b"undef" {
-            let name = Self::name_of(source, d)?;
-            self.macros.undefine(name);
-            Ok(())
-        } else if d.name == b"ifdef" || d.name == b"ifndef" {
-            let name = Self::name_of(source, d)?;
-            let is_macro = self.macros.find(name).is_some();
-            self.open(opened(is_macro == (d.name == b"ifdef")), d.hash)
-        } else if d.name == b"if" {
-            let holds = self.holds(alloc, source, digits, d)?;
-            self.open(opened(holds), d.hash)
-        } else if d.name == b"error" {
-            Err(Fault { kind: CppKind::Error, place: d.hash })
-        } else if d.name == b"elif" || d.name == b"else" || d.name == b"endif" {
-            self.turn(alloc, source, digits, d)
-        } else {
-            Err(Fault { kind: CppKind::Directive, place: d.hash })
+        let Some(word) = word_of(d.name) else {
+            return Err(faulty(CppKind::Directive, d.hash));
+        };
+        match word {
+            Word::Define => self.define(alloc, source, d),
+            Word::Undef => self.undefine(source, d),
+            Word::Ifdef => self.test(true, source, d),
+            Word::Ifndef => self.test(false, source, d),
+            Word::If => {
+                let holds = self.holds(alloc, source, digits, d)?;
+                self.open(opened(holds), d.hash)
+            }
+            Word::Elif => self.turn_elif(alloc, source, digits, d),
+            Word::Else => self.turn_else(d),
+            Word::Endif => self.end(d),
+            Word::Error => Err(faulty(CppKind::Error, d.hash)),
         }
     }
 }
