@@ -14,7 +14,7 @@ use crate::fault::{CppFault, CppKind, CppWhich};
 use crate::groups::{Section, is_opening, is_turn};
 use crate::header::{DEPTH_LIMIT, HEADER_NAME_LIMIT, is_header};
 use crate::source::{Place, Source, digits, source_of};
-use pw_cpp_expand::{Lexeme, OUTPUT_LIMIT, Progress, expand_text};
+use pw_cpp_expand::{Lexeme, Progress, expand_text, read_line};
 use pw_cpp_lines::{
     Head, Line, LineFault, Span, head_of, header_name, lex_line, pass_line, pass_rest, pass_space,
 };
@@ -214,25 +214,26 @@ impl<'a> Reader<'a> {
         ensures within { IfOk result (λ next. IsWithin self.new × (at < next) × (next ≤ length text.now)) }
         ensures steps { (file : File) → IsRead self.old file text.now → AnswersStep self.old self.new (DoesText self.old.source.now file at) result }
     {
-        let line = self.lexed(text, at)?;
-        let size = self.out.len();
-        if OUTPUT_LIMIT <= size {
-            return Err(limit(CppWhich::Length, OUTPUT_LIMIT, at));
-        }
-        let mut rows = Items::new(self.alloc);
-        if rows.push(at).is_err() {
-            return Err(no_memory(at));
-        }
         let mut progress = Progress {
-            next: line.next,
-            rows,
+            next: at,
+            rows: Items::new(self.alloc),
             produced: self.standing.produced,
-            size: size + 1,
+            size: self.out.len(),
         };
-        let Standing { macros, sets, .. } = &mut self.standing;
-        let tokens = line.tokens.as_slice();
-        let out = match expand_text(self.alloc, self.source, text, macros, sets, tokens, &mut progress)
-        {
+        let tokens = match read_line(self.alloc, text, at, &mut progress) {
+            Ok(tokens) => tokens,
+            Err(fault) => return Err(of_expansion(fault)),
+        };
+        let expanded = expand_text(
+            self.alloc,
+            self.source,
+            text,
+            &self.standing.macros,
+            &mut self.standing.sets,
+            tokens,
+            &mut progress,
+        );
+        let out = match expanded {
             Ok(out) => out,
             Err(fault) => return Err(of_expansion(fault)),
         };

@@ -11,8 +11,8 @@ use pw_items::Items;
 use pw_token::Token;
 use std::alloc::{AllocError, Global};
 
-/// Reads the text line at a place.
-fn read_line(
+/// The tokens of the text line at a place.
+pub fn read_line(
     alloc: Global,
     text: &[u8],
     at: usize,

@@ -407,11 +407,13 @@ fn waiting_of(
     }
     let mut waiting = Items::new(alloc);
     for parameter in parameters.iter().rev() {
-        if let Some(tokens) = arguments.pop() && is_used(source, replacement, *parameter) {
-            waiting.push(Raw {
-                parameter: *parameter,
-                tokens,
-            })?;
+        if let Some(tokens) = arguments.pop() {
+            if is_used(source, replacement, *parameter) {
+                waiting.push(Raw {
+                    parameter: *parameter,
+                    tokens,
+                })?;
+            }
         }
     }
     Ok(Some(waiting))

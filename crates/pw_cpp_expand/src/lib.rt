@@ -8,7 +8,7 @@ mod laws;
 mod progress;
 mod result;
 
-pub use ahead::fresh;
+pub use ahead::{fresh, read_line};
 pub use expansion::{expand_alone, expand_text};
 pub use laws::{one_outcome, one_reading};
 pub use progress::{ExpandFault, Lexeme, Mode, OUTPUT_LIMIT, PRODUCED_LIMIT, Progress};

@@ -55,6 +55,10 @@ grows (node ∷ nodes) known = grows nodes (with_node known node) ∙ omega (ari
 pub sets-count : (nodes : List Node) → length (sets_of nodes) ≡ 1 + length nodes
 sets-count nodes = grows nodes ([] ∷ [])
 
+-- a set that is known is the empty one or a node's
+pub set-within : (nodes : List Node) (known : Known) (set : ℕ) → sets_of nodes ≡ known → set < length known → set ≤ length nodes
+set-within nodes known set e h = omega (arith, h, ap length e, sets-count nodes)
+
 pub behind-more : (count : ℕ) (nodes : List Node) (node : Node) → AreBehind count nodes → node.rest ≤ count + length nodes → AreBehind count (nodes ++ node ∷ [])
 behind-more count [] node h e = (omega (arith, e), tt)
 behind-more count (n ∷ nodes) node h e = (h.0, behind-more (suc count) nodes node h.1 (omega (arith, e)))
