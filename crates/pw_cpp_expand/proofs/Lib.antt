@@ -1,4 +1,4 @@
-pub mod Ahead
+pub mod ReadingOn
 pub mod Cutting
 pub mod OneOutcome
 pub mod Steps

@@ -1,6 +1,6 @@
+pub mod ClosingQuotes
 pub mod Comments
 pub mod Cutting
 pub mod OneEnd
 pub mod OneLine
-pub mod Quotes
 pub mod Walks

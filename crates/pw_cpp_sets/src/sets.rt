@@ -35,7 +35,7 @@ impl<'a> Model for Sets<'a> {
 fn node_of<'a>(nodes: &[Node<'a>], set: usize) -> Option<Node<'a>>
     requires known { set ≤ length nodes.now }
     requires behind { AreBehind 0 nodes.now }
-    ensures { MatchOption result (set_at (sets_of nodes.now) set ≡ []) (IsMadeBy nodes.now set) }
+    ensures { MatchOption result (set_at (sets_of nodes.now) set ≡ []) (λ node. IsMadeBy nodes.now set node) }
 {
     if set == 0 {
         return None;

@@ -1,5 +1,5 @@
 use Rattle.std.proofs.Common.{suc, refl}
-use Rattle.pw_cpp_lines.proofs.Quotes.{unclosed-later, unclosed-none}
+use Rattle.pw_cpp_lines.proofs.ClosingQuotes.{unclosed-later, unclosed-none}
 use Rattle.pw_cpp_lines.proofs.Walks.{walks-more}
 use Rattle.pw_cpp_lines.proofs.passing.walk.Goals as goal
 

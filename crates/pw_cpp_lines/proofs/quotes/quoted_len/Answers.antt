@@ -2,7 +2,7 @@ use Rattle.std.proofs.Common.{◌≡◌, ◌+◌, false, drop, sym, ◌∙◌, a
 use Rattle.std.proofs.lemmas.List.{take_rest}
 use Rattle.std.specs.Prelude.{Err}
 use Rattle.pw_cpp_lines.specs.Passing.{quoted}
-use Rattle.pw_cpp_lines.proofs.Quotes.{none-closes}
+use Rattle.pw_cpp_lines.proofs.ClosingQuotes.{none-closes}
 use Rattle.pw_cpp_lines.proofs.quotes.quoted_len.Goals as goal
 
 pub returns-in-Err-clause-unclosed : goal.returns-in-Err-clause-unclosed
