@@ -1,6 +1,6 @@
 //! Directives that are read.
 
-ghost use Rattle.std.specs.Prelude.{◌≡◌, ◌≤◌, ◌+◌, ◌++◌, ◌∷◌, [], length, option_map, IfOk, IfErr, MatchResult};
+ghost use Rattle.std.specs.Prelude.{◌≡◌, ◌≤◌, ◌<◌, ◌+◌, ◌++◌, ◌∷◌, [], length, option_map, IfOk, IfErr, MatchResult};
 ghost use Rattle.pw_cpp.specs.Answers.{AnswersEffect};
 ghost use Rattle.pw_cpp.specs.Directives as spec;
 ghost use Rattle.pw_cpp_expand.specs.AtHand.{IsWithinLimits};

@@ -1,6 +1,6 @@
 //! Groups of conditional inclusion.
 
-ghost use Rattle.std.specs.Prelude.{◌≡◌};
+ghost use Rattle.std.specs.Prelude.{◌≡◌, false};
 ghost use Rattle.pw_cpp.specs.Groups as spec;
 
 

@@ -5,7 +5,7 @@ use Rattle.std.proofs.lemmas.Bool.{eqb-true, le-leb, leb-true, lt-leb}
 use Rattle.std.specs.Prelude.{nat_le}
 use Rattle.pw_token.specs.declared.token.Token.{Token}
 use Rattle.pw_cpp_lines.specs.Heads.{IsHead, is_hash}
-use Rattle.pw_cpp_lines.specs.Lines.{AnswersLine, Cuts, Kinds, LinePiece, PassesSpace, behind_line}
+use Rattle.pw_cpp_lines.specs.Lines.{AnswersLine, Cuts, Lexes, Kinds, LinePiece, PassesSpace, behind_line}
 use Rattle.pw_cpp_lines.specs.Passing.{PassesRest}
 use Rattle.pw_cpp_lines.specs.declared.head.Head.TheVariants as head
 use Rattle.pw_cpp_lines.specs.declared.line.Line.{Line}

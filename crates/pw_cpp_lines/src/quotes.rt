@@ -1,6 +1,6 @@
 //! Quotes of lines that are passed over.
 
-ghost use Rattle.std.specs.Prelude.{◌≡◌, ◌<◌, ◌≤◌, ◌+◌, false, length, slice_index, MatchResult};
+ghost use Rattle.std.specs.Prelude.{◌≡◌, ◌≢◌, ◌<◌, ◌≤◌, ◌+◌, false, if◌then◌else◌, length, slice_index, MatchResult};
 ghost use Rattle.pw_cpp_lines.specs.Passing as spec;
 ghost use Rattle.pw_cpp_lines.specs.Passing.{quoted_at};
 ghost use Rattle.pw_cpp_lines.specs.Walking.{AreUnclosed, NoneCloses};
