@@ -10,5 +10,5 @@ mod remade;
 mod steps;
 
 pub use making::{Built, complete};
-pub use remade::{Made, phase_two};
+pub use remade::Made;
 pub use steps::Steps;

@@ -41,26 +41,6 @@ fn new_object<L: Ledger>(
     Ok(object)
 }
 
-/// The object of a lawful module under the directives of its functions; an object that is made counts as one step. The
-/// module stays with the caller.
-pub fn phase_two<L: Ledger>(
-    alloc: Global,
-    flow: &FlowModule,
-    directives: &[(Name, Directives)],
-    steps: &mut Steps<L>,
-) -> Result<Object, AllocError>
-    requires lawful { IsValid flow.now }
-    requires directives { AreDirectivesOf flow.now directives.now }
-    ensures object { IfOk result (λ o. IsObjectOf flow.now directives.now o) }
-    ensures lawful { IfOk result (λ o. IsObject o) }
-    ensures counted { OnOk result (steps.new ≡ steps.old + 1) }
-    ensures uncounted { OnErr result (steps.new ≡ steps.old) }
-{
-    let object = pw_phase_two::phase_two(alloc, flow, directives)?;
-    steps.step();
-    Ok(object)
-}
-
 /// Whether bytes are the same.
 fn are_same(one: &[u8], other: &[u8]) -> bool
     ensures { IsTrue result ↔ (one.now ≡ other.now) }

@@ -40,7 +40,7 @@ use Rattle.pw_law_checked.proofs.Counting.{one, times, times_of, below, times_ap
 use Rattle.pw_law_checked.proofs.LabelLaws.{Steady, Labels, pending, met_times, IsLabelled, block_labelled, asked_post}
 use Rattle.pw_law_checked.proofs.FunctionLaws.{met_post, end_same}
 use Rattle.pw_law_checked.proofs.Laws.{start_lawful}
-use Rattle.pw_law_layers.specs.Accepting.{SuitsLocal, initialisers_in, IsFormed}
+use Rattle.pw_law_source.specs.Accepting.{SuitsLocal, initialisers_in, IsFormed}
 use Rattle.pw_law_accept.proofs.Order.{AreAmong, named_ones, Formed, IsFormedIn, block_formed}
 
 -- ---- the first place of a name

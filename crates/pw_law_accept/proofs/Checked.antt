@@ -11,7 +11,7 @@ use Rattle.pw_types.specs.TypedTrees.{ModuleValue}
 use Rattle.pw_check_rules.specs.Checks.{Checks}
 use Rattle.pw_law_lower.specs.Within.{AreLetters, IsNamed}
 use Rattle.pw_cmean.specs.Worlds.{ProgramModule}
-use Rattle.pw_law_layers.specs.Lowering.{IsChecked}
+use Rattle.pw_law_source.specs.Lowering.{IsChecked}
 use Rattle.pw_law_accept.proofs.Modules.{Known}
 use Rattle.pw_law_accept.proofs.Given.{functions_given}
 

@@ -8,7 +8,7 @@ use Rattle.pw_files.proofs.Standing.{Has, has_by, contains_by, has_split, has_ma
 use Rattle.pw_link_rules.specs.declared.interface.Interface.{Interface}
 use Rattle.pw_link_rules.specs.Linking.{library, library_declarations, declared_in, declarations, IsInConflict}
 use Rattle.pw_run_languages.specs.Programs.{Program, Library, Exit, GetChar, PutChar, library_at, library_shape}
-use Rattle.pw_law_layers.specs.Lowering.{DeclareAlike}
+use Rattle.pw_law_source.specs.Lowering.{DeclareAlike}
 use Rattle.pw_law_build.specs.Alike.{shown}
 
 -- ---- the library's functions

@@ -24,8 +24,8 @@ use Rattle.pw_law_checked.proofs.Lists.{some_same, never_some}
 use Rattle.pw_files.proofs.Standing.{Has, has_by, contains_by, has_each, has_map, has_map_back, has_flat, has_flat_back}
 use Rattle.pw_cmean.specs.Worlds.{Program, ProgramModule}
 use Rattle.pw_run_languages.specs.Programs.{globals_of}
-use Rattle.pw_law_layers.specs.Accepting.{LeadInside}
-use Rattle.pw_law_layers.specs.Lowering.{DeclareAlike, flow_program}
+use Rattle.pw_law_source.specs.Accepting.{LeadInside}
+use Rattle.pw_law_source.specs.Lowering.{DeclareAlike, flow_program}
 use Rattle.pw_law_accept.proofs.Names.{named_external}
 use Rattle.pw_law_accept.proofs.Modules.{all_has, Known, declared_has, declared_letters}
 use Rattle.pw_law_accept.proofs.References.{global_of}

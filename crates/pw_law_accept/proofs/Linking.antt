@@ -21,7 +21,7 @@ use Rattle.pw_link_interface.specs.Interface.{interface, used_names, names_of_fi
 use Rattle.pw_link_rules.specs.declared.interface.Interface.{Interface}
 use Rattle.pw_link_rules.specs.Linking.{library, library_declarations, names_in, defined_in, declared_in, definitions, declarations, defined_names, IsUndefined, IsDefinedTwice, IsInConflict, HasMain, Links, all_defined, defined_once, all_agree, has_main}
 use Rattle.pw_link_rules.specs.Linking as linking
-use Rattle.pw_law_layers.specs.Accepting.{Shows, AllShow}
+use Rattle.pw_law_source.specs.Accepting.{Shows, AllShow}
 use Rattle.pw_law_build.proofs.Twice.{Twice, places}
 use Rattle.pw_law_build.proofs.Tests.{beside_all}
 use Rattle.pw_law_accept.proofs.Counts.{times_append, times_flat, twice_counted}

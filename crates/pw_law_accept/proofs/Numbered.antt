@@ -35,7 +35,7 @@ use Rattle.pw_link_interface.specs.Interface.{interface}
 use Rattle.pw_link_rules.specs.declared.interface.Interface.{Interface}
 use Rattle.pw_link_rules.specs.Linking.{Links, few_globals}
 use Rattle.pw_lower.specs.Modules.{lowered_global, lowered}
-use Rattle.pw_law_layers.specs.Accepting.{AllShow}
+use Rattle.pw_law_source.specs.Accepting.{AllShow}
 use Rattle.pw_law_accept.proofs.Linking.{object_of}
 
 -- ---- so many different ones in a list

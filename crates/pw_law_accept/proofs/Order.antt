@@ -31,7 +31,7 @@ use Rattle.pw_law_checked.proofs.Keeping.{around}
 use Rattle.pw_law_checked.proofs.Adding.{Declaring, decls_declare}
 use Rattle.pw_law_checked.proofs.Counting.{number_among}
 use Rattle.pw_law_checked.proofs.LabelLaws.{Steady, Labelled, Quietly, value_then, labels_labelled, stmt_labelled, alternative_labelled, stmts_labelled, asked_post, with_loop, IsLabelled, AreLabelled, IsLabelledBehind, label_labelled}
-use Rattle.pw_law_layers.specs.Accepting.{initialisers_in, initialisers_among, initialisers_of_arms, initialisers_behind}
+use Rattle.pw_law_source.specs.Accepting.{initialisers_in, initialisers_among, initialisers_of_arms, initialisers_behind}
 use Rattle.pw_law_accept.proofs.Suiting.{Suit, Suits, suit_later, suit_both, decls_suit}
 
 -- ---- names of labels

@@ -32,7 +32,7 @@ use Rattle.pw_cmean.specs.Worlds.{Program, ProgramModule, Callable, callable}
 use Rattle.pw_cmean.specs.Worlds as source
 use Rattle.pw_run_languages.specs.Programs as flows
 use Rattle.pw_run_languages.specs.Programs.{Library, GetChar, PutChar, Exit, library_at, library_shape, functions_of, globals_of, names_of, function_named}
-use Rattle.pw_law_layers.specs.Lowering.{flow_program, DeclareAlike}
+use Rattle.pw_law_source.specs.Lowering.{flow_program, DeclareAlike}
 use Rattle.pw_run_languages.specs.LinkingLaws.{AreNamesApart}
 use Rattle.pw_law_accept.specs.Linked.{AreLinked, HasNoColon}
 use Rattle.pw_law_accept.proofs.Counts.{times_append, times_less, there, distinct_counted}

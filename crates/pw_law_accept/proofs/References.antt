@@ -32,7 +32,7 @@ use Rattle.pw_link_rules.specs.Linking.{library_declarations}
 use Rattle.pw_cmean.specs.Worlds.{Program, ProgramModule}
 use Rattle.pw_run_languages.specs.Programs.{functions_of, globals_of, names_of}
 use Rattle.pw_run_languages.specs.LawfulPrograms.{NamesRightly, IsFunctionName, IsGlobalName, IsItem, ops_of}
-use Rattle.pw_law_layers.specs.Lowering.{flow_program}
+use Rattle.pw_law_source.specs.Lowering.{flow_program}
 use Rattle.pw_law_checked.specs.OwnNames.{int_function, own_functions, with_objects}
 use Rattle.pw_law_accept.specs.References.{NamesObject, NamesFunction, RefersRightly}
 use Rattle.pw_law_accept.specs.Linked.{AreLinked, HasNoColon}

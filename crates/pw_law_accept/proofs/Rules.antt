@@ -20,7 +20,7 @@ use Rattle.pw_link_rules.specs.declared.interface.Interface.{Interface}
 use Rattle.pw_link_rules.specs.Linking.{HasMain, Links, few_functions, few_globals, all_defined, defined_once, all_agree, has_main, Passes, Test}
 use Rattle.pw_run_languages.specs.Programs.{Program, functions_of}
 use Rattle.pw_run_languages.specs.LawfulPrograms.{IsProgram}
-use Rattle.pw_law_layers.specs.Lowering.{DeclareAlike}
+use Rattle.pw_law_source.specs.Lowering.{DeclareAlike}
 use Rattle.pw_law_build.specs.Alike.{shown}
 use Rattle.pw_law_build.proofs.Mains.{main_found}
 use Rattle.pw_law_accept.specs.Few.{AreFew}

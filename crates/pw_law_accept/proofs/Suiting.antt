@@ -31,7 +31,7 @@ use Rattle.pw_law_checked.proofs.Keeping.{around}
 use Rattle.pw_law_checked.proofs.Declarations.{Fits, sort_fits}
 use Rattle.pw_law_checked.proofs.Adding.{Declaring, init_declarator_declares, init_declarators_declare, decl_declares, decls_declare, specified_all, bare_runs}
 use Rattle.pw_law_checked.proofs.LabelLaws.{asked_post}
-use Rattle.pw_law_layers.specs.Accepting.{SuitsLocal}
+use Rattle.pw_law_source.specs.Accepting.{SuitsLocal}
 
 -- ---- types
 

@@ -15,7 +15,7 @@ use Rattle.pw_lower.specs.Modules.{lowered}
 use Rattle.pw_cmean.specs.Worlds.{Program, ProgramModule}
 use Rattle.pw_run_languages.specs.Programs.{functions_of}
 use Rattle.pw_run_languages.specs.LawfulPrograms.{IsProgram, NamesRightly, ops_of}
-use Rattle.pw_law_layers.specs.Lowering.{flow_program}
+use Rattle.pw_law_source.specs.Lowering.{flow_program}
 use Rattle.pw_law_accept.specs.Linked.{AreLinked, HaveRightItems}
 use Rattle.pw_law_accept.proofs.Modules.{Known}
 use Rattle.pw_law_accept.proofs.Programs.{names_distinct, all_defined, starts, starts_with_nothing}

@@ -10,8 +10,8 @@ use Rattle.pw_cmean.specs.Worlds.{Program, ProgramModule}
 use Rattle.pw_run_languages.specs.Programs as flows
 use Rattle.pw_run_languages.specs.Programs.{globals_of}
 use Rattle.pw_run_languages.specs.LawfulPrograms.{IsItem}
-use Rattle.pw_law_layers.specs.Accepting.{AllShow}
-pub use Rattle.pw_law_layers.specs.Accepting.{HasNoColon, AreNamedPlainly}
+use Rattle.pw_law_source.specs.Accepting.{AllShow}
+pub use Rattle.pw_law_source.specs.Accepting.{HasNoColon, AreNamedPlainly}
 
 -- objects that show what the modules have, and that link
 pub record AreLinked (modules : List FlowModule) : Type 0 where

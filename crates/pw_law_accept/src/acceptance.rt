@@ -17,8 +17,8 @@ ghost use Rattle.pw_cmean.specs.Typed.{IsWellTyped};
 ghost use Rattle.pw_law_lower.specs.Within.{IsWithin};
 ghost use Rattle.pw_run_languages.specs.LawfulPrograms.{IsProgram, NamesRightly, ops_of};
 ghost use Rattle.pw_run_languages.specs.LinkingLaws.{AreNamesApart};
-ghost use Rattle.pw_law_layers.specs.Accepting.{AreFormed, CheckedIsAccepted, LeadInside};
-ghost use Rattle.pw_law_layers.specs.Lowering.{AreChecked, DeclareAlike, HaveParts, LoweringKeepsRuns, flow_program};
+ghost use Rattle.pw_law_source.specs.Accepting.{AreFormed, CheckedIsAccepted, LeadInside};
+ghost use Rattle.pw_law_source.specs.Lowering.{AreChecked, DeclareAlike, HaveParts, LoweringKeepsRuns, flow_program};
 ghost use Rattle.pw_law_refine.specs.Whole.{CheckedIsLowerable, ProgramsKeepRuns};
 ghost use Rattle.pw_law_accept.specs.Linked.{AreLinked, AreNamedPlainly, HaveRightItems};
 

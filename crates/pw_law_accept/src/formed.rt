@@ -4,7 +4,7 @@ ghost use Rattle.std.specs.Prelude.{All, Ok};
 ghost use Rattle.pw_tree.specs.Trees.{Module};
 ghost use Rattle.pw_types.specs.TypedTrees.{ModuleValue};
 ghost use Rattle.pw_check_rules.specs.Checks.{Checks};
-ghost use Rattle.pw_law_layers.specs.Accepting.{IsFormed};
+ghost use Rattle.pw_law_source.specs.Accepting.{IsFormed};
 
 /// In each function of a module that checking accepts the labels that a `goto` can name are those of the body that are no case's,
 /// in the order of the text (ISO C90 6.6.1), and a hidden object gives its bytes to no scalar local (6.5.7).

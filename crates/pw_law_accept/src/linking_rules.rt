@@ -2,7 +2,7 @@
 
 ghost use Rattle.std.specs.Prelude.{ℕ, List, map};
 ghost use Rattle.pw_cmean.specs.Worlds.{Program};
-ghost use Rattle.pw_law_layers.specs.Lowering.{IsAccepted, flow_program};
+ghost use Rattle.pw_law_source.specs.Lowering.{IsAccepted, flow_program};
 ghost use Rattle.pw_link_rules.specs.Linking.{Links};
 ghost use Rattle.pw_law_build.specs.Alike.{shown};
 ghost use Rattle.pw_law_accept.specs.Few.{AreFew};

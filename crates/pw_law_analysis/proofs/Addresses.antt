@@ -27,7 +27,7 @@ use Rattle.pw_summarise.specs.Summarises.{addressed, in_function, in_module, fun
 use Rattle.pw_graph.specs.Program.{IsTaken, IsEscaped}
 use Rattle.pw_run_languages.specs.LawfulPrograms as web
 use Rattle.pw_run_languages.specs.LawfulPrograms.{ops_of, taken_names, NamesRightly, IsGlobalName}
-use Rattle.pw_law_layers.specs.Lowering.{flow_program, IsAccepted}
+use Rattle.pw_law_source.specs.Lowering.{flow_program, IsAccepted}
 use Rattle.pw_law_analysis.specs.SummaryGraphs.{AllSummarise}
 use Rattle.pw_law_analysis.proofs.Taking.{TakesRightly, AllRight, functions_good}
 use Rattle.pw_law_analysis.proofs.Lists.{across}

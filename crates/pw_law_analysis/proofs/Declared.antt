@@ -27,7 +27,7 @@ use Rattle.pw_cmean.specs.Worlds as source
 use Rattle.pw_cmean.specs.Typed.{IsWellTyped}
 use Rattle.pw_files.proofs.Standing.{Has, has_by, contains_by, has_each, has_left, has_right, has_split, has_map, has_map_back, has_flat, has_flat_back}
 use Rattle.pw_summarise.specs.Summarises.{shape_in, if_function, function_shape, function_entry, function_entries}
-use Rattle.pw_law_layers.specs.Lowering.{flow_program, IsAccepted}
+use Rattle.pw_law_source.specs.Lowering.{flow_program, IsAccepted}
 use Rattle.pw_law_analysis.proofs.Taking.{start_only}
 use Rattle.pw_law_analysis.proofs.Lists.{clash, found, finds, across}
 

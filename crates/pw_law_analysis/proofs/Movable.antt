@@ -16,7 +16,7 @@ use Rattle.pw_graph.specs.Program.{IsTaken, IsGraphOf}
 use Rattle.pw_graph.specs.Program as summaries
 use Rattle.pw_db_sound.specs.CallGraphs.{Node, IsMovable}
 use Rattle.pw_run_languages.specs.LawfulPrograms.{has_name, taken_names, node_of, graph_of}
-use Rattle.pw_law_layers.specs.Lowering.{flow_program, IsAccepted}
+use Rattle.pw_law_source.specs.Lowering.{flow_program, IsAccepted}
 use Rattle.pw_law_analysis.specs.SummaryGraphs.{AllSummarise, is_among, name_at, node_at, nodes_from, named_graph}
 use Rattle.pw_law_analysis.proofs.Lists.{clash, any_has, has_any, named_has, has_named}
 use Rattle.pw_law_analysis.proofs.Addresses.{taken_in, summary_of, module_of, taken_addressed, function_taken}

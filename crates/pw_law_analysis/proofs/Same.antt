@@ -16,7 +16,7 @@ use Rattle.pw_graph.specs.Program.{IsCall, by_name, through_value, IsGraphOf}
 use Rattle.pw_graph.specs.Program as summaries
 use Rattle.pw_db_sound.specs.CallGraphs.{Node, Calls, Reads, Writes, SayTheSame}
 use Rattle.pw_run_languages.specs.LawfulPrograms.{NamesRightly, ops_of, has_name, has_shape, taken_names, called, eligible_of, read_by, written_by, node_of, graph_of}
-use Rattle.pw_law_layers.specs.Lowering.{flow_program, IsAccepted}
+use Rattle.pw_law_source.specs.Lowering.{flow_program, IsAccepted}
 use Rattle.pw_law_analysis.specs.SummaryGraphs.{AllSummarise, named_graph}
 use Rattle.pw_law_analysis.proofs.Lists.{both, both_back, has_filter, has_filter_back, named_has}
 use Rattle.pw_law_analysis.proofs.Addresses.{at_op, by_op, function_taken}

@@ -26,7 +26,7 @@ use Rattle.pw_run_languages.specs.Serving.{AllServe}
 use Rattle.pw_run_languages.specs.SelectionLaws.{SelectionKeepsRuns}
 use Rattle.pw_run_languages.specs.LinkingLaws.{AreObjectsOf, AreNamesApart, frame_in, LinkKeepsRuns}
 use Rattle.pw_cmean.specs.Worlds.{Program}
-use Rattle.pw_law_layers.specs.Source.{source_runs}
+use Rattle.pw_law_source.specs.Source.{source_runs}
 use Rattle.pw_law_layers.specs.Whole.{Implements, Holds, image_of}
 use Rattle.pw_law_analysis.specs.SummaryGraphs.{named_graph}
 use Rattle.pw_law_analysis.specs.PlacedGlobals.{AreColoured}

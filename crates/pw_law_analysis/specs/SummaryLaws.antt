@@ -6,7 +6,7 @@ use Rattle.pw_graph.specs.Program.{IsGraphOf}
 use Rattle.pw_db_sound.specs.CallGraphs.{SayTheSame}
 use Rattle.pw_run_languages.specs.LawfulPrograms.{graph_of}
 use Rattle.pw_cmean.specs.Worlds.{Program}
-use Rattle.pw_law_layers.specs.Lowering.{flow_program, IsAccepted}
+use Rattle.pw_law_source.specs.Lowering.{flow_program, IsAccepted}
 use Rattle.pw_law_analysis.specs.SummaryGraphs.{named_graph, AllSummarise}
 
 -- of an accepted program

@@ -23,8 +23,8 @@ use Rattle.pw_run_languages.specs.Direction.{MomentAlike}
 use Rattle.pw_run_languages.specs.Standing.{EventInWords}
 use Rattle.pw_run_languages.specs.MachineRun.{Map, traced_run}
 use Rattle.pw_run_languages.proofs.Forgetting.{forgotten, run_forgets}
-use Rattle.pw_law_layers.specs.Source.{source_stages, source_runs, staged, end_of}
-use Rattle.pw_law_layers.specs.Lowering.{MomentKept}
+use Rattle.pw_law_source.specs.Source.{source_stages, source_runs, staged, end_of}
+use Rattle.pw_law_source.specs.Lowering.{MomentKept}
 use Rattle.pw_law_layers.specs.Whole.{InMachine}
 use Rattle.pw_law_layers.proofs.Places.{all_layers}
 

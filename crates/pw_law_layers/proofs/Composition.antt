@@ -33,8 +33,8 @@ use Rattle.pw_run_languages.specs.Standing.{EventInWords}
 use Rattle.pw_run_languages.specs.LineRun.{line_run}
 use Rattle.pw_run_languages.specs.SelectionLaws.{line_program, placed_program, SelectionKeeps, PlacementKeepsRuns}
 use Rattle.pw_run_languages.specs.LinkingLaws.{LinkKeeps, address_of, frame_in, map_of, image_run}
-use Rattle.pw_law_layers.specs.Source.{source_stages, source_runs}
-use Rattle.pw_law_layers.specs.Lowering.{MomentKept}
+use Rattle.pw_law_source.specs.Source.{source_stages, source_runs}
+use Rattle.pw_law_source.specs.Lowering.{MomentKept}
 use Rattle.pw_law_layers.specs.Whole.{InMachine, image_of, LayersHold, LayersCompose}
 use Rattle.pw_law_layers.specs.Guarding.{SoundDirectivesGuard}
 use Rattle.pw_law_layers.specs.Rooms.{MapHasFrames}

@@ -15,7 +15,7 @@ use Rattle.pw_run_languages.specs.Traffic.{ObeysTraffic}
 use Rattle.pw_run_languages.specs.Meeting.{MetWith}
 use Rattle.pw_run_languages.specs.MachineRun.{Map, traced_run}
 use Rattle.pw_run_languages.proofs.Growing.{IsClosed, notes_where_going, notes_where_over}
-use Rattle.pw_law_layers.specs.Source.{source_stages, source_runs, staged, shown, end_of}
+use Rattle.pw_law_source.specs.Source.{source_stages, source_runs, staged, shown, end_of}
 
 -- ---- from a defined source
 

@@ -17,7 +17,7 @@ use Rattle.pw_run_languages.specs.Programs.{Program, globals_of}
 use Rattle.pw_run_languages.specs.FlowRun as flow
 use Rattle.pw_run_languages.specs.Direction.{HoldsAs, StandsFor, AllStand, MomentAlike}
 use Rattle.pw_run_languages.specs.Standing.{pointer_address, ByteStands, ValueStands, GlobalsAreNamed, EventInWords}
-use Rattle.pw_law_layers.specs.Lowering.{ByteKept, ValueKept, ScalarKept, GlobalKept, GlobalsKept, SameGlobals, MomentKept}
+use Rattle.pw_law_source.specs.Lowering.{ByteKept, ValueKept, ScalarKept, GlobalKept, GlobalsKept, SameGlobals, MomentKept}
 use Rattle.pw_law_layers.specs.Whole.{ByteInMachine, ValueInMachine, ScalarInMachine, GlobalInMachine, GlobalsInMachine, AllInMachine, InMachine}
 
 -- where the object that stands for one stands

@@ -40,11 +40,11 @@ use Rattle.pw_run_languages.specs.Direction.{directed_functions, MomentAlike}
 use Rattle.pw_run_languages.specs.Serving.{AllServe}
 use Rattle.pw_run_languages.specs.Standing.{pointer_address, byte_of, EventInWords}
 use Rattle.pw_run_languages.specs.LinkingLaws.{AreObjectsOf, AreNamesApart, address_of, frame_in, image_run}
-use Rattle.pw_law_layers.specs.Source.{source_stages, source_runs}
+use Rattle.pw_law_source.specs.Source.{source_stages, source_runs}
 use Rattle.pw_run_languages.specs.PlacementLaws.{DirectionKeeps, PlacesKeep}
 use Rattle.pw_run_languages.specs.SelectionLaws.{SelectionKeeps, SelectionKeepsRuns, PlacementKeeps}
 use Rattle.pw_run_languages.specs.LinkingLaws.{LinkKeeps, LinkKeepsRuns}
-use Rattle.pw_law_layers.specs.Lowering.{MomentKept, flow_program, IsAccepted, AreChecked, HaveParts, LoweringKeepsRuns}
+use Rattle.pw_law_source.specs.Lowering.{MomentKept, flow_program, IsAccepted, AreChecked, HaveParts, LoweringKeepsRuns}
 
 -- ---- C values in the machine's words
 

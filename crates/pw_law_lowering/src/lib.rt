@@ -1,8 +1,9 @@
 //! The law of lowering, without code: the flow graphs of accepted programs of checked texts do what the programs mean.
 #![tactic(auto)]
 
-ghost use Rattle.pw_law_layers.specs.Lowering.{LoweringKeepsRuns};
+ghost use Rattle.pw_law_source.specs.Lowering.{LoweringKeepsRuns};
 
+pub use pw_law_accept::checked_is_accepted;
 use pw_law_accept::lowering_rests_on_programs;
 use pw_law_refine_whole::programs_keep_runs;
 

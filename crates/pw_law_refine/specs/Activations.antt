@@ -12,7 +12,7 @@ use Rattle.pw_cmean.specs.Worlds.{ProgramModule, World}
 use Rattle.pw_cmean.specs.Evaluation.{Env}
 use Rattle.pw_run_languages.specs.Programs as flows
 use Rattle.pw_run_languages.specs.FlowRun as flow
-use Rattle.pw_law_layers.specs.Lowering.{flow_program}
+use Rattle.pw_law_source.specs.Lowering.{flow_program}
 use Rattle.pw_law_refine.specs.Lowerable.{IsLowerableWorld}
 
 -- the program of flow graphs that runs in place of a world's

@@ -4,8 +4,8 @@ use Rattle.pw_types.specs.TypedTrees.{ModuleValue}
 use Rattle.pw_law_lower.specs.Within.{AreLetters, AreRecordsWithin, IsFunctionWithin}
 use Rattle.pw_cmean.specs.Worlds.{Program, ProgramModule, World}
 use Rattle.pw_run_languages.specs.Programs.{NoneForLibrary}
-use Rattle.pw_law_layers.specs.Lowering.{flow_program, IsAccepted}
-use Rattle.pw_law_layers.specs.Accepting.{AreFormed, LeadInside}
+use Rattle.pw_law_source.specs.Lowering.{flow_program, IsAccepted}
+use Rattle.pw_law_source.specs.Accepting.{AreFormed, LeadInside}
 
 -- The records of a module, what it declares and its functions are within the limits of lowering. Nothing is asked of the
 -- numbers of objects without a name: they serve for the names of objects alone, which are apart in an accepted program.

@@ -15,8 +15,8 @@ use Rattle.pw_run.specs.Runs.{SameIn}
 use Rattle.pw_run_languages.specs.Programs.{globals_of}
 use Rattle.pw_run_languages.specs.FlowRun as flow
 use Rattle.pw_run_languages.specs.FlowRun.{Frame, Machine}
-use Rattle.pw_law_layers.specs.Source as source
-use Rattle.pw_law_layers.specs.Lowering.{MomentKept}
+use Rattle.pw_law_source.specs.Source as source
+use Rattle.pw_law_source.specs.Lowering.{MomentKept}
 use Rattle.pw_law_refine.specs.Standing.{Spot, Nowhere, In, spot_of, Stands, MemoryStands}
 use Rattle.pw_law_refine.specs.Activations.{Activation, Numbers, graphs, graph_of, number_of, place_in}
 

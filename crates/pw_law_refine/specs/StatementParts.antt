@@ -18,7 +18,7 @@ use Rattle.pw_cmean.specs.Evaluation.{Env, Calls}
 use Rattle.pw_cmean.specs.Execution.{Entry, Flow, taking_up, loop, always, condition, for_condition, drop_value, label_for, with_locals, initialise, meaning, items, arms, behind_arms}
 use Rattle.pw_cmean.specs.SourceRun.{calls}
 use Rattle.pw_run_languages.specs.FlowRun.{Machine, value_in}
-use Rattle.pw_law_layers.specs.Accepting.{SuitsLocal, initialisers_among, initialisers_of_arms, initialisers_behind}
+use Rattle.pw_law_source.specs.Accepting.{SuitsLocal, initialisers_among, initialisers_of_arms, initialisers_behind}
 use Rattle.pw_law_refine.specs.Standing.{Spot, Stands}
 use Rattle.pw_law_refine.specs.Activations.{Activation, IsActivation, Numbers, graphs, graph_of, home_of, lowering_of, HaveSlots, number_of, env_of}
 use Rattle.pw_law_refine.specs.Matching.{Related, Later}

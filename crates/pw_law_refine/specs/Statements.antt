@@ -16,7 +16,7 @@ use Rattle.pw_cmean.specs.Acts.{State, Act}
 use Rattle.pw_cmean.specs.Execution.{Entry, Front, At_label, Flow, Normal, Breaks, Continues, Returns, Goes, holds, meaning}
 use Rattle.pw_cmean.specs.SourceRun.{calls}
 use Rattle.pw_run_languages.specs.FlowRun.{Machine}
-use Rattle.pw_law_layers.specs.Accepting.{SuitsLocal, initialisers_in}
+use Rattle.pw_law_source.specs.Accepting.{SuitsLocal, initialisers_in}
 use Rattle.pw_law_refine.specs.Standing.{Spot}
 use Rattle.pw_law_refine.specs.Activations.{Activation, IsActivation, Numbers, graph_of, lowering_of, local_temps, HaveSlots, number_of, env_of}
 use Rattle.pw_law_refine.specs.Matching.{Related, Later}

@@ -11,8 +11,8 @@ use Rattle.pw_run.specs.Runs.{Refines}
 use Rattle.pw_run_languages.specs.Programs as flows
 use Rattle.pw_run_languages.specs.Programs.{AreBytes, NoneForLibrary, start_objects}
 use Rattle.pw_run_languages.specs.FlowRun.{Machine, On, start, flow_run}
-use Rattle.pw_law_layers.specs.Source.{source_stages}
-use Rattle.pw_law_layers.specs.Lowering.{MomentKept, flow_program, IsAccepted, AreChecked}
+use Rattle.pw_law_source.specs.Source.{source_stages}
+use Rattle.pw_law_source.specs.Lowering.{MomentKept, flow_program, IsAccepted, AreChecked}
 use Rattle.pw_law_refine.specs.Lowerable.{IsLowerable, IsLowerableWorld}
 use Rattle.pw_law_refine.specs.Standing.{Spot}
 use Rattle.pw_law_refine.specs.Activations.{graphs}

@@ -8,7 +8,7 @@ ghost use Rattle.pw_lower.specs.Statements.{Frame, lower_statement};
 ghost use Rattle.pw_lower.specs.declared.code.Code.{Code};
 ghost use Rattle.pw_lower.specs.declared.place.Ways.{Ways};
 ghost use Rattle.pw_types.specs.TypedTrees.{Expression, Statement};
-ghost use Rattle.pw_law_layers.specs.Lowering.{LoweringKeepsRuns};
+ghost use Rattle.pw_law_source.specs.Lowering.{LoweringKeepsRuns};
 ghost use Rattle.pw_law_refine.specs.Containing.{ContainsCode};
 ghost use Rattle.pw_law_refine.specs.Whole.{ProgramsKeepRuns, CheckedIsLowerable};
 

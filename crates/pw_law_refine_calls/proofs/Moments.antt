@@ -20,7 +20,7 @@ use Rattle.pw_cmean.specs.Acts.{State}
 use Rattle.pw_run_languages.specs.Memory.{scalar_of, word_or_pointer}
 use Rattle.pw_run_languages.specs.Programs.{globals_of}
 use Rattle.pw_run_languages.specs.FlowRun.{Machine}
-use Rattle.pw_law_layers.specs.Lowering.{Follows, ByteKept, ValueKept, ScalarKept, GlobalsKept, SameGlobals}
+use Rattle.pw_law_source.specs.Lowering.{Follows, ByteKept, ValueKept, ScalarKept, GlobalsKept, SameGlobals}
 use Rattle.pw_law_refine.specs.Standing.{Spot, Nowhere, In, spot_of, Leads, ByteStands, MemoryStands}
 use Rattle.pw_law_refine.specs.Activations.{graphs}
 use Rattle.pw_law_refine.specs.Matching.{Matches, IsGlobalAt, global_size}

@@ -6,7 +6,7 @@ ghost use Rattle.pw_value.specs.declared.value.Value.{Value};
 ghost use Rattle.pw_cmean.specs.Acts.{State};
 ghost use Rattle.pw_cmean.specs.Worlds.{World, Callable};
 ghost use Rattle.pw_run_languages.specs.FlowRun.{Machine};
-ghost use Rattle.pw_law_layers.specs.Lowering.{SameGlobals};
+ghost use Rattle.pw_law_source.specs.Lowering.{SameGlobals};
 ghost use Rattle.pw_law_refine.specs.Lowerable.{IsLowerableWorld};
 ghost use Rattle.pw_law_refine.specs.Standing.{Spot};
 ghost use Rattle.pw_law_refine.specs.Activations.{graphs};

@@ -14,7 +14,7 @@ use Rattle.pw_lower.specs.Codes.{temp_of, reserve}
 use Rattle.pw_lower.specs.Places.{addressed_in, addressed_in_statement, addressed_in_arms, addressed_in_otherwise}
 use Rattle.pw_lower.specs.Expressions.{lower}
 use Rattle.pw_lower.specs.Statements.{lower_statement, lower_arms, lower_otherwise}
-use Rattle.pw_law_layers.specs.Accepting.{SuitsLocal, initialisers_in, initialisers_of_arms, initialisers_behind}
+use Rattle.pw_law_source.specs.Accepting.{SuitsLocal, initialisers_in, initialisers_of_arms, initialisers_behind}
 use Rattle.pw_law_refine.specs.Activations.{Activation, Numbers, graph_of, home_of, lowering_of, HaveSlots}
 use Rattle.pw_law_refine.specs.Containing.{ContainsCode}
 use Rattle.pw_law_refine.specs.Statements.{AreLabelled, LieBehind, IsSet, code_behind}

@@ -21,7 +21,7 @@ use Rattle.pw_lower.specs.Modules.{entered}
 use Rattle.pw_cmean.specs.Worlds.{ProgramModule}
 use Rattle.pw_lower.specs.Statements.{begun, effects, test_or_go, initialised_all, labels_of, choose, default_or, Frame, lower_statement, lower_statements}
 use Rattle.pw_law_lower.specs.Kept.{Keeps}
-use Rattle.pw_law_layers.specs.Accepting.{SuitsLocal, initialisers_in, initialisers_among}
+use Rattle.pw_law_source.specs.Accepting.{SuitsLocal, initialisers_in, initialisers_among}
 use Rattle.pw_law_refine.specs.Activations.{Activation, IsActivation, Numbers, graph_of, home_of, lowering_of, HaveSlots, number_of}
 use Rattle.pw_law_refine.specs.Containing.{ContainsCode}
 use Rattle.pw_law_refine.specs.Statements.{AreLabelled, IsSet, code_behind}

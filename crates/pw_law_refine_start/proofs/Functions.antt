@@ -25,7 +25,7 @@ use Rattle.pw_cmean.specs.Worlds as source
 use Rattle.pw_run_languages.specs.Programs as flows
 use Rattle.pw_run_languages.specs.Programs.{names_of, globals_of}
 use Rattle.pw_law_lower.specs.Within.{AreLetters, IsNamed, IsFunctionWithin}
-use Rattle.pw_law_layers.specs.Lowering.{flow_program}
+use Rattle.pw_law_source.specs.Lowering.{flow_program}
 use Rattle.pw_law_refine.specs.Lowerable.{IsLowerable}
 use Rattle.pw_law_refine.specs.Calls.{FitShape}
 use Rattle.pw_files.proofs.Standing.{Has, has_by, has_each, contains_by, has_left, has_right, has_split, has_map, has_map_back, has_flat, has_flat_back}

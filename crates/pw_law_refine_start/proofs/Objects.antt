@@ -33,7 +33,7 @@ use Rattle.pw_cmean.specs.Typed.{IsByte}
 use Rattle.pw_run_languages.specs.Programs as flows
 use Rattle.pw_run_languages.specs.Programs.{globals_of, names_of}
 use Rattle.pw_law_lower.specs.Within.{AreLetters}
-use Rattle.pw_law_layers.specs.Lowering.{flow_program}
+use Rattle.pw_law_source.specs.Lowering.{flow_program}
 use Rattle.pw_law_refine.specs.Lowerable.{IsLowerable}
 use Rattle.pw_law_refine.specs.Standing.{Spot, Leads, ByteStands, Holds, MemoryStands}
 use Rattle.pw_law_refine.specs.Matching.{AreSmall, IsGlobalAt}

@@ -16,8 +16,8 @@ use Rattle.pw_run_languages.specs.Programs as flows
 use Rattle.pw_run_languages.specs.Programs.{AreBytes, NoneForLibrary}
 use Rattle.pw_run_languages.specs.FlowRun as flow
 use Rattle.pw_run_languages.specs.FlowRun.{Machine, Step, On, Stopped, steps, goes_on, start, flow_run}
-use Rattle.pw_law_layers.specs.Source.{staged, source_stages}
-use Rattle.pw_law_layers.specs.Lowering.{MomentKept}
+use Rattle.pw_law_source.specs.Source.{staged, source_stages}
+use Rattle.pw_law_source.specs.Lowering.{MomentKept}
 use Rattle.pw_law_refine.specs.Lowerable.{IsLowerableWorld}
 use Rattle.pw_law_refine.specs.Activations.{graphs}
 use Rattle.pw_law_refine.specs.Meeting.{Reaches, Stops, Counts, Meets}

@@ -14,7 +14,7 @@ use Rattle.pw_cmean.specs.Acts.{State, give, ◌>>=◌}
 use Rattle.pw_cmean.specs.Execution.{Entry, Front, At_label, taking_up, initialise, initialise_all, items, meaning}
 use Rattle.pw_cmean.specs.SourceRun.{calls}
 use Rattle.pw_run_languages.specs.FlowRun.{Machine}
-use Rattle.pw_law_layers.specs.Accepting.{SuitsLocal, initialisers_among}
+use Rattle.pw_law_source.specs.Accepting.{SuitsLocal, initialisers_among}
 use Rattle.pw_law_refine.specs.Standing.{Spot}
 use Rattle.pw_law_refine.specs.Activations.{Activation, IsActivation, Numbers, graph_of, home_of, env_of, lowering_of, HaveSlots, number_of}
 use Rattle.pw_law_refine.specs.Matching.{Related, Later}

@@ -1,16 +1,14 @@
 -- Arguments: those behind the fourth go to the frame, the others to registers.
-use Rattle.std.proofs.Common.{ℕ, ℤ, zero, suc, pos, neg_ℤ, ◌-ℤ◌, ◌≡◌, ◌≢◌, ◌+◌, ◌-◌, ◌*◌, ◌%◌, ◌^◌, ◌<◌, ◌≤◌, ◌⊎◌, inl, inr, arith, refl, ap, sym, subst, ◌∙◌, Bool, true, false, if◌then◌else◌, nat_lt, Option, Some, None, List, [], ◌∷◌, ◌++◌, length, take, drop, slice_get}
+use Rattle.std.proofs.Common.{ℕ, zero, suc, pos, ◌-ℤ◌, ◌≡◌, ◌≢◌, ◌+◌, ◌-◌, ◌*◌, ◌^◌, ◌<◌, ◌≤◌, ◌⊎◌, inl, inr, arith, refl, ap, sym, subst, ◌∙◌, Bool, if◌then◌else◌, Some, List, [], ◌∷◌, ◌++◌, length, take, drop, slice_get}
 use Rattle.std.specs.List.{AllByRecursion}
 use Rattle.std.proofs.lemmas.Int.{ints}
 use Rattle.std.proofs.lemmas.Bool.{cases_lt, lt-ltb, le-ltb}
 use Rattle.pw_inst.specs.Registers.{help, first, stack_pointer}
-use Rattle.pw_inst.specs.declared.line.Line.{Line}
 use Rattle.pw_alloc.specs.declared.located.Place.{Place}
 use Rattle.pw_alloc.specs.Frames.{below}
 use Rattle.pw_run_languages.specs.Addresses.{Addresses}
 use Rattle.pw_run_languages.specs.Acts.{Core, register, number_at, with_number}
 use Rattle.pw_run_languages.specs.LineRun.{LineProgram}
-use Rattle.pw_run_languages.specs.Serving.{IsTempRegister}
 use Rattle.pw_select_lines.specs.Registers.{store_to, loaded}
 use Rattle.pw_select_lines.specs.Operations.{stacked_arguments, register_arguments}
 use Rattle.pw_law_select_rows.specs.Straight.{words_of}
@@ -18,7 +16,7 @@ use Rattle.pw_law_select_rows.specs.Places.{place_word}
 use Rattle.pw_law_select_states.specs.States.{IsOfWords}
 use Rattle.pw_law_select_frames.specs.Going.{Goes}
 use Rattle.pw_law_select_frames.specs.Stack.{IsStackWord, IsTop, IsPlaceBelow}
-use Rattle.pw_law_select_frames.specs.Arguments.{argument_word, arguments_size, MayPass, Passes, PassesBoth, passing, passing_by_value}
+use Rattle.pw_law_select_frames.specs.Arguments.{argument_word, arguments_size, MayPass, Passes, PassesBoth, passing}
 use Rattle.pw_law_select_frames.proofs.Known.{Known}
 use Rattle.pw_law_select_frames.proofs.Going.{loads_go, stores_go, stays, lines_then}
 use Rattle.pw_law_select_frames.proofs.Stack.{same_number, top_small}

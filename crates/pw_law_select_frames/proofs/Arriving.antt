@@ -1,48 +1,42 @@
 -- A whole call, up to webs and parameters.
-use Rattle.std.proofs.Common.{ℕ, ℤ, pos, zero, suc, ◌≡◌, ◌≢◌, ◌+◌, ◌-◌, ◌*◌, ◌^◌, ◌<◌, ◌≤◌, ◌⊎◌, inl, inr, arith, refl, ap, sym, subst, ◌∙◌, Bool, true, false, if◌then◌else◌, nat_lt, Option, List, [], ◌∷◌, ◌++◌, map, length, replicate, append_assoc}
+use Rattle.std.proofs.Common.{ℕ, ℤ, ◌≡◌, ◌+◌, ◌-◌, ◌^◌, ◌<◌, inl, arith, refl, ap, sym, subst, ◌∙◌, Bool, true, false, nat_lt, Option, List, [], ◌∷◌, ◌++◌, map, length, append_assoc}
 use Rattle.std.specs.List.{AllByRecursion}
-use Rattle.std.specs.Int.{w32, cast_signed}
 use Rattle.std.proofs.lemmas.List.{length-replicate}
 use Rattle.pw_value.specs.declared.value.Value.{Value}
 use Rattle.pw_value.specs.declared.value.Value.TheVariants.{Undefined}
 use Rattle.pw_value.specs.Objects.{Object}
 use Rattle.pw_inst.specs.Limits.{near_limit}
-use Rattle.pw_inst.specs.Registers.{help, second, return_address, stack_pointer}
+use Rattle.pw_inst.specs.Registers.{stack_pointer}
 use Rattle.pw_inst.specs.declared.Inst.TheVariants as i
 use Rattle.pw_inst.specs.declared.line.Line.{Line}
 use Rattle.pw_inst.specs.declared.line.Line.TheVariants as line
 use Rattle.pw_webflow.specs.declared.web.WebBlock.{WebBlock}
 use Rattle.pw_alloc.specs.declared.located.Located.{Located}
-use Rattle.pw_alloc.specs.Frames.{head_size, saved_offset, link_place, below}
-use Rattle.pw_delay.specs.declared.items.Item.{Item}
+use Rattle.pw_alloc.specs.Frames.{head_size, saved_offset, below}
 use Rattle.pw_delay.specs.declared.items.Item.TheVariants.{Plain}
 use Rattle.pw_delay.specs.Items.{slotted}
 use Rattle.pw_select_lines.specs.Registers.{is_near, copied, store_to}
-use Rattle.pw_select.specs.Selection.{frame_end, slot_offsets, saved_lines, webs_loaded, parameters_in, entry_lines, prologue, blocks_lines, selected}
+use Rattle.pw_select.specs.Selection.{frame_end, slot_offsets, saved_lines, webs_loaded, parameters_in, entry_lines, blocks_lines, selected}
 use Rattle.pw_run.specs.Runs.{AreAlike}
 use Rattle.pw_run_languages.specs.Traces.{EventAlike, Called}
 use Rattle.pw_run_languages.specs.Programs.{Program}
 use Rattle.pw_run_languages.specs.Addresses.{Addresses}
-use Rattle.pw_run_languages.specs.Acts.{Core, register}
-use Rattle.pw_run_languages.specs.Standing.{ByteStands, ValueStands, EventInWords}
+use Rattle.pw_run_languages.specs.Acts.{register}
 use Rattle.pw_run_languages.specs.LineRun as run
 use Rattle.pw_run_languages.specs.LineRun.{globals_in}
 use Rattle.pw_run_languages.specs.FlowRun.{with_slots}
 use Rattle.pw_run_languages.specs.PlacedRun as placed
-use Rattle.pw_run_languages.specs.PlacedRun.{globals_now, entered}
+use Rattle.pw_run_languages.specs.PlacedRun.{globals_now}
 use Rattle.pw_run_languages.specs.Direction.{with_functions}
 use Rattle.pw_run_languages.specs.SelectionLaws.{line_program, with_lines}
 use Rattle.pw_law_select_memory.specs.Stand.{StandingIsAlike, OldBytesStand}
 use Rattle.pw_law_select_rows.specs.Straight.{words_of, IsStraight, StraightLinesAreWords}
 use Rattle.pw_law_select_states.specs.Laid.{address, Lives, size_of}
-use Rattle.pw_law_select_states.specs.Frames.{words_size}
-use Rattle.pw_law_select_states.specs.Passes.{Passes, further}
-use Rattle.pw_law_select_states.specs.States.{Stands}
-use Rattle.pw_law_select_frames.specs.Chain.{SavedStand, IsActive, Waits, AllWait, frame_top}
+use Rattle.pw_law_select_states.specs.Passes.{Passes}
+use Rattle.pw_law_select_frames.specs.Chain.{SavedStand, Waits, AllWait, frame_top}
 use Rattle.pw_law_select_frames.specs.Extending.{KeepsObjects}
 use Rattle.pw_law_select_frames.specs.Beginning.{Begins}
-use Rattle.pw_law_select_frames.specs.Returning.{BothTake}
-use Rattle.pw_law_select_frames.specs.Arriving.{BothBegin, MayEnter, IsEntered, called_in, lines_behind_entry}
+use Rattle.pw_law_select_frames.specs.Arriving.{MayEnter, IsEntered, called_in, lines_behind_entry}
 use Rattle.pw_law_select_frames.proofs.Known.{Known}
 use Rattle.pw_law_select_frames.proofs.Passing.{words_pass}
 use Rattle.pw_law_select_frames.proofs.Blocks.{reach_by}
@@ -55,7 +49,7 @@ use Rattle.pw_law_select_frames.proofs.Stepping.{objects_below_by, waiting_are_a
 
 -- ---- lines
 
-stored_straight : (near : Bool) (offset : ℤ) (r : ℕ) → AllByRecursion IsStraight ((reach_by near offset).before ++ line.Plain (i.Stw r (reach_by near offset).displacement (reach_by near offset).base) ∷ [])
+pub stored_straight : (near : Bool) (offset : ℤ) (r : ℕ) → AllByRecursion IsStraight ((reach_by near offset).before ++ line.Plain (i.Stw r (reach_by near offset).displacement (reach_by near offset).base) ∷ [])
 stored_straight true offset r = (tt, tt)
 stored_straight false offset r = (tt, (tt, (tt, (tt, tt))))
 
@@ -235,6 +229,7 @@ module _ (known : Known) (old_bytes : OldBytesStand) (lines : StraightLinesAreWo
         };
         registers = s.registers;
         memory = byte_stays_below;
+        words = s.words;
         log = AreAlike.also (Called f.body.name (globals_now q m.registers (m.frame ∷ m.callers) m.objects) (placed.kept m.registers))
             (Called f.body.name (globals_in lp w l.core (l.frame ∷ l.callers)) (run.kept l.core)) m.trace l.trace
             (record {

@@ -1,14 +1,13 @@
 -- The state behind the words with which a function begins.
-use Rattle.std.proofs.Common.{ℕ, ℤ, pos, zero, suc, ◌≡◌, ◌≢◌, ◌+◌, ◌-◌, ◌*◌, ◌%◌, ◌^◌, ◌<◌, ◌≤◌, ◌⊎◌, inl, inr, arith, refl, ap, sym, subst, ◌∙◌, Bool, true, false, true≢false, if◌then◌else◌, nat_lt, ◌==◌, Option, Some, None, List, [], ◌∷◌, ◌++◌, map, length, replicate, slice_get, slice_index_or, unwrap_or, append_assoc, Contains}
+use Rattle.std.proofs.Common.{ℕ, ℤ, pos, zero, suc, ◌≡◌, ◌≢◌, ◌+◌, ◌-◌, ◌*◌, ◌%◌, ◌^◌, ◌<◌, ◌≤◌, ◌⊎◌, inl, inr, arith, refl, ap, sym, subst, ◌∙◌, Bool, true, false, true≢false, if◌then◌else◌, nat_lt, ◌==◌, Option, Some, List, [], ◌∷◌, ◌++◌, map, length, replicate, slice_get, slice_index_or, unwrap_or, append_assoc, Contains}
 use Rattle.std.specs.List.{AllByRecursion}
-use Rattle.std.proofs.lemmas.Bool.{cases_lt, cases_eq, lt-ltb, le-ltb}
+use Rattle.std.proofs.lemmas.Bool.{cases_lt, lt-ltb, le-ltb}
 use Rattle.std.proofs.lemmas.List.{get_or-replicate, length-replicate}
 use Rattle.pw_value.specs.declared.value.Value.{Value}
 use Rattle.pw_value.specs.declared.value.Value.TheVariants.{Undefined}
-use Rattle.pw_value.specs.declared.value.Byte.{Byte}
 use Rattle.pw_value.specs.declared.value.Byte.TheVariants as B
 use Rattle.pw_value.specs.declared.value.Pointer.{Pointer}
-use Rattle.pw_value.specs.Objects.{Object, object_at, no_object, with_object}
+use Rattle.pw_value.specs.Objects.{Object, object_at, no_object}
 use Rattle.pw_flow.specs.declared.flow.FlowGlobal.{FlowGlobal}
 use Rattle.pw_inst.specs.Computing.{offset_by}
 use Rattle.pw_inst.specs.Registers.{help, second, return_address, stack_pointer}
@@ -25,23 +24,18 @@ use Rattle.pw_select_lines.specs.Registers.{store_to}
 use Rattle.pw_select.specs.Selection.{slot_offsets, entry_lines, saved_lines}
 use Rattle.pw_run_languages.specs.Programs.{globals_of}
 use Rattle.pw_run_languages.specs.Addresses.{Addresses}
-use Rattle.pw_run_languages.specs.Acts.{Core, register, number_at, with_number}
+use Rattle.pw_run_languages.specs.Acts.{Core, register, number_at}
 use Rattle.pw_run_languages.specs.Standing.{GlobalsAreNamed, ValueStands}
 use Rattle.pw_run_languages.specs.LineRun.{LineProgram}
 use Rattle.pw_run_languages.specs.FlowRun.{with_slots}
-use Rattle.pw_run_languages.specs.PlacedRun.{Machine, entered, without_places, with_register}
+use Rattle.pw_run_languages.specs.PlacedRun.{Machine, without_places, with_register}
 use Rattle.pw_run_languages.specs.Serving.{IsTempRegister, Serves, Changes}
 use Rattle.pw_law_select_memory.specs.Stand.{BytesStand, OldBytesStand}
-use Rattle.pw_law_select_rows.specs.Straight.{words_of}
-use Rattle.pw_law_select_states.specs.Laid.{address, Lives, size_of, AreLaid, Avoid}
-use Rattle.pw_law_select_states.specs.Frames.{HasFrame, FrameHolds, words_size}
-use Rattle.pw_law_select_states.specs.States.{Stands, IsOfWords, RegistersHold}
-use Rattle.pw_law_select_states.specs.Pointers.{ValueIsKnown}
-use Rattle.pw_law_select_frames.specs.Going.{Goes}
-use Rattle.pw_law_select_frames.specs.Stack.{IsTop}
+use Rattle.pw_law_select_states.specs.Laid.{address, Lives, size_of, AreLaid}
+use Rattle.pw_law_select_states.specs.Frames.{HasFrame, words_size}
 use Rattle.pw_law_select_frames.specs.Entering.{Enters}
 use Rattle.pw_law_select_frames.specs.Saving.{MaySave, Saves}
-use Rattle.pw_law_select_frames.specs.Framing.{words_begin, IsSlotAt}
+use Rattle.pw_law_select_frames.specs.Framing.{IsSlotAt}
 use Rattle.pw_law_select_frames.specs.Chain.{SavedStand}
 use Rattle.pw_law_select_frames.specs.Extending.{KeepsObjects}
 use Rattle.pw_law_select_frames.specs.Beginning.{MayBegin, Begins}
@@ -474,14 +468,10 @@ module _ (known : Known) (old_bytes : OldBytesStand) (lines : LineProgram) (w : 
             let start = may.lawful.stack_above in
             same_number 4 (sp - link_place) saving.core.memory entry.core.memory (λ a from to. saving.memory a (inl (omega (arith, to, words, frame, entered, base, start))))
             ∙ stored_again known (register c return_address) (sp - link_place) c entry.core entry.memory may.link;
-        saved = saved_stand 0 f.saved may_save.registers (λ k r e.
-            let is = temp_at f.saved k r may_save.registers e in
-            let low = is.low in
-            let high = is.high in
-            let place : register saving.core stack_pointer - head_size f.body - 4 * (0 + k + 1) ≡ register entry.core stack_pointer - (head_size f.body + 4 * (k + 1)) =
-            (let same = saving.others stack_pointer (λ e. omega (arith, e)) in omega (arith, same)) in
-            ap (number_at 4 saving.core.memory) place
-            ∙ (saving.stand k r e ∙ entry.others r (λ e. omega (arith, e, low)) (λ e. omega (arith, e, high)) (λ e. omega (arith, e, high))));
+        words = λ k r e.
+            let place : top - head_size f.body - 4 * (k + 1) ≡ register saving.core stack_pointer - head_size f.body - 4 * (0 + k + 1) = omega (arith, pointer) in
+            ap (number_at 4 saving.core.memory) place ∙ word_stands k r e;
+        saved = saved_stand 0 f.saved may_save.registers word_stands;
       }
     where
       past : (k n : ℕ) → n ≤ k → slice_index_or (replicate n Undefined) k Undefined ≡ Undefined
@@ -501,3 +491,13 @@ module _ (known : Known) (old_bytes : OldBytesStand) (lines : LineProgram) (w : 
       temp_at [] k r h e = absurd cc
       temp_at (x ∷ xs) zero r h e = let same : x ≡ r = cc in subst IsTempRegister same h.0
       temp_at (x ∷ xs) (suc k) r h e = temp_at xs k r h.1 e
+
+      word_stands : (k r : ℕ) → slice_get f.saved k ≡ Some r → number_at 4 saving.core.memory (register saving.core stack_pointer - head_size f.body - 4 * (0 + k + 1)) ≡ register c r
+      word_stands k r e =
+          let is = temp_at f.saved k r may_save.registers e in
+          let low = is.low in
+          let high = is.high in
+          let place : register saving.core stack_pointer - head_size f.body - 4 * (0 + k + 1) ≡ register entry.core stack_pointer - (head_size f.body + 4 * (k + 1)) =
+          (let same = saving.others stack_pointer (λ e. omega (arith, e)) in omega (arith, same)) in
+          ap (number_at 4 saving.core.memory) place
+          ∙ (saving.stand k r e ∙ entry.others r (λ e. omega (arith, e, low)) (λ e. omega (arith, e, high)) (λ e. omega (arith, e, high)))

@@ -1,5 +1,5 @@
 -- Where blocks begin, and the items that lead there.
-use Rattle.std.proofs.Common.{ℕ, ℤ, pos, zero, suc, ◌≡◌, ◌≢◌, ◌+◌, ◌≤◌, ◌⊎◌, inl, inr, arith, refl, ap, sym, subst, ◌∙◌, Bool, true, false, if◌then◌else◌, ◌==◌, Option, Some, None, List, [], ◌∷◌, ◌++◌, map, drop, slice_get, append_assoc}
+use Rattle.std.proofs.Common.{ℕ, ℤ, pos, zero, suc, ◌≡◌, ◌≢◌, ◌+◌, ◌⊎◌, inl, inr, arith, refl, ap, sym, ◌∙◌, Bool, true, false, if◌then◌else◌, ◌==◌, Option, Some, None, List, [], ◌∷◌, ◌++◌, map, drop, slice_get, append_assoc}
 use Rattle.std.specs.List.{AllByRecursion, flat_map}
 use Rattle.std.proofs.lemmas.Bool.{ne_eqb, eq-eqb, eqb-true, cases_eq}
 use Rattle.pw_inst.specs.declared.Inst.{Inst}
@@ -22,13 +22,11 @@ use Rattle.pw_law_select_walk.specs.Rows.{KnowsBlock}
 use Rattle.pw_law_select_walk.proofs.EachLine.{Anything, AreRows, anything, prologue_rows, block_rows}
 use Rattle.pw_run_languages.specs.Addresses.{Addresses}
 use Rattle.pw_run_languages.specs.Acts.{Core, register}
-use Rattle.pw_run_languages.specs.LineRun.{LineProgram, Machine, Step, On, Astray, left_behind, counted, from_mark, goes_to, to_block, step}
-use Rattle.pw_run_languages.specs.Links.{IsFunctionCall}
+use Rattle.pw_run_languages.specs.LineRun.{LineProgram, Machine, On, Astray, left_behind, counted, from_mark, goes_to, step}
 use Rattle.pw_law_select_rows.specs.Straight.{words_of, IsStraight, StraightLinesAreWords}
-use Rattle.pw_law_select_rows.specs.Frames.{LoadsWord}
 use Rattle.pw_law_select_rows.specs.Places.{place_word, IsInReach, OperandsAreLoaded}
 use Rattle.pw_law_select_states.specs.Passes.{Passes, further}
-use Rattle.pw_law_select_frames.specs.Blocks.{blocks_behind, lines_from, items_from, jump_count, LeadsTo, Branches, BranchesWith}
+use Rattle.pw_law_select_frames.specs.Blocks.{blocks_behind, items_from, jump_count, LeadsTo, BranchesWith}
 use Rattle.pw_law_select_frames.proofs.Known.{Known}
 use Rattle.pw_law_select_frames.proofs.Going.{loads_go}
 use Rattle.pw_law_select_frames.proofs.Passing.{words_pass, item_passes, passes_then}
@@ -115,7 +113,7 @@ mark_splits b (Mark n ∷ items) rest e = by_test (λ (k : from_mark b items ≡
 -- ---- jumps
 
 -- the next block, or none
-dropped_at : (k : ℕ) (xs : List WebBlock) (x : WebBlock) → slice_get xs k ≡ Some x → drop k xs ≡ x ∷ drop (suc k) xs
+pub dropped_at : (k : ℕ) (xs : List WebBlock) (x : WebBlock) → slice_get xs k ≡ Some x → drop k xs ≡ x ∷ drop (suc k) xs
 dropped_at k [] x e = absurd cc
 dropped_at zero (y ∷ ys) x e = let same : y ≡ x = cc in ap (λ (b : WebBlock). b ∷ ys) same
 dropped_at (suc k) (y ∷ ys) x e = dropped_at k ys x e
@@ -125,7 +123,7 @@ begins_other f slots b n [] ne = refl
 begins_other f slots b n (x ∷ rest) ne = ne_eqb n b (λ e. ne (sym e))
 
 module _ (p : LineProgram) (w : Addresses) (scratch : ℕ → (ℕ → ℕ) → ℕ → ℕ) where
-  mark_step : (b : ℕ) (rest : List Item) (m : Machine) → step p w scratch (left_behind (Mark b ∷ rest) m) ≡ On (left_behind rest m)
+  pub mark_step : (b : ℕ) (rest : List Item) (m : Machine) → step p w scratch (left_behind (Mark b ∷ rest) m) ≡ On (left_behind rest m)
   unfolding step
   mark_step b rest m = refl
 
@@ -142,7 +140,7 @@ module _ (p : LineProgram) (w : Addresses) (scratch : ℕ → (ℕ → ℕ) → 
   unfolding step
   if_step r b rest m = refl
 
-  stays_on : (rest : List Item) (m : Machine) → On (left_behind rest m) ≡ On (further rest m.core 0 [] m)
+  pub stays_on : (rest : List Item) (m : Machine) → On (left_behind rest m) ≡ On (further rest m.core 0 [] m)
   stays_on rest m = let none : m.events ≡ m.events + 0 = omega arith in ap (λ n. On (record (left_behind rest m) { events = n })) none
 
   -- to a block that begins somewhere among the items

@@ -1,9 +1,9 @@
 -- Turns that call and return.
-use Rattle.std.proofs.Common.{ℕ, zero, suc, ◌≡◌, ◌≢◌, ◌+◌, ◌<◌, ◌⊎◌, inl, inr, arith, refl, ap, ap₂, sym, subst, ◌∙◌, Bool, true, false, cond, if◌then◌else◌, ◌==◌, ◌&&◌, bit_or, Option, Some, None, List, [], ◌∷◌, ◌++◌, map, find, length, slice_index_or, Contains}
+use Rattle.std.proofs.Common.{ℕ, zero, suc, ◌≡◌, ◌<◌, ◌⊎◌, inl, inr, arith, refl, ap, ◌∙◌, Bool, true, false, cond, if◌then◌else◌, ◌==◌, ◌&&◌, bit_or, Option, Some, None, List, [], ◌∷◌, ◌++◌, map, find, length, slice_index_or, Contains}
 use Rattle.std.specs.Int.Bits.{or_zero_r}
 use Rattle.std.proofs.lemmas.Bool.{eq-eqb, ne_eqb, cases_eq}
 use Rattle.pw_value.specs.ProgramNames.{library_functions}
-use Rattle.pw_inst.specs.Registers.{first, return_address, routine_link, stack_pointer}
+use Rattle.pw_inst.specs.Registers.{first, return_address, stack_pointer}
 use Rattle.pw_inst.specs.declared.Inst.TheVariants.{Or}
 use Rattle.pw_inst.specs.declared.relocation.Symbol.TheVariants as symbol
 use Rattle.pw_delay.specs.Items.{link_moved}

@@ -1,14 +1,13 @@
 -- The state behind the words with which a function ends.
-use Rattle.std.proofs.Common.{ℕ, zero, suc, ◌≡◌, ◌≢◌, ◌+◌, ◌-◌, ◌*◌, ◌%◌, ◌<◌, ◌≤◌, ◌⊎◌, inl, inr, arith, refl, ap, sym, subst, ◌∙◌, Bool, true, false, true≢false, if◌then◌else◌, nat_lt, nat_le, ◌==◌, ◌&&◌, Some, List, [], ◌∷◌, length, slice_get, slice_set}
+use Rattle.std.proofs.Common.{ℕ, zero, suc, ◌≡◌, ◌≢◌, ◌+◌, ◌-◌, ◌*◌, ◌<◌, ◌≤◌, ◌⊎◌, inl, inr, arith, refl, ap, sym, subst, ◌∙◌, Bool, true, false, true≢false, if◌then◌else◌, nat_lt, nat_le, ◌&&◌, List, [], ◌∷◌, length, slice_set}
 use Rattle.std.specs.List.{AllByRecursion}
-use Rattle.std.proofs.lemmas.Bool.{cases_lt, cases_eq, lt-ltb, le-leb, le-ltb, ne_eqb}
+use Rattle.std.proofs.lemmas.Bool.{cases_lt, cases_eq, ne_eqb}
 use Rattle.pw_value.specs.declared.value.Value.{Value}
 use Rattle.pw_value.specs.declared.value.Value.TheVariants.{Undefined}
 use Rattle.pw_value.specs.declared.value.Pointer.{Pointer}
 use Rattle.pw_value.specs.declared.value.Byte.{Byte}
-use Rattle.pw_value.specs.Objects.{Object, object_at, no_object, ended}
-use Rattle.pw_flow.specs.declared.flow.FlowGlobal.{FlowGlobal}
-use Rattle.pw_inst.specs.Registers.{help, answer, return_address, stack_pointer}
+use Rattle.pw_value.specs.Objects.{Object, object_at, ended}
+use Rattle.pw_inst.specs.Registers.{answer, stack_pointer}
 use Rattle.pw_db.specs.Limits.{last_register, last_temporary}
 use Rattle.pw_alloc.specs.declared.located.Located.{Located}
 use Rattle.pw_alloc.specs.Frames.{head_size, link_place}
@@ -25,13 +24,11 @@ use Rattle.pw_run_languages.specs.Serving.{IsTempRegister}
 use Rattle.pw_law_select_memory.specs.Stand.{BytesStand}
 use Rattle.pw_law_select_states.specs.Laid.{address, Lives, size_of, AreLaid}
 use Rattle.pw_law_select_states.specs.Frames.{HasFrame, FrameHolds, words_size}
-use Rattle.pw_law_select_states.specs.States.{RegistersHold}
-use Rattle.pw_law_select_frames.specs.Stack.{IsTop}
 use Rattle.pw_law_select_frames.specs.Saving.{MaySave}
 use Rattle.pw_law_select_frames.specs.Leaving.{Leaves}
 use Rattle.pw_law_select_frames.specs.Chain.{frame_top}
 use Rattle.pw_law_select_frames.specs.Extending.{KeepsObjects}
-use Rattle.pw_law_select_frames.specs.Ending.{given_to, MayEnd, Ends}
+use Rattle.pw_law_select_frames.specs.Ending.{MayEnd, Ends}
 use Rattle.pw_law_select_frames.proofs.Known.{Known}
 use Rattle.pw_law_select_frames.proofs.Framing.{sized}
 use Rattle.pw_law_select_frames.proofs.Globals.{given_registers_hold}
@@ -237,5 +234,6 @@ module _ (known : Known) (lines : LineProgram) (w : Addresses) (site : ℕ → �
         pointer = pointer_is;
         value = left.registers answer (λ e. omega (arith, e)) (λ e. omega (arith, e)) (λ e. omega (arith, e)) (λ e. omega (arith, e))
             ∙ (not_given c.memory (register c stack_pointer - head_size f.body) 0 answer f.saved c.registers may_save.registers (omega arith));
+        temps = temps_given;
         memory = left.memory;
       }

@@ -1,12 +1,11 @@
 -- The words with which a function begins.
-use Rattle.std.proofs.Common.{ℕ, pos, neg_ℤ, ◌≡◌, ◌≢◌, ◌+◌, ◌-◌, ◌*◌, ◌%◌, ◌^◌, ◌<◌, ◌≤◌, arith, refl, ap, sym, subst, ◌∙◌, Bool, true, false, if◌then◌else◌, nat_lt, nat_le, ◌==◌, Some, None, List, [], ◌∷◌, ◌++◌, map, length, append_assoc}
+use Rattle.std.proofs.Common.{ℕ, pos, ◌≡◌, ◌≢◌, ◌+◌, ◌-◌, ◌%◌, ◌^◌, ◌<◌, ◌≤◌, inl, inr, arith, refl, ap, sym, subst, ◌∙◌, Bool, true, false, if◌then◌else◌, nat_lt, nat_le, Some, List, [], ◌∷◌, ◌++◌, map, length, append_assoc}
 use Rattle.std.specs.List.{AllByRecursion}
-use Rattle.std.proofs.lemmas.Bool.{le-leb, lt-leb}
+use Rattle.std.proofs.lemmas.Bool.{cases_lt, le-leb, lt-leb}
 use Rattle.std.specs.Int.{w32, cast_signed}
 use Rattle.pw_inst.specs.Computing.{offset_by}
 use Rattle.pw_inst.specs.Limits.{near_limit}
 use Rattle.pw_inst.specs.Registers.{help, second, return_address, stack_pointer}
-use Rattle.pw_inst.specs.declared.Inst.{Inst}
 use Rattle.pw_inst.specs.declared.Inst.TheVariants as i
 use Rattle.pw_inst.specs.declared.line.Line.{Line}
 use Rattle.pw_inst.specs.declared.line.Line.TheVariants.{Plain}
@@ -17,7 +16,7 @@ use Rattle.pw_delay.specs.declared.items.Item.{Item}
 use Rattle.pw_delay.specs.declared.items.Item.TheVariants as item
 use Rattle.pw_delay.specs.Items.{bare, slotted}
 use Rattle.pw_alloc.specs.declared.located.Place.TheVariants.{Reg}
-use Rattle.pw_select_lines.specs.Registers.{word, constant, address_of, store_to, copied, loaded, is_near, long_constant}
+use Rattle.pw_select_lines.specs.Registers.{word, constant, address_of, store_to, copied, is_near, long_constant}
 use Rattle.pw_select.specs.Selection.{frame_end, entry_lines}
 use Rattle.pw_run.specs.Runs.{StackFull}
 use Rattle.pw_run_languages.specs.Traces.{Event}
@@ -32,8 +31,8 @@ use Rattle.pw_law_select_frames.specs.Going.{Goes}
 use Rattle.pw_law_select_frames.specs.Stack.{IsStackWord}
 use Rattle.pw_law_select_frames.specs.Entering.{Enters, StopsFull}
 use Rattle.pw_law_select_frames.proofs.Known.{Known}
-use Rattle.pw_law_select_frames.proofs.Passing.{steps_add, one_step, word_step}
-use Rattle.pw_law_select_frames.proofs.Going.{words_joined, loads_go, stores_go, makes_go, goes_then, lines_then, word_makes}
+use Rattle.pw_law_select_frames.proofs.Passing.{amid_words, steps_add, one_step, word_step}
+use Rattle.pw_law_select_frames.proofs.Going.{loads_go, stores_go, makes_go, goes_then, lines_then, word_makes}
 use Rattle.pw_law_select_frames.proofs.Stack.{stack_word_is, below_word, above_word}
 use Rattle.pw_law_select_frames.proofs.Frame.{IsAt, store_below, holds_stored, holds_loaded, holds_made}
 
@@ -265,10 +264,21 @@ module _ (known : Known) where
       let quiet : noted p w (words_of pre) m.core m.trace ≡ m.trace = goes.notes m.trace in
       let marked : Machine = record m { trace = noted p w (words_of pre) m.core m.trace } in
       let last : Machine = left_behind items (record marked { core = d }) in
+      let stops : steps p w scratch (n + 1) (On m) ≡ Stopped StackFull last =
+      steps_add p w scratch n 1 (On m) ∙ (ap (steps p w scratch 1) there ∙ (one_step p w scratch mid ∙ broken p w scratch items d marked refl)) in
       record {
         count = n + 1;
         last = last;
-        is = steps_add p w scratch n 1 (On m)
-            ∙ (ap (steps p w scratch 1) there ∙ (one_step p w scratch mid ∙ broken p w scratch items d marked refl));
+        is = stops;
         same = ap (λ (l : List (Event ℕ ℕ)). shown m l) quiet;
+        amid = λ before inside k o some few goes.
+            elim (cases_lt n k) [
+              | inl high ↦
+                  let one : n + 1 ≡ k = omega (arith, high, few) in
+                  let never : Stopped StackFull last ≡ On o = sym stops ∙ (ap (λ j. steps p w scratch j (On m)) one ∙ goes) in
+                  absurd cc
+              | inr low ↦
+                  amid_words p w scratch (words_of pre) before (item.Plain breaks ∷ items) m o k (inside ∙ ap (λ (is : List Item). before ++ is) split) some low
+                  (ap (λ (is : List Item). steps p w scratch k (On (left_behind is m))) (sym split) ∙ goes)
+            ];
       }

@@ -1,5 +1,5 @@
 -- Values and frames where objects are new, or ended.
-use Rattle.std.proofs.Common.{ℕ, ℤ, zero, suc, ◌≡◌, ◌≢◌, ◌+◌, ◌-◌, ◌*◌, ◌/◌, ◌%◌, ◌^◌, ◌<◌, ◌≤◌, ◌⊎◌, inl, inr, arith, refl, ap, sym, subst, ◌∙◌, Option, Some, None, List, [], ◌∷◌, map, length, slice_get, slice_index_or}
+use Rattle.std.proofs.Common.{ℕ, suc, ◌≡◌, ◌+◌, ◌-◌, ◌*◌, ◌%◌, ◌^◌, ◌<◌, ◌≤◌, ◌⊎◌, inl, inr, arith, refl, ap, sym, subst, ◌∙◌, List, [], ◌∷◌, map, length, slice_index_or}
 use Rattle.std.specs.List.{AllByRecursion}
 use Rattle.std.proofs.lemmas.Bool.{cases_lt}
 use Rattle.std.proofs.lemmas.Option.{slice_get_within}
@@ -24,12 +24,12 @@ use Rattle.pw_run_languages.specs.LineRun.{Frame}
 use Rattle.pw_run_languages.specs.PlacedRun as placed
 use Rattle.pw_run_languages.specs.Serving.{Serves}
 use Rattle.pw_law_select_memory.specs.Stand.{BytesStand}
-use Rattle.pw_law_select_states.specs.Laid.{address, Lives, size_of, Avoid}
+use Rattle.pw_law_select_states.specs.Laid.{address, Lives, size_of}
 use Rattle.pw_law_select_states.specs.Frames.{HasFrame, FrameHolds, words_size}
 use Rattle.pw_law_select_states.specs.Pointers.{IsKnown, ValueIsKnown, ByteIsKnown, FrameIsKnown}
 use Rattle.pw_law_select_frames.specs.Stack.{IsWordBelow}
 use Rattle.pw_law_select_frames.specs.Framing.{words_begin}
-use Rattle.pw_law_select_frames.specs.Chain.{SavedStand, frame_top, IsActive, Waits, AllWait}
+use Rattle.pw_law_select_frames.specs.Chain.{SavedStand, frame_top, Waits, AllWait}
 use Rattle.pw_law_select_frames.specs.Extending.{KeepsObjects, IsFree}
 use Rattle.pw_law_select_frames.proofs.Stack.{same_number, frame_below}
 use Rattle.pw_law_select_frames.proofs.Framing.{sized, place_is_below}

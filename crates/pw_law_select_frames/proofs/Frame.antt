@@ -1,6 +1,5 @@
 -- Words of the frame and of places, by the end of the frame.
-use Rattle.std.proofs.Common.{ℕ, ℤ, pos, neg_ℤ, ◌≡◌, ◌≢◌, ◌+◌, ◌-◌, ◌*◌, ◌%◌, ◌^◌, ◌<◌, ◌≤◌, ◌⊎◌, inl, inr, arith, refl, ap, sym, subst, ◌∙◌, false, List, []}
-use Rattle.std.specs.Prelude.{Contains}
+use Rattle.std.proofs.Common.{ℕ, ℤ, ◌≡◌, ◌≢◌, ◌+◌, ◌-◌, ◌%◌, ◌^◌, ◌<◌, ◌≤◌, ◌⊎◌, inl, inr, arith, ap, sym, subst, ◌∙◌, false, List}
 use Rattle.std.proofs.lemmas.Bool.{cases_eq}
 use Rattle.pw_inst.specs.Computing.{offset_by}
 use Rattle.pw_inst.specs.Registers.{help, stack_pointer}
@@ -12,7 +11,7 @@ use Rattle.pw_run_languages.specs.Addresses.{Addresses, AreLawful}
 use Rattle.pw_run_languages.specs.Acts.{Core, register, number_at, with_number}
 use Rattle.pw_run_languages.specs.LineRun.{LineProgram}
 use Rattle.pw_run_languages.specs.Serving.{IsTempRegister}
-use Rattle.pw_select_lines.specs.Registers.{load_from, store_to, loaded}
+use Rattle.pw_select_lines.specs.Registers.{load_from, store_to}
 use Rattle.pw_law_select_memory.specs.Numbers.{HoldsBytes}
 use Rattle.pw_law_select_rows.specs.Straight.{words_of}
 use Rattle.pw_law_select_rows.specs.Making.{Makes}

@@ -1,18 +1,17 @@
 -- The words and slots of a frame, by the sizes of its parts.
-use Rattle.std.proofs.Common.{ℕ, ℤ, pos, negsuc, neg_ℤ, zero, suc, ◌≡◌, ◌≢◌, ◌+◌, ◌-◌, ◌*◌, ◌/◌, ◌%◌, ◌<◌, ◌≤◌, ◌⊎◌, inl, inr, arith, refl, ap, sym, subst, ◌∙◌, Option, Some, None, option_map, List, [], ◌∷◌, map, length, slice_get, slice_index_or, Contains}
+use Rattle.std.proofs.Common.{ℕ, ℤ, negsuc, zero, suc, ◌≡◌, ◌+◌, ◌*◌, ◌%◌, ◌<◌, ◌≤◌, arith, refl, ap, sym, subst, ◌∙◌, Option, Some, None, option_map, List, [], ◌∷◌, map, length, slice_get, slice_index_or, Contains}
 use Rattle.std.proofs.lemmas.Option.{slice_get-map, slice_get_within, same_Some}
 use Rattle.pw_value.specs.Objects.{Object}
-use Rattle.pw_value.specs.Rounding.{round8, slot_room}
+use Rattle.pw_value.specs.Rounding.{slot_room}
 use Rattle.pw_alloc.specs.declared.located.Place.{Place}
 use Rattle.pw_alloc.specs.declared.located.Place.TheVariants.{Slot, Reg}
 use Rattle.pw_alloc.specs.declared.located.Located.{Located}
 use Rattle.pw_alloc.specs.Frames.{head_size, below, temp_offset, reaches_from, last_reach, slots_begin}
 use Rattle.pw_alloc.specs.Allocation.{slots_from, in_frame}
-use Rattle.pw_select.specs.Selection.{slot_offsets}
 use Rattle.pw_run_languages.specs.Addresses.{Addresses}
 use Rattle.pw_run_languages.specs.Serving.{Serves, slots_alone}
 use Rattle.pw_law_select_states.specs.Frames.{HasFrame, words_size}
-use Rattle.pw_law_select_frames.specs.Stack.{IsPlaceBelow, IsStackWord}
+use Rattle.pw_law_select_frames.specs.Stack.{IsPlaceBelow}
 use Rattle.pw_law_select_frames.specs.Framing.{words_begin, IsSized, IsSlotAt}
 
 -- ---- sizes

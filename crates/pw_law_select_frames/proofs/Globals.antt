@@ -1,24 +1,23 @@
 -- Where globals stand in words at calls and returns.
-use Rattle.std.proofs.Common.{ℕ, zero, suc, ◌≡◌, ◌≢◌, ◌+◌, ◌-◌, ◌*◌, ◌<◌, ◌≤◌, arith, refl, ap, ap₂, sym, subst, ◌∙◌, Bool, true, false, if◌then◌else◌, ◌==◌, Option, Some, None, option_map, List, [], ◌∷◌, map, length, slice_get, bytes_eq}
+use Rattle.std.proofs.Common.{ℕ, suc, ◌≡◌, ◌+◌, ◌-◌, ◌*◌, arith, refl, ap, sym, subst, Bool, true, false, if◌then◌else◌, ◌==◌, Option, Some, None, option_map, List, [], ◌∷◌, map, slice_get, bytes_eq}
 use Rattle.std.specs.List.{AllByRecursion}
 use Rattle.std.specs.Option.{option_or}
 use Rattle.std.proofs.lemmas.Bool.{ne_eqb}
 use Rattle.pw_value.specs.declared.value.Value.{Value}
-use Rattle.pw_value.specs.declared.value.Byte.{Byte}
 use Rattle.pw_value.specs.declared.value.Pointer.{Pointer}
 use Rattle.pw_value.specs.Objects.{Object, object_at}
 use Rattle.pw_flow.specs.declared.flow.FlowGlobal.{FlowGlobal}
 use Rattle.pw_db.specs.declared.database.Web.{Web}
 use Rattle.pw_db.specs.declared.database.Role.{Role}
-use Rattle.pw_db.specs.Database.{IsWeb, IsDirectives}
+use Rattle.pw_db.specs.Database.{IsWeb}
 use Rattle.pw_alloc.specs.declared.located.Located.{Located}
 use Rattle.pw_alloc.specs.Frames.{head_size}
 use Rattle.pw_run.specs.Runs.{AreAlike}
-use Rattle.pw_run_languages.specs.Traces.{Standing, StandAlike, InMemory, InPlace}
+use Rattle.pw_run_languages.specs.Traces.{StandAlike}
 use Rattle.pw_run_languages.specs.Programs.{Program, globals_of}
 use Rattle.pw_run_languages.specs.Addresses.{Addresses}
 use Rattle.pw_run_languages.specs.Acts.{Core, register, put, number_at, bytes_at}
-use Rattle.pw_run_languages.specs.Standing.{Active, GlobalsAreNamed, ByteStands, ValueStands, given_back, without, held, global_now, standing}
+use Rattle.pw_run_languages.specs.Standing.{GlobalsAreNamed, ByteStands, ValueStands, given_back, without, held, global_now, standing}
 use Rattle.pw_run_languages.specs.LineRun.{Frame, active, globals_in}
 use Rattle.pw_run_languages.specs.PlacedRun as placed
 use Rattle.pw_run_languages.specs.PlacedRun.{web_of}

@@ -1,6 +1,5 @@
 -- The return address comes back, and the frame is left.
-use Rattle.std.proofs.Common.{ℕ, suc, pos, neg_ℤ, ◌≡◌, ◌≢◌, ◌+◌, ◌-◌, ◌*◌, ◌%◌, ◌^◌, ◌<◌, ◌≤◌, arith, refl, ap, sym, subst, ◌∙◌, Bool, true, false, if◌then◌else◌, nat_lt, List, [], ◌∷◌, ◌++◌, length}
-use Rattle.std.specs.Prelude.{◌==◌}
+use Rattle.std.proofs.Common.{ℕ, suc, ◌≡◌, ◌≢◌, ◌+◌, ◌-◌, ◌*◌, ◌%◌, ◌^◌, ◌<◌, ◌≤◌, arith, refl, ap, ◌∙◌, Bool, true, false, if◌then◌else◌, nat_lt, List, [], ◌∷◌, ◌++◌}
 use Rattle.std.specs.List.{AllByRecursion}
 use Rattle.std.proofs.lemmas.Bool.{ne_eqb}
 use Rattle.pw_inst.specs.Computing.{offset_by}
@@ -18,12 +17,10 @@ use Rattle.pw_run_languages.specs.LineRun.{LineProgram}
 use Rattle.pw_run_languages.specs.Serving.{IsTempRegister}
 use Rattle.pw_run_languages.specs.Standing.{given_back}
 use Rattle.pw_law_select_rows.specs.Straight.{words_of}
-use Rattle.pw_law_select_rows.specs.Making.{Makes}
-use Rattle.pw_law_select_states.specs.States.{IsOfWords}
 use Rattle.pw_law_select_frames.specs.Going.{Goes}
 use Rattle.pw_law_select_frames.specs.Stack.{IsStackWord, IsTop}
 use Rattle.pw_law_select_frames.specs.Saving.{MaySave}
-use Rattle.pw_law_select_frames.specs.Leaving.{Leaves, leaving}
+use Rattle.pw_law_select_frames.specs.Leaving.{Leaves}
 use Rattle.pw_law_select_frames.proofs.Known.{Known}
 use Rattle.pw_law_select_frames.proofs.Going.{loads_go, makes_go, lines_then, word_makes}
 use Rattle.pw_law_select_frames.proofs.Stack.{below_word, top_small}

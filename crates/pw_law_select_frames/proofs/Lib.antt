@@ -18,8 +18,14 @@ pub mod Ending
 pub mod Webs
 pub mod Library
 pub mod Stepping
+pub mod Amid
 pub mod Returning
 pub mod Refusing
 pub mod Shape
 pub mod Arriving
 pub mod Turning
+pub mod Receiving
+pub mod Values
+pub mod Settling
+pub mod Answering
+pub mod Reaching

@@ -1,19 +1,18 @@
 -- The library's functions in both runs.
-use Rattle.std.proofs.Common.{ℕ, zero, suc, ◌≡◌, ◌≢◌, ◌+◌, ◌-◌, ◌%◌, ◌^◌, ◌<◌, ◌≤◌, arith, refl, ap, sym, subst, ◌∙◌, Bool, true, false, if◌then◌else◌, nat_lt, nat_le, ◌==◌, ◌&&◌, Option, Some, None, List, [], ◌∷◌, ◌++◌, slice_get}
+use Rattle.std.proofs.Common.{ℕ, ◌≡◌, ◌≢◌, ◌+◌, ◌%◌, ◌^◌, ◌<◌, ◌≤◌, arith, refl, ap, sym, subst, ◌∙◌, Bool, true, false, if◌then◌else◌, nat_lt, nat_le, ◌==◌, ◌&&◌, Option, List, [], ◌∷◌, ◌++◌}
 use Rattle.std.proofs.lemmas.Bool.{ne_eqb}
 use Rattle.pw_value.specs.declared.value.Value.{Value}
 use Rattle.pw_value.specs.declared.value.Value.TheVariants.{Undefined, Num, Null, At, Piece}
-use Rattle.pw_value.specs.declared.value.Pointer.{Pointer}
 use Rattle.pw_value.specs.Words.{end_of_input}
 use Rattle.pw_value.specs.ProgramNames.{getchar_name, putchar_name, exit_name}
-use Rattle.pw_inst.specs.Registers.{answer, stack_pointer}
+use Rattle.pw_inst.specs.Registers.{answer}
 use Rattle.pw_db.specs.Limits.{last_register, last_temporary}
 use Rattle.pw_alloc.specs.declared.located.Located.{Located}
 use Rattle.pw_run.specs.Runs.{Ended, AreAlike}
-use Rattle.pw_run_languages.specs.Traces.{Event, EventAlike, StandAlike, Called, Returned}
+use Rattle.pw_run_languages.specs.Traces.{EventAlike, StandAlike, Called, Returned}
 use Rattle.pw_run_languages.specs.Programs.{Program, Library, GetChar, PutChar, Exit}
 use Rattle.pw_run_languages.specs.Addresses.{Addresses}
-use Rattle.pw_run_languages.specs.Acts.{Core, register, put, with_register}
+use Rattle.pw_run_languages.specs.Acts.{Core, register, with_register}
 use Rattle.pw_run_languages.specs.Standing.{ByteStands, ValueStands, EventInWords}
 use Rattle.pw_run_languages.specs.LineRun as run
 use Rattle.pw_run_languages.specs.LineRun.{library, globals_in, notes_call, kept}
@@ -24,9 +23,9 @@ use Rattle.pw_run_languages.specs.Serving.{IsTempRegister}
 use Rattle.pw_run_languages.specs.SelectionLaws.{line_program}
 use Rattle.pw_law_select_memory.specs.Stand.{StandingIsAlike}
 use Rattle.pw_law_select_states.specs.Laid.{address}
-use Rattle.pw_law_select_states.specs.States.{Stands, IsOfWords, RegistersHold}
+use Rattle.pw_law_select_states.specs.States.{Stands}
 use Rattle.pw_law_select_frames.specs.Chain.{AllActive}
-use Rattle.pw_law_select_frames.specs.Library.{ShowAlike, MayCall, Answers, Does}
+use Rattle.pw_law_select_frames.specs.Library.{ShowAlike, MayCall, Does}
 use Rattle.pw_law_select_frames.proofs.Globals.{globals_alike}
 
 -- ---- the answer's register

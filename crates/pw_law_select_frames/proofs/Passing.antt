@@ -1,7 +1,6 @@
 -- The run of lines through items that call no function.
-use Rattle.std.proofs.Common.{ℕ, zero, suc, ◌≡◌, ◌+◌, ◌-◌, ◌<◌, ◌≤◌, ◌⊎◌, inl, inr, arith, refl, ap, sym, subst, ap₂, ◌∙◌, List, [], ◌∷◌, ◌++◌, map, length, append_assoc, Option, Some}
+use Rattle.std.proofs.Common.{ℕ, zero, suc, ◌≡◌, ◌+◌, ◌-◌, ◌<◌, ◌≤◌, ◌⊎◌, inl, inr, arith, refl, ap, sym, subst, ap₂, ◌∙◌, List, [], ◌∷◌, ◌++◌, map, length, append_assoc}
 use Rattle.std.proofs.lemmas.Bool.{cases_lt}
-use Rattle.pw_inst.specs.declared.Inst.{Inst}
 use Rattle.pw_delay.specs.declared.items.Word.{Word}
 use Rattle.pw_delay.specs.declared.items.Item.{Item}
 use Rattle.pw_delay.specs.declared.items.Item.TheVariants.{Plain}
@@ -60,7 +59,7 @@ module _ (p : LineProgram) (w : Addresses) (scratch : ℕ → (ℕ → ℕ) → 
   one_more : (before rest : List Item) (item : Item) → before ++ item ∷ rest ≡ (before ++ (item ∷ [])) ++ rest
   one_more before rest item = sym (append_assoc before (item ∷ []) rest)
 
-  amid_words : (xs : List Word) (before rest : List Item) (m n : Machine) (k : ℕ) → m.frame.function.items ≡ before ++ (map Plain xs ++ rest) → 0 < k → k ≤ length xs
+  pub amid_words : (xs : List Word) (before rest : List Item) (m n : Machine) (k : ℕ) → m.frame.function.items ≡ before ++ (map Plain xs ++ rest) → 0 < k → k ≤ length xs
       → steps p w scratch k (On (left_behind (map Plain xs ++ rest) m)) ≡ On n → IsAmid n.frame
   amid_words xs before rest m n zero items some few e = absurd (omega (arith, some))
   amid_words [] before rest m n (suc k) items some few e = absurd (omega (arith, few))

@@ -1,5 +1,5 @@
 -- Calls for which there is no stack left.
-use Rattle.std.proofs.Common.{ℕ, ◌≡◌, ◌+◌, ◌<◌, ◌≤◌, ◌^◌, arith, refl, ap, sym, subst, ◌∙◌, List, [], ◌∷◌, ◌++◌, append_assoc}
+use Rattle.std.proofs.Common.{ℕ, ◌≡◌, ◌+◌, ◌<◌, ◌^◌, arith, refl, ap, sym, subst, ◌∙◌, List, [], ◌∷◌, ◌++◌, append_assoc}
 use Rattle.pw_value.specs.declared.value.Value.{Value}
 use Rattle.pw_inst.specs.Registers.{stack_pointer}
 use Rattle.pw_inst.specs.declared.line.Line.{Line}
@@ -22,7 +22,6 @@ use Rattle.pw_run_languages.specs.Direction.{with_functions}
 use Rattle.pw_run_languages.specs.SelectionLaws.{line_program, with_lines}
 use Rattle.pw_law_select_memory.specs.Stand.{StandingIsAlike}
 use Rattle.pw_law_select_rows.specs.Straight.{StraightLinesAreWords}
-use Rattle.pw_law_select_frames.specs.Entering.{StopsFull}
 use Rattle.pw_law_select_frames.specs.Library.{MayCall}
 use Rattle.pw_law_select_frames.specs.Refusing.{Refuses}
 use Rattle.pw_law_select_frames.proofs.Known.{Known}
@@ -64,6 +63,8 @@ full_calls_refused known lines p w functions scratch site f args m l lawful h fu
       count = s.count;
       last = s.last;
       steps = s.is;
+      amid = s.amid [] refl;
+      trace = ap (λ (v : View (Event ℕ ℕ)). v.log) s.same;
       show = (ap (λ (v : View (Event ℕ ℕ)). v.read) s.same ∙ h.show.read, ap (λ (v : View (Event ℕ ℕ)). v.output) s.same ∙ h.show.out, omega (arith, events, seen));
       log = subst (λ (t : List (Event ℕ ℕ)). AreAlike (EventInWords p w.named) (Refused f.body.name ∷ m.trace) (with_refusal t)) (sym (ap (λ (v : View (Event ℕ ℕ)). v.log) s.same))
           (AreAlike.also (Refused f.body.name) (Refused f.body.name) m.trace l.trace

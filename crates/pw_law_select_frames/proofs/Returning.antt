@@ -1,15 +1,14 @@
 -- A whole return.
-use Rattle.std.proofs.Common.{ℕ, pos, zero, suc, ◌≡◌, ◌+◌, ◌-◌, ◌^◌, ◌<◌, ◌≤◌, ◌⊎◌, inl, inr, arith, refl, ap, sym, subst, ◌∙◌, Bool, true, false, if◌then◌else◌, nat_lt, List, [], ◌∷◌, ◌++◌, map, length, append_assoc, Option, Some, None}
+use Rattle.std.proofs.Common.{ℕ, ◌≡◌, ◌+◌, ◌^◌, ◌<◌, ◌≤◌, arith, refl, ap, sym, subst, ◌∙◌, Bool, true, false, if◌then◌else◌, nat_lt, List, [], ◌∷◌, ◌++◌, map, length, Option, None}
 use Rattle.std.specs.List.{AllByRecursion}
 use Rattle.std.specs.Int.{w32, cast_signed}
 use Rattle.pw_inst.specs.Limits.{near_least}
-use Rattle.pw_inst.specs.Registers.{return_address, stack_pointer}
+use Rattle.pw_inst.specs.Registers.{return_address}
 use Rattle.pw_inst.specs.declared.Inst.TheVariants as i
 use Rattle.pw_inst.specs.declared.line.Line.{Line}
 use Rattle.pw_inst.specs.declared.line.Line.TheVariants as line
 use Rattle.pw_alloc.specs.declared.located.Located.{Located}
 use Rattle.pw_alloc.specs.Frames.{head_size, saved_offset, below, link_place}
-use Rattle.pw_delay.specs.declared.items.Item.{Item}
 use Rattle.pw_delay.specs.declared.items.Item.TheVariants.{Plain, Turns}
 use Rattle.pw_delay.specs.declared.items.Turn.TheVariants.{Leave}
 use Rattle.pw_delay.specs.Items.{slotted}
@@ -19,8 +18,7 @@ use Rattle.pw_run.specs.Runs.{AreAlike}
 use Rattle.pw_run_languages.specs.Traces.{EventAlike, Returned}
 use Rattle.pw_run_languages.specs.Programs.{Program}
 use Rattle.pw_run_languages.specs.Addresses.{Addresses}
-use Rattle.pw_run_languages.specs.Acts.{Core, register}
-use Rattle.pw_run_languages.specs.Standing.{ByteStands, ValueStands, EventInWords}
+use Rattle.pw_run_languages.specs.Standing.{ByteStands, ValueStands}
 use Rattle.pw_run_languages.specs.LineRun as run
 use Rattle.pw_run_languages.specs.LineRun.{globals_in}
 use Rattle.pw_run_languages.specs.Links.{LinksStand}
@@ -123,6 +121,10 @@ function_comes_back known lines alike p w functions scratch site m l caller call
         callers = wait.1;
       };
       value = e.value;
+      given = e.temps;
+      memory = e.memory;
+      frames = may.below;
+      noted = ap (λ (ls : List run.Frame). Returned (run.name_of l.frame) 0 (globals_in lp w e.core ls) l.frame.before (run.kept e.core) ∷ l.trace) (sym may.below);
       show = (refl, refl, refl, events);
       log = AreAlike.also (Returned (placed.name_of m.frame) 0 (globals_now q n.registers (caller ∷ callers) n.objects) m.frame.before (placed.kept n.registers))
           (Returned (run.name_of l.frame) 0 (globals_in lp w e.core (waiting ∷ waits)) l.frame.before (run.kept e.core)) m.trace l.trace

@@ -1,15 +1,12 @@
 -- Words of the stack.
-use Rattle.std.proofs.Common.{ℕ, ℤ, pos, neg_ℤ, zero, suc, ◌≡◌, ◌+◌, ◌-◌, ◌*◌, ◌/◌, ◌%◌, ◌^◌, ◌<◌, ◌≤◌, ◌⊎◌, inl, inr, arith, refl, ap, sym, subst, ◌∙◌, Bool, true, ◌&&◌, nat_le, ◌==◌, Contains}
+use Rattle.std.proofs.Common.{ℕ, ℤ, pos, zero, suc, ◌≡◌, ◌+◌, ◌-◌, ◌*◌, ◌/◌, ◌%◌, ◌^◌, ◌<◌, ◌≤◌, arith, refl, ap, ◌∙◌, Bool, true, ◌&&◌, nat_le, ◌==◌}
 use Rattle.std.proofs.lemmas.Bool.{eq-eqb, le-leb}
 use Rattle.std.proofs.lemmas.Int.{ints}
-use Rattle.pw_flow.specs.declared.flow.FlowGlobal.{FlowGlobal}
-use Rattle.pw_flow.specs.ValidFlow.{global_room}
 use Rattle.pw_inst.specs.Computing.{offset_by}
 use Rattle.pw_alloc.specs.Frames.{below}
 use Rattle.pw_value.specs.Limits.{memory_size}
-use Rattle.pw_run_languages.specs.Programs.{globals_of}
 use Rattle.pw_run_languages.specs.Addresses.{Addresses, AreLawful}
-use Rattle.pw_run_languages.specs.Acts.{is_open, number_at}
+use Rattle.pw_run_languages.specs.Acts.{number_at}
 use Rattle.pw_run_languages.specs.LineRun.{LineProgram}
 use Rattle.pw_law_select_rows.specs.Frames.{IsFrameWord}
 use Rattle.pw_law_select_frames.specs.Stack.{IsStackWord, IsTop}

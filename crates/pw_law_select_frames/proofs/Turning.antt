@@ -1,7 +1,7 @@
 -- Ends of blocks that do not return, in both runs.
-use Rattle.std.proofs.Common.{ℕ, cond, zero, suc, ◌≡◌, ◌≢◌, ◌+◌, ◌-◌, ◌*◌, ◌%◌, ◌^◌, ◌<◌, ◌≤◌, ◌⊎◌, inl, inr, arith, refl, ap, sym, subst, ◌∙◌, Bool, true, false, if◌then◌else◌, nat_le, ◌==◌, ◌&&◌, Option, Some, None, option_map, unwrap_or, find, List, [], ◌∷◌, ◌++◌, map, length, get_or, slice_get, append_assoc, Contains}
-use Rattle.std.proofs.lemmas.Bool.{eq-eqb, ne_eqb, cases_eq, and_parts, leb-true}
-use Rattle.std.proofs.lemmas.Option.{slice_get-get_or, slice_get_within}
+use Rattle.std.proofs.Common.{ℕ, cond, zero, suc, ◌≡◌, ◌≢◌, ◌+◌, ◌^◌, ◌<◌, ◌≤◌, ◌⊎◌, inl, inr, arith, refl, ap, sym, subst, ◌∙◌, Bool, true, false, if◌then◌else◌, nat_le, ◌==◌, Option, Some, None, option_map, unwrap_or, find, List, [], ◌∷◌, ◌++◌, length, get_or, slice_get, append_assoc, Contains}
+use Rattle.std.proofs.lemmas.Bool.{cases_eq, and_parts, leb-true}
+use Rattle.std.proofs.lemmas.Option.{slice_get-get_or}
 use Rattle.pw_value.specs.declared.value.Value.{Value}
 use Rattle.pw_value.specs.declared.value.Value.TheVariants.{Undefined, Num, Null, At, Piece}
 use Rattle.pw_value.specs.declared.value.Pointer.{Pointer}
@@ -11,14 +11,12 @@ use Rattle.pw_flow.specs.declared.flow.End.{End}
 use Rattle.pw_flow.specs.declared.flow.End.TheVariants.{Jump, Branch, Return}
 use Rattle.pw_flow.specs.ValidFlow.{IsEnd}
 use Rattle.pw_inst.specs.Registers.{help, first, stack_pointer}
-use Rattle.pw_inst.specs.declared.line.Line.{Line}
 use Rattle.pw_inst.specs.declared.line.Line.TheVariants as line
 use Rattle.pw_webflow.specs.declared.web.WebOp.{WebOp}
 use Rattle.pw_webflow.specs.declared.web.WebBlock.{WebBlock}
 use Rattle.pw_alloc.specs.declared.located.Place.{Place}
 use Rattle.pw_alloc.specs.declared.located.Place.TheVariants.{Slot, Reg}
 use Rattle.pw_alloc.specs.declared.located.Located.{Located}
-use Rattle.pw_delay.specs.declared.items.Item.{Item}
 use Rattle.pw_delay.specs.declared.items.Item.TheVariants.{Mark}
 use Rattle.pw_delay.specs.Items.{slotted}
 use Rattle.pw_select_lines.specs.Registers.{place_of, operand_register, operand_lines}
@@ -26,7 +24,7 @@ use Rattle.pw_select.specs.Selection.{selected}
 use Rattle.pw_run_languages.specs.Programs.{Program, function_at, function_number, names_of}
 use Rattle.pw_run_languages.specs.Addresses.{Addresses, AreLawful}
 use Rattle.pw_run_languages.specs.Acts.{Core, register}
-use Rattle.pw_run_languages.specs.Values.{is_near, is_somewhere}
+use Rattle.pw_run_languages.specs.Values.{is_somewhere}
 use Rattle.pw_run_languages.specs.Standing.{ValueStands}
 use Rattle.pw_run_languages.specs.LineRun as run
 use Rattle.pw_run_languages.specs.LineRun.{LineProgram}
@@ -34,20 +32,20 @@ use Rattle.pw_run_languages.specs.PlacedRun as placed
 use Rattle.pw_run_languages.specs.PlacedRun.{value_in}
 use Rattle.pw_run_languages.specs.Direction.{with_functions}
 use Rattle.pw_run_languages.specs.Serving.{Serves, IsTempRegister}
-use Rattle.pw_run_languages.specs.SelectionLaws.{line_program, with_lines}
+use Rattle.pw_run_languages.specs.SelectionLaws.{line_program}
 use Rattle.pw_law_select_memory.specs.Stand.{BytesStand}
 use Rattle.pw_law_select_memory.specs.Numbers.{HoldsBytes}
 use Rattle.pw_law_select_rows.specs.Straight.{words_of, StraightLinesAreWords}
 use Rattle.pw_law_select_rows.specs.Frames.{LoadsWord}
 use Rattle.pw_law_select_rows.specs.Places.{place_word, IsInReach, OperandsAreLoaded}
-use Rattle.pw_law_select_states.specs.Laid.{address, Lives, size_of}
+use Rattle.pw_law_select_states.specs.Laid.{address}
 use Rattle.pw_law_select_states.specs.Frames.{HasFrame, FrameHolds, words_size}
 use Rattle.pw_law_select_states.specs.States.{Stands}
-use Rattle.pw_law_select_states.specs.Passes.{Passes, further}
+use Rattle.pw_law_select_states.specs.Passes.{further}
 use Rattle.pw_law_select_states.specs.Pointers.{AreKnown, ValueIsKnown, IsKnown}
 use Rattle.pw_law_select_frames.specs.Framing.{words_begin}
 use Rattle.pw_law_select_frames.specs.Blocks.{blocks_behind, items_from, jump_count, LeadsTo, BranchesWith}
-use Rattle.pw_law_select_frames.specs.Chain.{IsActive, AllWait, BothStand, frame_top}
+use Rattle.pw_law_select_frames.specs.Chain.{IsActive, AllWait, BothStand}
 use Rattle.pw_law_select_frames.specs.Turning.{StaysInFunction, GoesOnAt}
 use Rattle.pw_law_select_frames.proofs.Known.{Known}
 use Rattle.pw_law_select_frames.proofs.Frame.{in_reach}
@@ -77,23 +75,23 @@ module _ (p : Program) (w : Addresses) (site : ℕ → ℕ) (m : placed.Machine)
   temp_known known t (Reg r) e = rw e (known.registers r)
   temp_known known t (Slot offset) e = rw e (known.frame.temps t)
 
-  -- ---- a state stands where registers of webs and temporaries, the stack pointer and memory are the same
+-- ---- a state stands where registers of webs and temporaries, the stack pointer and memory are the same
 
-  pub stands_over : (e : Core) → ((r : ℕ) → IsTempRegister r → register e r ≡ register c r) → register e stack_pointer ≡ register c stack_pointer → e.memory ≡ c.memory → e.skip ≡ false
-      → Stands p w site m e
-  stands_over e registers pointer memory skip = record {
-    words = record {
-      registers = λ r is. subst (λ n. n < 2 ^ 32) (sym (registers r is)) (stands.words.registers r is);
-      memory = subst HoldsBytes (sym memory) stands.words.memory;
-    };
-    laid = stands.laid;
-    bytes = λ o lives. subst (λ (f : ℕ → ℕ). BytesStand (address p w site) f (site o) (object_at m.objects o).bytes) (sym memory) (stands.bytes o lives);
-    registers = λ r is. subst (ValueStands (address p w site) (m.registers r)) (sym (registers r is)) (stands.registers r is);
-    frame = subst (λ a. HasFrame w site m.objects m.frame.function a) (sym pointer) stands.frame;
-    holds = subst (λ a. FrameHolds (address p w site) site m.frame e.memory a) (sym pointer)
-        (subst (λ (f : ℕ → ℕ). FrameHolds (address p w site) site m.frame f (register c stack_pointer)) (sym memory) stands.holds);
-    goes = skip;
-  }
+pub stands_over : (p : Program) (w : Addresses) (site : ℕ → ℕ) (m : placed.Machine) (c e : Core) → Stands p w site m c → ((r : ℕ) → IsTempRegister r → register e r ≡ register c r) → register e stack_pointer ≡ register c stack_pointer → e.memory ≡ c.memory → e.skip ≡ false
+    → Stands p w site m e
+stands_over p w site m c e stands registers pointer memory skip = record {
+  words = record {
+    registers = λ r is. subst (λ n. n < 2 ^ 32) (sym (registers r is)) (stands.words.registers r is);
+    memory = subst HoldsBytes (sym memory) stands.words.memory;
+  };
+  laid = stands.laid;
+  bytes = λ o lives. subst (λ (f : ℕ → ℕ). BytesStand (address p w site) f (site o) (object_at m.objects o).bytes) (sym memory) (stands.bytes o lives);
+  registers = λ r is. subst (ValueStands (address p w site) (m.registers r)) (sym (registers r is)) (stands.registers r is);
+  frame = subst (λ a. HasFrame w site m.objects m.frame.function a) (sym pointer) stands.frame;
+  holds = subst (λ a. FrameHolds (address p w site) site m.frame e.memory a) (sym pointer)
+      (subst (λ (f : ℕ → ℕ). FrameHolds (address p w site) site m.frame f (register c stack_pointer)) (sym memory) stands.holds);
+  goes = skip;
+}
 
 -- ---- an operand leaves the other registers
 
@@ -108,7 +106,7 @@ operand_keeps lp w (Reg q) c l r one two = by_register (cases_eq r q)
 
 -- ---- a pointer that leads somewhere is not 0
 
-found_in : (test : List ℕ → Bool) (xs : List (List ℕ)) (x : List ℕ) → find test xs ≡ Some x → Contains xs x
+pub found_in : (test : List ℕ → Bool) (xs : List (List ℕ)) (x : List ℕ) → find test xs ≡ Some x → Contains xs x
 found_in test [] x e = absurd cc
 found_in test (y ∷ ys) x e = by_test (λ (k : find test ys ≡ Some x). found_in test ys x k) (test y) refl e
   where
@@ -171,7 +169,7 @@ module _ (known : Known) (lines : StraightLinesAreWords) (operands : OperandsAre
       → ((r : ℕ) → IsTempRegister r → register e r ≡ register l.core r) → register e stack_pointer ≡ register l.core stack_pointer → e.memory ≡ l.core.memory → e.skip ≡ false
       → BothStand p w site (at_block b next least) (further (items_from f b next.ops next.end) e more [] l)
   at_block_stands b next more least e there registers pointer memory skip =
-      let s = stands_over p w site m l.core h.stands h.active.serves e registers pointer memory skip in
+      let s = stands_over p w site m l.core e h.stands registers pointer memory skip in
       let a = h.active in
       let mark = ap (run.from_mark b) function_items ∙ block_begins f b next there in
       let split = mark_splits b l.frame.function.items (items_from f b next.ops next.end) mark in
@@ -208,6 +206,11 @@ module _ (known : Known) (lines : StraightLinesAreWords) (operands : OperandsAre
     core = e;
     passes = to.passes;
     stands = at_block_stands b next to.passes.more (jump_count m.frame.block b) e there registers pointer memory skip;
+    leaves = record {
+      top = pointer;
+      memory = λ a out. ap (λ (f : ℕ → ℕ). f a) memory;
+      registers = λ r none. registers r (record { low = none.low; high = (let high = none.high in omega (arith, high)) });
+    };
     events = let more = to.counted in omega (arith, more, enough);
     same = (refl, refl, refl, refl);
   }

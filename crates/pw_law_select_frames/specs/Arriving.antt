@@ -1,19 +1,19 @@
 -- A whole call, up to the webs and parameters of the function that is called: both runs note it alike, and all that were active
 -- before wait.
-use Rattle.std.specs.Prelude.{ℕ, ◌≡◌, ◌≢◌, ◌+◌, ◌<◌, ◌≤◌, Option, List, [], ◌∷◌, ◌++◌, length}
+use Rattle.std.specs.Prelude.{ℕ, ◌≡◌, ◌≢◌, ◌+◌, ◌-◌, ◌*◌, ◌<◌, ◌≤◌, Option, Some, List, [], ◌∷◌, ◌++◌, slice_get}
 use Rattle.pw_inst.specs.Registers.{return_address, stack_pointer, help, second}
 use Rattle.pw_inst.specs.declared.line.Line.{Line}
 use Rattle.pw_db.specs.Database.{IsDirectives}
 use Rattle.pw_webflow.specs.declared.web.WebBlock.{WebBlock}
 use Rattle.pw_alloc.specs.declared.located.Located.{Located}
-use Rattle.pw_delay.specs.declared.items.Item.{Item}
+use Rattle.pw_alloc.specs.Frames.{head_size}
 use Rattle.pw_delay.specs.Items.{slotted}
 use Rattle.pw_select.specs.Selection.{slot_offsets, webs_loaded, parameters_in, blocks_lines}
 use Rattle.pw_run.specs.Runs.{AreAlike}
 use Rattle.pw_run_languages.specs.Traces.{Called}
 use Rattle.pw_run_languages.specs.Programs.{Program}
 use Rattle.pw_run_languages.specs.Addresses.{Addresses, AreLawful}
-use Rattle.pw_run_languages.specs.Acts.{Core, register}
+use Rattle.pw_run_languages.specs.Acts.{Core, register, number_at}
 use Rattle.pw_run_languages.specs.Standing.{EventInWords}
 use Rattle.pw_run_languages.specs.LineRun as run
 use Rattle.pw_run_languages.specs.PlacedRun as placed
@@ -21,29 +21,16 @@ use Rattle.pw_run_languages.specs.PlacedRun.{globals_now, kept, noted, counted, 
 use Rattle.pw_run_languages.specs.Direction.{with_functions}
 use Rattle.pw_run_languages.specs.Serving.{Serves}
 use Rattle.pw_run_languages.specs.SelectionLaws.{line_program, with_lines}
-use Rattle.pw_law_select_states.specs.Laid.{address, Lives, size_of}
 use Rattle.pw_law_select_states.specs.Passes.{Passes, further}
 use Rattle.pw_law_select_states.specs.Pointers.{AreKnown}
-use Rattle.pw_law_select_states.specs.States.{Stands}
-use Rattle.pw_law_select_frames.specs.Chain.{IsActive, AllWait, frame_top}
 use Rattle.pw_law_select_frames.specs.Extending.{KeepsObjects}
+use Rattle.pw_law_select_frames.specs.Amid.{BothAmid}
 use Rattle.pw_law_select_frames.specs.Returning.{BothTake}
 
 -- the lines of a function behind its check and its saved registers
 abbrev pub lines_behind_entry : Located → List Line
 lines_behind_entry f =
     webs_loaded f.body.directives.webs ++ parameters_in f.frame f.places 0 f.body.params ++ blocks_lines f (slot_offsets f) 0 f.body.blocks
-
--- A state of both runs behind the check and the saved registers of a function.
-pub record BothBegin (p : Program) (w : Addresses) (site : ℕ → ℕ) (m : placed.Machine) (l : run.Machine) : Type 0 where
-  pub stands : Stands p w site m l.core
-  pub active : IsActive (address p w site) l.core.memory m.frame l.frame
-  pub top : register l.core stack_pointer ≡ frame_top m.frame l.frame
-  pub old : (o : ℕ) → o < m.frame.base → Lives m.objects o → site o + size_of m.objects o < l.frame.stack
-  pub later : (o : ℕ) → Lives m.objects o → o < m.frame.base + length m.frame.function.body.slots
-  pub left : l.frame.left ≡ slotted (lines_behind_entry m.frame.function)
-  pub inside : (before : List Item) × (l.frame.function.items ≡ before ++ l.frame.left)
-  pub callers : AllWait p w site m.objects l.core.memory m.frame l.frame.stack m.callers l.callers
 
 -- Both runs are at a call, with the return address in its register, and the stack holds the frame.
 pub record MayEnter (p : Program) (w : Addresses) (site : ℕ → ℕ) (f : Located) (t : Option ℕ) (m : placed.Machine) (l : run.Machine) : Type 0 where
@@ -66,10 +53,12 @@ pub record IsEntered (p : Program) (w : Addresses) (functions : List Located) (s
   pub core : Core
   pub passes : Passes (line_program p functions) w scratch (run.enters (line_program p functions) w (with_lines f) l) (slotted (lines_behind_entry f)) core []
   pub keeps : KeepsObjects site after m.objects (called_in p functions f b t m).objects
-  pub begins : BothBegin p w after (called_in p functions f b t m) (further (slotted (lines_behind_entry f)) core passes.more [] (run.enters (line_program p functions) w (with_lines f) l))
+  pub begins : BothAmid p w after (lines_behind_entry f) (called_in p functions f b t m) (further (slotted (lines_behind_entry f)) core passes.more [] (run.enters (line_program p functions) w (with_lines f) l))
   -- arguments stand where they stood
   pub registers : (r : ℕ) → r ≢ help → r ≢ second → r ≢ stack_pointer → register core r ≡ register l.core r
   pub memory : (a : ℕ) → a + 20 < register l.core stack_pointer → core.memory a ≡ l.core.memory a
+  -- what it saved stands in words
+  pub words : (i r : ℕ) → slice_get f.saved i ≡ Some r → number_at 4 core.memory (register l.core stack_pointer + f.frame - head_size f.body - 4 * (i + 1)) ≡ register l.core r
   pub log : AreAlike (EventInWords p w.named) (called_in p functions f b t m).trace (run.enters (line_program p functions) w (with_lines f) l).trace
 
 abbrev pub FunctionsAreEntered : Type 0

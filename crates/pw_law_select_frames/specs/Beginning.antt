@@ -1,6 +1,6 @@
 -- A function that is called: behind its first words and those that save registers, the state in which the placed run has
 -- entered it stands, with new objects in its frame.
-use Rattle.std.specs.Prelude.{ℕ, ◌≡◌, ◌≢◌, ◌+◌, ◌-◌, ◌<◌, ◌≤◌, ◌^◌, ◌⊎◌, Option, List, [], ◌++◌, map, length}
+use Rattle.std.specs.Prelude.{ℕ, ◌≡◌, ◌≢◌, ◌+◌, ◌-◌, ◌*◌, ◌<◌, ◌≤◌, ◌^◌, ◌⊎◌, Option, Some, [], ◌++◌, map, length, slice_get}
 use Rattle.pw_inst.specs.Registers.{help, second, return_address, stack_pointer}
 use Rattle.pw_db.specs.Database.{IsDirectives}
 use Rattle.pw_webflow.specs.declared.web.WebBlock.{WebBlock}
@@ -47,6 +47,7 @@ pub record Begins (lines : LineProgram) (w : Addresses) (site : ℕ → ℕ) (m 
   pub registers : (r : ℕ) → r ≢ help → r ≢ second → r ≢ stack_pointer → register core r ≡ register c r
   pub memory : (a : ℕ) → a < register c stack_pointer → (a + 20 < register c stack_pointer) ⊎ (register c stack_pointer ≤ a + 16) → core.memory a ≡ c.memory a
   pub link : number_at 4 core.memory (register c stack_pointer - link_place) ≡ register c return_address
+  pub words : (i r : ℕ) → slice_get f.saved i ≡ Some r → number_at 4 core.memory (register c stack_pointer + f.frame - head_size f.body - 4 * (i + 1)) ≡ register c r
   pub saved : SavedStand (address lines.flow w after) core.memory (register core stack_pointer - head_size f.body) 0 (map (λ r. (r, m.registers r)) f.saved)
 
 abbrev pub FunctionsBegin : Type 0

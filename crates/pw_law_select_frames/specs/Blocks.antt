@@ -11,11 +11,11 @@ use Rattle.pw_alloc.specs.declared.located.Place.{Place}
 use Rattle.pw_alloc.specs.declared.located.Located.{Located}
 use Rattle.pw_delay.specs.declared.items.Item.{Item}
 use Rattle.pw_delay.specs.Items.{slotted}
-use Rattle.pw_select_lines.specs.Registers.{place_of, operand_register, operand_lines}
+use Rattle.pw_select_lines.specs.Registers.{operand_register, operand_lines}
 use Rattle.pw_select_lines.specs.Operations.{layout, web_op_lines}
 use Rattle.pw_select.specs.Selection.{slot_offsets, end_lines, blocks_lines, selected}
 use Rattle.pw_run_languages.specs.Addresses.{Addresses}
-use Rattle.pw_run_languages.specs.Acts.{Core, register}
+use Rattle.pw_run_languages.specs.Acts.{Core}
 use Rattle.pw_run_languages.specs.LineRun.{LineProgram, Machine, from_mark}
 use Rattle.pw_law_select_rows.specs.Places.{place_word, IsInReach}
 use Rattle.pw_law_select_rows.specs.Frames.{LoadsWord}

@@ -1,5 +1,5 @@
 -- Turns that call and return: a call by name, a call through a value, and the return.
-use Rattle.std.specs.Prelude.{ℕ, false, ◌≡◌, Some, None, List, [], ◌∷◌, map, Contains}
+use Rattle.std.specs.Prelude.{ℕ, false, ◌≡◌, Some, None, List, ◌∷◌, map, Contains}
 use Rattle.pw_inst.specs.Registers.{first, return_address, routine_link, stack_pointer}
 use Rattle.pw_inst.specs.declared.relocation.Symbol.TheVariants as symbol
 use Rattle.pw_delay.specs.Items.{link_moved}
@@ -9,7 +9,7 @@ use Rattle.pw_delay.specs.declared.items.Turn.TheVariants.{CallTo, CallReg, Leav
 use Rattle.pw_run_languages.specs.Traces.{Returned}
 use Rattle.pw_run_languages.specs.Programs.{Library, library_at, functions_of, names_of}
 use Rattle.pw_run_languages.specs.Addresses.{Addresses, AreLawful}
-use Rattle.pw_run_languages.specs.Acts.{Core, register, with_register}
+use Rattle.pw_run_languages.specs.Acts.{register, with_register}
 use Rattle.pw_run_languages.specs.LineRun as run
 use Rattle.pw_run_languages.specs.LineRun.{LineFn, LineProgram, Frame, Machine, On, function_named, name_of, left_behind, globals_in, kept, enters, library, step}
 

@@ -1,14 +1,17 @@
 -- A function that returns: behind its last words the state of its caller stands, before the result is taken.
 use Rattle.std.specs.Prelude.{ℕ, ◌≡◌, ◌-◌, ◌<◌, ◌≤◌, List, [], length}
 use Rattle.pw_inst.specs.Registers.{answer, return_address, stack_pointer}
+use Rattle.pw_alloc.specs.Frames.{head_size}
 use Rattle.pw_run_languages.specs.Programs.{globals_of}
 use Rattle.pw_run_languages.specs.Addresses.{Addresses, AreLawful}
 use Rattle.pw_run_languages.specs.Acts.{Core, register}
+use Rattle.pw_run_languages.specs.Standing.{given_back}
 use Rattle.pw_run_languages.specs.LineRun as run
 use Rattle.pw_run_languages.specs.LineRun.{LineProgram, Frame}
 use Rattle.pw_run_languages.specs.FlowRun.{end_from}
 use Rattle.pw_run_languages.specs.PlacedRun as placed
 use Rattle.pw_run_languages.specs.PlacedRun.{Machine, with_registers, without_scratch}
+use Rattle.pw_run_languages.specs.Serving.{IsTempRegister}
 use Rattle.pw_law_select_rows.specs.Straight.{words_of}
 use Rattle.pw_law_select_states.specs.Laid.{address, Lives}
 use Rattle.pw_law_select_states.specs.States.{Stands}
@@ -46,6 +49,7 @@ pub record Ends (lines : LineProgram) (w : Addresses) (site : ℕ → ℕ) (m : 
   pub link : register core return_address ≡ run.return_address w waiting waiting.left
   pub pointer : register core stack_pointer ≡ l.stack
   pub value : register core answer ≡ register c answer
+  pub temps : (r : ℕ) → IsTempRegister r → register core r ≡ given_back c.memory (frame_top m.frame l - head_size m.frame.function.body) 0 m.frame.function.saved c.registers r
   pub memory : core.memory ≡ c.memory
 
 abbrev pub FunctionsEnd : Type 0

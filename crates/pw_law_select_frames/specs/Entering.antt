@@ -4,6 +4,7 @@ use Rattle.std.specs.Prelude.{ℕ, false, ◌≡◌, ◌≢◌, ◌+◌, ◌-◌
 use Rattle.pw_inst.specs.Registers.{help, second, return_address, stack_pointer}
 use Rattle.pw_inst.specs.declared.line.Line.{Line}
 use Rattle.pw_alloc.specs.Frames.{link_place}
+use Rattle.pw_delay.specs.declared.items.Item.{Item}
 use Rattle.pw_delay.specs.Items.{slotted}
 use Rattle.pw_select.specs.Selection.{entry_lines}
 use Rattle.pw_run.specs.Runs.{StackFull}
@@ -11,6 +12,7 @@ use Rattle.pw_run_languages.specs.Addresses.{Addresses, AreLawful}
 use Rattle.pw_run_languages.specs.Acts.{Core, register, with_number}
 use Rattle.pw_run_languages.specs.LineRun.{LineProgram, Machine, On, Stopped, steps, shown}
 use Rattle.pw_law_select_rows.specs.Straight.{words_of}
+use Rattle.pw_law_select_states.specs.Passes.{IsAmid}
 use Rattle.pw_law_select_states.specs.States.{IsOfWords}
 use Rattle.pw_law_select_frames.specs.Going.{Goes}
 
@@ -34,6 +36,7 @@ pub record StopsFull (p : LineProgram) (w : Addresses) (scratch : ℕ → (ℕ �
   pub last : Machine
   pub is : steps p w scratch count (On m) ≡ Stopped StackFull last
   pub same : shown last last.trace ≡ shown m m.trace
+  pub amid : (before : List Item) → m.frame.function.items ≡ before ++ m.frame.left → (k : ℕ) (n : Machine) → 0 < k → k ≤ count → steps p w scratch k (On m) ≡ On n → IsAmid n.frame
 
 abbrev pub FullStacksStop : Type 0
 FullStacksStop =

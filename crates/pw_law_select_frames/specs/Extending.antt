@@ -18,6 +18,11 @@ pub record KeepsObjects (site after : ℕ → ℕ) (objects now : List Object) :
   pub lives : (o : ℕ) → o < length objects → Lives now o → Lives objects o
   pub sizes : (o : ℕ) → o < length objects → size_of now o ≡ size_of objects o
 
+-- pointers of the frames of a state lead somewhere
+pub record FramesAreKnown (p : Program) (m : placed.Machine) : Type 0 where
+  pub frame : FrameIsKnown p (length m.objects) m.frame
+  pub callers : AllByRecursion (FrameIsKnown p (length m.objects)) m.callers
+
 -- no live object has the byte
 abbrev pub IsFree : (ℕ → ℕ) → List Object → ℕ → Type 0
 IsFree site objects a = (o : ℕ) → Lives objects o → (a < site o) ⊎ (site o + size_of objects o ≤ a)

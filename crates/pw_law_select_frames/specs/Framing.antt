@@ -1,8 +1,7 @@
 -- Where a function's words and slots stand in its frame.
-use Rattle.std.specs.Prelude.{ℕ, ℤ, ◌≡◌, ◌≢◌, ◌+◌, ◌-◌, ◌*◌, ◌%◌, ◌<◌, ◌≤◌, Some, List, length, slice_get}
+use Rattle.std.specs.Prelude.{ℕ, ◌≡◌, ◌+◌, ◌*◌, ◌%◌, ◌<◌, ◌≤◌, Some, List, length, slice_get}
 use Rattle.pw_value.specs.Objects.{Object}
 use Rattle.pw_value.specs.Rounding.{slot_room}
-use Rattle.pw_inst.specs.Computing.{offset_by}
 use Rattle.pw_alloc.specs.declared.located.Place.{Place}
 use Rattle.pw_alloc.specs.declared.located.Located.{Located}
 use Rattle.pw_alloc.specs.Frames.{head_size, below}

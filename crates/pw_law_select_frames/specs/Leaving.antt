@@ -1,5 +1,5 @@
 -- How a function ends behind its webs: the saved registers and the return address come back, and the frame is left.
-use Rattle.std.specs.Prelude.{ℕ, ◌≡◌, ◌≢◌, ◌+◌, ◌-◌, ◌%◌, ◌<◌, ◌≤◌, ◌^◌, List, [], ◌++◌}
+use Rattle.std.specs.Prelude.{ℕ, ◌≡◌, ◌≢◌, ◌+◌, ◌-◌, ◌%◌, List, [], ◌++◌}
 use Rattle.pw_inst.specs.Registers.{help, return_address, stack_pointer}
 use Rattle.pw_inst.specs.declared.line.Line.{Line}
 use Rattle.pw_alloc.specs.declared.located.Located.{Located}

@@ -10,6 +10,7 @@ pub mod Calls
 pub mod Chain
 pub mod Framing
 pub mod Extending
+pub mod Amid
 pub mod Beginning
 pub mod Ending
 pub mod Webs
@@ -20,3 +21,7 @@ pub mod Refusing
 pub mod Shape
 pub mod Arriving
 pub mod Turning
+pub mod Receiving
+pub mod Settling
+pub mod Answering
+pub mod Reaching

@@ -15,6 +15,7 @@ use Rattle.pw_run_languages.specs.PlacedRun as placed
 use Rattle.pw_run_languages.specs.PlacedRun.{globals_now}
 use Rattle.pw_run_languages.specs.Direction.{with_functions}
 use Rattle.pw_run_languages.specs.SelectionLaws.{line_program, with_lines}
+use Rattle.pw_law_select_states.specs.Passes.{IsAmid}
 use Rattle.pw_law_select_frames.specs.Library.{MayCall}
 
 -- both note a call alike
@@ -30,6 +31,9 @@ pub record Refuses (p : Program) (w : Addresses) (functions : List Located) (scr
   pub count : ℕ
   pub last : run.Machine
   pub steps : run.steps (line_program p functions) w scratch count (run.On (enters (line_program p functions) w (with_lines f) l)) ≡ run.Stopped StackFull last
+  pub amid : (k : ℕ) (n : run.Machine) → 0 < k → k ≤ count
+      → run.steps (line_program p functions) w scratch k (run.On (enters (line_program p functions) w (with_lines f) l)) ≡ run.On n → IsAmid n.frame
+  pub trace : last.trace ≡ (enters (line_program p functions) w (with_lines f) l).trace
   pub show : (last.read ≡ m.read) × (last.out ≡ m.out) × (m.events ≤ last.events)
   pub log : AreAlike (EventInWords p w.named) (Refused f.body.name ∷ m.trace) (with_refusal last.trace)
 

@@ -1,10 +1,11 @@
 -- A whole return: behind the webs, the lines go through the end of a function to its caller, and both runs note the return alike.
-use Rattle.std.specs.Prelude.{ℕ, ◌≡◌, ◌+◌, ◌<◌, ◌≤◌, Option, List, [], ◌∷◌, ◌++◌, length}
+use Rattle.std.specs.Prelude.{ℕ, ◌≡◌, ◌+◌, ◌-◌, ◌<◌, ◌≤◌, Option, List, ◌∷◌, ◌++◌, length}
 use Rattle.std.specs.List.{AllByRecursion}
 use Rattle.pw_inst.specs.Registers.{answer, stack_pointer}
 use Rattle.pw_inst.specs.declared.line.Line.{Line}
 use Rattle.pw_inst.specs.declared.line.Line.TheVariants.{Leave}
 use Rattle.pw_alloc.specs.declared.located.Located.{Located}
+use Rattle.pw_alloc.specs.Frames.{head_size}
 use Rattle.pw_delay.specs.declared.items.Item.{Item}
 use Rattle.pw_delay.specs.Items.{slotted}
 use Rattle.pw_select_lines.specs.Operations.{call_result}
@@ -13,12 +14,14 @@ use Rattle.pw_run_languages.specs.Traces.{Returned}
 use Rattle.pw_run_languages.specs.Programs.{Program, globals_of}
 use Rattle.pw_run_languages.specs.Addresses.{Addresses, AreLawful}
 use Rattle.pw_run_languages.specs.Acts.{register}
-use Rattle.pw_run_languages.specs.Standing.{EventInWords}
+use Rattle.pw_run_languages.specs.Standing.{EventInWords, given_back}
 use Rattle.pw_run_languages.specs.LineRun as run
+use Rattle.pw_run_languages.specs.LineRun.{globals_in}
 use Rattle.pw_run_languages.specs.Links.{GoesOn, LinksStand}
 use Rattle.pw_run_languages.specs.PlacedRun as placed
 use Rattle.pw_run_languages.specs.PlacedRun.{globals_now, kept, name_of, noted}
 use Rattle.pw_run_languages.specs.Direction.{with_functions}
+use Rattle.pw_run_languages.specs.Serving.{IsTempRegister}
 use Rattle.pw_run_languages.specs.SelectionLaws.{line_program}
 use Rattle.pw_law_select_states.specs.Laid.{address, Lives, size_of}
 use Rattle.pw_law_select_states.specs.Passes.{IsAmid}
@@ -69,6 +72,10 @@ pub record Returns (p : Program) (w : Addresses) (functions : List Located) (scr
   pub amid : (k : ℕ) (n : run.Machine) → 0 < k → k < count → run.steps (line_program p functions) w scratch k (run.On l) ≡ run.On n → IsAmid n.frame
   pub takes : BothTake p w site m.frame.result (back_with p functions caller callers m) last
   pub value : register last.core answer ≡ register l.core answer
+  pub given : (r : ℕ) → IsTempRegister r → register last.core r ≡ given_back l.core.memory (frame_top m.frame l.frame - head_size m.frame.function.body) 0 m.frame.function.saved l.core.registers r
+  pub memory : last.core.memory ≡ l.core.memory
+  pub frames : l.callers ≡ last.frame ∷ last.callers
+  pub noted : last.trace ≡ Returned (run.name_of l.frame) 0 (globals_in (line_program p functions) w last.core l.callers) l.frame.before (run.kept last.core) ∷ l.trace
   pub show : (last.rest ≡ l.rest) × (last.read ≡ l.read) × (last.out ≡ l.out) × (l.events ≤ last.events)
   pub log : AreAlike (EventInWords p w.named) (back_with p functions caller callers m).trace last.trace
 

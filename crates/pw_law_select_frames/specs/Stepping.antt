@@ -1,5 +1,5 @@
 -- States of both runs that stand whole: what follows for their frames, and what an operation leaves.
-use Rattle.std.specs.Prelude.{ℕ, ◌≡◌, ◌+◌, ◌<◌, List, [], ◌∷◌, ◌++◌, length, sum_by}
+use Rattle.std.specs.Prelude.{ℕ, ◌≡◌, ◌+◌, ◌<◌, List, ◌∷◌, length, sum_by}
 use Rattle.std.specs.List.{AllByRecursion}
 use Rattle.pw_inst.specs.Registers.{stack_pointer}
 use Rattle.pw_webflow.specs.declared.web.WebOp.{WebOp}

@@ -11,7 +11,7 @@ use Rattle.pw_run_languages.specs.LineRun as run
 use Rattle.pw_run_languages.specs.PlacedRun as placed
 use Rattle.pw_run_languages.specs.Direction.{with_functions}
 use Rattle.pw_run_languages.specs.SelectionLaws.{line_program}
-use Rattle.pw_law_select_states.specs.Passes.{Passes, further}
+use Rattle.pw_law_select_states.specs.Passes.{Passes, Leaves, further}
 use Rattle.pw_law_select_states.specs.Pointers.{AreKnown}
 use Rattle.pw_law_select_frames.specs.Blocks.{items_from}
 use Rattle.pw_law_select_frames.specs.Chain.{BothStand}
@@ -25,6 +25,7 @@ pub record GoesOnAt (p : Program) (w : Addresses) (functions : List Located) (sc
   pub core : Core
   pub passes : Passes (line_program p functions) w scratch l (items_from n.frame.function n.frame.block n.frame.ops n.frame.end) core []
   pub stands : BothStand p w site n (further (items_from n.frame.function n.frame.block n.frame.ops n.frame.end) core passes.more [] l)
+  pub leaves : Leaves site m l.core core
   pub events : n.events ≤ m.events + passes.more
   pub same : (n.trace ≡ m.trace) × (n.rest ≡ m.rest) × (n.read ≡ m.read) × (n.out ≡ m.out)
 

@@ -12,6 +12,7 @@ ghost use Rattle.pw_law_select_frames.specs.Calls.{FunctionsAreCalledByValue, Fu
 ghost use Rattle.pw_law_select_frames.specs.Chain.{GivenRegistersHold, GlobalsAreAlike};
 ghost use Rattle.pw_law_select_frames.specs.Framing.{FramesAreSized, PlacesAreBelow, SlotsAreApart, SlotsStand};
 ghost use Rattle.pw_law_select_frames.specs.Extending.{ValuesGoOn, WaitingGoesOn};
+ghost use Rattle.pw_law_select_frames.specs.Amid.{LeavesCompose, LinesGoOn, OperationsAreNext, StatesAmidAreWhole, StatesStandOver, WholeStatesAreAmid};
 ghost use Rattle.pw_law_select_frames.specs.Beginning.{FunctionsBegin};
 ghost use Rattle.pw_law_select_frames.specs.Ending.{FunctionsEnd};
 ghost use Rattle.pw_law_select_frames.specs.Webs.{WebsAreLoadedInOrder, WebsAreStoredInOrder};
@@ -19,14 +20,20 @@ ghost use Rattle.pw_law_select_frames.specs.Library.{LibraryDoesAlike};
 ghost use Rattle.pw_law_select_frames.specs.Stepping.{AllAreActive, FramesAreStacked, ObjectsStandBelow, OperationsGoOn, ReturnAddressesStand};
 ghost use Rattle.pw_law_select_frames.specs.Returning.{FunctionsComeBack, LinksStandThen};
 ghost use Rattle.pw_law_select_frames.specs.Refusing.{CallsAreNotedAlike, FullCallsAreRefused};
-ghost use Rattle.pw_law_select_frames.specs.Shape.{EpiloguesAreShaped, ProloguesAreShaped};
+ghost use Rattle.pw_law_select_frames.specs.Shape.{EpiloguesAreShaped, LoadedRowsAreStraight, ProloguesAreShaped};
 ghost use Rattle.pw_law_select_frames.specs.Arriving.{FunctionsAreEntered};
 ghost use Rattle.pw_law_select_frames.specs.Turning.{BlockEndsGoOn};
+ghost use Rattle.pw_law_select_frames.specs.Receiving.{ParametersAreTaken};
+ghost use Rattle.pw_law_select_frames.specs.Settling.{FirstBlocksBegin};
+ghost use Rattle.pw_law_select_frames.specs.Answering.{AnswersAreTaken};
+ghost use Rattle.pw_law_select_frames.specs.Reaching.{CallsAreReached};
 ghost use Rattle.pw_law_select_frames.specs.Blocks.{BlocksBegin, BranchesLead, JumpsLead};
 
 use pw_law_select_memory::{bytes_stand, numbers_are_stored};
+use pw_law_select_places::places_stand;
 use pw_law_select_rows::{
-    frame_words_move, operands_are_loaded, straight_words_run, words_are_made,
+    frame_words_move, operands_are_loaded, registers_get_words, results_are_placed,
+    straight_words_run, words_are_made,
 };
 
 /// A word of the stack may be loaded and stored, and stands above all globals.
@@ -193,6 +200,17 @@ pub fn whole_states_go_on()
     ensures operations { OperationsGoOn }
 {}
 
+/// A whole state is amid the lines that are left of its function; and where lines change nothing of those that wait, both runs are
+/// amid the function again behind them.
+pub fn states_amid_go_on()
+    ensures over { StatesStandOver }
+    ensures compose { LeavesCompose }
+    ensures lines { LinesGoOn }
+    ensures whole { WholeStatesAreAmid }
+    ensures amid { StatesAmidAreWhole }
+    ensures operation { OperationsAreNext }
+{}
+
 /// Behind the webs, the lines of a function that returns lead to its caller, in whose frame nothing has changed; both runs note the
 /// return alike, the answer may be taken, and return addresses stand in memory.
 pub fn functions_come_back()
@@ -226,6 +244,7 @@ pub fn calls_are_noted_alike()
 pub fn functions_are_shaped()
     ensures prologue { ProloguesAreShaped }
     ensures epilogue { EpiloguesAreShaped }
+    ensures loaded { LoadedRowsAreStraight }
 {}
 
 /// A function that is called is entered in both runs, up to its webs and parameters: they note the call alike, the new state stands
@@ -251,4 +270,57 @@ pub fn block_ends_go_on()
     words_are_made();
     frame_words_move();
     operands_are_loaded();
+}
+
+/// A function takes its arguments: with each argument's word in the place of its parameter, the state in which the placed run has the
+/// parameters stands, and what stands below the frame and what was saved is as it was.
+pub fn parameters_are_taken()
+    ensures { ParametersAreTaken }
+{
+    numbers_are_stored();
+    straight_words_run();
+    words_are_made();
+    frame_words_move();
+    operands_are_loaded();
+    places_stand();
+}
+
+/// Behind the webs of a function its parameters lead to its first block, where the state of both runs stands whole.
+pub fn first_blocks_begin()
+    ensures { FirstBlocksBegin }
+{
+    numbers_are_stored();
+    straight_words_run();
+    words_are_made();
+    frame_words_move();
+    operands_are_loaded();
+    places_stand();
+}
+
+/// Behind a call its caller takes the answer, and the state of both runs stands whole.
+pub fn answers_are_taken()
+    ensures { AnswersAreTaken }
+{
+    numbers_are_stored();
+    straight_words_run();
+    words_are_made();
+    frame_words_move();
+    operands_are_loaded();
+    results_are_placed();
+    registers_get_words();
+    places_stand();
+}
+
+/// From an operation that calls a function, by name or through a value, the lines come to the turn that does: the arguments are
+/// where the callee finds them, and the caller stands behind the call, but for its result.
+pub fn calls_are_reached()
+    ensures { CallsAreReached }
+{
+    numbers_are_stored();
+    bytes_stand();
+    straight_words_run();
+    words_are_made();
+    frame_words_move();
+    operands_are_loaded();
+    places_stand();
 }

@@ -41,7 +41,7 @@ use Rattle.pw_law_select_known.proofs.Commands.{CommandIsKnown, command_known}
 use Rattle.pw_law_select_known.proofs.Functions.{WebOpIsFine, BlockIsFine, BodyIsFine, FunctionsAreFine, functions_fine}
 use Rattle.pw_law_select_known.proofs.Starting.{start_known}
 use Rattle.pw_law_select_known.proofs.Parts.{value_by, put_by, get_by, set_by, stored_by, reads_by, loaded_by, calls_by, goes_to, to_block_by, result_by, returns_by, next_by, begun_at, starts_at_by, starts_by}
-use Rattle.pw_law_select_known.specs.Laws.{PointersAreKnown}
+use Rattle.pw_law_select_known.specs.Laws.{PointersAreKnown, SlotsAreBehindGlobals}
 
 -- an active function that was entered when there were so many objects, or fewer
 pub record IsFrame (p : Program) (count : ℕ) (f : Frame) : Type 0 where
@@ -50,6 +50,7 @@ pub record IsFrame (p : Program) (count : ℕ) (f : Frame) : Type 0 where
   temps : AllByRecursion (ValueIsKnown p count) f.temps
   saved : AllByRecursion (λ (s : ℕ × Value). ValueIsKnown p count s.1) f.saved
   slots : f.base + length f.function.body.slots ≤ count
+  base : length (globals_of p) ≤ f.base
 
 -- a state of a run, by how many objects its pointers lead to
 pub record IsSound (p : Program) (count : ℕ) (m : Machine) : Type 0 where
@@ -131,7 +132,7 @@ module _ (p : Program) (fs : List Located) (ok : IsProgram p) (fine : FunctionsA
     put_sound : (t : ℕ) (v : Value) (m : Machine) (r : Option ℕ) → ValueIsKnown p count v → IsSound p count m → IsSound p count (put_by t v m r)
     put_sound t v m (Some r) h g = record { frame = g.frame; callers = g.callers; registers = with_register_known r v m.registers h g.registers; objects = g.objects; low = g.low }
     put_sound t v m None h g = record {
-      frame = record { body = g.frame.body; ops = g.frame.ops; temps = set_each (ValueIsKnown p count) m.frame.temps t v g.frame.temps h; saved = g.frame.saved; slots = g.frame.slots };
+      frame = record { body = g.frame.body; ops = g.frame.ops; temps = set_each (ValueIsKnown p count) m.frame.temps t v g.frame.temps h; saved = g.frame.saved; slots = g.frame.slots; base = g.frame.base };
       callers = g.callers;
       registers = g.registers;
       objects = g.objects;
@@ -239,6 +240,7 @@ module _ (p : Program) (fs : List Located) (ok : IsProgram p) (fine : FunctionsA
           temps = g.frame.temps;
           saved = g.frame.saved;
           slots = g.frame.slots;
+          base = g.frame.base;
         } in
         choose (IsSound p count) (b == m.frame.block + 1) (goes_to b m next) (counted (goes_to b m next))
         (record { frame = frame; callers = g.callers; registers = g.registers; objects = g.objects; low = g.low })
@@ -316,6 +318,7 @@ module _ (p : Program) (fs : List Located) (ok : IsProgram p) (fine : FunctionsA
         temps = each_later (ValueIsKnown p count) (ValueIsKnown p more) (value_later p count more le) f.temps g.temps;
         saved = each_later (λ (s : ℕ × Value). ValueIsKnown p count s.1) (λ (s : ℕ × Value). ValueIsKnown p more s.1) (λ s h. value_later p count more le s.1 h) f.saved g.saved;
         slots = omega (arith, le, few);
+        base = g.base;
       }
 
   -- the count of objects behind a function's slots
@@ -337,6 +340,7 @@ module _ (p : Program) (fs : List Located) (ok : IsProgram p) (fine : FunctionsA
           temps = replicate_each (ValueIsKnown p more) l.body.temps Undefined tt;
           saved = map_each (λ (s : ℕ × Value). ValueIsKnown p more s.1) (λ r. (r, m.registers r)) registers l.saved;
           slots = omega arith;
+          base = omega (arith, low, there);
         };
         callers = (frame_later count more le m.frame g.frame, each_later (IsFrame p count) (IsFrame p more) (frame_later count more le) m.callers g.callers);
         registers = without_places_known more l.places m.registers registers;
@@ -421,7 +425,7 @@ module _ (p : Program) (fs : List Located) (ok : IsProgram p) (fine : FunctionsA
   next_good count m (o ∷ ops) all g =
       does_good count o (record m { frame = record m.frame { ops = ops } }) all.0
       (record {
-        frame = record { body = g.frame.body; ops = all.1; temps = g.frame.temps; saved = g.frame.saved; slots = g.frame.slots };
+        frame = record { body = g.frame.body; ops = all.1; temps = g.frame.temps; saved = g.frame.saved; slots = g.frame.slots; base = g.frame.base };
         callers = g.callers;
         registers = g.registers;
         objects = g.objects;
@@ -458,6 +462,7 @@ module _ (p : Program) (fs : List Located) (ok : IsProgram p) (fine : FunctionsA
           temps = replicate_each (ValueIsKnown p count) l.body.temps Undefined tt;
           saved = map_each (λ (s : ℕ × Value). ValueIsKnown p count s.1) (λ r. (r, Undefined)) (λ r. tt) l.saved;
           slots = omega arith;
+          base = omega (arith, globals);
         };
         callers = tt;
         registers = λ r. tt;
@@ -500,8 +505,17 @@ module _ (p : Program) (fs : List Located) (ok : IsProgram p) (fine : FunctionsA
   of_step : (m : Machine) → Good p m → AreKnown p m
   of_step m g = state_known g.count m g.sound
 
+  base_of : (m : Machine) → Good p m → length (globals_of p) ≤ m.frame.base
+  base_of m g = g.sound.frame.base
+
+  pub base_at : (input : List ℕ) (n : ℕ) (m : Machine) → steps full n (start full input) ≡ On m → length (globals_of p) ≤ m.frame.base
+  base_at input n m e = base_of m (subst (GoodStep p) e (steps_good n (start full input) (start_good input)))
+
   pub state_at : (input : List ℕ) (n : ℕ) (m : Machine) → steps full n (start full input) ≡ On m → AreKnown p m
   state_at input n m e = of_step m (subst (GoodStep p) e (steps_good n (start full input) (start_good input)))
 
 pub pointers_are_known : PointersAreKnown
 pointers_are_known p d functions input ok serve n m e = state_at p functions ok (functions_fine p ok d functions serve) input n m e
+
+pub slots_are_behind_globals : SlotsAreBehindGlobals
+slots_are_behind_globals p d functions input ok serve n m e = base_at p functions ok (functions_fine p ok d functions serve) input n m e

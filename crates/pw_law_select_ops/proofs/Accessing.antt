@@ -1,5 +1,5 @@
 -- Operations that load and store scalars: where a pointer leads, and of globals by their names.
-use Rattle.std.proofs.Common.{ℕ, zero, suc, ◌≡◌, ◌≢◌, ◌+◌, ◌%◌, ◌^◌, ◌<◌, ◌≤◌, ◌⊎◌, inl, inr, refl, ap, ap₂, sym, subst, ◌∙◌, arith, mod-eq_of_lt, Bool, true, false, true≢false, ◌&&◌, nat_le, if◌then◌else◌, Option, Some, None, List, [], ◌∷◌, ◌++◌, length, replicate, slice_get}
+use Rattle.std.proofs.Common.{ℕ, zero, suc, ◌≡◌, ◌+◌, ◌%◌, ◌^◌, ◌<◌, ◌≤◌, ◌⊎◌, inl, inr, refl, ap, sym, subst, ◌∙◌, arith, Bool, true, false, true≢false, ◌&&◌, nat_le, if◌then◌else◌, Option, Some, None, List, [], ◌∷◌, ◌++◌, append-nil, length, replicate, slice_get}
 use Rattle.std.specs.Prelude.{◌==◌, pos}
 use Rattle.std.proofs.lemmas.Bool.{and_parts, and_from, eqb-true, eq-eqb, le-leb, leb-true}
 use Rattle.std.proofs.lemmas.Bool.Decides.{nat_tests}
@@ -10,14 +10,14 @@ use Rattle.pw_value.specs.declared.value.Value.{Value}
 use Rattle.pw_value.specs.declared.value.Value.TheVariants.{Undefined, Num, Null, At, Piece}
 use Rattle.pw_value.specs.declared.value.Byte.{Byte}
 use Rattle.pw_value.specs.declared.value.Byte.TheVariants as B
-use Rattle.pw_value.specs.declared.value.Pointer.{Pointer}
 use Rattle.pw_value.specs.declared.value.Pointer.TheVariants as P
 use Rattle.pw_value.specs.Objects.{Object, object_at, bytes_from, written}
 use Rattle.pw_value.specs.Values.{number_bytes, encoding}
-use Rattle.pw_flow.specs.declared.flow.FlowGlobal.{FlowGlobal}
 use Rattle.pw_flow.specs.declared.flow.Op.TheVariants as op
 use Rattle.pw_flow.specs.ValidFlow.{kind_size}
+use Rattle.pw_db.specs.declared.database.Web.{Web}
 use Rattle.pw_alloc.specs.declared.located.Place.{Place}
+use Rattle.pw_alloc.specs.declared.located.Place.TheVariants.{Reg}
 use Rattle.pw_alloc.specs.declared.located.Located.{Located}
 use Rattle.pw_inst.specs.Computing.{extracted, sign_extended}
 use Rattle.pw_inst.specs.Registers.{first, second}
@@ -29,7 +29,7 @@ use Rattle.pw_webflow.specs.declared.web.WebOp.{WebOp}
 use Rattle.pw_webflow.specs.declared.web.WebOp.TheVariants.{Flow, Read, Write}
 use Rattle.pw_run.specs.Runs.{AreAlike}
 use Rattle.pw_run_languages.specs.Traces.{Event, Loaded, Stored, EventAlike}
-use Rattle.pw_run_languages.specs.Programs.{Program, globals_of, global_number}
+use Rattle.pw_run_languages.specs.Programs.{Program, global_number}
 use Rattle.pw_run_languages.specs.Memory.{is_open, look_in, poke_in, look, poke, scalar_of, may_stand, is_of_kind}
 use Rattle.pw_run_languages.specs.FlowRun.{is_own_kind, get_global, put_global}
 use Rattle.pw_run_languages.specs.Commands.{command}
@@ -43,11 +43,12 @@ use Rattle.pw_run_languages.specs.Direction.{with_functions}
 use Rattle.pw_run_languages.specs.SelectionLaws.{line_program}
 use Rattle.pw_select_lines.specs.Registers.{place_of, operand_register, operand_lines, result_register, load_scalar, store_scalar, sign_spread, read_global, write_global}
 use Rattle.pw_select_lines.specs.Operations.{web_op_lines}
+use Rattle.pw_select.specs.Selection.{loaded_web, stored_back}
 use Rattle.pw_law_select_memory.specs.Numbers.{OtherBytesStay, NumbersAreBounded, BytesStayBytes, HoldsBytes}
 use Rattle.pw_law_select_memory.specs.Stand.{BytesStand, word_of_kind, StoredValuesStand, LoadedValuesStand, PartsStand}
 use Rattle.pw_law_select_rows.specs.Straight.{words_of}
 use Rattle.pw_law_select_rows.specs.Places.{place_word}
-use Rattle.pw_law_select_rows.specs.Results.{IsSteady, Gets}
+use Rattle.pw_law_select_rows.specs.Results.{IsSteady, GoThrough, Gets}
 use Rattle.pw_law_select_rows.specs.Scalars.{ScalarsAreLoaded, ScalarsAreStored, GlobalsAreRead, GlobalsAreWritten, StoresTakeOne, StoresTakeTwo, LoadNotes, StoreNotes, StoresScalar}
 use Rattle.pw_law_select_states.specs.Laid.{address, Lives, size_of, AreLaid}
 use Rattle.pw_law_select_states.specs.States.{Stands}
@@ -55,11 +56,13 @@ use Rattle.pw_law_select_states.specs.Passes.{OnlyValues, Follows}
 use Rattle.pw_law_select_places.specs.Places.{StandsThen}
 use Rattle.pw_law_select_places.specs.Objects.{AreWritten}
 use Rattle.pw_law_select_ops.specs.Operations.{layout_of, StandAt, NamesGlobal, GoesByPointer, OperationFollows}
+use Rattle.pw_law_select_ops.specs.Webs.{StandAtWeb, WebFollows, WebLoadsFollow, WebStoresFollow}
 use Rattle.pw_law_select_ops.proofs.Naming.{IsGlobalAt, global_at, named_site}
 use Rattle.pw_law_select_ops.proofs.Values.{near_is}
 use Rattle.pw_law_select_ops.proofs.Noting.{eligible_in, eligible_same, pointer_load_notes, pointer_store_notes, named_load_notes, named_store_notes}
-use Rattle.pw_law_select_ops.proofs.Straightness.{AreStraight, joined_straight, none_straight, one_straight, operand_straight, spread_straight, scalar_load_straight, scalar_store_straight, read_straight, write_straight}
-use Rattle.pw_law_select_ops.proofs.Following.{Laws, register_of_place, put_at, values_put, trace_put, same_machine, given, target_of, source_of, straight_follow, result_follows, place_at}
+use Rattle.pw_law_select_ops.proofs.Straightness.{joined_straight, none_straight, one_straight, operand_straight, spread_straight, scalar_load_straight, scalar_store_straight, read_straight, write_straight}
+use Rattle.pw_law_select_ops.proofs.Following.{Laws, register_of_place, put_at, values_put, trace_put, same_machine, given, target_of, source_of, straight_reaches, straight_follow, result_follows, place_at}
+use Rattle.pw_law_select_ops.proofs.Targets.{TargetsAre, words_keep, read_keeps, write_keeps}
 
 -- ---- laws of memory
 
@@ -537,6 +540,121 @@ module _ (laws : Laws) (more_laws : ScalarLaws) (p : Program) (functions : List 
           (noted_then el (Stored g) reached puts.core stands_then)
           (noted_values el (Stored g) reached (record { frame = refl; callers = refl; rest = refl; read = refl; out = refl; events = refl }))
           (λ alike. noted_alike (Stored g) (Stored g) el s reached l.trace same (record { objects = site; globals = at.stands.laid.named; alike = EventAlike.stored g }) alike))
+
+  -- ---- webs
+
+  abbrev entered_by : Web → Option Value → placed.Step
+  entered_by x (Some z) =
+      placed.On (placed.noted_if (placed.is_eligible (with_functions p functions) x.global) (Loaded x.global) (record m { registers = placed.with_register x.reg z m.registers }))
+  entered_by x None = placed.Astray
+
+  abbrev stored_row : Web → Bool → List Line
+  stored_row x t = if t then write_global x.global x.kind x.reg else []
+
+  abbrev DoneWeb : Web → placed.Machine → Type 0
+  DoneWeb x n = WebFollows p program w scratch site x m n l (slotted more)
+
+  web_load_follows : (targets : TargetsAre) (x : Web) → StandAtWeb p functions w site (loaded_web x) x m l before more → placed.enters (with_functions p functions) x m ≡ placed.On n → DoneWeb x n
+  web_load_follows targets x at is = by_value (get_global p x.global x.kind m.objects) refl is
+    where
+      by_value : (o : Option Value) → get_global p x.global x.kind m.objects ≡ o → entered_by x o ≡ placed.On n → DoneWeb x n
+      by_value None is goes = absurd cc
+      by_value (Some z) is goes =
+          let g = x.global in
+          let k = x.kind in
+          let el = placed.is_eligible (with_functions p functions) g in
+          let r = got g k z is in
+          let here = named_access g k r.object at.stands r.number r.look.access in
+          let s = eligible_in program here.at.global in
+          let same : s ≡ el = eligible_same p functions here.at.global ∙ ap (placed.is_eligible (with_functions p functions)) here.at.name in
+          let log : List (Event ℕ ℕ) = if s then Loaded g ∷ [] else [] in
+          let value = word_of_kind k (number_at (kind_size k) l.core.memory (w.named g)) in
+          let notes =
+          subst (λ (y : List ℕ). LoadNotes program w k (w.named y) (if s then Loaded y ∷ [] else [])) here.at.name
+          (named_load_notes p functions w site m.objects at.program at.stands.laid k r.object here.at.global here.at.there here.fits) in
+          let small = subst (λ (a : ℕ). a < 2 ^ 32) here.site_is (named_small r.object at.served.lawful at.stands here.live) in
+          let puts =
+          laws.none program w (Reg x.reg) value log l.core (read_global g k) at.temp
+          (more_laws.read program w g k x.reg log l.core (target_of program w l.core (Reg x.reg) at.temp) at.stands.goes small (named_opens g k r.object at.served.lawful at.stands r.look.access here.site_is) notes) in
+          let through = subst (λ (xs : List Line). GoThrough program w (words_of xs) l.core puts.core log) (append-nil (read_global g k x.reg)) puts.through in
+          let h =
+          subst (λ (a : ℕ). ValueStands (address p w site) z (word_of_kind k (number_at (kind_size k) l.core.memory a))) (behind_none (site r.object) (w.named g) here.site_is)
+          (loaded_stands k r.object 0 z at.served.lawful at.stands r.look) in
+          let reached = record m { registers = placed.with_register x.reg z m.registers } in
+          let stands_then = laws.webs program w site m l.core puts.core x.reg value z at.served at.stands at.temp at.has h (loaded_small k (w.named g) at.stands) puts.placed in
+          let done =
+          straight_reaches laws p functions w scratch site m (placed.noted_if el (Loaded g) reached) l before (loaded_web x) more puts.core log (read_straight g k x.reg) at.left at.items through
+          (noted_then el (Loaded g) reached puts.core stands_then)
+          (noted_values el (Loaded g) reached (record { frame = refl; callers = refl; rest = refl; read = refl; out = refl; events = refl }))
+          (λ alike. noted_alike (Loaded g) (Loaded g) el s reached l.trace same (record { objects = site; globals = at.stands.laid.named; alike = EventAlike.loaded g }) alike) in
+          subst (λ (n : placed.Machine). DoneWeb x n) (same_machine (placed.noted_if el (Loaded g) reached) n goes)
+          (record {
+            follows = done.follows;
+            registers = λ r one two. ap (λ (c : Core). register c r) done.core ∙ words_keep targets w r (words_of (read_global g k x.reg)) l.core puts.core (read_keeps g k x.reg r one two) through.acts;
+          })
+
+  web_store_follows : (targets : TargetsAre) (x : Web) → StandAtWeb p functions w site (stored_back x) x m l before more → placed.leaves (with_functions p functions) x m ≡ placed.On n → DoneWeb x n
+  web_store_follows targets x at is = by_writes x.writes refl is
+    where
+      by_put : l.frame.left ≡ slotted (write_global x.global x.kind x.reg ++ more)
+          → (o : Option (List Object)) → put_global p x.global x.kind (m.registers x.reg) m.objects ≡ o → stored_by x.global o ≡ placed.On n → DoneWeb x n
+      by_put left None is goes = absurd cc
+      by_put left (Some after) is goes =
+          let g = x.global in
+          let k = x.kind in
+          let v = m.registers x.reg in
+          let el = placed.is_eligible (with_functions p functions) g in
+          let r = put_is g k v after is in
+          let here = named_access g k r.object at.stands r.number r.poke.access in
+          let s = eligible_in program here.at.global in
+          let same : s ≡ el = eligible_same p functions here.at.global ∙ ap (placed.is_eligible (with_functions p functions)) here.at.name in
+          let log : List (Event ℕ ℕ) = if s then Stored g ∷ [] else [] in
+          let y = register l.core x.reg in
+          let notes =
+          subst (λ (z : List ℕ). StoreNotes program w k (w.named z) (if s then Stored z ∷ [] else [])) here.at.name
+          (named_store_notes p functions w site m.objects at.program at.stands.laid k r.object here.at.global here.at.there here.fits) in
+          let small = subst (λ (a : ℕ). a < 2 ^ 32) here.site_is (named_small r.object at.served.lawful at.stands here.live) in
+          let low = at.temp.low in
+          let puts =
+          more_laws.write program w g k x.reg log l.core (λ e. omega (arith, low, e)) at.stands.goes small (named_opens g k r.object at.served.lawful at.stands r.poke.access here.site_is) notes in
+          let new = encoding v (kind_size k) in
+          let reached = record m { objects = written r.object 0 new m.objects } in
+          let memory = puts.memory ∙ ap (λ (b : ℕ). with_number (kind_size k) y b l.core.memory) (sym (behind_none (site r.object) (w.named g) here.site_is)) in
+          let stands_then =
+          laws.objects program w site m l.core puts.core r.object 0 new at.served at.stands r.poke.access.live (fits_within k r.object 0 v r.poke.may r.poke.access.within)
+          (stored_are_written k r.object 0 y v puts.core at.stands r.poke.may (at.stands.registers x.reg at.temp) puts.steady memory puts.skip) in
+          let goes_on : placed.noted_if el (Stored g) reached ≡ n =
+          ap (λ (os : List Object). placed.noted_if el (Stored g) (record m { objects = os })) r.poke.is ∙ same_machine (placed.noted_if el (Stored g) (record m { objects = after })) n goes in
+          let done =
+          straight_reaches laws p functions w scratch site m (placed.noted_if el (Stored g) reached) l before (write_global g k x.reg) more puts.core log (write_straight g k x.reg) left at.items puts.through
+          (noted_then el (Stored g) reached puts.core stands_then)
+          (noted_values el (Stored g) reached (record { frame = refl; callers = refl; rest = refl; read = refl; out = refl; events = refl }))
+          (λ alike. noted_alike (Stored g) (Stored g) el s reached l.trace same (record { objects = site; globals = at.stands.laid.named; alike = EventAlike.stored g }) alike) in
+          subst (λ (n : placed.Machine). DoneWeb x n) goes_on
+          (record {
+            follows = done.follows;
+            registers = λ r one two. ap (λ (c : Core). register c r) done.core ∙ words_keep targets w r (words_of (write_global g k x.reg)) l.core puts.core (write_keeps g k x.reg r one) puts.through.acts;
+          })
+
+      by_writes : (t : Bool) → x.writes ≡ t
+          → (if t then placed.stores_global (with_functions p functions) x.global x.kind (m.registers x.reg) m else placed.On m) ≡ placed.On n → DoneWeb x n
+      by_writes true e goes =
+          by_put (at.left ∙ ap (λ (t : Bool). slotted (stored_row x t ++ more)) e) (put_global p x.global x.kind (m.registers x.reg) m.objects) refl goes
+      by_writes false e goes =
+          let done =
+          straight_reaches laws p functions w scratch site m m l before [] more l.core [] tt (at.left ∙ ap (λ (t : Bool). slotted (stored_row x t ++ more)) e) at.items
+          (record { acts = refl; notes = λ log. refl })
+          (record { stands = at.stands; leaves = record { top = refl; memory = λ a out. refl; registers = λ r none. refl } })
+          (record { frame = refl; callers = refl; rest = refl; read = refl; out = refl; events = refl }) (λ alike. alike) in
+          subst (λ (n : placed.Machine). DoneWeb x n) (same_machine m n goes) (record { follows = done.follows; registers = λ r one two. ap (λ (c : Core). register c r) done.core })
+
+pub web_loads_follow : TargetsAre → Laws → ScalarLaws → WebLoadsFollow
+web_loads_follow targets laws more_laws p functions w scratch site m n l before more x at is =
+    web_load_follows laws more_laws p functions w scratch site m n l before more targets x at is
+
+pub web_stores_follow : TargetsAre → Laws → ScalarLaws → WebStoresFollow
+web_stores_follow targets laws more_laws p functions w scratch site m n l before more x at is =
+    web_store_follows laws more_laws p functions w scratch site m n l before more targets x at is
 
 pub named_globals_follow : Laws → ScalarLaws → (o : WebOp) → NamesGlobal o → OperationFollows o
 named_globals_follow laws more_laws (Flow (op.LoadG t g k)) h p functions w scratch site m n l before more at is =

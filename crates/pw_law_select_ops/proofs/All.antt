@@ -1,5 +1,5 @@
 -- All operations that call no function.
-use Rattle.std.proofs.Common.{ℕ, ◌≡◌, refl, Bool, true, false, true≢false, Option, Some, None}
+use Rattle.std.proofs.Common.{ℕ, ◌≡◌, refl, false, true≢false, Option, Some, None}
 use Rattle.pw_flow.specs.declared.flow.Op.TheVariants as op
 use Rattle.pw_flow.specs.declared.flow.BinKind.{BinKind}
 use Rattle.pw_webflow.specs.declared.web.WebOp.{WebOp}

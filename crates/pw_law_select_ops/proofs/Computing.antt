@@ -1,5 +1,5 @@
 -- Operations that make a value without a routine.
-use Rattle.std.proofs.Common.{ℕ, zero, suc, ℤ, pos, ◌≡◌, ◌≢◌, ◌+◌, ◌%◌, ◌^◌, ◌<◌, ◌≤◌, refl, ap, sym, subst, ◌∙◌, arith, false, Option, Some, None, option_map, unwrap_or, List, [], ◌∷◌, ◌++◌, append-nil, map, length, slice_get, slice_index_or, Contains}
+use Rattle.std.proofs.Common.{ℕ, zero, suc, ℤ, pos, ◌≡◌, ◌+◌, ◌%◌, ◌^◌, ◌<◌, refl, ap, sym, subst, ◌∙◌, arith, Option, Some, None, option_map, unwrap_or, List, [], ◌∷◌, ◌++◌, append-nil, map, length, slice_get, slice_index_or, Contains}
 use Rattle.std.specs.List.{AllByRecursion}
 use Rattle.std.specs.Int.{w32, cast_unsigned}
 use Rattle.pw_value.specs.declared.value.Value.{Value}
@@ -9,13 +9,13 @@ use Rattle.pw_value.specs.declared.value.Pointer.TheVariants as P
 use Rattle.pw_value.specs.Rounding.{slot_room}
 use Rattle.pw_db.specs.declared.database.Web.{Web}
 use Rattle.pw_db.specs.declared.database.Role.{Role}
-use Rattle.pw_db.specs.Database.{IsWeb, webs_of}
+use Rattle.pw_db.specs.Database.{IsWeb}
 use Rattle.pw_flow.specs.declared.flow.UnKind.{UnKind}
 use Rattle.pw_flow.specs.declared.flow.BinKind.{BinKind}
 use Rattle.pw_flow.specs.declared.flow.ExtKind.{ExtKind}
 use Rattle.pw_flow.specs.declared.flow.Op.TheVariants as op
 use Rattle.pw_alloc.specs.declared.located.Place.{Place}
-use Rattle.pw_alloc.specs.declared.located.Place.TheVariants.{Slot, Reg}
+use Rattle.pw_alloc.specs.declared.located.Place.TheVariants.{Reg}
 use Rattle.pw_alloc.specs.declared.located.Located.{Located}
 use Rattle.pw_alloc.specs.Frames.{head_size, slots_begin, below, reaches_from}
 use Rattle.pw_alloc.specs.Allocation.{in_frame}
@@ -27,13 +27,12 @@ use Rattle.pw_delay.specs.declared.items.Item.{Item}
 use Rattle.pw_delay.specs.Items.{slotted}
 use Rattle.pw_webflow.specs.declared.web.WebOp.{WebOp}
 use Rattle.pw_webflow.specs.declared.web.WebOp.TheVariants.{Flow, Read, Write}
-use Rattle.pw_webflow.specs.ValidWebs.{HasRegister}
 use Rattle.pw_run_languages.specs.Values.{unary, extension, on_numbers, binary}
-use Rattle.pw_run_languages.specs.Programs.{Program, names_of, globals_of, global_number, pointer_to, function_number, function_at}
+use Rattle.pw_run_languages.specs.Programs.{Program, names_of, globals_of, global_number, pointer_to, function_number}
 use Rattle.pw_run_languages.specs.LawfulPrograms.{IsGlobalName}
 use Rattle.pw_run_languages.specs.Commands.{give, command}
 use Rattle.pw_run_languages.specs.Addresses.{Addresses}
-use Rattle.pw_run_languages.specs.Acts.{Core, register}
+use Rattle.pw_run_languages.specs.Acts.{register}
 use Rattle.pw_run_languages.specs.Standing.{ValueStands, GlobalsAreNamed}
 use Rattle.pw_run_languages.specs.LineRun.{LineProgram, Machine}
 use Rattle.pw_run_languages.specs.PlacedRun as placed
@@ -41,13 +40,13 @@ use Rattle.pw_run_languages.specs.Serving.{IsTempRegister}
 use Rattle.pw_run_languages.specs.Direction.{with_functions}
 use Rattle.pw_run_languages.specs.SelectionLaws.{line_program}
 use Rattle.pw_select_lines.specs.Registers.{word, copied, constant, address_of, frame_address, place_of, operand_register, operand_lines, result_register}
-use Rattle.pw_select_lines.specs.Arithmetic.{unary_word, extension_word, binary_lines, routine_of, with_one, with_two, binary_by}
+use Rattle.pw_select_lines.specs.Arithmetic.{unary_word, extension_word, binary_lines, routine_of, with_two, binary_by}
 use Rattle.pw_select_lines.specs.Operations.{web_op_lines}
 use Rattle.pw_select.specs.Selection.{slot_offsets}
 use Rattle.pw_law_select_rows.specs.Straight.{words_of}
 use Rattle.pw_law_select_rows.specs.Frames.{frame_word}
 use Rattle.pw_law_select_rows.specs.Places.{place_word}
-use Rattle.pw_law_select_rows.specs.Results.{GoThrough, Keeps, Gets, IsPlaced, PlacesWord}
+use Rattle.pw_law_select_rows.specs.Results.{GoThrough, Gets, PlacesWord}
 use Rattle.pw_law_select_states.specs.Pointers.{ValueIsKnown}
 use Rattle.pw_law_select_states.specs.Laid.{address}
 use Rattle.pw_law_select_states.specs.Passes.{Follows}

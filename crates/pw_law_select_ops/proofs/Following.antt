@@ -1,13 +1,12 @@
 -- What is common to the operations: the laws that they rest on, and lines that follow the placed run.
-use Rattle.std.proofs.Common.{ℕ, ◌≡◌, ◌≢◌, ◌+◌, ◌^◌, ◌<◌, refl, ap, sym, subst, ◌∙◌, arith, false, Option, Some, None, List, [], ◌∷◌, ◌++◌, map, append_assoc, slice_get, slice_set}
+use Rattle.std.proofs.Common.{ℕ, ◌≡◌, ◌^◌, ◌<◌, refl, ap, sym, subst, ◌∙◌, arith, Option, Some, None, List, [], ◌++◌, map, append_assoc, slice_get, slice_set}
 use Rattle.pw_value.specs.declared.value.Value.{Value}
 use Rattle.pw_value.specs.declared.value.Byte.{Byte}
 use Rattle.pw_alloc.specs.declared.located.Place.{Place}
 use Rattle.pw_alloc.specs.declared.located.Place.TheVariants.{Slot, Reg}
 use Rattle.pw_alloc.specs.declared.located.Located.{Located}
-use Rattle.pw_inst.specs.Registers.{help, first, second, result}
+use Rattle.pw_inst.specs.Registers.{first}
 use Rattle.pw_inst.specs.declared.line.Line.{Line}
-use Rattle.pw_delay.specs.declared.items.Word.{Word}
 use Rattle.pw_delay.specs.declared.items.Item.{Item}
 use Rattle.pw_delay.specs.declared.items.Item.TheVariants.{Plain}
 use Rattle.pw_delay.specs.Items.{slotted}
@@ -24,10 +23,9 @@ use Rattle.pw_run_languages.specs.SelectionLaws.{line_program}
 use Rattle.pw_select_lines.specs.Registers.{place_of, operand_register, result_register}
 use Rattle.pw_select_lines.specs.Operations.{web_op_lines}
 use Rattle.pw_law_select_rows.specs.Straight.{words_of, StraightLinesAreWords}
-use Rattle.pw_law_select_rows.specs.Results.{GoThrough, IsPlace, IsPlaced, PlacesWord, ResultsArePlaced, OneOperandIsTaken, TwoOperandsAreTaken}
+use Rattle.pw_law_select_rows.specs.Results.{GoThrough, IsPlace, PlacesWord, ResultsArePlaced, OneOperandIsTaken, TwoOperandsAreTaken}
 use Rattle.pw_law_select_rows.specs.Computing.{IsSource, IsTarget, UnariesAreComputed, ExtensionsAreComputed, BinariesAreComputed, CopiesAreMade, ConstantsAreGot, AddressesAreGot, FrameAddressesAreGot}
 use Rattle.pw_law_select_states.specs.Laid.{address}
-use Rattle.pw_law_select_states.specs.States.{Stands}
 use Rattle.pw_law_select_states.specs.Passes.{Passes, further, OnlyValues, Follows}
 use Rattle.pw_law_select_places.specs.Places.{HasPlace, StandsThen, TemporariesHavePlaces, ResultsStand, WebRegistersStand, PointersAreWords}
 use Rattle.pw_law_select_places.specs.Objects.{WrittenObjectsStand}
@@ -114,20 +112,35 @@ module _ (laws : Laws) (p : Program) (functions : List Located) (w : Addresses) 
   program = line_program p functions
 
   -- straight lines behind which another state stands
+  pub record StraightFollows (m n : placed.Machine) (l : Machine) (rest : List Item) (e : Core) : Type 0 where
+    pub follows : Follows p program w scratch site m n l rest
+    pub core : follows.core ≡ e
+
+  pub straight_reaches : (m n : placed.Machine) (l : Machine) (before : List Item) (xs more : List Line) (e : Core) (log : List (Event ℕ ℕ)) → AreStraight xs
+      → l.frame.left ≡ slotted (xs ++ more) → l.frame.function.items ≡ before ++ l.frame.left → GoThrough program w (words_of xs) l.core e log
+      → StandsThen program w site m n l.core e → OnlyValues m n
+      → (AreAlike (EventInWords p w.named) m.trace l.trace → AreAlike (EventInWords p w.named) n.trace (log ++ l.trace))
+      → StraightFollows m n l (slotted more) e
+  straight_reaches m n l before xs more e log straight left items g reached values logs = record {
+    follows = record {
+      values = values;
+      core = e;
+      log = log;
+      passes = laws.straight program w scratch (words_of xs) before (slotted more) e log l (left ∙ laws.lines xs more straight) items g;
+      stands = reached.stands;
+      leaves = reached.leaves;
+      logs = logs;
+    };
+    core = refl;
+  }
+
   pub straight_follow : (m n : placed.Machine) (l : Machine) (before : List Item) (xs more : List Line) (e : Core) (log : List (Event ℕ ℕ)) → AreStraight xs
       → l.frame.left ≡ slotted (xs ++ more) → l.frame.function.items ≡ before ++ l.frame.left → GoThrough program w (words_of xs) l.core e log
       → StandsThen program w site m n l.core e → OnlyValues m n
       → (AreAlike (EventInWords p w.named) m.trace l.trace → AreAlike (EventInWords p w.named) n.trace (log ++ l.trace))
       → Follows p program w scratch site m n l (slotted more)
-  straight_follow m n l before xs more e log straight left items g reached values logs = record {
-    values = values;
-    core = e;
-    log = log;
-    passes = laws.straight program w scratch (words_of xs) before (slotted more) e log l (left ∙ laws.lines xs more straight) items g;
-    stands = reached.stands;
-    leaves = reached.leaves;
-    logs = logs;
-  }
+  straight_follow m n l before xs more e log straight left items g reached values logs =
+      (straight_reaches m n l before xs more e log straight left items g reached values logs).follows
 
   -- and lines that put a word for a value into the place of a temporary, and note nothing
   pub result_follows : (o : WebOp) (m n : placed.Machine) (l : Machine) (before : List Item) (more : List Line) (t x : ℕ) (v : Value) → StandAt p functions w site o m l before more

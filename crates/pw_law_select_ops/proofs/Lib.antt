@@ -4,6 +4,7 @@ pub mod Straightness
 pub mod Following
 pub mod Computing
 pub mod Noting
+pub mod Targets
 pub mod Accessing
 pub mod Routines
 pub mod Moving

@@ -1,12 +1,10 @@
 -- Copies of bytes: a loop over units.
-use Rattle.std.proofs.Common.{ℕ, zero, suc, ℤ, pos, neg_ℤ, ◌≡◌, ◌≢◌, ◌+◌, ◌-◌, ◌*◌, ◌/◌, ◌%◌, ◌^◌, ◌<◌, ◌≤◌, ◌⊎◌, inl, inr, refl, ap, ap₂, sym, subst, ◌∙◌, arith, mod-eq_of_lt, add-zero, Bool, true, false, true≢false, not, ◌&&◌, nat_le, nat_lt, if◌then◌else◌, Option, Some, None, List, [], ◌∷◌, ◌++◌, append_assoc, map, length, drop, take, length-append}
+use Rattle.std.proofs.Common.{ℕ, zero, suc, pos, neg_ℤ, ◌≡◌, ◌≢◌, ◌+◌, ◌-◌, ◌*◌, ◌/◌, ◌%◌, ◌^◌, ◌<◌, ◌≤◌, ◌⊎◌, inl, inr, refl, ap, ap₂, sym, subst, ◌∙◌, arith, mod-eq_of_lt, add-zero, Bool, true, false, true≢false, not, ◌&&◌, nat_le, if◌then◌else◌, Option, Some, None, List, [], ◌∷◌, ◌++◌, append_assoc, map, length, drop, take, length-append}
 use lib.Arith.{digits_div, digits_mod}
 use Rattle.std.specs.Prelude.{◌==◌, ◌||◌}
 use Rattle.std.specs.List.{list_all}
 use Rattle.std.specs.Int.{w32, cast_signed}
 use Rattle.std.proofs.lemmas.Bool.{and_parts, eqb-true, ne_eqb, eq-eqb, le-leb, leb-true, cases_lt, cases_eq, or_parts}
-use Rattle.pw_value.specs.Limits.{memory_size, size_limit}
-use Rattle.pw_value.specs.declared.value.Kind.{Kind}
 use Rattle.pw_value.specs.declared.value.Value.{Value}
 use Rattle.pw_value.specs.declared.value.Value.TheVariants.{Undefined, Num, Null, At, Piece}
 use Rattle.pw_value.specs.declared.value.Byte.{Byte}
@@ -29,8 +27,6 @@ use Rattle.pw_delay.specs.declared.items.Item.TheVariants.{Plain, Turns}
 use Rattle.pw_delay.specs.Items.{bare, slotted}
 use Rattle.pw_webflow.specs.declared.web.WebOp.{WebOp}
 use Rattle.pw_webflow.specs.declared.web.WebOp.TheVariants.{Flow, Read, Write}
-use Rattle.pw_run.specs.Runs.{AreAlike}
-use Rattle.pw_run_languages.specs.Traces.{Event}
 use Rattle.pw_run_languages.specs.Programs.{Program}
 use Rattle.pw_run_languages.specs.LawfulPrograms.{IsProgram}
 use Rattle.pw_run_languages.specs.Memory.{is_open, is_apart, copy_in, copy}
@@ -44,25 +40,25 @@ use Rattle.pw_run_languages.specs.PlacedRun as placed
 use Rattle.pw_run_languages.specs.Direction.{with_functions}
 use Rattle.pw_run_languages.specs.SelectionLaws.{line_program}
 use Rattle.pw_select_lines.specs.Registers.{word, place_of, loaded, is_near, long_constant, constant}
-use Rattle.pw_select_lines.specs.Operations.{web_op_lines, unit_loop}
+use Rattle.pw_select_lines.specs.Operations.{unit_loop}
 use Rattle.pw_law_select_memory.specs.Numbers.{HoldsBytes, StoredNumbersAreRead, OtherBytesStay, NumbersAreBounded, BytesStayBytes}
 use Rattle.pw_law_select_memory.specs.Stand.{BytesStand, PartsStand}
 use Rattle.pw_law_select_rows.specs.Straight.{words_of}
-use Rattle.pw_law_select_rows.specs.Making.{Makes, ConstantsAreMade}
+use Rattle.pw_law_select_rows.specs.Making.{ConstantsAreMade}
 use Rattle.pw_law_select_rows.specs.Places.{place_word, TemporariesAreLoaded}
 use Rattle.pw_law_select_rows.specs.Results.{GoThrough, IsSteady, Keeps}
 use Rattle.pw_law_select_rows.specs.Scalars.{LoadNotes, StoreNotes}
-use Rattle.pw_law_select_rows.specs.Units.{unit_kind, unit_body, IsAtUnit, CopiesUnit, UnitsAreCopied}
-use Rattle.pw_law_select_states.specs.Laid.{address, Lives, size_of, AreLaid}
+use Rattle.pw_law_select_rows.specs.Units.{unit_kind, unit_body, UnitsAreCopied}
+use Rattle.pw_law_select_states.specs.Laid.{address, size_of, AreLaid}
 use Rattle.pw_law_select_states.specs.Passes.{IsAmid, further, Passes, Follows}
 use Rattle.pw_law_select_places.specs.Objects.{AreWritten}
-use Rattle.pw_law_select_ops.specs.Operations.{layout_of, StandAt, CopiesBytes, OperationFollows}
+use Rattle.pw_law_select_ops.specs.Operations.{StandAt, CopiesBytes, OperationFollows}
 use Rattle.pw_law_select_ops.proofs.Values.{near_is}
 use Rattle.pw_law_select_ops.proofs.Noting.{pointer_load_notes, pointer_store_notes}
-use Rattle.pw_law_select_ops.proofs.Straightness.{AreStraight, joined_straight, loaded_straight, constant_straight}
+use Rattle.pw_law_select_ops.proofs.Straightness.{AreStraight, loaded_straight, constant_straight}
 use Rattle.pw_law_select_ops.proofs.Following.{Laws, PassesTo, go_lines, and_go, same_machine, place_at}
 use Rattle.pw_law_select_ops.proofs.Accessing.{IsAccess, access_by, opens_at}
-use Rattle.pw_law_select_ops.proofs.Routines.{Comes, comes, steady_not, place_kept, place_word_kept, keeps_more}
+use Rattle.pw_law_select_ops.proofs.Routines.{comes, steady_not, place_kept, place_word_kept, keeps_more}
 
 -- ---- laws
 

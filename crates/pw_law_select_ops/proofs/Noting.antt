@@ -1,7 +1,7 @@
 -- What loads and stores note of the global objects.
-use Rattle.std.proofs.Common.{ℕ, zero, suc, ℤ, ◌≡◌, ◌≢◌, ◌+◌, ◌<◌, ◌≤◌, ◌⊎◌, inl, inr, refl, ap, ap₂, sym, subst, ◌∙◌, arith, Bool, true, false, true≢false, not, ◌&&◌, nat_lt, if◌then◌else◌, cond, Option, Some, None, List, [], ◌∷◌, ◌++◌, append-nil, map, length, slice_get, count_by}
+use Rattle.std.proofs.Common.{ℕ, zero, suc, ℤ, ◌≡◌, ◌≢◌, ◌+◌, ◌<◌, ◌≤◌, ◌⊎◌, inl, inr, refl, ap, ap₂, sym, ◌∙◌, arith, Bool, true, false, true≢false, not, ◌&&◌, nat_lt, if◌then◌else◌, cond, Option, Some, None, List, [], ◌∷◌, ◌++◌, append-nil, map, length, slice_get, count_by}
 use Rattle.std.specs.Prelude.{◌||◌, ◌==◌}
-use Rattle.std.specs.List.{AllByRecursion, flat_map, list_any, sum_by, position, position_or_len}
+use Rattle.std.specs.List.{AllByRecursion, flat_map, list_any, position_or_len}
 use Rattle.std.specs.Str.{bytes_eq}
 use Rattle.std.proofs.lemmas.Bool.{lt-ltb, le-ltb, cases_eq, eq-eqb}
 use Rattle.std.proofs.lemmas.List.Sums.{sum_by-cons}
@@ -19,7 +19,7 @@ use Rattle.pw_alloc.specs.declared.located.Located.{Located}
 use Rattle.pw_run_languages.specs.Traces.{Event, Loaded, Stored, touches}
 use Rattle.pw_run_languages.specs.Programs.{Program, names_of, globals_of, global_number}
 use Rattle.pw_run_languages.specs.LawfulPrograms.{IsProgram, eligible_names}
-use Rattle.pw_run_languages.specs.PlacedRun.{PlacedProgram, is_eligible, is_reserved}
+use Rattle.pw_run_languages.specs.PlacedRun.{is_eligible, is_reserved}
 use Rattle.pw_run_languages.specs.Direction.{with_functions}
 use Rattle.pw_run_languages.specs.SelectionLaws.{line_program}
 use Rattle.pw_run_languages.specs.Addresses.{Addresses}

@@ -1,18 +1,17 @@
 -- Operations that a routine does.
-use Rattle.std.proofs.Common.{ℕ, zero, suc, ℤ, ◌≡◌, ◌≢◌, ◌+◌, ◌*◌, ◌/◌, ◌%◌, ◌^◌, ◌<◌, ◌≤◌, ◌⊎◌, inl, inr, refl, ap, ap₂, sym, subst, ◌∙◌, arith, add-zero, Bool, true, false, ◌&&◌, nat_lt, if◌then◌else◌, Option, Some, None, List, [], ◌∷◌, ◌++◌, append_assoc, map, int_div, int_rem}
+use Rattle.std.proofs.Common.{ℕ, zero, suc, ℤ, ◌≡◌, ◌≢◌, ◌/◌, ◌%◌, ◌^◌, ◌<◌, ◌⊎◌, inl, inr, refl, ap, ap₂, sym, subst, ◌∙◌, arith, add-zero, Bool, true, false, if◌then◌else◌, Option, Some, None, List, [], ◌∷◌, ◌++◌, append_assoc, map, int_div, int_rem}
 use Rattle.std.specs.Prelude.{◌==◌, Result, Ok, Err}
-use Rattle.std.specs.Int.{w32, cast_signed, cast_unsigned}
-use Rattle.std.proofs.lemmas.Bool.{ne_eqb, eq-eqb, cases_lt}
+use Rattle.std.proofs.lemmas.Bool.{ne_eqb}
 use Rattle.pw_value.specs.declared.value.Value.{Value}
 use Rattle.pw_value.specs.declared.value.Value.TheVariants.{Num}
 use Rattle.pw_value.specs.declared.value.Byte.{Byte}
-use Rattle.pw_value.specs.Words.{signed, word, fits, exact, divided, unsigned_product, unsigned_quotient, unsigned_remainder, signed_quotient, signed_remainder}
+use Rattle.pw_value.specs.Words.{signed, word, fits, exact, divided, unsigned_product, unsigned_quotient, unsigned_remainder}
 use Rattle.pw_value.specs.declared.words.WordFault.{WordFault}
 use Rattle.pw_value.specs.declared.words.WordFault.TheVariants.{Overflow, ZeroDivisor}
 use Rattle.pw_flow.specs.declared.flow.BinKind.{BinKind}
 use Rattle.pw_flow.specs.declared.flow.BinKind.TheVariants as bin
 use Rattle.pw_flow.specs.declared.flow.Op.TheVariants as op
-use Rattle.pw_inst.specs.Registers.{help, routine_link}
+use Rattle.pw_inst.specs.Registers.{help}
 use Rattle.pw_inst.specs.Computing.{offset_by}
 use Rattle.pw_inst.specs.declared.line.Line.{Line}
 use Rattle.pw_inst.specs.declared.line.Line.TheVariants.{CallTo}
@@ -32,24 +31,22 @@ use Rattle.pw_run_languages.specs.Traces.{Event}
 use Rattle.pw_run_languages.specs.Values.{number_of, on_numbers}
 use Rattle.pw_run_languages.specs.Programs.{Program}
 use Rattle.pw_run_languages.specs.Addresses.{Addresses}
-use Rattle.pw_run_languages.specs.Acts.{Core, Acts, register, put, with_register, number_at, with_number}
+use Rattle.pw_run_languages.specs.Acts.{Core, register, put, with_register, number_at, with_number}
 use Rattle.pw_run_languages.specs.Standing.{EventInWords}
-use Rattle.pw_run_languages.specs.LineRun.{LineProgram, Machine, Step, On, Stopped, Astray, Frame, left_behind, linked, return_address, routine, result_of, of_signed, with_scratch, with_result, scratch_registers, step, steps}
+use Rattle.pw_run_languages.specs.LineRun.{LineProgram, Machine, On, Astray, left_behind, return_address, result_of, of_signed, with_scratch, with_result, scratch_registers, step, steps}
 use Rattle.pw_run_languages.specs.PlacedRun as placed
 use Rattle.pw_run_languages.specs.Direction.{with_functions}
 use Rattle.pw_run_languages.specs.SelectionLaws.{line_program}
-use Rattle.pw_select_lines.specs.Registers.{copied, loaded, place_of, result_register, result_lines}
-use Rattle.pw_select_lines.specs.Arithmetic.{routine_of, binary_by, by_routine, with_none, moved_unless_there}
-use Rattle.pw_select_lines.specs.Operations.{web_op_lines}
+use Rattle.pw_select_lines.specs.Registers.{copied, loaded, place_of, result_register}
+use Rattle.pw_select_lines.specs.Arithmetic.{routine_of, binary_by, with_none, moved_unless_there}
 use Rattle.pw_law_select_rows.specs.Straight.{words_of}
-use Rattle.pw_law_select_rows.specs.Frames.{IsFrameWord, LoadsWord}
+use Rattle.pw_law_select_rows.specs.Frames.{IsFrameWord}
 use Rattle.pw_law_select_rows.specs.Places.{place_word, IsInReach, TemporariesAreLoaded}
-use Rattle.pw_law_select_rows.specs.Results.{GoThrough, IsSteady, Keeps, Gets, IsPlace, IsPlaced, registers_with, memory_with, PlacesWord}
-use Rattle.pw_law_select_states.specs.Laid.{address}
+use Rattle.pw_law_select_rows.specs.Results.{GoThrough, IsSteady, Keeps, Gets, IsPlace, IsPlaced, registers_with, memory_with}
 use Rattle.pw_law_select_states.specs.Passes.{IsAmid, further, Passes, Follows}
-use Rattle.pw_law_select_ops.specs.Operations.{layout_of, StandAt, TakesRoutine, OperationFollows}
+use Rattle.pw_law_select_ops.specs.Operations.{StandAt, TakesRoutine, OperationFollows}
 use Rattle.pw_law_select_ops.proofs.Values.{same_number}
-use Rattle.pw_law_select_ops.proofs.Straightness.{joined_straight, loaded_straight, moved_straight, none_straight}
+use Rattle.pw_law_select_ops.proofs.Straightness.{loaded_straight, moved_straight, none_straight}
 use Rattle.pw_law_select_ops.proofs.Following.{Laws, PassesTo, go_lines, and_go, values_put, trace_put, target_of, place_at}
 use Rattle.pw_law_select_ops.proofs.Computing.{combined}
 

@@ -1,5 +1,5 @@
 -- The lines of operations that are straight.
-use Rattle.std.proofs.Common.{ℕ, ℤ, pos, ◌≡◌, Bool, true, false, Option, Some, None, List, [], ◌∷◌, ◌++◌}
+use Rattle.std.proofs.Common.{ℕ, ℤ, pos, Bool, true, false, List, [], ◌∷◌, ◌++◌}
 use Rattle.std.specs.Prelude.{◌==◌, if◌then◌else◌}
 use Rattle.std.specs.List.{AllByRecursion}
 use Rattle.std.specs.Int.{w32, cast_signed}
@@ -11,15 +11,13 @@ use Rattle.pw_flow.specs.declared.flow.BinKind.{BinKind}
 use Rattle.pw_flow.specs.declared.flow.BinKind.TheVariants as bin
 use Rattle.pw_flow.specs.declared.flow.ExtKind.{ExtKind}
 use Rattle.pw_flow.specs.declared.flow.ExtKind.TheVariants as ext
-use Rattle.pw_inst.specs.declared.Inst.{Inst}
 use Rattle.pw_inst.specs.declared.Inst.TheVariants as i
 use Rattle.pw_inst.specs.Registers.{help, second, first, stack_pointer}
 use Rattle.pw_inst.specs.declared.line.Line.{Line}
-use Rattle.pw_inst.specs.declared.relocation.Symbol.{Symbol}
 use Rattle.pw_alloc.specs.declared.located.Place.{Place}
 use Rattle.pw_alloc.specs.declared.located.Place.TheVariants.{Slot, Reg}
-use Rattle.pw_select_lines.specs.Registers.{Reach, word, copied, as_word, is_near, long_constant, constant, address_of, load_from, store_to, frame_address, operand_register, operand_lines, loaded, result_register, result_lines, load_scalar, store_scalar, sign_spread, read_global, write_global}
-use Rattle.pw_select_lines.specs.Arithmetic.{unary_word, compared, binary_lines, extension_word, with_none, with_one, with_two, moved_unless_there}
+use Rattle.pw_select_lines.specs.Registers.{Reach, word, copied, as_word, is_near, long_constant, constant, load_from, store_to, frame_address, operand_register, operand_lines, loaded, result_register, result_lines, load_scalar, store_scalar, sign_spread, read_global, write_global}
+use Rattle.pw_select_lines.specs.Arithmetic.{unary_word, binary_lines, extension_word, with_none, with_one, with_two, moved_unless_there}
 use Rattle.pw_law_select_rows.specs.Straight.{IsStraight}
 
 abbrev pub AreStraight : List Line → Type 0

@@ -1,11 +1,10 @@
 -- What operations make of values, and what the machine makes of the words that stand for them.
-use Rattle.std.proofs.Common.{ℕ, zero, suc, ◌≡◌, ◌≢◌, ◌+◌, ◌-◌, ◌*◌, ◌/◌, ◌%◌, ◌^◌, ◌<◌, ◌≤◌, ◌⊎◌, inl, inr, refl, ap, ap₂, sym, subst, ◌∙◌, arith, mod-eq_of_lt, div-le_self, Bool, true, false, true≢false, not, ◌&&◌, nat_lt, nat_le, if◌then◌else◌, bit_and, bit_or, bit_xor, Option, Some, None, option_map, unwrap_or, List, [], ◌∷◌, length}
+use Rattle.std.proofs.Common.{ℕ, zero, suc, ◌≡◌, ◌≢◌, ◌+◌, ◌*◌, ◌/◌, ◌%◌, ◌^◌, ◌<◌, ◌≤◌, ◌⊎◌, inl, inr, refl, ap, ap₂, sym, subst, ◌∙◌, arith, mod-eq_of_lt, div-le_self, Bool, true, false, not, ◌&&◌, nat_lt, nat_le, if◌then◌else◌, bit_and, bit_or, bit_xor, Option, Some, None, option_map, unwrap_or, List, length}
 use Rattle.std.specs.Prelude.{◌==◌, Result, Ok, Err}
-use Rattle.std.proofs.lemmas.Bool.{and_parts, eqb-true, eqb-false, eq-eqb, ne_eqb, lt-ltb, le-ltb, le-leb, lt-leb, leb-true, cases_eq, cases_lt}
+use Rattle.std.proofs.lemmas.Bool.{and_parts, eqb-true, eq-eqb, ne_eqb, lt-ltb, le-ltb, le-leb, lt-leb, leb-true, cases_eq, cases_lt}
 use Rattle.std.proofs.lemmas.Bool.Decides.{nat_tests}
 use Rattle.std.proofs.lemmas.Nat.{or_of_32, xor_of_32, and_le_l}
 use Rattle.std.proofs.Math.Nat.{mod-le}
-use Rattle.pw_value.specs.Limits.{memory_size, text_start}
 use Rattle.pw_value.specs.declared.value.Value.{Value}
 use Rattle.pw_value.specs.declared.value.Value.TheVariants.{Undefined, Num, Null, At, Piece}
 use Rattle.pw_value.specs.declared.value.Pointer.{Pointer}
@@ -22,7 +21,7 @@ use Rattle.pw_flow.specs.declared.flow.BinKind.TheVariants as bin
 use Rattle.pw_flow.specs.declared.flow.ExtKind.{ExtKind}
 use Rattle.pw_flow.specs.declared.flow.ExtKind.TheVariants as ext
 use Rattle.pw_run_languages.specs.Values.{truth, unary, extension, number_of, on_numbers, is_near, same_place, is_somewhere, on_pointers, pointer_and_number, number_and_pointer, binary}
-use Rattle.pw_run_languages.specs.Programs.{Program, function_at, function_number, names_of}
+use Rattle.pw_run_languages.specs.Programs.{Program, function_at, function_number}
 use Rattle.pw_run_languages.specs.Addresses.{Addresses, AreLawful}
 use Rattle.pw_run_languages.specs.Standing.{ValueStands}
 use Rattle.pw_law_select_states.specs.Pointers.{IsKnown, ValueIsKnown}

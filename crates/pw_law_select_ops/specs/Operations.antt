@@ -1,6 +1,5 @@
 -- The lines of an operation do what the placed run does.
 use Rattle.std.specs.Prelude.{ℕ, ◌≡◌, false, Some, None, List, ◌++◌}
-use Rattle.pw_flow.specs.declared.flow.Op.{Op}
 use Rattle.pw_flow.specs.declared.flow.Op.TheVariants as op
 use Rattle.pw_inst.specs.declared.line.Line.{Line}
 use Rattle.pw_webflow.specs.declared.web.WebOp.{WebOp}

@@ -3,7 +3,9 @@
 #![tactic(auto)]
 
 ghost use Rattle.pw_law_select_ops.specs.Operations.{ComputationsFollow, RoutinesFollow, NamedGlobalsFollow, AccessesFollow, CopiesFollow, OperationsFollow};
+ghost use Rattle.pw_law_select_ops.specs.Webs.{WebLoadsFollow, WebStoresFollow};
 
+use pw_inst::actions_go_by_registers;
 use pw_law_select_memory::{bytes_stand, numbers_are_stored, scalars_stand};
 use pw_law_select_places::{objects_stand, places_stand, rows_pass};
 use pw_law_select_rows::{
@@ -31,6 +33,27 @@ pub fn computations_do()
 pub fn globals_do()
     ensures { NamedGlobalsFollow }
 {
+    results_are_words();
+    straight_words_run();
+    results_are_placed();
+    rows_compute();
+    registers_get_words();
+    places_stand();
+    objects_stand();
+    rows_pass();
+    numbers_are_stored();
+    scalars_stand();
+    bytes_stand();
+    scalars_move();
+}
+
+/// A web that a function enters is loaded, and where it writes stored back: the same is noted, and nothing else; of registers that
+/// of addresses and that of the web alone change.
+pub fn webs_do()
+    ensures loaded { WebLoadsFollow }
+    ensures stored { WebStoresFollow }
+{
+    actions_go_by_registers();
     results_are_words();
     straight_words_run();
     results_are_placed();

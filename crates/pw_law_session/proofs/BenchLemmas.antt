@@ -14,8 +14,10 @@ use Rattle.pw_top_answer.specs.Effects.{Effect}
 use Rattle.pw_gen.specs.Generator.{generated, main_text, module_file, module_of}
 use Rattle.pw_session.specs.FromBuild.BuildFault.{BuildFault}
 use Rattle.pw_session.specs.FromBuildFiles.Building.{BuildOutcome, Outcome, counted, object_in}
-use Rattle.pw_session.specs.FromBuildFiles.Full.{BuildsImage, image_of}
+use Rattle.pw_session.specs.FromBuildFiles.Full.{image_of}
+use Rattle.pw_law_meaning.specs.Meaning.{BuildsAndMeans}
 use Rattle.pw_session.specs.FromBuildFiles.Genuine.{KeepsGenuine}
+use Rattle.pw_session.specs.FromBuildFiles.Outcomes.{AreOpts}
 use Rattle.pw_build_opts.specs.declared.opts.RunOpts.{RunOpts}
 use Rattle.pw_session.specs.Bench.{BenchEffect, bench_files, bench_modules, made_files}
 use Rattle.pw_law_session.specs.Full.{BenchBuildsInFull}
@@ -79,9 +81,9 @@ made_genuine insertion number count name object spelled e =
     none_there insertion (reverse (generated number count)) name (turned (generated number count) (all_texts number count)) in
     absurd (none_is object (sym (ap (λ (bytes : Option (List ℕ)). object_in (counted bytes)) none) ∙ e))
 
-pub bench_in_full : ((files : Files) (opts : Opts) (comes : Result Outcome BuildFault) → KeepsGenuine files → BuildOutcome files opts comes → BuildsImage (module_map files) opts (image_of comes))
+pub bench_in_full : ((files : Files) (opts : Opts) (comes : Result Outcome BuildFault) → AreOpts opts → KeepsGenuine files → BuildOutcome files opts comes → BuildsAndMeans (module_map files) opts (image_of comes))
     → ((files : Files) (name bytes other : List ℕ) → other ≢ name → finite.get (finite.insert files name bytes) other ≡ finite.get files other)
-    → (number : ℕ) (opts : RunOpts) (input : List ℕ) (effect : Effect) → BenchEffect number opts input effect → BenchBuildsInFull number opts input effect
-bench_in_full full insertion number opts input effect h =
+    → (number : ℕ) (opts : RunOpts) (input : List ℕ) (effect : Effect) → AreOpts opts.build → BenchEffect number opts input effect → BenchBuildsInFull number opts input effect
+bench_in_full full insertion number opts input effect are h =
     let keeps : KeepsGenuine (bench_files number) = made_genuine insertion number bench_modules in
-    (h.0, full (bench_files number) opts.build h.0 keeps (opened opts (bench_files number) h.0 h.1), h.2)
+    (h.0, full (bench_files number) opts.build h.0 are keeps (opened opts (bench_files number) h.0 h.1), h.2)

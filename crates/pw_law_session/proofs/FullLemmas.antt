@@ -8,8 +8,10 @@ use Rattle.pw_top_answer.specs.Effects.{NamedFile, after_puts}
 use Rattle.pw_law_build.specs.Whole.{HoldsFullBuild}
 use Rattle.pw_session.specs.FromBuild.BuildFault.{BuildFault}
 use Rattle.pw_session.specs.FromBuildFiles.Building.{BuildOutcome, Outcome}
-use Rattle.pw_session.specs.FromBuildFiles.Full.{BuildsImage, image_of}
+use Rattle.pw_session.specs.FromBuildFiles.Full.{image_of}
+use Rattle.pw_law_meaning.specs.Meaning.{BuildsAndMeans}
 use Rattle.pw_session.specs.FromBuildFiles.Genuine.{KeepsGenuine}
+use Rattle.pw_session.specs.FromBuildFiles.Outcomes.{AreOpts}
 use Rattle.pw_session_script.specs.Script.{LineValue, PutText, RemoveText, BuildProgram, RunProgram, NamesModule}
 use Rattle.pw_build_opts.specs.declared.opts.RunOpts.{RunOpts}
 use Rattle.pw_session.specs.Builds.{BuildsTo}
@@ -23,7 +25,7 @@ use Rattle.pw_build_opts.specs.declared.opts.Opts.{Opts}
 pub record Laws : Type 0 where
   pub whole : (told : Told) (opts : Opts) (outcome : Outcome) → KeepsGenuine told.files → BuildOutcome told.files opts (Ok outcome) → HoldsFullBuild (module_map told.files) opts (after_puts told outcome.puts).files
   pub leaves : (told : Told) (opts : Opts) (outcome : Outcome) → KeepsGenuine told.files → BuildOutcome told.files opts (Ok outcome) → KeepsGenuine (after_puts told outcome.puts).files
-  pub full : (files : Files) (opts : Opts) (comes : Result Outcome BuildFault) → KeepsGenuine files → BuildOutcome files opts comes → BuildsImage (module_map files) opts (image_of comes)
+  pub full : (files : Files) (opts : Opts) (comes : Result Outcome BuildFault) → AreOpts opts → KeepsGenuine files → BuildOutcome files opts comes → BuildsAndMeans (module_map files) opts (image_of comes)
   pub texts : (file : List ℕ) (old new : Files) → is_module_file file ≡ true → ((other : List ℕ) → other ≢ file → finite.get new other ≡ finite.get old other) → KeepsGenuine old → KeepsGenuine new
   pub insertion : (files : Files) (name bytes other : List ℕ) → other ≢ name → finite.get (finite.insert files name bytes) other ≡ finite.get files other
   pub removal : (files : Files) (name other : List ℕ) → other ≢ name → finite.get (finite.remove files name) other ≡ finite.get files other
@@ -66,23 +68,23 @@ build_leaves laws opts s effect (Err fault) e keeps h = tt
 
 -- ---- lines
 
-line_in_full : Laws → (opts : RunOpts) (s : SessionState) (line : LineValue) (effect : LineEffect) → KeepsGenuine s.told.files → Acts opts s line effect → BuildsInFull opts s line effect
-line_in_full laws opts s (PutText file text) effect keeps h = h
-line_in_full laws opts s (RemoveText file) effect keeps h = h
-line_in_full laws opts s BuildProgram effect keeps h =
+line_in_full : Laws → (opts : RunOpts) → AreOpts opts.build → (s : SessionState) (line : LineValue) (effect : LineEffect) → KeepsGenuine s.told.files → Acts opts s line effect → BuildsInFull opts s line effect
+line_in_full laws opts are s (PutText file text) effect keeps h = h
+line_in_full laws opts are s (RemoveText file) effect keeps h = h
+line_in_full laws opts are s BuildProgram effect keeps h =
     let comes = opened opts s.told.files h.0 h.1 in
-    (h.0, h.1, h.2, laws.full s.told.files opts.build h.0 keeps comes, build_leaves laws opts s effect h.0 h.2 keeps comes)
-line_in_full laws opts s (RunProgram input) effect keeps h = h
+    (h.0, h.1, h.2, laws.full s.told.files opts.build h.0 are keeps comes, build_leaves laws opts s effect h.0 h.2 keeps comes)
+line_in_full laws opts are s (RunProgram input) effect keeps h = h
 
-lines_in_full : Laws → (opts : RunOpts) (s : SessionState) (lines : List LineValue) (e : Effects) → AllByRecursion NamesModule lines → KeepsGenuine s.told.files → LinesAct opts s lines e → LinesBuildInFull opts s lines e
-lines_in_full laws opts s [] e named keeps h = h
-lines_in_full laws opts s (line ∷ lines) e named keeps h =
-    (h.0, h.1, line_in_full laws opts s line h.0 keeps h.2, lines_in_full laws opts (next_state s h.0) lines h.1 named.1 (line_left laws opts s line h.0 keeps named.0 h.2) h.3, h.4)
+lines_in_full : Laws → (opts : RunOpts) → AreOpts opts.build → (s : SessionState) (lines : List LineValue) (e : Effects) → AllByRecursion NamesModule lines → KeepsGenuine s.told.files → LinesAct opts s lines e → LinesBuildInFull opts s lines e
+lines_in_full laws opts are s [] e named keeps h = h
+lines_in_full laws opts are s (line ∷ lines) e named keeps h =
+    (h.0, h.1, line_in_full laws opts are s line h.0 keeps h.2, lines_in_full laws opts are (next_state s h.0) lines h.1 named.1 (line_left laws opts s line h.0 keeps named.0 h.2) h.3, h.4)
 
 front_named : (front more : List LineValue) → AllByRecursion NamesModule (front ++ more) → AllByRecursion NamesModule front
 front_named [] more named = tt
 front_named (line ∷ front) more named = (named.0, front_named front more named.1)
 
-pub session_in_full : Laws → (opts : RunOpts) (told : Told) (script : List ℕ) → KeepsGenuine told.files → SessionBuildsInFull opts told script
-session_in_full laws opts told script keeps = λ front more e split h.
-    lines_in_full laws opts (session_start told) front e (front_named front more (subst (λ (lines : List LineValue). AllByRecursion NamesModule lines) split (script_named script))) keeps h
+pub session_in_full : Laws → (opts : RunOpts) (told : Told) (script : List ℕ) → AreOpts opts.build → KeepsGenuine told.files → SessionBuildsInFull opts told script
+session_in_full laws opts told script are keeps = λ front more e split h.
+    lines_in_full laws opts are (session_start told) front e (front_named front more (subst (λ (lines : List LineValue). AllByRecursion NamesModule lines) split (script_named script))) keeps h

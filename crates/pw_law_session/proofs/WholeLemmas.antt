@@ -10,12 +10,13 @@ use Rattle.pw_session.specs.FromBuildFiles.Building.{BuildOutcome, Outcome}
 use Rattle.pw_session.specs.FromBuildFiles.Full.{BuildsImage, image_of}
 use Rattle.pw_session.specs.FromBuildFiles.Genuine.{KeepsGenuine}
 use Rattle.pw_build_opts.specs.declared.opts.Opts.{Opts}
+use Rattle.pw_law_meaning.specs.Meaning.{BuildsAndMeans}
 use Rattle.pw_law_session.specs.Whole.{IsBuiltInFull}
 
 -- the laws on which it stands, for these options
 pub record Laws (opts : Opts) : Type 0 where
   pub whole : (told : Told) (outcome : Outcome) → KeepsGenuine told.files → BuildOutcome told.files opts (Ok outcome) → HoldsFullBuild (module_map told.files) opts (after_puts told outcome.puts).files
-  pub full : (files : Files) (comes : Result Outcome BuildFault) → KeepsGenuine files → BuildOutcome files opts comes → BuildsImage (module_map files) opts (image_of comes)
+  pub full : (files : Files) (comes : Result Outcome BuildFault) → KeepsGenuine files → BuildOutcome files opts comes → BuildsAndMeans (module_map files) opts (image_of comes)
   pub one : (texts : Texts) (a b : Result (List ℕ) BuildFault) → BuildsImage texts opts a → BuildsImage texts opts b → a ≡ b
 
 image_is : (a b : List ℕ) → ◌≡◌ {A = Result (List ℕ) BuildFault} (Ok a) (Ok b) → a ≡ b
@@ -31,5 +32,5 @@ pub in_full : (opts : Opts) → Laws opts → (told : Told) (comes : Result Outc
 in_full opts laws told (Ok outcome) keeps h =
     let full = laws.full told.files (Ok outcome) keeps h in
     let held = laws.whole told outcome keeps h in
-    (full, (held, image_stands opts laws (module_map told.files) (after_puts told outcome.puts).files outcome.image held full))
+    (full, (held, image_stands opts laws (module_map told.files) (after_puts told outcome.puts).files outcome.image held full.0))
 in_full opts laws told (Err fault) keeps h = (laws.full told.files (Err fault) keeps h, refl)

@@ -6,7 +6,8 @@ use Rattle.pw_top_answer.specs.Effects.{Effect}
 use Rattle.pw_law_build.specs.Whole.{HoldsFullBuild}
 use Rattle.pw_session.specs.FromBuild.BuildFault.{BuildFault}
 use Rattle.pw_session.specs.FromBuildFiles.Building.{Outcome}
-use Rattle.pw_session.specs.FromBuildFiles.Full.{BuildsImage, image_of}
+use Rattle.pw_session.specs.FromBuildFiles.Full.{image_of}
+use Rattle.pw_law_meaning.specs.Meaning.{BuildsAndMeans}
 use Rattle.pw_session.specs.FromBuildFiles.Genuine.{KeepsGenuine}
 use Rattle.pw_session_script.specs.Script.{LineValue, BuildProgram}
 use Rattle.pw_build_opts.specs.declared.opts.RunOpts.{RunOpts}
@@ -21,10 +22,11 @@ LeavesFullBuild opts s effect (Ok outcome) =
     HoldsFullBuild (module_map s.told.files) opts.build (next_state s effect).told.files × KeepsGenuine (next_state s effect).told.files
 LeavesFullBuild opts s effect (Err fault) = Unit {0}
 
--- A build comes to the image of the full build of the texts as they are then, or to its fault, and leaves that build's files.
+-- A build comes to the image of the full build of the texts as they are then, which means what they mean, or to its fault, and
+-- leaves that build's files.
 abbrev pub BuildsInFull : RunOpts → SessionState → LineValue → LineEffect → Type 0
 BuildsInFull opts s BuildProgram effect =
-    (comes : Result Outcome BuildFault) × BuildsTo s.told.files opts.build comes × (effect ≡ builds_as s comes) × BuildsImage (module_map s.told.files) opts.build (image_of comes) × LeavesFullBuild opts s effect comes
+    (comes : Result Outcome BuildFault) × BuildsTo s.told.files opts.build comes × (effect ≡ builds_as s comes) × BuildsAndMeans (module_map s.told.files) opts.build (image_of comes) × LeavesFullBuild opts s effect comes
 BuildsInFull opts s line effect = Acts opts s line effect
 
 -- what lines do, one behind another, where each build is a full build
@@ -38,8 +40,8 @@ abbrev pub SessionBuildsInFull : RunOpts → Told → List ℕ → Type 0
 SessionBuildsInFull opts told script =
     (front more : List LineValue) (e : Effects) → (script_lines script).lines ≡ front ++ more → LinesAct opts (session_start told) front e → LinesBuildInFull opts (session_start told) front e
 
--- `bench` with a number comes to this over the image of the full build of the texts that are made from the number, or over
--- that build's fault.
+-- `bench` with a number comes to this over the image of the full build of the texts that are made from the number, which means
+-- what they mean, or over that build's fault.
 abbrev pub BenchBuildsInFull : ℕ → RunOpts → List ℕ → Effect → Type 0
 BenchBuildsInFull number opts input effect =
-    (comes : Result Outcome BuildFault) × BuildsImage (module_map (bench_files number)) opts.build (image_of comes) × BenchOver number opts.budget input comes effect
+    (comes : Result Outcome BuildFault) × BuildsAndMeans (module_map (bench_files number)) opts.build (image_of comes) × BenchOver number opts.budget input comes effect

@@ -1,3 +1,4 @@
+pub mod FromMeaning
 pub mod Full
 pub mod Whole
 pub mod History

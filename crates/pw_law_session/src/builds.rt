@@ -10,14 +10,16 @@ ghost use Rattle.pw_build_opts.specs.declared.opts.Opts.{Opts};
 ghost use Rattle.pw_law_session.specs.Whole.{IsBuiltInFull};
 
 use pw_law_build::a_build_leaves_the_whole_program;
+use pw_law_meaning::images_mean_their_texts;
 use pw_session::{genuine_objects_give_the_full_image, texts_have_one_image};
 
 /// Where the kept objects are genuine, a build over a store's files comes to the image of the full build of the modules, byte
-/// for byte, or to its refusal; and it leaves that build's database and that image in their files.
+/// for byte, which means what they mean in C, or to its refusal; and it leaves that build's database and that image in their files.
 pub fn builds_are_full()
     ensures { (told : Told) (opts : Opts) (comes : Result Outcome BuildFault) → AreOpts opts → KeepsGenuine told.files → BuildOutcome told.files opts comes → IsBuiltInFull told opts comes }
 {
     a_build_leaves_the_whole_program();
     genuine_objects_give_the_full_image();
+    images_mean_their_texts();
     texts_have_one_image();
 }

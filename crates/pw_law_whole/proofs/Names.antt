@@ -8,7 +8,7 @@ use Rattle.pw_io.specs.Files.{Files}
 use Rattle.pw_io.proofs.FileMaps.{keys-exact}
 use Rattle.pw_store_modules.specs.Limits.{module_name_limit}
 use Rattle.pw_store_modules.specs.Modules.{HoldsModule, is_name_byte, is_module_name, module_map}
-use Rattle.pw_law_layers.specs.Accepting.{HasNoColon}
+use Rattle.pw_law_source.specs.Accepting.{HasNoColon}
 use Rattle.pw_law_whole.specs.Programs.{HavePlainNames}
 
 left : (a b : Bool) → (a && b) ≡ true → a ≡ true

@@ -22,13 +22,13 @@ use Rattle.pw_build_objects.specs.Programs.{DirectivesList, AreSummariesOf, Comp
 use Rattle.pw_law_direction.specs.Laws.{FirstPlacesServe}
 use Rattle.pw_run_languages.specs.LinkingLaws.{frame_in}
 use Rattle.pw_cmean.specs.Worlds.{Program, ProgramModule}
-use Rattle.pw_law_layers.specs.Lowering.{flow_program, AreChecked}
-use Rattle.pw_law_layers.specs.Accepting.{HasNoColon, AreNamedPlainly, CheckedIsAccepted, IsWhole}
+use Rattle.pw_law_source.specs.Lowering.{flow_program, AreChecked}
+use Rattle.pw_law_source.specs.Accepting.{HasNoColon, AreNamedPlainly, CheckedIsAccepted, IsWhole}
 use Rattle.pw_law_layers.specs.Whole.{image_of, IsLaidOut, LoweredHaveRooms, LoweredImplements}
 use Rattle.pw_law_analysis.specs.SummaryGraphs.{AllSummarise}
 use Rattle.pw_law_analysis.specs.SummaryLaws.{SummariesSayTheSame}
-use Rattle.pw_law_whole.specs.Programs.{IsProgramOf, HavePlainNames, IsWholeWith, flows_in, functions_under}
-use Rattle.pw_law_whole.proofs.Texts.{flow_of, names_same, all_checked}
+use Rattle.pw_law_whole.specs.Programs.{flow_of, IsProgramOf, HavePlainNames, IsWholeWith, flows_in, functions_under}
+use Rattle.pw_law_whole.proofs.Texts.{names_same, all_checked}
 use Rattle.pw_law_whole.proofs.Objects.{all_show, modules_named, same_globals, code_of_all}
 
 -- ---- summaries
@@ -92,6 +92,7 @@ whole_with rooms implements same serve databases one accepted texts opts parts p
       whole = whole;
       laid_out = laid;
       summaries = has.summaries;
+      summarise = has.of_flows;
       analysed = λ low. record {
         implements = implements low p (frame_in (image_of parts.objects opts.stack)) opts.stack checked whole.parts whole.accepted;
         frames = laid.frames;

@@ -19,11 +19,8 @@ use Rattle.pw_build.specs.Builds.{before_others, flows_of, within, limit_passed,
 use Rattle.pw_build.specs.declared.fault.BuildFault.{BuildFault}
 use Rattle.pw_build.specs.declared.fault.BuildFault.TheVariants.{LinkRefused}
 use Rattle.pw_cmean.specs.Worlds.{Program, ProgramModule}
-use Rattle.pw_law_layers.specs.Lowering.{IsChecked}
-use Rattle.pw_law_whole.specs.Programs.{IsModuleOf, AreModulesOf}
-
-abbrev pub flow_of : ProgramModule → FlowModule
-flow_of m = lowered m.name m.tree
+use Rattle.pw_law_source.specs.Lowering.{IsChecked}
+use Rattle.pw_law_whole.specs.Programs.{flow_of, IsModuleOf, AreModulesOf}
 
 -- ---- what holds of each module
 

@@ -1,5 +1,5 @@
 -- The program of a full build's texts, and its parts as the layers between C and words see them.
-use Rattle.std.specs.Prelude.{◌≡◌, ℕ, List, [], ◌∷◌, Ok}
+use Rattle.std.specs.Prelude.{◌≡◌, ℕ, List, [], ◌∷◌, map, Ok}
 use Rattle.std.specs.List.{AllByRecursion}
 use Rattle.std.specs.FinMap as finite
 use Rattle.pw_front_end.specs.Fronts.{HasTree}
@@ -8,13 +8,16 @@ use Rattle.pw_check_rules.specs.Checks.{Checks}
 use Rattle.pw_store_modules.specs.Modules.{Source, Texts}
 use Rattle.pw_alloc.specs.declared.located.Located.{Located}
 use Rattle.pw_summary.specs.declared.summary.Summary.{Summary}
-use Rattle.pw_build_objects.specs.Programs.{Parts}
+use Rattle.pw_flow.specs.declared.flow.FlowModule.{FlowModule}
+use Rattle.pw_lower.specs.Modules.{lowered}
+use Rattle.pw_build_objects.specs.Programs.{AreSummariesOf, Parts}
 use Rattle.pw_run_languages.specs.Programs as flows
+use Rattle.pw_run_languages.specs.Programs.{AreBytes}
 use Rattle.pw_run_languages.specs.LinkingLaws.{frame_in}
 use Rattle.pw_cmean.specs.Worlds.{Program, ProgramModule}
 use Rattle.pw_law_direction.specs.Laws.{first_places}
-use Rattle.pw_law_layers.specs.Accepting.{HasNoColon, IsWhole}
-use Rattle.pw_law_layers.specs.Lowering.{flow_program, AreChecked, LoweringKeepsRuns}
+use Rattle.pw_law_source.specs.Accepting.{HasNoColon, IsWhole}
+use Rattle.pw_law_source.specs.Lowering.{flow_program, AreChecked, LoweringKeepsRuns}
 use Rattle.pw_law_layers.specs.Whole.{image_of, IsLaidOut}
 use Rattle.pw_law_analysis.specs.OwedLaws.{IsAnalysed, HoldsOver}
 
@@ -42,6 +45,13 @@ HavePlainNames texts = AllByRecursion HasNoColon (finite.keys texts)
 
 -- ---- the parts of its build
 
+abbrev pub flow_of : ProgramModule → FlowModule
+flow_of m = lowered m.name m.tree
+
+-- the summaries of its modules' flow graphs
+abbrev pub Summarise : Program → List Summary → Type 0
+Summarise p summaries = AreSummariesOf (map flow_of p.modules) summaries
+
 -- its lowered flow graphs, with the frames of its image
 abbrev pub flows_in : Program → Parts → ℕ → flows.Program
 flows_in p parts stack = flow_program p (frame_in (image_of parts.objects stack)) stack
@@ -57,9 +67,11 @@ pub record IsWholeWith (p : Program) (parts : Parts) (colours stack : ℕ) : Typ
   pub whole : IsWhole p (frame_in (image_of parts.objects stack)) stack
   pub laid_out : IsLaidOut p (flows_in p parts stack) parts.database (functions_under p parts stack) parts.objects
   pub summaries : List Summary
+  pub summarise : Summarise p summaries
   pub analysed : LoweringKeepsRuns → IsAnalysed p (flows_in p parts stack) summaries colours parts.database (functions_under p parts stack) parts.objects
 
--- What holds of a built program and of its image's traffic, on an input, over some summaries whose database is that of the build.
-pub record HoldsWith (p : Program) (parts : Parts) (colours stack : ℕ) (input : List ℕ) : Type 0 where
+-- What holds of a built program and of its image's traffic, on every input, over the summaries of its flow graphs.
+pub record HoldsWith (p : Program) (parts : Parts) (colours stack : ℕ) : Type 0 where
   pub summaries : List Summary
-  pub holds : HoldsOver p (flows_in p parts stack) summaries colours parts.database (functions_under p parts stack) parts.objects input
+  pub summarise : Summarise p summaries
+  pub holds : (input : List ℕ) → AreBytes input → HoldsOver p (flows_in p parts stack) summaries colours parts.database (functions_under p parts stack) parts.objects input

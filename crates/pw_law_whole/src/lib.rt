@@ -1,7 +1,7 @@
 //! Laws of full builds, without code: what a build makes of texts is what the layers between C and words speak of.
 #![tactic(auto)]
 
-ghost use Rattle.std.specs.Prelude.{◌≡◌, ℕ, ◌≤◌, List, Ok};
+ghost use Rattle.std.specs.Prelude.{◌≡◌, ◌≤◌, Ok};
 ghost use Rattle.pw_value.specs.Limits.{stack_least, stack_limit};
 ghost use Rattle.pw_db.specs.Limits.{colour_limit};
 ghost use Rattle.pw_io.specs.Files.{Files};
@@ -10,8 +10,6 @@ ghost use Rattle.pw_build_opts.specs.declared.opts.Opts.{Opts};
 ghost use Rattle.pw_build_objects.specs.Programs.{Parts};
 ghost use Rattle.pw_build.specs.Builds.{FullBuild};
 ghost use Rattle.pw_cmean.specs.Worlds.{Program};
-ghost use Rattle.pw_run_languages.specs.Programs.{AreBytes};
-ghost use Rattle.pw_run_languages.specs.SelectionLaws.{SelectionKeepsRuns};
 ghost use Rattle.pw_law_layers.specs.Whole.{FramesFit, image_of};
 ghost use Rattle.pw_law_whole.specs.Programs.{HavePlainNames, HoldsWith, IsProgramOf, IsWholeWith};
 
@@ -19,11 +17,11 @@ use pw_check_rules::checks_is_exact;
 use pw_colour::laws::databases_are_lawful;
 use pw_db::laws::directives_are_one;
 use pw_front_end::front_is_exact;
-use pw_law_accept::checked_is_accepted;
 use pw_law_analysis::{layers_give_all, summaries_say_the_same};
 use pw_law_direction::first_places_serve;
 use pw_law_layers::{frames_are_within_rooms, lowered_have_rooms, lowering_implements};
-use pw_law_lowering::lowering_keeps_runs;
+use pw_law_lowering::{checked_is_accepted, lowering_keeps_runs};
+use pw_law_selection::selection_keeps_runs;
 use pw_phase_one::laws::phase_one_is_exact;
 use pw_store_modules::modules_are_exact;
 
@@ -70,14 +68,15 @@ pub fn frames_of_full_builds_fit()
     frames_are_within_rooms();
 }
 
-/// From the law of selection alone follows of each full build that gives parts, and of every input: the program of
+/// Of each full build that gives parts, and on every input: the program of
 /// its texts agrees with the machine that runs its image; each global has its value in its place at each call and return; and where
 /// the program is defined, each return keeps the registers, and the law of traffic holds.
 pub fn full_builds_hold()
-    ensures { SelectionKeepsRuns → (texts : Texts) (opts : Opts) (parts : Parts) (p : Program) (input : List ℕ) → FullBuild texts opts (Ok parts) → IsProgramOf texts p →
-        HavePlainNames texts → opts.colours ≤ colour_limit → stack_least ≤ opts.stack → opts.stack ≤ stack_limit → AreBytes input → HoldsWith p parts opts.colours opts.stack input }
+    ensures { (texts : Texts) (opts : Opts) (parts : Parts) (p : Program) → FullBuild texts opts (Ok parts) → IsProgramOf texts p →
+        HavePlainNames texts → opts.colours ≤ colour_limit → stack_least ≤ opts.stack → opts.stack ≤ stack_limit → HoldsWith p parts opts.colours opts.stack }
 {
     full_builds_are_whole();
     lowering_keeps_runs();
+    selection_keeps_runs();
     layers_give_all();
 }

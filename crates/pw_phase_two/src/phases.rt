@@ -52,7 +52,7 @@ fn parts_of(
 /// The object of a module of this name with these global objects.
 fn object_with(name: Name, globals: Items<FlowGlobal>, parts: Parts, origin: Origin) -> Object
     ensures version { result.version ≡ object_version }
-    ensures of_module { result.module ≡ name }
+    ensures of_module { result.«module» ≡ name }
     ensures flow { result.flow ≡ origin.flow.items }
     ensures directives { result.directives ≡ origin.directives.items }
     ensures declared { result.declared ≡ parts.interface.declared }

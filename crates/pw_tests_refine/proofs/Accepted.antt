@@ -30,8 +30,8 @@ use Rattle.pw_run_languages.specs.Programs as flows
 use Rattle.pw_run_languages.specs.Programs.{Library, NoneForLibrary, library_at, functions_of, globals_of, names_of}
 use Rattle.pw_run_languages.specs.LawfulPrograms.{IsProgram, IsItem, NamesRightly, ops_of}
 use Rattle.pw_law_lower.specs.Within.{IsLetter, AreLetters, IsSmall, IsObjectWithin, IsFunctionWithin, IsWithin}
-use Rattle.pw_law_layers.specs.Lowering.{DeclareAlike}
-use Rattle.pw_law_layers.specs.Accepting.{IsFormed, AreFormed, LeadInside}
+use Rattle.pw_law_source.specs.Lowering.{DeclareAlike}
+use Rattle.pw_law_source.specs.Accepting.{IsFormed, AreFormed, LeadInside}
 use Rattle.pw_law_refine.specs.Lowerable.{IsLimited, IsLowerable, IsLowerableWorld}
 use Rattle.pw_law_refine.specs.Activations.{IsActivation}
 use Rattle.pw_tests_refine.proofs.Examples.{int_type, void_type, takes_nothing, n_read, one_more, bump, main, n, tree, program, frames, graphs}

@@ -31,8 +31,8 @@ use Rattle.pw_run_languages.specs.Commands.{command}
 use Rattle.pw_run_languages.specs.Programs as flows
 use Rattle.pw_run_languages.specs.FlowRun as flow
 use Rattle.pw_run_languages.specs.FlowRun.{flow_run}
-use Rattle.pw_law_layers.specs.Source.{source_stages}
-use Rattle.pw_law_layers.specs.Lowering.{ByteKept, SameGlobals, MomentKept, flow_program}
+use Rattle.pw_law_source.specs.Source.{source_stages}
+use Rattle.pw_law_source.specs.Lowering.{ByteKept, SameGlobals, MomentKept, flow_program}
 
 -- ---- int n; void bump(void){n=n+1;} int main(void){bump(); return n;}
 

@@ -22,7 +22,7 @@ use Rattle.pw_lower.specs.Statements.{lower_statement, lower_statements}
 use Rattle.pw_lower.specs.Expressions.{lower, place, arguments}
 use Rattle.pw_run_languages.specs.Programs.{Program, Library, PutChar, functions_of, globals_of, names_of, library_at, library_shape}
 use Rattle.pw_run_languages.specs.LawfulPrograms.{IsProgram, NamesRightly, IsItem, ops_of}
-use Rattle.pw_law_layers.specs.Lowering.{DeclareAlike, IsAccepted}
+use Rattle.pw_law_source.specs.Lowering.{DeclareAlike, IsAccepted}
 use Rattle.pw_tests_runs.proofs.Programs.{block, function, frames, bump, start}
 use Rattle.pw_tests_runs.proofs.ProgramRows.{are_distinct, all_differ, distinct, lawful_bump, lawful_start}
 use Rattle.pw_tests_runs.proofs.SourceRows.{in_c, tree, well_typed_program}

@@ -83,10 +83,9 @@ selection_says law scratch =
 
 placement_says : PlacementKeepsRuns → (scratch : ℕ → (ℕ → ℕ) → ℕ → ℕ) → PlacementKeeps framed places addresses scratch []
 placement_says law scratch =
-    law framed bump_directives places addresses scratch [] lawful_framed lawful_database all_serve frames_are (omega arith) lawful_addresses tt
+    law framed bump_directives places addresses scratch [] lawful_framed lawful_database.directives all_serve frames_are (omega arith) lawful_addresses tt
 
 linking_says : LinkKeepsRuns → LinkKeeps framed places (linked objects 4096) []
-unfolding graph_of
 linking_says law =
-    law framed bump_directives places objects [] lawful_framed apart lawful_database sound_database all_serve frames_are (omega arith)
+    law framed bump_directives places objects [] lawful_framed apart lawful_database.directives all_serve
     (record { modules = refl; globals = refl; code = refl }) small tt

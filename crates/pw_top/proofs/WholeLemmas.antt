@@ -31,10 +31,10 @@ abbrev pub BuildsAreFull : Type 0
 BuildsAreFull = (told : Told) (opts : Opts) (comes : Result Outcome BuildFault) → AreOpts opts → KeepsGenuine told.files → BuildOutcome told.files opts comes → IsBuiltInFull told opts comes
 
 abbrev pub SessionsAreFull : Type 0
-SessionsAreFull = (opts : RunOpts) (told : Told) (script : List ℕ) → KeepsGenuine told.files → SessionBuildsInFull opts told script
+SessionsAreFull = (opts : RunOpts) (told : Told) (script : List ℕ) → AreOpts opts.build → KeepsGenuine told.files → SessionBuildsInFull opts told script
 
 abbrev pub BenchesAreFull : Type 0
-BenchesAreFull = (number : ℕ) (opts : RunOpts) (input : List ℕ) (effect : Effect) → BenchEffect number opts input effect → BenchBuildsInFull number opts input effect
+BenchesAreFull = (number : ℕ) (opts : RunOpts) (input : List ℕ) (effect : Effect) → AreOpts opts.build → BenchEffect number opts input effect → BenchBuildsInFull number opts input effect
 
 -- those of builds, of some options
 abbrev FullAt : Opts → Type 0
@@ -110,12 +110,12 @@ go_whole opts law _ told new input rest taken taken' d keeps =
     let c = d.found.1 in
     ran_full opts.build opts.budget law c.0 told new input rest taken taken' _ d.found.0 keeps c.1 c.2 (d.answers d.found.0 c) (d.puts d.found.0 c) (d.output d.found.0 c) (d.rest d.found.0 c)
 
-bench_whole : BenchesAreFull → (number : ℕ) (opts : RunOpts) (answer : Answer) (told : Told) (new : Option Told) (input : List ℕ) (rest taken taken' : Option (List ℕ)) → Does (BenchEffect number opts input) answer told new input rest taken taken'
+bench_whole : BenchesAreFull → (number : ℕ) (opts : RunOpts) → AreOpts opts.build → (answer : Answer) (told : Told) (new : Option Told) (input : List ℕ) (rest taken taken' : Option (List ℕ)) → Does (BenchEffect number opts input) answer told new input rest taken taken'
     → IfMade answer (BenchesFull number opts input answer taken taken')
-bench_whole law number opts StoreFault told new input rest taken taken' d = tt
-bench_whole law number opts NoMemory told new input rest taken taken' d = tt
-bench_whole law number opts _ told new input rest taken taken' d =
-    let c = d.found.1 in (d.found.0, law number opts input d.found.0 c, d.answers d.found.0 c, d.output d.found.0 c)
+bench_whole law number opts are StoreFault told new input rest taken taken' d = tt
+bench_whole law number opts are NoMemory told new input rest taken taken' d = tt
+bench_whole law number opts are _ told new input rest taken taken' d =
+    let c = d.found.1 in (d.found.0, law number opts input d.found.0 are c, d.answers d.found.0 c, d.output d.found.0 c)
 
 -- the numbers of the command lie within their limits
 abbrev pub AreWithin : Option Command → Type 0
@@ -127,8 +127,8 @@ whole_of law sessions benches (Some (BuildAll opts)) answer told new input rest 
     λ keeps. build_whole opts (full_at law opts (record { colours = w.0; least = w.1.0; most = w.1.1 })) answer told new input rest taken taken' d keeps
 whole_of law sessions benches (Some (Go opts)) answer told new input rest taken taken' w d =
     λ keeps. go_whole opts (full_at law opts.build (record { colours = w.0; least = w.1.0; most = w.1.1 })) answer told new input rest taken taken' d keeps
-whole_of law sessions benches (Some (Session opts)) answer told new input rest taken taken' w d = λ keeps. sessions opts told input keeps
-whole_of law sessions benches (Some (Bench number opts)) answer told new input rest taken taken' w d = bench_whole benches number opts answer told new input rest taken taken' d
+whole_of law sessions benches (Some (Session opts)) answer told new input rest taken taken' w d = λ keeps. sessions opts told input (record { colours = w.0; least = w.1.0; most = w.1.1 }) keeps
+whole_of law sessions benches (Some (Bench number opts)) answer told new input rest taken taken' w d = bench_whole benches number opts (record { colours = w.0; least = w.1.0; most = w.1.1 }) answer told new input rest taken taken' d
 whole_of law sessions benches command answer told new input rest taken taken' w d = tt
 
 pub builds_whole : BuildsAreFull → SessionsAreFull → BenchesAreFull → (command : Option Command) (first new : Option Told) (old rest taken taken' : Option (List ℕ)) (answer : Answer) → AreWithin command

@@ -13,7 +13,7 @@ use Rattle.pw_build_opts.specs.declared.opts.Opts.{Opts}
 use Rattle.pw_build_opts.specs.declared.opts.RunOpts.{RunOpts}
 use Rattle.pw_session.specs.FromBuild.BuildFault.{BuildFault}
 use Rattle.pw_session.specs.FromBuildFiles.Building.{Outcome}
-use Rattle.pw_session.specs.FromBuildFiles.Full.{BuildsImage}
+use Rattle.pw_law_session.specs.FromMeaning.Meaning.{BuildsAndMeans}
 use Rattle.pw_session.specs.FromBuildFiles.Outcomes.{fault_answer}
 use Rattle.pw_commands.specs.MachineRun.{run_answer, run_output, run_rest}
 use Rattle.pw_session.specs.FromBuildFiles.Driving.{outcome_lines}
@@ -47,7 +47,8 @@ abbrev pub BenchesFull : ℕ → RunOpts → List ℕ → Answer → (taken take
 BenchesFull number opts input answer taken taken' =
     (effect : Effect) × BenchBuildsInFull number opts input effect × Answers effect.answer answer × PutsOut effect.output answer taken taken'
 
--- The full build of the modules comes to an image, or to a fault, of which this holds, and the files are left so.
+-- The full build of the modules comes to an image, which means what they mean in C, or to a fault, of which this holds, and the
+-- files are left so.
 abbrev pub ComesInFull : Opts → Told → Option Told → (Result (List ℕ) BuildFault → Type 0) → Type 0
 ComesInFull opts told new P =
-    (full : Result (List ℕ) BuildFault) × BuildsImage (module_map told.files) opts full × P full × LeavesFull (module_map told.files) opts full told new
+    (full : Result (List ℕ) BuildFault) × BuildsAndMeans (module_map told.files) opts full × P full × LeavesFull (module_map told.files) opts full told new

@@ -1,4 +1,5 @@
-use Rattle.pw_law_select_frames.proofs.Stepping.{all_active, links_stand, frames_are_stacked, objects_below, goes_on_whole}
+use Rattle.pw_law_select_frames.proofs.Stepping.{all_active, links_stand, frames_are_stacked, objects_below}
+use Rattle.pw_law_select_frames.proofs.Amid.{goes_on_whole}
 use Rattle.pw_law_select_frames.proofs.whole_states_go_on.Goals as goal
 
 pub returns-clause-active : goal.returns-clause-active

@@ -1,6 +1,7 @@
 use Rattle.std.specs.FinMap as finite
 use Rattle.std.specs.Prelude.{map}
-use Rattle.pw_law_whole.proofs.Texts.{flow_of, flows_are, completes_with}
+use Rattle.pw_law_whole.proofs.Texts.{flows_are, completes_with}
+use Rattle.pw_law_whole.specs.Programs.{flow_of}
 use Rattle.pw_law_whole.proofs.Parts.{whole_with}
 use Rattle.pw_law_whole.proofs.full_builds_are_whole.Goals as goal
 

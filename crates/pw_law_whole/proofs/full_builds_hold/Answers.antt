@@ -2,9 +2,10 @@ use Rattle.pw_law_whole.specs.Programs.{flows_in, functions_under}
 use Rattle.pw_law_whole.proofs.full_builds_hold.Goals as goal
 
 pub returns : goal.returns
-returns c = λ selection texts opts parts p input build is plain few least most bytes.
+returns c = λ texts opts parts p build is plain few least most.
     let whole = c.full_builds_are_whole.ensures texts opts parts p build is plain few least most in
     record {
       summaries = whole.summaries;
-      holds = c.layers_give_all.ensures selection p (flows_in p parts opts.stack) whole.summaries opts.colours parts.database (functions_under p parts opts.stack) parts.objects input (whole.analysed c.lowering_keeps_runs.ensures) bytes;
+      summarise = whole.summarise;
+      holds = λ input bytes. c.layers_give_all.ensures c.selection_keeps_runs.ensures p (flows_in p parts opts.stack) whole.summaries opts.colours parts.database (functions_under p parts opts.stack) parts.objects input (whole.analysed c.lowering_keeps_runs.ensures) bytes;
     }

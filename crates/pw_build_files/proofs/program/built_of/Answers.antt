@@ -34,8 +34,8 @@ pub returns-in-Err-NoMemory-clause-bound : goal.returns-in-Err-NoMemory-clause-b
 returns-in-Err-NoMemory-clause-bound g c =
     flows_counted (first_phases (map source c.args.modules.now)) c.in_ok-flows.flows.items c.args.steps.now c.complete.new.steps c.in_ok-flows.ensures.flows c.complete.ensures.bound
 
-pub returns-clause-counted_fault : goal.returns-clause-counted_fault
-returns-clause-counted_fault g c =
+pub returns-in-Err-clause-counted_fault : goal.returns-in-Err-clause-counted_fault
+returns-in-Err-clause-counted_fault g c =
     let other : c.in-Err.fault ≢ link.NoMemory = search rules in
     made_counted (map source c.args.modules.now) c.in_ok-flows.flows.items c.in_ok-kept.kept.items (λ told. map (λ m. kept_object told.files m.name) c.args.modules.now) c.args.opts.now.colours c.args.steps.now c.complete.new.steps c.in-Err.fault
     (g.S.Store.told c.args.store.now) c.in_ok-flows.ensures.flows c.in_ok-kept.ensures.objects (not_want other c.in-Err.ensures.counted_fault)

@@ -4,7 +4,7 @@ use Rattle.pw_files.proofs.Standing.{contains_by}
 use Rattle.pw_types.specs.TypedModules.{WellTyped}
 use Rattle.pw_flow.specs.declared.flow.FlowGlobal.{FlowGlobal}
 use Rattle.pw_run_languages.specs.Programs.{globals_of, names_of}
-use Rattle.pw_law_layers.specs.Lowering.{flow_program}
+use Rattle.pw_law_source.specs.Lowering.{flow_program}
 use Rattle.pw_law_accept.proofs.Checked.{known_module}
 use Rattle.pw_law_accept.proofs.Inside.{all_inside, distinct_right}
 use Rattle.pw_law_accept.proofs.acceptance.accepted_is_lowerable.Goals as goal

@@ -1,5 +1,5 @@
 use Rattle.pw_files.proofs.Standing.{has_by}
-use Rattle.pw_law_layers.specs.Accepting.{IsFormed}
+use Rattle.pw_law_source.specs.Accepting.{IsFormed}
 use Rattle.pw_law_accept.proofs.Modules.{all_has}
 use Rattle.pw_law_accept.proofs.acceptance.checked_functions_are_formed.Goals as goal
 

@@ -1,5 +1,5 @@
 use Rattle.pw_law_accept.specs.Linked.{AreLinked}
-use Rattle.pw_law_layers.specs.Lowering.{flow_program}
+use Rattle.pw_law_source.specs.Lowering.{flow_program}
 use Rattle.pw_law_accept.proofs.acceptance.checked_is_accepted.Goals as goal
 
 pub returns : goal.returns

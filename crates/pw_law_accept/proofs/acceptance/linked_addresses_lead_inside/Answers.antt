@@ -2,7 +2,7 @@ use Rattle.std.proofs.Common.{map}
 use Rattle.pw_files.proofs.Standing.{contains_by}
 use Rattle.pw_flow.specs.declared.flow.FlowGlobal.{FlowGlobal}
 use Rattle.pw_run_languages.specs.Programs.{globals_of, names_of}
-use Rattle.pw_law_layers.specs.Lowering.{flow_program}
+use Rattle.pw_law_source.specs.Lowering.{flow_program}
 use Rattle.pw_law_accept.proofs.Checked.{known_module}
 use Rattle.pw_law_accept.proofs.Inside.{all_inside, distinct_right}
 use Rattle.pw_law_accept.proofs.Programs.{names_distinct}

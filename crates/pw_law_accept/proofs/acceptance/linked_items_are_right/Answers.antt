@@ -2,7 +2,7 @@ use Rattle.pw_value.specs.ProgramNames.{IsOrdinary}
 use Rattle.pw_flow.specs.FlowGraph.{named_in}
 use Rattle.pw_run_languages.specs.Programs.{globals_of}
 use Rattle.pw_lower.specs.Modules.{lowered}
-use Rattle.pw_law_layers.specs.Lowering.{flow_program}
+use Rattle.pw_law_source.specs.Lowering.{flow_program}
 use Rattle.pw_files.proofs.Standing.{has_by, has_each, contains_by}
 use Rattle.pw_law_accept.proofs.Checked.{known_module}
 use Rattle.pw_law_accept.proofs.References.{all_items}

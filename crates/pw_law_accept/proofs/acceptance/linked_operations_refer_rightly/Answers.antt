@@ -5,7 +5,7 @@ use Rattle.pw_flow.specs.FlowGraph.{named_in}
 use Rattle.pw_run_languages.specs.Programs.{functions_of}
 use Rattle.pw_run_languages.specs.LawfulPrograms.{ops_of}
 use Rattle.pw_lower.specs.Modules.{lowered}
-use Rattle.pw_law_layers.specs.Lowering.{flow_program}
+use Rattle.pw_law_source.specs.Lowering.{flow_program}
 use Rattle.pw_law_checked.specs.Words.{WordsInStatement}
 use Rattle.pw_law_checked.specs.Designators.{StatementNamesObjects}
 use Rattle.pw_law_checked.specs.OwnNames.{with_objects}

@@ -1,4 +1,4 @@
-use Rattle.pw_law_layers.specs.Lowering.{flow_program}
+use Rattle.pw_law_source.specs.Lowering.{flow_program}
 use Rattle.pw_law_accept.proofs.Rules.{keeps}
 use Rattle.pw_law_accept.proofs.linking_rules.accepted_programs_keep_the_rules.Goals as goal
 

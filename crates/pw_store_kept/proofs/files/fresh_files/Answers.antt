@@ -9,8 +9,8 @@ add_file-requires-clause-object c =
     let z = pair_at _ c.loop-which.which-iterator c.next.new.self c.next.result c.args.modules.now c.args.made.now c.loop-which.yielded (c.in-Some.which, c.in-Some.one) c.loop-which.yielded_by c.in-Some.is c.next.ensures.steps (first_of (cc, search rules)) (first_of (cc, search rules)) in
     lawful_at IsObject c.args.made.now (length c.loop-which.yielded) c.in-Some.one.now c.requires z.1 z.3
 
-pub loop-which-preserved-in_ok-add_file : goal.loop-which-preserved-in_ok-add_file
-loop-which-preserved-in_ok-add_file c =
+pub loop-which-preserved-in-Continue-1 : goal.loop-which-preserved-in-Continue-1
+loop-which-preserved-in-Continue-1 c =
     let z = pair_at _ c.loop-which.which-iterator c.next.new.self c.next.result c.args.modules.now c.args.made.now c.loop-which.yielded (c.in-Some.which, c.in-Some.one) c.loop-which.yielded_by c.in-Some.is c.next.ensures.steps (first_of (cc, search rules)) (first_of (cc, search rules)) in
     fresh_next c.args.modules.now c.args.made.now (length c.loop-which.yielded) _ c.in-Some.which.now c.in-Some.one.now _ _ _ _ _ (length_push c.loop-which.yielded (c.in-Some.which, c.in-Some.one))
     z.0 z.1 z.2 z.3 (first_of (cc, search rules)) c.loop-which.invariant

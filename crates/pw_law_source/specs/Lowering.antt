@@ -33,7 +33,7 @@ use Rattle.pw_run_languages.specs.Programs.{Library, library_at, library_shape, 
 use Rattle.pw_run_languages.specs.FlowRun as flow
 use Rattle.pw_run_languages.specs.FlowRun.{flow_run}
 use Rattle.pw_run_languages.specs.LawfulPrograms.{IsProgram}
-use Rattle.pw_law_layers.specs.Source.{source_stages}
+use Rattle.pw_law_source.specs.Source.{source_stages}
 
 -- ---- accepted programs
 

@@ -20,7 +20,7 @@ use Rattle.pw_cmean.specs.Worlds.{Program, ProgramModule}
 use Rattle.pw_run_languages.specs.Programs as flows
 use Rattle.pw_run_languages.specs.Programs.{globals_of}
 use Rattle.pw_run_languages.specs.LinkingLaws.{AreNamesApart}
-use Rattle.pw_law_layers.specs.Lowering.{flow_program, IsAccepted, AreChecked, HaveParts}
+use Rattle.pw_law_source.specs.Lowering.{flow_program, IsAccepted, AreChecked, HaveParts}
 
 -- ---- what checking makes of a function, beyond what is well typed
 

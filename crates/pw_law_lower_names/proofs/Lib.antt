@@ -1,0 +1,4 @@
+pub mod Backward
+pub mod Expressions
+pub mod Statements
+pub mod Functions

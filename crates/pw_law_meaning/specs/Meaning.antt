@@ -1,0 +1,52 @@
+-- What an image has to do with the C program that its texts are.
+use Rattle.std.specs.Prelude.{ℕ, ◌<◌, List, Result, Ok, Err}
+use Rattle.pw_summary.specs.declared.summary.Summary.{Summary}
+use Rattle.pw_image.specs.declared.image.Image.{Image}
+use Rattle.pw_image.specs.Image.{Contents, IsImageFile}
+use Rattle.pw_machine.specs.Run.{run_of, start_state}
+use Rattle.pw_machine.specs.Start.{image_start}
+use Rattle.pw_store_modules.specs.Modules.{Texts}
+use Rattle.pw_build_opts.specs.declared.opts.Opts.{Opts}
+use Rattle.pw_build.specs.declared.fault.BuildFault.{BuildFault}
+use Rattle.pw_build_files.specs.Full.{BuildsImage}
+use Rattle.pw_cmean.specs.Worlds.{Program}
+use Rattle.pw_run_agreement.specs.Agreement.{Agree, IsDefined, IsMeaningful, SourceRun}
+use Rattle.pw_run_languages.specs.Programs.{AreBytes}
+use Rattle.pw_run_languages.specs.LinkingLaws.{frame_in}
+use Rattle.pw_law_stops.specs.Stops.{Tells}
+use Rattle.pw_law_source.specs.Source.{source_runs}
+use Rattle.pw_law_layers.specs.Whole.{FramesFit}
+use Rattle.pw_law_analysis.specs.ImageTraffic.{Traffic}
+use Rattle.pw_law_whole.specs.Programs.{IsProgramOf, Summarise}
+
+-- the runs of the program on an input, by their bound, each call taking the stack that its function takes in the image
+abbrev pub runs_of : Program → Image → ℕ → List ℕ → ℕ → SourceRun
+runs_of p image stack input = source_runs p (frame_in image) stack input
+
+-- The image means what the texts mean in C.
+pub record Means (texts : Texts) (opts : Opts) (bytes : List ℕ) : Type 0 where
+  -- the texts are a program, and the bytes the file of an image
+  pub program : Program
+  pub of_texts : IsProgramOf texts program
+  pub contents : Contents Image
+  pub file : IsImageFile bytes contents
+  -- on every input the machine does what the program does, until that does what C does not define
+  pub agree : (input : List ℕ) → AreBytes input → Agree (runs_of program contents.value opts.stack input) (image_start contents.value.memory) input
+  -- so a run of the machine within a budget tells what the program does, where that is defined
+  pub tells : (input : List ℕ) → AreBytes input → (budget bound : ℕ) → budget < bound → IsMeaningful (runs_of program contents.value opts.stack input bound).end →
+      Tells input (run_of budget (start_state (image_start contents.value.memory) input)) (runs_of program contents.value opts.stack input bound)
+  -- no function's frame is larger than its declarations say
+  pub fit : FramesFit program contents.value
+  -- of the globals that have registers in all their webs, only entries of these load and store them
+  pub summaries : List Summary
+  pub summarise : Summarise program summaries
+  pub traffic : (input : List ℕ) → AreBytes input → IsDefined (runs_of program contents.value opts.stack input) → Traffic summaries opts.colours contents.value input
+
+-- of what a full build comes to: an image means what the texts mean; of a fault nothing is said
+abbrev pub MeansSo : Texts → Opts → Result (List ℕ) BuildFault → Type 0
+MeansSo texts opts (Ok image) = Means texts opts image
+MeansSo texts opts (Err fault) = Unit {0}
+
+-- The full build of the texts comes to this image, which means what they mean, or to this fault.
+abbrev pub BuildsAndMeans : Texts → Opts → Result (List ℕ) BuildFault → Type 0
+BuildsAndMeans texts opts full = BuildsImage texts opts full × MeansSo texts opts full

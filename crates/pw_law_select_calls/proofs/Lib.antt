@@ -1,0 +1,4 @@
+pub mod Walking
+pub mod Webs
+pub mod GoingIn
+pub mod GoingBack

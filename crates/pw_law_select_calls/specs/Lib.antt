@@ -1,0 +1,3 @@
+pub mod Webs
+pub mod GoingIn
+pub mod GoingBack

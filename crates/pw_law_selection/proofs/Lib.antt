@@ -1,0 +1,15 @@
+pub mod Linking
+pub mod Coming
+pub mod Given
+pub mod Saved
+pub mod Keeping
+pub mod Operating
+pub mod Calling
+pub mod Reaching
+pub mod Returning
+pub mod Entering
+pub mod Library
+pub mod Starting
+pub mod Stepping
+pub mod Words
+pub mod Running
