@@ -10,6 +10,8 @@ use Rattle.pw_token.specs.declared.piece.PieceKind.{PieceKind}
 use Rattle.pw_token.specs.declared.piece.PieceKind.TheVariants as piece
 use Rattle.pw_token.specs.declared.token.Token.{Token}
 use Rattle.pw_cpp_lines.specs.Heads.{is_line_marker}
+use Rattle.pw_cpp_lines.specs.Walking.{IsStep}
+use Rattle.pw_cpp_lines.specs.declared.passing.Passed.TheVariants as passed
 use Rattle.pw_cpp_lines.specs.Lines.{Cuts, Kinds, LinePiece, NothingAt, any_kind, is_line_end, is_space, space_len, tokens_of}
 
 -- ---- one more piece
@@ -136,20 +138,20 @@ pub marker-answer : (text : List ℕ) (r : Option LinePiece) (b : Bool) → b �
     → IsTrue b ↔ ((len : ℕ) × BeginsWith true piece.LineMarker len text)
 marker-answer text r b e h = (λ t. (marker-found text r h).0 (sym e ∙ t), λ m. e ∙ (marker-found text r h).1 m)
 
--- blanks and comments lead to a place of the text
-abbrev pub IsSpaceTo : List ℕ → ℕ → ℕ → Type 0
-IsSpaceTo text at end = (end ≤ length text) × ((pieces : List LinePiece) × Cuts is_space text at pieces end)
-
 begins-within : (text : List ℕ) (at : ℕ) (k : PieceKind) (n : ℕ) → at < length text → BeginsWith false k n (drop at text) → at + n ≤ length text
 begins-within text at k n l b = omega (arith, l, b.0, length-drop at text)
 
-pub space-more : (text : List ℕ) (at mid : ℕ) (r : Option LinePiece) (len : ℕ) → IsSpaceTo text at mid → is_line_end text mid ≡ false → IsFound false (drop mid text) r
-    → len ≡ space_len r → 0 < len → IsSpaceTo text at (mid + len)
-space-more text at mid r len h e found l some =
-    let there = space-stands (drop mid text) r found (omega (arith, some, l)) in
-    let P : ℕ → Type 0 = λ x. BeginsWith false there.0 x (drop mid text) in
-    let begins = subst P (sym l) there.2 in
-    (begins-within text mid there.0 len (inside text mid (slice_index text mid == 10) e) begins, (h.1.0 ++ (there.0, len) ∷ [], cuts-more is_space text at h.1.0 mid there.0 len h.1.1 e there.1 begins))
+-- the blank or comment that was found is a step, and there is none where none was found
+pub space-step : (text : List ℕ) (at : ℕ) (r : Option LinePiece) (len : ℕ) → is_line_end text at ≡ false → IsFound false (drop at text) r → len ≡ space_len r → 0 < len
+    → IsStep passed.Space text at (Some len)
+space-step text at r len e found l some =
+    let there = space-stands (drop at text) r found (omega (arith, some, l)) in
+    let P : ℕ → Type 0 = λ x. BeginsWith false there.0 x (drop at text) in
+    (e, there.0, there.1, subst P (sym l) there.2)
+
+pub no-step : (text : List ℕ) (at : ℕ) (r : Option LinePiece) (len : ℕ) → IsFound false (drop at text) r → IfSome r (λ p. (0 < p.1) × (p.1 ≤ length (drop at text))) → len ≡ space_len r → len ≡ 0
+    → IsStep passed.Space text at None
+no-step text at r len found within l e = inr (no-space (drop at text) r found within (sym l ∙ e))
 
 pub line-more : (text : List ℕ) (at : ℕ) (tokens more : List Token) (mid : ℕ) (k : PieceKind) (n : ℕ)
     → IsCut text at tokens mid → is_line_end text mid ≡ false → BeginsWith false k n (drop mid text) → more ≡ tokens ++ token_in k mid n

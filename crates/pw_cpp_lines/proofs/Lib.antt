@@ -1,3 +1,6 @@
+pub mod ClosingQuotes
+pub mod Comments
 pub mod Cutting
+pub mod OneEnd
 pub mod OneLine
-pub mod StepLaws
+pub mod Walks

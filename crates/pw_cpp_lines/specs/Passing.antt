@@ -1,5 +1,5 @@
 -- Lines that are passed over without tokens: line markers and `#pragma`, and the lines of a group that is left out (ISO/IEC 9899:1990, 6.8.1).
-use Rattle.std.specs.Prelude.{◌≡◌, ℕ, zero, suc, ◌+◌, ◌-◌, ◌<◌, ◌≤◌, Bool, true, false, not, ◌||◌, ◌&&◌, ◌==◌, if◌then◌else◌, nat_le, List, [], ◌∷◌, drop, length, slice_index, Option, Some, None}
+use Rattle.std.specs.Prelude.{◌≡◌, ℕ, zero, suc, ◌+◌, ◌-◌, ◌<◌, ◌≤◌, Bool, true, false, not, ◌||◌, ◌&&◌, ◌==◌, if◌then◌else◌, nat_le, List, [], ◌∷◌, drop, length, slice_index, Option, Some, None, Result, Ok, Err}
 use Rattle.pw_token.specs.Scanning.{comment_len}
 use Rattle.pw_token.specs.declared.piece.PieceKind.TheVariants as piece
 use Rattle.pw_cpp_lines.specs.Lines.{LinePiece, behind_line}
@@ -22,15 +22,24 @@ pub record PassesRest (text : List ℕ) (at next : ℕ) : Type 0 where
 
 -- ---- lines of a group that is left out
 
--- Behind an opening quote and n bytes: how long what it opens is, with both quotes, or 0 where the line ends before the closing
--- one. `escaped` says that a backslash stands before that is no part of an escape, and `last` is the byte before.
-abbrev pub quoted_len : ℕ → Bool → ℕ → ℕ → List ℕ → ℕ
-quoted_len quote escaped last n [] = 0
-quoted_len quote escaped last n (b ∷ rest) =
-    if escaped then quoted_len quote false b (n + 1) rest
-    else (if b == quote then n + 1
-    else (if b == 10 && not (last == 92) then 0
-    else quoted_len quote (b == 92) b (n + 1) rest))
+-- Behind an opening quote and n bytes: how long what it opens is, with both quotes; or, where the line ends before the closing one, how
+-- many bytes stand before its end. `escaped` says that a backslash stands before that is no part of an escape, and `last` is the byte before.
+abbrev pub quoted : ℕ → Bool → ℕ → ℕ → List ℕ → Result ℕ ℕ
+quoted quote escaped last n [] = Err n
+quoted quote escaped last n (b ∷ rest) =
+    if escaped then quoted quote false b (n + 1) rest
+    else (if b == quote then Ok (n + 1)
+    else (if b == 10 && not (last == 92) then Err n
+    else quoted quote (b == 92) b (n + 1) rest))
+
+-- A quote that does not close in its line is a byte as any other.
+abbrev pub quoted_len : Result ℕ ℕ → ℕ
+quoted_len (Ok len) = len
+quoted_len (Err before) = 1
+
+-- how much of a text a quote that stands at a place takes
+abbrev pub quoted_at : List ℕ → ℕ → ℕ → ℕ
+quoted_at text quote at = quoted_len (quoted quote false 0 1 (drop (at + 1) text))
 
 abbrev pub is_quote : ℕ → Bool
 is_quote b = b == 39 || b == 34
@@ -55,7 +64,7 @@ or_else n other = if n == 0 then other else n
 abbrev pub step_len : List ℕ → ℕ → ℕ
 step_len text at =
     if opens_comment text at then or_else (comment_len (drop at text)) (length text - at)
-    else (if is_quote (slice_index text at) then or_else (quoted_len (slice_index text at) false 0 1 (drop (at + 1) text)) 1
+    else (if is_quote (slice_index text at) then quoted_at text (slice_index text at) at
     else 1)
 
 -- so many steps, none of which begins where the line ends, lead from one place to another

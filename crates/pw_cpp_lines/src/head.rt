@@ -7,7 +7,7 @@ ghost use Rattle.pw_token.specs.declared.bytes.Class.TheVariants.{Word};
 ghost use Rattle.pw_cpp_lines.specs.Heads.{IsHead, IsMarker, IsWordAt, closing_quote, header_name, is_line_marker, is_name_byte};
 
 use crate::bytes::{byte_at, text_from};
-use crate::line::pass_space;
+use crate::passing::pass_space;
 use pw_token::{Class, PieceKind, is_in, piece_at};
 
 /// Bytes of a text: the first one's place counted from 0, and how many there are.

@@ -7,8 +7,9 @@ mod head;
 mod laws;
 mod line;
 mod passing;
+mod quotes;
 
 pub use head::{Head, Span, head_of, header_name};
-pub use laws::{one_head, one_line};
-pub use line::{Line, LineFault, lex_line, pass_space};
-pub use passing::{pass_line, pass_rest};
+pub use laws::{one_end, one_head, one_line};
+pub use line::{Line, LineFault, lex_line};
+pub use passing::{pass_line, pass_rest, pass_space};

@@ -1,8 +1,8 @@
 //! Lines as tokens.
 
-ghost use Rattle.std.specs.Prelude.{◌≡◌, ◌≤◌, ◌++◌, length, OnOk};
+ghost use Rattle.std.specs.Prelude.{◌≡◌, ◌≤◌, ◌++◌, length, IfOk, OnOk};
 ghost use Rattle.pw_token.specs.Tokenization.{token_in};
-ghost use Rattle.pw_cpp_lines.specs.Lines.{AnswersLine, PassesSpace, is_line_end, is_space, space_len};
+ghost use Rattle.pw_cpp_lines.specs.Lines.{AnswersLine, is_line_end, is_space};
 
 use crate::bytes::{behind_line, byte_at};
 use pw_items::Items;
@@ -35,26 +35,18 @@ impl From<AllocError> for LineFault {
     }
 }
 
-fn is_line_end(text: &[u8], at: usize) -> bool
+/// Whether a line ends at a place.
+pub fn is_line_end(text: &[u8], at: usize) -> bool
     ensures { result ≡ is_line_end text.now at }
 {
     text.len() <= at || byte_at(text, at) == b'\n'
 }
 
-fn is_space(kind: PieceKind) -> bool
+/// Whether a piece is a blank or a comment.
+pub fn is_space(kind: PieceKind) -> bool
     ensures { result ≡ is_space kind }
 {
     matches!(kind, PieceKind::Blank | PieceKind::Comment)
-}
-
-/// The length of the blank or comment that was found, 0 where none was.
-fn space_len(found: Option<(PieceKind, usize)>) -> usize
-    ensures { result ≡ space_len found }
-{
-    match found {
-        Some((kind, len)) if is_space(kind) => len,
-        _ => 0,
-    }
 }
 
 /// Adds the token that a piece is, if it is one.
@@ -75,7 +67,8 @@ fn keep(tokens: &mut Items<Token>, kind: PieceKind, at: usize, len: usize) -> Re
 /// `Bad` with the first place of the line at which no token, blank or comment starts.
 pub fn lex_line(alloc: Global, text: &[u8], at: usize) -> Result<Line, LineFault>
     requires { at ≤ length text.now }
-    ensures { AnswersLine text.now at result }
+    ensures answers { AnswersLine text.now at result }
+    ensures within { IfOk result (λ line. line.next ≤ length text.now) }
 {
     let mut tokens = Items::new(alloc);
     let mut end = at;
@@ -88,21 +81,4 @@ pub fn lex_line(alloc: Global, text: &[u8], at: usize) -> Result<Line, LineFault
     }
     let next = behind_line(text, end);
     Ok(Line { tokens, next })
-}
-
-/// Where the blanks and comments end that stand in a line from a place on.
-pub fn pass_space(text: &[u8], at: usize) -> usize
-    requires { at ≤ length text.now }
-    ensures passed { PassesSpace text.now at result }
-    ensures within { result ≤ length text.now }
-{
-    let mut end = at;
-    while !is_line_end(text, end) {
-        let len = space_len(piece_at(false, &text[end..]));
-        if len == 0 {
-            return end;
-        }
-        end += len;
-    }
-    end
 }

@@ -1,10 +1,25 @@
-//! Lines that are passed over.
+//! What is passed over.
 
-ghost use Rattle.std.specs.Prelude.{◌≡◌, ◌≤◌, ◌<◌, ◌+◌, ◌-◌, drop, length, slice_index, false};
-ghost use Rattle.pw_cpp_lines.specs.Passing.{PassesLine, PassesRest, comment_found, is_bare_newline, is_quote, is_raw_end, opens_comment, or_else, quoted_len, step_len};
+ghost use Rattle.std.specs.Prelude.{◌≡◌, ◌≤◌, ◌<◌, ◌+◌, ◌-◌, drop, length, slice_index, IfSome};
+ghost use Rattle.pw_cpp_lines.specs.Lines.{PassesSpace, space_len};
+ghost use Rattle.pw_cpp_lines.specs.Passing.{PassesLine, PassesRest, comment_found, is_bare_newline, is_raw_end, opens_comment, or_else, step_len};
+ghost use Rattle.pw_cpp_lines.specs.Walking.{AreUnclosed, IsStep, Walked};
 
-use crate::bytes::{behind_line, byte_at, text_from};
+use crate::bytes::{behind_line, byte_at};
+use crate::line::{is_line_end, is_space};
+use crate::quotes::Unclosed;
 use pw_token::{PieceKind, piece_at};
+
+/// What is passed over from a place on.
+#[derive(Clone, Copy)]
+pub enum Passed {
+    /// The blanks and comments of a line.
+    Space,
+    /// A line, up to its end wherever that stands.
+    Rest,
+    /// A line in which comments count, and quotes that close hide them.
+    Line,
+}
 
 fn is_bare_newline(text: &[u8], at: usize) -> bool
     ensures { result ≡ is_bare_newline text.now at }
@@ -16,51 +31,6 @@ fn is_raw_end(text: &[u8], at: usize) -> bool
     ensures { result ≡ is_raw_end text.now at }
 {
     text.len() <= at || is_bare_newline(text, at)
-}
-
-/// Where the next line begins, of a line that is passed over from a place on: behind the first newline without a backslash
-/// directly before it.
-pub fn pass_rest(text: &[u8], at: usize) -> usize
-    requires { at ≤ length text.now }
-    ensures passed { PassesRest text.now at result }
-    ensures within { result ≤ length text.now }
-{
-    let mut end = at;
-    while !is_raw_end(text, end) {
-        end += 1;
-    }
-    behind_line(text, end)
-}
-
-/// How long what an opening quote opens is, with both quotes, or 0 where the line ends before the closing one.
-fn quoted_len(quote: u8, text: &[u8]) -> usize
-    requires { length text.now < usize.MAX }
-    ensures value { result ≡ quoted_len quote false 0 1 text.now }
-    ensures within { result ≤ length text.now + 1 }
-{
-    let mut len = 1;
-    let mut escaped = false;
-    let mut last = 0;
-    let mut rest = text;
-    while let [first, after @ ..] = rest {
-        len += 1;
-        if !escaped && *first == quote {
-            return len;
-        }
-        if !escaped && *first == b'\n' && last != b'\\' {
-            return 0;
-        }
-        escaped = !escaped && *first == b'\\';
-        last = *first;
-        rest = after;
-    }
-    0
-}
-
-fn is_quote(byte: u8) -> bool
-    ensures { result ≡ is_quote byte }
-{
-    byte == b'\'' || byte == b'"'
 }
 
 fn opens_comment(text: &[u8], at: usize) -> bool
@@ -86,22 +56,116 @@ fn or_else(len: usize, other: usize) -> usize
     if len == 0 { other } else { len }
 }
 
-fn step_len(text: &[u8], at: usize) -> usize
-    requires { at < length text.now }
+/// The length of the blank or comment that was found, 0 where none was.
+fn space_len(found: Option<(PieceKind, usize)>) -> usize
+    ensures { result ≡ space_len found }
+{
+    match found {
+        Some((kind, len)) if is_space(kind) => len,
+        _ => 0,
+    }
+}
+
+fn space_step(text: &[u8], at: usize) -> Option<usize>
+    requires { at ≤ length text.now }
+    ensures step { IsStep Passed.Space text.now at result }
+    ensures within { IfSome result (λ len. (0 < len) × (at + len ≤ length text.now)) }
+{
+    if is_line_end(text, at) {
+        return None;
+    }
+    let len = space_len(piece_at(false, &text[at..]));
+    if len == 0 {
+        return None;
+    }
+    Some(len)
+}
+
+fn step_len(unclosed: &mut Unclosed, text: &[u8], at: usize) -> usize
+    requires within { at < length text.now }
+    requires unclosed { AreUnclosed text.now at unclosed.old }
     ensures value { result ≡ step_len text.now at }
     ensures some { 0 < result }
-    ensures within { at + result ≤ length text.now }
+    ensures inside { at + result ≤ length text.now }
+    ensures unclosed { AreUnclosed text.now at unclosed.new }
 {
     if opens_comment(text, at) {
         let len = comment_found(piece_at(false, &text[at..]));
         return or_else(len, text.len() - at);
     }
-    let byte = byte_at(text, at);
-    if is_quote(byte) {
-        or_else(quoted_len(byte, &text[at + 1..]), 1)
-    } else {
-        1
+    unclosed.len_at(text, at)
+}
+
+fn rest_step(text: &[u8], at: usize) -> Option<usize>
+    requires { at ≤ length text.now }
+    ensures step { IsStep Passed.Rest text.now at result }
+    ensures within { IfSome result (λ len. (0 < len) × (at + len ≤ length text.now)) }
+{
+    if is_raw_end(text, at) {
+        return None;
     }
+    Some(1)
+}
+
+fn line_step(unclosed: &mut Unclosed, text: &[u8], at: usize) -> Option<usize>
+    requires within { at ≤ length text.now }
+    requires unclosed { AreUnclosed text.now at unclosed.old }
+    ensures step { IsStep Passed.Line text.now at result }
+    ensures within { IfSome result (λ len. (0 < len) × (at + len ≤ length text.now)) }
+    ensures unclosed { AreUnclosed text.now at unclosed.new }
+{
+    if is_raw_end(text, at) {
+        return None;
+    }
+    Some(step_len(unclosed, text, at))
+}
+
+/// The step that there is at a place.
+fn step(passed: Passed, unclosed: &mut Unclosed, text: &[u8], at: usize) -> Option<usize>
+    requires within { at ≤ length text.now }
+    requires unclosed { AreUnclosed text.now at unclosed.old }
+    ensures step { IsStep passed text.now at result }
+    ensures within { IfSome result (λ len. (0 < len) × (at + len ≤ length text.now)) }
+    ensures unclosed { AreUnclosed text.now at unclosed.new }
+{
+    match passed {
+        Passed::Space => space_step(text, at),
+        Passed::Rest => rest_step(text, at),
+        Passed::Line => line_step(unclosed, text, at),
+    }
+}
+
+/// Where what is passed over from a place on ends.
+fn walk(passed: Passed, text: &[u8], at: usize) -> usize
+    requires { at ≤ length text.now }
+    ensures walked { Walked passed text.now at result }
+    ensures within { result ≤ length text.now }
+{
+    let mut unclosed = Unclosed::new();
+    let mut end = at;
+    while let Some(len) = step(passed, &mut unclosed, text, end) {
+        end += len;
+    }
+    end
+}
+
+/// Where the blanks and comments end that stand in a line from a place on.
+pub fn pass_space(text: &[u8], at: usize) -> usize
+    requires { at ≤ length text.now }
+    ensures passed { PassesSpace text.now at result }
+    ensures within { result ≤ length text.now }
+{
+    walk(Passed::Space, text, at)
+}
+
+/// Where the next line begins, of a line that is passed over from a place on: behind the first newline without a backslash
+/// directly before it.
+pub fn pass_rest(text: &[u8], at: usize) -> usize
+    requires { at ≤ length text.now }
+    ensures passed { PassesRest text.now at result }
+    ensures within { result ≤ length text.now }
+{
+    behind_line(text, walk(Passed::Rest, text, at))
 }
 
 /// Where the next line begins, of a line that is passed over from its beginning on: no newline in a comment ends it, and no
@@ -111,9 +175,5 @@ pub fn pass_line(text: &[u8], at: usize) -> usize
     ensures passed { PassesLine text.now at result }
     ensures within { result ≤ length text.now }
 {
-    let mut end = at;
-    while !is_raw_end(text, end) {
-        end += step_len(text, end);
-    }
-    behind_line(text, end)
+    behind_line(text, walk(Passed::Line, text, at))
 }

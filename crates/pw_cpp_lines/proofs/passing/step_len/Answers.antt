@@ -2,7 +2,7 @@ use Rattle.std.proofs.Common.{◌≡◌, ℕ, ◌-◌, true, length, drop, sym, 
 use Rattle.std.proofs.lemmas.List.{take_rest}
 use Rattle.pw_token.specs.Pieces.{piece_at}
 use Rattle.pw_cpp_lines.specs.Passing.{comment_found, opens_comment}
-use Rattle.pw_cpp_lines.proofs.StepLaws.{step-comment}
+use Rattle.pw_cpp_lines.proofs.Comments.{step-comment}
 use Rattle.pw_cpp_lines.proofs.passing.step_len.Goals as goal
 
 pub returns-then-opens_comment-clause-value : goal.returns-then-opens_comment-clause-value

@@ -1,0 +1,4 @@
+pub mod ReadingOn
+pub mod Cutting
+pub mod OneOutcome
+pub mod Steps

@@ -1,0 +1,9 @@
+use Rattle.std.proofs.Common.{refl}
+use Rattle.pw_cpp_sets.proofs.Nodes.{empty-set, made-by}
+use Rattle.pw_cpp_sets.proofs.sets.node_of.Goals as goal
+
+pub returns-then-set-eq0 : goal.returns-then-set-eq0
+returns-then-set-eq0 c = empty-set c.args.nodes.now c.args.set c.if-set-eq0.true
+
+pub returns : goal.returns
+returns c = ?
