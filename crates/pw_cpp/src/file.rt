@@ -356,7 +356,7 @@ fn placed(
     let text = &source.bytes.as_slice()[span.from..span.end];
     Ok(CppFault {
         kind: fault.kind,
-        file: files[index].0.copied(alloc)?,
+        file: files[index].0.copy(alloc)?,
         line: line_at(text, fault.place - span.from) as u64,
     })
 }

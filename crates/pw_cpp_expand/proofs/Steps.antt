@@ -43,16 +43,16 @@ before_first : (out : List Lexeme) (t : Lexeme) (more : Outcome) → with_before
 before_first out t (Done more p) = ap (λ x. Done x p) (sym (append_assoc out (t ∷ []) more))
 before_first out t (Stopped fault) = refl
 
+-- the mode in which the tokens at hand are expanded
+abbrev pub mode_in : Mode → List Opened → Mode
+mode_in mode [] = mode
+mode_in mode (call ∷ calls) = Alone
+
 module _ (source text : List ℕ) (macros : Macros) where
   -- Whatever some tokens come to behind those that stand, others come to behind others.
   abbrev pub Improves : Mode → List Lexeme → List Lexeme → Progress → List Lexeme → List Lexeme → Progress → Type 0
   Improves mode pending out p pending' out' p' =
       (more : Outcome) → Expands source text macros mode pending' p' more → (o : Outcome) × Expands source text macros mode pending p o × (with_before out o ≡ with_before out' more)
-
-  -- the mode in which the tokens at hand are expanded
-  abbrev pub mode_in : Mode → List Opened → Mode
-  mode_in mode [] = mode
-  mode_in mode (call ∷ calls) = Alone
 
   pub comes-on : (mode : Mode) (calls : List Opened) (pending out : List Lexeme) (p : Progress) (pending' out' : List Lexeme) (p' : Progress) (outcome : Outcome)
       → Improves (mode_in mode calls) pending out p pending' out' p' → Comes source text macros mode calls pending' out' p' outcome → Comes source text macros mode calls pending out p outcome

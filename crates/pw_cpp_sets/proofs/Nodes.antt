@@ -1,6 +1,6 @@
 -- Sets by their nodes.
 use Rattle.std.proofs.Common.{◌≡◌, Option, Some, None, slice_get, ℕ, zero, suc, ◌+◌, ◌-◌, ◌<◌, ◌≤◌, Bool, true, false, ◌||◌, List, [], ◌∷◌, ◌++◌, length, get_or, map, refl, sym, ap, ◌∙◌, subst, append_assoc, length-append, arith}
-use Rattle.std.proofs.lemmas.List.{append-nil, map-append}
+use Rattle.std.proofs.lemmas.List.{append-nil, get_or_append_left, map-append}
 use Rattle.std.proofs.lemmas.List.Folds.{list_any-append}
 use Rattle.std.proofs.lemmas.Slice.Eq.{bytes_eq-Decides}
 use Rattle.std.specs.Borrow.{Bor}
@@ -16,22 +16,13 @@ said name = name.now
 -- ---- what is known stays
 
 pub keeps-same : (known : Known) → Keeps known known
-keeps-same known = ([], sym (append-nil known))
+keeps-same known = record { count = omega arith; same = λ number h. refl }
 
 pub keeps-more : (a b c : Known) → Keeps a b → Keeps b c → Keeps a c
-keeps-more a b c h k = (h.0 ++ k.0, k.1 ∙ ap (λ x. x ++ k.0) h.1 ∙ append_assoc a h.0 k.0)
+keeps-more a b c h k = record { count = omega (arith, h.count, k.count); same = λ number l. k.same number (omega (arith, l, h.count)) ∙ h.same number l }
 
--- a set keeps its number
-get-front : {A : Type 0} (xs ys : List A) (i : ℕ) (d : A) → i < length xs → get_or (xs ++ ys) i d ≡ get_or xs i d
-get-front [] ys i d h = absurd (omega (arith, h))
-get-front (x ∷ xs) ys zero d h = refl
-get-front (x ∷ xs) ys (suc i) d h = get-front xs ys i d (omega (arith, h))
-
-pub set-kept : (old new : Known) (number : ℕ) → Keeps old new → number < length old → set_at new number ≡ set_at old number
-set-kept old new number k h = ap (λ x. set_at x number) k.1 ∙ get-front old k.0 number [] h
-
-pub length-kept : (old new : Known) → Keeps old new → length old ≤ length new
-length-kept old new k = omega (arith, ap length k.1, length-append old k.0)
+keeps-push : (known : Known) (names : Names) → Keeps known (known ++ names ∷ [])
+keeps-push known names = record { count = omega (arith, length-append known (names ∷ [])); same = λ number h. get_or_append_left known (names ∷ []) [] number h }
 
 -- the last of a list
 get-last : {A : Type 0} (xs : List A) (x d : A) → get_or (xs ++ x ∷ []) (length xs) d ≡ x
@@ -66,7 +57,7 @@ behind-more count (n ∷ nodes) node h e = (h.0, behind-more (suc count) nodes n
 fold-keeps : (nodes : List Node) (known : Known) → Keeps known (fold with_node known nodes)
 fold-keeps [] known = keeps-same known
 fold-keeps (node ∷ nodes) known =
-    keeps-more known (with_node known node) (fold with_node (with_node known node) nodes) ((node.name.now ∷ set_at known node.rest) ∷ [], refl) (fold-keeps nodes (with_node known node))
+    keeps-more known (with_node known node) (fold with_node (with_node known node) nodes) (keeps-push known (node.name.now ∷ set_at known node.rest)) (fold-keeps nodes (with_node known node))
 
 -- the set that the last node makes
 made-last : (known : Known) (node : Node) → set_at (with_node known node) (length known) ≡ node.name.now ∷ set_at known node.rest
@@ -90,13 +81,15 @@ node-in (n ∷ nodes) known count l h zero node e = let P : Node → Type 0 = λ
     final = fold with_node (with_node known n) nodes
     keeps : Keeps (with_node known n) final
     keeps = fold-keeps nodes (with_node known n)
+    all : Keeps known final
+    all = keeps-more known (with_node known n) final (keeps-push known (n.name.now ∷ set_at known n.rest)) keeps
     first : MakesSet (fold with_node known (n ∷ nodes)) (suc count + 0) n (count + 0)
     first = record {
       is =
         ap (set_at final) (omega (arith, l))
-        ∙ set-kept (with_node known n) final (length known) keeps (omega (arith, length-append known ((n.name.now ∷ set_at known n.rest) ∷ [])))
+        ∙ keeps.same (length known) (omega (arith, length-append known ((n.name.now ∷ set_at known n.rest) ∷ [])))
         ∙ made-last known n
-        ∙ ap (λ x. n.name.now ∷ x) (sym (set-kept known final n.rest (keeps-more known (with_node known n) final ((n.name.now ∷ set_at known n.rest) ∷ [], refl) keeps) (omega (arith, l, h.0))));
+        ∙ ap (λ x. n.name.now ∷ x) (sym (all.same n.rest (omega (arith, l, h.0))));
       before = omega (arith, h.0);
     }
 node-in (n ∷ nodes) known count l h (suc k) node e =
@@ -114,7 +107,7 @@ made-by nodes set node h some e =
 
 -- number 0 is the empty set
 pub empty-set : (nodes : List Node) (set : ℕ) → set ≡ 0 → set_at (sets_of nodes) set ≡ []
-empty-set nodes set e = ap (set_at (sets_of nodes)) e ∙ set-kept ([] ∷ []) (sets_of nodes) 0 (fold-keeps nodes ([] ∷ [])) (omega arith)
+empty-set nodes set e = ap (set_at (sets_of nodes)) e ∙ (fold-keeps nodes ([] ∷ [])).same 0 (omega arith)
 
 -- ---- what steps from a set to the others find
 
@@ -181,3 +174,27 @@ shared-self names = all_in [] names
 -- a name that is put in front of a set, and those before it
 pub names-front : (before : List (Bor (List ℕ))) (name : Bor (List ℕ)) (done : Names) → map said (before ++ name ∷ []) ++ done ≡ map said before ++ name.now ∷ done
 names-front before name done = ap (λ x. x ++ done) (map-append said before (name ∷ [])) ∙ append_assoc (map said before) (name.now ∷ []) done
+
+-- ---- a set more
+
+module _ (nodes new : List Node) (known : Known) (node : Node) (e : sets_of nodes ≡ known) (n : new ≡ nodes ++ node ∷ []) where
+  pub known-more : sets_of new ≡ with_node known node
+  known-more = ap sets_of n ∙ sets-more nodes node ∙ ap (λ x. with_node x node) e
+
+  pub keeps-with : Keeps known (sets_of new)
+  keeps-with = let P : Known → Type 0 = λ x. Keeps known x in subst P (sym known-more) (keeps-push known (node.name.now ∷ set_at known node.rest))
+
+  -- the new set has the number of the nodes
+  pub number-with : (number : ℕ) → number ≡ length new → (number < length (sets_of new)) × (set_at (sets_of new) number ≡ node.name.now ∷ set_at known node.rest)
+  number-with number c = (omega (arith, c, sets-count new), ap (λ x. set_at x number) known-more ∙ ap (set_at (with_node known node)) same ∙ made-last known node)
+    where
+      same : number ≡ length known
+      same = omega (arith, c, ap length n, length-append nodes (node ∷ []), ap length e, sets-count nodes)
+
+  -- and the set that it names is known before it
+  pub behind-with : AreBehind 0 nodes → node.rest < length known → AreBehind 0 new
+  behind-with h w = let P : List Node → Type 0 = λ x. AreBehind 0 x in subst P (sym n) (behind-more 0 nodes node h (omega (arith, set-within nodes known node.rest e w)))
+
+-- where nothing changes, all is kept
+pub keeps-all : (nodes new : List Node) (known : Known) → sets_of nodes ≡ known → new ≡ nodes → Keeps known (sets_of new)
+keeps-all nodes new known e n = let P : Known → Type 0 = λ x. Keeps known x in subst P (sym (ap sets_of n ∙ e)) (keeps-same known)

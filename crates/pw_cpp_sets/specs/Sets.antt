@@ -29,8 +29,9 @@ abbrev pub sets_of : List Node → Known
 sets_of nodes = fold with_node ([] ∷ []) nodes
 
 -- the sets that were known keep their numbers
-abbrev pub Keeps : Known → Known → Type 0
-Keeps old new = (more : Known) × (new ≡ old ++ more)
+pub record Keeps (old new : Known) : Type 0 where
+  pub count : length old ≤ length new
+  pub same : (number : ℕ) → number < length old → set_at new number ≡ set_at old number
 
 -- what two sets share
 abbrev pub shared : Names → Names → Names

@@ -1,4 +1,5 @@
-use Rattle.std.proofs.Common.{refl}
+use Rattle.std.proofs.Common.{length, refl, arith}
+use Rattle.std.proofs.lemmas.Option.{slice_get_read}
 use Rattle.pw_cpp_sets.proofs.Nodes.{empty-set, made-by}
 use Rattle.pw_cpp_sets.proofs.sets.node_of.Goals as goal
 
