@@ -3,9 +3,9 @@ use Rattle.std.specs.Prelude.{◌≡◌, ℕ, ◌≤◌, Bool, not, if◌then◌
 use Rattle.std.specs.Vec.{Vec}
 use Rattle.pw_token.specs.declared.token.Token.{Token}
 use Rattle.pw_token.specs.declared.token.TokenKind.TheVariants as token
-use Rattle.pw_cpp.specs.Conditions.{Judges, Holds, Faulty, items_of}
+use Rattle.pw_cpp.specs.Conditions.{Judges, Verdict, Holds, Faulty, items_of}
 use Rattle.pw_cpp.specs.Conditions as condition
-use Rattle.pw_cpp.specs.Directives.{Becomes, DoesWord, Fails, Standing, fault, standing, word_of}
+use Rattle.pw_cpp.specs.Directives.{Becomes, DoesWord, Effect, Fails, Standing, fault, fault_of_expansion, standing, word_of}
 use Rattle.pw_cpp.specs.Files.{Faulted, File, GoesOn, Include, Includes, Obeys, Passed, Pragma, Preprocesses, Read, Reading, ReadsFile, ReadsLine, ReadsText, Result_of, Step, Stops, Use, Whole, after_passed, begins, file_named, line_of, name_of, output_of, passing, progress, text_of, with_standing}
 use Rattle.pw_cpp.specs.Groups.{is_reading, is_turn}
 use Rattle.pw_cpp.specs.declared.file.Reader.{Reader}
@@ -67,9 +67,28 @@ standing_of kept = standing kept.macros (reverse kept.sections) kept.produced
 abbrev pub IsFaultOf : Fault → (Fault → Type 0) → Type 0
 IsFaultOf f Is = (f.kind ≡ kind.NoMemory) ⊎ Is f
 
+-- what a call made of what stands, and its answer: an effect that the directive has, unless memory ran out
+abbrev pub IsDoneBy : (Effect → Type 0) → Kept → Result (Unit {0}) Fault → Type 0
+IsDoneBy Does new (Ok done) = Does (Becomes (standing_of new))
+IsDoneBy Does new (Err found) = IsFaultOf found (λ f. Does (Fails f))
+
 abbrev pub AnswersEffect : List ℕ → Digits → Directive → Kept → Kept → Result (Unit {0}) Fault → Type 0
-AnswersEffect source digits d old new (Ok done) = DoesWord source digits (standing_of old) d.hash d.tokens.now (word_of d.name.now) (Becomes (standing_of new))
-AnswersEffect source digits d old new (Err fault) = IsFaultOf fault (λ f. DoesWord source digits (standing_of old) d.hash d.tokens.now (word_of d.name.now) (Fails f))
+AnswersEffect source digits d old new result = IsDoneBy (DoesWord source digits (standing_of old) d.hash d.tokens.now (word_of d.name.now)) new result
+
+-- what a directive leaves that neither opens sections nor expands tokens
+abbrev pub IsBeside : Kept → Kept → Type 0
+IsBeside old new = (new.sets ≡ old.sets) × (new.nested ≡ old.nested) × (new.produced ≡ old.produced)
+
+-- the fault that a verdict is
+abbrev pub fault_of_verdict : ℕ → Verdict → Option Fault
+fault_of_verdict hash (Holds holds produced) = None
+fault_of_verdict hash Faulty = Some (fault kind.Condition hash)
+fault_of_verdict hash (condition.Stops f) = Some (fault_of_expansion f)
+
+-- whether a condition holds, with the tokens produced so far; or the fault that its verdict is, unless memory ran out
+abbrev pub IsJudgedBy : (Verdict → Type 0) → ℕ → ℕ → Result Bool Fault → Type 0
+IsJudgedBy Is hash produced (Ok holds) = Is (Holds holds produced)
+IsJudgedBy Is hash produced (Err found) = IsFaultOf found (λ f. (verdict : Verdict) × Is verdict × (fault_of_verdict hash verdict ≡ Some f))
 
 -- ---- files
 

@@ -1,11 +1,13 @@
 //! Directives that are read.
 
-ghost use Rattle.std.specs.Prelude.{◌≡◌, ◌≤◌, ◌<◌, ◌+◌, ◌++◌, ◌∷◌, [], length, option_map, IfOk, IfErr, MatchResult};
-ghost use Rattle.pw_cpp.specs.Answers.{AnswersEffect};
+ghost use Rattle.std.specs.Prelude.{◌≡◌, ◌≤◌, ◌<◌, ◌+◌, ◌++◌, ◌∷◌, [], None, Some, option_map, reverse, IfOk, IfErr, MatchResult};
+ghost use Rattle.pw_cpp.specs.Answers.{AnswersEffect, IsBeside, IsDoneBy, IsJudgedBy, standing_of};
+ghost use Rattle.pw_cpp.specs.Conditions.{Judges};
 ghost use Rattle.pw_cpp.specs.Directives as spec;
-ghost use Rattle.pw_cpp_expand.specs.AtHand.{IsWithinLimits};
+ghost use Rattle.pw_cpp.specs.Directives.{TurnsElif};
 ghost use Rattle.pw_cpp_expand.specs.Expansion.{produced_limit};
 ghost use Rattle.pw_cpp_expand.specs.Numbered.{HaveEmpty};
+ghost use Rattle.pw_cpp_macros.specs.Definitions.{definition_of};
 ghost use Rattle.pw_cpp_sets.specs.Sets.{Keeps};
 
 use crate::condition::{Verdict, judge};
@@ -139,8 +141,21 @@ fn one_name<'a>(source: &'a [u8], tokens: &[Token]) -> Option<&'a [u8]>
     }
 }
 
+/// The name that `#undef`, `#ifdef` or `#ifndef` has.
+fn name_of<'a>(source: &'a [u8], d: Directive<'_>) -> Result<&'a [u8], Fault>
+    ensures { MatchResult result (λ name. spec.one_name source.now d.tokens.now ≡ Some name.now) (λ fault. (spec.one_name source.now d.tokens.now ≡ None) × (fault ≡ spec.fault CppKind.Directive d.hash)) }
+{
+    match one_name(source, d.tokens) {
+        Some(name) => Ok(name),
+        None => Err(faulty(CppKind::Directive, d.hash)),
+    }
+}
+
 impl<'a> Standing<'a> {
-    fn define(&mut self, alloc: Global, source: &'a [u8], d: Directive<'_>) -> Result<(), Fault> {
+    fn define(&mut self, alloc: Global, source: &'a [u8], d: Directive<'_>) -> Result<(), Fault>
+        ensures does { IsDoneBy (λ effect. effect ≡ spec.with_definition source.now (standing_of self.old) d.hash (definition_of source.now d.tokens.now)) self.new result }
+        ensures beside { IsBeside self.old self.new }
+    {
         let definition = match definition_of(alloc, source, d.tokens) {
             Ok(definition) => definition,
             Err(fault) => return Err(of_definition(fault, d.hash)),
@@ -151,41 +166,52 @@ impl<'a> Standing<'a> {
         }
     }
 
-    fn undefine(&mut self, source: &'a [u8], d: Directive<'_>) -> Result<(), Fault> {
-        let name = Self::name_of(source, d)?;
+    fn undefine(&mut self, source: &'a [u8], d: Directive<'_>) -> Result<(), Fault>
+        ensures does { IsDoneBy (λ effect. effect ≡ spec.with_undefined (standing_of self.old) d.hash (spec.one_name source.now d.tokens.now)) self.new result }
+        ensures beside { IsBeside self.old self.new }
+    {
+        let name = name_of(source, d)?;
         self.macros.undefine(name);
         Ok(())
     }
 
     /// Opens a section that is taken where a name is a macro's, or where it is none.
-    fn test(&mut self, wanted: bool, source: &'a [u8], d: Directive<'_>) -> Result<(), Fault> {
-        let name = Self::name_of(source, d)?;
+    fn test(&mut self, wanted: bool, source: &'a [u8], d: Directive<'_>) -> Result<(), Fault>
+        ensures does { IsDoneBy (λ effect. effect ≡ spec.with_test wanted (standing_of self.old) d.hash (spec.one_name source.now d.tokens.now)) self.new result }
+        ensures beside { IsBeside self.old self.new }
+    {
+        let name = name_of(source, d)?;
         let is_macro = self.macros.find(name).is_some();
         self.open(opened(if wanted { is_macro } else { !is_macro }), d.hash)
     }
 
-    fn open(&mut self, section: Section, place: usize) -> Result<(), Fault> {
+    /// Puts a section within the others.
+    fn open(&mut self, section: Section, place: usize) -> Result<(), Fault>
+        ensures opened { IfOk result (λ _. self.new ≡ record self.old { sections = self.old.sections ++ section ∷ [] }) }
+        ensures fault { IfErr result (λ fault. fault.kind ≡ CppKind.NoMemory) }
+        ensures beside { IsBeside self.old self.new }
+    {
         match self.sections.push(section) {
             Ok(()) => Ok(()),
             Err(_) => Err(faulty(CppKind::NoMemory, place)),
         }
     }
 
-    /// The name that `#undef`, `#ifdef` or `#ifndef` has.
-    fn name_of(source: &'a [u8], d: Directive<'_>) -> Result<&'a [u8], Fault> {
-        match one_name(source, d.tokens) {
-            Some(name) => Ok(name),
-            None => Err(faulty(CppKind::Directive, d.hash)),
-        }
-    }
-
+    /// Whether the condition of a directive holds.
     fn holds(
         &mut self,
         alloc: Global,
         source: &'a [u8],
         digits: Digits,
         d: Directive<'_>,
-    ) -> Result<bool, Fault> {
+    ) -> Result<bool, Fault>
+        requires limits { self.old.produced ≤ produced_limit }
+        requires empty { HaveEmpty self.old.sets }
+        ensures judges { IsJudgedBy (Judges source.now self.old.macros digits d.tokens.now self.old.produced) d.hash self.new.produced result }
+        ensures keeps { Keeps self.old.sets self.new.sets }
+        ensures limits { IfOk result (λ _. self.new.produced ≤ produced_limit) }
+        ensures rest { self.new ≡ record self.old { sets = self.new.sets; produced = self.new.produced } }
+    {
         let mut progress = Progress {
             next: 0,
             rows: Items::new(alloc),
@@ -210,7 +236,14 @@ impl<'a> Standing<'a> {
         source: &'a [u8],
         digits: Digits,
         d: Directive<'_>,
-    ) -> Result<(), Fault> {
+    ) -> Result<(), Fault>
+        requires limits { self.old.produced ≤ produced_limit }
+        requires empty { HaveEmpty self.old.sets }
+        ensures does { IsDoneBy (TurnsElif source.now digits (standing_of self.old) d.hash d.tokens.now (reverse self.old.sections)) self.new result }
+        ensures keeps { Keeps self.old.sets self.new.sets }
+        ensures limits { IfOk result (λ _. self.new.produced ≤ produced_limit) }
+        ensures nested { self.new.nested ≡ self.old.nested }
+    {
         let section = self.innermost(d)?;
         if section.behind_else {
             return Err(faulty(CppKind::Condition, d.hash));
@@ -219,7 +252,10 @@ impl<'a> Standing<'a> {
         self.open(with_elif(holds, section), d.hash)
     }
 
-    fn turn_else(&mut self, d: Directive<'_>) -> Result<(), Fault> {
+    fn turn_else(&mut self, d: Directive<'_>) -> Result<(), Fault>
+        ensures does { IsDoneBy (λ effect. effect ≡ spec.else_effect (standing_of self.old) d.hash d.tokens.now (reverse self.old.sections)) self.new result }
+        ensures beside { IsBeside self.old self.new }
+    {
         if !d.tokens.is_empty() {
             return Err(faulty(CppKind::Directive, d.hash));
         }
@@ -230,7 +266,10 @@ impl<'a> Standing<'a> {
         self.open(with_else(section), d.hash)
     }
 
-    fn end(&mut self, d: Directive<'_>) -> Result<(), Fault> {
+    fn end(&mut self, d: Directive<'_>) -> Result<(), Fault>
+        ensures does { IsDoneBy (λ effect. effect ≡ spec.endif_effect (standing_of self.old) d.hash d.tokens.now (reverse self.old.sections)) self.new result }
+        ensures beside { IsBeside self.old self.new }
+    {
         if !d.tokens.is_empty() {
             return Err(faulty(CppKind::Directive, d.hash));
         }
@@ -239,7 +278,11 @@ impl<'a> Standing<'a> {
     }
 
     /// Takes the innermost section off the others.
-    fn innermost(&mut self, d: Directive<'_>) -> Result<Section, Fault> {
+    fn innermost(&mut self, d: Directive<'_>) -> Result<Section, Fault>
+        ensures taken { IfOk result (λ section. self.old ≡ record self.new { sections = self.new.sections ++ section ∷ [] }) }
+        ensures fault { IfErr result (λ fault. (self.old.sections ≡ []) × (fault ≡ spec.fault CppKind.Condition d.hash)) }
+        ensures beside { IsBeside self.old self.new }
+    {
         match self.sections.pop() {
             Some(section) => Ok(section),
             None => Err(faulty(CppKind::Condition, d.hash)),

@@ -1,9 +1,9 @@
 -- The arguments of a call, as they are cut.
-use Rattle.std.proofs.Common.{◌≡◌, ℕ, zero, suc, ◌+◌, List, [], ◌∷◌, ◌++◌, map, refl, sym, ap, ◌∙◌, subst}
+use Rattle.std.proofs.Common.{◌≡◌, ℕ, List, [], ◌∷◌, ◌++◌, map, refl, sym, ap, ◌∙◌, subst}
 use Rattle.std.proofs.lemmas.List.{map-append}
-use Rattle.pw_cpp_expand.specs.Calls.{Called, Collects, CollectsPart, lengthened, looks, token, opens, closes_inner, parts, parts_inner, goes_on, part_of}
-use Rattle.pw_cpp_expand.specs.declared.arguments.Part.{Part}
-use Rattle.pw_cpp_expand.specs.declared.arguments.Part.TheVariants as part
+use Rattle.pw_cpp_expand.specs.Calls.{Called, Closed, Collects, CollectsCut, cut_of, ends, lengthened, looks, next, part_of, token, within}
+use Rattle.pw_cpp_expand.specs.declared.arguments.Cut.{Cut}
+use Rattle.pw_cpp_expand.specs.declared.arguments.Cut.TheVariants as cut
 use Rattle.pw_cpp_expand.specs.Lookahead.{At, Lexeme, LooksAhead}
 use Rattle.pw_cpp_expand.specs.Numbered.{HaveEmpty, all_named, at_hand, named}
 use Rattle.pw_cpp_expand.specs.declared.progress.Lexeme.{Lexeme as Numbered}
@@ -36,53 +36,32 @@ LeadsTo source text mode pending p depth whole last left q =
     → Collects source text mode depth (so_far known whole last) (at_hand known left) q called → Collects source text mode 0 ([] ∷ []) (at_hand known pending) p called
 
 module _ (source text : List ℕ) (mode : Mode) (start : List Numbered) (s : Progress) (whole : List (List Numbered)) (last : List Numbered) (pending : List Numbered) (p : Progress)
-    (mark : Numbered) (left : List Numbered) (q : Progress)
-    (ahead : (known : Known) → HaveEmpty known → LooksAhead text mode (at_hand known pending) p (At (named known mark ∷ at_hand known left) q)) where
-  -- the next token does what its part does
-  by_part : (depth after : ℕ) (what : Part) (whole' : List (List Numbered)) (last' : List Numbered) → LeadsTo source text mode start s depth whole last pending p
-      → ((known : Known) → part_of source (named known mark) ≡ what)
-      → ((known : Known) (called : Called) → Collects source text mode after (so_far known whole' last') (at_hand known left) q called
-          → CollectsPart source text mode what depth (so_far known whole last) (named known mark) (at_hand known left) q called)
-      → LeadsTo source text mode start s after whole' last' left q
-  by_part depth after what whole' last' leads is step known empty called c =
-      let P : Part → Type 0 = λ x. CollectsPart source text mode x depth (so_far known whole last) (named known mark) (at_hand known left) q called in
+    (mark : Numbered) (left : List Numbered) (q : Progress) (depth : ℕ)
+    (ahead : (known : Known) → HaveEmpty known → LooksAhead text mode (at_hand known pending) p (At (named known mark ∷ at_hand known left) q))
+    (leads : LeadsTo source text mode start s depth whole last pending p) where
+  -- what comes of the next token, by what it does
+  by_cut : (what : Cut) → ((known : Known) → what ≡ cut_of (part_of source (named known mark)) depth) → (known : Known) → HaveEmpty known → (called : Called)
+      → CollectsCut source text mode what (so_far known whole last) (named known mark) (at_hand known left) q called → Collects source text mode 0 ([] ∷ []) (at_hand known start) s called
+  by_cut what is known empty called c =
+      let P : Cut → Type 0 = λ x. CollectsCut source text mode x (so_far known whole last) (named known mark) (at_hand known left) q called in
       leads known empty called (looks depth (so_far known whole last) (at_hand known pending) p (At (named known mark ∷ at_hand known left) q) called (ahead known empty)
-        (token depth (so_far known whole last) (named known mark) (at_hand known left) q called (subst P (sym (is known)) (step known called c))))
+        (token depth (so_far known whole last) (named known mark) (at_hand known left) q called (subst P (is known) c)))
 
-  -- what stands behind the last argument's next token
-  more : (after : ℕ) (known : Known) (called : Called) → Collects source text mode after (so_far known whole (last ++ mark ∷ [])) (at_hand known left) q called
-      → Collects source text mode after (lengthened (so_far known whole last) (named known mark)) (at_hand known left) q called
-  more after known called c =
-      let P : List (List Lexeme) → Type 0 = λ x. Collects source text mode after x (at_hand known left) q called in
-      subst P (sym (so-far-more known whole last mark)) c
+  pub leads-within : (inner : ℕ) → ((known : Known) → cut.Within inner ≡ cut_of (part_of source (named known mark)) depth)
+      → LeadsTo source text mode start s inner whole (last ++ mark ∷ []) left q
+  leads-within inner is known empty called c =
+      let P : List (List Lexeme) → Type 0 = λ x. Collects source text mode inner x (at_hand known left) q called in
+      by_cut (cut.Within inner) is known empty called
+      (within inner (so_far known whole last) (named known mark) (at_hand known left) q called (subst P (sym (so-far-more known whole last mark)) c))
 
-  pub leads-open : (depth : ℕ) → LeadsTo source text mode start s depth whole last pending p → ((known : Known) → part_of source (named known mark) ≡ part.Opens)
-      → LeadsTo source text mode start s (suc depth) whole (last ++ mark ∷ []) left q
-  leads-open depth leads is =
-      by_part depth (suc depth) part.Opens whole (last ++ mark ∷ []) leads is (λ known called c. opens depth (so_far known whole last) (named known mark) (at_hand known left) q called (more (suc depth) known called c))
+  pub leads-next : ((known : Known) → cut.Next ≡ cut_of (part_of source (named known mark)) depth) → LeadsTo source text mode start s 0 (whole ++ last ∷ []) [] left q
+  leads-next is known empty called c =
+      let P : List (List Lexeme) → Type 0 = λ x. Collects source text mode 0 x (at_hand known left) q called in
+      by_cut cut.Next is known empty called
+      (next (so_far known whole last) (named known mark) (at_hand known left) q called (subst P (sym (so-far-next known whole last)) c))
 
-  pub leads-close : (depth : ℕ) → LeadsTo source text mode start s (suc depth) whole last pending p → ((known : Known) → part_of source (named known mark) ≡ part.Closes)
-      → LeadsTo source text mode start s depth whole (last ++ mark ∷ []) left q
-  leads-close depth leads is =
-      by_part (suc depth) depth part.Closes whole (last ++ mark ∷ []) leads is (λ known called c. closes_inner depth (so_far known whole last) (named known mark) (at_hand known left) q called (more depth known called c))
-
-  pub leads-part : LeadsTo source text mode start s zero whole last pending p → ((known : Known) → part_of source (named known mark) ≡ part.Parts)
-      → LeadsTo source text mode start s zero (whole ++ last ∷ []) [] left q
-  leads-part leads is = by_part zero zero part.Parts (whole ++ last ∷ []) [] leads is step
-    where
-      step : (known : Known) (called : Called) → Collects source text mode zero (so_far known (whole ++ last ∷ []) []) (at_hand known left) q called
-          → CollectsPart source text mode part.Parts zero (so_far known whole last) (named known mark) (at_hand known left) q called
-      step known called c =
-          let P : List (List Lexeme) → Type 0 = λ x. Collects source text mode zero x (at_hand known left) q called in
-          parts (so_far known whole last) (named known mark) (at_hand known left) q called (subst P (sym (so-far-next known whole last)) c)
-
-  pub leads-comma : (depth : ℕ) → LeadsTo source text mode start s (suc depth) whole last pending p → ((known : Known) → part_of source (named known mark) ≡ part.Parts)
-      → LeadsTo source text mode start s (suc depth) whole (last ++ mark ∷ []) left q
-  leads-comma depth leads is =
-      by_part (suc depth) (suc depth) part.Parts whole (last ++ mark ∷ []) leads is
-      (λ known called c. parts_inner depth (so_far known whole last) (named known mark) (at_hand known left) q called (more (suc depth) known called c))
-
-  pub leads-on : (depth : ℕ) → LeadsTo source text mode start s depth whole last pending p → ((known : Known) → part_of source (named known mark) ≡ part.GoesOn)
-      → LeadsTo source text mode start s depth whole (last ++ mark ∷ []) left q
-  leads-on depth leads is =
-      by_part depth depth part.GoesOn whole (last ++ mark ∷ []) leads is (λ known called c. goes_on depth (so_far known whole last) (named known mark) (at_hand known left) q called (more depth known called c))
+  pub leads-end : ((known : Known) → cut.Ends ≡ cut_of (part_of source (named known mark)) depth) → (known : Known) → HaveEmpty known
+      → Collects source text mode 0 ([] ∷ []) (at_hand known start) s (Closed (so_far known whole last) (named known mark) (at_hand known left) q)
+  leads-end is known empty =
+      by_cut cut.Ends is known empty (Closed (so_far known whole last) (named known mark) (at_hand known left) q)
+      (ends (so_far known whole last) (named known mark) (at_hand known left) q)

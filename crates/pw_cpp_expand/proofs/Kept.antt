@@ -6,7 +6,7 @@ use Rattle.std.proofs.lemmas.List.Elements.{All-append, All-cons, All-head, All-
 use Rattle.pw_cpp_expand.specs.AtHand.{Comes, ComesTo, IsCallKnown, IsKnown, Opened, argument_named, opened, raw_named}
 use Rattle.pw_cpp_expand.specs.Expansion.{Outcome}
 use Rattle.pw_cpp_expand.specs.Lookahead.{Lexeme}
-use Rattle.pw_cpp_expand.specs.Numbered.{AreKnown, all_named, at_hand, named}
+use Rattle.pw_cpp_expand.specs.Numbered.{AreKnown, HaveEmpty, all_named, at_hand, named}
 use Rattle.pw_cpp_expand.specs.declared.expansion.Call.{Call}
 use Rattle.pw_cpp_expand.specs.declared.expansion.Expander.{Expander}
 use Rattle.pw_cpp_expand.specs.declared.expansion.Raw.{Raw}
@@ -41,6 +41,9 @@ pub turned-more : {A : Type 0} (done old new : List A) (x : A) → old ≡ new +
 turned-more done old new x e = append_assoc done (x ∷ []) (reverse new) ∙ ap (λ z. done ++ z) (sym (ap reverse e ∙ reverse-more new x))
 
 -- ---- what sets that are added leave
+
+pub keeps-on : (a b c : Known) → Keeps a b → Keeps b c → Keeps a c
+keeps-on a b c h k = record { count = omega (arith, h.count, k.count); same = λ number l. k.same number (omega (arith, l, h.count)) ∙ h.same number l }
 
 module _ (known new : Known) (keeps : Keeps known new) where
   pub named-kept : (l : Numbered) → l.hidden < length known → named new l ≡ named known l
@@ -100,6 +103,9 @@ module _ (known new : Known) (keeps : Keeps known new) where
       map-same (IsCallKnown known) (opened source new) (opened source known) (opened-kept source) (reverse calls) (reversed-all (IsCallKnown known) calls h)
 
   -- ---- what is known stays known
+
+  pub empty-on : HaveEmpty known → HaveEmpty new
+  empty-on h = (omega (arith, h.0, keeps.count), keeps.same 0 h.0 ∙ h.1)
 
   pub known-on : (ls : List Numbered) → AreKnown known ls → AreKnown new ls
   known-on ls h = All-weaker (λ (l : Numbered). l.hidden < length known) (λ (l : Numbered). l.hidden < length new) (λ l k. omega (arith, k, keeps.count)) ls h

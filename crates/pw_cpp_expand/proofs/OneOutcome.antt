@@ -10,12 +10,13 @@ use Rattle.pw_cpp_lines.specs.declared.line.Line.{Line}
 use Rattle.pw_cpp_lines.specs.declared.line.LineFault.{LineFault}
 use Rattle.pw_cpp_macros.specs.Macros.{Macros}
 use Rattle.pw_cpp_macros.specs.declared.definition.Macro.{Macro}
-use Rattle.pw_cpp_expand.specs.Calls.{Called, Collects, CollectsFrom, CollectsPart, looks, open_end, faulty, token, opens, closes_inner, closes, parts, parts_inner, goes_on, lengthened, part_of, arguments_of}
+use Rattle.pw_cpp_expand.specs.Calls as call
+use Rattle.pw_cpp_expand.specs.Calls.{Called, Collects, CollectsCut, CollectsFrom, arguments_of, cut_of, lengthened, part_of}
 use Rattle.pw_cpp_expand.specs.Expansion as by
 use Rattle.pw_cpp_expand.specs.Expansion.{Arguments, Calls, Refused, Expands, ExpandsArguments, Follows, Meets, Outcome, Done, Stopped, Turn, Turns, Becomes, macro_of, producing, putting, replaced_call, with_argument, with_first}
 use Rattle.pw_cpp_expand.specs.Lookahead as look
 use Rattle.pw_cpp_expand.specs.Lookahead.{Ahead, Further, Lexeme, LooksAhead, LooksOn, ReadsAs, ReadsOn, of_text_line}
-use Rattle.pw_cpp_expand.specs.declared.arguments.Part.{Part}
+use Rattle.pw_cpp_expand.specs.declared.arguments.Cut.{Cut}
 use Rattle.pw_cpp_expand.specs.declared.progress.ExpandFault.{ExpandFault}
 use Rattle.pw_cpp_expand.specs.declared.progress.Mode.{Mode}
 use Rattle.pw_cpp_expand.specs.declared.progress.Mode.TheVariants.{Alone, InText}
@@ -81,24 +82,22 @@ module _ (one_head : OneHead) (one_line : OneLine) (one_rest : OneRest) where
   mutual
     one_call : (source text : List ℕ) (mode : Mode) (depth : ℕ) (arguments : List (List Lexeme)) (pending : List Lexeme) (p : Progress) (x y : Called)
         → Collects source text mode depth arguments pending p x → Collects source text mode depth arguments pending p y → x ≡ y
-    one_call source text mode depth arguments pending p x y (looks _ _ _ _ ahead _ l h) (looks _ _ _ _ other _ m k) =
+    one_call source text mode depth arguments pending p x y (call.looks _ _ _ _ ahead _ l h) (call.looks _ _ _ _ other _ m k) =
         let P : Ahead → Type 0 = λ z. CollectsFrom source text mode depth arguments z y in
         one_call_from source text mode depth arguments ahead x y h (subst P (sym (one_ahead text mode pending p ahead other l m)) k)
 
     one_call_from : (source text : List ℕ) (mode : Mode) (depth : ℕ) (arguments : List (List Lexeme)) (ahead : Ahead) (x y : Called)
         → CollectsFrom source text mode depth arguments ahead x → CollectsFrom source text mode depth arguments ahead y → x ≡ y
-    one_call_from source text mode depth arguments ahead x y (open_end _ _ q) (open_end _ _ _) = refl
-    one_call_from source text mode depth arguments ahead x y (faulty _ _ fault) (faulty _ _ _) = refl
-    one_call_from source text mode depth arguments ahead x y (token _ _ t rest q _ h) (token _ _ _ _ _ _ k) = one_call_part source text mode (part_of source t) depth arguments t rest q x y h k
+    one_call_from source text mode depth arguments ahead x y (call.open_end _ _ q) (call.open_end _ _ _) = refl
+    one_call_from source text mode depth arguments ahead x y (call.faulty _ _ fault) (call.faulty _ _ _) = refl
+    one_call_from source text mode depth arguments ahead x y (call.token _ _ t rest q _ h) (call.token _ _ _ _ _ _ k) =
+        one_call_cut source text mode (cut_of (part_of source t) depth) arguments t rest q x y h k
 
-    one_call_part : (source text : List ℕ) (mode : Mode) (what : Part) (depth : ℕ) (arguments : List (List Lexeme)) (t : Lexeme) (rest : List Lexeme) (q : Progress) (x y : Called)
-        → CollectsPart source text mode what depth arguments t rest q x → CollectsPart source text mode what depth arguments t rest q y → x ≡ y
-    one_call_part source text mode what depth arguments t rest q x y (opens d _ _ _ _ _ h) (opens _ _ _ _ _ _ k) = one_call source text mode (suc d) (lengthened arguments t) rest q x y h k
-    one_call_part source text mode what depth arguments t rest q x y (closes_inner d _ _ _ _ _ h) (closes_inner _ _ _ _ _ _ k) = one_call source text mode d (lengthened arguments t) rest q x y h k
-    one_call_part source text mode what depth arguments t rest q x y (closes _ _ _ _) (closes _ _ _ _) = refl
-    one_call_part source text mode what depth arguments t rest q x y (parts _ _ _ _ _ h) (parts _ _ _ _ _ k) = one_call source text mode zero (arguments ++ [] ∷ []) rest q x y h k
-    one_call_part source text mode what depth arguments t rest q x y (parts_inner d _ _ _ _ _ h) (parts_inner _ _ _ _ _ _ k) = one_call source text mode (suc d) (lengthened arguments t) rest q x y h k
-    one_call_part source text mode what depth arguments t rest q x y (goes_on d _ _ _ _ _ h) (goes_on _ _ _ _ _ _ k) = one_call source text mode d (lengthened arguments t) rest q x y h k
+    one_call_cut : (source text : List ℕ) (mode : Mode) (what : Cut) (arguments : List (List Lexeme)) (t : Lexeme) (rest : List Lexeme) (q : Progress) (x y : Called)
+        → CollectsCut source text mode what arguments t rest q x → CollectsCut source text mode what arguments t rest q y → x ≡ y
+    one_call_cut source text mode what arguments t rest q x y (call.within d _ _ _ _ _ h) (call.within _ _ _ _ _ _ k) = one_call source text mode d (lengthened arguments t) rest q x y h k
+    one_call_cut source text mode what arguments t rest q x y (call.next _ _ _ _ _ h) (call.next _ _ _ _ _ k) = one_call source text mode 0 (arguments ++ [] ∷ []) rest q x y h k
+    one_call_cut source text mode what arguments t rest q x y (call.ends _ _ _ _) (call.ends _ _ _ _) = refl
 
   mutual
     one_outcome : (source text : List ℕ) (macros : Macros) (mode : Mode) (pending : List Lexeme) (p : Progress) (x y : Outcome)

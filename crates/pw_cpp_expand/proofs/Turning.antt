@@ -1,26 +1,31 @@
 -- What each step of the expansion does to what is at hand.
-use Rattle.std.proofs.Common.{◌≡◌, ℕ, ◌+◌, ◌<◌, ◌≤◌, List, [], ◌∷◌, ◌++◌, length, map, reverse, Result, Ok, Err, inl, inr, ◌⊎◌, refl, sym, ap, ◌∙◌, subst, append_assoc, arith}
+use Rattle.std.proofs.Common.{◌≡◌, ℕ, ◌+◌, ◌<◌, ◌≤◌, true, List, [], ◌∷◌, ◌++◌, length, map, reverse, Option, Some, Result, Ok, Err, inl, inr, ◌⊎◌, refl, sym, ap, ◌∙◌, subst, All, arith}
 use Rattle.std.proofs.lemmas.List.{length-map, map-append, reverse-append, reverse-reverse}
+use Rattle.std.proofs.lemmas.List.Elements.{All-append}
+use Rattle.std.specs.Prelude.{codes}
 use Rattle.pw_token.specs.Roles.{spelling}
 use Rattle.pw_token.specs.declared.token.Token.{Token}
 use Rattle.pw_cpp_macros.specs.Macros.{Macros}
 use Rattle.pw_cpp_macros.specs.declared.definition.Macro.{Macro}
-use Rattle.pw_cpp_expand.specs.AtHand.{Comes, ComesTo, ExpandsWaiting, IsStepTo, Named, Opened, PutsOut, PutsResult, mode_at, mode_of, opened}
+use Rattle.pw_cpp_expand.specs.AtHand.{Comes, ComesTo, ExpandsWaiting, IsCallKnown, IsKnown, IsReplacedBy, IsStepTo, Named, Opened, PutsOut, PutsResult, argument_named, mode_at, mode_of, opened, raw_named, waiting_for}
 use Rattle.pw_cpp_expand.specs.AtHand as hand
-use Rattle.pw_cpp_expand.specs.Expansion.{Arguments, Expanded, Refused, Expands, Outcome, Done, Stopped, Turn, Turns, Stands, Becomes, Faults, macro_of, output_limit, produced_limit, producing, putting, replaced_call, result_of, room}
+use Rattle.pw_cpp_expand.specs.Calls.{Called, Closed, Collects, arguments_of, is_mark}
+use Rattle.pw_cpp_expand.specs.Expansion.{Arguments, Calls, Expanded, Refused, Expands, Outcome, Done, Stopped, Turn, Turns, Stands, Becomes, Faults, macro_of, output_limit, produced_limit, producing, putting, replaced_call, result_of, room}
 use Rattle.pw_cpp_expand.specs.Expansion as by
-use Rattle.pw_cpp_expand.specs.Lookahead.{Lexeme}
-use Rattle.pw_cpp_expand.specs.Numbered.{IsFault, all_named, at_hand, named, room_of}
+use Rattle.pw_cpp_expand.specs.Lookahead.{At, Lexeme, LooksAhead}
+use Rattle.pw_cpp_expand.specs.Numbered.{AreKnown, IsFault, all_named, at_hand, named, room_of}
 use Rattle.pw_cpp_expand.specs.declared.expansion.Call.{Call}
 use Rattle.pw_cpp_expand.specs.declared.expansion.Expander.{Expander}
+use Rattle.pw_cpp_expand.specs.declared.expansion.Raw.{Raw}
 use Rattle.pw_cpp_expand.specs.declared.progress.ExpandFault.{ExpandFault}
 use Rattle.pw_cpp_expand.specs.declared.progress.ExpandFault.TheVariants.{Length, Produced}
 use Rattle.pw_cpp_expand.specs.declared.progress.Lexeme.{Lexeme as Numbered}
 use Rattle.pw_cpp_expand.specs.declared.progress.Mode.{Mode}
 use Rattle.pw_cpp_expand.specs.declared.progress.Mode.TheVariants.{InText, Alone}
 use Rattle.pw_cpp_expand.specs.declared.progress.Progress.{Progress}
-use Rattle.pw_cpp_expand.proofs.Steps.{becomes-on, comes-on, comes-stopped, mode_in, stands-on}
-use Rattle.pw_cpp_sets.specs.Sets.{Known}
+use Rattle.pw_cpp_expand.proofs.Kept.{all-kept, calls-kept, calls-on, hand-kept, known-on, reversed-all}
+use Rattle.pw_cpp_expand.proofs.Steps.{argument-last, argument-next, argument-too_many, arguments-expanded, becomes-on, comes-on, comes-stopped, mode_in, stands-on, with_next}
+use Rattle.pw_cpp_sets.specs.Sets.{Keeps, Known, set_at, shared}
 
 -- ---- what is kept, as it is named
 
@@ -224,3 +229,143 @@ module _ (source text : List ℕ) (macros : Macros) where
         (too-many-comes e.mode calls (named known l) (at_hand known e.pending) (all_named known e.out) (all_named known made) (at_hand known e.pending) p p
           (first-turns (Becomes (all_named known made) (at_hand known e.pending) p) turn) (omega (arith, h.1, length-map made (named known)))))
     )
+
+-- ---- steps that come from steps
+
+module _ (source text : List ℕ) (macros : Macros) (known : Known) (e : Expander) (p : Progress) where
+  pub step-weaker : {A : Type 0} (Is Was : Outcome → Type 0) (result : Result A ExpandFault) → ((outcome : Outcome) → Is outcome → Was outcome)
+      → IsStepTo Is source text macros known e p result → IsStepTo Was source text macros known e p result
+  step-weaker Is Was (Ok done) w h = λ outcome c. w outcome (h outcome c)
+  step-weaker Is Was (Err fault) w (inl h) = inl h
+  step-weaker Is Was (Err fault) w (inr h) = inr (w (Stopped fault) h)
+
+pub fault-weaker : (Is Was : ExpandFault → Type 0) (fault : ExpandFault) → ((f : ExpandFault) → Is f → Was f) → IsFault fault Is → IsFault fault Was
+fault-weaker Is Was fault w (inl h) = inl h
+fault-weaker Is Was fault w (inr h) = inr (w fault h)
+
+-- ---- a call whose arguments are expanded
+
+module _ (source text : List ℕ) (macros : Macros) where
+  module _ (known new : Known) (keeps : Keeps known new) (e : Expander) (call : Call) (made : List Numbered) (p : Progress)
+      (calls_known : All (IsCallKnown known) e.calls) (call_known : IsCallKnown known call)
+      (made_is : all_named new made ≡ result_of source (set_at known call.replaced.hidden) call.replaced.place (map (argument_named source known) call.expanded) call.meaning.now.replacement) where
+    pub replaced-step : (q : Progress) (f : Expander) (result : Result (Unit {0}) ExpandFault)
+        → PutsResult made call.replaced.place (record e { pending = call.behind; out = call.before }) p f q result
+        → IsStepTo (IsReplacedBy source text macros known e call p) source text macros new f q result
+    replaced-step q f (Ok done) put = λ outcome c.
+        let P : Expander → Type 0 = λ x. ComesTo source text macros new x q outcome in
+        let Q : Progress → Type 0 = λ x. Comes source text macros e.mode (map (opened source new) (reverse e.calls)) (at_hand new (call.behind ++ reverse made)) (all_named new call.before) x outcome in
+        let R : List Opened → Type 0 = λ x. Comes source text macros e.mode x (at_hand new (call.behind ++ reverse made)) (all_named new call.before) (producing p (length made)) outcome in
+        inr (
+          omega (arith, put.2, count),
+          comes-as source text macros e.mode (map (opened source known) (reverse e.calls)) (at_hand new (call.behind ++ reverse made)) (made_result ++ at_hand known call.behind) (all_named new call.before)
+            (all_named known call.before) (producing p (length made)) (producing p (length made_result)) outcome
+            (hand-front new call.behind made ∙ ap (λ x. x ++ at_hand new call.behind) made_is ∙ ap (λ x. made_result ++ x) (hand-kept known new keeps call.behind call_known.3))
+            (all-kept known new keeps call.before call_known.4) (ap (producing p) count)
+            (subst R (calls-kept known new keeps source e.calls calls_known) (subst Q put.1 (subst P put.0 c))),
+        )
+      where
+        made_result : List Lexeme
+        made_result = result_of source (set_at known call.replaced.hidden) call.replaced.place (map (argument_named source known) call.expanded) call.meaning.now.replacement
+
+        count : length made ≡ length made_result
+        count = sym (length-map made (named new)) ∙ ap length made_is
+    replaced-step q f (Err fault) (inl h) = inl h
+    replaced-step q f (Err fault) (inr h) = inr (inl (omega (arith, h.1, count), ap Stopped h.0))
+      where
+        count : length made ≡ length (result_of source (set_at known call.replaced.hidden) call.replaced.place (map (argument_named source known) call.expanded) call.meaning.now.replacement)
+        count = sym (length-map made (named new)) ∙ ap length made_is
+
+    -- what is at hand is known then
+    pub replaced-known : (q : Progress) (f : Expander) → AreKnown new made → PutsResult made call.replaced.place (record e { pending = call.behind; out = call.before }) p f q (Ok tt) → IsKnown new f
+    replaced-known q f m put =
+        let P : Expander → Type 0 = λ x. IsKnown new x in
+        subst P (sym put.0) (
+          All-append (λ (l : Numbered). l.hidden < length new) call.behind (reverse made) (known-on known new keeps call.behind call_known.3) (reversed-all (λ (l : Numbered). l.hidden < length new) made m),
+          known-on known new keeps call.before call_known.4,
+          calls-on known new keeps e.calls calls_known,
+        )
+
+  -- ---- an argument that is expanded
+
+  module _ (known : Known) (e : Expander) (call : Call) (p : Progress) (outcome : Outcome) (none : e.pending ≡ []) where
+    abbrev others : List Opened
+    others = map (opened source known) (reverse e.calls)
+
+    -- the call whose last expanded argument is at hand
+    abbrev pub with_out : Call
+    with_out = record call { expanded = call.expanded ++ record { parameter = call.parameter; tokens = e.out } ∷ [] }
+
+    expanded_is : map (argument_named source known) with_out.expanded ≡ (opened source known call).expanded ++ (spelling source call.parameter, all_named known e.out) ∷ []
+    expanded_is = map-append (argument_named source known) call.expanded (record { parameter = call.parameter; tokens = e.out } ∷ [])
+
+    with_call : Comes source text macros e.mode (opened source known call ∷ others) [] (all_named known e.out) p outcome
+        → ComesTo source text macros known (record e { calls = e.calls ++ call ∷ [] }) p outcome
+    with_call c =
+        let P : List Opened → Type 0 = λ x. Comes source text macros e.mode x (at_hand known e.pending) (all_named known e.out) p outcome in
+        let Q : List Numbered → Type 0 = λ x. Comes source text macros e.mode (opened source known call ∷ others) (at_hand known x) (all_named known e.out) p outcome in
+        subst P (sym (calls-more known source e.calls call)) (subst Q (sym none) c)
+
+    pub last-step : call.waiting ≡ [] → IsReplacedBy source text macros known e with_out p outcome → ComesTo source text macros known (record e { calls = e.calls ++ call ∷ [] }) p outcome
+    last-step w h = with_call (by_case h)
+      where
+        waits : (opened source known call).waiting ≡ []
+        waits = ap (λ x. map (raw_named source known) (reverse x)) w
+
+        made_result : List Lexeme
+        made_result = result_of source (set_at known call.replaced.hidden) call.replaced.place (map (argument_named source known) with_out.expanded) call.meaning.now.replacement
+
+        result_is : made_result ≡ result_of source (opened source known call).hidden (opened source known call).place ((opened source known call).expanded ++ ((opened source known call).parameter, all_named known e.out) ∷ []) (opened source known call).meaning.replacement
+        result_is = ap (λ x. result_of source (set_at known call.replaced.hidden) call.replaced.place x call.meaning.now.replacement) expanded_is
+
+        by_case : IsReplacedBy source text macros known e with_out p outcome → Comes source text macros e.mode (opened source known call ∷ others) [] (all_named known e.out) p outcome
+        by_case (inl h) =
+            let P : Outcome → Type 0 = λ x. Comes source text macros e.mode (opened source known call ∷ others) [] (all_named known e.out) p x in
+            let Q : List Lexeme → Type 0 = λ x. produced_limit < p.produced + length x in
+            subst P (sym h.1) (argument-too_many source text macros e.mode (opened source known call) others (all_named known e.out) p waits (subst Q result_is h.0))
+        by_case (inr h) = argument-last source text macros e.mode (opened source known call) others (all_named known e.out) made_result p outcome waits result_is h.0 h.1
+
+    -- the call with its next argument at hand
+    pub next-step : (next : Raw) (waiting : List Raw) → call.waiting ≡ waiting ++ next ∷ []
+        → ComesTo source text macros known
+          (record e { calls = e.calls ++ record with_out { parameter = next.parameter; waiting = waiting } ∷ []; pending = reverse next.tokens; out = [] }) p outcome
+        → ComesTo source text macros known (record e { calls = e.calls ++ call ∷ [] }) p outcome
+    next-step next waiting w c =
+        with_call (argument-next source text macros e.mode (opened source known call) others (all_named known e.out) (all_named known next.tokens) (spelling source next.parameter)
+          (map (raw_named source known) (reverse waiting)) p outcome (ap (λ x. map (raw_named source known) (reverse x)) w ∙ ap (map (raw_named source known)) (reverse-append waiting (next ∷ [])))
+          (subst R (ap (all_named known) (reverse-reverse next.tokens)) (subst Q called_is (subst P (calls-more known source e.calls after) c))))
+      where
+        after : Call
+        after = record with_out { parameter = next.parameter; waiting = waiting }
+
+        P : List Opened → Type 0
+        P x = Comes source text macros e.mode x (at_hand known (reverse next.tokens)) [] p outcome
+
+        called_is : opened source known after ≡ with_next source text macros (opened source known call) (all_named known e.out) (spelling source next.parameter) (map (raw_named source known) (reverse waiting))
+        called_is = ap (λ x. record (opened source known after) { expanded = x }) expanded_is
+
+        Q : Opened → Type 0
+        Q x = Comes source text macros e.mode (x ∷ others) (at_hand known (reverse next.tokens)) [] p outcome
+
+        R : List Lexeme → Type 0
+        R x = Comes source text macros e.mode (with_next source text macros (opened source known call) (all_named known e.out) (spelling source next.parameter) (map (raw_named source known) (reverse waiting)) ∷ others) x [] p outcome
+
+  -- ---- the turn of a name whose `(` was read
+
+  module _ (mode : Mode) (t first : Lexeme) (rest behind : List Lexeme) (start p : Progress) (m : Macro) (parameters : List Token)
+      (is : macro_of source macros t ≡ Some m) (takes : m.parameters ≡ Some parameters) (looks : LooksAhead text mode rest start (At (first ∷ behind) p)) (opens : is_mark source (codes "(") first ≡ true) where
+    pub call-turns : (found : Called) (turn : Turn) → Collects source text mode 0 ([] ∷ []) behind p found → Calls source text macros m parameters t found turn
+        → Turns source text macros mode t rest start (macro_of source macros t) turn
+    call-turns found turn c h =
+        let P : Option Macro → Type 0 = λ x. Turns source text macros mode t rest start x turn in
+        subst P (sym is) (by.looks mode t rest start m parameters (At (first ∷ behind) p) turn takes looks (by.called mode t first m parameters behind p found turn opens c h))
+
+    -- and of one whose arguments come to these
+    pub closed-turns : (close : Lexeme) (arguments : List (List Lexeme)) (ahead : List Lexeme) (q : Progress) (found : Arguments)
+        → Collects source text mode 0 ([] ∷ []) behind p (Closed arguments close ahead q) → length (arguments_of parameters arguments) ≡ length parameters
+        → ExpandsWaiting source text macros (waiting_for source m.replacement parameters (arguments_of parameters arguments)) q found
+        → Turns source text macros mode t rest start (macro_of source macros t) (replaced_call source (spelling source t.token ∷ shared t.hidden close.hidden) t.place m.replacement ahead found)
+    closed-turns close arguments ahead q found c l h =
+        call-turns (Closed arguments close ahead q) (replaced_call source (spelling source t.token ∷ shared t.hidden close.hidden) t.place m.replacement ahead found) c
+        (by.closed m parameters t close arguments ahead q found (replaced_call source (spelling source t.token ∷ shared t.hidden close.hidden) t.place m.replacement ahead found) l
+          (arguments-expanded source text macros m.replacement parameters (arguments_of parameters arguments) q found l h) refl)

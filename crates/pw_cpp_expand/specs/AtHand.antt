@@ -117,7 +117,7 @@ IsWithinLimits p = (p.produced ≤ produced_limit) × (p.size ≤ output_limit)
 -- ---- steps
 
 -- What was at hand comes to whatever is at hand behind the step comes to; a fault is what it comes to.
-abbrev pub IsStepTo : (Outcome → Type 0) → List ℕ → List ℕ → Macros → Known → Expander → Progress → Result (Unit {0}) ExpandFault → Type 0
+abbrev pub IsStepTo : {A : Type 0} → (Outcome → Type 0) → List ℕ → List ℕ → Macros → Known → Expander → Progress → Result A ExpandFault → Type 0
 IsStepTo Before source text macros known e p (Ok done) = (outcome : Outcome) → ComesTo source text macros known e p outcome → Before outcome
 IsStepTo Before source text macros known e p (Err fault) = IsFault fault (λ f. Before (Stopped f))
 

@@ -1,11 +1,13 @@
 -- Calls of macros that take arguments (ISO/IEC 9899:1990, 6.8.3).
-use Rattle.std.specs.Prelude.{ℕ, zero, suc, ◌&&◌, Bool, if◌then◌else◌, List, [], ◌∷◌, ◌++◌, codes}
+use Rattle.std.specs.Prelude.{ℕ, ◌+◌, ◌-◌, ◌==◌, ◌&&◌, Bool, if◌then◌else◌, List, [], ◌∷◌, ◌++◌, codes}
 use Rattle.std.specs.List.{list_any}
 use Rattle.pw_token.specs.Roles.{spelling}
 use Rattle.pw_token.specs.declared.token.Token.{Token}
 use Rattle.pw_cpp_macros.specs.Definitions.{is_spelled, is_word}
 use Rattle.pw_cpp_macros.specs.declared.definition.Macro.{Macro}
 use Rattle.pw_cpp_expand.specs.Lookahead.{Ahead, At, Faulty, Lexeme, LooksAhead}
+use Rattle.pw_cpp_expand.specs.declared.arguments.Cut.{Cut}
+use Rattle.pw_cpp_expand.specs.declared.arguments.Cut.TheVariants as cut
 use Rattle.pw_cpp_expand.specs.declared.arguments.Part.{Part}
 use Rattle.pw_cpp_expand.specs.declared.arguments.Part.TheVariants as part
 use Rattle.pw_cpp_expand.specs.declared.progress.ExpandFault.{ExpandFault}
@@ -30,10 +32,18 @@ pub data Called : Type 0 where
   Open : Called
   Fails : ExpandFault → Called
 
--- what a token does to the arguments
+-- what a token is among arguments
 abbrev pub part_of : List ℕ → Lexeme → Part
 part_of source t =
     if is_mark source (codes "(") t then part.Opens else (if is_mark source (codes ")") t then part.Closes else (if is_mark source (codes ",") t then part.Parts else part.GoesOn))
+
+-- What it does where so many inner parentheses are open: it is part of the argument, with so many open behind it; it parts two arguments;
+-- or it closes the call.
+abbrev pub cut_of : Part → ℕ → Cut
+cut_of part.Opens depth = cut.Within (depth + 1)
+cut_of part.Closes depth = if depth == 0 then cut.Ends else cut.Within (depth - 1)
+cut_of part.Parts depth = if depth == 0 then cut.Next else cut.Within depth
+cut_of part.GoesOn depth = cut.Within depth
 
 mutual
   pub data Collects (source text : List ℕ) (mode : Mode) : ℕ → List (List Lexeme) → List Lexeme → Progress → Called → Type 0 where
@@ -44,20 +54,14 @@ mutual
     open_end : (depth : ℕ) (arguments : List (List Lexeme)) (q : Progress) → CollectsFrom source text mode depth arguments (At [] q) Open
     faulty : (depth : ℕ) (arguments : List (List Lexeme)) (fault : ExpandFault) → CollectsFrom source text mode depth arguments (Faulty fault) (Fails fault)
     token : (depth : ℕ) (arguments : List (List Lexeme)) (t : Lexeme) (rest : List Lexeme) (q : Progress) (called : Called)
-        → CollectsPart source text mode (part_of source t) depth arguments t rest q called → CollectsFrom source text mode depth arguments (At (t ∷ rest) q) called
+        → CollectsCut source text mode (cut_of (part_of source t) depth) arguments t rest q called → CollectsFrom source text mode depth arguments (At (t ∷ rest) q) called
 
-  pub data CollectsPart (source text : List ℕ) (mode : Mode) : Part → ℕ → List (List Lexeme) → Lexeme → List Lexeme → Progress → Called → Type 0 where
-    opens : (depth : ℕ) (arguments : List (List Lexeme)) (t : Lexeme) (rest : List Lexeme) (q : Progress) (called : Called)
-        → Collects source text mode (suc depth) (lengthened arguments t) rest q called → CollectsPart source text mode part.Opens depth arguments t rest q called
-    closes_inner : (depth : ℕ) (arguments : List (List Lexeme)) (t : Lexeme) (rest : List Lexeme) (q : Progress) (called : Called)
-        → Collects source text mode depth (lengthened arguments t) rest q called → CollectsPart source text mode part.Closes (suc depth) arguments t rest q called
-    closes : (arguments : List (List Lexeme)) (t : Lexeme) (rest : List Lexeme) (q : Progress) → CollectsPart source text mode part.Closes zero arguments t rest q (Closed arguments t rest q)
-    parts : (arguments : List (List Lexeme)) (t : Lexeme) (rest : List Lexeme) (q : Progress) (called : Called)
-        → Collects source text mode zero (arguments ++ [] ∷ []) rest q called → CollectsPart source text mode part.Parts zero arguments t rest q called
-    parts_inner : (depth : ℕ) (arguments : List (List Lexeme)) (t : Lexeme) (rest : List Lexeme) (q : Progress) (called : Called)
-        → Collects source text mode (suc depth) (lengthened arguments t) rest q called → CollectsPart source text mode part.Parts (suc depth) arguments t rest q called
-    goes_on : (depth : ℕ) (arguments : List (List Lexeme)) (t : Lexeme) (rest : List Lexeme) (q : Progress) (called : Called)
-        → Collects source text mode depth (lengthened arguments t) rest q called → CollectsPart source text mode part.GoesOn depth arguments t rest q called
+  pub data CollectsCut (source text : List ℕ) (mode : Mode) : Cut → List (List Lexeme) → Lexeme → List Lexeme → Progress → Called → Type 0 where
+    within : (depth : ℕ) (arguments : List (List Lexeme)) (t : Lexeme) (rest : List Lexeme) (q : Progress) (called : Called)
+        → Collects source text mode depth (lengthened arguments t) rest q called → CollectsCut source text mode (cut.Within depth) arguments t rest q called
+    next : (arguments : List (List Lexeme)) (t : Lexeme) (rest : List Lexeme) (q : Progress) (called : Called)
+        → Collects source text mode 0 (arguments ++ [] ∷ []) rest q called → CollectsCut source text mode cut.Next arguments t rest q called
+    ends : (arguments : List (List Lexeme)) (t : Lexeme) (rest : List Lexeme) (q : Progress) → CollectsCut source text mode cut.Ends arguments t rest q (Closed arguments t rest q)
 
 -- Behind the `(` stands one argument, at first empty; of a macro without parameters one that is empty is none.
 abbrev pub arguments_of : List Token → List (List Lexeme) → List (List Lexeme)

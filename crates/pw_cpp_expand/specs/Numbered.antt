@@ -32,6 +32,10 @@ AreKnown known ls = All (λ l. l.hidden < length known) ls
 abbrev pub fresh : Token → Numbered
 fresh token = record { token = token; hidden = 0; place = token.at }
 
+-- and of each token of a call's arguments, with the `)` that closes it
+abbrev pub AreArgumentsKnown : Known → Arguments → Type 0
+AreArgumentsKnown known found = All (AreKnown known) found.arguments × (found.close.hidden < length known)
+
 -- the sets by their numbers, of which number 0 is the empty one
 abbrev pub HaveEmpty : Known → Type 0
 HaveEmpty known = (0 < length known) × (set_at known 0 ≡ [])

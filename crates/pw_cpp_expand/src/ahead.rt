@@ -1,9 +1,10 @@
 //! The tokens that stand ahead.
 
 ghost use Rattle.std.specs.Prelude.{◌≡◌, ◌≤◌, ◌<◌, ◌++◌, length, map, reverse, OnOk};
-ghost use Rattle.pw_cpp_expand.specs.Numbered.{AnswersAhead, AnswersFurther, AnswersTextLine, fresh};
+ghost use Rattle.pw_cpp_expand.specs.Numbered.{AnswersAhead, AnswersFurther, AnswersTextLine, AreKnown, fresh};
 ghost use Rattle.pw_cpp_lines.specs.Heads.{IsHead};
 ghost use Rattle.pw_cpp_lines.specs.declared.head.Head.TheVariants as head;
+ghost use Rattle.pw_cpp_sets.specs.Sets.{Known};
 
 use crate::progress::{ExpandFault, Lexeme, Mode, OUTPUT_LIMIT, Progress, of_line};
 use pw_cpp_lines::{Head, head_of, lex_line, pass_rest};
@@ -70,7 +71,8 @@ pub fn fresh(token: Token) -> Lexeme
 
 /// Puts tokens as they are read in front of those at hand, which are kept with the first one last.
 pub fn put_fresh(tokens: Items<Token>, pending: &mut Items<Lexeme>) -> Result<(), AllocError>
-    ensures { OnOk result (pending.new ≡ pending.old ++ reverse (map fresh tokens)) }
+    ensures put { OnOk result (pending.new ≡ pending.old ++ reverse (map fresh tokens)) }
+    ensures known { (known : Known) → 0 < length known → AreKnown known pending.old → AreKnown known pending.new }
 {
     let mut tokens = tokens;
     while let Some(token) = tokens.pop() {
@@ -80,6 +82,27 @@ pub fn put_fresh(tokens: Items<Token>, pending: &mut Items<Lexeme>) -> Result<()
 }
 
 /// Reads text lines until a token is at hand or the text ends.
+fn look_on(
+    alloc: Global,
+    text: &[u8],
+    pending: &mut Items<Lexeme>,
+    progress: &mut Progress,
+) -> Result<(), ExpandFault>
+    requires { progress.old.next ≤ length text.now }
+    ensures answers { AnswersAhead text.now Mode.InText pending.old progress.old pending.new progress.new result }
+    ensures within { progress.new.next ≤ length text.now }
+    ensures known { (known : Known) → 0 < length known → AreKnown known pending.old → AreKnown known pending.new }
+{
+    while pending.is_empty() {
+        let Some(tokens) = read_on(alloc, text, progress)? else {
+            return Ok(());
+        };
+        put_fresh(tokens, pending)?;
+    }
+    Ok(())
+}
+
+/// Sees that a token is at hand, where one stands ahead.
 pub fn look_ahead(
     alloc: Global,
     text: &[u8],
@@ -90,15 +113,10 @@ pub fn look_ahead(
     requires { progress.old.next ≤ length text.now }
     ensures answers { AnswersAhead text.now mode pending.old progress.old pending.new progress.new result }
     ensures within { progress.new.next ≤ length text.now }
+    ensures known { (known : Known) → 0 < length known → AreKnown known pending.old → AreKnown known pending.new }
 {
-    if mode == Mode::Alone {
-        return Ok(());
+    match mode {
+        Mode::Alone => Ok(()),
+        Mode::InText => look_on(alloc, text, pending, progress),
     }
-    while pending.is_empty() {
-        let Some(tokens) = read_on(alloc, text, progress)? else {
-            return Ok(());
-        };
-        put_fresh(tokens, pending)?;
-    }
-    Ok(())
 }

@@ -1,8 +1,8 @@
 //! The arguments of a call.
 
-ghost use Rattle.std.specs.Prelude.{◌≡◌, ◌≤◌, ◌++◌, ◌∷◌, [], length, OnOk, IfOk};
+ghost use Rattle.std.specs.Prelude.{◌≡◌, ◌≤◌, ◌<◌, ◌++◌, ◌∷◌, [], length, IfOk, IfSome};
 ghost use Rattle.pw_cpp_expand.specs.Calls as spec;
-ghost use Rattle.pw_cpp_expand.specs.Numbered.{AnswersCall, named};
+ghost use Rattle.pw_cpp_expand.specs.Numbered.{AnswersCall, AreArgumentsKnown, AreKnown, named};
 ghost use Rattle.pw_cpp_sets.specs.Sets.{Known};
 
 use crate::ahead::look_ahead;
@@ -18,13 +18,24 @@ pub struct Arguments {
     pub close: Lexeme,
 }
 
-/// What a token does to the arguments.
+/// What a token is among arguments.
 #[derive(Clone, Copy)]
 pub enum Part {
     Opens,
     Closes,
     Parts,
     GoesOn,
+}
+
+/// What a token does to the arguments.
+#[derive(Clone, Copy)]
+pub enum Cut {
+    /// It is part of the last one, with so many inner parentheses open behind it.
+    Within(u64),
+    /// It parts the last one from the next.
+    Next,
+    /// It closes the call.
+    Ends,
 }
 
 fn part_of(source: &[u8], lexeme: Lexeme) -> Part
@@ -41,24 +52,20 @@ fn part_of(source: &[u8], lexeme: Lexeme) -> Part
     }
 }
 
-/// The arguments that are read so far: the whole ones, and the last one.
-#[derive(Drop)]
-struct Collected {
-    whole: Items<Items<Lexeme>>,
-    last: Items<Lexeme>,
-}
-
-/// Begins another argument.
-fn next_argument(alloc: Global, collected: &mut Collected) -> Result<(), AllocError>
-    ensures whole { OnOk result (collected.new.whole ≡ collected.old.whole ++ collected.old.last ∷ []) }
-    ensures last { OnOk result (collected.new.last ≡ []) }
+fn cut_of(part: Part, depth: u64) -> Cut
+    requires { depth < u64.MAX }
+    ensures { result ≡ spec.cut_of part depth }
 {
-    let mut last = Items::new(alloc);
-    std::mem::swap(&mut last, &mut collected.last);
-    collected.whole.push(last)
+    match part {
+        Part::Opens => Cut::Within(depth + 1),
+        Part::Closes => if depth == 0 { Cut::Ends } else { Cut::Within(depth - 1) },
+        Part::Parts => if depth == 0 { Cut::Next } else { Cut::Within(depth) },
+        Part::GoesOn => Cut::Within(depth),
+    }
 }
 
-/// The arguments of a call from behind its `(` on, or None where the text ends before its `)`.
+/// The arguments of a call from behind its `(` on, or None where the text ends before its `)`. So many tokens that 64 bits do not count
+/// them are want of memory.
 pub fn collect(
     alloc: Global,
     source: &[u8],
@@ -70,35 +77,39 @@ pub fn collect(
     requires { progress.old.next ≤ length text.now }
     ensures answers { AnswersCall source.now text.now mode pending.old progress.old pending.new progress.new result }
     ensures within { progress.new.next ≤ length text.now }
+    ensures known { (known : Known) → 0 < length known → AreKnown known pending.old → AreKnown known pending.new }
+    ensures arguments { (known : Known) → 0 < length known → AreKnown known pending.old → IfOk result (λ found. IfSome found (AreArgumentsKnown known)) }
 {
-    let mut collected = Collected {
-        whole: Items::new(alloc),
-        last: Items::new(alloc),
-    };
+    let mut whole = Items::new(alloc);
+    let mut last = Items::new(alloc);
     let mut depth = 0;
-    loop {
+    for _turn in 0..u64::MAX {
         look_ahead(alloc, text, mode, pending, progress)?;
         let Some(lexeme) = pending.pop() else {
             return Ok(None);
         };
-        match part_of(source, lexeme) {
-            Part::Opens => depth += 1,
-            Part::Closes if depth == 0 => return Ok(Some(closed(collected, lexeme)?)),
-            Part::Closes => depth -= 1,
-            Part::Parts if depth == 0 => {
-                next_argument(alloc, &mut collected)?;
-                continue;
+        match cut_of(part_of(source, lexeme), depth) {
+            Cut::Within(inner) => {
+                depth = inner;
+                last.push(lexeme)?;
             }
-            Part::Parts | Part::GoesOn => {}
+            Cut::Next => {
+                whole.push(last)?;
+                last = Items::new(alloc);
+            }
+            Cut::Ends => return Ok(Some(closed(whole, last, lexeme)?)),
         }
-        collected.last.push(lexeme)?;
     }
+    Err(ExpandFault::NoMemory)
 }
 
-fn closed(collected: Collected, close: Lexeme) -> Result<Arguments, AllocError>
-    ensures { IfOk result (λ found. (found.arguments ≡ collected.whole ++ collected.last ∷ []) × (found.close ≡ close)) }
+fn closed(
+    whole: Items<Items<Lexeme>>,
+    last: Items<Lexeme>,
+    close: Lexeme,
+) -> Result<Arguments, AllocError>
+    ensures { IfOk result (λ found. (found.arguments ≡ whole ++ last ∷ []) × (found.close ≡ close)) }
 {
-    let Collected { whole, last } = collected;
     let mut arguments = whole;
     arguments.push(last)?;
     Ok(Arguments { arguments, close })

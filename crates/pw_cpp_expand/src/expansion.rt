@@ -1,6 +1,6 @@
 //! Expansion of tokens, on a stack of open calls.
 
-ghost use Rattle.std.specs.Prelude.{◌≡◌, ◌≤◌, ◌<◌, ◌++◌, ◌∷◌, [], length, map, reverse, option_map, All, IfOk, IfSome, IsTrue, ◌↔◌};
+ghost use Rattle.std.specs.Prelude.{◌≡◌, ◌≤◌, ◌<◌, ◌++◌, ◌∷◌, [], length, map, reverse, option_map, All, IfOk, IfSome, IsTrue, OnOk, false, ◌↔◌};
 ghost use Rattle.pw_cpp_expand.specs.AtHand.{AnswersExpansion, ComesTo, IsCallKnown, IsCallOpened, IsKnown, IsReplacedBy, IsStepTo, IsWaiting, IsWithinLimits, PutsOut, PutsResult, mode_at};
 ghost use Rattle.pw_cpp_expand.specs.Expansion as spec;
 ghost use Rattle.pw_cpp_expand.specs.Lookahead as ahead;
@@ -86,11 +86,10 @@ impl<'m> Expander<'m> {
         ensures { PutsOut lexeme self.old progress.old self.new progress.new result }
     {
         if self.mode() == Mode::InText {
-            let room = lexeme.token.len + 1;
-            if OUTPUT_LIMIT - progress.size < room {
+            if OUTPUT_LIMIT - progress.size <= lexeme.token.len {
                 return Err(ExpandFault::Length { at: lexeme.place });
             }
-            progress.size += room;
+            progress.size += lexeme.token.len + 1;
         }
         self.out.push(lexeme)?;
         Ok(())
@@ -110,18 +109,7 @@ impl<'m> Expander<'m> {
             return Err(ExpandFault::Produced { at: place });
         }
         progress.produced += made.len();
-        self.put_in_front(made)?;
-        Ok(())
-    }
-
-    /// Puts tokens in front of those at hand.
-    fn put_in_front(&mut self, tokens: Items<Lexeme>) -> Result<(), AllocError>
-        ensures { IfOk result (λ _. self.new ≡ record self.old { pending = self.old.pending ++ reverse tokens }) }
-    {
-        let mut tokens = tokens;
-        while let Some(lexeme) = tokens.pop() {
-            self.pending.push(lexeme)?;
-        }
+        put_in_front(made, &mut self.pending)?;
         Ok(())
     }
 
@@ -197,7 +185,7 @@ impl<'m> Expander<'m> {
         ensures { IfOk result (λ _. self.new ≡ record self.old { calls = self.old.calls ++ call ∷ []; pending = reverse tokens }) }
     {
         self.calls.push(call)?;
-        self.put_in_front(tokens)
+        put_in_front(tokens, &mut self.pending)
     }
 
     /// Replaces the name of a macro that takes no arguments.
@@ -357,7 +345,36 @@ impl<'m> Expander<'m> {
         }
     }
 
-    /// Expands what is at hand, to its end.
+    /// Expands the first token at hand, or goes on with the innermost call behind an argument that is expanded. Answers whether there
+    /// was one of them.
+    fn turn<'a>(
+        &mut self,
+        ground: Ground<'a, 'm>,
+        sets: &mut Sets<'a>,
+        progress: &mut Progress,
+    ) -> Result<bool, ExpandFault>
+        requires within { progress.old.next ≤ length ground.text.now }
+        requires known { IsKnown sets.old self.old }
+        requires limits { IsWithinLimits progress.old }
+        requires empty { HaveEmpty sets.old }
+        ensures keeps { Keeps sets.old sets.new }
+        ensures within { progress.new.next ≤ length ground.text.now }
+        ensures known { IfOk result (λ _. IsKnown sets.new self.new × IsWithinLimits progress.new) }
+        ensures done { IfOk result (λ more. more ≡ false → (self.new.pending ≡ []) × (self.new.calls ≡ [])) }
+        ensures comes { IsStepTo (λ outcome. ComesTo ground.source.now ground.text.now ground.macros.now sets.old self.old progress.old outcome) ground.source.now ground.text.now ground.macros.now sets.new self.new progress.new result }
+    {
+        if let Some(lexeme) = self.pending.pop() {
+            self.expand_one(ground, sets, lexeme, progress)?;
+            return Ok(true);
+        }
+        if let Some(call) = self.calls.pop() {
+            self.end_argument(ground, sets, call, progress)?;
+            return Ok(true);
+        }
+        Ok(false)
+    }
+
+    /// Expands what is at hand, to its end. So many turns that 64 bits do not count them are want of memory.
     fn run<'a>(
         &mut self,
         ground: Ground<'a, 'm>,
@@ -374,15 +391,13 @@ impl<'m> Expander<'m> {
         ensures done { IfOk result (λ _. (self.new.pending ≡ []) × (self.new.calls ≡ [])) }
         ensures comes { IsStepTo (λ outcome. ComesTo ground.source.now ground.text.now ground.macros.now sets.old self.old progress.old outcome) ground.source.now ground.text.now ground.macros.now sets.new self.new progress.new result }
     {
-        loop {
-            match self.pending.pop() {
-                Some(lexeme) => self.expand_one(ground, sets, lexeme, progress)?,
-                None => match self.calls.pop() {
-                    Some(call) => self.end_argument(ground, sets, call, progress)?,
-                    None => return Ok(()),
-                },
+        for _turn in 0..u64::MAX {
+            let more = self.turn(ground, sets, progress)?;
+            if !more {
+                return Ok(());
             }
         }
+        Err(ExpandFault::NoMemory)
     }
 }
 
@@ -479,19 +494,20 @@ pub fn expand_alone<'a>(
         text: source,
         macros,
     };
-    expanded(ground, sets, Mode::Alone, turned(alloc, tokens)?, progress)
+    let mut pending = Items::new(alloc);
+    put_in_front(tokens, &mut pending)?;
+    expanded(ground, sets, Mode::Alone, pending, progress)
 }
 
-/// Tokens with the last one first, as those at hand are kept.
-fn turned(alloc: Global, tokens: Items<Lexeme>) -> Result<Items<Lexeme>, AllocError>
-    ensures { IfOk result (λ turned. turned ≡ reverse tokens) }
+/// Puts tokens in front of those at hand, which are kept with the first one last.
+fn put_in_front(tokens: Items<Lexeme>, pending: &mut Items<Lexeme>) -> Result<(), AllocError>
+    ensures { OnOk result (pending.new ≡ pending.old ++ reverse tokens) }
 {
     let mut tokens = tokens;
-    let mut turned = Items::new(alloc);
-    while let Some(token) = tokens.pop() {
-        turned.push(token)?;
+    while let Some(lexeme) = tokens.pop() {
+        pending.push(lexeme)?;
     }
-    Ok(turned)
+    Ok(())
 }
 
 fn expanded<'a, 'm>(
