@@ -16,6 +16,7 @@ use Rattle.pw_cpp.specs.declared.condition.Verdict.TheVariants as judged
 use Rattle.pw_cpp.specs.declared.directive.Directive.{Directive}
 use Rattle.pw_cpp.specs.declared.directive.Fault.{Fault}
 use Rattle.pw_cpp.specs.declared.directive.Standing.{Standing as Kept}
+use Rattle.pw_cpp.specs.declared.fault.CppKind.{CppKind}
 use Rattle.pw_cpp.specs.declared.fault.CppKind.TheVariants as kind
 use Rattle.pw_cpp.specs.declared.source.Digits.{Digits}
 use Rattle.pw_cpp_condition.specs.Grammar.{Means}
@@ -199,24 +200,46 @@ digit at = record { kind = token.Number; at = at; len = 1 }
 abbrev pub digits_of : Digits
 digits_of = record { zero = digit 0; one = digit 2 }
 
--- all files one behind the other, a newline before each, behind what is there
-abbrev pub source_behind : List ℕ → List (List ℕ × Vec ℕ) → List ℕ
-source_behind before [] = before
-source_behind before (file ∷ files) = source_behind (before ++ 10 ∷ [] ++ file.1.items) files
+-- files by their names and their bytes
+abbrev pub Texts : Type 0
+Texts = List (List ℕ × List ℕ)
 
-abbrev pub source_of : List (List ℕ × Vec ℕ) → List ℕ
+abbrev pub texts_of : List (List ℕ × Vec ℕ) → Texts
+texts_of files = map (λ file. (file.0, file.1.items)) files
+
+-- all files one behind the other, a newline before each, behind what is there
+abbrev pub source_behind : List ℕ → Texts → List ℕ
+source_behind before [] = before
+source_behind before (file ∷ files) = source_behind (before ++ 10 ∷ [] ++ file.1) files
+
+abbrev pub source_of : Texts → List ℕ
 source_of files = source_behind (codes "0 1 ") files
 
 -- and where each stands, behind so many bytes
-abbrev pub spans_behind : ℕ → List (List ℕ × Vec ℕ) → List File
+abbrev pub spans_behind : ℕ → Texts → List File
 spans_behind before [] = []
 spans_behind before (file ∷ files) =
-    record { name = file.0; from = before + 1; end = before + 1 + length file.1.items } ∷ spans_behind (before + 1 + length file.1.items) files
+    record { name = file.0; from = before + 1; end = before + 1 + length file.1 } ∷ spans_behind (before + 1 + length file.1) files
 
-abbrev pub spans_of : List (List ℕ × Vec ℕ) → List File
+abbrev pub spans_of : Texts → List File
 spans_of files = spans_behind 4 files
 
+-- What preprocessing a file, which is one of these, comes to: its output, or the kind, the file and the line of its first fault.
+abbrev pub PreprocessesFile : Texts → List ℕ → Result (List ℕ) (CppKind × List ℕ × ℕ) → Type 0
+PreprocessesFile files name answer = Preprocesses (source_of files) (spans_of files) digits_of name answer
+
+-- what reading the files of a source answers: the output; or a fault at a place of the file that it names, unless memory ran out
+abbrev pub AnswersReading : List ℕ → List File → Digits → List ℕ → Result (Vec ℕ) Fault → Type 0
+AnswersReading source files digits name (Ok out) = Preprocesses source files digits name (Ok out.items)
+AnswersReading source files digits name (Err fault) =
+    IsFaultOf fault (λ f. (inner : File) × (file_named files inner.name ≡ Some inner) × IsPlaceOf inner f.place
+        × Preprocesses source files digits name (Err (f.kind, inner.name, line_of source inner f.place)))
+
 -- what preprocessing answers: the output; or the fault with its file and its line, unless memory ran out
-abbrev pub AnswersCpp : List ℕ → List File → Digits → List ℕ → Result (Vec ℕ) CppFault → Type 0
-AnswersCpp source files digits name (Ok out) = Preprocesses source files digits name (Ok out.items)
-AnswersCpp source files digits name (Err fault) = (fault.kind ≡ kind.NoMemory) ⊎ Preprocesses source files digits name (Err (fault.kind, fault.file, fault.line))
+abbrev pub AnswersCpp : Texts → List ℕ → Result (Vec ℕ) CppFault → Type 0
+AnswersCpp files name (Ok out) = PreprocessesFile files name (Ok out.items)
+AnswersCpp files name (Err fault) = (fault.kind ≡ kind.NoMemory) ⊎ PreprocessesFile files name (Err (fault.kind, fault.file, fault.line))
+
+-- a file of this name is there
+abbrev pub IsThere : Texts → List ℕ → Type 0
+IsThere files name = (file : File) × (file_named (spans_of files) name ≡ Some file)

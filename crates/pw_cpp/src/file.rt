@@ -1,7 +1,7 @@
 //! Files, line by line.
 
 ghost use Rattle.std.specs.Prelude.{◌≡◌, ◌≤◌, ◌<◌, ◌+◌, ◌++◌, ℕ, true, false, length, reverse, nat_le, position, unwrap_or, slice_get, bytes_eq, Some, IfOk};
-ghost use Rattle.pw_cpp.specs.Answers.{AnswersCpp, AnswersStep, DoesInclude, DoesLine, DoesPassed, DoesText, DoesWhole, IsInRows, IsLexed, IsPlacedFault, IsRead, IsWithin, Keeps, ReadsWhole, digits_of, reads_of, source_of, spans_of, use_by};
+ghost use Rattle.pw_cpp.specs.Answers.{AnswersCpp, AnswersReading, AnswersStep, DoesInclude, DoesLine, DoesPassed, DoesText, DoesWhole, IsInRows, IsLexed, IsPlacedFault, IsRead, IsThere, IsWithin, Keeps, ReadsWhole, digits_of, files_of, names_of, reads_of, source_of, spans_of, texts_of, use_by};
 ghost use Rattle.pw_cpp.specs.Directives.{fault};
 ghost use Rattle.pw_cpp.specs.Files.{File, Include, Passed, Whole, name_of, output_of, rows_of};
 ghost use Rattle.pw_cpp.specs.Groups.{is_reading};
@@ -122,9 +122,9 @@ impl<'a> Reader<'a> {
             Head::Text => Ok(pass_line(text, at)),
             Head::Directive { hash, name } => {
                 let word = word_of(text, name);
-                if self.is_reading() && word == b"pragma" {
+                if self.is_reading() && word == b"pragma".as_slice() {
                     Ok(pass_rest(text, name.at + name.len))
-                } else if self.is_reading() && word == b"include" {
+                } else if self.is_reading() && word == b"include".as_slice() {
                     self.include(text, at, hash, name, depth)
                 } else if self.is_reading() || (self.standing.nested.is_empty() && is_turn(word)) {
                     self.obey(text, at, hash, name)
@@ -159,13 +159,13 @@ impl<'a> Reader<'a> {
             }
         } else if is_turn(word) {
             let behind_else = nested.pop() == Some(true);
-            if behind_else && word != b"endif" {
+            if behind_else && word != b"endif".as_slice() {
                 return Err(Fault {
                     kind: CppKind::Condition,
                     place: hash,
                 });
             }
-            if word != b"endif" && nested.push(word == b"else").is_err() {
+            if word != b"endif".as_slice() && nested.push(word == b"else".as_slice()).is_err() {
                 return Err(no_memory(hash));
             }
         }
@@ -349,7 +349,7 @@ fn placed(
     files: &[(Name, Vec<u8>)],
     fault: Fault,
 ) -> Result<CppFault, AllocError>
-    ensures { IfOk result (IsPlacedFault source.bytes.items.now files.now source.spans.items fault) }
+    ensures { IfOk result (IsPlacedFault source.now.bytes.items files.now source.now.spans.items fault) }
 {
     let index = file_at(source.spans.as_slice(), fault.place);
     let span = source.spans[index];
@@ -361,19 +361,17 @@ fn placed(
     })
 }
 
-/// The output of the preprocessor for a file, which is one of the files; the others are headers that it may include.
-///
-/// # Errors
-///
-/// The first fault in the order of reading, with its file and its line.
-pub fn preprocess(
+/// Reads a file of the source and the headers that it includes.
+fn read_all(
     alloc: Global,
+    source: &Source,
     files: &[(Name, Vec<u8>)],
-    name: &Name,
-) -> Result<Vec<u8>, CppFault>
-    ensures { AnswersCpp (source_of files.now) (spans_of files.now) digits_of name.now result }
+    name: &[u8],
+) -> Result<Vec<u8>, Fault>
+    requires source { source.now.bytes.items ≡ source_of (texts_of files.now) }
+    requires spans { files_of (names_of files.now) source.now.spans.items ≡ spans_of (texts_of files.now) }
+    ensures { IsThere (texts_of files.now) name.now → AnswersReading (source_of (texts_of files.now)) (spans_of (texts_of files.now)) digits_of name.now result }
 {
-    let source = source_of(alloc, files)?;
     let mut reader = Reader {
         alloc,
         source: source.bytes.as_slice(),
@@ -388,14 +386,46 @@ pub fn preprocess(
         },
         out: Vec::new(alloc),
     };
-    let index = reader.file_named(name.as_bytes());
-    let read = match index {
-        Some(index) => reader.read_file(index, 0),
-        None => Ok(()),
-    };
+    if let Some(index) = reader.file_named(name) {
+        reader.read_file(index, 0)?;
+    }
     let Reader { out, .. } = reader;
-    match read {
-        Ok(()) => Ok(out),
-        Err(fault) => Err(placed(alloc, &source, files, fault)?),
+    Ok(out)
+}
+
+/// The output of the preprocessor for a file of a source, or its first fault.
+fn preprocess_source(
+    alloc: Global,
+    files: &[(Name, Vec<u8>)],
+    name: &[u8],
+) -> Result<Result<Vec<u8>, CppFault>, AllocError>
+    ensures { IfOk result (λ answer. IsThere (texts_of files.now) name.now → AnswersCpp (texts_of files.now) name.now answer) }
+{
+    let source = source_of(alloc, files)?;
+    match read_all(alloc, &source, files, name) {
+        Ok(out) => Ok(Ok(out)),
+        Err(fault) => Ok(Err(placed(alloc, &source, files, fault)?)),
+    }
+}
+
+/// The output of the preprocessor for a file, which is one of the files; the others are headers that it may include.
+///
+/// # Errors
+///
+/// The first fault in the order of reading, with its file and its line. Want of memory has the file's own name.
+pub fn preprocess(
+    alloc: Global,
+    files: &[(Name, Vec<u8>)],
+    name: Name,
+) -> Result<Vec<u8>, CppFault>
+    ensures { IsThere (texts_of files.now) name → AnswersCpp (texts_of files.now) name result }
+{
+    match preprocess_source(alloc, files, name.as_bytes()) {
+        Ok(answer) => answer,
+        Err(AllocError) => Err(CppFault {
+            kind: CppKind::NoMemory,
+            file: name,
+            line: 1,
+        }),
     }
 }

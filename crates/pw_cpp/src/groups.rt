@@ -3,8 +3,6 @@
 ghost use Rattle.std.specs.Prelude.{◌≡◌, false};
 ghost use Rattle.pw_cpp.specs.Groups as spec;
 
-
-
 /// An open `#if`.
 #[derive(Clone, Copy)]
 pub struct Section {
@@ -53,12 +51,12 @@ pub fn with_else(section: Section) -> Section
 pub fn is_opening(name: &[u8]) -> bool
     ensures { result ≡ spec.is_opening name.now }
 {
-    name == b"if" || name == b"ifdef" || name == b"ifndef"
+    name == b"if".as_slice() || name == b"ifdef".as_slice() || name == b"ifndef".as_slice()
 }
 
 /// A word that goes on with a section.
 pub fn is_turn(name: &[u8]) -> bool
     ensures { result ≡ spec.is_turn name.now }
 {
-    name == b"elif" || name == b"else" || name == b"endif"
+    name == b"elif".as_slice() || name == b"else".as_slice() || name == b"endif".as_slice()
 }

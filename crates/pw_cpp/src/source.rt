@@ -55,8 +55,8 @@ pub fn digits() -> Digits
 
 /// The source of files.
 pub fn source_of(alloc: Global, files: &[(Name, Vec<u8>)]) -> Result<Source, AllocError>
-    ensures bytes { IfOk result (λ source. source.bytes.items ≡ spec.source_of files.now) }
-    ensures spans { IfOk result (λ source. spec.files_of (spec.names_of files.now) source.spans.items ≡ spec.spans_of files.now) }
+    ensures bytes { IfOk result (λ source. source.bytes.items ≡ spec.source_of (spec.texts_of files.now)) }
+    ensures spans { IfOk result (λ source. spec.files_of (spec.names_of files.now) source.spans.items ≡ spec.spans_of (spec.texts_of files.now)) }
 {
     let mut bytes = Vec::from_slice(alloc, DIGITS)?;
     let mut spans = Vec::new(alloc);

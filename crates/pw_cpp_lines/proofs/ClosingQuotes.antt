@@ -1,5 +1,5 @@
 -- Quotes that do not close in their line.
-use Rattle.std.proofs.Common.{◌≡◌, ◌≢◌, ℕ, zero, suc, ◌+◌, ◌<◌, ◌≤◌, ◌-◌, Bool, true, false, not, ◌&&◌, ◌==◌, List, [], ◌∷◌, drop, get_or, Result, Ok, Err, refl, sym, ap, ◌∙◌, subst, if◌then◌else◌, inl, inr, arith}
+use Rattle.std.proofs.Common.{◌≡◌, ◌≢◌, ℕ, zero, suc, ◌+◌, ◌<◌, ◌-◌, Bool, true, false, not, ◌&&◌, ◌==◌, List, [], ◌∷◌, drop, get_or, Result, Ok, Err, refl, sym, ap, ◌∙◌, if◌then◌else◌, inl, inr, arith}
 use Rattle.std.proofs.lemmas.Bool.{cases_lt, eqb-false, ne_eqb}
 use Rattle.std.proofs.lemmas.List.{drop-drop, get_or-drop}
 use Rattle.pw_cpp_lines.specs.Passing.{quoted, quoted_at, quoted_len}

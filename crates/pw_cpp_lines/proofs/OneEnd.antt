@@ -1,5 +1,5 @@
 -- What is passed over from a place on ends at one place.
-use Rattle.std.proofs.Common.{◌≡◌, ℕ, zero, suc, ◌+◌, ◌<◌, ◌≤◌, true, false, List, inl, inr, refl, sym, ap, ◌∙◌, arith}
+use Rattle.std.proofs.Common.{◌≡◌, ℕ, zero, suc, ◌+◌, ◌<◌, true, List, inl, inr, sym, ap, ◌∙◌, arith}
 use Rattle.std.proofs.lemmas.Bool.{cases_lt, false≢true}
 use Rattle.pw_cpp_lines.specs.Lines.{behind_line}
 use Rattle.pw_cpp_lines.specs.Passing.{PassesLine, PassesRest, Steps, is_raw_end, step_len}

@@ -1,5 +1,5 @@
 -- Steps by which a line is passed over.
-use Rattle.std.proofs.Common.{◌≡◌, ℕ, zero, suc, ◌+◌, ◌<◌, ◌≤◌, true, false, List, [], ◌∷◌, Option, Some, None, inl, inr, refl, sym, ap, ◌∙◌, subst, arith}
+use Rattle.std.proofs.Common.{◌≡◌, ℕ, zero, suc, ◌+◌, ◌<◌, ◌≤◌, false, List, [], ◌∷◌, Option, Some, None, inl, inr, refl, sym, ap, ◌∙◌, subst, arith}
 use Rattle.std.proofs.lemmas.Bool.{cases_lt}
 use Rattle.pw_cpp_lines.specs.Lines.{Cuts, LinePiece, PassesSpace, behind_line, is_space}
 use Rattle.pw_cpp_lines.specs.Passing.{PassesLine, PassesRest, Steps, is_raw_end}
@@ -10,6 +10,11 @@ use Rattle.pw_cpp_lines.specs.declared.passing.Passed.TheVariants as passed
 pub walks-more : (what : Passed) (text : List ℕ) (at n mid len : ℕ) → Walks what text at n mid → IsStep what text mid (Some len) → Walks what text at (suc n) (mid + len)
 walks-more what text at zero mid len h s = let P : ℕ → Type 0 = λ x. Walks what text x 1 (mid + len) in subst P (sym h) (len, s, refl)
 walks-more what text at (suc n) mid len h s = (h.0, h.1, walks-more what text (at + h.0) n mid len h.2 s)
+
+-- where no step was found there is none
+pub no-step : (what : Passed) (text : List ℕ) (at : ℕ) (found : Option ℕ) → IsStep what text at found → ((len : ℕ) → found ≡ Some len → ⊥) → IsStep what text at None
+no-step what text at None h none = h
+no-step what text at (Some len) h none = absurd (none len refl)
 
 -- ---- blanks and comments
 

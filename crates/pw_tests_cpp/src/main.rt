@@ -138,6 +138,10 @@ fn push_run(text: &mut Text, files: &[(Name, Vec<u8>)]) {
     let [(name, _), ..] = files else {
         return;
     };
+    let Ok(name) = name.copy(text.alloc()) else {
+        text.cut();
+        return;
+    };
     match preprocess(text.alloc(), files, name) {
         Ok(output) => push_output(text, output.as_slice()),
         Err(fault) => push_fault(text, &fault),

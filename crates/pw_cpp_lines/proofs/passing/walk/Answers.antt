@@ -1,6 +1,6 @@
 use Rattle.std.proofs.Common.{suc, refl}
 use Rattle.pw_cpp_lines.proofs.ClosingQuotes.{unclosed-later, unclosed-none}
-use Rattle.pw_cpp_lines.proofs.Walks.{walks-more}
+use Rattle.pw_cpp_lines.proofs.Walks.{no-step, walks-more}
 use Rattle.pw_cpp_lines.proofs.passing.walk.Goals as goal
 
 pub loop-len-init : goal.loop-len-init
@@ -17,4 +17,8 @@ loop-len-preserved c =
     )
 
 pub returns-clause-walked : goal.returns-clause-walked
-returns-clause-walked c = record { steps = c.loop-len.invariant.1.0; walks = c.loop-len.invariant.1.1; stops = c.in-None.ensures.step }
+returns-clause-walked c = record {
+  steps = c.loop-len.invariant.1.0;
+  walks = c.loop-len.invariant.1.1;
+  stops = no-step c.args.passed c.args.text.now c.loop-len.end c.step.result c.step.ensures.step c.in_default.not-Some;
+}
