@@ -15,9 +15,9 @@ one-rest text at next other h k = h.next_is ∙ ap (behind_line text) same ∙ s
         elim (cases_lt h.end k.end) [
           | inl l ↦ absurd (no_earlier text at next other h k l)
           | inr l ↦ elim (cases_lt k.end h.end) [
-              | inl m ↦ absurd (no_earlier text at other next k h m)
-              | inr m ↦ omega (arith, l, m)
-            ]
+            | inl m ↦ absurd (no_earlier text at other next k h m)
+            | inr m ↦ omega (arith, l, m)
+          ]
         ]
 
 one_walk : (text : List ℕ) (at n m e f : ℕ) → Steps text at n e → Steps text at m f → is_raw_end text e ≡ true → is_raw_end text f ≡ true → e ≡ f

@@ -9,8 +9,7 @@ loop-len-init c = (c.requires, (0, refl), unclosed-none c.args.text.now c.args.a
 pub loop-len-preserved : goal.loop-len-preserved
 loop-len-preserved c =
     let text = c.args.text.now in
-    let n = c.loop-len.invariant.1.0 in
-    (
+    let n = c.loop-len.invariant.1.0 in (
       c.in-Some.ensures.within.1,
       (suc n, walks-more c.args.passed text c.args.at n c.loop-len.end c.in-Some.len c.loop-len.invariant.1.1 c.in-Some.ensures.step),
       unclosed-later text c.loop-len.end c.in-Some.len c.step.new.unclosed c.in-Some.ensures.unclosed,
