@@ -127,10 +127,10 @@ module _ (known new : Known) (keeps : Keeps known new) where
 
   -- ---- what an expander comes to
 
-  pub comes-kept : (source text : List ℕ) (macros : Macros) (e : Expander) (p : Progress) (outcome : Outcome) → IsKnown known e
-      → ComesTo source text macros new e p outcome → ComesTo source text macros known e p outcome
-  comes-kept source text macros e p outcome h c =
-      let P : List Opened → Type 0 = λ z. Comes source text macros e.mode z (at_hand new e.pending) (all_named new e.out) p outcome in
-      let Q : List Lexeme → Type 0 = λ z. Comes source text macros e.mode (map (opened source known) (reverse e.calls)) z (all_named new e.out) p outcome in
-      let R : List Lexeme → Type 0 = λ z. Comes source text macros e.mode (map (opened source known) (reverse e.calls)) (at_hand known e.pending) z p outcome in
+  pub comes-kept : (source text : List ℕ) (macros : Macros) (mode : Mode) (e : Expander) (p : Progress) (outcome : Outcome) → IsKnown known e
+      → ComesTo source text macros mode new e p outcome → ComesTo source text macros mode known e p outcome
+  comes-kept source text macros mode e p outcome h c =
+      let P : List Opened → Type 0 = λ z. Comes source text macros mode z (at_hand new e.pending) (all_named new e.out) p outcome in
+      let Q : List Lexeme → Type 0 = λ z. Comes source text macros mode (map (opened source known) (reverse e.calls)) z (all_named new e.out) p outcome in
+      let R : List Lexeme → Type 0 = λ z. Comes source text macros mode (map (opened source known) (reverse e.calls)) (at_hand known e.pending) z p outcome in
       subst R (all-kept e.out h.1) (subst Q (hand-kept e.pending h.0) (subst P (calls-kept source e.calls h.2) c))

@@ -7,7 +7,7 @@ use Rattle.pw_token.specs.Roles.{spelling}
 use Rattle.pw_token.specs.declared.token.Token.{Token}
 use Rattle.pw_cpp_macros.specs.Macros.{Macros}
 use Rattle.pw_cpp_macros.specs.declared.definition.Macro.{Macro}
-use Rattle.pw_cpp_expand.specs.AtHand.{Comes, ComesTo, ExpandsWaiting, IsCallKnown, IsKnown, IsReplacedBy, IsStepTo, Named, Opened, PutsOut, PutsResult, argument_named, mode_at, mode_of, opened, raw_named, waiting_for}
+use Rattle.pw_cpp_expand.specs.AtHand.{Comes, ComesTo, ExpandsWaiting, IsCallKnown, IsKnown, IsReplacedBy, IsStepTo, Named, Opened, PutsOut, PutsResult, argument_named, mode_of, opened, raw_named, waiting_for}
 use Rattle.pw_cpp_expand.specs.AtHand as hand
 use Rattle.pw_cpp_expand.specs.Calls.{Called, Closed, Collects, arguments_of, is_mark}
 use Rattle.pw_cpp_expand.specs.Expansion.{Arguments, Calls, Expanded, Refused, Expands, Outcome, Done, Stopped, Turn, Turns, Stands, Becomes, Faults, macro_of, output_limit, produced_limit, producing, putting, replaced_call, result_of, room}
@@ -145,80 +145,80 @@ module _ (source text : List ℕ) (macros : Macros) where
 
   -- ---- steps of an expander
 
-  module _ (known : Known) (e : Expander) (l : Numbered) (p : Progress) where
+  module _ (mode : Mode) (known : Known) (e : Expander) (l : Numbered) (p : Progress) where
     -- the open calls, and the token with what stands behind it
     abbrev calls : List Opened
     calls = map (opened source known) (reverse e.calls)
 
     -- before the step the token is the last one put
     abbrev pub Before : Outcome → Type 0
-    Before outcome = ComesTo source text macros known (record e { pending = e.pending ++ l ∷ [] }) p outcome
+    Before outcome = ComesTo source text macros mode known (record e { pending = e.pending ++ l ∷ [] }) p outcome
 
     abbrev pub LastTurns : Turn → Type 0
-    LastTurns turn = Turns source text macros (mode_at e) (named known l) (at_hand known e.pending) p (macro_of source macros (named known l)) turn
+    LastTurns turn = Turns source text macros (mode_of mode e.calls) (named known l) (at_hand known e.pending) p (macro_of source macros (named known l)) turn
 
-    pub before-first : (outcome : Outcome) → Comes source text macros e.mode calls (named known l ∷ at_hand known e.pending) (all_named known e.out) p outcome → Before outcome
+    pub before-first : (outcome : Outcome) → Comes source text macros mode calls (named known l ∷ at_hand known e.pending) (all_named known e.out) p outcome → Before outcome
     before-first outcome c =
-        comes-as e.mode calls (named known l ∷ at_hand known e.pending) (at_hand known (e.pending ++ l ∷ [])) (all_named known e.out) (all_named known e.out) p p outcome
+        comes-as mode calls (named known l ∷ at_hand known e.pending) (at_hand known (e.pending ++ l ∷ [])) (all_named known e.out) (all_named known e.out) p p outcome
         (sym (hand-more known e.pending l)) refl refl c
 
-    pub first-turns : (turn : Turn) → LastTurns turn → FirstTurns e.mode calls (named known l) (at_hand known e.pending) p turn
+    pub first-turns : (turn : Turn) → LastTurns turn → FirstTurns mode calls (named known l) (at_hand known e.pending) p turn
     first-turns turn h =
         let P : Mode → Type 0 = λ x. Turns source text macros x (named known l) (at_hand known e.pending) p (macro_of source macros (named known l)) turn in
-        subst P (sym (mode-same known source e.mode e.calls)) h
+        subst P (sym (mode-same known source mode e.calls)) h
 
     pub fault-step : (fault : ExpandFault) → LastTurns (Faults fault) → Before (Stopped fault)
     fault-step fault h =
-        before-first (Stopped fault) (faults-comes e.mode calls (named known l) (at_hand known e.pending) (all_named known e.out) p fault (first-turns (Faults fault) h))
+        before-first (Stopped fault) (faults-comes mode calls (named known l) (at_hand known e.pending) (all_named known e.out) p fault (first-turns (Faults fault) h))
 
     -- a token stands, with these ahead of it
     pub stands-step : (pending : List Numbered) (q : Progress) (f : Expander) (r : Progress) (result : Result (Unit {0}) ExpandFault) → LastTurns (Stands (at_hand known pending) q)
-        → PutsOut l (record e { pending = pending }) q f r result → IsStepTo Before source text macros known f r result
+        → PutsOut mode l (record e { pending = pending }) q f r result → IsStepTo Before source text macros mode known f r result
     stands-step pending q f r (Ok done) turn put = λ outcome c.
-        let P : Expander → Type 0 = λ x. ComesTo source text macros known x r outcome in
-        let Q : Progress → Type 0 = λ x. Comes source text macros e.mode calls (at_hand known pending) (all_named known (e.out ++ l ∷ [])) x outcome in
+        let P : Expander → Type 0 = λ x. ComesTo source text macros mode known x r outcome in
+        let Q : Progress → Type 0 = λ x. Comes source text macros mode calls (at_hand known pending) (all_named known (e.out ++ l ∷ [])) x outcome in
         before-first outcome
-        (comes-on source text macros e.mode calls (named known l ∷ at_hand known e.pending) (all_named known e.out) p (at_hand known pending) (all_named known e.out ++ named known l ∷ [])
-          (putting (mode_in e.mode calls) (named known l) q) outcome
-          (stands-on source text macros (mode_in e.mode calls) (named known l) (at_hand known e.pending) (at_hand known pending) (all_named known e.out) p q
+        (comes-on source text macros mode calls (named known l ∷ at_hand known e.pending) (all_named known e.out) p (at_hand known pending) (all_named known e.out ++ named known l ∷ [])
+          (putting (mode_in mode calls) (named known l) q) outcome
+          (stands-on source text macros (mode_in mode calls) (named known l) (at_hand known e.pending) (at_hand known pending) (all_named known e.out) p q
             (first-turns (Stands (at_hand known pending) q) turn) (fits put.2))
-          (comes-as e.mode calls (at_hand known pending) (at_hand known pending) (all_named known (e.out ++ l ∷ [])) (all_named known e.out ++ named known l ∷ [])
-            (record q { size = q.size + room_of (mode_at e) l }) (putting (mode_in e.mode calls) (named known l) q) outcome
+          (comes-as mode calls (at_hand known pending) (at_hand known pending) (all_named known (e.out ++ l ∷ [])) (all_named known e.out ++ named known l ∷ [])
+            (record q { size = q.size + room_of (mode_of mode e.calls) l }) (putting (mode_in mode calls) (named known l) q) outcome
             refl (out-more known e.out l) (ap (λ n. record { next = q.next; rows = q.rows; produced = q.produced; size = q.size + n }) takes)
             (subst Q put.1 (subst P put.0 c))))
       where
-        takes : room_of (mode_at e) l ≡ room (mode_in e.mode calls) (named known l)
-        takes = sym (room-same known (mode_at e) l) ∙ ap (λ m. room m (named known l)) (sym (mode-same known source e.mode e.calls))
+        takes : room_of (mode_of mode e.calls) l ≡ room (mode_in mode calls) (named known l)
+        takes = sym (room-same known (mode_of mode e.calls) l) ∙ ap (λ m. room m (named known l)) (sym (mode-same known source mode e.calls))
 
-        fits : q.size + room_of (mode_at e) l ≤ output_limit → q.size + room (mode_in e.mode calls) (named known l) ≤ output_limit
+        fits : q.size + room_of (mode_of mode e.calls) l ≤ output_limit → q.size + room (mode_in mode calls) (named known l) ≤ output_limit
         fits h = omega (arith, h, takes)
     stands-step pending q f r (Err fault) turn (inl h) = inl h
     stands-step pending q f r (Err fault) turn (inr h) = inr (
       let P : ExpandFault → Type 0 = λ x. Before (Stopped x) in
       subst P (sym h.0)
       (before-first (Stopped (Length l.place))
-        (comes-stopped source text macros e.mode calls (named known l ∷ at_hand known e.pending) (all_named known e.out) p (Length l.place)
-          (by.turns (mode_in e.mode calls) (named known l) (at_hand known e.pending) p (Stands (at_hand known pending) q) (Stopped (Length l.place))
+        (comes-stopped source text macros mode calls (named known l ∷ at_hand known e.pending) (all_named known e.out) p (Length l.place)
+          (by.turns (mode_in mode calls) (named known l) (at_hand known e.pending) p (Stands (at_hand known pending) q) (Stopped (Length l.place))
             (first-turns (Stands (at_hand known pending) q) turn)
-            (by.too_long (mode_in e.mode calls) (named known l) (at_hand known pending) q (passes h.1)))))
+            (by.too_long (mode_in mode calls) (named known l) (at_hand known pending) q (passes h.1)))))
     )
       where
-        takes : room_of (mode_at e) l ≡ room (mode_in e.mode calls) (named known l)
-        takes = sym (room-same known (mode_at e) l) ∙ ap (λ m. room m (named known l)) (sym (mode-same known source e.mode e.calls))
+        takes : room_of (mode_of mode e.calls) l ≡ room (mode_in mode calls) (named known l)
+        takes = sym (room-same known (mode_of mode e.calls) l) ∙ ap (λ m. room m (named known l)) (sym (mode-same known source mode e.calls))
 
-        passes : output_limit < q.size + room_of (mode_at e) l → output_limit < q.size + room (mode_in e.mode calls) (named known l)
+        passes : output_limit < q.size + room_of (mode_of mode e.calls) l → output_limit < q.size + room (mode_in mode calls) (named known l)
         passes h = omega (arith, h, takes)
 
     -- it is replaced by these, with others behind them
     pub becomes-step : (made : List Numbered) (f : Expander) (r : Progress) (result : Result (Unit {0}) ExpandFault)
-        → LastTurns (Becomes (all_named known made) (at_hand known e.pending) p) → PutsResult made l.place e p f r result → IsStepTo Before source text macros known f r result
+        → LastTurns (Becomes (all_named known made) (at_hand known e.pending) p) → PutsResult made l.place e p f r result → IsStepTo Before source text macros mode known f r result
     becomes-step made f r (Ok done) turn put = λ outcome c.
-        let P : Expander → Type 0 = λ x. ComesTo source text macros known x r outcome in
-        let Q : Progress → Type 0 = λ x. Comes source text macros e.mode calls (at_hand known (e.pending ++ reverse made)) (all_named known e.out) x outcome in
+        let P : Expander → Type 0 = λ x. ComesTo source text macros mode known x r outcome in
+        let Q : Progress → Type 0 = λ x. Comes source text macros mode calls (at_hand known (e.pending ++ reverse made)) (all_named known e.out) x outcome in
         before-first outcome
-        (becomes-comes e.mode calls (named known l) (at_hand known e.pending) (all_named known e.out) (all_named known made) (at_hand known e.pending) p p outcome
+        (becomes-comes mode calls (named known l) (at_hand known e.pending) (all_named known e.out) (all_named known made) (at_hand known e.pending) p p outcome
           (first-turns (Becomes (all_named known made) (at_hand known e.pending) p) turn) (omega (arith, put.2, length-map made (named known)))
-          (comes-as e.mode calls (at_hand known (e.pending ++ reverse made)) (all_named known made ++ at_hand known e.pending) (all_named known e.out) (all_named known e.out)
+          (comes-as mode calls (at_hand known (e.pending ++ reverse made)) (all_named known made ++ at_hand known e.pending) (all_named known e.out) (all_named known e.out)
             (producing p (length made)) (producing p (length (all_named known made))) outcome
             (hand-front known e.pending made) refl (ap (producing p) (sym (length-map made (named known)))) (subst Q put.1 (subst P put.0 c))))
     becomes-step made f r (Err fault) turn (inl h) = inl h
@@ -226,15 +226,15 @@ module _ (source text : List ℕ) (macros : Macros) where
       let P : ExpandFault → Type 0 = λ x. Before (Stopped x) in
       subst P (sym h.0)
       (before-first (Stopped (Produced l.place))
-        (too-many-comes e.mode calls (named known l) (at_hand known e.pending) (all_named known e.out) (all_named known made) (at_hand known e.pending) p p
+        (too-many-comes mode calls (named known l) (at_hand known e.pending) (all_named known e.out) (all_named known made) (at_hand known e.pending) p p
           (first-turns (Becomes (all_named known made) (at_hand known e.pending) p) turn) (omega (arith, h.1, length-map made (named known)))))
     )
 
 -- ---- steps that come from steps
 
-module _ (source text : List ℕ) (macros : Macros) (known : Known) (e : Expander) (p : Progress) where
+module _ (source text : List ℕ) (macros : Macros) (mode : Mode) (known : Known) (e : Expander) (p : Progress) where
   pub step-weaker : {A : Type 0} (Is Was : Outcome → Type 0) (result : Result A ExpandFault) → ((outcome : Outcome) → Is outcome → Was outcome)
-      → IsStepTo Is source text macros known e p result → IsStepTo Was source text macros known e p result
+      → IsStepTo Is source text macros mode known e p result → IsStepTo Was source text macros mode known e p result
   step-weaker Is Was (Ok done) w h = λ outcome c. w outcome (h outcome c)
   step-weaker Is Was (Err fault) w (inl h) = inl h
   step-weaker Is Was (Err fault) w (inr h) = inr (w (Stopped fault) h)
@@ -246,19 +246,19 @@ fault-weaker Is Was fault w (inr h) = inr (w fault h)
 -- ---- a call whose arguments are expanded
 
 module _ (source text : List ℕ) (macros : Macros) where
-  module _ (known new : Known) (keeps : Keeps known new) (e : Expander) (call : Call) (made : List Numbered) (p : Progress)
+  module _ (mode : Mode) (known new : Known) (keeps : Keeps known new) (e : Expander) (call : Call) (made : List Numbered) (p : Progress)
       (calls_known : All (IsCallKnown known) e.calls) (call_known : IsCallKnown known call)
       (made_is : all_named new made ≡ result_of source (set_at known call.replaced.hidden) call.replaced.place (map (argument_named source known) call.expanded) call.meaning.now.replacement) where
     pub replaced-step : (q : Progress) (f : Expander) (result : Result (Unit {0}) ExpandFault)
         → PutsResult made call.replaced.place (record e { pending = call.behind; out = call.before }) p f q result
-        → IsStepTo (IsReplacedBy source text macros known e call p) source text macros new f q result
+        → IsStepTo (IsReplacedBy source text macros mode known e call p) source text macros mode new f q result
     replaced-step q f (Ok done) put = λ outcome c.
-        let P : Expander → Type 0 = λ x. ComesTo source text macros new x q outcome in
-        let Q : Progress → Type 0 = λ x. Comes source text macros e.mode (map (opened source new) (reverse e.calls)) (at_hand new (call.behind ++ reverse made)) (all_named new call.before) x outcome in
-        let R : List Opened → Type 0 = λ x. Comes source text macros e.mode x (at_hand new (call.behind ++ reverse made)) (all_named new call.before) (producing p (length made)) outcome in
+        let P : Expander → Type 0 = λ x. ComesTo source text macros mode new x q outcome in
+        let Q : Progress → Type 0 = λ x. Comes source text macros mode (map (opened source new) (reverse e.calls)) (at_hand new (call.behind ++ reverse made)) (all_named new call.before) x outcome in
+        let R : List Opened → Type 0 = λ x. Comes source text macros mode x (at_hand new (call.behind ++ reverse made)) (all_named new call.before) (producing p (length made)) outcome in
         inr (
           omega (arith, put.2, count),
-          comes-as source text macros e.mode (map (opened source known) (reverse e.calls)) (at_hand new (call.behind ++ reverse made)) (made_result ++ at_hand known call.behind) (all_named new call.before)
+          comes-as source text macros mode (map (opened source known) (reverse e.calls)) (at_hand new (call.behind ++ reverse made)) (made_result ++ at_hand known call.behind) (all_named new call.before)
             (all_named known call.before) (producing p (length made)) (producing p (length made_result)) outcome
             (hand-front new call.behind made ∙ ap (λ x. x ++ at_hand new call.behind) made_is ∙ ap (λ x. made_result ++ x) (hand-kept known new keeps call.behind call_known.3))
             (all-kept known new keeps call.before call_known.4) (ap (producing p) count)
@@ -288,7 +288,7 @@ module _ (source text : List ℕ) (macros : Macros) where
 
   -- ---- an argument that is expanded
 
-  module _ (known : Known) (e : Expander) (call : Call) (p : Progress) (outcome : Outcome) (none : e.pending ≡ []) where
+  module _ (mode : Mode) (known : Known) (e : Expander) (call : Call) (p : Progress) (outcome : Outcome) (none : e.pending ≡ []) where
     abbrev others : List Opened
     others = map (opened source known) (reverse e.calls)
 
@@ -299,14 +299,14 @@ module _ (source text : List ℕ) (macros : Macros) where
     expanded_is : map (argument_named source known) with_out.expanded ≡ (opened source known call).expanded ++ (spelling source call.parameter, all_named known e.out) ∷ []
     expanded_is = map-append (argument_named source known) call.expanded (record { parameter = call.parameter; tokens = e.out } ∷ [])
 
-    with_call : Comes source text macros e.mode (opened source known call ∷ others) [] (all_named known e.out) p outcome
-        → ComesTo source text macros known (record e { calls = e.calls ++ call ∷ [] }) p outcome
+    with_call : Comes source text macros mode (opened source known call ∷ others) [] (all_named known e.out) p outcome
+        → ComesTo source text macros mode known (record e { calls = e.calls ++ call ∷ [] }) p outcome
     with_call c =
-        let P : List Opened → Type 0 = λ x. Comes source text macros e.mode x (at_hand known e.pending) (all_named known e.out) p outcome in
-        let Q : List Numbered → Type 0 = λ x. Comes source text macros e.mode (opened source known call ∷ others) (at_hand known x) (all_named known e.out) p outcome in
+        let P : List Opened → Type 0 = λ x. Comes source text macros mode x (at_hand known e.pending) (all_named known e.out) p outcome in
+        let Q : List Numbered → Type 0 = λ x. Comes source text macros mode (opened source known call ∷ others) (at_hand known x) (all_named known e.out) p outcome in
         subst P (sym (calls-more known source e.calls call)) (subst Q (sym none) c)
 
-    pub last-step : call.waiting ≡ [] → IsReplacedBy source text macros known e with_out p outcome → ComesTo source text macros known (record e { calls = e.calls ++ call ∷ [] }) p outcome
+    pub last-step : call.waiting ≡ [] → IsReplacedBy source text macros mode known e with_out p outcome → ComesTo source text macros mode known (record e { calls = e.calls ++ call ∷ [] }) p outcome
     last-step w h = with_call (by_case h)
       where
         waits : (opened source known call).waiting ≡ []
@@ -318,20 +318,20 @@ module _ (source text : List ℕ) (macros : Macros) where
         result_is : made_result ≡ result_of source (opened source known call).hidden (opened source known call).place ((opened source known call).expanded ++ ((opened source known call).parameter, all_named known e.out) ∷ []) (opened source known call).meaning.replacement
         result_is = ap (λ x. result_of source (set_at known call.replaced.hidden) call.replaced.place x call.meaning.now.replacement) expanded_is
 
-        by_case : IsReplacedBy source text macros known e with_out p outcome → Comes source text macros e.mode (opened source known call ∷ others) [] (all_named known e.out) p outcome
+        by_case : IsReplacedBy source text macros mode known e with_out p outcome → Comes source text macros mode (opened source known call ∷ others) [] (all_named known e.out) p outcome
         by_case (inl h) =
-            let P : Outcome → Type 0 = λ x. Comes source text macros e.mode (opened source known call ∷ others) [] (all_named known e.out) p x in
+            let P : Outcome → Type 0 = λ x. Comes source text macros mode (opened source known call ∷ others) [] (all_named known e.out) p x in
             let Q : List Lexeme → Type 0 = λ x. produced_limit < p.produced + length x in
-            subst P (sym h.1) (argument-too_many source text macros e.mode (opened source known call) others (all_named known e.out) p waits (subst Q result_is h.0))
-        by_case (inr h) = argument-last source text macros e.mode (opened source known call) others (all_named known e.out) made_result p outcome waits result_is h.0 h.1
+            subst P (sym h.1) (argument-too_many source text macros mode (opened source known call) others (all_named known e.out) p waits (subst Q result_is h.0))
+        by_case (inr h) = argument-last source text macros mode (opened source known call) others (all_named known e.out) made_result p outcome waits result_is h.0 h.1
 
     -- the call with its next argument at hand
     pub next-step : (next : Raw) (waiting : List Raw) → call.waiting ≡ waiting ++ next ∷ []
-        → ComesTo source text macros known
+        → ComesTo source text macros mode known
           (record e { calls = e.calls ++ record with_out { parameter = next.parameter; waiting = waiting } ∷ []; pending = reverse next.tokens; out = [] }) p outcome
-        → ComesTo source text macros known (record e { calls = e.calls ++ call ∷ [] }) p outcome
+        → ComesTo source text macros mode known (record e { calls = e.calls ++ call ∷ [] }) p outcome
     next-step next waiting w c =
-        with_call (argument-next source text macros e.mode (opened source known call) others (all_named known e.out) (all_named known next.tokens) (spelling source next.parameter)
+        with_call (argument-next source text macros mode (opened source known call) others (all_named known e.out) (all_named known next.tokens) (spelling source next.parameter)
           (map (raw_named source known) (reverse waiting)) p outcome (ap (λ x. map (raw_named source known) (reverse x)) w ∙ ap (map (raw_named source known)) (reverse-append waiting (next ∷ [])))
           (subst R (ap (all_named known) (reverse-reverse next.tokens)) (subst Q called_is (subst P (calls-more known source e.calls after) c))))
       where
@@ -339,16 +339,16 @@ module _ (source text : List ℕ) (macros : Macros) where
         after = record with_out { parameter = next.parameter; waiting = waiting }
 
         abbrev P : List Opened → Type 0
-        P x = Comes source text macros e.mode x (at_hand known (reverse next.tokens)) [] p outcome
+        P x = Comes source text macros mode x (at_hand known (reverse next.tokens)) [] p outcome
 
         called_is : opened source known after ≡ with_next source text macros (opened source known call) (all_named known e.out) (spelling source next.parameter) (map (raw_named source known) (reverse waiting))
         called_is = ap (λ x. record (opened source known after) { expanded = x }) expanded_is
 
         abbrev Q : Opened → Type 0
-        Q x = Comes source text macros e.mode (x ∷ others) (at_hand known (reverse next.tokens)) [] p outcome
+        Q x = Comes source text macros mode (x ∷ others) (at_hand known (reverse next.tokens)) [] p outcome
 
         abbrev R : List Lexeme → Type 0
-        R x = Comes source text macros e.mode (with_next source text macros (opened source known call) (all_named known e.out) (spelling source next.parameter) (map (raw_named source known) (reverse waiting)) ∷ others) x [] p outcome
+        R x = Comes source text macros mode (with_next source text macros (opened source known call) (all_named known e.out) (spelling source next.parameter) (map (raw_named source known) (reverse waiting)) ∷ others) x [] p outcome
 
   -- ---- the turn of a name whose `(` was read
 

@@ -89,9 +89,9 @@ pub data Comes (source text : List ℕ) (macros : Macros) (mode : Mode) : List O
       → Comes source text macros mode (call ∷ calls) pending out p outcome
 
 -- what an expander comes to
-abbrev pub ComesTo : List ℕ → List ℕ → Macros → Known → Expander → Progress → Outcome → Type 0
-ComesTo source text macros known e p outcome =
-    Comes source text macros e.mode (map (opened source known) (reverse e.calls)) (at_hand known e.pending) (all_named known e.out) p outcome
+abbrev pub ComesTo : List ℕ → List ℕ → Macros → Mode → Known → Expander → Progress → Outcome → Type 0
+ComesTo source text macros mode known e p outcome =
+    Comes source text macros mode (map (opened source known) (reverse e.calls)) (at_hand known e.pending) (all_named known e.out) p outcome
 
 -- the sets of all that is at hand are known
 abbrev pub IsCallKnown : Known → Call → Type 0
@@ -107,9 +107,6 @@ abbrev pub mode_of : Mode → List Call → Mode
 mode_of mode [] = mode
 mode_of mode (call ∷ calls) = Alone
 
-abbrev pub mode_at : Expander → Mode
-mode_at e = mode_of e.mode e.calls
-
 -- what has come of a text is within the limits
 abbrev pub IsWithinLimits : Progress → Type 0
 IsWithinLimits p = (p.produced ≤ produced_limit) × (p.size ≤ output_limit)
@@ -117,15 +114,15 @@ IsWithinLimits p = (p.produced ≤ produced_limit) × (p.size ≤ output_limit)
 -- ---- steps
 
 -- What was at hand comes to whatever is at hand behind the step comes to; a fault is what it comes to.
-abbrev pub IsStepTo : {A : Type 0} → (Outcome → Type 0) → List ℕ → List ℕ → Macros → Known → Expander → Progress → Result A ExpandFault → Type 0
-IsStepTo Before source text macros known e p (Ok done) = (outcome : Outcome) → ComesTo source text macros known e p outcome → Before outcome
-IsStepTo Before source text macros known e p (Err fault) = IsFault fault (λ f. Before (Stopped f))
+abbrev pub IsStepTo : {A : Type 0} → (Outcome → Type 0) → List ℕ → List ℕ → Macros → Mode → Known → Expander → Progress → Result A ExpandFault → Type 0
+IsStepTo Before source text macros mode known e p (Ok done) = (outcome : Outcome) → ComesTo source text macros mode known e p outcome → Before outcome
+IsStepTo Before source text macros mode known e p (Err fault) = IsFault fault (λ f. Before (Stopped f))
 
 -- a token that is put out, if the output has room for it
-abbrev pub PutsOut : Numbered → Expander → Progress → Expander → Progress → Result (Unit {0}) ExpandFault → Type 0
-PutsOut l e p f q (Ok done) =
-    (f ≡ record e { out = e.out ++ l ∷ [] }) × (q ≡ record p { size = p.size + room_of (mode_at e) l }) × (p.size + room_of (mode_at e) l ≤ output_limit)
-PutsOut l e p f q (Err fault) = IsFault fault (λ x. (x ≡ Length l.place) × (output_limit < p.size + room_of (mode_at e) l))
+abbrev pub PutsOut : Mode → Numbered → Expander → Progress → Expander → Progress → Result (Unit {0}) ExpandFault → Type 0
+PutsOut mode l e p f q (Ok done) =
+    (f ≡ record e { out = e.out ++ l ∷ [] }) × (q ≡ record p { size = p.size + room_of (mode_of mode e.calls) l }) × (p.size + room_of (mode_of mode e.calls) l ≤ output_limit)
+PutsOut mode l e p f q (Err fault) = IsFault fault (λ x. (x ≡ Length l.place) × (output_limit < p.size + room_of (mode_of mode e.calls) l))
 
 -- what replaces a name or a call is put in front of the tokens at hand, if so many may be produced
 abbrev pub PutsResult : List Numbered → ℕ → Expander → Progress → Expander → Progress → Result (Unit {0}) ExpandFault → Type 0
@@ -133,18 +130,18 @@ PutsResult made place e p f q (Ok done) = (f ≡ record e { pending = e.pending 
 PutsResult made place e p f q (Err fault) = IsFault fault (λ x. (x ≡ Produced place) × (produced_limit < p.produced + length made))
 
 -- a call whose arguments are all expanded comes to
-abbrev pub IsReplacedBy : List ℕ → List ℕ → Macros → Known → Expander → Call → Progress → Outcome → Type 0
-IsReplacedBy source text macros known e call p outcome =
+abbrev pub IsReplacedBy : List ℕ → List ℕ → Macros → Mode → Known → Expander → Call → Progress → Outcome → Type 0
+IsReplacedBy source text macros mode known e call p outcome =
     let result = result_of source (set_at known call.replaced.hidden) call.replaced.place (map (argument_named source known) call.expanded) call.meaning.now.replacement in
     ((produced_limit < p.produced + length result) × (outcome ≡ Stopped (Produced call.replaced.place)))
     ⊎ ((p.produced + length result ≤ produced_limit)
-        × Comes source text macros e.mode (map (opened source known) (reverse e.calls)) (result ++ at_hand known call.behind) (all_named known call.before) (producing p (length result)) outcome)
+        × Comes source text macros mode (map (opened source known) (reverse e.calls)) (result ++ at_hand known call.behind) (all_named known call.before) (producing p (length result)) outcome)
 
 -- the call of a name whose `(` was read comes to
-abbrev pub IsCallOpened : List ℕ → List ℕ → Macros → Known → Expander → Numbered → Progress → Outcome → Type 0
-IsCallOpened source text macros known e name p outcome =
-    (first : Lexeme) (rest : List Lexeme) (start : Progress) → LooksAhead text (mode_at e) rest start (At (first ∷ at_hand known e.pending) p) → is_mark source (codes "(") first ≡ true
-    → Comes source text macros e.mode (map (opened source known) (reverse e.calls)) (named known name ∷ rest) (all_named known e.out) start outcome
+abbrev pub IsCallOpened : List ℕ → List ℕ → Macros → Mode → Known → Expander → Numbered → Progress → Outcome → Type 0
+IsCallOpened source text macros mode known e name p outcome =
+    (first : Lexeme) (rest : List Lexeme) (start : Progress) → LooksAhead text (mode_of mode e.calls) rest start (At (first ∷ at_hand known e.pending) p) → is_mark source (codes "(") first ≡ true
+    → Comes source text macros mode (map (opened source known) (reverse e.calls)) (named known name ∷ rest) (all_named known e.out) start outcome
 
 -- ---- the arguments of a call that are expanded
 

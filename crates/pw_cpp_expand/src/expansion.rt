@@ -1,7 +1,7 @@
 //! Expansion of tokens, on a stack of open calls.
 
 ghost use Rattle.std.specs.Prelude.{◌≡◌, ◌≤◌, ◌<◌, ◌++◌, ◌∷◌, [], length, map, reverse, option_map, All, IfOk, IfSome, IsTrue, OnOk, false, ◌↔◌};
-ghost use Rattle.pw_cpp_expand.specs.AtHand.{AnswersExpansion, ComesTo, IsCallKnown, IsCallOpened, IsKnown, IsReplacedBy, IsStepTo, IsWaiting, IsWithinLimits, PutsOut, PutsResult, mode_at};
+ghost use Rattle.pw_cpp_expand.specs.AtHand.{AnswersExpansion, ComesTo, IsCallKnown, IsCallOpened, IsKnown, IsReplacedBy, IsStepTo, IsWaiting, IsWithinLimits, PutsOut, PutsResult, mode_of};
 ghost use Rattle.pw_cpp_expand.specs.Expansion as spec;
 ghost use Rattle.pw_cpp_expand.specs.Lookahead as ahead;
 ghost use Rattle.pw_cpp_expand.specs.Numbered.{AreKnown, HaveEmpty, all_named, at_hand, named};
@@ -42,7 +42,6 @@ struct Call<'m> {
 /// What is at hand while tokens are expanded.
 #[derive(Drop)]
 pub struct Expander<'m> {
-    mode: Mode,
     /// The tokens that are to be expanded, the first one last.
     pending: Items<Lexeme>,
     /// Those that stand in their place.
@@ -57,6 +56,8 @@ struct Ground<'a, 'm> {
     source: &'a [u8],
     text: &'a [u8],
     macros: &'m Macros<'a>,
+    /// Outside all calls.
+    mode: Mode,
 }
 
 fn macro_of<'a, 'm>(ground: Ground<'a, 'm>, sets: &Sets<'a>, lexeme: Lexeme) -> Option<&'m Macro>
@@ -74,18 +75,19 @@ fn macro_of<'a, 'm>(ground: Ground<'a, 'm>, sets: &Sets<'a>, lexeme: Lexeme) -> 
 }
 
 impl<'m> Expander<'m> {
-    fn mode(&self) -> Mode
-        ensures { result ≡ mode_at self.now }
+    /// The mode in which the tokens at hand are expanded.
+    fn mode_in(&self, mode: Mode) -> Mode
+        ensures { result ≡ mode_of mode self.now.calls }
     {
-        if self.calls.is_empty() { self.mode } else { Mode::Alone }
+        if self.calls.is_empty() { mode } else { Mode::Alone }
     }
 
     /// Lets a token stand.
-    fn put_out(&mut self, lexeme: Lexeme, progress: &mut Progress) -> Result<(), ExpandFault>
+    fn put_out(&mut self, mode: Mode, lexeme: Lexeme, progress: &mut Progress) -> Result<(), ExpandFault>
         requires { progress.old.size ≤ spec.output_limit }
-        ensures { PutsOut lexeme self.old progress.old self.new progress.new result }
+        ensures { PutsOut mode lexeme self.old progress.old self.new progress.new result }
     {
-        if self.mode() == Mode::InText {
+        if self.mode_in(mode) == Mode::InText {
             if OUTPUT_LIMIT - progress.size <= lexeme.token.len {
                 return Err(ExpandFault::Length { at: lexeme.place });
             }
@@ -130,7 +132,7 @@ impl<'m> Expander<'m> {
         ensures keeps { Keeps sets.old sets.new }
         ensures within { progress.new.next ≤ length ground.text.now }
         ensures known { IfOk result (λ _. IsKnown sets.new self.new × IsWithinLimits progress.new) }
-        ensures comes { IsStepTo (λ outcome. IsReplacedBy ground.source.now ground.text.now ground.macros.now sets.old self.old call progress.old outcome) ground.source.now ground.text.now ground.macros.now sets.new self.new progress.new result }
+        ensures comes { IsStepTo (λ outcome. IsReplacedBy ground.source.now ground.text.now ground.macros.now ground.mode sets.old self.old call progress.old outcome) ground.source.now ground.text.now ground.macros.now ground.mode sets.new self.new progress.new result }
     {
         let result = result_of(
             ground.alloc,
@@ -161,7 +163,7 @@ impl<'m> Expander<'m> {
         ensures keeps { Keeps sets.old sets.new }
         ensures within { progress.new.next ≤ length ground.text.now }
         ensures known { IfOk result (λ _. IsKnown sets.new self.new × IsWithinLimits progress.new) }
-        ensures comes { IsStepTo (λ outcome. ComesTo ground.source.now ground.text.now ground.macros.now sets.old (record self.old { calls = self.old.calls ++ call ∷ [] }) progress.old outcome) ground.source.now ground.text.now ground.macros.now sets.new self.new progress.new result }
+        ensures comes { IsStepTo (λ outcome. ComesTo ground.source.now ground.text.now ground.macros.now ground.mode sets.old (record self.old { calls = self.old.calls ++ call ∷ [] }) progress.old outcome) ground.source.now ground.text.now ground.macros.now ground.mode sets.new self.new progress.new result }
     {
         let mut call = call;
         let mut tokens = Items::new(ground.alloc);
@@ -206,7 +208,7 @@ impl<'m> Expander<'m> {
         ensures keeps { Keeps sets.old sets.new }
         ensures within { progress.new.next ≤ length ground.text.now }
         ensures known { IfOk result (λ _. IsKnown sets.new self.new × IsWithinLimits progress.new) }
-        ensures comes { IsStepTo (λ outcome. ComesTo ground.source.now ground.text.now ground.macros.now sets.old (record self.old { pending = self.old.pending ++ name ∷ [] }) progress.old outcome) ground.source.now ground.text.now ground.macros.now sets.new self.new progress.new result }
+        ensures comes { IsStepTo (λ outcome. ComesTo ground.source.now ground.text.now ground.macros.now ground.mode sets.old (record self.old { pending = self.old.pending ++ name ∷ [] }) progress.old outcome) ground.source.now ground.text.now ground.macros.now ground.mode sets.new self.new progress.new result }
     {
         let spelling = spelled(ground.source, name.token);
         let replaced = Replaced {
@@ -237,10 +239,10 @@ impl<'m> Expander<'m> {
         ensures keeps { Keeps sets.old sets.new }
         ensures within { progress.new.next ≤ length ground.text.now }
         ensures known { IfOk result (λ _. IsKnown sets.new self.new × IsWithinLimits progress.new) }
-        ensures comes { IsStepTo (λ outcome. IsCallOpened ground.source.now ground.text.now ground.macros.now sets.old self.old name progress.old outcome) ground.source.now ground.text.now ground.macros.now sets.new self.new progress.new result }
+        ensures comes { IsStepTo (λ outcome. IsCallOpened ground.source.now ground.text.now ground.macros.now ground.mode sets.old self.old name progress.old outcome) ground.source.now ground.text.now ground.macros.now ground.mode sets.new self.new progress.new result }
     {
         let fault = ExpandFault::Call { at: name.place };
-        let mode = self.mode();
+        let mode = self.mode_in(ground.mode);
         let Ground { alloc, source, text, .. } = ground;
         let Some(found) = collect(alloc, source, text, mode, &mut self.pending, progress)? else {
             return Err(fault);
@@ -297,18 +299,18 @@ impl<'m> Expander<'m> {
         ensures keeps { Keeps sets.old sets.new }
         ensures within { progress.new.next ≤ length ground.text.now }
         ensures known { IfOk result (λ _. IsKnown sets.new self.new × IsWithinLimits progress.new) }
-        ensures comes { IsStepTo (λ outcome. ComesTo ground.source.now ground.text.now ground.macros.now sets.old (record self.old { pending = self.old.pending ++ name ∷ [] }) progress.old outcome) ground.source.now ground.text.now ground.macros.now sets.new self.new progress.new result }
+        ensures comes { IsStepTo (λ outcome. ComesTo ground.source.now ground.text.now ground.macros.now ground.mode sets.old (record self.old { pending = self.old.pending ++ name ∷ [] }) progress.old outcome) ground.source.now ground.text.now ground.macros.now ground.mode sets.new self.new progress.new result }
     {
-        let mode = self.mode();
+        let mode = self.mode_in(ground.mode);
         look_ahead(ground.alloc, ground.text, mode, &mut self.pending, progress)?;
         match self.pending.pop() {
             Some(open) if is_spelled(ground.source, b"(", open.token) =>
                 self.open_call(ground, sets, name, meaning, parameters, progress),
             Some(other) => {
                 self.pending.push(other)?;
-                self.put_out(name, progress)
+                self.put_out(ground.mode, name, progress)
             }
-            None => self.put_out(name, progress),
+            None => self.put_out(ground.mode, name, progress),
         }
     }
 
@@ -327,10 +329,10 @@ impl<'m> Expander<'m> {
         ensures keeps { Keeps sets.old sets.new }
         ensures within { progress.new.next ≤ length ground.text.now }
         ensures known { IfOk result (λ _. IsKnown sets.new self.new × IsWithinLimits progress.new) }
-        ensures comes { IsStepTo (λ outcome. ComesTo ground.source.now ground.text.now ground.macros.now sets.old (record self.old { pending = self.old.pending ++ lexeme ∷ [] }) progress.old outcome) ground.source.now ground.text.now ground.macros.now sets.new self.new progress.new result }
+        ensures comes { IsStepTo (λ outcome. ComesTo ground.source.now ground.text.now ground.macros.now ground.mode sets.old (record self.old { pending = self.old.pending ++ lexeme ∷ [] }) progress.old outcome) ground.source.now ground.text.now ground.macros.now ground.mode sets.new self.new progress.new result }
     {
         let Some(meaning) = macro_of(ground, sets, lexeme) else {
-            return self.put_out(lexeme, progress);
+            return self.put_out(ground.mode, lexeme, progress);
         };
         match &meaning.parameters {
             None => self.replace_name(ground, sets, lexeme, meaning, progress),
@@ -361,7 +363,7 @@ impl<'m> Expander<'m> {
         ensures within { progress.new.next ≤ length ground.text.now }
         ensures known { IfOk result (λ _. IsKnown sets.new self.new × IsWithinLimits progress.new) }
         ensures done { IfOk result (λ more. more ≡ false → (self.new.pending ≡ []) × (self.new.calls ≡ [])) }
-        ensures comes { IsStepTo (λ outcome. ComesTo ground.source.now ground.text.now ground.macros.now sets.old self.old progress.old outcome) ground.source.now ground.text.now ground.macros.now sets.new self.new progress.new result }
+        ensures comes { IsStepTo (λ outcome. ComesTo ground.source.now ground.text.now ground.macros.now ground.mode sets.old self.old progress.old outcome) ground.source.now ground.text.now ground.macros.now ground.mode sets.new self.new progress.new result }
     {
         if let Some(lexeme) = self.pending.pop() {
             self.expand_one(ground, sets, lexeme, progress)?;
@@ -389,7 +391,7 @@ impl<'m> Expander<'m> {
         ensures within { progress.new.next ≤ length ground.text.now }
         ensures known { IfOk result (λ _. IsKnown sets.new self.new × IsWithinLimits progress.new) }
         ensures done { IfOk result (λ _. (self.new.pending ≡ []) × (self.new.calls ≡ [])) }
-        ensures comes { IsStepTo (λ outcome. ComesTo ground.source.now ground.text.now ground.macros.now sets.old self.old progress.old outcome) ground.source.now ground.text.now ground.macros.now sets.new self.new progress.new result }
+        ensures comes { IsStepTo (λ outcome. ComesTo ground.source.now ground.text.now ground.macros.now ground.mode sets.old self.old progress.old outcome) ground.source.now ground.text.now ground.macros.now ground.mode sets.new self.new progress.new result }
     {
         for _turn in 0..u64::MAX {
             let more = self.turn(ground, sets, progress)?;
@@ -466,8 +468,9 @@ pub fn expand_text<'a>(
         source,
         text,
         macros,
+        mode: Mode::InText,
     };
-    expanded(ground, sets, Mode::InText, pending, progress)
+    expanded(ground, sets, pending, progress)
 }
 
 /// Tokens expanded by themselves, as those of a `#if`.
@@ -493,10 +496,11 @@ pub fn expand_alone<'a>(
         source,
         text: source,
         macros,
+        mode: Mode::Alone,
     };
     let mut pending = Items::new(alloc);
     put_in_front(tokens, &mut pending)?;
-    expanded(ground, sets, Mode::Alone, pending, progress)
+    expanded(ground, sets, pending, progress)
 }
 
 /// Puts tokens in front of those at hand, which are kept with the first one last.
@@ -513,7 +517,6 @@ fn put_in_front(tokens: Items<Lexeme>, pending: &mut Items<Lexeme>) -> Result<()
 fn expanded<'a, 'm>(
     ground: Ground<'a, 'm>,
     sets: &mut Sets<'a>,
-    mode: Mode,
     pending: Items<Lexeme>,
     progress: &mut Progress,
 ) -> Result<Items<Lexeme>, ExpandFault>
@@ -524,10 +527,9 @@ fn expanded<'a, 'm>(
     ensures keeps { Keeps sets.old sets.new }
     ensures within { progress.new.next ≤ length ground.text.now }
     ensures known { IfOk result (λ out. AreKnown sets.new out × IsWithinLimits progress.new) }
-    ensures answers { AnswersExpansion ground.source.now ground.text.now ground.macros.now mode sets.new (at_hand sets.old pending) progress.old progress.new result }
+    ensures answers { AnswersExpansion ground.source.now ground.text.now ground.macros.now ground.mode sets.new (at_hand sets.old pending) progress.old progress.new result }
 {
     let mut expander = Expander {
-        mode,
         pending,
         out: Items::new(ground.alloc),
         calls: Items::new(ground.alloc),

@@ -8,5 +8,5 @@ use Rattle.pw_cpp_sets.specs.Sets.{Keeps}
 abbrev pub invariant-loop-turn : goal.invariant-loop-turn
 invariant-loop-turn l =
     Keeps l.initial.sets l.sets × (l.progress.next ≤ length l.ground.text.now) × IsKnown l.sets l.self × IsWithinLimits l.progress
-    × ((outcome : Outcome) → ComesTo l.ground.source.now l.ground.text.now l.ground.macros.now l.sets l.self l.progress outcome
-        → ComesTo l.ground.source.now l.ground.text.now l.ground.macros.now l.initial.sets l.initial.self l.initial.progress outcome)
+    × ((outcome : Outcome) → ComesTo l.ground.source.now l.ground.text.now l.ground.macros.now l.ground.mode l.sets l.self l.progress outcome
+        → ComesTo l.ground.source.now l.ground.text.now l.ground.macros.now l.ground.mode l.initial.sets l.initial.self l.initial.progress outcome)
