@@ -1,13 +1,13 @@
 -- What each step of the expansion does to what is at hand.
 use Rattle.std.proofs.Common.{◌≡◌, ℕ, ◌+◌, ◌<◌, ◌≤◌, true, List, [], ◌∷◌, ◌++◌, length, map, reverse, Option, Some, Result, Ok, Err, inl, inr, ◌⊎◌, refl, sym, ap, ◌∙◌, subst, All, arith}
-use Rattle.std.proofs.lemmas.List.{length-map, map-append, reverse-append, reverse-reverse}
+use Rattle.std.proofs.lemmas.List.{append-nil, length-map, map-append, reverse-append, reverse-reverse}
 use Rattle.std.proofs.lemmas.List.Elements.{All-append}
 use Rattle.std.specs.Prelude.{codes}
 use Rattle.pw_token.specs.Roles.{spelling}
 use Rattle.pw_token.specs.declared.token.Token.{Token}
 use Rattle.pw_cpp_macros.specs.Macros.{Macros}
 use Rattle.pw_cpp_macros.specs.declared.definition.Macro.{Macro}
-use Rattle.pw_cpp_expand.specs.AtHand.{Comes, ComesTo, ExpandsWaiting, IsCallKnown, IsKnown, IsReplacedBy, IsStepTo, Named, Opened, PutsOut, PutsResult, argument_named, mode_of, opened, raw_named, waiting_for}
+use Rattle.pw_cpp_expand.specs.AtHand.{Comes, ComesTo, ExpandsWaiting, IsCallKnown, IsCallOpened, IsKnown, IsReplacedBy, IsStepTo, Named, Opened, PutsOut, PutsResult, argument_named, mode_of, opened, raw_named, waiting_for, with_before}
 use Rattle.pw_cpp_expand.specs.AtHand as hand
 use Rattle.pw_cpp_expand.specs.Calls.{Called, Closed, Collects, arguments_of, is_mark}
 use Rattle.pw_cpp_expand.specs.Expansion.{Arguments, Calls, Expanded, Refused, Expands, Outcome, Done, Stopped, Turn, Turns, Stands, Becomes, Faults, macro_of, output_limit, produced_limit, producing, putting, replaced_call, result_of, room}
@@ -23,7 +23,7 @@ use Rattle.pw_cpp_expand.specs.declared.progress.Lexeme.{Lexeme as Numbered}
 use Rattle.pw_cpp_expand.specs.declared.progress.Mode.{Mode}
 use Rattle.pw_cpp_expand.specs.declared.progress.Mode.TheVariants.{InText, Alone}
 use Rattle.pw_cpp_expand.specs.declared.progress.Progress.{Progress}
-use Rattle.pw_cpp_expand.proofs.Kept.{all-kept, calls-kept, calls-on, hand-kept, known-on, reversed-all}
+use Rattle.pw_cpp_expand.proofs.Kept.{all-kept, calls-kept, calls-on, hand-kept, known-on, named-kept, reversed-all}
 use Rattle.pw_cpp_expand.proofs.Steps.{argument-last, argument-next, argument-too_many, arguments-expanded, becomes-on, comes-on, comes-stopped, mode_in, stands-on, with_next}
 use Rattle.pw_cpp_sets.specs.Sets.{Keeps, Known, set_at, shared}
 
@@ -369,3 +369,91 @@ module _ (source text : List ℕ) (macros : Macros) where
         call-turns (Closed arguments close ahead q) (replaced_call source (spelling source t.token ∷ shared t.hidden close.hidden) t.place m.replacement ahead found) c
         (by.closed m parameters t close arguments ahead q found (replaced_call source (spelling source t.token ∷ shared t.hidden close.hidden) t.place m.replacement ahead found) l
           (arguments-expanded source text macros m.replacement parameters (arguments_of parameters arguments) q found l h) refl)
+
+  -- ---- the whole
+
+  -- with no open call and nothing before, what is at hand comes to what it is expanded to
+  comes-expanded : (mode : Mode) (pending : List Lexeme) (p : Progress) (outcome : Outcome) → Comes source text macros mode [] pending [] p outcome → Expands source text macros mode pending p outcome
+  comes-expanded mode pending p outcome (hand.alone _ _ _ _ more x e) =
+      let P : Outcome → Type 0 = λ z. Expands source text macros mode pending p z in subst P (sym (e ∙ nothing more)) x
+    where
+      nothing : (more : Outcome) → with_before [] more ≡ more
+      nothing (Done out q) = refl
+      nothing (Stopped fault) = refl
+
+  module _ (mode : Mode) (known : Known) (e : Expander) (p : Progress) (no_out : e.out ≡ []) (no_calls : e.calls ≡ []) where
+    pub start-expanded : (outcome : Outcome) → ComesTo source text macros mode known e p outcome → Expands source text macros mode (at_hand known e.pending) p outcome
+    start-expanded outcome c =
+        let P : List Call → Type 0 = λ x. Comes source text macros mode (map (opened source known) (reverse x)) (at_hand known e.pending) (all_named known e.out) p outcome in
+        let Q : List Numbered → Type 0 = λ x. Comes source text macros mode [] (at_hand known e.pending) (all_named known x) p outcome in
+        comes-expanded mode (at_hand known e.pending) p outcome (subst Q no_out (subst P no_calls c))
+
+  pub end-comes : (mode : Mode) (known : Known) (f : Expander) (q : Progress) → f.pending ≡ [] → f.calls ≡ [] → ComesTo source text macros mode known f q (Done (all_named known f.out) q)
+  end-comes mode known f q no_tokens no_calls =
+      let P : List Call → Type 0 = λ x. Comes source text macros mode (map (opened source known) (reverse x)) (at_hand known f.pending) (all_named known f.out) q (Done (all_named known f.out) q) in
+      let Q : List Numbered → Type 0 = λ x. Comes source text macros mode [] (at_hand known x) (all_named known f.out) q (Done (all_named known f.out) q) in
+      subst P (sym no_calls) (subst Q (sym no_tokens)
+        (hand.alone [] (all_named known f.out) q (Done (all_named known f.out) q) (Done [] q) (by.ends mode q) (ap (λ x. Done x q) (sym (append-nil (all_named known f.out))))))
+
+  -- ---- a call that is opened by an expander
+
+  -- what it comes to is the same where sets are added
+  pub call-kept : (mode : Mode) (known new : Known) (keeps : Keeps known new) (e : Expander) (name : Numbered) (p : Progress) (outcome : Outcome) → IsKnown known e → name.hidden < length known
+      → IsCallOpened source text macros mode new e name p outcome → IsCallOpened source text macros mode known e name p outcome
+  call-kept mode known new keeps e name p outcome h n c = λ first rest start looks opens.
+      let P : List Lexeme → Type 0 = λ x. LooksAhead text (mode_of mode e.calls) rest start (At (first ∷ x) p) in
+      let Q : List Opened → Type 0 = λ x. Comes source text macros mode x (named new name ∷ rest) (all_named new e.out) start outcome in
+      let R : Lexeme → Type 0 = λ x. Comes source text macros mode (map (opened source known) (reverse e.calls)) (x ∷ rest) (all_named new e.out) start outcome in
+      let S : List Lexeme → Type 0 = λ x. Comes source text macros mode (map (opened source known) (reverse e.calls)) (named known name ∷ rest) x start outcome in
+      subst S (all-kept known new keeps e.out h.1)
+      (subst R (named-kept known new keeps name n)
+        (subst Q (calls-kept known new keeps source e.calls h.2) (c first rest start (subst P (sym (hand-kept known new keeps e.pending h.0)) looks) opens)))
+
+  module _ (mode : Mode) (known : Known) (e : Expander) (name : Numbered) (p : Progress) (m : Macro) (parameters : List Token)
+      (is : macro_of source macros (named known name) ≡ Some m) (takes : m.parameters ≡ Some parameters) where
+    abbrev outer : List Opened
+    outer = map (opened source known) (reverse e.calls)
+
+    first_turns : (rest : List Lexeme) (start : Progress) (turn : Turn)
+        → Turns source text macros (mode_of mode e.calls) (named known name) rest start (macro_of source macros (named known name)) turn → FirstTurns mode outer (named known name) rest start turn
+    first_turns rest start turn h =
+        let P : Mode → Type 0 = λ x. Turns source text macros x (named known name) rest start (macro_of source macros (named known name)) turn in
+        subst P (sym (mode-same known source mode e.calls)) h
+
+    pub open-fault : (found : Called) (fault : ExpandFault) → Collects source text (mode_of mode e.calls) 0 ([] ∷ []) (at_hand known e.pending) p found
+        → Calls source text macros m parameters (named known name) found (Faults fault) → IsCallOpened source text macros mode known e name p (Stopped fault)
+    open-fault found fault c h = λ first rest start looks opens.
+        faults-comes mode outer (named known name) rest (all_named known e.out) start fault
+        (first_turns rest start (Faults fault)
+          (call-turns (mode_of mode e.calls) (named known name) first rest (at_hand known e.pending) start p m parameters is takes looks opens found (Faults fault) c h))
+
+    module _ (close : Lexeme) (arguments : List (List Lexeme)) (behind : List Lexeme) (q : Progress)
+        (collects : Collects source text (mode_of mode e.calls) 0 ([] ∷ []) (at_hand known e.pending) p (Closed arguments close behind q))
+        (even : length (arguments_of parameters arguments) ≡ length parameters) where
+      abbrev hidden_names : List (List ℕ)
+      hidden_names = spelling source name.token ∷ shared (set_at known name.hidden) close.hidden
+
+      abbrev waits : List Named
+      waits = waiting_for source m.replacement parameters (arguments_of parameters arguments)
+
+      turn_is : (first : Lexeme) (rest : List Lexeme) (start : Progress) → LooksAhead text (mode_of mode e.calls) rest start (At (first ∷ at_hand known e.pending) p) → is_mark source (codes "(") first ≡ true
+          → (found : Arguments) → ExpandsWaiting source text macros waits q found
+          → FirstTurns mode outer (named known name) rest start (replaced_call source hidden_names name.place m.replacement behind found)
+      turn_is first rest start looks opens found h =
+          first_turns rest start (replaced_call source hidden_names name.place m.replacement behind found)
+          (closed-turns (mode_of mode e.calls) (named known name) first rest (at_hand known e.pending) start p m parameters is takes looks opens close arguments behind q found collects even h)
+
+      pub open-none : (outcome : Outcome) → waits ≡ []
+          → ((produced_limit < q.produced + length (result_of source hidden_names name.place [] m.replacement)) × (outcome ≡ Stopped (Produced name.place)))
+            ⊎ ((q.produced + length (result_of source hidden_names name.place [] m.replacement) ≤ produced_limit)
+              × Comes source text macros mode outer (result_of source hidden_names name.place [] m.replacement ++ behind) (all_named known e.out) (producing q (length (result_of source hidden_names name.place [] m.replacement))) outcome)
+          → IsCallOpened source text macros mode known e name p outcome
+      open-none outcome w h = λ first rest start looks opens.
+          none-waits mode outer (named known name) rest (all_named known e.out) start q m hidden_names behind waits (turn_is first rest start looks opens) outcome w h
+
+      pub open-first : (parameter : List ℕ) (tokens : List Lexeme) (others : List Named) (outcome : Outcome) → waits ≡ (parameter, tokens) ∷ others
+          → Comes source text macros mode
+            (record { meaning = m; hidden = hidden_names; place = name.place; parameter = parameter; waiting = others; expanded = []; behind = behind; before = all_named known e.out } ∷ outer) tokens [] q outcome
+          → IsCallOpened source text macros mode known e name p outcome
+      open-first parameter tokens others outcome w h = λ first rest start looks opens.
+          first-waits mode outer (named known name) rest (all_named known e.out) start q m hidden_names behind waits (turn_is first rest start looks opens) parameter tokens others outcome w h
