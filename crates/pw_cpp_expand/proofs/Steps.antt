@@ -175,7 +175,7 @@ module _ (source text : List ℕ) (macros : Macros) where
       shorter : length (argument ∷ arguments) ≡ length (parameter ∷ parameters) → length arguments ≡ length parameters
       shorter e = cc
 
-      abbrev others : List Named
+      others : List Named
       others = waiting_for source replacement parameters arguments
 
       by_use : (b : Bool) → is_used source replacement parameter ≡ b

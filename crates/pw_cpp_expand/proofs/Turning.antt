@@ -265,7 +265,7 @@ module _ (source text : List ℕ) (macros : Macros) where
             (subst R (calls-kept known new keeps source e.calls calls_known) (subst Q put.1 (subst P put.0 c))),
         )
       where
-        abbrev made_result : List Lexeme
+        made_result : List Lexeme
         made_result = result_of source (set_at known call.replaced.hidden) call.replaced.place (map (argument_named source known) call.expanded) call.meaning.now.replacement
 
         count : length made ≡ length made_result
@@ -312,7 +312,7 @@ module _ (source text : List ℕ) (macros : Macros) where
         waits : (opened source known call).waiting ≡ []
         waits = ap (λ x. map (raw_named source known) (reverse x)) w
 
-        abbrev made_result : List Lexeme
+        made_result : List Lexeme
         made_result = result_of source (set_at known call.replaced.hidden) call.replaced.place (map (argument_named source known) with_out.expanded) call.meaning.now.replacement
 
         result_is : made_result ≡ result_of source (opened source known call).hidden (opened source known call).place ((opened source known call).expanded ++ ((opened source known call).parameter, all_named known e.out) ∷ []) (opened source known call).meaning.replacement
@@ -335,19 +335,19 @@ module _ (source text : List ℕ) (macros : Macros) where
           (map (raw_named source known) (reverse waiting)) p outcome (ap (λ x. map (raw_named source known) (reverse x)) w ∙ ap (map (raw_named source known)) (reverse-append waiting (next ∷ [])))
           (subst R (ap (all_named known) (reverse-reverse next.tokens)) (subst Q called_is (subst P (calls-more known source e.calls after) c))))
       where
-        abbrev after : Call
+        after : Call
         after = record with_out { parameter = next.parameter; waiting = waiting }
 
-        abbrev P : List Opened → Type 0
+        P : List Opened → Type 0
         P x = Comes source text macros mode x (at_hand known (reverse next.tokens)) [] p outcome
 
         called_is : opened source known after ≡ with_next source text macros (opened source known call) (all_named known e.out) (spelling source next.parameter) (map (raw_named source known) (reverse waiting))
         called_is = ap (λ x. record (opened source known after) { expanded = x }) expanded_is
 
-        abbrev Q : Opened → Type 0
+        Q : Opened → Type 0
         Q x = Comes source text macros mode (x ∷ others) (at_hand known (reverse next.tokens)) [] p outcome
 
-        abbrev R : List Lexeme → Type 0
+        R : List Lexeme → Type 0
         R x = Comes source text macros mode (with_next source text macros (opened source known call) (all_named known e.out) (spelling source next.parameter) (map (raw_named source known) (reverse waiting)) ∷ others) x [] p outcome
 
   -- ---- the turn of a name whose `(` was read

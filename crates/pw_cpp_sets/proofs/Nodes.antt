@@ -77,7 +77,7 @@ node-in (n ∷ nodes) known count l h zero node e = let P : Node → Type 0 = λ
   where
     same : Some n ≡ Some node → n ≡ node
     same e = cc
-    abbrev final : Known
+    final : Known
     final = fold with_node (with_node known n) nodes
     keeps : Keeps (with_node known n) final
     keeps = fold-keeps nodes (with_node known n)

@@ -134,7 +134,7 @@ impl<'a> Sets<'a> {
     fn with_names(&mut self, names: Vec<&'a [u8]>, set: usize) -> Result<usize, AllocError>
         requires { set < length self.old }
         ensures keeps { Keeps self.old self.new }
-        ensures number { IfOk result (λ number. (number < length self.new) × (set_at self.new number ≡ map (λ name. name.now) names.items ++ set_at self.old set)) }
+        ensures number { IfOk result (λ number. (number < length self.new) × (set_at self.new number ≡ map (λ name. name.now) names.entry.items ++ set_at self.old set)) }
     {
         let mut names = names;
         let mut number = set;
