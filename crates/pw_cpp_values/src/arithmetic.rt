@@ -50,8 +50,7 @@ fn unary_word(op: UnaryOperator, unsigned: bool, a: u32) -> Option<u32>
 {
     match op {
         UnaryOperator::Plus => Some(a),
-        UnaryOperator::Minus =>
-            either_word(unsigned, Ok(unsigned_negation(a)), signed_negation(a)),
+        UnaryOperator::Minus => either_word(unsigned, Ok(unsigned_negation(a)), signed_negation(a)),
         UnaryOperator::Complement => Some(complement(a)),
         UnaryOperator::Not => Some(truth(a == 0)),
     }
@@ -96,21 +95,36 @@ fn binary_word(op: BinaryOperator, unsigned: bool, a: u32, b: u32) -> Option<u32
     let u = unsigned;
     match op {
         BinaryOperator::Add => either_word(u, Ok(unsigned_sum(a, b)), signed_sum(a, b)),
-        BinaryOperator::Subtract =>
-            either_word(u, Ok(unsigned_difference(a, b)), signed_difference(a, b)),
-        BinaryOperator::Multiply =>
-            either_word(u, Ok(unsigned_product(a, b)), signed_product(a, b)),
+        BinaryOperator::Subtract => either_word(
+            u,
+            Ok(unsigned_difference(a, b)),
+            signed_difference(a, b),
+        ),
+        BinaryOperator::Multiply => either_word(
+            u,
+            Ok(unsigned_product(a, b)),
+            signed_product(a, b),
+        ),
         BinaryOperator::Divide => either_word(u, unsigned_quotient(a, b), signed_quotient(a, b)),
-        BinaryOperator::Remainder =>
-            either_word(u, unsigned_remainder(a, b), signed_remainder(a, b)),
+        BinaryOperator::Remainder => either_word(
+            u,
+            unsigned_remainder(a, b),
+            signed_remainder(a, b),
+        ),
         BinaryOperator::ShiftLeft => outcome(shift_left(a, b)),
-        BinaryOperator::ShiftRight =>
-            either_word(u, unsigned_shift_right(a, b), signed_shift_right(a, b)),
+        BinaryOperator::ShiftRight => either_word(
+            u,
+            unsigned_shift_right(a, b),
+            signed_shift_right(a, b),
+        ),
         BinaryOperator::Less => either_truth(u, unsigned_less(a, b), signed_less(a, b)),
         BinaryOperator::Greater => either_truth(u, unsigned_less(b, a), signed_less(b, a)),
         BinaryOperator::LessEqual => either_truth(u, unsigned_at_most(a, b), signed_at_most(a, b)),
-        BinaryOperator::GreaterEqual =>
-            either_truth(u, unsigned_at_most(b, a), signed_at_most(b, a)),
+        BinaryOperator::GreaterEqual => either_truth(
+            u,
+            unsigned_at_most(b, a),
+            signed_at_most(b, a),
+        ),
         BinaryOperator::Equal => Some(truth(a == b)),
         BinaryOperator::NotEqual => Some(truth(a != b)),
         BinaryOperator::And => Some(a & b),
