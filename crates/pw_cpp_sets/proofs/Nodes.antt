@@ -5,7 +5,7 @@ use Rattle.std.proofs.lemmas.List.Folds.{list_any-append}
 use Rattle.std.proofs.lemmas.Slice.Eq.{bytes_eq-Decides}
 use Rattle.std.specs.Borrow.{Bor}
 use Rattle.std.specs.List.{list_any}
-use Rattle.std.specs.Prelude.{fold, filter, bytes_eq}
+use Rattle.std.specs.Prelude.{fold, filter, bytes_eq, if◌then◌else◌}
 use Rattle.pw_cpp_sets.specs.Sets.{AreBehind, IsMadeBy, Keeps, Known, Names, contains, set_at, sets_of, shared, with_node}
 use Rattle.pw_cpp_sets.specs.declared.sets.Node.{Node}
 
@@ -148,6 +148,13 @@ module _ (nodes : List Node) (set : ℕ) (node : Node) (m : IsMadeBy nodes set n
       dropped : shared (set_at (sets_of nodes) node.rest) other ≡ shared (node.name.now ∷ set_at (sets_of nodes) node.rest) other
       dropped = rw e refl
 
+module _ (nodes : List Node) (set : ℕ) (node : Node) (m : IsMadeBy nodes set node) (found : List (Bor (List ℕ))) (other : Names) where
+  -- what two sets share grows by a name that is in both
+  pub shared-step : (wanted : Bool) → wanted ≡ contains other node.name.now
+      → map said (if wanted then found ++ node.name ∷ [] else found) ++ shared (set_at (sets_of nodes) node.rest) other ≡ map said found ++ shared (set_at (sets_of nodes) set) other
+  shared-step true e = shared-more nodes set node m found other (sym e)
+  shared-step false e = ap (λ x. map said found ++ x) (shared-less nodes set node m other (sym e))
+
 -- nothing is left of the empty set
 pub names-all : (found : List (Bor (List ℕ))) (left whole : Names) → map said found ++ left ≡ whole → left ≡ [] → map said found ≡ whole
 names-all found left whole h e = sym (append-nil (map said found)) ∙ ap (λ x. map said found ++ x) (sym e) ∙ h
@@ -198,3 +205,12 @@ module _ (nodes new : List Node) (known : Known) (node : Node) (e : sets_of node
 -- where nothing changes, all is kept
 pub keeps-all : (nodes new : List Node) (known : Known) → sets_of nodes ≡ known → new ≡ nodes → Keeps known (sets_of new)
 keeps-all nodes new known e n = let P : Known → Type 0 = λ x. Keeps known x in subst P (sym (ap sets_of n ∙ e)) (keeps-same known)
+
+-- what was found to be shared by two sets, with nothing behind it
+pub shared-known : (nodes slice : List Node) (known : Known) (one other : ℕ) (found : Names) → sets_of nodes ≡ known → slice ≡ nodes
+    → found ≡ shared (set_at (sets_of slice) one) (set_at (sets_of slice) other) → found ++ set_at known 0 ≡ shared (set_at known one) (set_at known other)
+shared-known nodes slice known one other found v s e =
+    ap (λ x. found ++ x) (ap (λ k. set_at k 0) (sym v) ∙ empty-set nodes 0 refl)
+    ∙ append-nil found
+    ∙ e
+    ∙ ap (λ k. shared (set_at k one) (set_at k other)) (ap sets_of s ∙ v)

@@ -1,6 +1,6 @@
 //! Sets of names.
 
-ghost use Rattle.std.specs.Prelude.{◌≡◌, ◌<◌, ◌≤◌, [], ◌∷◌, ◌++◌, length, map, IfOk, MatchOption};
+ghost use Rattle.std.specs.Prelude.{◌≡◌, ◌<◌, ◌≤◌, [], ◌∷◌, ◌++◌, if◌then◌else◌, length, map, IfOk, MatchOption, OnOk};
 ghost use Rattle.pw_cpp_sets.specs.Sets as spec;
 ghost use Rattle.pw_cpp_sets.specs.Sets.{AreBehind, IsMadeBy, Keeps, set_at, sets_of};
 
@@ -79,6 +79,20 @@ fn names_of<'a>(
     Ok(names)
 }
 
+/// Adds a name that is wanted.
+fn push_wanted<'a>(
+    names: &mut Vec<&'a [u8]>,
+    wanted: bool,
+    name: &'a [u8],
+) -> Result<(), AllocError>
+    ensures { OnOk result (names.new.items ≡ (if wanted then names.old.items ++ name.entry ∷ [] else names.old.items)) }
+{
+    if wanted {
+        names.push(name)?;
+    }
+    Ok(())
+}
+
 /// The names of a set that are in another one too.
 fn names_shared<'a>(
     alloc: Global,
@@ -94,9 +108,8 @@ fn names_shared<'a>(
     let mut names = Vec::new(alloc);
     let mut number = one;
     while let Some(node) = node_of(nodes, number) {
-        if is_in(nodes, other, node.name) {
-            names.push(node.name)?;
-        }
+        let wanted = is_in(nodes, other, node.name);
+        push_wanted(&mut names, wanted, node.name)?;
         number = node.rest;
     }
     Ok(names)

@@ -16,4 +16,4 @@ loop-node-preserved c =
 pub returns : goal.returns
 returns c =
     let nodes = c.args.nodes.now in
-    names-all c.loop-node.names.items (set_at (sets_of nodes) c.loop-node.number) (set_at (sets_of nodes) c.args.set) c.loop-node.invariant.1 c.in-None.ensures
+    names-all c.loop-node.names.items (set_at (sets_of nodes) c.loop-node.number) (set_at (sets_of nodes) c.args.set) c.loop-node.invariant.1 c.in_default.ensures
