@@ -29,8 +29,8 @@ reduced_none k v old e = ap (λ x. reduced k v (reverse x)) e
 
 -- ---- steps
 
-pub step-on : (last next : Option Number) (frames after : List Frame) (i : Item) (rest : List Item) → Some (next, after) ≡ step last frames i → run last frames (i ∷ rest) ≡ run next after rest
-step-on last next frames after i rest e = ap (Continues rest) (sym e)
+pub step_on : (last next : Option Number) (frames after : List Frame) (i : Item) (rest : List Item) → Some (next, after) ≡ step last frames i → run last frames (i ∷ rest) ≡ run next after rest
+step_on last next frames after i rest e = ap (Continues rest) (sym e)
 
-pub step-none : (last : Option Number) (frames : List Frame) (i : Item) (rest : List Item) → None ≡ step last frames i → run last frames (i ∷ rest) ≡ None
-step-none last frames i rest e = ap (Continues rest) (sym e)
+pub step_none : (last : Option Number) (frames : List Frame) (i : Item) (rest : List Item) → None ≡ step last frames i → run last frames (i ∷ rest) ≡ None
+step_none last frames i rest e = ap (Continues rest) (sym e)

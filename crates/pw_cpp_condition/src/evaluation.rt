@@ -137,6 +137,7 @@ fn finish(last: Option<Number>, frames: &mut Items<Frame>) -> Option<Number>
     }
 }
 
+#[tactic(auto, using(crate::proofs::Stack::step_on, crate::proofs::Stack::step_none))]
 fn run(alloc: Global, items: &[Item]) -> Result<Option<Number>, AllocError>
     ensures { IfOk result (λ found. found ≡ spec.run None [] items.now) }
 {
