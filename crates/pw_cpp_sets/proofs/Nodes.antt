@@ -77,19 +77,23 @@ node-in (n ∷ nodes) known count l h zero node e = let P : Node → Type 0 = λ
   where
     same : Some n ≡ Some node → n ≡ node
     same e = cc
+
     final : Known
     final = fold with_node (with_node known n) nodes
+
     keeps : Keeps (with_node known n) final
     keeps = fold-keeps nodes (with_node known n)
+
     all : Keeps known final
     all = keeps-more known (with_node known n) final (keeps-push known (n.name.now ∷ set_at known n.rest)) keeps
+
     first : MakesSet (fold with_node known (n ∷ nodes)) (suc count + 0) n (count + 0)
     first = record {
       is =
-        ap (set_at final) (omega (arith, l))
-        ∙ keeps.same (length known) (omega (arith, length-append known ((n.name.now ∷ set_at known n.rest) ∷ [])))
-        ∙ made-last known n
-        ∙ ap (λ x. n.name.now ∷ x) (sym (all.same n.rest (omega (arith, l, h.0))));
+          ap (set_at final) (omega (arith, l))
+          ∙ keeps.same (length known) (omega (arith, length-append known ((n.name.now ∷ set_at known n.rest) ∷ [])))
+          ∙ made-last known n
+          ∙ ap (λ x. n.name.now ∷ x) (sym (all.same n.rest (omega (arith, l, h.0))));
       before = omega (arith, h.0);
     }
 node-in (n ∷ nodes) known count l h (suc k) node e =

@@ -61,11 +61,7 @@ fn is_in(nodes: &[Node], set: usize, name: &[u8]) -> bool
 }
 
 /// The names of a set, the first one first.
-fn names_of<'a>(
-    alloc: Global,
-    nodes: &[Node<'a>],
-    set: usize,
-) -> Result<Vec<&'a [u8]>, AllocError>
+fn names_of<'a>(alloc: Global, nodes: &[Node<'a>], set: usize) -> Result<Vec<&'a [u8]>, AllocError>
     requires known { set ≤ length nodes.now }
     requires behind { AreBehind 0 nodes.now }
     ensures { IfOk result (λ names. map (λ name. name.now) names.items ≡ set_at (sets_of nodes.now) set) }

@@ -7,8 +7,7 @@ pub loop-node-preserved : goal.loop-node-preserved
 loop-node-preserved c =
     let nodes = c.args.nodes.now in
     let made = c.in-Some.ensures in
-    let more = names-more nodes c.loop-node.number c.in-Some.node made c.loop-node.names.items in
-    (
+    let more = names-more nodes c.loop-node.number c.in-Some.node made c.loop-node.names.items in (
       omega (arith, made.before, c.loop-node.invariant.0),
       ap (λ x. map said x ++ set_at (sets_of nodes) c.in-Some.node.rest) c.in_ok-push.ensures.items ∙ more ∙ c.loop-node.invariant.1,
     )

@@ -7,12 +7,11 @@ pub loop-node-preserved : goal.loop-node-preserved
 loop-node-preserved c =
     let nodes = c.args.nodes.now in
     let other = set_at (sets_of nodes) c.args.other in
-    let made = c.in-Some.ensures in
-    (
+    let made = c.in-Some.ensures in (
       omega (arith, made.before, c.loop-node.invariant.0),
       ap (λ x. map said x ++ shared (set_at (sets_of nodes) c.in-Some.node.rest) other) c.in_ok-push_wanted.ensures
-      ∙ shared-step nodes c.loop-node.number c.in-Some.node made c.loop-node.names.items other c.is_in-wanted.result c.is_in-wanted.ensures
-      ∙ c.loop-node.invariant.1,
+          ∙ shared-step nodes c.loop-node.number c.in-Some.node made c.loop-node.names.items other c.is_in-wanted.result c.is_in-wanted.ensures
+          ∙ c.loop-node.invariant.1,
     )
 
 pub returns : goal.returns

@@ -14,6 +14,6 @@ returns c =
     record {
       keeps = keeps-with c.self.inside.nodes.items c.push.new.self.items c.args.self.now node c.self.view_is c.in_ok-push.ensures.items;
       number =
-        number-with c.self.inside.nodes.items c.push.new.self.items c.args.self.now node c.self.view_is c.in_ok-push.ensures.items c.len.result
-        (c.len.ensures ∙ c.push.new.self.ok.0);
+          number-with c.self.inside.nodes.items c.push.new.self.items c.args.self.now node c.self.view_is c.in_ok-push.ensures.items c.len.result
+          (c.len.ensures ∙ c.push.new.self.ok.0);
     }

@@ -10,14 +10,13 @@ loop-name-init c = (keeps-same c.args.self.now, c.requires, refl)
 pub loop-name-preserved : goal.loop-name-preserved
 loop-name-preserved c =
     let before = c.in-Some.ensures.items in
-    let made = c.in_ok-number.ensures.number in
-    (
+    let made = c.in_ok-number.ensures.number in (
       keeps-more _ _ _ c.loop-name.invariant.0 c.in_ok-number.ensures.keeps,
       made.0,
       ap (λ x. map said c.pop.new.self.items ++ x) made.1
-      ∙ sym (names-front c.pop.new.self.items c.in-Some.name (set_at c.loop-name.self c.loop-name.number))
-      ∙ ap (λ x. map said x ++ set_at c.loop-name.self c.loop-name.number) (sym before)
-      ∙ c.loop-name.invariant.2,
+          ∙ sym (names-front c.pop.new.self.items c.in-Some.name (set_at c.loop-name.self c.loop-name.number))
+          ∙ ap (λ x. map said x ++ set_at c.loop-name.self c.loop-name.number) (sym before)
+          ∙ c.loop-name.invariant.2,
     )
 
 pub returns : goal.returns
