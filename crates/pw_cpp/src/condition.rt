@@ -135,7 +135,7 @@ pub fn judge<'a>(
     requires fresh { IsJudging progress.old }
     requires limits { IsWithinLimits progress.old }
     requires empty { HaveEmpty sets.old }
-    ensures keeps { Keeps sets.old sets.new }
+    ensures keeps { IfOk result (λ _. Keeps sets.old sets.new) }
     ensures limits { IfOk result (λ _. IsWithinLimits progress.new) }
     ensures judges { AnswersJudgement source.now macros.now digits tokens.now progress.old.produced progress.new.produced result }
 {

@@ -143,7 +143,7 @@ fn one_name<'a>(source: &'a [u8], tokens: &[Token]) -> Option<&'a [u8]>
 
 /// The name that `#undef`, `#ifdef` or `#ifndef` has.
 fn name_of<'a>(source: &'a [u8], d: Directive<'_>) -> Result<&'a [u8], Fault>
-    ensures { MatchResult result (λ name. spec.one_name source.now d.tokens.now ≡ Some name.now) (λ fault. (spec.one_name source.now d.tokens.now ≡ None) × (fault ≡ spec.fault CppKind.Directive d.hash)) }
+    ensures { MatchResult result (λ name. spec.one_name source.now d.entry.tokens.now ≡ Some name.now) (λ fault. (spec.one_name source.now d.entry.tokens.now ≡ None) × (fault ≡ spec.fault CppKind.Directive d.entry.hash)) }
 {
     match one_name(source, d.tokens) {
         Some(name) => Ok(name),
@@ -153,7 +153,7 @@ fn name_of<'a>(source: &'a [u8], d: Directive<'_>) -> Result<&'a [u8], Fault>
 
 impl<'a> Standing<'a> {
     fn define(&mut self, alloc: Global, source: &'a [u8], d: Directive<'_>) -> Result<(), Fault>
-        ensures does { IsDoneBy (λ effect. effect ≡ spec.with_definition source.now (standing_of self.old) d.hash (definition_of source.now d.tokens.now)) self.new result }
+        ensures does { IsDoneBy (λ effect. effect ≡ spec.with_definition source.now (standing_of self.old) d.entry.hash (definition_of source.now d.entry.tokens.now)) self.new result }
         ensures beside { IsBeside self.old self.new }
     {
         let definition = match definition_of(alloc, source, d.tokens) {
@@ -167,7 +167,7 @@ impl<'a> Standing<'a> {
     }
 
     fn undefine(&mut self, source: &'a [u8], d: Directive<'_>) -> Result<(), Fault>
-        ensures does { IsDoneBy (λ effect. effect ≡ spec.with_undefined (standing_of self.old) d.hash (spec.one_name source.now d.tokens.now)) self.new result }
+        ensures does { IsDoneBy (λ effect. effect ≡ spec.with_undefined (standing_of self.old) d.entry.hash (spec.one_name source.now d.entry.tokens.now)) self.new result }
         ensures beside { IsBeside self.old self.new }
     {
         let name = name_of(source, d)?;
@@ -177,7 +177,7 @@ impl<'a> Standing<'a> {
 
     /// Opens a section that is taken where a name is a macro's, or where it is none.
     fn test(&mut self, wanted: bool, source: &'a [u8], d: Directive<'_>) -> Result<(), Fault>
-        ensures does { IsDoneBy (λ effect. effect ≡ spec.with_test wanted (standing_of self.old) d.hash (spec.one_name source.now d.tokens.now)) self.new result }
+        ensures does { IsDoneBy (λ effect. effect ≡ spec.with_test wanted (standing_of self.old) d.entry.hash (spec.one_name source.now d.entry.tokens.now)) self.new result }
         ensures beside { IsBeside self.old self.new }
     {
         let name = name_of(source, d)?;
@@ -207,8 +207,8 @@ impl<'a> Standing<'a> {
     ) -> Result<bool, Fault>
         requires limits { self.old.produced ≤ produced_limit }
         requires empty { HaveEmpty self.old.sets }
-        ensures judges { IsJudgedBy (Judges source.now self.old.macros digits d.tokens.now self.old.produced) d.hash self.new.produced result }
-        ensures keeps { Keeps self.old.sets self.new.sets }
+        ensures judges { IsJudgedBy (Judges source.now self.old.macros digits d.entry.tokens.now self.old.produced) d.entry.hash self.new.produced result }
+        ensures keeps { IfOk result (λ _. Keeps self.old.sets self.new.sets) }
         ensures limits { IfOk result (λ _. self.new.produced ≤ produced_limit) }
         ensures rest { self.new ≡ record self.old { sets = self.new.sets; produced = self.new.produced } }
     {
@@ -239,8 +239,8 @@ impl<'a> Standing<'a> {
     ) -> Result<(), Fault>
         requires limits { self.old.produced ≤ produced_limit }
         requires empty { HaveEmpty self.old.sets }
-        ensures does { IsDoneBy (TurnsElif source.now digits (standing_of self.old) d.hash d.tokens.now (reverse self.old.sections)) self.new result }
-        ensures keeps { Keeps self.old.sets self.new.sets }
+        ensures does { IsDoneBy (TurnsElif source.now digits (standing_of self.old) d.entry.hash d.entry.tokens.now (reverse self.old.sections)) self.new result }
+        ensures keeps { IfOk result (λ _. Keeps self.old.sets self.new.sets) }
         ensures limits { IfOk result (λ _. self.new.produced ≤ produced_limit) }
         ensures nested { self.new.nested ≡ self.old.nested }
     {
@@ -253,7 +253,7 @@ impl<'a> Standing<'a> {
     }
 
     fn turn_else(&mut self, d: Directive<'_>) -> Result<(), Fault>
-        ensures does { IsDoneBy (λ effect. effect ≡ spec.else_effect (standing_of self.old) d.hash d.tokens.now (reverse self.old.sections)) self.new result }
+        ensures does { IsDoneBy (λ effect. effect ≡ spec.else_effect (standing_of self.old) d.entry.hash d.entry.tokens.now (reverse self.old.sections)) self.new result }
         ensures beside { IsBeside self.old self.new }
     {
         if !d.tokens.is_empty() {
@@ -267,7 +267,7 @@ impl<'a> Standing<'a> {
     }
 
     fn end(&mut self, d: Directive<'_>) -> Result<(), Fault>
-        ensures does { IsDoneBy (λ effect. effect ≡ spec.endif_effect (standing_of self.old) d.hash d.tokens.now (reverse self.old.sections)) self.new result }
+        ensures does { IsDoneBy (λ effect. effect ≡ spec.endif_effect (standing_of self.old) d.entry.hash d.entry.tokens.now (reverse self.old.sections)) self.new result }
         ensures beside { IsBeside self.old self.new }
     {
         if !d.tokens.is_empty() {
@@ -280,7 +280,7 @@ impl<'a> Standing<'a> {
     /// Takes the innermost section off the others.
     fn innermost(&mut self, d: Directive<'_>) -> Result<Section, Fault>
         ensures taken { IfOk result (λ section. self.old ≡ record self.new { sections = self.new.sections ++ section ∷ [] }) }
-        ensures fault { IfErr result (λ fault. (self.old.sections ≡ []) × (fault ≡ spec.fault CppKind.Condition d.hash)) }
+        ensures fault { IfErr result (λ fault. (self.old.sections ≡ []) × (fault ≡ spec.fault CppKind.Condition d.entry.hash)) }
         ensures beside { IsBeside self.old self.new }
     {
         match self.sections.pop() {
@@ -300,7 +300,7 @@ impl<'a> Standing<'a> {
         requires limits { self.old.produced ≤ produced_limit }
         requires empty { HaveEmpty self.old.sets }
         ensures obeys { AnswersEffect source.now digits d self.old self.new result }
-        ensures keeps { Keeps self.old.sets self.new.sets }
+        ensures keeps { IfOk result (λ _. Keeps self.old.sets self.new.sets) }
         ensures limits { IfOk result (λ _. self.new.produced ≤ produced_limit) }
         ensures nested { IfOk result (λ _. self.new.nested ≡ self.old.nested) }
     {

@@ -4,3 +4,6 @@ pub mod OneOutcome
 pub mod ReadingOn
 pub mod Steps
 pub mod Turning
+pub mod Limits
+pub mod Whole
+pub mod Results

@@ -1,6 +1,6 @@
 -- Lines that are read as they are needed, and the tokens that stand ahead.
 use Rattle.std.proofs.Common.{◌≡◌, ℕ, zero, suc, ◌+◌, ◌<◌, ◌≤◌, Bool, true, false, if◌then◌else◌, List, [], ◌∷◌, ◌++◌, length, map, reverse, Result, Ok, Err, Option, Some, None, inl, inr, refl, sym, ap, ◌∙◌, subst, append_assoc, arith}
-use Rattle.std.proofs.lemmas.List.{append-nil, map-append, reverse-append, reverse-reverse}
+use Rattle.std.proofs.lemmas.List.{append-nil, length-map, length-reverse, map-append, nil_from_length, reverse-append, reverse-reverse}
 use Rattle.std.proofs.lemmas.Bool.{eqb-true, le-leb, leb-true, lt-leb}
 use Rattle.std.specs.Prelude.{nat_le}
 use Rattle.pw_token.specs.declared.token.Token.{Token}
@@ -94,6 +94,10 @@ pub ahead-here : (text : List ℕ) (mode : Mode) (p : Progress) (tokens : List L
 ahead-here text mode p [] h = absurd (h refl)
 ahead-here text mode p (first ∷ rest) h = here mode first rest p
 
+-- the same of tokens as they are kept
+pub hand-here : (text : List ℕ) (p : Progress) (known : Known) (ls : List Numbered) → (ls ≡ [] → ⊥) → LooksAhead text InText (at_hand known ls) p (At (at_hand known ls) p)
+hand-here text p known ls h = ahead-here text InText p (at_hand known ls) (λ e. h (nil_from_length ls (omega (arith, ap length e, length-map (reverse ls) (named known), length-reverse ls))))
+
 pub ahead-alone : (text : List ℕ) (p : Progress) (tokens : List Lexeme) → LooksAhead text Alone tokens p (At tokens p)
 ahead-alone text p [] = alone p
 ahead-alone text p (first ∷ rest) = here Alone first rest p
@@ -166,3 +170,17 @@ mutual
       further_from at next x (omega (arith, inside.0, rest-on text hash next r inside.1)) (reads-further text next p x k)
   further_as text at p what x w h (ahead.text_line _ _ found _ l e) =
       let P : Further → Type 0 = λ z. IsFurther at z in subst P (sym e) (of_line_further text at p found w l)
+
+-- ---- what a line's answer says
+
+-- no text line is next
+pub looks-none : (text : List ℕ) (start : List Numbered) (s : Progress) (old : List Numbered) (p q : Progress) → LooksAs text start s old p → old ≡ [] → (found : Option (List Token)) → found ≡ None
+    → AnswersFurther text p q (Ok found) → (known : Known) → HaveEmpty known → LooksAhead text InText (at_hand known start) s (At (at_hand known old) q)
+looks-none text start s old p q leads none found is answer known empty =
+    let P : Option (List Token) → Type 0 = λ x. AnswersFurther text p q (Ok x) in
+    let both = subst P is answer in
+    let Q : Progress → Type 0 = λ x. LooksAhead text InText (at_hand known start) s (At (at_hand known old) x) in
+    subst Q (sym both.0) (looks-end text start s old p leads none both.1 known empty)
+
+pub next-reads : (text : List ℕ) (p q : Progress) (found : Option (List Token)) (tokens : List Token) → found ≡ Some tokens → AnswersFurther text p q (Ok found) → ReadsOn text p.next p (Tokens tokens q)
+next-reads text p q found tokens is answer = let P : Option (List Token) → Type 0 = λ x. AnswersFurther text p q (Ok x) in subst P is answer

@@ -8,9 +8,9 @@ use Rattle.pw_cpp_macros.specs.declared.definition.Macro.{Macro}
 use Rattle.pw_cpp_expand.specs.AtHand.{Comes, ExpandsWaiting, Named, Opened, waiting_for, with_before}
 use Rattle.pw_cpp_expand.specs.AtHand as hand
 use Rattle.pw_cpp_expand.specs.Calls.{is_used}
-use Rattle.pw_cpp_expand.specs.Expansion.{Arguments, Expanded, Refused, Expands, ExpandsArguments, Outcome, Done, Stopped, Turn, Turns, Stands, Becomes, Faults, macro_of, output_limit, produced_limit, producing, putting, result_of, room, with_argument, with_first}
+use Rattle.pw_cpp_expand.specs.Expansion.{Arguments, Expanded, Refused, Expands, ExpandsArguments, Outcome, Done, Stopped, Turn, Turns, Stands, Becomes, Faults, macro_of, produced_limit, producing, putting, result_of, room, with_argument, with_first}
 use Rattle.pw_cpp_expand.specs.Expansion as by
-use Rattle.pw_cpp_expand.specs.Lookahead.{Lexeme}
+use Rattle.pw_cpp_expand.specs.Lookahead.{Lexeme, output_limit}
 use Rattle.pw_cpp_expand.specs.declared.progress.ExpandFault.{ExpandFault}
 use Rattle.pw_cpp_expand.specs.declared.progress.ExpandFault.TheVariants.{Produced}
 use Rattle.pw_cpp_expand.specs.declared.progress.Mode.{Mode}

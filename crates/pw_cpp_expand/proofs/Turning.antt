@@ -10,9 +10,9 @@ use Rattle.pw_cpp_macros.specs.declared.definition.Macro.{Macro}
 use Rattle.pw_cpp_expand.specs.AtHand.{Comes, ComesTo, ExpandsWaiting, IsCallKnown, IsCallOpened, IsKnown, IsReplacedBy, IsStepTo, Named, Opened, PutsOut, PutsResult, argument_named, mode_of, opened, raw_named, waiting_for, with_before}
 use Rattle.pw_cpp_expand.specs.AtHand as hand
 use Rattle.pw_cpp_expand.specs.Calls.{Called, Closed, Collects, arguments_of, is_mark}
-use Rattle.pw_cpp_expand.specs.Expansion.{Arguments, Calls, Expanded, Refused, Expands, Outcome, Done, Stopped, Turn, Turns, Stands, Becomes, Faults, macro_of, output_limit, produced_limit, producing, putting, replaced_call, result_of, room}
+use Rattle.pw_cpp_expand.specs.Expansion.{Arguments, Calls, Expanded, Refused, Expands, Outcome, Done, Stopped, Turn, Turns, Stands, Becomes, Faults, macro_of, produced_limit, producing, putting, replaced_call, result_of, room}
 use Rattle.pw_cpp_expand.specs.Expansion as by
-use Rattle.pw_cpp_expand.specs.Lookahead.{At, Lexeme, LooksAhead}
+use Rattle.pw_cpp_expand.specs.Lookahead.{At, Lexeme, LooksAhead, output_limit}
 use Rattle.pw_cpp_expand.specs.Numbered.{AreKnown, IsFault, all_named, at_hand, named, room_of}
 use Rattle.pw_cpp_expand.specs.declared.expansion.Call.{Call}
 use Rattle.pw_cpp_expand.specs.declared.expansion.Expander.{Expander}

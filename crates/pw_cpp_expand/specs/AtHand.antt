@@ -5,20 +5,22 @@ use Rattle.pw_token.specs.declared.token.Token.{Token}
 use Rattle.pw_cpp_macros.specs.Macros.{Macros}
 use Rattle.pw_cpp_macros.specs.declared.definition.Macro.{Macro}
 use Rattle.pw_cpp_expand.specs.Expansion.{Arguments, Expanded, Refused, Expands, Outcome, Done, Stopped, produced_limit, producing, result_of, with_argument}
-use Rattle.pw_cpp_expand.specs.Calls.{arguments_of, is_mark, is_used}
+use Rattle.pw_cpp_expand.specs.Calls.{Called, Closed, Open, Fails, Collects, arguments_of, is_mark, is_used}
 use Rattle.pw_cpp_expand.specs.Lookahead.{At, Lexeme, LooksAhead, output_limit}
-use Rattle.pw_cpp_expand.specs.Numbered.{AreKnown, IsFault, all_named, at_hand, named, room_of}
+use Rattle.pw_cpp_expand.specs.Numbered.{AreKnown, HaveEmpty, IsFault, all_named, at_hand, named, room_of}
 use Rattle.pw_cpp_expand.specs.declared.expansion.Call.{Call}
 use Rattle.pw_cpp_expand.specs.declared.expansion.Expander.{Expander}
 use Rattle.pw_cpp_expand.specs.declared.expansion.Raw.{Raw}
+use Rattle.pw_cpp_expand.specs.declared.expansion.Read.{Read}
 use Rattle.pw_cpp_expand.specs.declared.progress.ExpandFault.{ExpandFault}
+use Rattle.pw_cpp_expand.specs.declared.progress.ExpandFault.TheVariants as no
 use Rattle.pw_cpp_expand.specs.declared.progress.ExpandFault.TheVariants.{Length, Produced}
 use Rattle.pw_cpp_expand.specs.declared.progress.Lexeme.{Lexeme as Numbered}
 use Rattle.pw_cpp_expand.specs.declared.progress.Mode.{Mode}
 use Rattle.pw_cpp_expand.specs.declared.progress.Mode.TheVariants.{Alone}
 use Rattle.pw_cpp_expand.specs.declared.progress.Progress.{Progress}
 use Rattle.pw_cpp_expand.specs.declared.result.Expanded.{Expanded as Argument}
-use Rattle.pw_cpp_sets.specs.Sets.{Known, set_at}
+use Rattle.pw_cpp_sets.specs.Sets.{Keeps, Known, set_at}
 
 -- an argument for the parameter of this name
 abbrev pub Named : Type 0
@@ -111,12 +113,26 @@ mode_of mode (call ∷ calls) = Alone
 abbrev pub IsWithinLimits : Progress → Type 0
 IsWithinLimits p = (p.produced ≤ produced_limit) × (p.size ≤ output_limit)
 
+-- What is at hand may be expanded: the next line is one of the text, the sets are known, and what has come of the text is within the
+-- limits.
+pub record IsReady (text : List ℕ) (known : Known) (e : Expander) (p : Progress) : Type 0 where
+  pub place : p.next ≤ length text
+  pub sets : IsKnown known e
+  pub limits : IsWithinLimits p
+  pub empty : HaveEmpty known
+
 -- ---- steps
 
 -- What was at hand comes to whatever is at hand behind the step comes to; a fault is what it comes to.
 abbrev pub IsStepTo : {A : Type 0} → (Outcome → Type 0) → List ℕ → List ℕ → Macros → Mode → Known → Expander → Progress → Result A ExpandFault → Type 0
 IsStepTo Before source text macros mode known e p (Ok done) = (outcome : Outcome) → ComesTo source text macros mode known e p outcome → Before outcome
 IsStepTo Before source text macros mode known e p (Err fault) = IsFault fault (λ f. Before (Stopped f))
+
+-- And what is at hand behind it may be expanded, where the sets that were known keep their numbers.
+abbrev pub IsStep : {A : Type 0} → List ℕ → List ℕ → Macros → Mode → Known → (Outcome → Type 0) → Known → Expander → Progress → Result A ExpandFault → Type 0
+IsStep source text macros mode old Before known e p (Ok done) =
+    Keeps old known × IsReady text known e p × ((outcome : Outcome) → ComesTo source text macros mode known e p outcome → Before outcome)
+IsStep source text macros mode old Before known e p (Err fault) = IsFault fault (λ f. Before (Stopped f))
 
 -- a token that is put out, if the output has room for it
 abbrev pub PutsOut : Mode → Numbered → Expander → Progress → Expander → Progress → Result (Unit {0}) ExpandFault → Type 0
@@ -157,9 +173,35 @@ IsWaiting source known parameters replacement arguments (Some raws) =
     × (map (raw_named source known) (reverse raws) ≡ waiting_for source replacement parameters (arguments_of parameters (map (all_named known) arguments)))
 IsWaiting source known parameters replacement arguments None = length (arguments_of parameters (map (all_named known) arguments)) ≡ length parameters → ⊥
 
+-- ---- a call that is read, from behind its `(` on
+
+-- its arguments, as many as its macro has parameters, with those of them that are expanded
+abbrev pub IsCallRead : List ℕ → List ℕ → Mode → List Token → List Token → List Numbered → Progress → List Numbered → Progress → Read → Known → Type 0
+IsCallRead source text mode parameters replacement old p new q read known =
+    (arguments : List (List Lexeme)) × Collects source text mode 0 ([] ∷ []) (at_hand known old) p (Closed arguments (named known read.close) (at_hand known new) q)
+    × (length (arguments_of parameters arguments) ≡ length parameters)
+    × (map (raw_named source known) (reverse read.waiting) ≡ waiting_for source replacement parameters (arguments_of parameters arguments))
+
+-- what is wrong with a call whose name stands at a place
+abbrev pub IsFaultOfCall : ℕ → List Token → Called → ExpandFault → Type 0
+IsFaultOfCall place parameters Open fault = fault ≡ no.Call place
+IsFaultOfCall place parameters (Fails f) fault = fault ≡ f
+IsFaultOfCall place parameters (Closed arguments close behind q) fault = (fault ≡ no.Call place) × (length (arguments_of parameters arguments) ≡ length parameters → ⊥)
+
+abbrev pub AnswersRead : List ℕ → List ℕ → Mode → List Token → List Token → ℕ → List Numbered → Progress → List Numbered → Progress → Result Read ExpandFault → Type 0
+AnswersRead source text mode parameters replacement place old p new q (Ok read) = (known : Known) → HaveEmpty known → IsCallRead source text mode parameters replacement old p new q read known
+AnswersRead source text mode parameters replacement place old p new q (Err fault) =
+    IsFault fault (λ f. (known : Known) → HaveEmpty known → (called : Called) × Collects source text mode 0 ([] ∷ []) (at_hand known old) p called × IsFaultOfCall place parameters called f)
+
+-- the sets of what is read are known
+abbrev pub IsReadKnown : Known → Read → Type 0
+IsReadKnown known read = (read.close.hidden < length known) × All (λ raw. AreKnown known raw.tokens) read.waiting
+
 -- ---- the whole
 
--- what a call answers to tokens that are to be expanded, with how far the text has come before and behind it
-abbrev pub AnswersExpansion : List ℕ → List ℕ → Macros → Mode → Known → List Lexeme → Progress → Progress → Result (List Numbered) ExpandFault → Type 0
-AnswersExpansion source text macros mode known tokens p q (Ok out) = Expands source text macros mode tokens p (Done (all_named known out) q)
-AnswersExpansion source text macros mode known tokens p q (Err fault) = IsFault fault (λ f. Expands source text macros mode tokens p (Stopped f))
+-- What a call answers to tokens that are to be expanded: what they come to, with the sets by their new numbers, where those that were
+-- known keep theirs, and how far the text has come, within its bounds.
+abbrev pub AnswersExpansion : List ℕ → List ℕ → Macros → Mode → Known → List Lexeme → Progress → Known → Progress → Result (List Numbered) ExpandFault → Type 0
+AnswersExpansion source text macros mode known tokens p new q (Ok out) =
+    Expands source text macros mode tokens p (Done (all_named new out) q) × Keeps known new × AreKnown new out × (q.next ≤ length text) × IsWithinLimits q
+AnswersExpansion source text macros mode known tokens p new q (Err fault) = IsFault fault (λ f. Expands source text macros mode tokens p (Stopped f))

@@ -1,5 +1,5 @@
 -- Tokens with the numbers of their sets, as the code keeps them; and what its calls answer.
-use Rattle.std.specs.Prelude.{◌≡◌, ℕ, ◌+◌, ◌<◌, List, [], ◌∷◌, map, reverse, length, All, ◌⊎◌, Option, Some, None, Result, Ok, Err}
+use Rattle.std.specs.Prelude.{◌≡◌, ℕ, ◌+◌, ◌<◌, List, [], ◌∷◌, ◌++◌, map, reverse, length, All, ◌⊎◌, Option, Some, None, Result, Ok, Err}
 use Rattle.pw_token.specs.declared.token.Token.{Token}
 use Rattle.pw_cpp_expand.specs.Calls.{Called, Closed, Open, Fails, Collects}
 use Rattle.pw_cpp_expand.specs.Lookahead.{At, Faulty, Further, Nothing, Tokens, Fault, Lexeme, LooksAhead, ReadsOn}
@@ -10,7 +10,8 @@ use Rattle.pw_cpp_expand.specs.declared.progress.Lexeme.{Lexeme as Numbered}
 use Rattle.pw_cpp_expand.specs.declared.progress.Mode.{Mode}
 use Rattle.pw_cpp_expand.specs.declared.progress.Mode.TheVariants.{InText, Alone}
 use Rattle.pw_cpp_expand.specs.declared.progress.Progress.{Progress}
-use Rattle.pw_cpp_sets.specs.Sets.{Known, set_at}
+use Rattle.pw_cpp_expand.specs.declared.result.Joined.{Joined}
+use Rattle.pw_cpp_sets.specs.Sets.{Keeps, Known, set_at}
 
 -- ---- sets by their numbers
 
@@ -44,6 +45,20 @@ HaveEmpty known = (0 < length known) × (set_at known 0 ≡ [])
 abbrev pub room_of : Mode → Numbered → ℕ
 room_of InText l = l.token.len + 1
 room_of Alone l = 0
+
+-- ---- what is made of tokens
+
+-- the set of a number has the names of one set in front of those of its own
+abbrev pub IsJoined : Known → ℕ → Joined → Type 0
+IsJoined known hidden joined = (joined.own < length known) × (joined.number < length known) × (set_at known joined.number ≡ set_at known hidden ++ set_at known joined.own)
+
+-- these tokens, where the sets that were known keep their numbers
+abbrev pub IsMade : Known → Known → List Numbered → List Lexeme → Type 0
+IsMade known new made tokens = Keeps known new × AreKnown new made × (all_named new made ≡ tokens)
+
+-- and these behind others
+abbrev pub IsAdded : Known → List Numbered → Known → List Numbered → List Lexeme → Type 0
+IsAdded known before new made tokens = IsMade known new made (all_named known before ++ tokens)
 
 -- ---- answers of calls
 

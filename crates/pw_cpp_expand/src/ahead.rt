@@ -28,11 +28,12 @@ pub fn read_line(
         Ok(line) => line,
         Err(fault) => return Err(of_line(fault)),
     };
-    if progress.size >= OUTPUT_LIMIT {
+    let size = progress.size;
+    if size >= OUTPUT_LIMIT {
         return Err(ExpandFault::Length { at });
     }
     progress.rows.push(at)?;
-    progress.size += 1;
+    progress.size = size + 1;
     progress.next = line.next;
     Ok(line.tokens)
 }
@@ -50,7 +51,10 @@ pub fn read_on(
     let mut at = progress.next;
     while at < text.len() {
         match head_of(text, at) {
-            Head::Text => return Ok(Some(read_line(alloc, text, at, progress)?)),
+            Head::Text => {
+                let tokens = read_line(alloc, text, at, progress)?;
+                return Ok(Some(tokens));
+            }
             Head::Marker { hash } => at = pass_rest(text, hash),
             Head::Directive { .. } => return Ok(None),
         }
@@ -94,7 +98,8 @@ fn look_on(
     ensures known { (known : Known) → 0 < length known → AreKnown known pending.old → AreKnown known pending.new }
 {
     while pending.is_empty() {
-        let Some(tokens) = read_on(alloc, text, progress)? else {
+        let found = read_on(alloc, text, progress)?;
+        let Some(tokens) = found else {
             return Ok(());
         };
         put_fresh(tokens, pending)?;

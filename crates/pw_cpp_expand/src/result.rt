@@ -1,10 +1,11 @@
 //! What replaces a macro's name or call.
 
-ghost use Rattle.std.specs.Prelude.{◌≡◌, ◌<◌, ◌++◌, ◌∷◌, [], length, map, option_map, All, IfOk};
+ghost use Rattle.std.specs.Prelude.{◌≡◌, ◌<◌, ◌&&◌, length, map, option_map, All, IfOk, IfSome};
 ghost use Rattle.pw_cpp_expand.specs.Calls as spec;
 ghost use Rattle.pw_cpp_expand.specs.Expansion as expansion;
-ghost use Rattle.pw_cpp_expand.specs.Numbered.{AreKnown, all_named};
+ghost use Rattle.pw_cpp_expand.specs.Numbered.{AreKnown, IsAdded, IsJoined, IsMade, all_named};
 ghost use Rattle.pw_cpp_expand.specs.AtHand.{argument_named};
+ghost use Rattle.pw_cpp_macros.specs.Definitions as defining;
 ghost use Rattle.pw_cpp_sets.specs.Sets.{Keeps, Known, set_at};
 
 use crate::progress::Lexeme;
@@ -28,30 +29,70 @@ pub struct Replaced {
     pub place: usize,
 }
 
+/// A set that has the names of what is replaced besides those of another set.
+#[derive(Clone, Copy)]
+struct Joined {
+    own: usize,
+    number: usize,
+}
+
+/// Whether a token is the word of this spelling.
+fn is_name(source: &[u8], name: &[u8], token: Token) -> bool
+    ensures { result ≡ (defining.is_word token && defining.is_spelled source.now name.now token) }
+{
+    is_word(token) && is_spelled(source, name, token)
+}
+
 /// Whether a parameter stands in a replacement.
 pub fn is_used(source: &[u8], replacement: &[Token], parameter: Token) -> bool
     ensures { result ≡ spec.is_used source.now replacement.now parameter }
 {
     let name = spelled(source, parameter);
-    replacement
-        .iter()
-        .any(|token| is_word(*token) && is_spelled(source, name, *token))
+    replacement.iter().any(|token| is_name(source, name, *token))
 }
 
-/// The argument for a token of a replacement, if it is a parameter.
-fn argument_for<'e>(source: &[u8], arguments: &'e [Expanded], token: Token) -> Option<&'e [Lexeme]>
-    ensures { (known : Known) → option_map (λ found. all_named known found.now) result ≡ expansion.argument_for source.now (map (argument_named source.now known) arguments.now) token }
+/// The argument for the parameter of this name.
+fn argument_of<'e>(source: &[u8], arguments: &'e [Expanded], name: &[u8]) -> Option<&'e [Lexeme]>
+    ensures named { (known : Known) → option_map (λ found. all_named known found.now) result ≡ expansion.argument_of (map (argument_named source.now known) arguments.now) name.now }
+    ensures known { (known : Known) → All (λ argument. AreKnown known argument.tokens) arguments.now → IfSome result (λ found. AreKnown known found.now) }
 {
-    if !is_word(token) {
-        return None;
-    }
-    let name = spelled(source, token);
     for argument in arguments {
-        if is_spelled(source, name, argument.parameter) {
+        if name == spelled(source, argument.parameter) {
             return Some(argument.tokens.as_slice());
         }
     }
     None
+}
+
+/// The argument for a token of a replacement, if it is a parameter.
+fn argument_for<'e>(source: &[u8], arguments: &'e [Expanded], token: Token) -> Option<&'e [Lexeme]>
+    ensures named { (known : Known) → option_map (λ found. all_named known found.now) result ≡ expansion.argument_for source.now (map (argument_named source.now known) arguments.now) token }
+    ensures known { (known : Known) → All (λ argument. AreKnown known argument.tokens) arguments.now → IfSome result (λ found. AreKnown known found.now) }
+{
+    if !is_word(token) {
+        return None;
+    }
+    argument_of(source, arguments, spelled(source, token))
+}
+
+/// The set that has the names of what is replaced besides those of a set. One that was joined last is at hand.
+fn joined<'a>(
+    alloc: Global,
+    sets: &mut Sets<'a>,
+    hidden: usize,
+    own: usize,
+    last: Joined,
+) -> Result<Joined, AllocError>
+    requires hidden { hidden < length sets.old }
+    requires own { own < length sets.old }
+    requires last { IsJoined sets.old hidden last }
+    ensures { IfOk result (λ next. Keeps sets.old sets.new × IsJoined sets.new hidden next × (next.own ≡ own)) }
+{
+    if own == last.own {
+        return Ok(last);
+    }
+    let number = sets.joined(alloc, hidden, own)?;
+    Ok(Joined { own, number })
 }
 
 /// Adds the tokens of an argument, each with the names of what is replaced besides its own.
@@ -65,25 +106,44 @@ fn push_argument<'a>(
     requires hidden { replaced.hidden < length sets.old }
     requires argument { AreKnown sets.old argument.now }
     requires made { AreKnown sets.old made.old }
-    ensures keeps { Keeps sets.old sets.new }
-    ensures known { IfOk result (λ _. AreKnown sets.new made.new) }
-    ensures added { IfOk result (λ _. all_named sets.new made.new ≡ all_named sets.old made.old ++ map (spec.passed (set_at sets.old replaced.hidden) replaced.place) (all_named sets.old argument.now)) }
+    ensures { IfOk result (λ _. IsAdded sets.old made.old sets.new made.new (map (spec.passed (set_at sets.old replaced.hidden) replaced.place) (all_named sets.old argument.now))) }
 {
-    // The last set that was joined, and what it became.
-    let mut own = 0;
-    let mut joined = sets.joined(alloc, replaced.hidden, own)?;
+    let number = sets.joined(alloc, replaced.hidden, 0)?;
+    let mut last = Joined { own: 0, number };
     for lexeme in argument {
-        if lexeme.hidden != own {
-            own = lexeme.hidden;
-            joined = sets.joined(alloc, replaced.hidden, own)?;
-        }
+        last = joined(alloc, sets, replaced.hidden, lexeme.hidden, last)?;
         made.push(Lexeme {
             token: lexeme.token,
-            hidden: joined,
+            hidden: last.number,
             place: replaced.place,
         })?;
     }
     Ok(())
+}
+
+/// Adds what a token of a replacement becomes: the tokens of an argument, or itself.
+fn push_replaced<'a>(
+    alloc: Global,
+    sets: &mut Sets<'a>,
+    replaced: Replaced,
+    token: Token,
+    argument: Option<&[Lexeme]>,
+    made: &mut Items<Lexeme>,
+) -> Result<(), AllocError>
+    requires hidden { replaced.hidden < length sets.old }
+    requires argument { IfSome argument (λ found. AreKnown sets.old found.now) }
+    requires made { AreKnown sets.old made.old }
+    ensures { IfOk result (λ _. IsAdded sets.old made.old sets.new made.new (expansion.replaced (set_at sets.old replaced.hidden) replaced.place token (option_map (λ found. all_named sets.old found.now) argument.entry))) }
+{
+    let Some(argument) = argument else {
+        made.push(Lexeme {
+            token,
+            hidden: replaced.hidden,
+            place: replaced.place,
+        })?;
+        return Ok(());
+    };
+    push_argument(alloc, sets, replaced, argument, made)
 }
 
 /// What replaces a macro's name or call: the replacement, with the arguments in the place of the parameters.
@@ -97,20 +157,12 @@ pub fn result_of<'a>(
 ) -> Result<Items<Lexeme>, AllocError>
     requires hidden { replaced.hidden < length sets.old }
     requires arguments { All (λ argument. AreKnown sets.old argument.tokens) arguments.now }
-    ensures keeps { Keeps sets.old sets.new }
-    ensures known { IfOk result (λ made. AreKnown sets.new made) }
-    ensures made { IfOk result (λ made. all_named sets.new made ≡ expansion.result_of source.now (set_at sets.old replaced.hidden) replaced.place (map (argument_named source.now sets.old) arguments.now) replacement.now) }
+    ensures { IfOk result (λ made. IsMade sets.old sets.new made (expansion.result_of source.now (set_at sets.old replaced.hidden) replaced.place (map (argument_named source.now sets.old) arguments.now) replacement.now)) }
 {
     let mut made = Items::new(alloc);
     for token in replacement {
-        match argument_for(source, arguments, *token) {
-            Some(argument) => push_argument(alloc, sets, replaced, argument, &mut made)?,
-            None => made.push(Lexeme {
-                token: *token,
-                hidden: replaced.hidden,
-                place: replaced.place,
-            })?,
-        }
+        let argument = argument_for(source, arguments, *token);
+        push_replaced(alloc, sets, replaced, *token, argument, &mut made)?;
     }
     Ok(made)
 }
