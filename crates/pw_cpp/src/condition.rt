@@ -1,6 +1,7 @@
 //! The conditions of `#if` and `#elif`.
 
-ghost use Rattle.std.specs.Prelude.{◌≡◌, ◌≤◌, All, length, option_map, IfOk, IfSome};
+ghost use Rattle.std.specs.Prelude.{◌≡◌, ◌≤◌, ◌<◌, ◌&&◌, All, codes, length, option_map, IfOk, IfSome};
+ghost use Rattle.pw_cpp_macros.specs.Definitions.{is_spelled, is_word};
 ghost use Rattle.pw_cpp.specs.Answers.{AnswersJudgement, IsJudging, IsVerdictOf};
 ghost use Rattle.pw_cpp.specs.Conditions as spec;
 ghost use Rattle.pw_token.specs.Roles.{spelling};
@@ -25,14 +26,21 @@ pub enum Verdict {
     Faulty,
 }
 
-/// The digit that says whether a name is a macro's, in the place of a `defined`.
+/// The digit that says whether a name is a macro's.
+fn truth_token(source: &[u8], macros: &Macros<'_>, digits: Digits, name: Token) -> Token
+    ensures { result ≡ spec.truth_token digits macros.now (spelling source.now name) }
+{
+    match macros.find(spelled(source, name)) {
+        Some(_) => digits.one,
+        None => digits.zero,
+    }
+}
+
+/// The digit in the place of a `defined`.
 fn said(source: &[u8], macros: &Macros<'_>, digits: Digits, place: usize, name: Token) -> Lexeme
     ensures { result ≡ record { token = spec.truth_token digits macros.now (spelling source.now name); hidden = 0; place = place } }
 {
-    let token = match macros.find(spelled(source, name)) {
-        Some(_) => digits.one,
-        None => digits.zero,
-    };
+    let token = truth_token(source, macros, digits, name);
     Lexeme {
         token,
         hidden: 0,
@@ -40,19 +48,38 @@ fn said(source: &[u8], macros: &Macros<'_>, digits: Digits, place: usize, name: 
     }
 }
 
-/// The name behind a `defined`, and how many tokens it takes with its parentheses, or None where it has not the form of one.
-fn defined_name(source: &[u8], tokens: &[Token]) -> Option<(Token, usize)>
-    ensures { result ≡ spec.defined_name source.now tokens.now }
+/// Whether three tokens are a name in parentheses.
+fn is_in_parentheses(source: &[u8], open: Token, name: Token, close: Token) -> bool
+    ensures { result ≡ (is_spelled source.now (codes "(") open && is_word name && is_spelled source.now (codes ")") close) }
 {
-    match tokens {
-        [name, ..] if is_word(*name) => Some((*name, 1)),
-        [open, name, close, ..]
-            if is_spelled(source, b"(", *open)
-                && is_word(*name)
-                && is_spelled(source, b")", *close) =>
-            Some((*name, 3)),
-        _ => None,
+    is_spelled(source, b"(", open) && is_word(name) && is_spelled(source, b")", close)
+}
+
+/// A name in parentheses behind a `defined`, with the count of its tokens.
+fn name_in_parentheses(source: &[u8], open: Token, tokens: &[Token]) -> Option<(Token, usize)>
+    ensures { result ≡ spec.name_in_parentheses source.now open tokens.now }
+{
+    let [name, close, ..] = tokens else {
+        return None;
+    };
+    if is_in_parentheses(source, open, *name, *close) {
+        return Some((*name, 3));
     }
+    None
+}
+
+/// The name behind a `defined`, with the count of its tokens, or None where it has not the form of one.
+fn defined_name(source: &[u8], tokens: &[Token]) -> Option<(Token, usize)>
+    ensures value { result ≡ spec.defined_name source.now tokens.now }
+    ensures count { IfSome result (λ found. (0 < found.1) × (found.1 ≤ length tokens.now)) }
+{
+    let [first, rest @ ..] = tokens else {
+        return None;
+    };
+    if is_word(*first) {
+        return Some((*first, 1));
+    }
+    name_in_parentheses(source, *first, rest)
 }
 
 /// The tokens with each `defined` taken, or None where one has not its form.
@@ -69,7 +96,6 @@ fn with_defined(
     let mut taken = Items::new(alloc);
     let mut left = tokens;
     while let [token, rest @ ..] = left {
-        left = rest;
         if is_spelled(source, b"defined", *token) {
             let Some((name, count)) = defined_name(source, rest) else {
                 return Ok(None);
@@ -78,6 +104,7 @@ fn with_defined(
             left = &rest[count..];
         } else {
             taken.push(fresh(*token))?;
+            left = rest;
         }
     }
     Ok(Some(taken))
@@ -93,8 +120,8 @@ fn items_of(
 {
     let mut items = Items::new(alloc);
     for lexeme in tokens {
-        let bytes = spelled(source, lexeme.token);
-        let Some(item) = item_of(alloc, lexeme.token.kind, bytes)? else {
+        let found = item_of(alloc, lexeme.token.kind, spelled(source, lexeme.token))?;
+        let Some(item) = found else {
             return Ok(None);
         };
         items.push(item)?;
@@ -106,16 +133,18 @@ fn items_of(
 fn verdict(alloc: Global, source: &[u8], tokens: &[Lexeme]) -> Result<Verdict, AllocError>
     ensures { IfOk result (λ verdict. (known : Known) → IsVerdictOf source.now (all_named known tokens.now) verdict) }
 {
-    let Some(items) = items_of(alloc, source, tokens)? else {
+    let found = items_of(alloc, source, tokens)?;
+    let Some(items) = found else {
         return Ok(Verdict::Faulty);
     };
-    let Some(number) = evaluate(alloc, items.as_slice())? else {
+    let value = evaluate(alloc, items.as_slice())?;
+    let Some(number) = value else {
         return Ok(Verdict::Faulty);
     };
-    Ok(match number.word {
-        Some(word) => Verdict::Holds(word != 0),
-        None => Verdict::Faulty,
-    })
+    let Some(word) = number.word else {
+        return Ok(Verdict::Faulty);
+    };
+    Ok(Verdict::Holds(word != 0))
 }
 
 /// What the condition of a `#if` or `#elif` comes to.
@@ -139,9 +168,11 @@ pub fn judge<'a>(
     ensures limits { IfOk result (λ _. IsWithinLimits progress.new) }
     ensures judges { AnswersJudgement source.now macros.now digits tokens.now progress.old.produced progress.new.produced result }
 {
-    let Some(taken) = with_defined(alloc, source, macros, digits, tokens)? else {
+    let found = with_defined(alloc, source, macros, digits, tokens)?;
+    let Some(taken) = found else {
         return Ok(Verdict::Faulty);
     };
     let out = expand_alone(alloc, source, macros, sets, taken, progress)?;
-    Ok(verdict(alloc, source, out.as_slice())?)
+    let verdict = verdict(alloc, source, out.as_slice())?;
+    Ok(verdict)
 }

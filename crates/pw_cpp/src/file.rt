@@ -1,6 +1,6 @@
 //! Files, line by line.
 
-ghost use Rattle.std.specs.Prelude.{◌≡◌, ◌≤◌, ◌<◌, ◌+◌, ◌++◌, ℕ, true, false, length, reverse, nat_le, position, unwrap_or, slice_get, bytes_eq, Some, IfOk};
+ghost use Rattle.std.specs.Prelude.{◌≡◌, ◌≤◌, ◌<◌, ◌+◌, ◌++◌, ℕ, true, false, length, reverse, nat_le, position, slice_get, bytes_eq, Some, IfOk, IsTrue, ◌↔◌};
 ghost use Rattle.pw_cpp.specs.Answers.{AnswersCpp, AnswersReading, AnswersStep, DoesInclude, DoesLine, DoesPassed, DoesText, DoesWhole, IsInRows, IsLexed, IsPlacedFault, IsRead, IsThere, IsWithin, Keeps, ReadsWhole, digits_of, files_of, names_of, reads_of, source_of, spans_of, texts_of, use_by};
 ghost use Rattle.pw_cpp.specs.Directives.{fault};
 ghost use Rattle.pw_cpp.specs.Files.{File, Include, Passed, Whole, name_of, output_of, rows_of};
@@ -336,10 +336,16 @@ impl<'a> Reader<'a> {
 }
 
 /// The number of the file of a place of the source.
-fn file_at(spans: &[Place], place: usize) -> usize
-    ensures { result ≡ unwrap_or (position (λ span. nat_le place span.end) spans.now) 0 }
+fn file_at(spans: &[Place], place: usize) -> Option<usize>
+    ensures { result ≡ position (λ span. nat_le place span.end) spans.now }
 {
-    spans.iter().position(|span| place <= span.end).unwrap_or(0)
+    spans.iter().position(|span| place <= span.end)
+}
+
+fn is_no_memory(kind: &CppKind) -> bool
+    ensures { IsTrue result ↔ (kind.now ≡ CppKind.NoMemory) }
+{
+    matches!(kind, CppKind::NoMemory)
 }
 
 /// A fault with its file and its line.
@@ -349,15 +355,21 @@ fn placed(
     files: &[(Name, Vec<u8>)],
     fault: Fault,
 ) -> Result<CppFault, AllocError>
+    requires source { source.now.bytes.items ≡ source_of (texts_of files.now) }
+    requires spans { files_of (names_of files.now) source.now.spans.items ≡ spans_of (texts_of files.now) }
     ensures { IfOk result (IsPlacedFault source.now.bytes.items files.now source.now.spans.items fault) }
 {
-    let index = file_at(source.spans.as_slice(), fault.place);
+    let Some(index) = file_at(source.spans.as_slice(), fault.place) else {
+        return Err(AllocError);
+    };
     let span = source.spans[index];
     let text = &source.bytes.as_slice()[span.from..span.end];
+    let file = files[index].0.copy(alloc)?;
+    let line = line_at(text, fault.place.saturating_sub(span.from)) as u64;
     Ok(CppFault {
         kind: fault.kind,
-        file: files[index].0.copy(alloc)?,
-        line: line_at(text, fault.place - span.from) as u64,
+        file,
+        line,
     })
 }
 
@@ -404,7 +416,13 @@ fn preprocess_source(
     let source = source_of(alloc, files)?;
     match read_all(alloc, &source, files, name) {
         Ok(out) => Ok(Ok(out)),
-        Err(fault) => Ok(Err(placed(alloc, &source, files, fault)?)),
+        Err(fault) => {
+            if is_no_memory(&fault.kind) {
+                return Err(AllocError);
+            }
+            let found = placed(alloc, &source, files, fault)?;
+            Ok(Err(found))
+        }
     }
 }
 
