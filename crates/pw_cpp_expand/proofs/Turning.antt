@@ -243,6 +243,10 @@ pub fault-weaker : (Is Was : ExpandFault → Type 0) (fault : ExpandFault) → (
 fault-weaker Is Was fault w (inl h) = inl h
 fault-weaker Is Was fault w (inr h) = inr (w fault h)
 
+-- a fault that is handed on
+pub fault-on : {A : Type 0} (Answers : Result A ExpandFault → Type 0) (fault : ExpandFault) (result : Result A ExpandFault) → result ≡ Err fault → Answers (Err fault) → Answers result
+fault-on Answers fault result is h = subst Answers (sym is) h
+
 -- ---- a call whose arguments are expanded
 
 module _ (source text : List ℕ) (macros : Macros) where

@@ -152,6 +152,11 @@ module _ (source text : List ℕ) (macros : Macros) (mode : Mode) where
   step-on known old new k Is Was w e p (Err fault) (inl h) = inl h
   step-on known old new k Is Was w e p (Err fault) (inr h) = inr (w (Stopped fault) h)
 
+  -- a fault is what was at hand comes to
+  pub step-failed : {A : Type 0} (known new : Known) (Is : Outcome → Type 0) (e : Expander) (p : Progress) (fault : ExpandFault) (result : Result A ExpandFault) → result ≡ Err fault
+      → IsFault fault (λ f. Is (Stopped f)) → IsStep source text macros mode known Is new e p result
+  step-failed {A = A} known new Is e p fault result is h = let P : Result A ExpandFault → Type 0 = λ x. IsStep source text macros mode known Is new e p x in subst P (sym is) h
+
   -- the answer does not matter
   pub step-same : {A B : Type 0} (known new : Known) (Is : Outcome → Type 0) (e : Expander) (p : Progress) (done : A) (answer : B)
       → IsStep source text macros mode known Is new e p (Ok done) → IsStep source text macros mode known Is new e p (Ok answer)

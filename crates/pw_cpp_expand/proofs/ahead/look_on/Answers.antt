@@ -1,8 +1,11 @@
-use Rattle.std.proofs.Common.{◌≡◌, ◌∙◌, sym, arith}
+use Rattle.std.proofs.Common.{◌≡◌, ◌∙◌, Err, rules, sym, arith}
 use Rattle.std.proofs.lemmas.Bool.{false≢true}
-use Rattle.pw_cpp_expand.specs.Lookahead.{Tokens}
+use Rattle.pw_cpp_expand.specs.Lookahead.{Fault, Faulty, LooksAhead, ReadsOn, Tokens}
+use Rattle.pw_cpp_expand.specs.Numbered.{AnswersAhead, HaveEmpty, at_hand}
+use Rattle.pw_cpp_expand.specs.declared.progress.Mode.TheVariants.{InText}
+use Rattle.pw_cpp_sets.specs.Sets.{Known}
 use Rattle.pw_cpp_expand.proofs.ReadingOn.{hand-here, looks-faulty, looks-more, looks-none, next-reads, reads-further}
-use Rattle.pw_cpp_expand.proofs.Turning.{fault-weaker}
+use Rattle.pw_cpp_expand.proofs.Turning.{fault-on, fault-weaker}
 use Rattle.pw_cpp_expand.proofs.ahead.look_on.Goals as goal
 
 pub loop-pending-init : goal.loop-pending-init
@@ -13,9 +16,12 @@ read_on-requires c = c.loop-pending.invariant.0
 
 pub returns-in_err-found-clause-answers : goal.returns-in_err-found-clause-answers
 returns-in_err-found-clause-answers c =
-    fault-weaker _ _ _
-    (λ f h. looks-faulty c.args.text.now c.args.pending.now c.args.progress.now c.loop-pending.pending c.loop-pending.progress c.loop-pending.invariant.1 (c.is_empty.ensures.0 c.loop-pending-test.true) f h)
-    c.in_err-found.ensures.answers
+    fault-on (AnswersAhead c.args.text.now InText c.args.pending.now c.args.progress.now _ _) c.in_err-found.field-0.0 c.from_residual.result
+    (let e : c.from_residual.result ≡ Err c.in_err-found.field-0.0 = first_of (search (rules, c.from_residual.ensures), cc (c.from_residual.ensures)) in e)
+    (fault-weaker (λ f. ReadsOn c.args.text.now c.loop-pending.progress.next c.loop-pending.progress (Fault f))
+      (λ f. (known : Known) → HaveEmpty known → LooksAhead c.args.text.now InText (at_hand known c.args.pending.now) c.args.progress.now (Faulty f)) _
+      (λ f h. looks-faulty c.args.text.now c.args.pending.now c.args.progress.now c.loop-pending.pending c.loop-pending.progress c.loop-pending.invariant.1 (c.is_empty.ensures.0 c.loop-pending-test.true) f h)
+      c.in_err-found.ensures.answers)
 
 pub returns-in_default-clause-answers : goal.returns-in_default-clause-answers
 returns-in_default-clause-answers c =

@@ -1,15 +1,20 @@
-use Rattle.std.proofs.Common.{◌≡◌, Some, Ok, refl, subst, sym, arith}
+use Rattle.std.proofs.Common.{◌≡◌, Some, Ok, Err, rules, refl, subst, sym, arith}
 use Rattle.pw_cpp_expand.specs.Lookahead.{Fault, Nothing, ReadsOn, Tokens, directive, ends, reads}
+use Rattle.pw_cpp_expand.specs.Numbered.{AnswersFurther}
 use Rattle.pw_cpp_lines.specs.declared.head.Head.TheVariants as head
 use Rattle.pw_cpp_expand.proofs.ReadingOn.{hash-within, leads-on, rest-on}
-use Rattle.pw_cpp_expand.proofs.Turning.{fault-weaker}
+use Rattle.pw_cpp_expand.proofs.Turning.{fault-on, fault-weaker}
 use Rattle.pw_cpp_expand.proofs.ahead.read_on.Goals as goal
 
 pub loop-at-init : goal.loop-at-init
 loop-at-init c = (c.requires, λ further h. h)
 
 pub returns-in_err-tokens-clause-answers : goal.returns-in_err-tokens-clause-answers
-returns-in_err-tokens-clause-answers c = fault-weaker _ _ _ (λ f h. c.loop-at.invariant.1 (Fault f) h) c.in_err-tokens.ensures.answers
+returns-in_err-tokens-clause-answers c =
+    fault-on (AnswersFurther c.args.text.now c.args.progress.now _) c.in_err-tokens.field-0.0 c.from_residual.result
+    (let e : c.from_residual.result ≡ Err c.in_err-tokens.field-0.0 = first_of (search (rules, c.from_residual.ensures), cc (c.from_residual.ensures)) in e)
+    (fault-weaker (λ f. ReadsOn c.args.text.now c.loop-at.at c.args.progress.now (Fault f)) (λ f. ReadsOn c.args.text.now c.args.progress.now.next c.args.progress.now (Fault f)) _
+      (λ f h. c.loop-at.invariant.1 (Fault f) h) c.in_err-tokens.ensures.answers)
 
 pub returns-in-Text-clause-answers : goal.returns-in-Text-clause-answers
 returns-in-Text-clause-answers c = c.loop-at.invariant.1 (Tokens c.in_ok-tokens.tokens _) c.in_ok-tokens.ensures.answers

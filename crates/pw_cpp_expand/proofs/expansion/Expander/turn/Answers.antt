@@ -1,4 +1,5 @@
-use Rattle.pw_cpp_expand.proofs.Whole.{first-turn, inner-turn, no-turn, ready-first, ready-inner}
+use Rattle.std.proofs.Common.{◌≡◌, Err, rules}
+use Rattle.pw_cpp_expand.proofs.Whole.{first-turn, inner-turn, no-turn, ready-first, ready-inner, step-failed}
 use Rattle.pw_cpp_expand.proofs.expansion.Expander.turn.Goals as goal
 
 pub expand_one-requires-clause-ready : goal.expand_one-requires-clause-ready
@@ -11,8 +12,10 @@ expand_one-requires-clause-lexeme c =
 
 pub returns-in_err-expand_one-clause-comes : goal.returns-in_err-expand_one-clause-comes
 returns-in_err-expand_one-clause-comes c =
-    first-turn c.args.ground.source.now c.args.ground.text.now c.args.ground.macros.now c.args.ground.mode c.args.sets.now _ c.args.self.now c.args.progress.now c.pop.new.self c.in-Some.lexeme c.in-Some.ensures _ _ _
-    c.in_err-expand_one.ensures
+    step-failed c.args.ground.source.now c.args.ground.text.now c.args.ground.macros.now c.args.ground.mode c.args.sets.now _ _ _ _ c.in_err-expand_one.field-0.0 c.from_residual.result
+    (let e : c.from_residual.result ≡ Err c.in_err-expand_one.field-0.0 = first_of (search (rules, c.from_residual.ensures), cc (c.from_residual.ensures)) in e)
+    (first-turn c.args.ground.source.now c.args.ground.text.now c.args.ground.macros.now c.args.ground.mode c.args.sets.now _ c.args.self.now c.args.progress.now c.pop.new.self c.in-Some.lexeme c.in-Some.ensures _ _ _
+    c.in_err-expand_one.ensures)
 
 pub returns-in-Some-clause-comes : goal.returns-in-Some-clause-comes
 returns-in-Some-clause-comes c =

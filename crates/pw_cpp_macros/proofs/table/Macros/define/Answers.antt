@@ -15,6 +15,12 @@ returns-in-Some c = (
     (sym c.is_alike.ensures ∙ c.if-is_alike.false)),
 )
 
+pub returns-then-len-ge-MACRO_LIMIT : goal.returns-then-len-ge-MACRO_LIMIT
+returns-then-len-ge-MACRO_LIMIT c = (
+  refl,
+  inr (define-full c.args.text.now c.args.definition c.args.self.now c.self.inside.table.entries c.self.view_is c.spelled-name.result c.spelled-name.ensures c.in_default.ensures.value (omega arith)),
+)
+
 pub returns-in-Ok : goal.returns-in-Ok
 returns-in-Ok c =
     let none = c.in_default.ensures.value in
