@@ -118,7 +118,7 @@ fn push_fault(text: &mut Text, fault: &CppFault) {
     text.push(fault.file.as_bytes());
     text.push(b":");
     text.display(&fault.line);
-    text.push(b": ");
+    text.push(b": Cpp ");
     push_kind(text, &fault.kind);
 }
 
