@@ -1,8 +1,8 @@
 //! The command `cpp`: from the text of a C module and the headers of a store to the text that is compiled.
 #![tactic(auto)]
 
-mod headers;
+mod seen;
 mod sources;
 
-pub use headers::read_headers;
+pub use seen::{compiled_modules, seen_modules, told};
 pub use sources::preprocess_module;

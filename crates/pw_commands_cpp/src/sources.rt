@@ -3,47 +3,47 @@
 ghost use Rattle.std.specs.Prelude.{◌≡◌, ℕ, List, true, IfErr, IfOk, IfSome};
 ghost use Rattle.pw_commands.specs.Others.{KeepsOthers};
 ghost use Rattle.pw_commands.specs.Outcome.{Obeys};
-ghost use Rattle.pw_commands_cpp.specs.Command.{CppEffect, IsCppAnswer, cpp_puts};
+ghost use Rattle.pw_commands_cpp.specs.Command.{ComesToOutput, CppEffect, IsCppAnswer, ReadsSource, StoreCountOf, cpp_puts};
+ghost use Rattle.pw_io.specs.Files.{Keeps};
 ghost use Rattle.pw_store_modules.specs.Modules.{is_module_name};
 ghost use Rattle.pw_top_answer.specs.Outcomes.{StoreCount};
 
-use crate::headers::{TEXT_READ, read_headers};
 use pw_commands::put_file;
-use pw_cpp::{CppKind, preprocess};
-use pw_io::{Store, StoreError};
+use pw_io::Store;
 use pw_store_modules::{TEXT_ENDING, module_file};
+use pw_store_texts::{SOURCE_ENDING, TEXT_READ, preprocess_source, read_headers, source_name};
 use pw_top_answer::Answer;
 use pw_value::Name;
 use std::alloc::{AllocError, Global};
 
-/// The ending of the file of a C module's source.
-const SOURCE_ENDING: &str = ".c";
-
-/// The file of this name with its text, and the headers of the store behind it.
-fn files_of<S: Store>(
-    alloc: Global,
-    store: &mut S,
-    file: &str,
-) -> Result<Vec<(Name, Vec<u8>)>, Answer> {
-    let name = Name::lawful(alloc, file.as_bytes())?;
-    let Some(text) = store.get(alloc, file, TEXT_READ)? else {
-        return Err(Answer::BadFile(name, None));
+/// The text of a module's C source, or that it is absent.
+fn source_of<S: Store>(alloc: Global, store: &mut S, name: &Name) -> Result<Vec<u8>, Answer>
+    requires { is_module_name name.now ≡ true }
+    ensures read { IfSome (S.told store.old) (λ told. ReadsSource told.files name.now result) }
+    ensures same { Keeps (S.told store.old) (S.told store.new) }
+    ensures count { StoreCountOf (S.faults store.old) (S.faults store.new) result }
+{
+    let file = module_file(alloc, name, SOURCE_ENDING)?;
+    let found = store.get(alloc, file.as_str(), TEXT_READ)?;
+    let Some(text) = found else {
+        let absent = source_name(alloc, name)?;
+        return Err(Answer::BadFile(absent, None));
     };
-    let mut files = Vec::new(alloc);
-    files.push((name, text))?;
-    Ok(read_headers(alloc, store, files)?)
+    Ok(text)
 }
 
-/// What the preprocessor makes of the file of this name, or the answer in its place.
-fn output_of<S: Store>(alloc: Global, store: &mut S, file: &str) -> Result<Vec<u8>, Answer> {
-    let name = Name::lawful(alloc, file.as_bytes())?;
-    let files = files_of(alloc, store, file)?;
-    match preprocess(alloc, files.as_slice(), name) {
+/// What the preprocessor makes of a module's C source, or the answer in its place.
+fn output_of<S: Store>(alloc: Global, store: &mut S, name: &Name) -> Result<Vec<u8>, Answer>
+    requires { is_module_name name.now ≡ true }
+    ensures output { IfSome (S.told store.old) (λ told. ComesToOutput told.files name.now result) }
+    ensures same { Keeps (S.told store.old) (S.told store.new) }
+    ensures count { StoreCountOf (S.faults store.old) (S.faults store.new) result }
+{
+    let text = source_of(alloc, store, name)?;
+    let mut headers = read_headers(alloc, store, Vec::new(alloc))?;
+    match preprocess_source(alloc, &mut headers, name, text)? {
         Ok(output) => Ok(output),
-        Err(fault) => match fault.kind {
-            CppKind::NoMemory => Err(Answer::NoMemory),
-            _ => Err(Answer::Cpp(fault)),
-        },
+        Err(fault) => Err(Answer::Cpp(fault)),
     }
 }
 
@@ -58,10 +58,7 @@ pub fn preprocess_module<S: Store>(alloc: Global, store: &mut S, name: &Name) ->
     ensures answer { IsCppAnswer result }
     ensures count { StoreCount (S.faults store.old) (S.faults store.new) result }
 {
-    let Ok(file) = module_file(alloc, name, SOURCE_ENDING) else {
-        return Answer::NoMemory;
-    };
-    let output = match output_of(alloc, store, file.as_str()) {
+    let output = match output_of(alloc, store, name) {
         Ok(output) => output,
         Err(answer) => return answer,
     };

@@ -26,7 +26,7 @@ use Rattle.pw_value.specs.declared.fault.What.{What}
 use Rattle.pw_value.specs.declared.fault.What.TheVariants.{Modules, TextBytes, Functions, Globals}
 use Rattle.pw_store_modules.specs.FileNames.{text_name}
 use Rattle.pw_top_answer.specs.declared.answer.Answer.{Answer}
-use Rattle.pw_top_answer.specs.declared.answer.Answer.TheVariants.{Done, Ended, Usage, Refused, Cpp, LinkRefused, StackStop, Spent, Halted, ReadFault, WriteFault, StoreFault, NoMemory, BadFile, BadScript}
+use Rattle.pw_top_answer.specs.declared.answer.Answer.TheVariants.{Done, Ended, Usage, Refused, RefusedSource, Cpp, LinkRefused, StackStop, Spent, Halted, ReadFault, WriteFault, StoreFault, NoMemory, BadFile, BadScript}
 
 -- the status with which the process ends
 abbrev pub status_of : Answer → ℕ
@@ -34,6 +34,7 @@ status_of Done = 0
 status_of (Ended status) = status
 status_of Usage = 112
 status_of (Refused name refusal) = 113
+status_of (RefusedSource name refusal) = 113
 status_of (Cpp fault) = 113
 status_of (LinkRefused fault) = 114
 status_of StackStop = 115
@@ -162,12 +163,17 @@ abbrev pub at_line : Option ℕ → List ℕ
 at_line None = []
 at_line (Some line) = codes ":" ++ decimal line
 
+-- the file of a module's C source
+abbrev pub source_file : List ℕ → List ℕ
+source_file name = name ++ codes ".c"
+
 -- The line of an answer, where a refused module is refused on this line of its text. A command that is done and a run that ended have none.
 abbrev pub line_text : Option ℕ → Answer → List ℕ
 line_text line Done = []
 line_text line (Ended status) = []
 line_text line Usage = codes "usage" ++ newline
 line_text line (Refused name refusal) = text_name name ++ at_line line ++ codes ": " ++ refusal_text refusal ++ newline
+line_text line (RefusedSource name refusal) = source_file name ++ at_line line ++ codes ": " ++ refusal_text refusal ++ newline
 line_text line (Cpp fault) = fault.file ++ codes ":" ++ decimal fault.line ++ codes ": Cpp " ++ cpp_text fault.kind ++ newline
 line_text line (LinkRefused fault) = codes "link: " ++ link_text fault ++ newline
 line_text line StackStop = codes "StackStop" ++ newline
@@ -186,6 +192,7 @@ NeedsMemory Done = ⊥
 NeedsMemory (Ended status) = ⊥
 NeedsMemory Usage = ⊥
 NeedsMemory (Refused name refusal) = Unit {0}
+NeedsMemory (RefusedSource name refusal) = Unit {0}
 NeedsMemory (Cpp fault) = Unit {0}
 NeedsMemory (LinkRefused fault) = Unit {0}
 NeedsMemory StackStop = ⊥

@@ -24,6 +24,8 @@ pub enum Answer {
     Usage,
     /// The module of this name is refused.
     Refused(Name, Refusal),
+    /// The output that the preprocessor makes of the C source of the module of this name is refused.
+    RefusedSource(Name, Refusal),
     /// The preprocessor refuses a file.
     Cpp(CppFault),
     /// The modules are refused together.
@@ -106,7 +108,7 @@ pub fn status(answer: &Answer) -> u8
         Answer::Done => 0,
         Answer::Ended(status) => *status,
         Answer::Usage => 112,
-        Answer::Refused(_, _) | Answer::Cpp(_) => 113,
+        Answer::Refused(_, _) | Answer::RefusedSource(_, _) | Answer::Cpp(_) => 113,
         Answer::LinkRefused(_) => 114,
         Answer::StackStop => 115,
         Answer::Spent => 116,

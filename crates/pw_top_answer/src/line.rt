@@ -247,6 +247,25 @@ fn push_line(text: &mut Vec<u8>, line: Option<usize>) -> Result<(), AllocError>
     Ok(())
 }
 
+/// The line of a text of a module, of this ending, that is refused, on its line `line`.
+fn refused_text(
+    alloc: Global,
+    name: &Name,
+    ending: &str,
+    refusal: &Refusal,
+    line: Option<usize>,
+) -> Result<Vec<u8>, AllocError>
+    ensures { IfOk result (λ text. text.items ≡ name.now ++ ending.now ++ at_line line ++ codes ": " ++ refusal_text refusal.now ++ codes "\n") }
+{
+    let mut text = Vec::from_slice(alloc, name.as_bytes())?;
+    text.extend_from_slice(ending.as_bytes())?;
+    push_line(&mut text, line)?;
+    text.extend_from_slice(b": ")?;
+    push_refusal(&mut text, refusal)?;
+    text.extend_from_slice(b"\n")?;
+    Ok(text)
+}
+
 /// The line of a module that is refused, on line `line` of its text.
 fn refused_line(
     alloc: Global,
@@ -256,13 +275,19 @@ fn refused_line(
 ) -> Result<Vec<u8>, AllocError>
     ensures { IfOk result (λ text. text.items ≡ line_text line (Answer.Refused name.now refusal.now)) }
 {
-    let mut text = Vec::from_slice(alloc, name.as_bytes())?;
-    text.extend_from_slice(TEXT_ENDING.as_bytes())?;
-    push_line(&mut text, line)?;
-    text.extend_from_slice(b": ")?;
-    push_refusal(&mut text, refusal)?;
-    text.extend_from_slice(b"\n")?;
-    Ok(text)
+    refused_text(alloc, name, TEXT_ENDING, refusal, line)
+}
+
+/// The line of a module whose C source's output is refused, on line `line` of that output.
+fn refused_source_line(
+    alloc: Global,
+    name: &Name,
+    refusal: &Refusal,
+    line: Option<usize>,
+) -> Result<Vec<u8>, AllocError>
+    ensures { IfOk result (λ text. text.items ≡ line_text line (Answer.RefusedSource name.now refusal.now)) }
+{
+    refused_text(alloc, name, ".c", refusal, line)
 }
 
 /// Puts behind a text what the preprocessor finds wrong.
@@ -378,6 +403,9 @@ pub fn line_of(alloc: Global, answer: &Answer, line: Option<usize>) -> Result<Li
 {
     match answer {
         Answer::Refused(name, refusal) => Ok(Line::Made(refused_line(alloc, name, refusal, line)?)),
+        Answer::RefusedSource(name, refusal) => {
+            Ok(Line::Made(refused_source_line(alloc, name, refusal, line)?))
+        }
         Answer::Cpp(fault) => Ok(Line::Made(cpp_line(alloc, fault)?)),
         Answer::LinkRefused(fault) => Ok(Line::Made(link_refused_line(alloc, fault)?)),
         Answer::Halted(halt, at) => Ok(Line::Made(halted_line(alloc, *halt, *at)?)),

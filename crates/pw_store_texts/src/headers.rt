@@ -3,7 +3,7 @@
 ghost use Rattle.std.specs.Prelude.{◌≡◌, ◌++◌, IfOk, IfSome, OnOk, option_to_list, string_bytes};
 ghost use Rattle.pw_io.specs.Faults.{HasStoreCause};
 ghost use Rattle.pw_io.specs.Files.{Keeps};
-ghost use Rattle.pw_commands_cpp.specs.Headers.{header_in, headers_of};
+ghost use Rattle.pw_store_texts.specs.Headers.{header_in, headers_of};
 ghost use Rattle.pw_cpp.specs.Answers.{texts_of};
 
 use pw_cpp::is_header;
