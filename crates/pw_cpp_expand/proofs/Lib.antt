@@ -7,3 +7,4 @@ pub mod Turning
 pub mod Limits
 pub mod Whole
 pub mod Results
+pub mod ReadCalls

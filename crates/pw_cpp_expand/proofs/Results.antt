@@ -150,6 +150,17 @@ module _ (source : List ℕ) (known : Known) (name : List ℕ) where
   argument-later arguments i argument l e differs h =
       sym (argument_at arguments i argument l e ∙ ap (λ b. if b then Some (all_named known argument.tokens) else argument_of (map (argument_named source known) (drop (i + 1) arguments)) name) differs) ∙ h
 
+  pub argument-none : (arguments : List Argument) (i : ℕ) → length arguments ≤ i → argument_of (map (argument_named source known) (drop i arguments)) name ≡ argument_of (map (argument_named source known) arguments) name
+      → None ≡ argument_of (map (argument_named source known) arguments) name
+  argument-none arguments i l h = sym (at_drop_all (λ x. argument_of (map (argument_named source known) x) name) arguments i l) ∙ h
+
+-- the argument for a token, which is a word or none
+pub word-argument : (source : List ℕ) (arguments : List Named) (token : Token) → is_word token ≡ true → argument_of arguments (spelling source token) ≡ argument_for source arguments token
+word-argument source arguments token e = sym (ap (λ b. if b then argument_of arguments (spelling source token) else None) e)
+
+pub no-argument : (source : List ℕ) (arguments : List Named) (token : Token) → is_word token ≡ false → None ≡ argument_for source arguments token
+no-argument source arguments token e = sym (ap (λ b. if b then argument_of arguments (spelling source token) else None) e)
+
 -- ---- tokens that are made
 
 pub keeps-self : (known : Known) → Keeps known known

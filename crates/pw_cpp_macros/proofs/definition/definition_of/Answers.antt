@@ -12,4 +12,4 @@ pub returns : goal.returns
 returns c =
     plain-answer c.args.text.now c.args.tokens.now _ _ c.in-len1-up.len_at_least (sym c.is_word.ensures ∙ c.if-not-is_word.false) _ (behind-first c.args.tokens.now)
     c.in-len1-up-rest.len_at_least c.opens_parameters.result c.opens_parameters.ensures c.if-opens_parameters.false
-    c.with_replacement.result c.with_replacement.ensures
+    c.with_replacement-2.result c.with_replacement-2.ensures
