@@ -1,11 +1,15 @@
 -- The arguments of a call, as they are cut.
-use Rattle.std.proofs.Common.{◌≡◌, ℕ, List, [], ◌∷◌, ◌++◌, map, refl, sym, ap, ◌∙◌, subst}
+use Rattle.std.proofs.Common.{◌≡◌, ℕ, ◌+◌, ◌-◌, ◌<◌, ◌≤◌, ◌==◌, Bool, true, false, List, [], ◌∷◌, ◌++◌, length, map, refl, sym, ap, ◌∙◌, subst, All, arith}
+use Rattle.std.proofs.lemmas.List.Elements.{All-nil, All-push}
+use Rattle.std.specs.Prelude.{if◌then◌else◌}
 use Rattle.std.proofs.lemmas.List.{map-append}
 use Rattle.pw_cpp_expand.specs.Calls.{Called, Closed, Collects, CollectsCut, cut_of, ends, lengthened, looks, next, part_of, token, within}
 use Rattle.pw_cpp_expand.specs.declared.arguments.Cut.{Cut}
 use Rattle.pw_cpp_expand.specs.declared.arguments.Cut.TheVariants as cut
 use Rattle.pw_cpp_expand.specs.Lookahead.{At, Lexeme, LooksAhead}
-use Rattle.pw_cpp_expand.specs.Numbered.{HaveEmpty, all_named, at_hand, named}
+use Rattle.pw_cpp_expand.specs.Numbered.{AreKnown, HaveEmpty, IsPut, all_named, at_hand, named}
+use Rattle.pw_cpp_expand.specs.declared.arguments.Part.{Part}
+use Rattle.pw_cpp_expand.specs.declared.arguments.Part.TheVariants as part
 use Rattle.pw_cpp_expand.specs.declared.progress.Lexeme.{Lexeme as Numbered}
 use Rattle.pw_cpp_expand.specs.declared.progress.Mode.{Mode}
 use Rattle.pw_cpp_expand.specs.declared.progress.Progress.{Progress}
@@ -65,3 +69,57 @@ module _ (source text : List ℕ) (mode : Mode) (start : List Numbered) (s : Pro
   leads-end is known empty =
       by_cut cut.Ends is known empty (Closed (so_far known whole last) (named known mark) (at_hand known left) q)
       (ends (so_far known whole last) (named known mark) (at_hand known left) q)
+
+  -- what a token that does not end the call leads to
+  pub leads-put : (what : Cut) → ((known : Known) → what ≡ cut_of (part_of source (named known mark)) depth) → (what ≡ cut.Ends → ⊥) → (whole' : List (List Numbered)) (last' : List Numbered) (inner : ℕ)
+      → IsPut what mark whole last whole' last' inner → LeadsTo source text mode start s inner whole' last' left q
+  leads-put (cut.Within m) is no_end whole' last' inner put =
+      let P : List (List Numbered) → Type 0 = λ x. LeadsTo source text mode start s m x (last ++ mark ∷ []) left q in
+      let Q : List Numbered → Type 0 = λ x. LeadsTo source text mode start s within whole' x left q in
+      let R : ℕ → Type 0 = λ x. LeadsTo source text mode start s x whole' last' left q in
+      subst R (sym put.2) (subst Q (sym put.1) (subst P (sym put.0) (leads-within m is)))
+  leads-put cut.Next is no_end whole' last' inner put =
+      let P : List (List Numbered) → Type 0 = λ x. LeadsTo source text mode start s 0 x [] left q in
+      let Q : List Numbered → Type 0 = λ x. LeadsTo source text mode start s 0 whole' x left q in
+      let R : ℕ → Type 0 = λ x. LeadsTo source text mode start s x whole' last' left q in
+      subst R (sym put.2) (subst Q (sym put.1) (subst P (sym put.0) (leads-next is)))
+  leads-put cut.Ends is no_end whole' last' inner put = absurd (no_end refl)
+
+-- inner parentheses open one by one
+pub put-depth : (what : Cut) (kind : Part) (depth : ℕ) (mark : Numbered) (whole whole' : List (List Numbered)) (last last' : List Numbered) (inner : ℕ) → what ≡ cut_of kind depth → (what ≡ cut.Ends → ⊥)
+    → IsPut what mark whole last whole' last' inner → inner ≤ depth + 1
+put-depth (cut.Within m) kind depth mark whole whole' last last' inner is no_end put = omega (arith, put.2, of_kind kind is)
+  where
+    same : (a b : ℕ) → cut.Within a ≡ cut.Within b → a ≡ b
+    same a b e = cc
+
+    not_next : cut.Within m ≡ cut.Next → ⊥
+    not_next e = cc
+
+    not_end : cut.Within m ≡ cut.Ends → ⊥
+    not_end e = cc
+
+    by_zero : (b : Bool) → (other : Cut) → (cut.Within m ≡ other → ⊥) → (n : ℕ) → n ≤ depth + 1 → cut.Within m ≡ (if b then other else cut.Within n) → m ≤ depth + 1
+    by_zero true other apart n l e = absurd (apart e)
+    by_zero false other apart n l e = omega (arith, same m n e, l)
+
+    of_kind : (kind : Part) → cut.Within m ≡ cut_of kind depth → m ≤ depth + 1
+    of_kind part.Opens e = omega (arith, same m (depth + 1) e)
+    of_kind part.Closes e = by_zero (depth == 0) cut.Ends not_end (depth - 1) (omega arith) e
+    of_kind part.Parts e = by_zero (depth == 0) cut.Next not_next depth (omega arith) e
+    of_kind part.GoesOn e = omega (arith, same m depth e)
+put-depth cut.Next kind depth mark whole whole' last last' inner is no_end put = omega (arith, put.2)
+put-depth cut.Ends kind depth mark whole whole' last last' inner is no_end put = absurd (no_end refl)
+
+-- and the sets of all are known
+pub put-known : (known : Known) (what : Cut) (mark : Numbered) (whole whole' : List (List Numbered)) (last last' : List Numbered) (inner : ℕ) → (what ≡ cut.Ends → ⊥) → IsPut what mark whole last whole' last' inner
+    → mark.hidden < length known → AreKnown known last → All (AreKnown known) whole → AreKnown known last' × All (AreKnown known) whole'
+put-known known (cut.Within m) mark whole whole' last last' inner no_end put m h w =
+    let P : List Numbered → Type 0 = λ x. AreKnown known x in
+    let Q : List (List Numbered) → Type 0 = λ x. All (AreKnown known) x in
+    (subst P (sym put.1) (All-push (λ (l : Numbered). l.hidden < length known) last mark h m), subst Q (sym put.0) w)
+put-known known cut.Next mark whole whole' last last' inner no_end put m h w =
+    let P : List Numbered → Type 0 = λ x. AreKnown known x in
+    let Q : List (List Numbered) → Type 0 = λ x. All (AreKnown known) x in
+    (subst P (sym put.1) (All-nil (λ (l : Numbered). l.hidden < length known)), subst Q (sym put.0) (All-push (AreKnown known) whole last w h))
+put-known known cut.Ends mark whole whole' last last' inner no_end put m h w = absurd (no_end refl)

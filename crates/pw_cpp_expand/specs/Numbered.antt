@@ -4,6 +4,8 @@ use Rattle.pw_token.specs.declared.token.Token.{Token}
 use Rattle.pw_cpp_expand.specs.Calls.{Called, Closed, Open, Fails, Collects}
 use Rattle.pw_cpp_expand.specs.Lookahead.{At, Faulty, Further, Nothing, Tokens, Fault, Lexeme, LooksAhead, ReadsOn}
 use Rattle.pw_cpp_expand.specs.declared.arguments.Arguments.{Arguments}
+use Rattle.pw_cpp_expand.specs.declared.arguments.Cut.{Cut}
+use Rattle.pw_cpp_expand.specs.declared.arguments.Cut.TheVariants as cut
 use Rattle.pw_cpp_expand.specs.declared.progress.ExpandFault.{ExpandFault}
 use Rattle.pw_cpp_expand.specs.declared.progress.ExpandFault.TheVariants.{NoMemory}
 use Rattle.pw_cpp_expand.specs.declared.progress.Lexeme.{Lexeme as Numbered}
@@ -59,6 +61,12 @@ IsMade known new made tokens = Keeps known new × AreKnown new made × (all_name
 -- and these behind others
 abbrev pub IsAdded : Known → List Numbered → Known → List Numbered → List Lexeme → Type 0
 IsAdded known before new made tokens = IsMade known new made (all_named known before ++ tokens)
+
+-- what a token did to the arguments, of which the last one is not whole, and how many inner parentheses are open behind it
+abbrev pub IsPut : Cut → Numbered → List (List Numbered) → List Numbered → List (List Numbered) → List Numbered → ℕ → Type 0
+IsPut (cut.Within inner) l whole last whole' last' depth = (whole' ≡ whole) × (last' ≡ last ++ l ∷ []) × (depth ≡ inner)
+IsPut cut.Next l whole last whole' last' depth = (whole' ≡ whole ++ last ∷ []) × (last' ≡ []) × (depth ≡ 0)
+IsPut cut.Ends l whole last whole' last' depth = Unit {0}
 
 -- ---- answers of calls
 

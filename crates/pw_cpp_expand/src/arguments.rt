@@ -1,8 +1,8 @@
 //! The arguments of a call.
 
-ghost use Rattle.std.specs.Prelude.{◌≡◌, ◌≤◌, ◌<◌, ◌++◌, ◌∷◌, [], length, IfOk, IfSome};
+ghost use Rattle.std.specs.Prelude.{◌≡◌, ◌↔◌, ◌≤◌, ◌<◌, ◌++◌, ◌∷◌, [], length, IfOk, IfSome, IsTrue};
 ghost use Rattle.pw_cpp_expand.specs.Calls as spec;
-ghost use Rattle.pw_cpp_expand.specs.Numbered.{AnswersCall, AreArgumentsKnown, AreKnown, named};
+ghost use Rattle.pw_cpp_expand.specs.Numbered.{AnswersCall, AreArgumentsKnown, AreKnown, IsPut, named};
 ghost use Rattle.pw_cpp_sets.specs.Sets.{Known};
 
 use crate::ahead::look_ahead;
@@ -64,6 +64,38 @@ fn cut_of(part: Part, depth: u64) -> Cut
     }
 }
 
+/// Whether a token closes the call.
+fn is_end(cut: Cut) -> bool
+    ensures { IsTrue result ↔ (cut ≡ Cut.Ends) }
+{
+    matches!(cut, Cut::Ends)
+}
+
+/// Does with a token what it does to the arguments, of which the last one is not whole, and answers how many inner parentheses are open
+/// behind it.
+fn put(
+    alloc: Global,
+    cut: Cut,
+    lexeme: Lexeme,
+    whole: &mut Items<Items<Lexeme>>,
+    last: &mut Items<Lexeme>,
+) -> Result<u64, AllocError>
+    ensures { IfOk result (λ depth. IsPut cut lexeme whole.old last.old whole.new last.new depth) }
+{
+    match cut {
+        Cut::Within(inner) => {
+            last.push(lexeme)?;
+            Ok(inner)
+        }
+        Cut::Next => {
+            let argument = std::mem::replace(last, Items::new(alloc));
+            whole.push(argument)?;
+            Ok(0)
+        }
+        Cut::Ends => Ok(0),
+    }
+}
+
 /// The arguments of a call from behind its `(` on, or None where the text ends before its `)`. So many tokens that 64 bits do not count
 /// them are want of memory.
 pub fn collect(
@@ -88,17 +120,12 @@ pub fn collect(
         let Some(lexeme) = pending.pop() else {
             return Ok(None);
         };
-        match cut_of(part_of(source, lexeme), depth) {
-            Cut::Within(inner) => {
-                depth = inner;
-                last.push(lexeme)?;
-            }
-            Cut::Next => {
-                whole.push(last)?;
-                last = Items::new(alloc);
-            }
-            Cut::Ends => return Ok(Some(closed(whole, last, lexeme)?)),
+        let cut = cut_of(part_of(source, lexeme), depth);
+        if is_end(cut) {
+            let arguments = closed(whole, last, lexeme)?;
+            return Ok(Some(arguments));
         }
+        depth = put(alloc, cut, lexeme, &mut whole, &mut last)?;
     }
     Err(ExpandFault::NoMemory)
 }
