@@ -1,6 +1,8 @@
 -- What the calls of the preprocessor answer.
-use Rattle.std.specs.Prelude.{◌≡◌, ℕ, ◌≤◌, Bool, not, if◌then◌else◌, ◌&&◌, ◌||◌, nat_le, bytes_eq, All, ◌+◌, reverse, map, length, codes, ◌⊎◌, List, [], ◌∷◌, ◌++◌, Option, Some, None, Result, Ok, Err}
+use Rattle.std.specs.Prelude.{◌≡◌, ℕ, ◌≤◌, Bool, true, false, not, take, drop, if◌then◌else◌, ◌&&◌, ◌||◌, nat_le, bytes_eq, All, ◌+◌, reverse, map, length, codes, ◌⊎◌, List, [], ◌∷◌, ◌++◌, Option, Some, None, Result, Ok, Err}
 use Rattle.std.specs.Vec.{Vec}
+use Rattle.std.specs.List.{flat_map}
+use Rattle.pw_token.specs.Roles.{spelling}
 use Rattle.pw_token.specs.declared.token.Token.{Token}
 use Rattle.pw_token.specs.declared.token.TokenKind.TheVariants as token
 use Rattle.pw_cpp.specs.Conditions.{Judges, Verdict, Holds, Faulty, items_of}
@@ -170,6 +172,11 @@ use_by reader name =
     else (if is_reading (reverse reader.standing.sections) && bytes_eq name (codes "include") then Include
     else (if is_reading (reverse reader.standing.sections) || (nat_le (length reader.standing.nested) 0 && is_turn name) then Whole else Passed))
 
+-- the first, if there is one, is so
+abbrev pub HeadIs : {A : Type 0} → (A → Type 0) → List A → Type 0
+HeadIs Is [] = Unit {0}
+HeadIs Is (first ∷ others) = Is first
+
 -- from each to the next no less
 abbrev pub AreAscending : List ℕ → Type 0
 AreAscending [] = Unit {0}
@@ -180,6 +187,22 @@ AreAscending (x ∷ y ∷ more) = (x ≤ y) × AreAscending (y ∷ more)
 abbrev pub IsInRows : List ℕ → List Numbered → Type 0
 IsInRows [] out = ⊥
 IsInRows (first ∷ rows) out = AreAscending (first ∷ rows) × AreAscending (map (λ l. l.place) out) × All (λ l. first ≤ l.place) out
+
+-- a place is that of the next row or behind it, if there is one
+abbrev pub is_reached : Option ℕ → ℕ → Bool
+is_reached (Some next) place = nat_le next place
+is_reached None place = false
+
+-- the bytes of some tokens, each with a space behind it
+abbrev pub spelled_tokens : List ℕ → List Numbered → List ℕ
+spelled_tokens source out = flat_map (λ l. spelling source l.token ++ 32 ∷ []) out
+
+-- of some tokens so many, the first that none of them reaches, were put out as a row
+pub record IsRowPut (source : List ℕ) (next : Option ℕ) (out : List Numbered) (before : List ℕ) (count : ℕ) (after : List ℕ) : Type 0 where
+  pub within : count ≤ length out
+  pub before_next : All (λ l. is_reached next l.place ≡ false) (take count out)
+  pub reaches : HeadIs (λ l. is_reached next l.place ≡ true) (drop count out)
+  pub put : after ≡ before ++ (spelled_tokens source (take count out) ++ 10 ∷ [])
 
 -- a fault with its file's name and its line
 abbrev pub IsPlacedFault : List ℕ → List (List ℕ × Vec ℕ) → List Place → Fault → CppFault → Type 0

@@ -1,7 +1,7 @@
 //! Files, line by line.
 
 ghost use Rattle.std.specs.Prelude.{◌≡◌, ◌≤◌, ◌<◌, ◌+◌, ◌++◌, ℕ, true, false, length, reverse, nat_le, position, slice_get, bytes_eq, Some, IfOk, IsTrue, ◌↔◌};
-ghost use Rattle.pw_cpp.specs.Answers.{AnswersCpp, AnswersReading, AnswersStep, DoesInclude, DoesLine, DoesPassed, DoesText, DoesWhole, IsInRows, IsLexed, IsPlacedFault, IsRead, IsThere, IsWithin, Keeps, ReadsWhole, digits_of, files_of, names_of, reads_of, source_of, spans_of, texts_of, use_by};
+ghost use Rattle.pw_cpp.specs.Answers.{AnswersCpp, AnswersReading, AnswersStep, DoesInclude, DoesLine, DoesPassed, DoesText, DoesWhole, IsInRows, IsLexed, IsPlacedFault, IsRead, IsRowPut, IsThere, IsWithin, Keeps, ReadsWhole, digits_of, files_of, is_reached, names_of, reads_of, source_of, spans_of, texts_of, use_by};
 ghost use Rattle.pw_cpp.specs.Directives.{fault};
 ghost use Rattle.pw_cpp.specs.Files.{File, Include, Passed, Whole, name_of, output_of, rows_of};
 ghost use Rattle.pw_cpp.specs.Groups.{is_reading};
@@ -244,26 +244,36 @@ impl<'a> Reader<'a> {
         }
     }
 
-    /// Puts out rows: each token in the row in which its place lies, with a space behind it, and a newline behind each row.
+    /// Puts out a row: of some tokens those before the next row's place, each with a space behind it, and a newline. Answers how many
+    /// they are.
+    fn put_row(&mut self, next: Option<usize>, out: &[Lexeme]) -> Result<usize, AllocError>
+        ensures keeps { Keeps self.old self.new }
+        ensures standing { self.new.standing ≡ self.old.standing }
+        ensures put { IfOk result (λ count. IsRowPut self.old.source.now next out.now self.old.out.items count self.new.out.items) }
+    {
+        let mut count = 0;
+        for lexeme in out {
+            if is_reached(next, lexeme.place) {
+                break;
+            }
+            self.out.extend_from_slice(spelled(self.source, lexeme.token))?;
+            self.out.push(b' ')?;
+            count += 1;
+        }
+        self.out.push(b'\n')?;
+        Ok(count)
+    }
+
+    /// Puts out rows: each token in the row in which its place lies. The tokens stand in the order of their places.
     fn put_rows(&mut self, rows: &[usize], out: &[Lexeme]) -> Result<(), AllocError>
         ensures keeps { Keeps self.old self.new }
         ensures standing { self.new.standing ≡ self.old.standing }
         ensures put { (known : Known) → IsInRows rows.now out.now → IfOk result (λ _. self.new.out.items ≡ self.old.out.items ++ output_of self.old.source.now (rows_of rows.now (all_named known out.now))) }
     {
-        let mut left = rows;
-        for lexeme in out {
-            while let [_, next, ..] = left {
-                if lexeme.place < *next {
-                    break;
-                }
-                self.out.push(b'\n')?;
-                left = &left[1..];
-            }
-            self.out.extend_from_slice(spelled(self.source, lexeme.token))?;
-            self.out.push(b' ')?;
-        }
-        for _ in left {
-            self.out.push(b'\n')?;
+        let mut left = out;
+        for i in 0..rows.len() {
+            let count = self.put_row(rows.get(i + 1).copied(), left)?;
+            left = &left[count..];
         }
         Ok(())
     }
@@ -332,6 +342,16 @@ impl<'a> Reader<'a> {
         }
         self.read_file(index, depth + 1)?;
         Ok(line.next)
+    }
+}
+
+/// Whether a place is that of the next row or behind it, if there is one.
+fn is_reached(next: Option<usize>, place: usize) -> bool
+    ensures { result ≡ is_reached next place }
+{
+    match next {
+        Some(next) => next <= place,
+        None => false,
     }
 }
 
