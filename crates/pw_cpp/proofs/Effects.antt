@@ -17,6 +17,7 @@ use Rattle.pw_cpp_macros.specs.Macros.{Macros}
 use Rattle.pw_cpp_macros.specs.declared.definition.DefineFault.{DefineFault}
 use Rattle.pw_cpp_macros.specs.declared.definition.Definition.{Definition}
 use Rattle.pw_cpp_macros.specs.declared.table.MacroFault.{MacroFault}
+use Rattle.pw_cpp_macros.specs.declared.table.MacroFault.TheVariants as no
 
 -- an effect that is this one
 abbrev Is : Effect → Effect → Type 0
@@ -38,6 +39,17 @@ module _ (source : List ℕ) (s : Standing) (hash : ℕ) (found : Result Definit
   pub macro-defined : (definition : Definition) (old new : Macros) → found ≡ Ok definition → old ≡ s.macros → table.Defines source definition old new (Ok tt)
       → Becomes (standing new s.sections s.produced) ≡ with_definition source s hash found
   macro-defined definition old new e same d = sym (ap (with_definition source s hash) e ∙ ap (with_macros s hash) (ap (λ m. table.defined source m definition) (sym same) ∙ d))
+
+-- a macro that is not added
+pub macro-failed : (s : Standing) (place : ℕ) (found : Result Macros MacroFault) (f : MacroFault) → (f ≡ no.NoMemory) ⊎ (found ≡ Err f)
+    → IsFaultOf (fault (kind_of_macro f) place) (λ x. Fails x ≡ with_macros s place found)
+macro-failed s place found f (inl e) = inl (ap kind_of_macro e)
+macro-failed s place found f (inr e) = inr (sym (ap (with_macros s place) e))
+
+-- a name that a directive has not
+pub no-name : (named : Option (List ℕ) → Effect) (hash : ℕ) (name : Option (List ℕ)) (f : Fault) → name ≡ None → f ≡ fault kind.Directive hash → named None ≡ Fails (fault kind.Directive hash)
+    → IsFaultOf f (λ x. Fails x ≡ named name)
+no-name named hash name f none is fails = inr (ap Fails is ∙ sym fails ∙ ap named (sym none))
 
 -- ---- sections
 

@@ -1,13 +1,14 @@
 //! Directives that are read.
 
-ghost use Rattle.std.specs.Prelude.{◌≡◌, ◌≤◌, ◌<◌, ◌+◌, ◌++◌, ◌∷◌, [], None, Some, option_map, reverse, IfOk, IfErr, MatchResult};
-ghost use Rattle.pw_cpp.specs.Answers.{AnswersEffect, IsBeside, IsDoneBy, IsJudgedBy, standing_of};
+ghost use Rattle.std.specs.Prelude.{◌≡◌, ◌≤◌, ◌<◌, ◌+◌, ◌++◌, ◌∷◌, [], None, Ok, Some, if◌then◌else◌, is_some, not, option_map, reverse, IfOk, IfErr, MatchResult};
+ghost use Rattle.pw_cpp.specs.Answers.{AnswersEffect, IsBeside, IsDoneBy, IsFaultOf, IsJudgedBy, standing_of};
 ghost use Rattle.pw_cpp.specs.Conditions.{Judges};
 ghost use Rattle.pw_cpp.specs.Directives as spec;
 ghost use Rattle.pw_cpp.specs.Directives.{TurnsElif};
 ghost use Rattle.pw_cpp_expand.specs.Expansion.{produced_limit};
 ghost use Rattle.pw_cpp_expand.specs.Numbered.{HaveEmpty};
 ghost use Rattle.pw_cpp_macros.specs.Definitions.{definition_of};
+ghost use Rattle.pw_cpp_macros.specs.Macros.{defined, find};
 ghost use Rattle.pw_cpp_sets.specs.Sets.{Keeps};
 
 use crate::condition::{Verdict, judge};
@@ -16,7 +17,7 @@ use crate::groups::{Section, opened, with_elif, with_else};
 use crate::source::Digits;
 use pw_cpp_expand::{ExpandFault, OUTPUT_LIMIT, PRODUCED_LIMIT, Progress};
 use pw_cpp_macros::{
-    DefineFault, MACRO_LIMIT, MacroFault, Macros, PARAMETER_LIMIT, definition_of, is_word, spelled,
+    DefineFault, Definition, MACRO_LIMIT, MacroFault, Macros, PARAMETER_LIMIT, definition_of, is_word, spelled,
 };
 use pw_cpp_sets::Sets;
 use pw_items::Items;
@@ -132,13 +133,18 @@ pub struct Directive<'t> {
     pub hash: usize,
 }
 
+#[tactic(auto, using(crate::proofs::Names::one_name_other, crate::proofs::Names::one_name_word, crate::proofs::Names::one_name_none))]
 fn one_name<'a>(source: &'a [u8], tokens: &[Token]) -> Option<&'a [u8]>
     ensures { option_map (λ name. name.now) result ≡ spec.one_name source.now tokens.now }
 {
-    match tokens {
-        [token] if is_word(*token) => Some(spelled(source, *token)),
-        _ => None,
+    if tokens.len() != 1 {
+        return None;
     }
+    let token = tokens[0];
+    if !is_word(token) {
+        return None;
+    }
+    Some(spelled(source, token))
 }
 
 /// The name that `#undef`, `#ifdef` or `#ifndef` has.
@@ -151,19 +157,35 @@ fn name_of<'a>(source: &'a [u8], d: Directive<'_>) -> Result<&'a [u8], Fault>
     }
 }
 
+/// The definition that a `#define` says.
+fn definition(alloc: Global, source: &[u8], d: Directive<'_>) -> Result<Definition, Fault>
+    ensures found { IfOk result (λ found. definition_of source.now d.entry.tokens.now ≡ Ok found) }
+    ensures fault { IfErr result (λ fault. (s : spec.Standing) → IsFaultOf fault (λ f. spec.Fails f ≡ spec.with_definition source.now s d.entry.hash (definition_of source.now d.entry.tokens.now))) }
+{
+    match definition_of(alloc, source, d.tokens) {
+        Ok(found) => Ok(found),
+        Err(fault) => Err(of_definition(fault, d.hash)),
+    }
+}
+
 impl<'a> Standing<'a> {
+    /// Adds the macro of a definition.
+    fn add(&mut self, source: &'a [u8], definition: Definition, place: usize) -> Result<(), Fault>
+        ensures does { IsDoneBy (λ effect. effect ≡ spec.with_macros (standing_of self.old) place (defined source.now self.old.macros definition)) self.new result }
+        ensures beside { IsBeside self.old self.new }
+    {
+        match self.macros.define(source, definition) {
+            Ok(()) => Ok(()),
+            Err(fault) => Err(of_macro(fault, place)),
+        }
+    }
+
     fn define(&mut self, alloc: Global, source: &'a [u8], d: Directive<'_>) -> Result<(), Fault>
         ensures does { IsDoneBy (λ effect. effect ≡ spec.with_definition source.now (standing_of self.old) d.entry.hash (definition_of source.now d.entry.tokens.now)) self.new result }
         ensures beside { IsBeside self.old self.new }
     {
-        let definition = match definition_of(alloc, source, d.tokens) {
-            Ok(definition) => definition,
-            Err(fault) => return Err(of_definition(fault, d.hash)),
-        };
-        match self.macros.define(source, definition) {
-            Ok(()) => Ok(()),
-            Err(fault) => Err(of_macro(fault, d.hash)),
-        }
+        let found = definition(alloc, source, d)?;
+        self.add(source, found, d.hash)
     }
 
     fn undefine(&mut self, source: &'a [u8], d: Directive<'_>) -> Result<(), Fault>
@@ -181,8 +203,18 @@ impl<'a> Standing<'a> {
         ensures beside { IsBeside self.old self.new }
     {
         let name = name_of(source, d)?;
-        let is_macro = self.macros.find(name).is_some();
-        self.open(opened(if wanted { is_macro } else { !is_macro }), d.hash)
+        let holds = self.is_as_wanted(wanted, name);
+        self.open(opened(holds), d.hash)
+    }
+
+    /// Whether a name is a macro's, or whether it is none.
+    fn is_as_wanted(&self, wanted: bool, name: &[u8]) -> bool
+        ensures { result ≡ (if wanted then is_some (find self.now.macros name.now) else not (is_some (find self.now.macros name.now))) }
+    {
+        match self.macros.find(name) {
+            Some(_) => wanted,
+            None => !wanted,
+        }
     }
 
     /// Puts a section within the others.
@@ -299,7 +331,7 @@ impl<'a> Standing<'a> {
     ) -> Result<(), Fault>
         requires limits { self.old.produced ≤ produced_limit }
         requires empty { HaveEmpty self.old.sets }
-        ensures obeys { AnswersEffect source.now digits d self.old self.new result }
+        ensures obeys { AnswersEffect source.now digits d.entry self.old self.new result }
         ensures keeps { IfOk result (λ _. Keeps self.old.sets self.new.sets) }
         ensures limits { IfOk result (λ _. self.new.produced ≤ produced_limit) }
         ensures nested { IfOk result (λ _. self.new.nested ≡ self.old.nested) }
