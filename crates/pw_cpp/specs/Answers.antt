@@ -1,0 +1,268 @@
+-- What the calls of the preprocessor answer.
+use Rattle.std.specs.Prelude.{◌≡◌, ℕ, ◌≤◌, Bool, true, false, not, take, drop, if◌then◌else◌, ◌&&◌, ◌||◌, nat_le, bytes_eq, All, ◌+◌, reverse, map, length, codes, ◌⊎◌, List, [], ◌∷◌, ◌++◌, Option, Some, None, Result, Ok, Err}
+use Rattle.std.specs.Vec.{Vec}
+use Rattle.std.specs.List.{flat_map}
+use Rattle.pw_token.specs.Roles.{spelling}
+use Rattle.pw_token.specs.declared.token.Token.{Token}
+use Rattle.pw_token.specs.declared.token.TokenKind.TheVariants as token
+use Rattle.pw_cpp.specs.Conditions.{Judges, Verdict, Holds, Faulty, items_of}
+use Rattle.pw_cpp.specs.Conditions as condition
+use Rattle.pw_cpp.specs.Directives.{Becomes, DoesWord, Effect, Fails, Standing, fault, fault_of_expansion, standing, word_of}
+use Rattle.pw_cpp.specs.Files.{Faulted, File, GoesOn, Include, Includes, Obeys, Passed, Pragma, Preprocesses, Read, Reading, ReadsFile, ReadsLine, ReadsText, Result_of, Step, Stops, Use, Whole, after_passed, begins, file_named, line_of, name_of, output_of, passing, progress, text_of, with_standing}
+use Rattle.pw_cpp.specs.Groups.{is_reading, is_turn}
+use Rattle.pw_cpp.specs.declared.file.Reader.{Reader}
+use Rattle.pw_cpp.specs.declared.fault.CppFault.{CppFault}
+use Rattle.pw_cpp.specs.declared.source.Place.{Place}
+use Rattle.pw_cpp.specs.declared.condition.Verdict.{Verdict as Judged}
+use Rattle.pw_cpp.specs.declared.condition.Verdict.TheVariants as judged
+use Rattle.pw_cpp.specs.declared.directive.Directive.{Directive}
+use Rattle.pw_cpp.specs.declared.directive.Fault.{Fault}
+use Rattle.pw_cpp.specs.declared.directive.Standing.{Standing as Kept}
+use Rattle.pw_cpp.specs.declared.fault.CppKind.{CppKind}
+use Rattle.pw_cpp.specs.declared.fault.CppKind.TheVariants as kind
+use Rattle.pw_cpp.specs.declared.source.Digits.{Digits}
+use Rattle.pw_cpp_condition.specs.Grammar.{Means}
+use Rattle.pw_cpp_condition.specs.declared.word.Item.{Item}
+use Rattle.pw_cpp_expand.specs.Expansion.{produced_limit}
+use Rattle.pw_cpp_expand.specs.Lookahead.{Further, Lexeme, ReadsOn, output_limit}
+use Rattle.pw_cpp_expand.specs.Numbered.{HaveEmpty, IsFault}
+use Rattle.pw_cpp_expand.specs.declared.progress.ExpandFault.{ExpandFault}
+use Rattle.pw_cpp_expand.specs.declared.progress.Progress.{Progress}
+use Rattle.pw_cpp_expand.specs.declared.progress.Lexeme.{Lexeme as Numbered}
+use Rattle.pw_cpp_lines.specs.Heads.{IsHead, header_name}
+use Rattle.pw_cpp_lines.specs.Lines.{Lexes, PassesSpace}
+use Rattle.pw_cpp_lines.specs.Passing.{PassesLine}
+use Rattle.pw_cpp_lines.specs.declared.head.Head.{Head}
+use Rattle.pw_cpp_lines.specs.declared.head.Span.{Span}
+use Rattle.pw_cpp_lines.specs.declared.line.Line.{Line}
+use Rattle.pw_cpp_lines.specs.declared.line.LineFault.{LineFault}
+use Rattle.pw_cpp_lines.specs.declared.line.LineFault.TheVariants.{Bad}
+use Rattle.pw_cpp_macros.specs.Macros.{Macros}
+use Rattle.pw_cpp_values.specs.Arithmetic.{is_true}
+use Rattle.pw_cpp_values.specs.declared.arithmetic.Number.{Number}
+
+-- ---- conditions
+
+-- tokens that are expanded spell an expression with a value that is true or not; or none, or one without a value
+abbrev pub IsVerdictOf : List ℕ → List Lexeme → Judged → Type 0
+IsVerdictOf source out (judged.Holds holds) =
+    (items : List Item) × (items_of source out ≡ Some items) × (number : Number) × Means items number × (word : ℕ) × (number.word ≡ Some word) × (holds ≡ is_true word)
+IsVerdictOf source out judged.Faulty =
+    (items_of source out ≡ None)
+    ⊎ ((items : List Item) × (items_of source out ≡ Some items) × (((number : Number) → Means items number → ⊥) ⊎ ((number : Number) × Means items number × (number.word ≡ None))))
+
+-- how far a condition has come before it is judged: nothing but tokens produced before
+abbrev pub IsJudging : Progress → Type 0
+IsJudging p = p ≡ record { next = 0; rows = []; produced = p.produced; size = 0 }
+
+abbrev pub AnswersJudgement : List ℕ → Macros → Digits → List Token → ℕ → ℕ → Result Judged ExpandFault → Type 0
+AnswersJudgement source macros digits tokens before after (Ok (judged.Holds holds)) = Judges source macros digits tokens before (Holds holds after)
+AnswersJudgement source macros digits tokens before after (Ok judged.Faulty) = Judges source macros digits tokens before Faulty
+AnswersJudgement source macros digits tokens before after (Err fault) = IsFault fault (λ f. Judges source macros digits tokens before (condition.Stops f))
+
+-- ---- directives
+
+-- what stands, with the innermost section first
+abbrev pub standing_of : Kept → Standing
+standing_of kept = standing kept.macros (reverse kept.sections) kept.produced
+
+-- a fault, unless memory ran out
+abbrev pub IsFaultOf : Fault → (Fault → Type 0) → Type 0
+IsFaultOf f Is = (f.kind ≡ kind.NoMemory) ⊎ Is f
+
+-- what a call made of what stands, and its answer: an effect that the directive has, unless memory ran out
+abbrev pub IsDoneBy : (Effect → Type 0) → Kept → Result (Unit {0}) Fault → Type 0
+IsDoneBy Does new (Ok done) = Does (Becomes (standing_of new))
+IsDoneBy Does new (Err found) = IsFaultOf found (λ f. Does (Fails f))
+
+abbrev pub AnswersEffect : List ℕ → Digits → Directive → Kept → Kept → Result (Unit {0}) Fault → Type 0
+AnswersEffect source digits d old new result = IsDoneBy (DoesWord source digits (standing_of old) d.hash d.tokens.now (word_of d.name.now)) new result
+
+-- what a directive leaves that neither opens sections nor expands tokens
+abbrev pub IsBeside : Kept → Kept → Type 0
+IsBeside old new = (new.sets ≡ old.sets) × (new.nested ≡ old.nested) × (new.produced ≡ old.produced)
+
+-- the fault that a verdict is
+abbrev pub fault_of_verdict : ℕ → Verdict → Option Fault
+fault_of_verdict hash (Holds holds produced) = None
+fault_of_verdict hash Faulty = Some (fault kind.Condition hash)
+fault_of_verdict hash (condition.Stops f) = Some (fault_of_expansion f)
+
+-- whether a condition holds, with the tokens produced so far; or the fault that its verdict is, unless memory ran out
+abbrev pub IsJudgedBy : (Verdict → Type 0) → ℕ → ℕ → Result Bool Fault → Type 0
+IsJudgedBy Is hash produced (Ok holds) = Is (Holds holds produced)
+IsJudgedBy Is hash produced (Err found) = IsFaultOf found (λ f. (verdict : Verdict) × Is verdict × (fault_of_verdict hash verdict ≡ Some f))
+
+-- ---- files
+
+-- where files stand in the source, with their names
+abbrev pub files_of : List (List ℕ) → List Place → List File
+files_of (name ∷ names) (span ∷ spans) = record { name = name; from = span.from; end = span.end } ∷ files_of names spans
+files_of _ _ = []
+
+abbrev pub names_of : List (List ℕ × Vec ℕ) → List (List ℕ)
+names_of files = map (λ file. file.0) files
+
+-- What a reader has come to is how reading stands: the output is the bytes of its rows.
+pub record StandsAs (reader : Reader) (reading : Reading) : Type 0 where
+  pub standing_is : reading.standing_is ≡ standing_of reader.standing
+  pub nested_is : reading.nested ≡ reverse reader.standing.nested
+  pub out_is : output_of reader.source.now reading.out ≡ reader.out.items
+  pub size_is : reading.size ≡ length reader.out.items
+
+-- the places of a file
+abbrev pub IsPlaceOf : File → ℕ → Type 0
+IsPlaceOf file place = (file.from ≤ place) × (place ≤ file.end)
+
+-- what files a reader reads
+abbrev pub reads_of : Reader → List File
+reads_of reader = files_of (names_of reader.files.now) reader.spans.now
+
+-- What a call answers that does a step of a file: where reading goes on, and how it stands there; or a fault, in the file that it names.
+abbrev pub AnswersStep : Reader → Reader → (Reading → Step → Type 0) → Result ℕ Fault → Type 0
+AnswersStep old new Does (Ok next) = (r : Reading) → StandsAs old r → (s : Reading) × StandsAs new s × Does r (GoesOn next s)
+AnswersStep old new Does (Err fault) =
+    IsFaultOf fault (λ f. (inner : File) × (file_named (reads_of old) inner.name ≡ Some inner) × IsPlaceOf inner f.place
+        × ((r : Reading) → StandsAs old r → Does r (Stops inner.name f)))
+
+-- what is done with the line at a place of a file
+abbrev pub DoesLine : List ℕ → List File → Digits → ℕ → File → ℕ → Reading → Step → Type 0
+DoesLine source files digits depth file at r step = (what : Head) × IsHead (text_of source file) at what × ReadsLine source files digits depth file at r what step
+
+abbrev pub DoesText : List ℕ → File → ℕ → Reading → Step → Type 0
+DoesText source file at r step = (further : Further) × ReadsOn (text_of source file) at (progress r at) further × ReadsText source file r further step
+
+abbrev pub DoesWhole : List ℕ → Digits → File → ℕ → Span → Reading → Step → Type 0
+DoesWhole source digits file hash name r step = (found : Result Line LineFault) × Lexes (text_of source file) hash found × Obeys source digits file r hash (name_of source name) found step
+
+abbrev pub DoesPassed : List ℕ → File → ℕ → ℕ → Span → Reading → Step → Type 0
+DoesPassed source file at hash name r step = (next : ℕ) × PassesLine (text_of source file) at next × (step ≡ after_passed file hash next r (passing (name_of source name) r.nested))
+
+abbrev pub DoesInclude : List ℕ → List File → Digits → ℕ → File → ℕ → Span → Reading → Step → Type 0
+DoesInclude source files digits depth file hash name r step =
+    (start : ℕ) × PassesSpace (text_of source file) (name.at + name.len) start
+    × Includes source files digits depth file r hash (name.at + name.len) (header_name (text_of source file) start) step
+
+-- a file that is read to its end
+abbrev pub ReadsWhole : Digits → ℕ → File → Reader → Reader → Result (Unit {0}) Fault → Type 0
+ReadsWhole digits depth file old new (Ok done) =
+    (r : Reading) → StandsAs old r → (s : Reading) × StandsAs new (with_standing s (begins r.standing_is.sections s.standing_is)) × ReadsFile old.source.now (reads_of old) digits depth file r (Read s)
+ReadsWhole digits depth file old new (Err fault) =
+    IsFaultOf fault (λ f. (inner : File) × (file_named (reads_of old) inner.name ≡ Some inner) × IsPlaceOf inner f.place
+        × ((r : Reading) → StandsAs old r → ReadsFile old.source.now (reads_of old) digits depth file r (Faulted inner.name f)))
+
+-- a file that is read, with the source up to its end
+abbrev pub IsRead : Reader → File → List ℕ → Type 0
+IsRead reader file text = (text ≡ text_of reader.source.now file) × (file_named (reads_of reader) file.name ≡ Some file) × (file.end ≡ length text)
+
+-- what reading keeps within its bounds
+abbrev pub IsWithin : Reader → Type 0
+IsWithin reader = (reader.standing.produced ≤ produced_limit) × HaveEmpty reader.standing.sets × (length reader.out.items ≤ output_limit)
+
+-- ---- parts of a line's reading
+
+abbrev pub IsLexed : List ℕ → ℕ → Result Line Fault → Type 0
+IsLexed text at (Ok line) = Lexes text at (Ok line)
+IsLexed text at (Err found) = IsFaultOf found (λ f. (place : ℕ) × Lexes text at (Err (Bad place)) × (f ≡ fault kind.Lex place))
+
+-- what is done with a directive
+abbrev pub use_by : Reader → List ℕ → Use
+use_by reader name =
+    if is_reading (reverse reader.standing.sections) && bytes_eq name (codes "pragma") then Pragma
+    else (if is_reading (reverse reader.standing.sections) && bytes_eq name (codes "include") then Include
+    else (if is_reading (reverse reader.standing.sections) || (nat_le (length reader.standing.nested) 0 && is_turn name) then Whole else Passed))
+
+-- the first, if there is one, is so
+abbrev pub HeadIs : {A : Type 0} → (A → Type 0) → List A → Type 0
+HeadIs Is [] = Unit {0}
+HeadIs Is (first ∷ others) = Is first
+
+-- from each to the next no less
+abbrev pub AreAscending : List ℕ → Type 0
+AreAscending [] = Unit {0}
+AreAscending (x ∷ []) = Unit {0}
+AreAscending (x ∷ y ∷ more) = (x ≤ y) × AreAscending (y ∷ more)
+
+-- tokens stand in the order of their places, none before the first row
+abbrev pub IsInRows : List ℕ → List Numbered → Type 0
+IsInRows [] out = ⊥
+IsInRows (first ∷ rows) out = AreAscending (first ∷ rows) × AreAscending (map (λ l. l.place) out) × All (λ l. first ≤ l.place) out
+
+-- a place is that of the next row or behind it, if there is one
+abbrev pub is_reached : Option ℕ → ℕ → Bool
+is_reached (Some next) place = nat_le next place
+is_reached None place = false
+
+-- the bytes of some tokens, each with a space behind it
+abbrev pub spelled_tokens : List ℕ → List Numbered → List ℕ
+spelled_tokens source out = flat_map (λ l. spelling source l.token ++ 32 ∷ []) out
+
+-- of some tokens so many, the first that none of them reaches, were put out as a row
+pub record IsRowPut (source : List ℕ) (next : Option ℕ) (out : List Numbered) (before : List ℕ) (count : ℕ) (after : List ℕ) : Type 0 where
+  pub within : count ≤ length out
+  pub before_next : All (λ l. is_reached next l.place ≡ false) (take count out)
+  pub reaches : HeadIs (λ l. is_reached next l.place ≡ true) (drop count out)
+  pub put : after ≡ before ++ (spelled_tokens source (take count out) ++ 10 ∷ [])
+
+-- a fault with its file's name and its line
+abbrev pub IsPlacedFault : List ℕ → List (List ℕ × Vec ℕ) → List Place → Fault → CppFault → Type 0
+IsPlacedFault source files spans f found =
+    (inner : File) → file_named (files_of (names_of files) spans) inner.name ≡ Some inner → IsPlaceOf inner f.place
+    → found ≡ record { kind = f.kind; file = inner.name; line = line_of source inner f.place }
+
+-- nothing but how reading stands changes
+abbrev pub Keeps : Reader → Reader → Type 0
+Keeps old new = (new.source.now ≡ old.source.now) × (new.files.now ≡ old.files.now) × (new.spans.now ≡ old.spans.now)
+
+-- ---- the whole
+
+-- the tokens of the digits, which stand before all files
+abbrev pub digit : ℕ → Token
+digit at = record { kind = token.Number; at = at; len = 1 }
+
+abbrev pub digits_of : Digits
+digits_of = record { zero = digit 0; one = digit 2 }
+
+-- files by their names and their bytes
+abbrev pub Texts : Type 0
+Texts = List (List ℕ × List ℕ)
+
+abbrev pub texts_of : List (List ℕ × Vec ℕ) → Texts
+texts_of files = map (λ file. (file.0, file.1.items)) files
+
+-- all files one behind the other, a newline before each, behind what is there
+abbrev pub source_behind : List ℕ → Texts → List ℕ
+source_behind before [] = before
+source_behind before (file ∷ files) = source_behind (before ++ 10 ∷ [] ++ file.1) files
+
+abbrev pub source_of : Texts → List ℕ
+source_of files = source_behind (codes "0 1 ") files
+
+-- and where each stands, behind so many bytes
+abbrev pub spans_behind : ℕ → Texts → List File
+spans_behind before [] = []
+spans_behind before (file ∷ files) =
+    record { name = file.0; from = before + 1; end = before + 1 + length file.1 } ∷ spans_behind (before + 1 + length file.1) files
+
+abbrev pub spans_of : Texts → List File
+spans_of files = spans_behind 4 files
+
+-- What preprocessing a file, which is one of these, comes to: its output, or the kind, the file and the line of its first fault.
+abbrev pub PreprocessesFile : Texts → List ℕ → Result (List ℕ) (CppKind × List ℕ × ℕ) → Type 0
+PreprocessesFile files name answer = Preprocesses (source_of files) (spans_of files) digits_of name answer
+
+-- what reading the files of a source answers: the output; or a fault at a place of the file that it names, unless memory ran out
+abbrev pub AnswersReading : List ℕ → List File → Digits → List ℕ → Result (Vec ℕ) Fault → Type 0
+AnswersReading source files digits name (Ok out) = Preprocesses source files digits name (Ok out.items)
+AnswersReading source files digits name (Err fault) =
+    IsFaultOf fault (λ f. (inner : File) × (file_named files inner.name ≡ Some inner) × IsPlaceOf inner f.place
+        × Preprocesses source files digits name (Err (f.kind, inner.name, line_of source inner f.place)))
+
+-- what preprocessing answers: the output; or the fault with its file and its line, unless memory ran out
+abbrev pub AnswersCpp : Texts → List ℕ → Result (Vec ℕ) CppFault → Type 0
+AnswersCpp files name (Ok out) = PreprocessesFile files name (Ok out.items)
+AnswersCpp files name (Err fault) = (fault.kind ≡ kind.NoMemory) ⊎ PreprocessesFile files name (Err (fault.kind, fault.file, fault.line))
+
+-- a file of this name is there
+abbrev pub IsThere : Texts → List ℕ → Type 0
+IsThere files name = (file : File) × (file_named (spans_of files) name ≡ Some file)

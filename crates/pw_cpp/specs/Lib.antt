@@ -1,0 +1,5 @@
+pub mod Answers
+pub mod Conditions
+pub mod Directives
+pub mod Files
+pub mod Groups

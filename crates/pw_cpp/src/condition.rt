@@ -1,0 +1,178 @@
+//! The conditions of `#if` and `#elif`.
+
+ghost use Rattle.std.specs.Prelude.{◌≡◌, ◌≤◌, ◌<◌, ◌&&◌, All, codes, length, option_map, IfOk, IfSome};
+ghost use Rattle.pw_cpp_macros.specs.Definitions.{is_spelled, is_word};
+ghost use Rattle.pw_cpp.specs.Answers.{AnswersJudgement, IsJudging, IsVerdictOf};
+ghost use Rattle.pw_cpp.specs.Conditions as spec;
+ghost use Rattle.pw_token.specs.Roles.{spelling};
+ghost use Rattle.pw_cpp_expand.specs.AtHand.{IsWithinLimits};
+ghost use Rattle.pw_cpp_expand.specs.Numbered.{HaveEmpty, all_named};
+ghost use Rattle.pw_cpp_sets.specs.Sets.{Keeps, Known};
+
+use crate::source::Digits;
+use pw_cpp_condition::{Item, evaluate, item_of};
+use pw_cpp_expand::{ExpandFault, Lexeme, Progress, expand_alone, fresh};
+use pw_cpp_macros::{Macros, is_spelled, is_word, spelled};
+use pw_cpp_sets::Sets;
+use pw_items::Items;
+use pw_token::Token;
+use std::alloc::{AllocError, Global};
+
+/// What a condition comes to.
+#[derive(Clone, Copy)]
+pub enum Verdict {
+    Holds(bool),
+    /// It is no constant expression, or something in it that is evaluated has no value.
+    Faulty,
+}
+
+/// The digit that says whether a name is a macro's.
+fn truth_token(source: &[u8], macros: &Macros<'_>, digits: Digits, name: Token) -> Token
+    ensures { result ≡ spec.truth_token digits macros.now (spelling source.now name) }
+{
+    match macros.find(spelled(source, name)) {
+        Some(_) => digits.one,
+        None => digits.zero,
+    }
+}
+
+/// The digit in the place of a `defined`.
+fn said(source: &[u8], macros: &Macros<'_>, digits: Digits, place: usize, name: Token) -> Lexeme
+    ensures { result ≡ record { token = spec.truth_token digits macros.now (spelling source.now name); hidden = 0; place = place } }
+{
+    let token = truth_token(source, macros, digits, name);
+    Lexeme {
+        token,
+        hidden: 0,
+        place,
+    }
+}
+
+/// Whether three tokens are a name in parentheses.
+fn is_in_parentheses(source: &[u8], open: Token, name: Token, close: Token) -> bool
+    ensures { result ≡ (is_spelled source.now (codes "(") open && is_word name && is_spelled source.now (codes ")") close) }
+{
+    is_spelled(source, b"(", open) && is_word(name) && is_spelled(source, b")", close)
+}
+
+/// A name in parentheses behind a `defined`, with the count of its tokens.
+fn name_in_parentheses(source: &[u8], open: Token, tokens: &[Token]) -> Option<(Token, usize)>
+    ensures { result ≡ spec.name_in_parentheses source.now open tokens.now }
+{
+    let [name, close, ..] = tokens else {
+        return None;
+    };
+    if is_in_parentheses(source, open, *name, *close) {
+        return Some((*name, 3));
+    }
+    None
+}
+
+/// The name behind a `defined`, with the count of its tokens, or None where it has not the form of one.
+fn defined_name(source: &[u8], tokens: &[Token]) -> Option<(Token, usize)>
+    ensures value { result ≡ spec.defined_name source.now tokens.now }
+    ensures count { IfSome result (λ found. (0 < found.1) × (found.1 ≤ length tokens.now)) }
+{
+    let [first, rest @ ..] = tokens else {
+        return None;
+    };
+    if is_word(*first) {
+        return Some((*first, 1));
+    }
+    name_in_parentheses(source, *first, rest)
+}
+
+/// The tokens with each `defined` taken, or None where one has not its form.
+fn with_defined(
+    alloc: Global,
+    source: &[u8],
+    macros: &Macros<'_>,
+    digits: Digits,
+    tokens: &[Token],
+) -> Result<Option<Items<Lexeme>>, AllocError>
+    ensures taken { IfOk result (λ taken. (known : Known) → HaveEmpty known → option_map (all_named known) taken ≡ spec.with_defined source.now macros.now digits tokens.now) }
+    ensures known { IfOk result (λ taken. IfSome taken (All (λ lexeme. lexeme.hidden ≡ 0))) }
+{
+    let mut taken = Items::new(alloc);
+    let mut left = tokens;
+    while let [token, rest @ ..] = left {
+        if is_spelled(source, b"defined", *token) {
+            let Some((name, count)) = defined_name(source, rest) else {
+                return Ok(None);
+            };
+            taken.push(said(source, macros, digits, token.at, name))?;
+            left = &rest[count..];
+        } else {
+            taken.push(fresh(*token))?;
+            left = rest;
+        }
+    }
+    Ok(Some(taken))
+}
+
+/// The items that tokens are, or None where one of them is none.
+fn items_of(
+    alloc: Global,
+    source: &[u8],
+    tokens: &[Lexeme],
+) -> Result<Option<Items<Item>>, AllocError>
+    ensures { IfOk result (λ items. (known : Known) → items ≡ spec.items_of source.now (all_named known tokens.now)) }
+{
+    let mut items = Items::new(alloc);
+    for lexeme in tokens {
+        let found = item_of(alloc, lexeme.token.kind, spelled(source, lexeme.token))?;
+        let Some(item) = found else {
+            return Ok(None);
+        };
+        items.push(item)?;
+    }
+    Ok(Some(items))
+}
+
+/// What tokens that are expanded come to.
+fn verdict(alloc: Global, source: &[u8], tokens: &[Lexeme]) -> Result<Verdict, AllocError>
+    ensures { IfOk result (λ verdict. (known : Known) → IsVerdictOf source.now (all_named known tokens.now) verdict) }
+{
+    let found = items_of(alloc, source, tokens)?;
+    let Some(items) = found else {
+        return Ok(Verdict::Faulty);
+    };
+    let value = evaluate(alloc, items.as_slice())?;
+    let Some(number) = value else {
+        return Ok(Verdict::Faulty);
+    };
+    let Some(word) = number.word else {
+        return Ok(Verdict::Faulty);
+    };
+    Ok(Verdict::Holds(word != 0))
+}
+
+/// What the condition of a `#if` or `#elif` comes to.
+///
+/// # Errors
+///
+/// What stops the expansion of its macros.
+pub fn judge<'a>(
+    alloc: Global,
+    source: &'a [u8],
+    macros: &Macros<'a>,
+    sets: &mut Sets<'a>,
+    digits: Digits,
+    tokens: &[Token],
+    progress: &mut Progress,
+) -> Result<Verdict, ExpandFault>
+    requires fresh { IsJudging progress.old }
+    requires limits { IsWithinLimits progress.old }
+    requires empty { HaveEmpty sets.old }
+    ensures keeps { IfOk result (λ _. Keeps sets.old sets.new) }
+    ensures limits { IfOk result (λ _. IsWithinLimits progress.new) }
+    ensures judges { AnswersJudgement source.now macros.now digits tokens.now progress.old.produced progress.new.produced result }
+{
+    let found = with_defined(alloc, source, macros, digits, tokens)?;
+    let Some(taken) = found else {
+        return Ok(Verdict::Faulty);
+    };
+    let out = expand_alone(alloc, source, macros, sets, taken, progress)?;
+    let verdict = verdict(alloc, source, out.as_slice())?;
+    Ok(verdict)
+}

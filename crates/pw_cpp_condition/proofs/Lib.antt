@@ -1,0 +1,4 @@
+pub mod Complete
+pub mod Marks
+pub mod Sound
+pub mod Stack

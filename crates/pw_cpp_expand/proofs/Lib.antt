@@ -1,0 +1,10 @@
+pub mod Cutting
+pub mod Kept
+pub mod OneOutcome
+pub mod ReadingOn
+pub mod Steps
+pub mod Turning
+pub mod Limits
+pub mod Whole
+pub mod Results
+pub mod ReadCalls

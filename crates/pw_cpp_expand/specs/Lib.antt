@@ -1,0 +1,5 @@
+pub mod AtHand
+pub mod Calls
+pub mod Expansion
+pub mod Lookahead
+pub mod Numbered

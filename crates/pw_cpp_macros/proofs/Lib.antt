@@ -1,0 +1,3 @@
+pub mod ParameterLaws
+pub mod TableLaws
+pub mod Lawful
