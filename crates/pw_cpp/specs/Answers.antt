@@ -43,13 +43,12 @@ use Rattle.pw_cpp_values.specs.declared.arithmetic.Number.{Number}
 
 -- ---- conditions
 
--- tokens that are expanded spell an expression with a value that is true or not; or none, or one without a value
-abbrev pub IsVerdictOf : List ℕ → List Lexeme → Judged → Type 0
-IsVerdictOf source out (judged.Holds holds) =
-    (items : List Item) × (items_of source out ≡ Some items) × (number : Number) × Means items number × (word : ℕ) × (number.word ≡ Some word) × (holds ≡ is_true word)
-IsVerdictOf source out judged.Faulty =
-    (items_of source out ≡ None)
-    ⊎ ((items : List Item) × (items_of source out ≡ Some items) × (((number : Number) → Means items number → ⊥) ⊎ ((number : Number) × Means items number × (number.word ≡ None))))
+-- items spell an expression with a value that is true or not; or none, or one without a value; or there are none
+abbrev pub IsVerdictOf : Option (List Item) → Judged → Type 0
+IsVerdictOf (Some items) (judged.Holds holds) = (number : Number) × Means items number × (word : ℕ) × (number.word ≡ Some word) × (holds ≡ is_true word)
+IsVerdictOf (Some items) judged.Faulty = ((number : Number) → Means items number → ⊥) ⊎ ((number : Number) × Means items number × (number.word ≡ None))
+IsVerdictOf None (judged.Holds holds) = ⊥
+IsVerdictOf None judged.Faulty = Unit {0}
 
 -- how far a condition has come before it is judged: nothing but tokens produced before
 abbrev pub IsJudging : Progress → Type 0

@@ -35,6 +35,11 @@ abbrev pub defined_name : List ℕ → List Token → Option (Token × ℕ)
 defined_name source [] = None
 defined_name source (name ∷ rest) = if is_word name then Some (name, 1) else name_in_parentheses source name rest
 
+-- what the first of some tokens becomes, with the count of those behind it that it takes; None where it is a `defined` that has neither form
+abbrev pub taken_at : List ℕ → Macros → Digits → Token → List Token → Option (Lexeme × ℕ)
+taken_at source macros digits t rest =
+    if is_spelled source (codes "defined") t then option_map (λ found. (said source macros digits t found.0, found.1)) (defined_name source rest) else Some (fresh t, 0)
+
 -- the tokens with each `defined X` and `defined ( X )` taken; None where a `defined` has neither form
 abbrev pub with_defined : List ℕ → Macros → Digits → List Token → Option (List Lexeme)
 with_defined source macros digits [] = Some []

@@ -1,12 +1,14 @@
 //! The conditions of `#if` and `#elif`.
 
-ghost use Rattle.std.specs.Prelude.{◌≡◌, ◌≤◌, ◌<◌, ◌&&◌, All, codes, length, option_map, IfOk, IfSome};
+ghost use Rattle.std.specs.Prelude.{◌≡◌, ◌≤◌, ◌<◌, ◌&&◌, All, List, Some, codes, length, option_map, IfOk, IfSome};
 ghost use Rattle.pw_cpp_macros.specs.Definitions.{is_spelled, is_word};
 ghost use Rattle.pw_cpp.specs.Answers.{AnswersJudgement, IsJudging, IsVerdictOf};
 ghost use Rattle.pw_cpp.specs.Conditions as spec;
+ghost use Rattle.pw_cpp_condition.specs.Grammar.{AnswersItems, Means};
+ghost use Rattle.pw_cpp_condition.specs.declared.word.Item.{Item};
 ghost use Rattle.pw_token.specs.Roles.{spelling};
 ghost use Rattle.pw_cpp_expand.specs.AtHand.{IsWithinLimits};
-ghost use Rattle.pw_cpp_expand.specs.Numbered.{HaveEmpty, all_named};
+ghost use Rattle.pw_cpp_expand.specs.Numbered.{HaveEmpty, all_named, named};
 ghost use Rattle.pw_cpp_sets.specs.Sets.{Keeps, Known};
 
 use crate::source::Digits;
@@ -14,6 +16,7 @@ use pw_cpp_condition::{Item, evaluate, item_of};
 use pw_cpp_expand::{ExpandFault, Lexeme, Progress, expand_alone, fresh};
 use pw_cpp_macros::{Macros, is_spelled, is_word, spelled};
 use pw_cpp_sets::Sets;
+use pw_cpp_values::Number;
 use pw_items::Items;
 use pw_token::Token;
 use std::alloc::{AllocError, Global};
@@ -82,6 +85,27 @@ fn defined_name(source: &[u8], tokens: &[Token]) -> Option<(Token, usize)>
     name_in_parentheses(source, *first, rest)
 }
 
+/// What the first of some tokens becomes, with the count of those behind it that it takes, or None where it is a `defined` that has not
+/// its form.
+fn taken_at(
+    source: &[u8],
+    macros: &Macros<'_>,
+    digits: Digits,
+    token: Token,
+    rest: &[Token],
+) -> Option<(Lexeme, usize)>
+    ensures value { (known : Known) → HaveEmpty known → option_map (λ found. (named known found.0, found.1)) result ≡ spec.taken_at source.now macros.now digits token rest.now }
+    ensures within { IfSome result (λ found. (found.0.hidden ≡ 0) × (found.1 ≤ length rest.now)) }
+{
+    if !is_spelled(source, b"defined", token) {
+        return Some((fresh(token), 0));
+    }
+    match defined_name(source, rest) {
+        Some((name, count)) => Some((said(source, macros, digits, token.at, name), count)),
+        None => None,
+    }
+}
+
 /// The tokens with each `defined` taken, or None where one has not its form.
 fn with_defined(
     alloc: Global,
@@ -96,16 +120,12 @@ fn with_defined(
     let mut taken = Items::new(alloc);
     let mut left = tokens;
     while let [token, rest @ ..] = left {
-        if is_spelled(source, b"defined", *token) {
-            let Some((name, count)) = defined_name(source, rest) else {
-                return Ok(None);
-            };
-            taken.push(said(source, macros, digits, token.at, name))?;
-            left = &rest[count..];
-        } else {
-            taken.push(fresh(*token))?;
-            left = rest;
-        }
+        let found = taken_at(source, macros, digits, *token, rest);
+        let Some(one) = found else {
+            return Ok(None);
+        };
+        taken.push(one.0)?;
+        left = &rest[one.1..];
     }
     Ok(Some(taken))
 }
@@ -129,22 +149,43 @@ fn items_of(
     Ok(Some(items))
 }
 
+/// What the number of an expression decides.
+fn decided(number: Number) -> Verdict
+    ensures { (items : List Item) → Means items number → IsVerdictOf (Some items) result }
+{
+    match number.word {
+        Some(word) => Verdict::Holds(word != 0),
+        None => Verdict::Faulty,
+    }
+}
+
+/// What an expression decides, or that there is none.
+fn decision(value: Option<Number>) -> Verdict
+    ensures { (items : List Item) → AnswersItems items value → IsVerdictOf (Some items) result }
+{
+    match value {
+        Some(number) => decided(number),
+        None => Verdict::Faulty,
+    }
+}
+
+/// What items come to, if tokens are such.
+fn verdict_of(alloc: Global, items: Option<Items<Item>>) -> Result<Verdict, AllocError>
+    ensures { IfOk result (IsVerdictOf items) }
+{
+    let Some(found) = items else {
+        return Ok(Verdict::Faulty);
+    };
+    let value = evaluate(alloc, found.as_slice())?;
+    Ok(decision(value))
+}
+
 /// What tokens that are expanded come to.
 fn verdict(alloc: Global, source: &[u8], tokens: &[Lexeme]) -> Result<Verdict, AllocError>
-    ensures { IfOk result (λ verdict. (known : Known) → IsVerdictOf source.now (all_named known tokens.now) verdict) }
+    ensures { IfOk result (λ verdict. (known : Known) → IsVerdictOf (spec.items_of source.now (all_named known tokens.now)) verdict) }
 {
-    let found = items_of(alloc, source, tokens)?;
-    let Some(items) = found else {
-        return Ok(Verdict::Faulty);
-    };
-    let value = evaluate(alloc, items.as_slice())?;
-    let Some(number) = value else {
-        return Ok(Verdict::Faulty);
-    };
-    let Some(word) = number.word else {
-        return Ok(Verdict::Faulty);
-    };
-    Ok(Verdict::Holds(word != 0))
+    let items = items_of(alloc, source, tokens)?;
+    verdict_of(alloc, items)
 }
 
 /// What the condition of a `#if` or `#elif` comes to.

@@ -75,7 +75,7 @@ module _ (source text : List ℕ) (mode : Mode) (start : List Numbered) (s : Pro
       → IsPut what mark whole last whole' last' inner → LeadsTo source text mode start s inner whole' last' left q
   leads-put (cut.Within m) is no_end whole' last' inner put =
       let P : List (List Numbered) → Type 0 = λ x. LeadsTo source text mode start s m x (last ++ mark ∷ []) left q in
-      let Q : List Numbered → Type 0 = λ x. LeadsTo source text mode start s within whole' x left q in
+      let Q : List Numbered → Type 0 = λ x. LeadsTo source text mode start s m whole' x left q in
       let R : ℕ → Type 0 = λ x. LeadsTo source text mode start s x whole' last' left q in
       subst R (sym put.2) (subst Q (sym put.1) (subst P (sym put.0) (leads-within m is)))
   leads-put cut.Next is no_end whole' last' inner put =

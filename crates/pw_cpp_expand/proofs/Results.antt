@@ -20,7 +20,7 @@ use Rattle.pw_cpp_expand.specs.declared.expansion.Raw.{Raw}
 use Rattle.pw_cpp_expand.specs.declared.progress.Lexeme.{Lexeme as Numbered}
 use Rattle.pw_cpp_expand.specs.declared.result.Expanded.{Expanded as Argument}
 use Rattle.pw_cpp_expand.specs.declared.result.Joined.{Joined}
-use Rattle.pw_cpp_expand.proofs.Kept.{all-kept, keeps-on, known-on, named-kept}
+use Rattle.pw_cpp_expand.proofs.Kept.{all-kept, arguments-kept, keeps-on, known-on, named-kept}
 use Rattle.pw_cpp_sets.specs.Sets.{Keeps, Known, set_at}
 
 -- ---- arguments of a macro without parameters
@@ -264,6 +264,13 @@ module _ (source : List ℕ) (known : Known) (hidden place : ℕ) (arguments : L
           ap (flat_map (becomes source known hidden place arguments)) (take_more replacement i token l ∙ ap (λ x. take i replacement ++ x ∷ []) (sym is))
           ∙ flat_map-append (becomes source known hidden place arguments) (take i replacement) (token ∷ [])
           ∙ ap (λ x. flat_map (becomes source known hidden place arguments) (take i replacement) ++ x) (append-nil (becomes source known hidden place arguments token))
+
+  -- it becomes the same where sets are added
+  pub becomes-kept : (middle : Known) → hidden < length known → All (λ argument. AreKnown known argument.tokens) arguments → Keeps known middle → (token : Token) (argument : Option (List Lexeme))
+      → argument ≡ argument_for source (map (argument_named source middle) arguments) token → replaced (set_at middle hidden) place token argument ≡ becomes source known hidden place arguments token
+  becomes-kept middle h a k token argument e =
+      ap (λ x. replaced x place token argument) (k.same hidden h)
+      ∙ ap (λ x. replaced (set_at known hidden) place token x) (e ∙ ap (λ x. argument_for source x token) (arguments-kept known middle k source arguments a))
 
   pub made-all : (new : Known) (made : List Numbered) → IsMade known new made (flat_map (becomes source known hidden place arguments) (take (length replacement) replacement))
       → IsMade known new made (result_of source (set_at known hidden) place (map (argument_named source known) arguments) replacement)

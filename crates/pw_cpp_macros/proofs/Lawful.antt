@@ -75,6 +75,7 @@ in_list text (t ∷ mark ∷ rest) names found h e = by (with_parameter text nam
     closed more k true b next e = let P : Parameters → Type 0 = λ x. AreParameters text x.0 in subst P (ok_same (more, rest) found e) k
     closed more k false true next e = next k e
     closed more k false false next e = absurd (err_ok Form found e)
+
     by : (r : Result (List Token) DefineFault) → with_parameter text names t ≡ r
         → and_then r (λ parameters. if is_spelled text (codes ")") mark then Ok (parameters, rest) else (if is_spelled text (codes ",") mark then further_parameters text parameters rest else Err Form)) ≡ Ok found
         → ((more : List Token) → AreParameters text more → further_parameters text more rest ≡ Ok found → AreParameters text found.0) → AreParameters text found.0
@@ -102,6 +103,7 @@ whole_list text (first ∷ rest) found e = by (is_spelled text (codes ")") first
   where
     none : AreParameters text []
     none = (tt, tt, omega arith)
+
     by : (b : Bool) → (if b then okay ([], rest) else further_parameters text [] (first ∷ rest)) ≡ Ok found
         → (further_parameters text [] (first ∷ rest) ≡ Ok found → AreParameters text found.0) → AreParameters text found.0
     by true e next = let P : Parameters → Type 0 = λ x. AreParameters text x.0 in subst P (ok_same ([], rest) found e) none

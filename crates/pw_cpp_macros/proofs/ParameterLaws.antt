@@ -141,9 +141,9 @@ module _ (text : List ℕ) (tokens : List Token) (d f : Token) (some : 1 ≤ len
   -- what the definition is, by its name and what stands behind it
   meaning : (all : List Token) → 1 ≤ length all → is_word (get_or all 0 d) ≡ true
       → definition_of text all
-        ≡ (if opens_parameters text (get_or all 0 d) (drop 1 all)
-          then and_then (parameter_list text (drop 1 (drop 1 all))) (λ list. with_replacement text (get_or all 0 d) (Some list.0) list.1)
-          else with_replacement text (get_or all 0 d) None (drop 1 all))
+      ≡ (if opens_parameters text (get_or all 0 d) (drop 1 all)
+      then and_then (parameter_list text (drop 1 (drop 1 all))) (λ list. with_replacement text (get_or all 0 d) (Some list.0) list.1)
+      else with_replacement text (get_or all 0 d) None (drop 1 all))
   meaning [] l w = absurd (omega (arith, l))
   meaning (name ∷ all) l w = rw w refl
 

@@ -63,9 +63,9 @@ further_parameters text before [] = Err Form
 further_parameters text before (name ∷ []) = and_then (with_parameter text before name) (λ parameters. Err Form)
 further_parameters text before (name ∷ mark ∷ rest) =
     and_then (with_parameter text before name) (λ parameters.
-        if is_spelled text (codes ")") mark then Ok (parameters, rest)
-        else (if is_spelled text (codes ",") mark then further_parameters text parameters rest
-        else Err Form))
+    if is_spelled text (codes ")") mark then Ok (parameters, rest)
+    else (if is_spelled text (codes ",") mark then further_parameters text parameters rest
+    else Err Form))
 
 -- the list of parameters behind its `(`, which may be empty
 abbrev pub parameter_list : List ℕ → List Token → Result Parameters DefineFault
@@ -90,8 +90,8 @@ definition_of text [] = Err Form
 definition_of text (name ∷ rest) =
     if not (is_word name) then Err Form
     else (if opens_parameters text name rest
-      then and_then (parameter_list text (drop 1 rest)) (λ list. with_replacement text name (Some list.0) list.1)
-      else with_replacement text name None rest)
+    then and_then (parameter_list text (drop 1 rest)) (λ list. with_replacement text name (Some list.0) list.1)
+    else with_replacement text name None rest)
 
 -- a call's answer: this one, unless memory ran out
 abbrev pub Answers : {A : Type 0} → Result A DefineFault → Result A DefineFault → Type 0

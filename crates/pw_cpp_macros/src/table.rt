@@ -80,7 +80,11 @@ fn is_alike(text: &[u8], one: &Macro, other: &Macro) -> bool
     ensures { result ≡ spec.is_alike text.now one.now other.now }
 {
     has_parameters_alike(text, &one.parameters, &other.parameters)
-        && is_spelled_alike(text, one.replacement.as_slice(), other.replacement.as_slice())
+        && is_spelled_alike(
+            text,
+            one.replacement.as_slice(),
+            other.replacement.as_slice(),
+        )
 }
 
 impl<'a> Macros<'a> {

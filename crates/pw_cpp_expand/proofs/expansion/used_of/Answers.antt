@@ -1,5 +1,6 @@
 use Rattle.std.proofs.Common.{◌≡◌, ◌+◌, ◌≤◌, ◌<◌, ap, length, sym, ◌∙◌, [], ◌∷◌, length-append, arith, refl, subst, List}
 use Rattle.std.specs.List.{All}
+use Rattle.std.proofs.lemmas.List.{get_or_default}
 use Rattle.std.proofs.lemmas.List.Elements.{All-nil}
 use Rattle.pw_cpp_expand.specs.Numbered.{AreKnown}
 use Rattle.pw_cpp_expand.specs.declared.expansion.Raw.{Raw}
@@ -21,7 +22,8 @@ loop-tokens-preserved c =
       omega (arith, c.loop-tokens.invariant.1),
       λ known.
           used-more known c.args.source.now c.args.parameters.now c.args.replacement.now c.args.arguments c.loop-tokens.arguments c.pop.new.self c.loop-tokens.waiting c.push_used.new.waiting c.in-Some.tokens
-          _ (c.loop-tokens.invariant.2 known) c.in-Some.ensures (omega (arith, one, c.loop-tokens.invariant.0, c.loop-tokens.invariant.1)) ? c.in_ok-push_used.ensures,
+          _ (c.loop-tokens.invariant.2 known) c.in-Some.ensures (omega (arith, one, c.loop-tokens.invariant.0, c.loop-tokens.invariant.1))
+          (get_or_default _ _ _ _ (omega (arith, one, c.loop-tokens.invariant.0, c.loop-tokens.invariant.1))) c.in_ok-push_used.ensures,
       λ known h.
           let before = c.loop-tokens.invariant.3 known h in
           raws-more known c.args.source.now c.args.replacement.now c.loop-tokens.arguments c.pop.new.self c.loop-tokens.waiting c.push_used.new.waiting c.in-Some.tokens _ c.in-Some.ensures c.in_ok-push_used.ensures

@@ -12,7 +12,7 @@ pub returns-in-Some : goal.returns-in-Some
 returns-in-Some c = (
   refl,
   inr (define-differs c.args.text.now c.args.definition c.args.self.now c.self.inside.table.entries c.self.view_is c.spelled-name.result c.spelled-name.ensures c.in-Some.old.now c.in-Some.ensures.value
-    (sym c.is_alike.ensures ∙ c.if-is_alike.false)),
+      (sym c.is_alike.ensures ∙ c.if-is_alike.false)),
 )
 
 pub returns-then-len-ge-MACRO_LIMIT : goal.returns-then-len-ge-MACRO_LIMIT
