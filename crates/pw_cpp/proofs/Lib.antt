@@ -1,4 +1,1 @@
-pub mod Effects
-pub mod Judging
-pub mod Names
 pub mod OneOutput

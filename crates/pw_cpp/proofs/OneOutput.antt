@@ -2,15 +2,15 @@
 use Rattle.std.proofs.Common.{◌≡◌, ℕ, suc, ◌+◌, ◌<◌, ◌≤◌, true, false, List, [], ◌∷◌, map, Option, Some, None, Result, Ok, Err, refl, sym, ap, ◌∙◌, subst, arith}
 use Rattle.std.proofs.lemmas.Bool.{false≢true}
 use Rattle.pw_token.specs.declared.token.Token.{Token}
-use Rattle.pw_cpp.specs.Conditions.{Judges, JudgesItems, JudgesOutcome, JudgesTaken, Verdict, decided, items_of, with_defined}
-use Rattle.pw_cpp.specs.Conditions as condition
-use Rattle.pw_cpp.specs.Directives.{Does, DoesWord, Effect, Standing, TurnsElif, elif_effect, if_effect, word_of}
-use Rattle.pw_cpp.specs.Groups.{Sections}
-use Rattle.pw_cpp.specs.Directives as directive
+use Rattle.pw_cpp_directives.specs.Conditions.{Judges, JudgesItems, JudgesOutcome, JudgesTaken, Verdict, decided, items_of, with_defined}
+use Rattle.pw_cpp_directives.specs.Conditions as condition
+use Rattle.pw_cpp_directives.specs.Directives.{Does, DoesWord, Effect, Standing, TurnsElif, elif_effect, if_effect, word_of}
+use Rattle.pw_cpp_directives.specs.Groups.{Sections}
+use Rattle.pw_cpp_directives.specs.Directives as directive
 use Rattle.pw_cpp.specs.Files.{Continues, File, Includes, IncludesHeader, IncludesQuoted, Obeys, ObeysTokens, Reading, ReadsDirective, ReadsFile, ReadsLine, ReadsLines, ReadsText, Result_of, Step, Use, after_effect, after_header, after_passed, after_text, after_unquoted, header_of, name_of, passing, progress, text_of, use_of}
 use Rattle.pw_cpp.specs.Files as file
-use Rattle.pw_cpp.specs.declared.directive.Word.{Word}
-use Rattle.pw_cpp.specs.declared.source.Digits.{Digits}
+use Rattle.pw_cpp_directives.specs.declared.directive.Word.{Word}
+use Rattle.pw_cpp_directives.specs.declared.condition.Digits.{Digits}
 use Rattle.pw_cpp_condition.specs.Grammar.{Means}
 use Rattle.pw_cpp_condition.specs.declared.word.Item.{Item}
 use Rattle.pw_cpp_expand.specs.Expansion.{Expands, Outcome, Done, Stopped}

@@ -4,13 +4,13 @@ use Rattle.std.specs.List.{list_any, flat_map, starts_with}
 use Rattle.pw_token.specs.Places.{line_at}
 use Rattle.pw_token.specs.Roles.{spelling}
 use Rattle.pw_token.specs.declared.token.Token.{Token}
-use Rattle.pw_cpp.specs.Directives.{DoesWord, Effect, Becomes, Fails, Standing, fault, fault_of_expansion, standing, word_of}
-use Rattle.pw_cpp.specs.Groups.{Nested, Sections, is_opening, is_reading, is_turn, nested_after}
-use Rattle.pw_cpp.specs.declared.directive.Fault.{Fault}
-use Rattle.pw_cpp.specs.declared.fault.CppKind.{CppKind}
-use Rattle.pw_cpp.specs.declared.fault.CppKind.TheVariants as kind
-use Rattle.pw_cpp.specs.declared.fault.CppWhich.TheVariants as which
-use Rattle.pw_cpp.specs.declared.source.Digits.{Digits}
+use Rattle.pw_cpp_directives.specs.Directives.{DoesWord, Effect, Becomes, Fails, Standing, fault, fault_of_expansion, standing, word_of}
+use Rattle.pw_cpp_directives.specs.Groups.{Nested, Sections, is_opening, is_reading, is_turn, nested_after}
+use Rattle.pw_cpp_directives.specs.declared.directive.Fault.{Fault}
+use Rattle.pw_cpp_directives.specs.declared.fault.CppKind.{CppKind}
+use Rattle.pw_cpp_directives.specs.declared.fault.CppKind.TheVariants as kind
+use Rattle.pw_cpp_directives.specs.declared.fault.CppWhich.TheVariants as which
+use Rattle.pw_cpp_directives.specs.declared.condition.Digits.{Digits}
 use Rattle.pw_cpp_expand.specs.Expansion.{Expands, Outcome, Done, Stopped}
 use Rattle.pw_cpp_expand.specs.Lookahead.{Further, Lexeme, ReadsOn, Tokens, Fault as Unread, fresh}
 use Rattle.pw_cpp_expand.specs.declared.progress.Mode.TheVariants.{InText}

@@ -1,5 +1,2 @@
 pub mod Answers
-pub mod Conditions
-pub mod Directives
 pub mod Files
-pub mod Groups

@@ -2,18 +2,19 @@
 
 ghost use Rattle.std.specs.Prelude.{◌≡◌, ◌≤◌, ◌<◌, ◌+◌, ◌++◌, ℕ, true, false, length, reverse, nat_le, position, slice_get, bytes_eq, Some, IfOk, IsTrue, ◌↔◌};
 ghost use Rattle.pw_cpp.specs.Answers.{AnswersCpp, AnswersReading, AnswersStep, DoesInclude, DoesLine, DoesPassed, DoesText, DoesWhole, IsInRows, IsLexed, IsPlacedFault, IsRead, IsRowPut, IsThere, IsWithin, Keeps, ReadsWhole, digits_of, files_of, is_reached, names_of, reads_of, source_of, spans_of, texts_of, use_by};
-ghost use Rattle.pw_cpp.specs.Directives.{fault};
+ghost use Rattle.pw_cpp_directives.specs.Directives.{fault};
 ghost use Rattle.pw_cpp.specs.Files.{File, Include, Passed, Whole, name_of, output_of, rows_of};
-ghost use Rattle.pw_cpp.specs.Groups.{is_reading};
+ghost use Rattle.pw_cpp_directives.specs.Groups.{is_reading};
 ghost use Rattle.pw_cpp_expand.specs.Numbered.{all_named};
 ghost use Rattle.pw_cpp_lines.specs.Heads.{IsHead};
 ghost use Rattle.pw_cpp_sets.specs.Sets.{Known};
 
-use crate::directive::{Directive, Fault, Standing, limit, of_expansion};
-use crate::fault::{CppFault, CppKind, CppWhich};
-use crate::groups::{Section, is_opening, is_turn};
+use crate::fault::CppFault;
 use crate::header::{DEPTH_LIMIT, HEADER_NAME_LIMIT, is_header};
 use crate::source::{Place, Source, digits, source_of};
+use pw_cpp_directives::{
+    CppKind, CppWhich, Directive, Fault, Section, Standing, is_opening, is_turn, limit, of_expansion,
+};
 use pw_cpp_expand::{Lexeme, Progress, expand_text, read_line};
 use pw_cpp_lines::{
     Head, Line, LineFault, Span, head_of, header_name, lex_line, pass_line, pass_rest, pass_space,

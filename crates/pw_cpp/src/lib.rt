@@ -1,14 +1,12 @@
 //! The preprocessor (ISO/IEC 9899:1990, 6.8): from a file and the headers beside it to one text.
 #![tactic(auto)]
 
-mod condition;
-mod directive;
 mod fault;
 mod file;
-mod groups;
 mod header;
 mod source;
 
-pub use fault::{CppFault, CppKind, CppWhich};
+pub use fault::CppFault;
 pub use file::preprocess;
 pub use header::{DEPTH_LIMIT, HEADER_NAME_LIMIT, is_header};
+pub use pw_cpp_directives::{CppKind, CppWhich};

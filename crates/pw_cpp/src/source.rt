@@ -4,16 +4,10 @@ ghost use Rattle.std.specs.Prelude.{◌≡◌, IfOk};
 ghost use Rattle.pw_cpp.specs.Answers as spec;
 ghost use Rattle.pw_cpp.specs.Answers.{digit, digits_of};
 
+use pw_cpp_directives::Digits;
 use pw_token::{Token, TokenKind};
 use pw_value::Name;
 use std::alloc::{AllocError, Global};
-
-/// The tokens that stand for what `defined` says: the digits 0 and 1 before all files.
-#[derive(Clone, Copy)]
-pub struct Digits {
-    pub zero: Token,
-    pub one: Token,
-}
 
 /// Where a file stands in the source.
 #[derive(Clone, Copy)]

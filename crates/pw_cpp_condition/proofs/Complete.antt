@@ -104,8 +104,8 @@ complete n (Between mark op a b) frames rest h s below =
     ∙ complete (level op) a frames (item.Mark mark ∷ (spell b ++ rest)) h.2 (λ k l c d v. s k (omega (arith, l, h.1)) c d v) (below_infix mark op (spell b ++ rest) h.0)
     ∙ at_follow mark (Goes op) (value a) frames (spell b ++ rest) (goes mark op h.0) (s (level op) h.1 range.0 range.1 (value a))
     ∙ complete (level op + 1) b (frame.Between op (value a) ∷ frames) rest h.3
-      (λ k l c d v. reduced-less k v (frame.Between op (value a)) frames (lt-leb k (level op) (omega (arith, l))))
-      (λ k r. omega (arith, below k r, h.1))
+    (λ k l c d v. reduced-less k v (frame.Between op (value a)) frames (lt-leb k (level op) (omega (arith, l))))
+    (λ k r. omega (arith, below k r, h.1))
     ∙ take_in (frame.Between op (value a)) (value b) frames rest (λ k r. le-leb k (level op) (omega (arith, below k r, h.1)))
 complete n (Choice c a b) frames rest h s below =
     ap (run None frames) (append_assoc (spell c) (item.Mark m.Question ∷ (spell a ++ item.Mark m.Colon ∷ spell b)) rest ∙ ap (λ x. spell c ++ item.Mark m.Question ∷ x) (append_assoc (spell a) (item.Mark m.Colon ∷ spell b) rest))
@@ -113,8 +113,8 @@ complete n (Choice c a b) frames rest h s below =
     ∙ at_follow m.Question Asks (value c) frames (spell a ++ item.Mark m.Colon ∷ (spell b ++ rest)) refl (s 1 (omega (arith, h.0)) (omega arith) (omega arith) (value c))
     ∙ complete 0 a (frame.Question (value c) ∷ frames) (item.Mark m.Colon ∷ (spell b ++ rest)) h.2 (λ k l x d v. refl) (below_colon (spell b ++ rest) 0)
     ∙ complete 0 b (frame.Colon (value c) (value a) ∷ frames) rest h.3
-      (λ k l x d v. reduced-less k v (frame.Colon (value c) (value a)) frames (lt-leb k 0 (omega (arith, x))))
-      (λ k r. omega (arith, below k r, h.0))
+    (λ k l x d v. reduced-less k v (frame.Colon (value c) (value a)) frames (lt-leb k 0 (omega (arith, x))))
+    (λ k r. omega (arith, below k r, h.0))
     ∙ take_in (frame.Colon (value c) (value a)) (value b) frames rest (λ k r. le-leb k 0 (omega (arith, below k r, h.0)))
 
 -- what the items mean is what is read

@@ -210,6 +210,7 @@ behind_operand mark Parts items t ws number next r by e = with_left r.left refl
   where
     nothing : (left : List Waiting) → r.left ≡ left → parted (value r.tree) (frames_of left) ≡ None → ⊥
     nothing left l p = none_some (sym (ap (Continues items) (ap (λ x. parted (value r.tree) (frames_of x)) l ∙ p)) ∙ e)
+
     parts : (c : Tree) (ws' : List Waiting) → r.left ≡ InQuestion c ∷ ws' → spell_all (InColon c r.tree ∷ ws') ≡ (spell_all ws ++ spell t) ++ item.Mark mark ∷ []
     parts c ws' l =
         ap (λ x. spell_all ws' ++ x) (sym (append_assoc (spell c) (item.Mark m.Question ∷ []) (spell r.tree ++ item.Mark m.Colon ∷ [])))
@@ -217,6 +218,7 @@ behind_operand mark Parts items t ws number next r by e = with_left r.left refl
         ∙ ap (λ x. spell_all x ++ (spell r.tree ++ item.Mark m.Colon ∷ [])) (sym l)
         ∙ joined t ws 0 r (item.Mark m.Colon)
         ∙ ap (λ x. (spell_all ws ++ spell t) ++ item.Mark x ∷ []) (sym by)
+
     with_left : (left : List Waiting) → r.left ≡ left → Reads (spell_all ws ++ spell t) (item.Mark mark ∷ items) number
     with_left (InQuestion c ∷ ws') l =
         let P : List Waiting → Type 0 = λ x. Formed x in
@@ -233,6 +235,7 @@ behind_operand mark Closes items t ws number next r by e = with_left r.left refl
   where
     nothing : (left : List Waiting) → r.left ≡ left → closed (value r.tree) (frames_of left) ≡ None → ⊥
     nothing left l p = none_some (sym (ap (Continues items) (ap (λ x. closed (value r.tree) (frames_of x)) l ∙ p)) ∙ e)
+
     with_left : (left : List Waiting) → r.left ≡ left → Reads (spell_all ws ++ spell t) (item.Mark mark ∷ items) number
     with_left (InGroup ∷ ws') l =
         let P : List Waiting → Type 0 = λ x. Formed x in

@@ -61,7 +61,11 @@ fn close(operand: Number, inner: Option<Frame>) -> Option<Option<Number>>
     ensures { (frames : List Frame) → (inner ≡ None → frames ≡ []) → option_map (λ last. (last, frames)) result ≡ spec.closed operand (spec.with_inner inner frames) }
 {
     match inner {
-        Some(frame) => if is_group(frame) { Some(Some(operand)) } else { None },
+        Some(frame) => if is_group(frame) {
+            Some(Some(operand))
+        } else {
+            None
+        },
         None => None,
     }
 }

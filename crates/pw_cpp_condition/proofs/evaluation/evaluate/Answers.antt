@@ -1,4 +1,5 @@
-use Rattle.std.proofs.Common.{◌≡◌, List, [], Option, Some, None, Result, Ok, Err, IfOk, AllocError, sym, ◌∙◌}
+use Rattle.std.proofs.Common.{◌≡◌, List, [], Option, Some, None, Result, Ok, Err, IfOk, sym, ◌∙◌}
+use Rattle.std.specs.declared.alloc.AllocError.{AllocError}
 use Rattle.pw_cpp_values.specs.declared.arithmetic.Number.{Number}
 use Rattle.pw_cpp_condition.specs.Grammar.{AnswersItems, Means}
 use Rattle.pw_cpp_condition.specs.Machine.{run}

@@ -1,7 +1,0 @@
-use Rattle.pw_cpp.proofs.Judging.{AreItems}
-use Rattle.pw_cpp.proofs.condition.items_of.Given as goal
-use Rattle.pw_cpp_sets.specs.Sets.{Known}
-
--- so many tokens have their items
-abbrev pub invariant-loop-lexeme : goal.invariant-loop-lexeme
-invariant-loop-lexeme l = (known : Known) → AreItems l.source known l.tokens l.items l.lexeme-index

@@ -1,8 +1,0 @@
-use Rattle.pw_cpp.proofs.Judging.{said-one, said-zero}
-use Rattle.pw_cpp.proofs.condition.truth_token.Goals as goal
-
-pub returns-in-Some : goal.returns-in-Some
-returns-in-Some c = said-one c.args.digits c.args.macros.now _ _ c.in-Some.ensures
-
-pub returns-in-None : goal.returns-in-None
-returns-in-None c = said-zero c.args.digits c.args.macros.now _ c.in-None.ensures

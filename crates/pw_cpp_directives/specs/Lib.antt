@@ -1,0 +1,4 @@
+pub mod Conditions
+pub mod Directives
+pub mod Groups
+pub mod Obeying
