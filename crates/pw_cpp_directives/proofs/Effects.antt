@@ -1,6 +1,7 @@
 -- What directives do, by what their calls answer.
-use Rattle.std.proofs.Common.{◌≡◌, ℕ, ◌≤◌, Bool, true, false, not, if◌then◌else◌, List, [], ◌∷◌, ◌++◌, length, Option, Some, None, IfOk, IfErr, Result, Ok, Err, inl, inr, ◌⊎◌, refl, sym, ap, ◌∙◌, subst, reverse, arith}
-use Rattle.std.proofs.lemmas.List.{reverse-append}
+use Rattle.std.proofs.Common.{◌≡◌, ℕ, ◌≤◌, ◌==◌, Bool, true, false, not, if◌then◌else◌, List, [], ◌∷◌, ◌++◌, length, Option, Some, None, IfOk, IfErr, Result, Ok, Err, inl, inr, ◌⊎◌, refl, sym, ap, ◌∙◌, subst, reverse, arith}
+use Rattle.std.proofs.lemmas.Bool.{eqb-true, false≢true}
+use Rattle.std.proofs.lemmas.List.{nil_from_length, reverse-append}
 use Rattle.std.specs.Prelude.{is_some}
 use Rattle.pw_token.specs.declared.token.Token.{Token}
 use Rattle.pw_cpp_directives.specs.Obeying.{AnswersEffect, AnswersJudgement, IsBeside, IsDoneBy, IsFaultOf, IsJudgedBy, IsKept, OpensIf, fault_of_verdict, standing_of}
@@ -309,6 +310,13 @@ module _ (old mid : Kept) (section : Section) (is : old ≡ with_innermost mid s
           let P : Kept → Type 0 = λ k. IsDoneBy (Turns_of k) new result in
           subst P (sym is) (handed-on (IsDoneBy (Turns_of (with_innermost mid section)) new) found result result_is
             (elif-fault source digits (standing_of (with_innermost mid section)) hash tokens (reverse (with_innermost mid section).sections) (reverse mid.sections) section first found early untaken h))
+
+-- whether tokens stand behind a word
+pub none-there : (tokens : List Token) (b : Bool) → b ≡ (length tokens == 0) → b ≡ true → tokens ≡ []
+none-there tokens b e t = nil_from_length tokens (eqb-true (length tokens) 0 (sym e ∙ t))
+
+pub some-there : (tokens : List Token) (b : Bool) → b ≡ (length tokens == 0) → b ≡ false → tokens ≡ [] → ⊥
+some-there tokens b e f n = false≢true (sym f ∙ e ∙ ap (λ x. length x == 0) n)
 
 -- tokens behind a word that has none
 pub else-tokens : (s : Standing) (hash : ℕ) (tokens : List Token) (sections : Sections) → (tokens ≡ [] → ⊥) → else_effect s hash tokens sections ≡ Fails (fault kind.Directive hash)

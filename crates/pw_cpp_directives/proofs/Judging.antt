@@ -1,5 +1,5 @@
 -- How a condition is judged, by its steps.
-use Rattle.std.proofs.Common.{◌≡◌, ℕ, ◌+◌, ◌<◌, ◌≤◌, Bool, true, false, List, [], ◌∷◌, ◌++◌, ◌-◌, length, get_or, map, take, drop, Option, Some, None, Result, Ok, Err, inl, inr, ◌⊎◌, refl, sym, ap, ◌∙◌, subst, append_assoc, All, arith}
+use Rattle.std.proofs.Common.{◌≡◌, ℕ, ◌+◌, ◌<◌, ◌≤◌, Bool, true, false, List, [], ◌∷◌, ◌++◌, ◌-◌, length, get_or, take, drop, Option, Some, None, Ok, Err, inl, inr, refl, sym, ap, ◌∙◌, subst, append_assoc, All, arith}
 use Rattle.std.proofs.lemmas.List.{append-nil, at_drop_all, at_drop_more, map-append, take_all}
 use Rattle.std.proofs.lemmas.List.Elements.{All-nil, All-push, All-weaker}
 use Rattle.std.specs.Prelude.{◌&&◌, codes, if◌then◌else◌, is_some, option_and_then, option_map}
@@ -14,7 +14,6 @@ use Rattle.pw_cpp_directives.specs.declared.condition.Digits.{Digits}
 use Rattle.pw_cpp_condition.specs.Grammar.{AnswersItems, Means}
 use Rattle.pw_cpp_condition.specs.Words.{item_of}
 use Rattle.pw_cpp_condition.specs.declared.word.Item.{Item}
-use Rattle.pw_cpp_expand.specs.AtHand.{AnswersExpansion}
 use Rattle.pw_cpp_expand.specs.Expansion.{Expands, Outcome, Done, Stopped}
 use Rattle.pw_cpp_expand.specs.Lookahead.{Lexeme, fresh}
 use Rattle.pw_cpp_expand.specs.Numbered.{AreKnown, HaveEmpty, IsFault, all_named, named}

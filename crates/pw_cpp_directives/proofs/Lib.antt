@@ -1,3 +1,4 @@
 pub mod Effects
 pub mod Judging
 pub mod Names
+pub mod OneEffect

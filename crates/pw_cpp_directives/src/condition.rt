@@ -187,7 +187,7 @@ fn verdict_of(alloc: Global, items: Option<Items<Item>>) -> Result<Verdict, Allo
 }
 
 /// What tokens that are expanded come to.
-fn verdict(alloc: Global, source: &[u8], tokens: &[Lexeme]) -> Result<Verdict, AllocError>
+fn verdict_on(alloc: Global, source: &[u8], tokens: &[Lexeme]) -> Result<Verdict, AllocError>
     ensures { IfOk result (λ verdict. (known : Known) → IsVerdictOf (spec.items_of source.now (all_named known tokens.now)) verdict) }
 {
     let items = items_of(alloc, source, tokens)?;
@@ -220,6 +220,6 @@ pub fn judge<'a>(
         return Ok(Verdict::Faulty);
     };
     let out = expand_alone(alloc, source, macros, sets, taken, progress)?;
-    let verdict = verdict(alloc, source, out.as_slice())?;
+    let verdict = verdict_on(alloc, source, out.as_slice())?;
     Ok(verdict)
 }

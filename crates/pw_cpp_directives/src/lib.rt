@@ -6,8 +6,10 @@ mod condition;
 mod directive;
 mod fault;
 mod groups;
+mod laws;
 
 pub use condition::Digits;
 pub use directive::{Directive, Fault, Standing, faulty, limit, of_expansion};
 pub use fault::{CppKind, CppWhich};
 pub use groups::{Section, is_opening, is_turn};
+pub use laws::one_effect;

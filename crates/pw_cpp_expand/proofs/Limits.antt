@@ -68,7 +68,7 @@ module _ (source text : List ℕ) (mode : Mode) where
     from_within : (depth : ℕ) (arguments : List (List Lexeme)) (found : Ahead) (x : Called) → CollectsFrom source text mode depth arguments found x → IsAheadWithin found → IsCalledWithin x
     from_within depth arguments found x (call.open_end _ _ q) h = tt
     from_within depth arguments found x (call.faulty _ _ fault) h = tt
-    from_within depth arguments found x (call.token _ _ t rest q _ c) h = cut_within _ arguments t rest q x c h
+    from_within depth arguments found x (call.one_token _ _ t rest q _ c) h = cut_within _ arguments t rest q x c h
 
     cut_within : (what : Cut) (arguments : List (List Lexeme)) (t : Lexeme) (rest : List Lexeme) (q : Progress) (x : Called) → CollectsCut source text mode what arguments t rest q x
         → IsWithinLimits q → IsCalledWithin x

@@ -90,7 +90,7 @@ module _ (one_head : OneHead) (one_line : OneLine) (one_rest : OneRest) where
         → CollectsFrom source text mode depth arguments ahead x → CollectsFrom source text mode depth arguments ahead y → x ≡ y
     one_call_from source text mode depth arguments ahead x y (call.open_end _ _ q) (call.open_end _ _ _) = refl
     one_call_from source text mode depth arguments ahead x y (call.faulty _ _ fault) (call.faulty _ _ _) = refl
-    one_call_from source text mode depth arguments ahead x y (call.token _ _ t rest q _ h) (call.token _ _ _ _ _ _ k) =
+    one_call_from source text mode depth arguments ahead x y (call.one_token _ _ t rest q _ h) (call.one_token _ _ _ _ _ _ k) =
         one_call_cut source text mode (cut_of (part_of source t) depth) arguments t rest q x y h k
 
     one_call_cut : (source text : List ℕ) (mode : Mode) (what : Cut) (arguments : List (List Lexeme)) (t : Lexeme) (rest : List Lexeme) (q : Progress) (x y : Called)
@@ -170,7 +170,7 @@ module _ (one_head : OneHead) (one_line : OneLine) (one_rest : OneRest) where
         absurd (done_stopped (one_outcome source text macros Alone argument p (Done out q) (Stopped fault) o o'))
     one_arguments source text macros replacement parameters arguments p x y (by.refused _ _ _ argument _ _ fault n o) (by.unused _ _ _ _ _ _ _ k g) = absurd (false≢true (sym k ∙ n))
     one_arguments source text macros replacement parameters arguments p x y (by.refused _ _ _ argument _ _ fault n o) (by.used _ _ _ _ out _ _ q _ found k o' g f) =
-        absurd (done_stopped (one_outcome source text macros Alone argument p (Done out q) (Stopped fault) o' o))
+        absurd (done_stopped (sym (one_outcome source text macros Alone argument p (Stopped fault) (Done out q) o o')))
     one_arguments source text macros replacement parameters arguments p x y (by.refused _ _ _ argument _ _ fault n o) (by.refused _ _ _ _ _ _ other k o') =
         ap Refused (stopped_same (one_outcome source text macros Alone argument p (Stopped fault) (Stopped other) o o'))
 

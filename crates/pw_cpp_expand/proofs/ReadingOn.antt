@@ -75,6 +75,10 @@ Leads text at p = (further : Further) → ReadsOn text at p further → ReadsOn 
 pub leads-on : (text : List ℕ) (at hash next : ℕ) (p : Progress) → at < length text → IsHead text at (head.Marker hash) → PassesRest text hash next → Leads text at p → Leads text next p
 leads-on text at hash next p w h r k further read = k further (reads at p (head.Marker hash) further w h (marker at p hash next further r read))
 
+-- the same, where the text has come no further
+pub leads-from : (text : List ℕ) (at : ℕ) (start p : Progress) → p ≡ start → Leads text at start → (further : Further) → ReadsOn text at p further → ReadsOn text start.next start further
+leads-from text at start p e k further h = let P : Progress → Type 0 = λ x. ReadsOn text at x further in k further (subst P e h)
+
 -- ---- tokens as they are read
 
 pub fresh-named : (known : Known) (tokens : List Token) → HaveEmpty known → all_named known (map fresh tokens) ≡ map ahead.fresh tokens
@@ -116,17 +120,17 @@ module _ (text : List ℕ) (start : List Numbered) (s : Progress) (old : List Nu
       leads known empty found (subst P (sym none) h)
 
   pub looks-more : (new : List Numbered) (q : Progress) (tokens : List Token) → new ≡ old ++ reverse (map fresh tokens) → ReadsOn text p.next p (Tokens tokens q) → LooksAs text start s new q
-  looks-more new q tokens n reads known empty found h =
+  looks-more new q tokens n reading known empty found h =
       let P : List Lexeme → Type 0 = λ x. LooksAhead text InText x q found in
-      from_text found (ahead.on p (Tokens tokens q) found reads (ahead.further p q tokens found (subst P (fresh-at-hand known tokens old new empty none n) h))) known empty
+      from_text found (ahead.on p (Tokens tokens q) found reading (ahead.further p q tokens found (subst P (fresh-at-hand known tokens old new empty none n) h))) known empty
 
   pub looks-faulty : (fault : ExpandFault) → ReadsOn text p.next p (Fault fault) → (known : Known) → HaveEmpty known → LooksAhead text InText (at_hand known start) s (Faulty fault)
-  looks-faulty fault reads = from_text (Faulty fault) (ahead.on p (Fault fault) (Faulty fault) reads (ahead.faulty p fault))
+  looks-faulty fault reading = from_text (Faulty fault) (ahead.on p (Fault fault) (Faulty fault) reading (ahead.faulty p fault))
 
   pub looks-end : ReadsOn text p.next p Nothing → (known : Known) → HaveEmpty known → LooksAhead text InText (at_hand known start) s (At (at_hand known old) p)
-  looks-end reads known empty =
+  looks-end reading known empty =
       let P : List Numbered → Type 0 = λ x. LooksAhead text InText (at_hand known start) s (At (at_hand known x) p) in
-      subst P (sym none) (from_text (At [] p) (ahead.on p Nothing (At [] p) reads (ahead.nothing p)) known empty)
+      subst P (sym none) (from_text (At [] p) (ahead.on p Nothing (At [] p) reading (ahead.nothing p)) known empty)
 
 -- ---- the next line is further on
 

@@ -1,9 +1,9 @@
 -- What calls and their arguments become.
-use Rattle.std.proofs.Common.{◌≡◌, ℕ, zero, suc, ◌+◌, ◌-◌, ◌<◌, ◌≤◌, Bool, true, false, List, [], ◌∷◌, ◌++◌, length, get_or, map, reverse, take, drop, Option, Some, None, IfSome, refl, sym, ap, ◌∙◌, subst, append_assoc, All, IsTrue, ◌↔◌, arith}
+use Rattle.std.proofs.Common.{◌≡◌, ℕ, zero, suc, ◌+◌, ◌-◌, ◌<◌, ◌≤◌, ◌==◌, Bool, true, false, List, [], ◌∷◌, ◌++◌, length, get_or, map, reverse, take, drop, Option, Some, None, IfSome, refl, sym, ap, ◌∙◌, subst, append_assoc, All, IsTrue, ◌↔◌, arith}
 use Rattle.std.proofs.Common.{length-append}
-use Rattle.std.proofs.lemmas.Bool.{false≢true}
+use Rattle.std.proofs.lemmas.Bool.{eqb-true, false≢true}
 use Rattle.std.proofs.lemmas.Grind.{flat_map-append}
-use Rattle.std.proofs.lemmas.List.{append-nil, at_drop_all, at_drop_more, length-map, map-append, reverse-append, take_all, take_more}
+use Rattle.std.proofs.lemmas.List.{append-nil, at_drop_all, at_drop_more, get_or_default, length-map, map-append, nil_from_length, reverse-append, take_all, take_more}
 use Rattle.std.proofs.lemmas.List.Elements.{All-append, All-get_or, All-nil, All-pop, All-push}
 use Rattle.std.specs.List.{flat_map}
 use Rattle.std.specs.Prelude.{bytes_eq, if◌then◌else◌}
@@ -40,6 +40,17 @@ one-empty xs x b l e h =
 
 pub not-one : (xs : List (List Numbered)) → (length xs ≡ 1 → ⊥) → (IsTrue false ↔ (xs ≡ [] ∷ []))
 not-one xs h = (λ t. absurd (false≢true t), λ e. absurd (h (ap length e)))
+
+-- whether there are parameters
+pub none-there : (xs : List Token) (b : Bool) → b ≡ (length xs == 0) → b ≡ true → xs ≡ []
+none-there xs b e t = nil_from_length xs (eqb-true (length xs) 0 (sym e ∙ t))
+
+pub some-there : (xs : List Token) (b : Bool) → b ≡ (length xs == 0) → b ≡ false → xs ≡ [] → ⊥
+some-there xs b e f n = false≢true (sym f ∙ e ∙ ap (λ x. length x == 0) n)
+
+-- a parameter by its number
+pub element-at : (xs : List Token) (i j : ℕ) (d : Token) → i ≡ j → j < length xs → get_or xs i d ≡ get_or xs j (get_or xs i d)
+element-at xs i j d e l = ap (λ k. get_or xs k d) e ∙ get_or_default xs j d (get_or xs i d) l
 
 -- ---- arguments that are expanded
 
@@ -239,11 +250,15 @@ module _ (known : Known) (hidden place : ℕ) (argument : List Numbered) (hidden
           ∙ ap (map (passed (set_at known hidden) place)) (map-append (named known) (take i argument) (lexeme ∷ []))
           ∙ map-append (passed (set_at known hidden) place) (all_named known (take i argument)) (named known lexeme ∷ [])
 
-  pub passed-all : (new : Known) (before made : List Numbered) → IsAdded known before new made (passed_up_to known hidden place argument (length argument))
+  pub passed-all : (new : Known) (before made : List Numbered) (i : ℕ) → length argument ≤ i → IsAdded known before new made (passed_up_to known hidden place argument i)
       → IsAdded known before new made (map (passed (set_at known hidden) place) (all_named known argument))
-  passed-all new before made h =
+  passed-all new before made i l h =
       let P : List Numbered → Type 0 = λ x. IsAdded known before new made (map (passed (set_at known hidden) place) (all_named known x)) in
-      subst P (take_all (length argument) argument (omega arith)) h
+      subst P (take_all i argument l) h
+
+-- the set of a token of an argument is known
+pub own-known : (known new : Known) (argument : List Numbered) (i : ℕ) (d : Numbered) → i < length argument → AreKnown known argument → length known ≤ length new → (get_or argument i d).hidden < length new
+own-known known new argument i d l h k = omega (arith, All-get_or (λ (x : Numbered). x.hidden < length known) argument i d l h, k)
 
 -- ---- the result
 
@@ -272,11 +287,23 @@ module _ (source : List ℕ) (known : Known) (hidden place : ℕ) (arguments : L
       ap (λ x. replaced x place token argument) (k.same hidden h)
       ∙ ap (λ x. replaced (set_at known hidden) place token x) (e ∙ ap (λ x. argument_for source x token) (arguments-kept known middle k source arguments a))
 
-  pub made-all : (new : Known) (made : List Numbered) → IsMade known new made (flat_map (becomes source known hidden place arguments) (take (length replacement) replacement))
+  pub made-all : (new : Known) (made : List Numbered) (i : ℕ) → length replacement ≤ i → IsMade known new made (flat_map (becomes source known hidden place arguments) (take i replacement))
       → IsMade known new made (result_of source (set_at known hidden) place (map (argument_named source known) arguments) replacement)
-  made-all new made h =
+  made-all new made i l h =
       let P : List Token → Type 0 = λ x. IsMade known new made (flat_map (becomes source known hidden place arguments) x) in
-      subst P (take_all (length replacement) replacement (omega arith)) h
+      subst P (take_all i replacement l) h
+
+-- what is made of the same arguments and of the same replacement
+pub made-as : (source : List ℕ) (known : Known) (hidden : List (List ℕ)) (place : ℕ) (arguments arguments' : List Argument) (replacement replacement' : List Token) (tokens : List Lexeme)
+    → tokens ≡ result_of source hidden place (map (argument_named source known) arguments) replacement → arguments ≡ arguments' → replacement ≡ replacement'
+    → tokens ≡ result_of source hidden place (map (argument_named source known) arguments') replacement'
+made-as source known hidden place arguments arguments' replacement replacement' tokens h e f =
+    h ∙ ap (λ x. result_of source hidden place (map (argument_named source known) x) replacement) e
+    ∙ ap (λ x. result_of source hidden place (map (argument_named source known) arguments') x) f
+
+pub made-alone : (source : List ℕ) (hidden : List (List ℕ)) (place : ℕ) (replacement replacement' : List Token) (tokens : List Lexeme) → tokens ≡ result_of source hidden place [] replacement
+    → replacement ≡ replacement' → tokens ≡ result_of source hidden place [] replacement'
+made-alone source hidden place replacement replacement' tokens h f = h ∙ ap (λ x. result_of source hidden place [] x) f
 
 -- the set that was joined last
 pub joined-new : (known new : Known) (hidden own number : ℕ) → Keeps known new → hidden < length known → own < length known → number < length new

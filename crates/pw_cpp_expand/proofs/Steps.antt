@@ -1,5 +1,5 @@
 -- What is at hand comes to what it comes to behind a step.
-use Rattle.std.proofs.Common.{◌≡◌, ℕ, ◌+◌, ◌<◌, ◌≤◌, Bool, true, false, if◌then◌else◌, List, [], ◌∷◌, ◌++◌, length, map, Option, Some, None, refl, sym, ap, ◌∙◌, subst, append_assoc}
+use Rattle.std.proofs.Common.{◌≡◌, ℕ, ◌+◌, ◌<◌, ◌≤◌, Bool, true, false, if◌then◌else◌, List, [], ◌∷◌, ◌++◌, length, map, Option, Some, None, refl, sym, ap, ◌∙◌, subst, append_assoc, arith}
 use Rattle.std.proofs.lemmas.List.{append-nil}
 use Rattle.pw_token.specs.Roles.{spelling}
 use Rattle.pw_token.specs.declared.token.Token.{Token}
@@ -161,16 +161,10 @@ module _ (source text : List ℕ) (macros : Macros) where
   pub arguments-expanded : (replacement parameters : List Token) (arguments : List (List Lexeme)) (p : Progress) (found : Arguments) → length arguments ≡ length parameters
       → ExpandsWaiting source text macros (waiting_for source replacement parameters arguments) p found → ExpandsArguments source text macros replacement parameters arguments p found
   arguments-expanded replacement [] [] p found l (hand.none _) = by.none replacement p
-  arguments-expanded replacement [] (argument ∷ arguments) p found l h = absurd (uneven l)
-    where
-      uneven : length (argument ∷ arguments) ≡ length [] → ⊥
-      uneven e = cc
-  arguments-expanded replacement (parameter ∷ parameters) [] p found l h = absurd (uneven l)
-    where
-      uneven : length [] ≡ length (parameter ∷ parameters) → ⊥
-      uneven e = cc
+  arguments-expanded replacement [] (argument ∷ arguments) p found l h = absurd (omega (arith, l))
+  arguments-expanded replacement (parameter ∷ parameters) [] p found l h = absurd (omega (arith, l))
   arguments-expanded replacement (parameter ∷ parameters) (argument ∷ arguments) p found l h =
-      by_use (is_used source replacement parameter) refl h (λ q more. arguments-expanded replacement parameters arguments q more (shorter l))
+      by_use (is_used source replacement parameter) found refl h (λ q more. arguments-expanded replacement parameters arguments q more (shorter l))
     where
       shorter : length (argument ∷ arguments) ≡ length (parameter ∷ parameters) → length arguments ≡ length parameters
       shorter e = cc
@@ -178,10 +172,10 @@ module _ (source text : List ℕ) (macros : Macros) where
       others : List Named
       others = waiting_for source replacement parameters arguments
 
-      by_use : (b : Bool) → is_used source replacement parameter ≡ b
-          → ExpandsWaiting source text macros (if b then (spelling source parameter, argument) ∷ others else others) p found
+      by_use : (b : Bool) (a : Arguments) → is_used source replacement parameter ≡ b
+          → ExpandsWaiting source text macros (if b then (spelling source parameter, argument) ∷ others else others) p a
           → ((q : Progress) (more : Arguments) → ExpandsWaiting source text macros others q more → ExpandsArguments source text macros replacement parameters arguments q more)
-          → ExpandsArguments source text macros replacement (parameter ∷ parameters) (argument ∷ arguments) p found
-      by_use false u h next = by.unused replacement parameter parameters argument arguments p found u (next p found h)
-      by_use true u (hand.one _ _ out _ _ q _ more x w e) next = by.used replacement parameter parameters argument out arguments p q found more u x (next q more w) e
-      by_use true u (hand.refused_one _ _ _ _ fault x) next = by.refused replacement parameter parameters argument arguments p fault u x
+          → ExpandsArguments source text macros replacement (parameter ∷ parameters) (argument ∷ arguments) p a
+      by_use false a u h next = by.unused replacement parameter parameters argument arguments p a u (next p a h)
+      by_use true a u (hand.one _ _ out _ _ q _ more x w e) next = by.used replacement parameter parameters argument out arguments p q a more u x (next q more w) e
+      by_use true a u (hand.refused_one _ _ _ _ fault x) next = by.refused replacement parameter parameters argument arguments p fault u x

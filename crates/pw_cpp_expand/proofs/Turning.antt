@@ -419,7 +419,7 @@ module _ (source text : List ℕ) (macros : Macros) where
     outer = map (opened source known) (reverse e.calls)
 
     first_turns : (rest : List Lexeme) (start : Progress) (turn : Turn)
-        → Turns source text macros (mode_of mode e.calls) (named known name) rest start (macro_of source macros (named known name)) turn → FirstTurns mode outer (named known name) rest start turn
+        → Turns source text macros (mode_of mode e.calls) (named known name) rest start (macro_of source macros (named known name)) turn → FirstTurns source text macros mode outer (named known name) rest start turn
     first_turns rest start turn h =
         let P : Mode → Type 0 = λ x. Turns source text macros x (named known name) rest start (macro_of source macros (named known name)) turn in
         subst P (sym (mode-same known source mode e.calls)) h
@@ -427,7 +427,7 @@ module _ (source text : List ℕ) (macros : Macros) where
     pub open-fault : (found : Called) (fault : ExpandFault) → Collects source text (mode_of mode e.calls) 0 ([] ∷ []) (at_hand known e.pending) p found
         → Calls source text macros m parameters (named known name) found (Faults fault) → IsCallOpened source text macros mode known e name p (Stopped fault)
     open-fault found fault c h = λ first rest start looks opens.
-        faults-comes mode outer (named known name) rest (all_named known e.out) start fault
+        faults-comes source text macros mode outer (named known name) rest (all_named known e.out) start fault
         (first_turns rest start (Faults fault)
           (call-turns (mode_of mode e.calls) (named known name) first rest (at_hand known e.pending) start p m parameters is takes looks opens found (Faults fault) c h))
 
@@ -442,7 +442,7 @@ module _ (source text : List ℕ) (macros : Macros) where
 
       turn_is : (first : Lexeme) (rest : List Lexeme) (start : Progress) → LooksAhead text (mode_of mode e.calls) rest start (At (first ∷ at_hand known e.pending) p) → is_mark source (codes "(") first ≡ true
           → (found : Arguments) → ExpandsWaiting source text macros waits q found
-          → FirstTurns mode outer (named known name) rest start (replaced_call source hidden_names name.place m.replacement behind found)
+          → FirstTurns source text macros mode outer (named known name) rest start (replaced_call source hidden_names name.place m.replacement behind found)
       turn_is first rest start looks opens found h =
           first_turns rest start (replaced_call source hidden_names name.place m.replacement behind found)
           (closed-turns (mode_of mode e.calls) (named known name) first rest (at_hand known e.pending) start p m parameters is takes looks opens close arguments behind q found collects even h)
@@ -453,11 +453,11 @@ module _ (source text : List ℕ) (macros : Macros) where
               × Comes source text macros mode outer (result_of source hidden_names name.place [] m.replacement ++ behind) (all_named known e.out) (producing q (length (result_of source hidden_names name.place [] m.replacement))) outcome)
           → IsCallOpened source text macros mode known e name p outcome
       open-none outcome w h = λ first rest start looks opens.
-          none-waits mode outer (named known name) rest (all_named known e.out) start q m hidden_names behind waits (turn_is first rest start looks opens) outcome w h
+          none-waits source text macros mode outer (named known name) rest (all_named known e.out) start q m hidden_names behind waits (turn_is first rest start looks opens) outcome w h
 
       pub open-first : (parameter : List ℕ) (tokens : List Lexeme) (others : List Named) (outcome : Outcome) → waits ≡ (parameter, tokens) ∷ others
           → Comes source text macros mode
             (record { meaning = m; hidden = hidden_names; place = name.place; parameter = parameter; waiting = others; expanded = []; behind = behind; before = all_named known e.out } ∷ outer) tokens [] q outcome
           → IsCallOpened source text macros mode known e name p outcome
       open-first parameter tokens others outcome w h = λ first rest start looks opens.
-          first-waits mode outer (named known name) rest (all_named known e.out) start q m hidden_names behind waits (turn_is first rest start looks opens) parameter tokens others outcome w h
+          first-waits source text macros mode outer (named known name) rest (all_named known e.out) start q m hidden_names behind waits (turn_is first rest start looks opens) parameter tokens others outcome w h

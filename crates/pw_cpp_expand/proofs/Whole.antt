@@ -215,7 +215,7 @@ module _ (source text : List ℕ) (macros : Macros) (mode : Mode) where
     -- the next argument is at hand
     pub next-argument : (waiting : List Raw) (next : Raw) → call.waiting ≡ waiting ++ next ∷ [] → (out : List Numbered) → out ≡ [] → IsReady text known e p → IsCallKnown known call → (f : Expander)
         → f ≡ record e { out = out; calls = e.calls ++ record call { expanded = expanded; parameter = next.parameter; waiting = waiting } ∷ []; pending = reverse next.tokens }
-        → IsStep source text macros mode known Was known f p (Ok tt)
+        → IsStep source text macros mode known Was known f p (Ok (tt {0}))
     next-argument waiting next w out no_out r c f is = (
       keeps-same known,
       ready-argument text known (record e { out = out }) p (record call { expanded = expanded; parameter = next.parameter; waiting = waiting }) next.tokens f
@@ -425,11 +425,11 @@ module _ (source text : List ℕ) (macros : Macros) (mode : Mode) where
       reads : (any : Known) → HaveEmpty any → IsCallRead source text (mode_of mode e.calls) parameters m.replacement e.pending p pending q read any
       reads any h = let P : Mode → Type 0 = λ x. IsCallRead source text x parameters m.replacement e.pending p pending q read any in subst P looked_is (reads_as any h)
 
-      all_keeps : Keeps known new
-      all_keeps = keeps-on known middle new k j
+      keeps_all : Keeps known new
+      keeps_all = keeps-on known middle new k j
 
       new_empty : HaveEmpty new
-      new_empty = empty-on known new all_keeps ready.empty
+      new_empty = empty-on known new keeps_all ready.empty
 
       abbrev names : List (List ℕ)
       names = spelling source l.token ∷ shared (set_at new l.hidden) (set_at new read.close.hidden)
@@ -438,11 +438,11 @@ module _ (source text : List ℕ) (macros : Macros) (mode : Mode) where
       names_are =
           ap (set_at new) hides ∙ hidden_is
           ∙ ap (λ x. spelling source l.token ∷ x)
-            (both_is ∙ ap (λ x. shared x (set_at known read.close.hidden)) (sym (all_keeps.same l.hidden known_name))
-              ∙ ap (λ x. shared (set_at new l.hidden) x) (sym (all_keeps.same read.close.hidden read_known.0)))
+            (both_is ∙ ap (λ x. shared x (set_at known read.close.hidden)) (sym (keeps_all.same l.hidden known_name))
+              ∙ ap (λ x. shared (set_at new l.hidden) x) (sym (keeps_all.same read.close.hidden read_known.0)))
 
       is_new : macro_of source macros (named new l) ≡ Some m
-      is_new = ap (macro_of source macros) (named-kept known new all_keeps l known_name) ∙ is
+      is_new = ap (macro_of source macros) (named-kept known new keeps_all l known_name) ∙ is
 
       no_tokens : (ls : List Numbered) → ls ≡ [] → AreKnown new ls
       no_tokens ls n = let P : List Numbered → Type 0 = λ x. AreKnown new x in subst P (sym n) (All-nil (λ (l : Numbered). l.hidden < length new))
@@ -455,13 +455,13 @@ module _ (source text : List ℕ) (macros : Macros) (mode : Mode) where
       pub opened-ready : IsReady text new (record e { pending = left; out = out }) q
       opened-ready = record {
         place = within;
-        sets = (no_tokens left no_token, no_tokens out no_out, calls-on known new all_keeps e.calls ready.sets.2);
+        sets = (no_tokens left no_token, no_tokens out no_out, calls-on known new keeps_all e.calls ready.sets.2);
         limits = limits;
         empty = new_empty;
       }
 
       pub opened-known : All (λ raw. AreKnown known raw.tokens) call.waiting → IsCallKnown new call
-      opened-known w = (hidden_known, raws-on known new all_keeps call.waiting w, nothing, behind_known, before_known)
+      opened-known w = (hidden_known, raws-on known new keeps_all call.waiting w, nothing, behind_known, before_known)
         where
           hidden_known : call.replaced.hidden < length new
           hidden_known = omega (arith, hides, known_hidden)
@@ -472,10 +472,10 @@ module _ (source text : List ℕ) (macros : Macros) (mode : Mode) where
               subst P (sym no_argument) (All-nil (λ (a : Argument). AreKnown new a.tokens))
 
           behind_known : AreKnown new call.behind
-          behind_known = let P : List Numbered → Type 0 = λ x. AreKnown new x in subst P (sym behind_is) (known-on known new all_keeps pending pending_known)
+          behind_known = let P : List Numbered → Type 0 = λ x. AreKnown new x in subst P (sym behind_is) (known-on known new keeps_all pending pending_known)
 
           before_known : AreKnown new call.before
-          before_known = let P : List Numbered → Type 0 = λ x. AreKnown new x in subst P (sym before_is) (known-on known new all_keeps e.out ready.sets.1)
+          before_known = let P : List Numbered → Type 0 = λ x. AreKnown new x in subst P (sym before_is) (known-on known new keeps_all e.out ready.sets.1)
 
       abbrev outside : List Opened
       outside = map (opened source new) (reverse e.calls)
@@ -505,9 +505,9 @@ module _ (source text : List ℕ) (macros : Macros) (mode : Mode) where
           → IsStep source text macros mode known Opens newer f r result
       opened-none none newer f r result h =
           let found = reads new new_empty in
-          step-on known new newer all_keeps (IsReplacedBy source text macros mode new (record e { pending = left; out = out }) call q) Opens
+          step-on known new newer keeps_all (IsReplacedBy source text macros mode new (record e { pending = left; out = out }) call q) Opens
           (λ outcome x.
-              call-kept source text macros mode known new all_keeps e l p outcome ready.sets known_name
+              call-kept source text macros mode known new keeps_all e l p outcome ready.sets known_name
               (open-none source text macros mode new e l p m parameters is_new takes (named new read.close) found.0 (at_hand new pending) q found.1 found.2 outcome
                 (sym found.3 ∙ ap (λ z. map (raw_named source new) (reverse z)) none) (replaced-as outcome x)))
           f r result h
@@ -515,14 +515,14 @@ module _ (source text : List ℕ) (macros : Macros) (mode : Mode) where
       -- the first of them is at hand
       pub opened-first : (next : Raw) → read.waiting ≡ call.waiting ++ next ∷ [] → (f : Expander)
           → f ≡ record e { pending = reverse next.tokens; out = out; calls = e.calls ++ record call { parameter = next.parameter } ∷ [] }
-          → IsStep source text macros mode known Opens new f q (Ok tt)
+          → IsStep source text macros mode known Opens new f q (Ok (tt {0}))
       opened-first next waits f f_is = (
-        all_keeps,
+        keeps_all,
         ready-argument text new (record e { pending = left; out = out }) q (record call { parameter = next.parameter }) next.tokens f opened-ready
-          (opened-known parts.0) (known-on known new all_keeps next.tokens parts.1) f_is,
+          (opened-known parts.0) (known-on known new keeps_all next.tokens parts.1) f_is,
         λ outcome x.
             let found = reads new new_empty in
-            call-kept source text macros mode known new all_keeps e l p outcome ready.sets known_name
+            call-kept source text macros mode known new keeps_all e l p outcome ready.sets known_name
             (open-first source text macros mode new e l p m parameters is_new takes (named new read.close) found.0 (at_hand new pending) q found.1 found.2
               (spelling source next.parameter) (all_named new next.tokens) others outcome (sym found.3 ∙ waiting_is) (at_first outcome x)),
       )
@@ -619,7 +619,7 @@ module _ (source text : List ℕ) (macros : Macros) (mode : Mode) where
     abbrev pub Comes_of : Outcome → Type 0
     Comes_of outcome = ComesTo source text macros mode known e p outcome
 
-    pub expanded-whole : (new : Known) (f : Expander) (q : Progress) → IsStep source text macros mode known Comes_of new f q (Ok tt) → f.pending ≡ [] → f.calls ≡ []
+    pub expanded-whole : (new : Known) (f : Expander) (q : Progress) → IsStep source text macros mode known Comes_of new f q (Ok (tt {0})) → f.pending ≡ [] → f.calls ≡ []
         → AnswersExpansion source text macros mode known (at_hand known e.pending) p new q (Ok f.out)
     expanded-whole new f q h no_tokens none = (
       start-expanded source text macros mode known e p no_out no_calls (Done (all_named new f.out) q) (h.2 (Done (all_named new f.out) q) (end-comes source text macros mode new f q no_tokens none)),

@@ -53,7 +53,7 @@ mutual
   pub data CollectsFrom (source text : List ℕ) (mode : Mode) : ℕ → List (List Lexeme) → Ahead → Called → Type 0 where
     open_end : (depth : ℕ) (arguments : List (List Lexeme)) (q : Progress) → CollectsFrom source text mode depth arguments (At [] q) Open
     faulty : (depth : ℕ) (arguments : List (List Lexeme)) (fault : ExpandFault) → CollectsFrom source text mode depth arguments (Faulty fault) (Fails fault)
-    token : (depth : ℕ) (arguments : List (List Lexeme)) (t : Lexeme) (rest : List Lexeme) (q : Progress) (called : Called)
+    one_token : (depth : ℕ) (arguments : List (List Lexeme)) (t : Lexeme) (rest : List Lexeme) (q : Progress) (called : Called)
         → CollectsCut source text mode (cut_of (part_of source t) depth) arguments t rest q called → CollectsFrom source text mode depth arguments (At (t ∷ rest) q) called
 
   pub data CollectsCut (source text : List ℕ) (mode : Mode) : Cut → List (List Lexeme) → Lexeme → List Lexeme → Progress → Called → Type 0 where

@@ -76,7 +76,7 @@ pub fn fresh(token: Token) -> Lexeme
 /// Puts tokens as they are read in front of those at hand, which are kept with the first one last.
 pub fn put_fresh(tokens: Items<Token>, pending: &mut Items<Lexeme>) -> Result<(), AllocError>
     ensures put { OnOk result (pending.new ≡ pending.old ++ reverse (map fresh tokens)) }
-    ensures known { (known : Known) → 0 < length known → AreKnown known pending.old → AreKnown known pending.new }
+    ensures known { OnOk result ((known : Known) → 0 < length known → AreKnown known pending.old → AreKnown known pending.new) }
 {
     let mut tokens = tokens;
     while let Some(token) = tokens.pop() {
@@ -95,7 +95,7 @@ fn look_on(
     requires { progress.old.next ≤ length text.now }
     ensures answers { AnswersAhead text.now Mode.InText pending.old progress.old pending.new progress.new result }
     ensures within { progress.new.next ≤ length text.now }
-    ensures known { (known : Known) → 0 < length known → AreKnown known pending.old → AreKnown known pending.new }
+    ensures known { OnOk result ((known : Known) → 0 < length known → AreKnown known pending.old → AreKnown known pending.new) }
 {
     while pending.is_empty() {
         let found = read_on(alloc, text, progress)?;
@@ -118,7 +118,7 @@ pub fn look_ahead(
     requires { progress.old.next ≤ length text.now }
     ensures answers { AnswersAhead text.now mode pending.old progress.old pending.new progress.new result }
     ensures within { progress.new.next ≤ length text.now }
-    ensures known { (known : Known) → 0 < length known → AreKnown known pending.old → AreKnown known pending.new }
+    ensures known { OnOk result ((known : Known) → 0 < length known → AreKnown known pending.old → AreKnown known pending.new) }
 {
     match mode {
         Mode::Alone => Ok(()),

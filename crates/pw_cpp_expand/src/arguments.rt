@@ -109,7 +109,7 @@ pub fn collect(
     requires { progress.old.next ≤ length text.now }
     ensures answers { AnswersCall source.now text.now mode pending.old progress.old pending.new progress.new result }
     ensures within { progress.new.next ≤ length text.now }
-    ensures known { (known : Known) → 0 < length known → AreKnown known pending.old → AreKnown known pending.new }
+    ensures known { IfOk result (λ _. (known : Known) → 0 < length known → AreKnown known pending.old → AreKnown known pending.new) }
     ensures arguments { (known : Known) → 0 < length known → AreKnown known pending.old → IfOk result (λ found. IfSome found (AreArgumentsKnown known)) }
 {
     let mut whole = Items::new(alloc);

@@ -149,12 +149,14 @@ impl<'m> Expander<'m> {
         ensures { IsStep ground.entry.source.now ground.entry.text.now ground.entry.macros.now ground.entry.mode sets.old (IsReplacedBy ground.entry.source.now ground.entry.text.now ground.entry.macros.now ground.entry.mode sets.old self.old call.entry progress.old) sets.new self.new progress.new result }
     {
         let Ground { alloc, source, .. } = ground;
+        let meaning = call.meaning;
+        let replaced = call.replaced;
+        let replacement = meaning.replacement.as_slice();
         let arguments = call.expanded.as_slice();
-        let replacement = call.meaning.replacement.as_slice();
-        let made = result_of(alloc, source, sets, call.replaced, arguments, replacement)?;
+        let made = result_of(alloc, source, sets, replaced, arguments, replacement)?;
         self.pending = call.behind;
         self.out = call.before;
-        self.put_result(made, call.replaced.place, progress)
+        self.put_result(made, replaced.place, progress)
     }
 
     /// Begins with an argument of a call, where nothing is at hand.
@@ -375,7 +377,7 @@ fn read_call(
     requires { progress.old.next ≤ length ground.text.now }
     ensures answers { AnswersRead ground.entry.source.now ground.entry.text.now mode parameters.now meaning.now.replacement place pending.old progress.old pending.new progress.new result }
     ensures within { progress.new.next ≤ length ground.entry.text.now }
-    ensures known { (known : Known) → 0 < length known → AreKnown known pending.old → AreKnown known pending.new × IfOk result (IsReadKnown known) }
+    ensures known { IfOk result (λ read. (known : Known) → 0 < length known → AreKnown known pending.old → AreKnown known pending.new × IsReadKnown known read) }
 {
     let Ground { alloc, source, text, .. } = ground;
     let found = collect(alloc, source, text, mode, pending, progress)?;

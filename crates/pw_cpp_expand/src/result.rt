@@ -76,7 +76,7 @@ fn argument_for<'e>(source: &[u8], arguments: &'e [Expanded], token: Token) -> O
 }
 
 /// The set that has the names of what is replaced besides those of a set. One that was joined last is at hand.
-fn joined<'a>(
+fn joined_with<'a>(
     alloc: Global,
     sets: &mut Sets<'a>,
     hidden: usize,
@@ -111,7 +111,7 @@ fn push_argument<'a>(
     let number = sets.joined(alloc, replaced.hidden, 0)?;
     let mut last = Joined { own: 0, number };
     for lexeme in argument {
-        last = joined(alloc, sets, replaced.hidden, lexeme.hidden, last)?;
+        last = joined_with(alloc, sets, replaced.hidden, lexeme.hidden, last)?;
         made.push(Lexeme {
             token: lexeme.token,
             hidden: last.number,

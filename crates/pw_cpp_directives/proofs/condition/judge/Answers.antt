@@ -8,11 +8,11 @@ use Rattle.pw_cpp_expand.specs.declared.progress.Progress.{Progress}
 use Rattle.pw_cpp_directives.proofs.Judging.{all-known, judged-malformed, judged-stopped, judged-whole, keeps-self}
 use Rattle.pw_cpp_directives.proofs.condition.judge.Goals as goal
 
-pub expand_alone-out-requires-clause-within : goal.expand_alone-out-requires-clause-within
-expand_alone-out-requires-clause-within c = omega (arith, ap (λ (p : Progress). p.next) c.requires.fresh)
+pub expand_alone-requires-clause-within : goal.expand_alone-requires-clause-within
+expand_alone-requires-clause-within c = omega (arith, ap (λ (p : Progress). p.next) c.requires.fresh)
 
-pub expand_alone-out-requires-clause-known : goal.expand_alone-out-requires-clause-known
-expand_alone-out-requires-clause-known c = all-known c.args.sets.now c.in-Some.taken c.requires.empty (rw c.in-Some.is at c.in_ok-found.ensures.known)
+pub expand_alone-requires-clause-known : goal.expand_alone-requires-clause-known
+expand_alone-requires-clause-known c = all-known c.args.sets.now c.in-Some.taken c.requires.empty (rw c.in-Some.is at c.in_ok-found.ensures.known)
 
 pub returns-in_default-clause-keeps : goal.returns-in_default-clause-keeps
 returns-in_default-clause-keeps c = keeps-self c.args.sets.now
@@ -35,7 +35,7 @@ returns-clause-limits c = c.in_ok-out.ensures.4
 
 pub returns-clause-judges : goal.returns-clause-judges
 returns-clause-judges c =
-    let P : List Lexeme → Type 0 = λ x. IsVerdictOf (items_of c.args.source.now (all_named c.expand_alone-out.new.sets x)) c.in_ok-verdict.verdict in
+    let P : List Lexeme → Type 0 = λ x. IsVerdictOf (items_of c.args.source.now (all_named c.expand_alone.new.sets x)) c.in_ok-verdict.verdict in
     judged-whole c.args.source.now c.args.macros.now c.args.digits c.args.tokens.now c.args.progress.now c.requires.fresh _
     (ap (option_map (all_named c.args.sets.now)) (sym c.in-Some.is) ∙ c.in_ok-found.ensures.taken c.args.sets.now c.requires.empty) _ _ c.in_ok-verdict.verdict c.in_ok-out.ensures.0
-    (subst P c.as_slice.ensures (c.in_ok-verdict.ensures c.expand_alone-out.new.sets))
+    (subst P c.as_slice.ensures (c.in_ok-verdict.ensures c.expand_alone.new.sets))

@@ -6,10 +6,10 @@ pub loop-left-init : goal.loop-left-init
 loop-left-init c =
     (λ known empty. taken-start c.args.source.now c.args.macros.now c.args.digits known c.args.tokens.now c.new-taken.result c.new-taken.ensures, none-known c.new-taken.result c.new-taken.ensures)
 
-pub returns-in_default-clause-taken : goal.returns-in_default-clause-taken
-returns-in_default-clause-taken c = λ known empty.
+pub returns-in_default-found-clause-taken : goal.returns-in_default-found-clause-taken
+returns-in_default-found-clause-taken c = λ known empty.
     taken-not c.args.source.now c.args.macros.now c.args.digits known c.args.tokens.now c.loop-left.left.now _ _ c.loop-left.taken c.taken_at-found.result
-    (first-and-rest c.loop-left.left.now _ c.in-len1-up.len_at_least) (c.taken_at-found.ensures.value known empty) (c.loop-left.invariant.0 known empty) c.in_default.is
+    (first-and-rest c.loop-left.left.now _ c.in-len1-up.len_at_least) (c.taken_at-found.ensures.value known empty) (c.loop-left.invariant.0 known empty) c.in_default-found.is
 
 pub loop-left-preserved : goal.loop-left-preserved
 loop-left-preserved c = (

@@ -21,6 +21,6 @@ loop-token-preserved c =
 
 pub returns : goal.returns
 returns c = record {
-  put = sym (append-nil c.loop-token.pending) ∙ ap (λ x. c.loop-token.pending ++ reverse (map fresh x)) (sym c.in-None.ensures.0) ∙ c.loop-token.invariant.0;
+  put = sym (append-nil c.loop-token.pending) ∙ ap (λ x. c.loop-token.pending ++ reverse (map fresh x)) (sym c.in_default.ensures.0) ∙ c.loop-token.invariant.0;
   known = c.loop-token.invariant.1;
 }

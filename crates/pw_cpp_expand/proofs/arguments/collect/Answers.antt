@@ -1,15 +1,15 @@
-use Rattle.std.proofs.Common.{◌≡◌, ℕ, ◌<◌, [], ◌∷◌, ◌++◌, List, Some, ap, length, subst, sym, ◌∙◌, arith}
+use Rattle.std.proofs.Common.{◌≡◌, ℕ, ◌<◌, [], ◌∷◌, ◌++◌, Err, List, Some, ap, length, rules, subst, sym, ◌∙◌, arith}
 use Rattle.std.proofs.lemmas.Bool.{false≢true}
-use Rattle.std.proofs.lemmas.List.Elements.{All-pop}
-use Rattle.pw_cpp_expand.specs.Calls.{cut_of, part_of}
+use Rattle.std.proofs.lemmas.List.Elements.{All-nil, All-pop}
+use Rattle.pw_cpp_expand.specs.Calls.{Collects, Fails, cut_of, part_of}
 use Rattle.pw_cpp_expand.specs.declared.arguments.Cut.TheVariants as cut
 use Rattle.pw_cpp_expand.specs.declared.progress.Mode.{Mode}
 use Rattle.pw_cpp_expand.specs.declared.progress.Progress.{Progress}
-use Rattle.pw_cpp_expand.specs.Lookahead.{At, Lexeme, LooksAhead}
-use Rattle.pw_cpp_expand.specs.Numbered.{HaveEmpty, at_hand, named}
+use Rattle.pw_cpp_expand.specs.Lookahead.{At, Faulty, Lexeme, LooksAhead}
+use Rattle.pw_cpp_expand.specs.Numbered.{AnswersCall, AreKnown, HaveEmpty, at_hand, named}
 use Rattle.pw_cpp_expand.specs.declared.progress.Lexeme.{Lexeme as Numbered}
-use Rattle.pw_cpp_expand.proofs.Cutting.{leads-put, put-depth, put-known}
-use Rattle.pw_cpp_expand.proofs.Turning.{hand-more}
+use Rattle.pw_cpp_expand.proofs.Cutting.{closed-known, leads-closed, leads-faulty, leads-open, leads-put, leads-start, put-depth, put-known, start-known}
+use Rattle.pw_cpp_expand.proofs.Turning.{fault-on, fault-weaker, hand-more}
 use Rattle.pw_cpp_expand.proofs.arguments.collect.Goals as goal
 use Rattle.pw_cpp_sets.specs.Sets.{Known}
 
@@ -26,6 +26,53 @@ taken_off : (text : List ℕ) (mode : Mode) (old middle left : List Numbered) (p
 taken_off text mode old middle left p q mark e looks known empty =
     let P : List Lexeme → Type 0 = λ x. LooksAhead text mode (at_hand known old) p (At x q) in
     subst P (ap (at_hand known) e ∙ hand-more known left mark) (looks known empty)
+
+pub loop-turn-init : goal.loop-turn-init
+loop-turn-init c = (
+  c.requires,
+  omega arith,
+  leads-start c.args.source.now c.args.text.now c.args.mode c.args.pending.now c.args.progress.now c.new-whole.result c.new-last.result c.new-whole.ensures c.new-last.ensures,
+  λ known some h. let empty = start-known known c.new-whole.result c.new-last.result c.new-whole.ensures c.new-last.ensures in (h, empty.0, empty.1),
+)
+
+pub returns-in_err-look_ahead-clause-answers : goal.returns-in_err-look_ahead-clause-answers
+returns-in_err-look_ahead-clause-answers c =
+    fault-on (AnswersCall c.args.source.now c.args.text.now c.args.mode c.args.pending.now c.args.progress.now c.look_ahead.new.pending c.look_ahead.new.progress) c.in_err-look_ahead.field-0.0 c.from_residual.result
+    (let e : c.from_residual.result ≡ Err c.in_err-look_ahead.field-0.0 = first_of (search (rules, c.from_residual.ensures), cc (c.from_residual.ensures)) in e)
+    (fault-weaker (λ f. (known : Known) → HaveEmpty known → LooksAhead c.args.text.now c.args.mode (at_hand known c.loop-turn.pending) c.loop-turn.progress (Faulty f))
+      (λ f. (known : Known) → HaveEmpty known → Collects c.args.source.now c.args.text.now c.args.mode 0 ([] ∷ []) (at_hand known c.args.pending.now) c.args.progress.now (Fails f)) _
+      (λ f h. leads-faulty c.args.source.now c.args.text.now c.args.mode c.args.pending.now c.args.progress.now c.loop-turn.whole c.loop-turn.last c.loop-turn.pending c.loop-turn.progress c.loop-turn.depth
+          c.loop-turn.invariant.2 f h)
+      c.in_err-look_ahead.ensures.answers)
+
+pub returns-in_default-clause-answers : goal.returns-in_default-clause-answers
+returns-in_default-clause-answers c =
+    leads-open c.args.source.now c.args.text.now c.args.mode c.args.pending.now c.args.progress.now c.loop-turn.whole c.loop-turn.last c.loop-turn.pending c.loop-turn.progress c.loop-turn.depth
+    c.loop-turn.invariant.2 c.look_ahead.new.pending c.look_ahead.new.progress c.in_default.ensures.0 c.in_ok-look_ahead.ensures.answers
+
+pub returns-in_default-clause-known : goal.returns-in_default-clause-known
+returns-in_default-clause-known c = λ known some h.
+    let P : List Numbered → Type 0 = λ x. AreKnown known x in
+    subst P (sym c.in_default.ensures.1) (All-nil (λ (l : Numbered). l.hidden < length known))
+
+pub returns-then-is_end-clause-answers : goal.returns-then-is_end-clause-answers
+returns-then-is_end-clause-answers c = λ known empty.
+    leads-closed c.args.source.now c.args.text.now c.args.mode c.args.pending.now c.args.progress.now c.loop-turn.whole c.loop-turn.last c.loop-turn.pending c.loop-turn.progress c.in-Some.lexeme c.pop.new.self
+    c.look_ahead.new.progress c.loop-turn.depth
+    (taken_off c.args.text.now c.args.mode c.loop-turn.pending c.look_ahead.new.pending c.pop.new.self c.loop-turn.progress c.look_ahead.new.progress c.in-Some.lexeme c.in-Some.ensures c.in_ok-look_ahead.ensures.answers)
+    c.loop-turn.invariant.2 c.in_ok-arguments.arguments c.in_ok-arguments.ensures.0 c.in_ok-arguments.ensures.1
+    (λ any. sym (c.is_end.ensures.0 c.if-is_end.true) ∙ c.cut_of-cut.ensures ∙ ap (λ x. cut_of x c.loop-turn.depth) (c.part_of.ensures any)) known empty
+
+pub returns-then-is_end-clause-known : goal.returns-then-is_end-clause-known
+returns-then-is_end-clause-known c = λ known some h.
+    (All-pop (λ (l : Numbered). l.hidden < length known) c.look_ahead.new.pending c.pop.new.self (Some c.in-Some.lexeme) c.in-Some.ensures
+      (c.in_ok-look_ahead.ensures.known known some (c.loop-turn.invariant.3 known some h).0)).0
+
+pub returns-then-is_end-clause-arguments : goal.returns-then-is_end-clause-arguments
+returns-then-is_end-clause-arguments c = λ known some h.
+    let before = c.loop-turn.invariant.3 known some h in
+    let parts = All-pop (λ (l : Numbered). l.hidden < length known) c.look_ahead.new.pending c.pop.new.self (Some c.in-Some.lexeme) c.in-Some.ensures (c.in_ok-look_ahead.ensures.known known some before.0) in
+    closed-known known c.in_ok-arguments.arguments c.loop-turn.whole c.loop-turn.last c.in-Some.lexeme c.in_ok-arguments.ensures.0 c.in_ok-arguments.ensures.1 before.1 before.2 parts.1
 
 pub loop-turn-preserved : goal.loop-turn-preserved
 loop-turn-preserved c =

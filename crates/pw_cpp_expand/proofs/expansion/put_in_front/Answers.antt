@@ -11,4 +11,4 @@ loop-lexeme-preserved c =
 
 pub returns : goal.returns
 returns c =
-    sym (append-nil c.loop-lexeme.pending) ∙ ap (λ x. c.loop-lexeme.pending ++ reverse x) (sym c.in-None.ensures.0) ∙ c.loop-lexeme.invariant
+    sym (append-nil c.loop-lexeme.pending) ∙ ap (λ x. c.loop-lexeme.pending ++ reverse x) (sym c.in_default.ensures.0) ∙ c.loop-lexeme.invariant

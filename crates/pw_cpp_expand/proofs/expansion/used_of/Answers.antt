@@ -1,10 +1,9 @@
-use Rattle.std.proofs.Common.{◌≡◌, ◌+◌, ◌≤◌, ◌<◌, ap, length, sym, ◌∙◌, [], ◌∷◌, length-append, arith, refl, subst, List}
+use Rattle.std.proofs.Common.{◌≡◌, ◌+◌, ◌-◌, ◌≤◌, ◌<◌, ap, length, sym, ◌∙◌, [], ◌∷◌, length-append, arith, refl, subst, List}
 use Rattle.std.specs.List.{All}
-use Rattle.std.proofs.lemmas.List.{get_or_default}
 use Rattle.std.proofs.lemmas.List.Elements.{All-nil}
 use Rattle.pw_cpp_expand.specs.Numbered.{AreKnown}
 use Rattle.pw_cpp_expand.specs.declared.expansion.Raw.{Raw}
-use Rattle.pw_cpp_expand.proofs.Results.{raws-more, used-all, used-init, used-more}
+use Rattle.pw_cpp_expand.proofs.Results.{element-at, raws-more, used-all, used-init, used-more}
 use Rattle.pw_cpp_expand.proofs.expansion.used_of.Goals as goal
 
 pub loop-tokens-init : goal.loop-tokens-init
@@ -23,7 +22,7 @@ loop-tokens-preserved c =
       λ known.
           used-more known c.args.source.now c.args.parameters.now c.args.replacement.now c.args.arguments c.loop-tokens.arguments c.pop.new.self c.loop-tokens.waiting c.push_used.new.waiting c.in-Some.tokens
           _ (c.loop-tokens.invariant.2 known) c.in-Some.ensures (omega (arith, one, c.loop-tokens.invariant.0, c.loop-tokens.invariant.1))
-          (get_or_default _ _ _ _ (omega (arith, one, c.loop-tokens.invariant.0, c.loop-tokens.invariant.1))) c.in_ok-push_used.ensures,
+          (element-at c.args.parameters.now (c.loop-tokens.count - 1) (length c.pop.new.self) _ (omega (arith, one, c.loop-tokens.invariant.0)) (omega (arith, one, c.loop-tokens.invariant.0, c.loop-tokens.invariant.1))) c.in_ok-push_used.ensures,
       λ known h.
           let before = c.loop-tokens.invariant.3 known h in
           raws-more known c.args.source.now c.args.replacement.now c.loop-tokens.arguments c.pop.new.self c.loop-tokens.waiting c.push_used.new.waiting c.in-Some.tokens _ c.in-Some.ensures c.in_ok-push_used.ensures

@@ -3,8 +3,8 @@ use Rattle.std.specs.List.{All}
 use Rattle.pw_cpp_expand.proofs.Results.{waits-none, waits-some}
 use Rattle.pw_cpp_expand.proofs.expansion.waiting_of.Goals as goal
 
-pub returns-then-ne-clause-waits : goal.returns-then-ne-clause-waits
-returns-then-ne-clause-waits c = λ known.
+pub returns-then-len-parameters-clause-waits : goal.returns-then-len-parameters-clause-waits
+returns-then-len-parameters-clause-waits c = λ known.
     waits-none c.args.source.now known c.args.parameters.now c.args.replacement.now c.args.arguments c.given-arguments.result (c.given-arguments.ensures.named known) (omega arith)
 
 pub used_of-requires : goal.used_of-requires

@@ -25,4 +25,4 @@ loop-token-preserved c =
       c.loop-token.invariant.0 _ _ (c.argument_for-argument.ensures.named c.loop-token.sets))
 
 pub returns : goal.returns
-returns c = made-all c.args.source.now c.args.sets.now c.args.replaced.hidden c.args.replaced.place c.args.arguments.now c.args.replacement.now c.loop-token.sets c.loop-token.made c.loop-token.invariant
+returns c = made-all c.args.source.now c.args.sets.now c.args.replaced.hidden c.args.replaced.place c.args.arguments.now c.args.replacement.now c.loop-token.sets c.loop-token.made c.loop-token.token-index c.loop-token-test.false c.loop-token.invariant

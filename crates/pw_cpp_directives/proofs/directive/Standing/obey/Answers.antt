@@ -11,7 +11,7 @@ returns-in_default-clause-obeys c = word-none c.args.source.now c.args.digits c.
 
 pub returns-in-Error-clause-obeys : goal.returns-in-Error-clause-obeys
 returns-in-Error-clause-obeys c =
-    word-error c.args.source.now c.args.digits c.args.d c.args.self.now c.args.self.now c.faulty.result c.word_of-found.result c.word_of-found.ensures c.in-Some.word _ c.in-Some.is c.in-Error.is c.faulty.ensures
+    word-error c.args.source.now c.args.digits c.args.d c.args.self.now c.args.self.now c.faulty-2.result c.word_of-found.result c.word_of-found.ensures c.in-Some.word _ c.in-Some.is c.in-Error.is c.faulty-2.ensures
 
 pub returns-in-Define-clause-obeys : goal.returns-in-Define-clause-obeys
 returns-in-Define-clause-obeys c =

@@ -18,6 +18,18 @@ returns-in_err-look_ahead c =
     (unread-step c.args.ground.source.now c.args.ground.text.now c.args.ground.macros.now c.args.ground.mode c.args.sets.now c.args.self.now c.args.name c.args.progress.now c.args.meaning.now c.args.parameters.now c.requires.meant c.requires.parameters c.in_err-look_ahead.field-0.0
       c.requires.ready.empty (subst P c.mode_in-mode.ensures c.in_err-look_ahead.ensures.answers))
 
+pub put_out-requires : goal.put_out-requires
+put_out-requires c =
+    (ahead-ready c.args.ground.source.now c.args.ground.text.now c.args.ground.macros.now c.args.ground.mode c.args.sets.now c.args.self.now c.args.name c.args.progress.now c.args.meaning.now c.args.parameters.now c.requires.meant c.requires.parameters c.requires.ready c.requires.name
+      c.mode_in-mode.result c.mode_in-mode.ensures c.look_ahead.new.pending c.look_ahead.new.progress c.in_ok-look_ahead.ensures.answers c.in_ok-look_ahead.ensures.within
+      (c.in_ok-look_ahead.ensures.known c.args.sets.now c.requires.ready.empty.0 c.requires.ready.sets.0)).limits.1
+
+pub put_out-requires-2 : goal.put_out-requires-2
+put_out-requires-2 c =
+    (ahead-ready c.args.ground.source.now c.args.ground.text.now c.args.ground.macros.now c.args.ground.mode c.args.sets.now c.args.self.now c.args.name c.args.progress.now c.args.meaning.now c.args.parameters.now c.requires.meant c.requires.parameters c.requires.ready c.requires.name
+      c.mode_in-mode.result c.mode_in-mode.ensures c.look_ahead.new.pending c.look_ahead.new.progress c.in_ok-look_ahead.ensures.answers c.in_ok-look_ahead.ensures.within
+      (c.in_ok-look_ahead.ensures.known c.args.sets.now c.requires.ready.empty.0 c.requires.ready.sets.0)).limits.1
+
 pub returns-in_default : goal.returns-in_default
 returns-in_default c =
     stands-last c.args.ground.source.now c.args.ground.text.now c.args.ground.macros.now c.args.ground.mode c.args.sets.now c.args.self.now c.args.name c.args.progress.now c.args.meaning.now c.args.parameters.now c.requires.meant c.requires.parameters c.requires.ready c.requires.name
@@ -40,4 +52,4 @@ pub returns : goal.returns
 returns c =
     stands-before c.args.ground.source.now c.args.ground.text.now c.args.ground.macros.now c.args.ground.mode c.args.sets.now c.args.self.now c.args.name c.args.progress.now c.args.meaning.now c.args.parameters.now c.requires.meant c.requires.parameters c.requires.ready c.requires.name
     c.mode_in-mode.result c.mode_in-mode.ensures c.look_ahead.new.pending c.look_ahead.new.progress c.in_ok-look_ahead.ensures.answers c.in_ok-look_ahead.ensures.within
-    (c.in_ok-look_ahead.ensures.known c.args.sets.now c.requires.ready.empty.0 c.requires.ready.sets.0) c.pop.new.self c.push.new.self c.in-Some.first c.in-Some.ensures c.in_ok-push.ensures (sym c.is_spelled.ensures ∙ c.if-is_spelled.false) _ _ c.put_out.result c.put_out.ensures
+    (c.in_ok-look_ahead.ensures.known c.args.sets.now c.requires.ready.empty.0 c.requires.ready.sets.0) c.pop.new.self c.push.new.self c.in-Some.first c.in-Some.ensures c.in_ok-push.ensures (sym c.is_spelled.ensures ∙ c.if-is_spelled.false) _ _ c.put_out-2.result c.put_out-2.ensures

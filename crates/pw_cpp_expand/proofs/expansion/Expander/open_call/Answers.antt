@@ -4,9 +4,10 @@ use Rattle.pw_cpp_expand.specs.Numbered.{AreKnown}
 use Rattle.pw_cpp_expand.specs.declared.expansion.Raw.{Raw}
 use Rattle.pw_cpp_expand.proofs.Whole.{opened-first, opened-known, opened-none, opened-ready, step-failed, unread-call}
 use Rattle.pw_cpp_expand.proofs.expansion.Expander.open_call.Goals as goal
+use Rattle.pw_cpp_sets.specs.Sets.{set_at}
 
-pub read_call-read-requires : goal.read_call-read-requires
-read_call-read-requires c = c.requires.ready.place
+pub read_call-requires : goal.read_call-requires
+read_call-requires c = c.requires.ready.place
 
 pub returns-in_err-read : goal.returns-in_err-read
 returns-in_err-read c =
@@ -19,39 +20,39 @@ pub replace_call-requires-clause-ready : goal.replace_call-requires-clause-ready
 replace_call-requires-clause-ready c =
     let read_known = c.in_ok-read.ensures.known c.args.sets.now c.requires.ready.empty.0 c.requires.ready.sets.0 in
     opened-ready c.args.ground.source.now c.args.ground.text.now c.args.ground.macros.now c.args.ground.mode c.args.sets.now c.args.self.now c.args.name c.args.progress.now c.args.meaning.now c.args.parameters.now c.requires.meant c.requires.parameters c.requires.ready c.requires.name
-    c.mode_in-mode.result c.mode_in-mode.ensures _ _ c.in_ok-shared.ensures.keeps c.in_ok-hidden.ensures.keeps c.read_call-read.new.progress
-    c.read_call-read.new.pending c.in_ok-read.read c.in_ok-read.ensures.answers read_known.0 read_known.1 c.in_ok-read.ensures.within
-    c.in_ok-shared.shared c.in_ok-hidden.hidden c.in_ok-shared.ensures.number.1 (c.in_ok-hidden.ensures.number.1 ∙ ap (λ x. x ∷ _) c.spelled.ensures) c.in_ok-hidden.ensures.number.0
-    (record { meaning = c.args.meaning; replaced = record { hidden = c.in_ok-hidden.hidden; place = c.args.name.place }; parameter = c.args.name.token; waiting = c.pop-first.new.self; expanded = c.new.result; behind = c.replace-behind.result; before = c.replace-before.result }) refl refl refl c.new.ensures c.replace-behind.ensures.value c.replace-before.ensures.value c.replace-behind.new.dest c.replace-before.new.dest
-    (c.replace-behind.ensures.after ∙ c.new-behind.ensures) (c.replace-before.ensures.after ∙ c.new-before.ensures)
+    c.mode_in-mode.result c.mode_in-mode.ensures _ _ c.in_ok-shared.ensures.keeps c.in_ok-hidden.ensures.keeps c.read_call.new.progress
+    c.read_call.new.pending c.in_ok-read.read c.in_ok-read.ensures.answers read_known.0 read_known.1 c.in_ok-read.ensures.within
+    c.in_ok-shared.shared c.in_ok-hidden.hidden c.in_ok-shared.ensures.number.1 (c.in_ok-hidden.ensures.number.1 ∙ ap (λ x. x ∷ set_at c.shared.new.self c.in_ok-shared.shared) c.spelled.ensures) c.in_ok-hidden.ensures.number.0
+    (record { meaning = c.args.meaning; replaced = record { hidden = c.in_ok-hidden.hidden; place = c.args.name.place }; parameter = c.args.name.token; waiting = c.pop-first.new.self; expanded = c.new-3.result; behind = c.replace-behind.result; before = c.replace-before.result }) refl refl refl c.new-3.ensures c.replace-behind.ensures.value c.replace-before.ensures.value c.replace-behind.new.dest c.replace-before.new.dest
+    (c.replace-behind.ensures.after ∙ c.new.ensures) (c.replace-before.ensures.after ∙ c.new-2.ensures)
 
 pub replace_call-requires-clause-call : goal.replace_call-requires-clause-call
 replace_call-requires-clause-call c =
     let read_known = c.in_ok-read.ensures.known c.args.sets.now c.requires.ready.empty.0 c.requires.ready.sets.0 in
     opened-known c.args.ground.source.now c.args.ground.text.now c.args.ground.macros.now c.args.ground.mode c.args.sets.now c.args.self.now c.args.name c.args.progress.now c.args.meaning.now c.args.parameters.now c.requires.meant c.requires.parameters c.requires.ready c.requires.name
-    c.mode_in-mode.result c.mode_in-mode.ensures _ _ c.in_ok-shared.ensures.keeps c.in_ok-hidden.ensures.keeps c.read_call-read.new.progress
-    c.read_call-read.new.pending c.in_ok-read.read c.in_ok-read.ensures.answers read_known.0 read_known.1 c.in_ok-read.ensures.within
-    c.in_ok-shared.shared c.in_ok-hidden.hidden c.in_ok-shared.ensures.number.1 (c.in_ok-hidden.ensures.number.1 ∙ ap (λ x. x ∷ _) c.spelled.ensures) c.in_ok-hidden.ensures.number.0
-    (record { meaning = c.args.meaning; replaced = record { hidden = c.in_ok-hidden.hidden; place = c.args.name.place }; parameter = c.args.name.token; waiting = c.pop-first.new.self; expanded = c.new.result; behind = c.replace-behind.result; before = c.replace-before.result }) refl refl refl c.new.ensures c.replace-behind.ensures.value c.replace-before.ensures.value c.replace-behind.new.dest c.replace-before.new.dest
-    (c.replace-behind.ensures.after ∙ c.new-behind.ensures) (c.replace-before.ensures.after ∙ c.new-before.ensures)
+    c.mode_in-mode.result c.mode_in-mode.ensures _ _ c.in_ok-shared.ensures.keeps c.in_ok-hidden.ensures.keeps c.read_call.new.progress
+    c.read_call.new.pending c.in_ok-read.read c.in_ok-read.ensures.answers read_known.0 read_known.1 c.in_ok-read.ensures.within
+    c.in_ok-shared.shared c.in_ok-hidden.hidden c.in_ok-shared.ensures.number.1 (c.in_ok-hidden.ensures.number.1 ∙ ap (λ x. x ∷ set_at c.shared.new.self c.in_ok-shared.shared) c.spelled.ensures) c.in_ok-hidden.ensures.number.0
+    (record { meaning = c.args.meaning; replaced = record { hidden = c.in_ok-hidden.hidden; place = c.args.name.place }; parameter = c.args.name.token; waiting = c.pop-first.new.self; expanded = c.new-3.result; behind = c.replace-behind.result; before = c.replace-before.result }) refl refl refl c.new-3.ensures c.replace-behind.ensures.value c.replace-before.ensures.value c.replace-behind.new.dest c.replace-before.new.dest
+    (c.replace-behind.ensures.after ∙ c.new.ensures) (c.replace-before.ensures.after ∙ c.new-2.ensures)
     (let P : List Raw → Type 0 = λ x. All (λ raw. AreKnown c.args.sets.now raw.tokens) x in subst P (sym c.in_default.ensures.1) (All-nil (λ (raw : Raw). AreKnown c.args.sets.now raw.tokens)))
 
 pub returns-in_default : goal.returns-in_default
 returns-in_default c =
     let read_known = c.in_ok-read.ensures.known c.args.sets.now c.requires.ready.empty.0 c.requires.ready.sets.0 in
     opened-none c.args.ground.source.now c.args.ground.text.now c.args.ground.macros.now c.args.ground.mode c.args.sets.now c.args.self.now c.args.name c.args.progress.now c.args.meaning.now c.args.parameters.now c.requires.meant c.requires.parameters c.requires.ready c.requires.name
-    c.mode_in-mode.result c.mode_in-mode.ensures _ _ c.in_ok-shared.ensures.keeps c.in_ok-hidden.ensures.keeps c.read_call-read.new.progress
-    c.read_call-read.new.pending c.in_ok-read.read c.in_ok-read.ensures.answers read_known.0 read_known.1 c.in_ok-read.ensures.within
-    c.in_ok-shared.shared c.in_ok-hidden.hidden c.in_ok-shared.ensures.number.1 (c.in_ok-hidden.ensures.number.1 ∙ ap (λ x. x ∷ _) c.spelled.ensures) c.in_ok-hidden.ensures.number.0
-    (record { meaning = c.args.meaning; replaced = record { hidden = c.in_ok-hidden.hidden; place = c.args.name.place }; parameter = c.args.name.token; waiting = c.pop-first.new.self; expanded = c.new.result; behind = c.replace-behind.result; before = c.replace-before.result }) refl refl refl c.new.ensures c.replace-behind.ensures.value c.replace-before.ensures.value c.replace-behind.new.dest c.replace-before.new.dest
-    (c.replace-behind.ensures.after ∙ c.new-behind.ensures) (c.replace-before.ensures.after ∙ c.new-before.ensures) c.in_default.ensures.0 _ _ _ c.replace_call.result c.replace_call.ensures
+    c.mode_in-mode.result c.mode_in-mode.ensures _ _ c.in_ok-shared.ensures.keeps c.in_ok-hidden.ensures.keeps c.read_call.new.progress
+    c.read_call.new.pending c.in_ok-read.read c.in_ok-read.ensures.answers read_known.0 read_known.1 c.in_ok-read.ensures.within
+    c.in_ok-shared.shared c.in_ok-hidden.hidden c.in_ok-shared.ensures.number.1 (c.in_ok-hidden.ensures.number.1 ∙ ap (λ x. x ∷ set_at c.shared.new.self c.in_ok-shared.shared) c.spelled.ensures) c.in_ok-hidden.ensures.number.0
+    (record { meaning = c.args.meaning; replaced = record { hidden = c.in_ok-hidden.hidden; place = c.args.name.place }; parameter = c.args.name.token; waiting = c.pop-first.new.self; expanded = c.new-3.result; behind = c.replace-behind.result; before = c.replace-before.result }) refl refl refl c.new-3.ensures c.replace-behind.ensures.value c.replace-before.ensures.value c.replace-behind.new.dest c.replace-before.new.dest
+    (c.replace-behind.ensures.after ∙ c.new.ensures) (c.replace-before.ensures.after ∙ c.new-2.ensures) c.in_default.ensures.0 _ _ _ c.replace_call.result c.replace_call.ensures
 
 pub returns : goal.returns
 returns c =
     let read_known = c.in_ok-read.ensures.known c.args.sets.now c.requires.ready.empty.0 c.requires.ready.sets.0 in
     opened-first c.args.ground.source.now c.args.ground.text.now c.args.ground.macros.now c.args.ground.mode c.args.sets.now c.args.self.now c.args.name c.args.progress.now c.args.meaning.now c.args.parameters.now c.requires.meant c.requires.parameters c.requires.ready c.requires.name
-    c.mode_in-mode.result c.mode_in-mode.ensures _ _ c.in_ok-shared.ensures.keeps c.in_ok-hidden.ensures.keeps c.read_call-read.new.progress
-    c.read_call-read.new.pending c.in_ok-read.read c.in_ok-read.ensures.answers read_known.0 read_known.1 c.in_ok-read.ensures.within
-    c.in_ok-shared.shared c.in_ok-hidden.hidden c.in_ok-shared.ensures.number.1 (c.in_ok-hidden.ensures.number.1 ∙ ap (λ x. x ∷ _) c.spelled.ensures) c.in_ok-hidden.ensures.number.0
-    (record { meaning = c.args.meaning; replaced = record { hidden = c.in_ok-hidden.hidden; place = c.args.name.place }; parameter = c.args.name.token; waiting = c.pop-first.new.self; expanded = c.new.result; behind = c.replace-behind.result; before = c.replace-before.result }) refl refl refl c.new.ensures c.replace-behind.ensures.value c.replace-before.ensures.value c.replace-behind.new.dest c.replace-before.new.dest
-    (c.replace-behind.ensures.after ∙ c.new-behind.ensures) (c.replace-before.ensures.after ∙ c.new-before.ensures) c.in-Some.next c.in-Some.ensures _ c.in_ok-begin_argument.ensures
+    c.mode_in-mode.result c.mode_in-mode.ensures _ _ c.in_ok-shared.ensures.keeps c.in_ok-hidden.ensures.keeps c.read_call.new.progress
+    c.read_call.new.pending c.in_ok-read.read c.in_ok-read.ensures.answers read_known.0 read_known.1 c.in_ok-read.ensures.within
+    c.in_ok-shared.shared c.in_ok-hidden.hidden c.in_ok-shared.ensures.number.1 (c.in_ok-hidden.ensures.number.1 ∙ ap (λ x. x ∷ set_at c.shared.new.self c.in_ok-shared.shared) c.spelled.ensures) c.in_ok-hidden.ensures.number.0
+    (record { meaning = c.args.meaning; replaced = record { hidden = c.in_ok-hidden.hidden; place = c.args.name.place }; parameter = c.args.name.token; waiting = c.pop-first.new.self; expanded = c.new-3.result; behind = c.replace-behind.result; before = c.replace-before.result }) refl refl refl c.new-3.ensures c.replace-behind.ensures.value c.replace-before.ensures.value c.replace-behind.new.dest c.replace-before.new.dest
+    (c.replace-behind.ensures.after ∙ c.new.ensures) (c.replace-before.ensures.after ∙ c.new-2.ensures) c.in-Some.next c.in-Some.ensures _ c.in_ok-begin_argument.ensures

@@ -1,4 +1,4 @@
-use Rattle.std.proofs.Common.{◌≡◌, ◌+◌, ◌<◌, ◌≤◌, inr, refl, ap, subst, ◌∙◌}
+use Rattle.std.proofs.Common.{◌≡◌, ℕ, ◌+◌, ◌<◌, ◌≤◌, inr, refl, ap, subst, ◌∙◌}
 use Rattle.pw_cpp_expand.specs.Lookahead.{output_limit}
 use Rattle.pw_cpp_expand.specs.Numbered.{room_of}
 use Rattle.pw_cpp_expand.specs.declared.progress.Mode.{Mode}

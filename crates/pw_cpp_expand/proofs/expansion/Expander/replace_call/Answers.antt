@@ -1,7 +1,6 @@
 use Rattle.std.proofs.Common.{◌≡◌, ap, subst, sym, ◌∙◌, List, map}
 use Rattle.std.specs.List.{All}
-use Rattle.pw_cpp_expand.specs.AtHand.{argument_named}
-use Rattle.pw_cpp_expand.specs.Expansion.{result_of}
+use Rattle.pw_cpp_expand.proofs.Results.{made-as}
 use Rattle.pw_cpp_expand.proofs.Whole.{replaced-whole}
 use Rattle.pw_cpp_expand.proofs.expansion.Expander.replace_call.Goals as goal
 
@@ -15,7 +14,5 @@ pub returns : goal.returns
 returns c =
     replaced-whole c.args.ground.source.now c.args.ground.text.now c.args.ground.macros.now c.args.ground.mode c.args.sets.now _ c.in_ok-made.ensures.0 c.args.self.now c.args.call c.in_ok-made.made
     c.args.progress.now c.requires.ready c.requires.call c.in_ok-made.ensures.1
-    (c.in_ok-made.ensures.2
-      ∙ ap (λ x. result_of c.args.ground.source.now _ c.args.call.replaced.place (map (argument_named c.args.ground.source.now c.args.sets.now) x) c.as_slice-replacement.result.now) c.as_slice-arguments.ensures
-      ∙ ap (λ x. result_of c.args.ground.source.now _ c.args.call.replaced.place (map (argument_named c.args.ground.source.now c.args.sets.now) c.args.call.expanded) x) c.as_slice-replacement.ensures)
+    (made-as c.args.ground.source.now c.args.sets.now _ _ _ _ _ _ _ c.in_ok-made.ensures.2 c.as_slice-arguments.ensures c.as_slice-replacement.ensures)
     _ _ c.put_result.result c.put_result.ensures

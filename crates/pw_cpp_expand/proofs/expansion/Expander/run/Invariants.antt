@@ -6,4 +6,4 @@ use Rattle.pw_cpp_expand.proofs.expansion.Expander.run.Given as goal
 abbrev pub invariant-loop-turn : goal.invariant-loop-turn
 invariant-loop-turn l =
     IsStep l.ground.source.now l.ground.text.now l.ground.macros.now l.ground.mode l.initial.sets
-    (λ outcome. ComesTo l.ground.source.now l.ground.text.now l.ground.macros.now l.ground.mode l.initial.sets l.initial.self l.initial.progress outcome) l.sets l.self l.progress (Ok tt)
+    (λ outcome. ComesTo l.ground.source.now l.ground.text.now l.ground.macros.now l.ground.mode l.initial.sets l.initial.self l.initial.progress outcome) l.sets l.self l.progress (Ok (tt {0}))

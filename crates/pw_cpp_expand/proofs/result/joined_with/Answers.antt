@@ -1,6 +1,6 @@
 use Rattle.std.proofs.Common.{sym, refl}
 use Rattle.pw_cpp_expand.proofs.Results.{joined-new, keeps-self}
-use Rattle.pw_cpp_expand.proofs.result.joined.Goals as goal
+use Rattle.pw_cpp_expand.proofs.result.joined_with.Goals as goal
 
 pub returns-then-own-last : goal.returns-then-own-last
 returns-then-own-last c = (keeps-self c.args.sets.now, c.requires.last, sym c.if-own-last.true)
