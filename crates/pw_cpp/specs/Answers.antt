@@ -32,24 +32,12 @@ use Rattle.pw_cpp_values.specs.declared.arithmetic.Number.{Number}
 
 -- ---- files
 
--- where files stand in the source, with their names
-abbrev pub files_of : List (List ℕ) → List Place → List File
-files_of (name ∷ names) (span ∷ spans) = record { name = name; from = span.from; end = span.end } ∷ files_of names spans
-files_of _ _ = []
-
-abbrev pub names_of : List (List ℕ × Vec ℕ) → List (List ℕ)
-names_of files = map (λ file. file.0) files
-
 -- What a reader has come to is how reading stands: the output is the bytes of its rows.
 pub record StandsAs (reader : Reader) (reading : Reading) : Type 0 where
   pub standing_is : reading.standing_is ≡ standing_of reader.standing
   pub nested_is : reading.nested ≡ reverse reader.standing.nested
   pub out_is : output_of reader.source.now reading.out ≡ reader.out.items
   pub size_is : reading.size ≡ length reader.out.items
-
--- the places of a file
-abbrev pub IsPlaceOf : File → ℕ → Type 0
-IsPlaceOf file place = (file.from ≤ place) × (place ≤ file.end)
 
 -- what files a reader reads
 abbrev pub reads_of : Reader → List File
@@ -109,38 +97,6 @@ use_by reader name =
     else (if is_reading (reverse reader.standing.sections) && bytes_eq name (codes "include") then Include
     else (if is_reading (reverse reader.standing.sections) || (nat_le (length reader.standing.nested) 0 && is_turn name) then Whole else Passed))
 
--- the first, if there is one, is so
-abbrev pub HeadIs : {A : Type 0} → (A → Type 0) → List A → Type 0
-HeadIs Is [] = Unit {0}
-HeadIs Is (first ∷ others) = Is first
-
--- from each to the next no less
-abbrev pub AreAscending : List ℕ → Type 0
-AreAscending [] = Unit {0}
-AreAscending (x ∷ []) = Unit {0}
-AreAscending (x ∷ y ∷ more) = (x ≤ y) × AreAscending (y ∷ more)
-
--- tokens stand in the order of their places, none before the first row
-abbrev pub IsInRows : List ℕ → List Numbered → Type 0
-IsInRows [] out = ⊥
-IsInRows (first ∷ rows) out = AreAscending (first ∷ rows) × AreAscending (map (λ l. l.place) out) × All (λ l. first ≤ l.place) out
-
--- a place is that of the next row or behind it, if there is one
-abbrev pub is_reached : Option ℕ → ℕ → Bool
-is_reached (Some next) place = nat_le next place
-is_reached None place = false
-
--- the bytes of some tokens, each with a space behind it
-abbrev pub spelled_tokens : List ℕ → List Numbered → List ℕ
-spelled_tokens source out = flat_map (λ l. spelling source l.token ++ 32 ∷ []) out
-
--- of some tokens so many, the first that none of them reaches, were put out as a row
-pub record IsRowPut (source : List ℕ) (next : Option ℕ) (out : List Numbered) (before : List ℕ) (count : ℕ) (after : List ℕ) : Type 0 where
-  pub within : count ≤ length out
-  pub before_next : All (λ l. is_reached next l.place ≡ false) (take count out)
-  pub reaches : HeadIs (λ l. is_reached next l.place ≡ true) (drop count out)
-  pub put : after ≡ before ++ (spelled_tokens source (take count out) ++ 10 ∷ [])
-
 -- a fault with its file's name and its line
 abbrev pub IsPlacedFault : List ℕ → List (List ℕ × Vec ℕ) → List Place → Fault → CppFault → Type 0
 IsPlacedFault source files spans f found =
@@ -152,37 +108,6 @@ abbrev pub Keeps : Reader → Reader → Type 0
 Keeps old new = (new.source.now ≡ old.source.now) × (new.files.now ≡ old.files.now) × (new.spans.now ≡ old.spans.now)
 
 -- ---- the whole
-
--- the tokens of the digits, which stand before all files
-abbrev pub digit : ℕ → Token
-digit at = record { kind = token.Number; at = at; len = 1 }
-
-abbrev pub digits_of : Digits
-digits_of = record { zero = digit 0; one = digit 2 }
-
--- files by their names and their bytes
-abbrev pub Texts : Type 0
-Texts = List (List ℕ × List ℕ)
-
-abbrev pub texts_of : List (List ℕ × Vec ℕ) → Texts
-texts_of files = map (λ file. (file.0, file.1.items)) files
-
--- all files one behind the other, a newline before each, behind what is there
-abbrev pub source_behind : List ℕ → Texts → List ℕ
-source_behind before [] = before
-source_behind before (file ∷ files) = source_behind (before ++ 10 ∷ [] ++ file.1) files
-
-abbrev pub source_of : Texts → List ℕ
-source_of files = source_behind (codes "0 1 ") files
-
--- and where each stands, behind so many bytes
-abbrev pub spans_behind : ℕ → Texts → List File
-spans_behind before [] = []
-spans_behind before (file ∷ files) =
-    record { name = file.0; from = before + 1; end = before + 1 + length file.1 } ∷ spans_behind (before + 1 + length file.1) files
-
-abbrev pub spans_of : Texts → List File
-spans_of files = spans_behind 4 files
 
 -- What preprocessing a file, which is one of these, comes to: its output, or the kind, the file and the line of its first fault.
 abbrev pub PreprocessesFile : Texts → List ℕ → Result (List ℕ) (CppKind × List ℕ × ℕ) → Type 0
@@ -199,7 +124,3 @@ AnswersReading source files digits name (Err fault) =
 abbrev pub AnswersCpp : Texts → List ℕ → Result (Vec ℕ) CppFault → Type 0
 AnswersCpp files name (Ok out) = PreprocessesFile files name (Ok out.items)
 AnswersCpp files name (Err fault) = (fault.kind ≡ kind.NoMemory) ⊎ PreprocessesFile files name (Err (fault.kind, fault.file, fault.line))
-
--- a file of this name is there
-abbrev pub IsThere : Texts → List ℕ → Type 0
-IsThere files name = (file : File) × (file_named (spans_of files) name ≡ Some file)

@@ -27,71 +27,6 @@ use Rattle.pw_cpp_lines.specs.declared.line.LineFault.{LineFault}
 use Rattle.pw_cpp_lines.specs.declared.line.LineFault.TheVariants as no
 use Rattle.pw_cpp_lines.specs.declared.line.LineFault.TheVariants.{Bad}
 
--- ---- files
-
--- a file: its name, and where it stands in the source, in which all files stand one behind the other
-pub record File : Type 0 where
-  pub name : List ℕ
-  pub from : ℕ
-  pub end : ℕ
-
--- the source up to the end of a file, so that places of the file are places of the source
-abbrev pub text_of : List ℕ → File → List ℕ
-text_of source file = take file.end source
-
-abbrev pub size_of : File → ℕ
-size_of file = file.end - file.from
-
-abbrev pub file_named : List File → List ℕ → Option File
-file_named [] name = None
-file_named (file ∷ others) name = if bytes_eq name file.name then Some file else file_named others name
-
--- ---- headers
-
-abbrev pub ends_in : List ℕ → List ℕ → Bool
-ends_in name ending = nat_le (length ending) (length name) && bytes_eq (drop (length name - length ending) name) ending
-
--- 1 to 400 bytes, the last two `.h`, and neither a space nor a newline
-abbrev pub is_header : List ℕ → Bool
-is_header name = nat_le (length name) header_name_limit && ends_in name (codes ".h") && not (list_any (λ b. b == 32 || b == 10) name)
-
-abbrev pub depth_limit : ℕ
-depth_limit = 16
-
-abbrev pub header_name_limit : ℕ
-header_name_limit = 400
-
-abbrev pub length_limit : ℕ
-length_limit = 1048576
-
--- the header that an include names
-abbrev pub header_of : List File → List ℕ → Option File
-header_of files name = if is_header name then file_named files name else None
-
--- ---- the output
-
--- a line of the output: where its line begins in its file, and its tokens
-pub record Row : Type 0 where
-  pub place : ℕ
-  pub tokens : List Token
-
--- the tokens that stand in the line of a row: those whose places lie from its beginning on and before the next row's
-abbrev pub in_row : ℕ → Option ℕ → Lexeme → Bool
-in_row from (Some next) lexeme = nat_le from lexeme.place && not (nat_le next lexeme.place)
-in_row from None lexeme = nat_le from lexeme.place
-
-abbrev pub rows_of : List ℕ → List Lexeme → List Row
-rows_of [] out = []
-rows_of (from ∷ []) out = record { place = from; tokens = map (λ lexeme. lexeme.token) (filter (in_row from None) out) } ∷ []
-rows_of (from ∷ next ∷ more) out = record { place = from; tokens = map (λ lexeme. lexeme.token) (filter (in_row from (Some next)) out) } ∷ rows_of (next ∷ more) out
-
--- each token, a space behind it, and a newline behind all
-abbrev pub spelled_row : List ℕ → Row → List ℕ
-spelled_row source row = flat_map (λ token. spelling source token ++ 32 ∷ []) row.tokens ++ 10 ∷ []
-
-abbrev pub output_of : List ℕ → List Row → List ℕ
-output_of source rows = flat_map (spelled_row source) rows
-
 -- ---- reading a file
 
 -- What is known while files are read: macros, open sections of the file at hand, tokens produced; the sections that are open within a
@@ -296,10 +231,6 @@ mutual
 
 abbrev pub at_first : Reading
 at_first = record { standing_is = standing [] [] 0; nested = []; out = []; size = 0 }
-
--- the line of a place of a file, counted from 1
-abbrev pub line_of : List ℕ → File → ℕ → ℕ
-line_of source file place = line_at (take (size_of file) (drop file.from source)) (place - file.from)
 
 -- What preprocessing a file comes to: its output, or the kind, the file and the line of its first fault.
 pub data Preprocesses (source : List ℕ) (files : List File) (digits : Digits) (name : List ℕ) : Result (List ℕ) (CppKind × List ℕ × ℕ) → Type 0 where

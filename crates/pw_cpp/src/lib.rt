@@ -3,10 +3,8 @@
 
 mod fault;
 mod file;
-mod header;
-mod source;
 
 pub use fault::CppFault;
 pub use file::preprocess;
-pub use header::{DEPTH_LIMIT, HEADER_NAME_LIMIT, is_header};
 pub use pw_cpp_directives::{CppKind, CppWhich};
+pub use pw_cpp_sources::{DEPTH_LIMIT, HEADER_NAME_LIMIT, is_header};

@@ -261,14 +261,14 @@ module _ (old mid : Kept) (section : Section) (is : old ≡ with_innermost mid s
     else-done new made result none early m e f =
         opened-done (λ effect. effect ≡ else_effect (standing_of old) hash tokens (reverse old.sections)) mid new made result e f
         (ap (λ x. Becomes (standing mid.macros (x ∷ reverse mid.sections) mid.produced)) m
-          ∙ sym (else_is none ∙ ap (λ b. if b then Fails (fault kind.Condition hash) else Becomes (standing mid.macros (with_else section ∷ reverse mid.sections) mid.produced)) early))
+        ∙ sym (else_is none ∙ ap (λ b. if b then Fails (fault kind.Condition hash) else Becomes (standing mid.macros (with_else section ∷ reverse mid.sections) mid.produced)) early))
 
     pub end-done : tokens ≡ [] → Becomes (standing_of mid) ≡ endif_effect (standing_of old) hash tokens (reverse old.sections)
     end-done none =
         sym (
-          ap (λ k. endif_effect (standing_of k) hash tokens (reverse k.sections)) is
-          ∙ ap (endif_effect (standing_of (with_innermost mid section)) hash tokens) (innermost-first mid.sections section)
-          ∙ ap (λ x. endif_effect (standing_of (with_innermost mid section)) hash x (section ∷ reverse mid.sections)) none
+        ap (λ k. endif_effect (standing_of k) hash tokens (reverse k.sections)) is
+        ∙ ap (endif_effect (standing_of (with_innermost mid section)) hash tokens) (innermost-first mid.sections section)
+        ∙ ap (λ x. endif_effect (standing_of (with_innermost mid section)) hash x (section ∷ reverse mid.sections)) none
         )
 
     module _ (source : List ℕ) (digits : Digits) (new : Kept) where
@@ -283,7 +283,7 @@ module _ (old mid : Kept) (section : Section) (is : old ≡ with_innermost mid s
           let P : Kept → Type 0 = λ k. Turns_of k (Fails f) in
           let Q : Fault → Type 0 = λ x. Turns_of (with_innermost mid section) (Fails x) in
           inr (subst P (sym is) (subst Q (sym f_is)
-            (elif-late source digits (standing_of (with_innermost mid section)) hash tokens (reverse (with_innermost mid section).sections) (reverse mid.sections) section first behind)))
+          (elif-late source digits (standing_of (with_innermost mid section)) hash tokens (reverse (with_innermost mid section).sections) (reverse mid.sections) section first behind)))
 
       pub elif-taken-done : (made : Section) (result : Result (Unit {0}) Fault) → section.behind_else ≡ false → section.taken ≡ true → made ≡ with_elif false section
           → IfOk result (λ _. new ≡ record mid { sections = mid.sections ++ made ∷ [] }) → IfErr result (λ f. f.kind ≡ kind.NoMemory) → IsDoneBy (Turns_of old) new result
@@ -291,7 +291,7 @@ module _ (old mid : Kept) (section : Section) (is : old ≡ with_innermost mid s
           let P : Kept → Type 0 = λ k. IsDoneBy (Turns_of k) new result in
           let Q : Section → Type 0 = λ x. Turns_of (with_innermost mid section) (Becomes (standing mid.macros (x ∷ reverse mid.sections) mid.produced)) in
           subst P (sym is) (opened-done (Turns_of (with_innermost mid section)) mid new made result e f (subst Q (sym m)
-            (elif-taken source digits (standing_of (with_innermost mid section)) hash tokens (reverse (with_innermost mid section).sections) (reverse mid.sections) section first early taken_is)))
+          (elif-taken source digits (standing_of (with_innermost mid section)) hash tokens (reverse (with_innermost mid section).sections) (reverse mid.sections) section first early taken_is)))
 
       pub elif-judged-done : (made : Section) (holds : Bool) (behind : Kept) (result : Result (Unit {0}) Fault) → section.behind_else ≡ false → section.taken ≡ false → made ≡ with_elif holds section
           → behind ≡ record mid { sets = behind.sets; produced = behind.produced } → Judges source mid.macros digits tokens mid.produced (Holds holds behind.produced)
@@ -301,15 +301,15 @@ module _ (old mid : Kept) (section : Section) (is : old ≡ with_innermost mid s
           let Q : Section → Type 0 = λ x. Turns_of (with_innermost mid section) (Becomes (standing mid.macros (x ∷ reverse mid.sections) behind.produced)) in
           let R : Kept → Type 0 = λ k. Turns_of (with_innermost mid section) (Becomes (standing k.macros (made ∷ reverse k.sections) behind.produced)) in
           subst P (sym is) (opened-done (Turns_of (with_innermost mid section)) behind new made result e f (subst R (sym b) (subst Q (sym m)
-            (elif-judged source digits (standing_of (with_innermost mid section)) hash tokens (reverse (with_innermost mid section).sections) (reverse mid.sections) section first
-              holds behind.produced early untaken j))))
+          (elif-judged source digits (standing_of (with_innermost mid section)) hash tokens (reverse (with_innermost mid section).sections) (reverse mid.sections) section first
+          holds behind.produced early untaken j))))
 
       pub elif-fault-done : (found : Fault) (result : Result (Unit {0}) Fault) → result ≡ Err found → section.behind_else ≡ false → section.taken ≡ false
           → IsFaultOf found (λ f. (verdict : Verdict) × Judges source mid.macros digits tokens mid.produced verdict × (fault_of_verdict hash verdict ≡ Some f)) → IsDoneBy (Turns_of old) new result
       elif-fault-done found result result_is early untaken h =
           let P : Kept → Type 0 = λ k. IsDoneBy (Turns_of k) new result in
           subst P (sym is) (handed-on (IsDoneBy (Turns_of (with_innermost mid section)) new) found result result_is
-            (elif-fault source digits (standing_of (with_innermost mid section)) hash tokens (reverse (with_innermost mid section).sections) (reverse mid.sections) section first found early untaken h))
+          (elif-fault source digits (standing_of (with_innermost mid section)) hash tokens (reverse (with_innermost mid section).sections) (reverse mid.sections) section first found early untaken h))
 
 -- whether tokens stand behind a word
 pub none-there : (tokens : List Token) (b : Bool) → b ≡ (length tokens == 0) → b ≡ true → tokens ≡ []

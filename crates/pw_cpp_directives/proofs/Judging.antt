@@ -1,6 +1,6 @@
 -- How a condition is judged, by its steps.
-use Rattle.std.proofs.Common.{◌≡◌, ℕ, ◌+◌, ◌<◌, ◌≤◌, Bool, true, false, List, [], ◌∷◌, ◌++◌, ◌-◌, length, get_or, take, drop, Option, Some, None, Ok, Err, inl, inr, refl, sym, ap, ◌∙◌, subst, append_assoc, All, arith}
-use Rattle.std.proofs.lemmas.List.{append-nil, at_drop_all, at_drop_more, map-append, take_all}
+use Rattle.std.proofs.Common.{◌≡◌, ℕ, ◌+◌, ◌<◌, ◌≤◌, Bool, true, false, List, [], ◌∷◌, ◌++◌, ◌-◌, length, get_or, take, drop, Option, Some, None, Result, Ok, Err, inl, inr, refl, sym, ap, ◌∙◌, subst, append_assoc, All, length-drop, arith}
+use Rattle.std.proofs.lemmas.List.{append-nil, at_drop_all, at_drop_more, length-take, map-append, take_all}
 use Rattle.std.proofs.lemmas.List.Elements.{All-nil, All-push, All-weaker}
 use Rattle.std.specs.Prelude.{◌&&◌, codes, if◌then◌else◌, is_some, option_and_then, option_map}
 use Rattle.pw_token.specs.Roles.{spelling}
@@ -43,6 +43,11 @@ alone (Some later) = refl
 pub first-and-rest : (left : List Token) (d : Token) → 1 ≤ length left → left ≡ get_or left 0 d ∷ take (length left - 1) (drop 1 left)
 first-and-rest [] d l = absurd (omega (arith, l))
 first-and-rest (t ∷ left) d l = ap (λ x. t ∷ x) (sym (take_all (length (t ∷ left) - 1) left (omega arith)))
+
+-- fewer are left behind the first
+pub fewer-left : (left left' : List Token) (count : ℕ) → 1 ≤ length left → left' ≡ drop count (take (length left - 1) (drop 1 left)) → length left' < length left
+fewer-left left left' count l e =
+    omega (arith, l, ap length e, length-drop count (take (length left - 1) (drop 1 left)), length-take (length left - 1) (drop 1 left))
 
 -- no tokens
 pub no-rest : (left : List Token) → length left < 1 → left ≡ []
@@ -93,7 +98,7 @@ module _ (source : List ℕ) (macros : Macros) (digits : Digits) where
   taken-one t (a ∷ b ∷ []) = by (is_spelled source (codes "defined") t) (is_word a)
     where
       by : (s w : Bool) → (if s then (if w then option_map (λ later. said source macros digits t a ∷ later) (with_defined source macros digits (b ∷ [])) else None)
-            else option_map (λ later. fresh t ∷ later) (with_defined source macros digits (a ∷ b ∷ [])))
+          else option_map (λ later. fresh t ∷ later) (with_defined source macros digits (a ∷ b ∷ [])))
           ≡ option_and_then (In_front_of (a ∷ b ∷ [])) (if s then option_map (Named_by t) (if w then Some (a, 1) else None) else Some (fresh t, 0))
       by true true = refl
       by true false = refl
@@ -101,8 +106,8 @@ module _ (source : List ℕ) (macros : Macros) (digits : Digits) where
   taken-one t (a ∷ b ∷ c ∷ rest) = by (is_spelled source (codes "defined") t) (is_word a) (is_spelled source (codes "(") a && is_word b && is_spelled source (codes ")") c)
     where
       by : (s w p : Bool) → (if s then (if w then option_map (λ later. said source macros digits t a ∷ later) (with_defined source macros digits (b ∷ c ∷ rest))
-              else (if p then option_map (λ later. said source macros digits t b ∷ later) (with_defined source macros digits rest) else None))
-            else option_map (λ later. fresh t ∷ later) (with_defined source macros digits (a ∷ b ∷ c ∷ rest)))
+          else (if p then option_map (λ later. said source macros digits t b ∷ later) (with_defined source macros digits rest) else None))
+          else option_map (λ later. fresh t ∷ later) (with_defined source macros digits (a ∷ b ∷ c ∷ rest)))
           ≡ option_and_then (In_front_of (a ∷ b ∷ c ∷ rest)) (if s then option_map (Named_by t) (if w then Some (a, 1) else (if p then Some (b, 3) else None)) else Some (fresh t, 0))
       by true true p = refl
       by true false true = refl
@@ -142,6 +147,7 @@ module _ (source : List ℕ) (macros : Macros) (digits : Digits) where
   pub taken-start : (known : Known) (all : List Token) (taken : List Numbered) → taken ≡ [] → IsTaken known all taken all
   taken-start known all taken e =
       ap (λ x. option_map (λ later. all_named known x ++ later) (with_defined source macros digits all)) e ∙ alone (with_defined source macros digits all)
+
   -- one token more is taken
   module _ (known : Known) (all left rest : List Token) (t : Token) (taken : List Numbered) (found : Option (Numbered × ℕ)) (is : left ≡ t ∷ rest)
       (becomes : option_map (λ one. (named known one.0, one.1)) found ≡ taken_at source macros digits t rest) (so_far : IsTaken known all taken left) where
@@ -243,6 +249,10 @@ module _ (items : List Item) where
 -- tokens with the empty set are known
 pub all-known : (known : Known) (ls : List Numbered) → HaveEmpty known → All (λ l. l.hidden ≡ 0) ls → AreKnown known ls
 all-known known ls empty h = All-weaker (λ (l : Numbered). l.hidden ≡ 0) (λ (l : Numbered). l.hidden < length known) (λ l e. omega (arith, e, empty.0)) ls h
+
+-- a fault that is handed on
+pub stopped-on : {A : Type 0} (P : Result A ExpandFault → Type 0) (f : ExpandFault) (result : Result A ExpandFault) → result ≡ Err f → P (Err f) → P result
+stopped-on P f result e h = subst P (sym e) h
 
 -- sets stay where they are
 pub keeps-self : (known : Known) → Keeps known known

@@ -20,7 +20,7 @@ use Rattle.pw_cpp_macros.specs.Macros.{Macros}
 use Rattle.pw_cpp_values.specs.declared.arithmetic.Number.{Number}
 
 module _ (one_outcome : (source text : List ℕ) (macros : Macros) (mode : Mode) (pending : List Lexeme) (p : Progress) (x y : Outcome)
-        → Expands source text macros mode pending p x → Expands source text macros mode pending p y → x ≡ y)
+    → Expands source text macros mode pending p x → Expands source text macros mode pending p y → x ≡ y)
     (one_meaning : (items : List Item) (one other : Number) → Means items one → Means items other → one ≡ other) where
   one_items : (items : Option (List Item)) (produced : ℕ) (x y : Verdict) → JudgesItems items produced x → JudgesItems items produced y → x ≡ y
   one_items items produced x y (condition.no_items _) (condition.no_items _) = refl

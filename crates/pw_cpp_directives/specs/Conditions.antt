@@ -55,9 +55,9 @@ with_defined source macros digits (t ∷ name ∷ third ∷ []) =
 with_defined source macros digits (t ∷ first ∷ name ∷ close ∷ rest) =
     if is_spelled source (codes "defined") t
     then (if is_word first then option_map (λ later. said source macros digits t first ∷ later) (with_defined source macros digits (name ∷ close ∷ rest))
-      else (if is_spelled source (codes "(") first && is_word name && is_spelled source (codes ")") close
-        then option_map (λ later. said source macros digits t name ∷ later) (with_defined source macros digits rest)
-        else None))
+    else (if is_spelled source (codes "(") first && is_word name && is_spelled source (codes ")") close
+    then option_map (λ later. said source macros digits t name ∷ later) (with_defined source macros digits rest)
+    else None))
     else option_map (λ later. fresh t ∷ later) (with_defined source macros digits (first ∷ name ∷ close ∷ rest))
 
 -- the items that tokens are; None where one of them is none

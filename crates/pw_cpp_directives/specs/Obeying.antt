@@ -81,4 +81,3 @@ fault_of_verdict hash (condition.Stops f) = Some (fault_of_expansion f)
 abbrev pub IsJudgedBy : (Verdict → Type 0) → ℕ → ℕ → Result Bool Fault → Type 0
 IsJudgedBy Is hash produced (Ok holds) = Is (Holds holds produced)
 IsJudgedBy Is hash produced (Err found) = IsFaultOf found (λ f. (verdict : Verdict) × Is verdict × (fault_of_verdict hash verdict ≡ Some f))
-

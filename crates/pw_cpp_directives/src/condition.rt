@@ -1,6 +1,6 @@
 //! The conditions of `#if` and `#elif`.
 
-ghost use Rattle.std.specs.Prelude.{◌≡◌, ◌≤◌, ◌<◌, ◌&&◌, All, List, Some, codes, length, option_map, IfOk, IfSome};
+ghost use Rattle.std.specs.Prelude.{◌≡◌, ◌≤◌, ◌<◌, ◌&&◌, All, List, Some, codes, drop, length, option_map, IfOk, IfSome};
 ghost use Rattle.pw_cpp_macros.specs.Definitions.{is_spelled, is_word};
 ghost use Rattle.pw_cpp_directives.specs.Obeying.{AnswersJudgement, IsJudging, IsVerdictOf};
 ghost use Rattle.pw_cpp_directives.specs.Conditions as spec;
@@ -58,20 +58,20 @@ fn said(source: &[u8], macros: &Macros<'_>, digits: Digits, place: usize, name: 
 }
 
 /// Whether three tokens are a name in parentheses.
-fn is_in_parentheses(source: &[u8], open: Token, name: Token, close: Token) -> bool
-    ensures { result ≡ (is_spelled source.now (codes "(") open && is_word name && is_spelled source.now (codes ")") close) }
+fn is_in_parentheses(source: &[u8], first: Token, name: Token, close: Token) -> bool
+    ensures { result ≡ (is_spelled source.now (codes "(") first && is_word name && is_spelled source.now (codes ")") close) }
 {
-    is_spelled(source, b"(", open) && is_word(name) && is_spelled(source, b")", close)
+    is_spelled(source, b"(", first) && is_word(name) && is_spelled(source, b")", close)
 }
 
 /// A name in parentheses behind a `defined`, with the count of its tokens.
-fn name_in_parentheses(source: &[u8], open: Token, tokens: &[Token]) -> Option<(Token, usize)>
-    ensures { result ≡ spec.name_in_parentheses source.now open tokens.now }
+fn name_in_parentheses(source: &[u8], first: Token, tokens: &[Token]) -> Option<(Token, usize)>
+    ensures { result ≡ spec.name_in_parentheses source.now first tokens.now }
 {
     let [name, close, ..] = tokens else {
         return None;
     };
-    if is_in_parentheses(source, open, *name, *close) {
+    if is_in_parentheses(source, first, *name, *close) {
         return Some((*name, 3));
     }
     None
@@ -112,6 +112,17 @@ fn taken_at(
     }
 }
 
+/// The tokens from a number of them on.
+fn tokens_from(tokens: &[Token], from: usize) -> &[Token]
+    ensures { result.now ≡ drop from tokens.now }
+{
+    if from < tokens.len() {
+        &tokens[from..]
+    } else {
+        &[]
+    }
+}
+
 /// The tokens with each `defined` taken, or None where one has not its form.
 fn with_defined(
     alloc: Global,
@@ -131,7 +142,7 @@ fn with_defined(
             return Ok(None);
         };
         taken.push(one.0)?;
-        left = &rest[one.1..];
+        left = tokens_from(rest, one.1);
     }
     Ok(Some(taken))
 }

@@ -16,7 +16,8 @@ use crate::fault::{CppKind, CppWhich};
 use crate::groups::{Section, opened, with_elif, with_else};
 use pw_cpp_expand::{ExpandFault, OUTPUT_LIMIT, PRODUCED_LIMIT, Progress};
 use pw_cpp_macros::{
-    DefineFault, Definition, MACRO_LIMIT, MacroFault, Macros, PARAMETER_LIMIT, definition_of, is_word, spelled,
+    DefineFault, Definition, MACRO_LIMIT, MacroFault, Macros, PARAMETER_LIMIT, definition_of,
+    is_word, spelled,
 };
 use pw_cpp_sets::Sets;
 use pw_items::Items;
@@ -266,7 +267,15 @@ impl<'a> Standing<'a> {
             size: 0,
         };
         let sets = &mut self.sets;
-        let verdict = match judge(alloc, source, &self.macros, sets, digits, d.tokens, &mut progress) {
+        let verdict = match judge(
+            alloc,
+            source,
+            &self.macros,
+            sets,
+            digits,
+            d.tokens,
+            &mut progress,
+        ) {
             Ok(verdict) => verdict,
             Err(fault) => return Err(of_expansion(fault)),
         };

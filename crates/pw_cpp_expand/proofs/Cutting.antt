@@ -76,7 +76,7 @@ module _ (source text : List ℕ) (mode : Mode) (start : List Numbered) (s : Pro
   by_cut what is known empty called c =
       let P : Cut → Type 0 = λ x. CollectsCut source text mode x (so_far known whole last) (named known mark) (at_hand known left) q called in
       leads known empty called (looks depth (so_far known whole last) (at_hand known pending) p (At (named known mark ∷ at_hand known left) q) called (ahead known empty)
-        (one_token depth (so_far known whole last) (named known mark) (at_hand known left) q called (subst P (is known) c)))
+      (one_token depth (so_far known whole last) (named known mark) (at_hand known left) q called (subst P (is known) c)))
 
   pub leads-within : (inner : ℕ) → ((known : Known) → cut.Within inner ≡ cut_of (part_of source (named known mark)) depth)
       → LeadsTo source text mode start s inner whole (last ++ mark ∷ []) left q

@@ -8,3 +8,4 @@ pub mod Limits
 pub mod Whole
 pub mod Results
 pub mod ReadCalls
+pub mod Places

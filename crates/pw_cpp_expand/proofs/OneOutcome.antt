@@ -151,7 +151,7 @@ module _ (one_head : OneHead) (one_line : OneLine) (one_rest : OneRest) where
     one_called source text macros m parameters t found x y (by.closed _ _ _ close arguments behind p more _ n h e) (by.miscounted _ _ _ _ _ _ _ k) = absurd (k n)
     one_called source text macros m parameters t found x y (by.closed _ _ _ close arguments behind p more _ n h e) (by.closed _ _ _ _ _ _ _ other _ k g f) =
         e ∙ ap (replaced_call source (spelling source t.token ∷ shared t.hidden close.hidden) t.place m.replacement behind)
-            (one_arguments source text macros m.replacement parameters (arguments_of parameters arguments) p more other h g) ∙ sym f
+        (one_arguments source text macros m.replacement parameters (arguments_of parameters arguments) p more other h g) ∙ sym f
 
     one_arguments : (source text : List ℕ) (macros : Macros) (replacement parameters : List Token) (arguments : List (List Lexeme)) (p : Progress) (x y : Arguments)
         → ExpandsArguments source text macros replacement parameters arguments p x → ExpandsArguments source text macros replacement parameters arguments p y → x ≡ y

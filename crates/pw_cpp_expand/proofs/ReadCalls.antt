@@ -43,8 +43,8 @@ module _ (source text : List ℕ) (mode : Mode) (parameters replacement : List T
       pub call-miscounted : used ≡ None → AnswersRead source text mode parameters replacement place old p new q (Err (no.Call place))
       call-miscounted none =
           inr (λ known empty.
-            let P : Option (List Raw) → Type 0 = λ x. IsWaiting source known parameters replacement call.arguments x in
-            (Closed (map (all_named known) call.arguments) (named known call.close) (at_hand known new) q, collects known empty, (refl, subst P none (waits known))))
+          let P : Option (List Raw) → Type 0 = λ x. IsWaiting source known parameters replacement call.arguments x in
+          (Closed (map (all_named known) call.arguments) (named known call.close) (at_hand known new) q, collects known empty, (refl, subst P none (waits known))))
 
       -- it is whole
       pub call-closed : (waiting : List Raw) → used ≡ Some waiting → AnswersRead source text mode parameters replacement place old p new q (Ok (record { waiting = waiting; close = call.close }))

@@ -116,7 +116,7 @@ module _ (known : Known) where
 
       by_use : (b : Bool) → map (raw_named source known) (reverse (if b then waiting ++ raw ∷ [] else waiting))
           ≡ (if b then (spelling source parameter, all_named known tokens) ∷ waiting_for source replacement (drop (length left) parameters) (map (all_named known) h.done)
-            else waiting_for source replacement (drop (length left) parameters) (map (all_named known) h.done))
+          else waiting_for source replacement (drop (length left) parameters) (map (all_named known) h.done))
       by_use true = ap (map (raw_named source known)) (reverse-append waiting (raw ∷ [])) ∙ ap (λ x. raw_named source known raw ∷ x) h.used
       by_use false = h.used
 
@@ -144,7 +144,7 @@ module _ (known : Known) where
 module _ (source : List ℕ) (known : Known) (name : List ℕ) where
   argument_at : (arguments : List Argument) (i : ℕ) (argument : Argument) → i < length arguments → argument ≡ get_or arguments i argument
       → argument_of (map (argument_named source known) (drop i arguments)) name
-        ≡ (if bytes_eq name (spelling source argument.parameter) then Some (all_named known argument.tokens) else argument_of (map (argument_named source known) (drop (i + 1) arguments)) name)
+      ≡ (if bytes_eq name (spelling source argument.parameter) then Some (all_named known argument.tokens) else argument_of (map (argument_named source known) (drop (i + 1) arguments)) name)
   argument_at arguments i argument l e =
       at_drop_more (λ x. argument_of (map (argument_named source known) x) name) arguments i argument l
       ∙ ap (λ x. argument_of (map (argument_named source known) (x ∷ drop (i + 1) arguments)) name) (sym e)
@@ -224,10 +224,10 @@ module _ (known : Known) (hidden place : ℕ) (argument : List Numbered) (hidden
     whole,
     (added-one new made more lexeme.token last.number place (known-on middle new k made h.1) j.1 m).1,
     ap (all_named new) m ∙ map-append (named new) made (record { token = lexeme.token; hidden = last.number; place = place } ∷ [])
-      ∙ ap (λ x. x ++ named new (record { token = lexeme.token; hidden = last.number; place = place }) ∷ []) (all-kept middle new k made h.1 ∙ h.2)
-      ∙ append_assoc (all_named known before) (passed_up_to known hidden place argument i) (named new (record { token = lexeme.token; hidden = last.number; place = place }) ∷ [])
-      ∙ ap (λ x. all_named known before ++ (passed_up_to known hidden place argument i ++ x ∷ [])) one
-      ∙ ap (λ x. all_named known before ++ x) (sym more_is),
+        ∙ ap (λ x. x ++ named new (record { token = lexeme.token; hidden = last.number; place = place }) ∷ []) (all-kept middle new k made h.1 ∙ h.2)
+        ∙ append_assoc (all_named known before) (passed_up_to known hidden place argument i) (named new (record { token = lexeme.token; hidden = last.number; place = place }) ∷ [])
+        ∙ ap (λ x. all_named known before ++ (passed_up_to known hidden place argument i ++ x ∷ [])) one
+        ∙ ap (λ x. all_named known before ++ x) (sym more_is),
   )
     where
       whole : Keeps known new
@@ -242,7 +242,7 @@ module _ (known : Known) (hidden place : ℕ) (argument : List Numbered) (hidden
       one =
           ap (λ x. record { token = lexeme.token; hidden = x; place = place })
           (j.2 ∙ ap (λ x. x ++ set_at new last.own) (whole.same hidden hidden_known)
-            ∙ ap (λ x. set_at known hidden ++ set_at new x) own ∙ ap (λ x. set_at known hidden ++ x) (whole.same lexeme.hidden lexeme_known))
+          ∙ ap (λ x. set_at known hidden ++ set_at new x) own ∙ ap (λ x. set_at known hidden ++ x) (whole.same lexeme.hidden lexeme_known))
 
       more_is : passed_up_to known hidden place argument (i + 1) ≡ passed_up_to known hidden place argument i ++ passed (set_at known hidden) place (named known lexeme) ∷ []
       more_is =

@@ -104,8 +104,8 @@ module _ (source text : List ℕ) (macros : Macros) where
       (turn : (found : Arguments) → ExpandsWaiting source text macros waiting p found → FirstTurns mode calls t rest start (replaced_call source hidden t.place m.replacement behind found)) where
     pub none-waits : (outcome : Outcome) → waiting ≡ []
         → ((produced_limit < p.produced + length (result_of source hidden t.place [] m.replacement)) × (outcome ≡ Stopped (Produced t.place)))
-          ⊎ ((p.produced + length (result_of source hidden t.place [] m.replacement) ≤ produced_limit)
-            × Comes source text macros mode calls (result_of source hidden t.place [] m.replacement ++ behind) out (producing p (length (result_of source hidden t.place [] m.replacement))) outcome)
+        ⊎ ((p.produced + length (result_of source hidden t.place [] m.replacement) ≤ produced_limit)
+        × Comes source text macros mode calls (result_of source hidden t.place [] m.replacement ++ behind) out (producing p (length (result_of source hidden t.place [] m.replacement))) outcome)
         → Comes source text macros mode calls (t ∷ rest) out start outcome
     none-waits outcome w c = by_outcome c
       where
@@ -114,7 +114,7 @@ module _ (source text : List ℕ) (macros : Macros) where
 
         by_outcome : ((produced_limit < p.produced + length (result_of source hidden t.place [] m.replacement)) × (outcome ≡ Stopped (Produced t.place)))
             ⊎ ((p.produced + length (result_of source hidden t.place [] m.replacement) ≤ produced_limit)
-              × Comes source text macros mode calls (result_of source hidden t.place [] m.replacement ++ behind) out (producing p (length (result_of source hidden t.place [] m.replacement))) outcome)
+            × Comes source text macros mode calls (result_of source hidden t.place [] m.replacement ++ behind) out (producing p (length (result_of source hidden t.place [] m.replacement))) outcome)
             → Comes source text macros mode calls (t ∷ rest) out start outcome
         by_outcome (inl h) =
             let P : Outcome → Type 0 = λ x. Comes source text macros mode calls (t ∷ rest) out start x in
@@ -179,13 +179,13 @@ module _ (source text : List ℕ) (macros : Macros) where
         let Q : Progress → Type 0 = λ x. Comes source text macros mode calls (at_hand known pending) (all_named known (e.out ++ l ∷ [])) x outcome in
         before-first outcome
         (comes-on source text macros mode calls (named known l ∷ at_hand known e.pending) (all_named known e.out) p (at_hand known pending) (all_named known e.out ++ named known l ∷ [])
-          (putting (mode_in mode calls) (named known l) q) outcome
-          (stands-on source text macros (mode_in mode calls) (named known l) (at_hand known e.pending) (at_hand known pending) (all_named known e.out) p q
-            (first-turns (Stands (at_hand known pending) q) turn) (fits put.2))
-          (comes-as mode calls (at_hand known pending) (at_hand known pending) (all_named known (e.out ++ l ∷ [])) (all_named known e.out ++ named known l ∷ [])
-            (record q { size = q.size + room_of (mode_of mode e.calls) l }) (putting (mode_in mode calls) (named known l) q) outcome
-            refl (out-more known e.out l) (ap (λ n. record { next = q.next; rows = q.rows; produced = q.produced; size = q.size + n }) takes)
-            (subst Q put.1 (subst P put.0 c))))
+        (putting (mode_in mode calls) (named known l) q) outcome
+        (stands-on source text macros (mode_in mode calls) (named known l) (at_hand known e.pending) (at_hand known pending) (all_named known e.out) p q
+        (first-turns (Stands (at_hand known pending) q) turn) (fits put.2))
+        (comes-as mode calls (at_hand known pending) (at_hand known pending) (all_named known (e.out ++ l ∷ [])) (all_named known e.out ++ named known l ∷ [])
+        (record q { size = q.size + room_of (mode_of mode e.calls) l }) (putting (mode_in mode calls) (named known l) q) outcome
+        refl (out-more known e.out l) (ap (λ n. record { next = q.next; rows = q.rows; produced = q.produced; size = q.size + n }) takes)
+        (subst Q put.1 (subst P put.0 c))))
       where
         takes : room_of (mode_of mode e.calls) l ≡ room (mode_in mode calls) (named known l)
         takes = sym (room-same known (mode_of mode e.calls) l) ∙ ap (λ m. room m (named known l)) (sym (mode-same known source mode e.calls))
@@ -194,14 +194,14 @@ module _ (source text : List ℕ) (macros : Macros) where
         fits h = omega (arith, h, takes)
     stands-step pending q f r (Err fault) turn (inl h) = inl h
     stands-step pending q f r (Err fault) turn (inr h) = inr (
-      let P : ExpandFault → Type 0 = λ x. Before (Stopped x) in
-      subst P (sym h.0)
-      (before-first (Stopped (Length l.place))
+        let P : ExpandFault → Type 0 = λ x. Before (Stopped x) in
+        subst P (sym h.0)
+        (before-first (Stopped (Length l.place))
         (comes-stopped source text macros mode calls (named known l ∷ at_hand known e.pending) (all_named known e.out) p (Length l.place)
-          (by.turns (mode_in mode calls) (named known l) (at_hand known e.pending) p (Stands (at_hand known pending) q) (Stopped (Length l.place))
-            (first-turns (Stands (at_hand known pending) q) turn)
-            (by.too_long (mode_in mode calls) (named known l) (at_hand known pending) q (passes h.1)))))
-    )
+        (by.turns (mode_in mode calls) (named known l) (at_hand known e.pending) p (Stands (at_hand known pending) q) (Stopped (Length l.place))
+        (first-turns (Stands (at_hand known pending) q) turn)
+        (by.too_long (mode_in mode calls) (named known l) (at_hand known pending) q (passes h.1)))))
+        )
       where
         takes : room_of (mode_of mode e.calls) l ≡ room (mode_in mode calls) (named known l)
         takes = sym (room-same known (mode_of mode e.calls) l) ∙ ap (λ m. room m (named known l)) (sym (mode-same known source mode e.calls))
@@ -217,18 +217,18 @@ module _ (source text : List ℕ) (macros : Macros) where
         let Q : Progress → Type 0 = λ x. Comes source text macros mode calls (at_hand known (e.pending ++ reverse made)) (all_named known e.out) x outcome in
         before-first outcome
         (becomes-comes mode calls (named known l) (at_hand known e.pending) (all_named known e.out) (all_named known made) (at_hand known e.pending) p p outcome
-          (first-turns (Becomes (all_named known made) (at_hand known e.pending) p) turn) (omega (arith, put.2, length-map made (named known)))
-          (comes-as mode calls (at_hand known (e.pending ++ reverse made)) (all_named known made ++ at_hand known e.pending) (all_named known e.out) (all_named known e.out)
-            (producing p (length made)) (producing p (length (all_named known made))) outcome
-            (hand-front known e.pending made) refl (ap (producing p) (sym (length-map made (named known)))) (subst Q put.1 (subst P put.0 c))))
+        (first-turns (Becomes (all_named known made) (at_hand known e.pending) p) turn) (omega (arith, put.2, length-map made (named known)))
+        (comes-as mode calls (at_hand known (e.pending ++ reverse made)) (all_named known made ++ at_hand known e.pending) (all_named known e.out) (all_named known e.out)
+        (producing p (length made)) (producing p (length (all_named known made))) outcome
+        (hand-front known e.pending made) refl (ap (producing p) (sym (length-map made (named known)))) (subst Q put.1 (subst P put.0 c))))
     becomes-step made f r (Err fault) turn (inl h) = inl h
     becomes-step made f r (Err fault) turn (inr h) = inr (
-      let P : ExpandFault → Type 0 = λ x. Before (Stopped x) in
-      subst P (sym h.0)
-      (before-first (Stopped (Produced l.place))
+        let P : ExpandFault → Type 0 = λ x. Before (Stopped x) in
+        subst P (sym h.0)
+        (before-first (Stopped (Produced l.place))
         (too-many-comes mode calls (named known l) (at_hand known e.pending) (all_named known e.out) (all_named known made) (at_hand known e.pending) p p
-          (first-turns (Becomes (all_named known made) (at_hand known e.pending) p) turn) (omega (arith, h.1, length-map made (named known)))))
-    )
+        (first-turns (Becomes (all_named known made) (at_hand known e.pending) p) turn) (omega (arith, h.1, length-map made (named known)))))
+        )
 
 -- ---- steps that come from steps
 
@@ -263,10 +263,10 @@ module _ (source text : List ℕ) (macros : Macros) where
         inr (
           omega (arith, put.2, count),
           comes-as source text macros mode (map (opened source known) (reverse e.calls)) (at_hand new (call.behind ++ reverse made)) (made_result ++ at_hand known call.behind) (all_named new call.before)
-            (all_named known call.before) (producing p (length made)) (producing p (length made_result)) outcome
-            (hand-front new call.behind made ∙ ap (λ x. x ++ at_hand new call.behind) made_is ∙ ap (λ x. made_result ++ x) (hand-kept known new keeps call.behind call_known.3))
-            (all-kept known new keeps call.before call_known.4) (ap (producing p) count)
-            (subst R (calls-kept known new keeps source e.calls calls_known) (subst Q put.1 (subst P put.0 c))),
+              (all_named known call.before) (producing p (length made)) (producing p (length made_result)) outcome
+              (hand-front new call.behind made ∙ ap (λ x. x ++ at_hand new call.behind) made_is ∙ ap (λ x. made_result ++ x) (hand-kept known new keeps call.behind call_known.3))
+              (all-kept known new keeps call.before call_known.4) (ap (producing p) count)
+              (subst R (calls-kept known new keeps source e.calls calls_known) (subst Q put.1 (subst P put.0 c))),
         )
       where
         made_result : List Lexeme
@@ -332,12 +332,12 @@ module _ (source text : List ℕ) (macros : Macros) where
     -- the call with its next argument at hand
     pub next-step : (next : Raw) (waiting : List Raw) → call.waiting ≡ waiting ++ next ∷ []
         → ComesTo source text macros mode known
-          (record e { calls = e.calls ++ record with_out { parameter = next.parameter; waiting = waiting } ∷ []; pending = reverse next.tokens; out = [] }) p outcome
+        (record e { calls = e.calls ++ record with_out { parameter = next.parameter; waiting = waiting } ∷ []; pending = reverse next.tokens; out = [] }) p outcome
         → ComesTo source text macros mode known (record e { calls = e.calls ++ call ∷ [] }) p outcome
     next-step next waiting w c =
         with_call (argument-next source text macros mode (opened source known call) others (all_named known e.out) (all_named known next.tokens) (spelling source next.parameter)
-          (map (raw_named source known) (reverse waiting)) p outcome (ap (λ x. map (raw_named source known) (reverse x)) w ∙ ap (map (raw_named source known)) (reverse-append waiting (next ∷ [])))
-          (subst R (ap (all_named known) (reverse-reverse next.tokens)) (subst Q called_is (subst P (calls-more known source e.calls after) c))))
+        (map (raw_named source known) (reverse waiting)) p outcome (ap (λ x. map (raw_named source known) (reverse x)) w ∙ ap (map (raw_named source known)) (reverse-append waiting (next ∷ [])))
+        (subst R (ap (all_named known) (reverse-reverse next.tokens)) (subst Q called_is (subst P (calls-more known source e.calls after) c))))
       where
         after : Call
         after = record with_out { parameter = next.parameter; waiting = waiting }
@@ -372,7 +372,7 @@ module _ (source text : List ℕ) (macros : Macros) where
     closed-turns close arguments ahead q found c l h =
         call-turns (Closed arguments close ahead q) (replaced_call source (spelling source t.token ∷ shared t.hidden close.hidden) t.place m.replacement ahead found) c
         (by.closed m parameters t close arguments ahead q found (replaced_call source (spelling source t.token ∷ shared t.hidden close.hidden) t.place m.replacement ahead found) l
-          (arguments-expanded source text macros m.replacement parameters (arguments_of parameters arguments) q found l h) refl)
+        (arguments-expanded source text macros m.replacement parameters (arguments_of parameters arguments) q found l h) refl)
 
   -- ---- the whole
 
@@ -397,7 +397,7 @@ module _ (source text : List ℕ) (macros : Macros) where
       let P : List Call → Type 0 = λ x. Comes source text macros mode (map (opened source known) (reverse x)) (at_hand known f.pending) (all_named known f.out) q (Done (all_named known f.out) q) in
       let Q : List Numbered → Type 0 = λ x. Comes source text macros mode [] (at_hand known x) (all_named known f.out) q (Done (all_named known f.out) q) in
       subst P (sym no_calls) (subst Q (sym no_tokens)
-        (hand.alone [] (all_named known f.out) q (Done (all_named known f.out) q) (Done [] q) (by.ends mode q) (ap (λ x. Done x q) (sym (append-nil (all_named known f.out))))))
+      (hand.alone [] (all_named known f.out) q (Done (all_named known f.out) q) (Done [] q) (by.ends mode q) (ap (λ x. Done x q) (sym (append-nil (all_named known f.out))))))
 
   -- ---- a call that is opened by an expander
 
@@ -411,7 +411,7 @@ module _ (source text : List ℕ) (macros : Macros) where
       let S : List Lexeme → Type 0 = λ x. Comes source text macros mode (map (opened source known) (reverse e.calls)) (named known name ∷ rest) x start outcome in
       subst S (all-kept known new keeps e.out h.1)
       (subst R (named-kept known new keeps name n)
-        (subst Q (calls-kept known new keeps source e.calls h.2) (c first rest start (subst P (sym (hand-kept known new keeps e.pending h.0)) looks) opens)))
+      (subst Q (calls-kept known new keeps source e.calls h.2) (c first rest start (subst P (sym (hand-kept known new keeps e.pending h.0)) looks) opens)))
 
   module _ (mode : Mode) (known : Known) (e : Expander) (name : Numbered) (p : Progress) (m : Macro) (parameters : List Token)
       (is : macro_of source macros (named known name) ≡ Some m) (takes : m.parameters ≡ Some parameters) where
@@ -429,7 +429,7 @@ module _ (source text : List ℕ) (macros : Macros) where
     open-fault found fault c h = λ first rest start looks opens.
         faults-comes source text macros mode outer (named known name) rest (all_named known e.out) start fault
         (first_turns rest start (Faults fault)
-          (call-turns (mode_of mode e.calls) (named known name) first rest (at_hand known e.pending) start p m parameters is takes looks opens found (Faults fault) c h))
+        (call-turns (mode_of mode e.calls) (named known name) first rest (at_hand known e.pending) start p m parameters is takes looks opens found (Faults fault) c h))
 
     module _ (close : Lexeme) (arguments : List (List Lexeme)) (behind : List Lexeme) (q : Progress)
         (collects : Collects source text (mode_of mode e.calls) 0 ([] ∷ []) (at_hand known e.pending) p (Closed arguments close behind q))
@@ -449,15 +449,15 @@ module _ (source text : List ℕ) (macros : Macros) where
 
       pub open-none : (outcome : Outcome) → waits ≡ []
           → ((produced_limit < q.produced + length (result_of source hidden_names name.place [] m.replacement)) × (outcome ≡ Stopped (Produced name.place)))
-            ⊎ ((q.produced + length (result_of source hidden_names name.place [] m.replacement) ≤ produced_limit)
-              × Comes source text macros mode outer (result_of source hidden_names name.place [] m.replacement ++ behind) (all_named known e.out) (producing q (length (result_of source hidden_names name.place [] m.replacement))) outcome)
+          ⊎ ((q.produced + length (result_of source hidden_names name.place [] m.replacement) ≤ produced_limit)
+          × Comes source text macros mode outer (result_of source hidden_names name.place [] m.replacement ++ behind) (all_named known e.out) (producing q (length (result_of source hidden_names name.place [] m.replacement))) outcome)
           → IsCallOpened source text macros mode known e name p outcome
       open-none outcome w h = λ first rest start looks opens.
           none-waits source text macros mode outer (named known name) rest (all_named known e.out) start q m hidden_names behind waits (turn_is first rest start looks opens) outcome w h
 
       pub open-first : (parameter : List ℕ) (tokens : List Lexeme) (others : List Named) (outcome : Outcome) → waits ≡ (parameter, tokens) ∷ others
           → Comes source text macros mode
-            (record { meaning = m; hidden = hidden_names; place = name.place; parameter = parameter; waiting = others; expanded = []; behind = behind; before = all_named known e.out } ∷ outer) tokens [] q outcome
+          (record { meaning = m; hidden = hidden_names; place = name.place; parameter = parameter; waiting = others; expanded = []; behind = behind; before = all_named known e.out } ∷ outer) tokens [] q outcome
           → IsCallOpened source text macros mode known e name p outcome
       open-first parameter tokens others outcome w h = λ first rest start looks opens.
           first-waits source text macros mode outer (named known name) rest (all_named known e.out) start q m hidden_names behind waits (turn_is first rest start looks opens) parameter tokens others outcome w h

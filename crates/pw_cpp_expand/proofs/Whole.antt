@@ -208,8 +208,8 @@ module _ (source text : List ℕ) (macros : Macros) (mode : Mode) where
     last-argument w out waiting new f q result h =
         step-on known known new (keeps-same known) (IsReplacedBy source text macros mode known (record e { out = out }) (record call { expanded = expanded; waiting = waiting }) p) Was
         (λ outcome x.
-            let P : List Argument → Type 0 = λ z. IsReplacedBy source text macros mode known e (record call { expanded = z }) p outcome in
-            last-step source text macros mode known e call p outcome none w (subst P with_out_is x))
+        let P : List Argument → Type 0 = λ z. IsReplacedBy source text macros mode known e (record call { expanded = z }) p outcome in
+        last-step source text macros mode known e call p outcome none w (subst P with_out_is x))
         f q result h
 
     -- the next argument is at hand
@@ -219,7 +219,7 @@ module _ (source text : List ℕ) (macros : Macros) (mode : Mode) where
     next-argument waiting next w out no_out r c f is = (
       keeps-same known,
       ready-argument text known (record e { out = out }) p (record call { expanded = expanded; parameter = next.parameter; waiting = waiting }) next.tokens f
-        (ready-no_out text known e p out no_out r) (argument-known r c waiting waits.0) waits.1 is,
+          (ready-no_out text known e p out no_out r) (argument-known r c waiting waits.0) waits.1 is,
       λ outcome x.
           let P : Expander → Type 0 = λ z. ComesTo source text macros mode known z p outcome in
           let Q : List Numbered → Type 0 = λ z. ComesTo source text macros mode known (record e { out = z; calls = e.calls ++ record call { expanded = expanded; parameter = next.parameter; waiting = waiting } ∷ []; pending = reverse next.tokens }) p outcome in
@@ -270,7 +270,7 @@ module _ (source text : List ℕ) (macros : Macros) (mode : Mode) where
       unread-step fault empty h =
           fault-weaker (λ f. (any : Known) → HaveEmpty any → LooksAhead text (mode_of mode e.calls) (at_hand any e.pending) p (Faulty f)) (λ f. Before (Stopped f)) fault
           (λ f looks. fault-step source text macros mode known e l p f
-              (looking (Faulty f) (Faults f) (looks known empty) (by.unread (mode_of mode e.calls) (named known l) m parameters f)))
+          (looking (Faulty f) (Faults f) (looks known empty) (by.unread (mode_of mode e.calls) (named known l) m parameters f)))
           h
 
       -- a call begins, of which the `(` was taken off
@@ -357,9 +357,9 @@ module _ (source text : List ℕ) (macros : Macros) (mode : Mode) where
         let P : Option Macro → Type 0 = λ x. Turns source text macros (mode_of mode e.calls) (named new l) (at_hand new e.pending) p x (Becomes (all_named new made) (at_hand new e.pending) p) in
         subst P (sym (ap (macro_of source macros) (named-kept known new all_keeps l known_name) ∙ is))
         (by.object (mode_of mode e.calls) (named new l) (at_hand new e.pending) p m (all_named new made) alone
-          (made_is ∙ ap (λ x. result_of source (set_at middle hidden) x [] m.replacement) place_is
-            ∙ no_arguments (set_at middle hidden) l.place m.replacement
-            ∙ ap (λ x. map (calls_of.made x l.place) m.replacement) (hidden_is ∙ ap (λ x. x ∷ set_at known l.hidden) name_is ∙ ap (λ x. spelling source l.token ∷ x) (sym (all_keeps.same l.hidden known_name)))))
+        (made_is ∙ ap (λ x. result_of source (set_at middle hidden) x [] m.replacement) place_is
+        ∙ no_arguments (set_at middle hidden) l.place m.replacement
+        ∙ ap (λ x. map (calls_of.made x l.place) m.replacement) (hidden_is ∙ ap (λ x. x ∷ set_at known l.hidden) name_is ∙ ap (λ x. spelling source l.token ∷ x) (sym (all_keeps.same l.hidden known_name)))))
 
     pub named-whole : AreKnown new made → (f : Expander) (q : Progress) (result : Result (Unit {0}) ExpandFault) → PutsResult made place e p f q result
         → IsStep source text macros mode known (λ outcome. ComesTo source text macros mode known (record e { pending = e.pending ++ l ∷ [] }) p outcome) new f q result
@@ -410,9 +410,9 @@ module _ (source text : List ℕ) (macros : Macros) (mode : Mode) where
         (λ f. (any : Known) → HaveEmpty any → (called : Called) × Collects source text looked 0 ([] ∷ []) (at_hand any e.pending) p called × IsFaultOfCall l.place parameters called f)
         (λ f. Opens (Stopped f)) fault
         (λ f why.
-            let read = why known ready.empty in
-            let P : Mode → Type 0 = λ x. Collects source text x 0 ([] ∷ []) (at_hand known e.pending) p read.0 in
-            open-fault source text macros mode known e l p m parameters is takes read.0 f (subst P looked_is read.1) (calls-faulty m parameters (named known l) read.0 f read.2))
+        let read = why known ready.empty in
+        let P : Mode → Type 0 = λ x. Collects source text x 0 ([] ∷ []) (at_hand known e.pending) p read.0 in
+        open-fault source text macros mode known e l p m parameters is takes read.0 f (subst P looked_is read.1) (calls-faulty m parameters (named known l) read.0 f read.2))
         h
 
     module _ (middle new : Known) (k : Keeps known middle) (j : Keeps middle new) (q : Progress) (pending : List Numbered) (read : Read)
@@ -438,8 +438,8 @@ module _ (source text : List ℕ) (macros : Macros) (mode : Mode) where
       names_are =
           ap (set_at new) hides ∙ hidden_is
           ∙ ap (λ x. spelling source l.token ∷ x)
-            (both_is ∙ ap (λ x. shared x (set_at known read.close.hidden)) (sym (keeps_all.same l.hidden known_name))
-              ∙ ap (λ x. shared (set_at new l.hidden) x) (sym (keeps_all.same read.close.hidden read_known.0)))
+          (both_is ∙ ap (λ x. shared x (set_at known read.close.hidden)) (sym (keeps_all.same l.hidden known_name))
+          ∙ ap (λ x. shared (set_at new l.hidden) x) (sym (keeps_all.same read.close.hidden read_known.0)))
 
       is_new : macro_of source macros (named new l) ≡ Some m
       is_new = ap (macro_of source macros) (named-kept known new keeps_all l known_name) ∙ is
@@ -485,8 +485,8 @@ module _ (source text : List ℕ) (macros : Macros) (mode : Mode) where
       ReplacedWith hidden place arguments replacement behind before outcome =
           ((produced_limit < q.produced + length (result_of source hidden place arguments replacement)) × (outcome ≡ Stopped (no.Produced place)))
           ⊎ ((q.produced + length (result_of source hidden place arguments replacement) ≤ produced_limit)
-              × Comes source text macros mode outside (result_of source hidden place arguments replacement ++ at_hand new behind) (all_named new before)
-                (producing q (length (result_of source hidden place arguments replacement))) outcome)
+          × Comes source text macros mode outside (result_of source hidden place arguments replacement ++ at_hand new behind) (all_named new before)
+          (producing q (length (result_of source hidden place arguments replacement))) outcome)
 
       replaced-as : (outcome : Outcome) → ReplacedWith (set_at new call.replaced.hidden) call.replaced.place (map (argument_named source new) call.expanded) call.meaning.now.replacement call.behind call.before outcome
           → ReplacedWith names l.place [] m.replacement pending e.out outcome
@@ -507,9 +507,9 @@ module _ (source text : List ℕ) (macros : Macros) (mode : Mode) where
           let found = reads new new_empty in
           step-on known new newer keeps_all (IsReplacedBy source text macros mode new (record e { pending = left; out = out }) call q) Opens
           (λ outcome x.
-              call-kept source text macros mode known new keeps_all e l p outcome ready.sets known_name
-              (open-none source text macros mode new e l p m parameters is_new takes (named new read.close) found.0 (at_hand new pending) q found.1 found.2 outcome
-                (sym found.3 ∙ ap (λ z. map (raw_named source new) (reverse z)) none) (replaced-as outcome x)))
+          call-kept source text macros mode known new keeps_all e l p outcome ready.sets known_name
+          (open-none source text macros mode new e l p m parameters is_new takes (named new read.close) found.0 (at_hand new pending) q found.1 found.2 outcome
+          (sym found.3 ∙ ap (λ z. map (raw_named source new) (reverse z)) none) (replaced-as outcome x)))
           f r result h
 
       -- the first of them is at hand
@@ -519,12 +519,12 @@ module _ (source text : List ℕ) (macros : Macros) (mode : Mode) where
       opened-first next waits f f_is = (
         keeps_all,
         ready-argument text new (record e { pending = left; out = out }) q (record call { parameter = next.parameter }) next.tokens f opened-ready
-          (opened-known parts.0) (known-on known new keeps_all next.tokens parts.1) f_is,
+            (opened-known parts.0) (known-on known new keeps_all next.tokens parts.1) f_is,
         λ outcome x.
             let found = reads new new_empty in
             call-kept source text macros mode known new keeps_all e l p outcome ready.sets known_name
             (open-first source text macros mode new e l p m parameters is_new takes (named new read.close) found.0 (at_hand new pending) q found.1 found.2
-              (spelling source next.parameter) (all_named new next.tokens) others outcome (sym found.3 ∙ waiting_is) (at_first outcome x)),
+            (spelling source next.parameter) (all_named new next.tokens) others outcome (sym found.3 ∙ waiting_is) (at_first outcome x)),
       )
         where
           parts : All (λ raw. AreKnown known raw.tokens) call.waiting × AreKnown known next.tokens

@@ -151,7 +151,7 @@ IsReplacedBy source text macros mode known e call p outcome =
     let result = result_of source (set_at known call.replaced.hidden) call.replaced.place (map (argument_named source known) call.expanded) call.meaning.now.replacement in
     ((produced_limit < p.produced + length result) × (outcome ≡ Stopped (Produced call.replaced.place)))
     ⊎ ((p.produced + length result ≤ produced_limit)
-        × Comes source text macros mode (map (opened source known) (reverse e.calls)) (result ++ at_hand known call.behind) (all_named known call.before) (producing p (length result)) outcome)
+    × Comes source text macros mode (map (opened source known) (reverse e.calls)) (result ++ at_hand known call.behind) (all_named known call.before) (producing p (length result)) outcome)
 
 -- the call of a name whose `(` was read comes to
 abbrev pub IsCallOpened : List ℕ → List ℕ → Macros → Mode → Known → Expander → Numbered → Progress → Outcome → Type 0

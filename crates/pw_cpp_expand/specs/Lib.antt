@@ -3,3 +3,4 @@ pub mod Calls
 pub mod Expansion
 pub mod Lookahead
 pub mod Numbered
+pub mod Places

@@ -58,8 +58,16 @@ fn cut_of(part: Part, depth: u64) -> Cut
 {
     match part {
         Part::Opens => Cut::Within(depth + 1),
-        Part::Closes => if depth == 0 { Cut::Ends } else { Cut::Within(depth - 1) },
-        Part::Parts => if depth == 0 { Cut::Next } else { Cut::Within(depth) },
+        Part::Closes => if depth == 0 {
+            Cut::Ends
+        } else {
+            Cut::Within(depth - 1)
+        },
+        Part::Parts => if depth == 0 {
+            Cut::Next
+        } else {
+            Cut::Within(depth)
+        },
         Part::GoesOn => Cut::Within(depth),
     }
 }

@@ -103,7 +103,12 @@ impl<'m> Expander<'m> {
     }
 
     /// Lets a token stand.
-    fn put_out(&mut self, mode: Mode, lexeme: Lexeme, progress: &mut Progress) -> Result<(), ExpandFault>
+    fn put_out(
+        &mut self,
+        mode: Mode,
+        lexeme: Lexeme,
+        progress: &mut Progress,
+    ) -> Result<(), ExpandFault>
         requires { progress.old.size ≤ ahead.output_limit }
         ensures { PutsOut mode lexeme self.old progress.old self.new progress.new result }
     {
@@ -236,7 +241,15 @@ impl<'m> Expander<'m> {
     {
         let Ground { alloc, source, .. } = ground;
         let mode = self.mode_in(ground.mode);
-        let read = read_call(ground, mode, name.place, meaning, parameters, &mut self.pending, progress)?;
+        let read = read_call(
+            ground,
+            mode,
+            name.place,
+            meaning,
+            parameters,
+            &mut self.pending,
+            progress,
+        )?;
         let shared = sets.shared(alloc, name.hidden, read.close.hidden)?;
         let hidden = sets.with_name(spelled(source, name.token), shared)?;
         let place = name.place;
@@ -379,7 +392,12 @@ fn read_call(
     ensures within { progress.new.next ≤ length ground.entry.text.now }
     ensures known { IfOk result (λ read. (known : Known) → 0 < length known → AreKnown known pending.old → AreKnown known pending.new × IsReadKnown known read) }
 {
-    let Ground { alloc, source, text, .. } = ground;
+    let Ground {
+        alloc,
+        source,
+        text,
+        ..
+    } = ground;
     let found = collect(alloc, source, text, mode, pending, progress)?;
     let Some(call) = found else {
         return Err(ExpandFault::Call { at: place });

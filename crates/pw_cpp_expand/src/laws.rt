@@ -1,9 +1,12 @@
 //! Laws of expansion.
 
-ghost use Rattle.std.specs.Prelude.{◌≡◌, ℕ, List};
-ghost use Rattle.pw_cpp_expand.specs.Expansion.{Expands, Outcome};
+ghost use Rattle.std.specs.Prelude.{◌≡◌, ◌≤◌, ℕ, List, All, length};
+ghost use Rattle.pw_cpp_expand.specs.Expansion.{Done, Expands, Outcome, Stopped};
 ghost use Rattle.pw_cpp_expand.specs.Lookahead.{Further, Lexeme, ReadsOn};
+ghost use Rattle.pw_cpp_expand.specs.Places.{AreReadFrom, IsFaultWithin, IsWithin, StandBetween};
+ghost use Rattle.pw_cpp_expand.specs.declared.progress.ExpandFault.{ExpandFault};
 ghost use Rattle.pw_cpp_expand.specs.declared.progress.Mode.{Mode};
+ghost use Rattle.pw_cpp_expand.specs.declared.progress.Mode.TheVariants.{Alone, InText};
 ghost use Rattle.pw_cpp_expand.specs.declared.progress.Progress.{Progress};
 ghost use Rattle.pw_cpp_macros.specs.Macros.{Macros};
 
@@ -26,3 +29,14 @@ pub fn one_outcome()
     one_head();
     one_line();
 }
+
+/// The tokens that a text comes to stand in the order of their places, as the lines do that were read.
+pub fn tokens_in_order()
+    ensures { (source text : List ℕ) (macros : Macros) (pending out : List Lexeme) (p q : Progress) (low first : ℕ) → Expands source text macros InText pending p (Done out q) → StandBetween low pending p.next → AreReadFrom first p → StandBetween low out q.next × AreReadFrom first q }
+{}
+
+/// A fault of expansion stands among the tokens, or in a line that was read.
+pub fn faults_within()
+    ensures text { (source text : List ℕ) (macros : Macros) (pending : List Lexeme) (p : Progress) (fault : ExpandFault) (low : ℕ) → Expands source text macros InText pending p (Stopped fault) → All (IsWithin low (length text)) pending → low ≤ p.next → IsFaultWithin low (length text) fault }
+    ensures alone { (source text : List ℕ) (macros : Macros) (pending : List Lexeme) (p : Progress) (fault : ExpandFault) (low high : ℕ) → Expands source text macros Alone pending p (Stopped fault) → All (IsWithin low high) pending → IsFaultWithin low high fault }
+{}

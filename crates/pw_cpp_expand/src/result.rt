@@ -48,7 +48,9 @@ pub fn is_used(source: &[u8], replacement: &[Token], parameter: Token) -> bool
     ensures { result ≡ spec.is_used source.now replacement.now parameter }
 {
     let name = spelled(source, parameter);
-    replacement.iter().any(|token| is_name(source, name, *token))
+    replacement
+        .iter()
+        .any(|token| is_name(source, name, *token))
 }
 
 /// The argument for the parameter of this name.

@@ -1,11 +1,11 @@
-use Rattle.std.proofs.Common.{List, ap, subst, sym, ◌∙◌, arith}
+use Rattle.std.proofs.Common.{◌≡◌, Err, List, ap, rules, subst, sym, ◌∙◌, arith}
 use Rattle.std.specs.Prelude.{option_map}
-use Rattle.pw_cpp_directives.specs.Obeying.{IsVerdictOf}
+use Rattle.pw_cpp_directives.specs.Obeying.{AnswersJudgement, IsVerdictOf}
 use Rattle.pw_cpp_directives.specs.Conditions.{items_of}
 use Rattle.pw_cpp_expand.specs.Numbered.{all_named}
 use Rattle.pw_cpp_expand.specs.declared.progress.Lexeme.{Lexeme}
 use Rattle.pw_cpp_expand.specs.declared.progress.Progress.{Progress}
-use Rattle.pw_cpp_directives.proofs.Judging.{all-known, judged-malformed, judged-stopped, judged-whole, keeps-self}
+use Rattle.pw_cpp_directives.proofs.Judging.{all-known, judged-malformed, judged-stopped, judged-whole, keeps-self, stopped-on}
 use Rattle.pw_cpp_directives.proofs.condition.judge.Goals as goal
 
 pub expand_alone-requires-clause-within : goal.expand_alone-requires-clause-within
@@ -24,8 +24,10 @@ returns-in_default-clause-judges c =
 
 pub returns-in_err-out-clause-judges : goal.returns-in_err-out-clause-judges
 returns-in_err-out-clause-judges c =
-    judged-stopped c.args.source.now c.args.macros.now c.args.digits c.args.tokens.now c.args.progress.now c.requires.fresh _
-    (ap (option_map (all_named c.args.sets.now)) (sym c.in-Some.is) ∙ c.in_ok-found.ensures.taken c.args.sets.now c.requires.empty) _ _ c.in_err-out.ensures
+    stopped-on (AnswersJudgement c.args.source.now c.args.macros.now c.args.digits c.args.tokens.now c.args.progress.now.produced c.expand_alone.new.progress.produced) c.in_err-out.field-0.0 c.from_residual-in_err-out.result
+    (let e : c.from_residual-in_err-out.result ≡ Err c.in_err-out.field-0.0 = first_of (search (rules, c.from_residual-in_err-out.ensures), cc (c.from_residual-in_err-out.ensures)) in e)
+    (judged-stopped c.args.source.now c.args.macros.now c.args.digits c.args.tokens.now c.args.progress.now c.requires.fresh _
+    (ap (option_map (all_named c.args.sets.now)) (sym c.in-Some.is) ∙ c.in_ok-found.ensures.taken c.args.sets.now c.requires.empty) c.expand_alone.new.progress c.in_err-out.field-0.0 c.in_err-out.ensures)
 
 pub returns-clause-keeps : goal.returns-clause-keeps
 returns-clause-keeps c = c.in_ok-out.ensures.1

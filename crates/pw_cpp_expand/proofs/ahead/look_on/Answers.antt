@@ -19,9 +19,9 @@ returns-in_err-found-clause-answers c =
     fault-on (AnswersAhead c.args.text.now InText c.args.pending.now c.args.progress.now c.loop-alloc.pending c.read_on.new.progress) c.in_err-found.field-0.0 c.from_residual.result
     (let e : c.from_residual.result ≡ Err c.in_err-found.field-0.0 = first_of (search (rules, c.from_residual.ensures), cc (c.from_residual.ensures)) in e)
     (fault-weaker (λ f. ReadsOn c.args.text.now c.loop-alloc.progress.next c.loop-alloc.progress (Fault f))
-      (λ f. (known : Known) → HaveEmpty known → LooksAhead c.args.text.now InText (at_hand known c.args.pending.now) c.args.progress.now (Faulty f)) _
-      (λ f h. looks-faulty c.args.text.now c.args.pending.now c.args.progress.now c.loop-alloc.pending c.loop-alloc.progress c.loop-alloc.invariant.1 (c.is_empty.ensures.0 c.loop-alloc-test.true) f h)
-      c.in_err-found.ensures.answers)
+    (λ f. (known : Known) → HaveEmpty known → LooksAhead c.args.text.now InText (at_hand known c.args.pending.now) c.args.progress.now (Faulty f)) _
+    (λ f h. looks-faulty c.args.text.now c.args.pending.now c.args.progress.now c.loop-alloc.pending c.loop-alloc.progress c.loop-alloc.invariant.1 (c.is_empty.ensures.0 c.loop-alloc-test.true) f h)
+    c.in_err-found.ensures.answers)
 
 pub returns-in_default-clause-answers : goal.returns-in_default-clause-answers
 returns-in_default-clause-answers c =
@@ -32,7 +32,7 @@ pub loop-alloc-preserved : goal.loop-alloc-preserved
 loop-alloc-preserved c = (
   c.in_ok-found.ensures.within,
   looks-more c.args.text.now c.args.pending.now c.args.progress.now c.loop-alloc.pending c.loop-alloc.progress c.loop-alloc.invariant.1 (c.is_empty.ensures.0 c.loop-alloc-test.true) _ _ c.in-Some.tokens
-    c.in_ok-put_fresh.ensures.put (next-reads c.args.text.now c.loop-alloc.progress _ c.in_ok-found.found c.in-Some.tokens c.in-Some.is c.in_ok-found.ensures.answers),
+      c.in_ok-put_fresh.ensures.put (next-reads c.args.text.now c.loop-alloc.progress _ c.in_ok-found.found c.in-Some.tokens c.in-Some.is c.in_ok-found.ensures.answers),
   λ known some h. c.in_ok-put_fresh.ensures.known known some (c.loop-alloc.invariant.2 known some h),
 )
 

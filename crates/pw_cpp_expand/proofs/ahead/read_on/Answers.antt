@@ -14,7 +14,7 @@ returns-in_err-tokens-in-Text-clause-answers c =
     fault-on (AnswersFurther c.args.text.now c.args.progress.now _) c.in_err-tokens-in-Text.field-0.0 c.from_residual.result
     (let e : c.from_residual.result ≡ Err c.in_err-tokens-in-Text.field-0.0 = first_of (search (rules, c.from_residual.ensures), cc (c.from_residual.ensures)) in e)
     (fault-weaker (λ f. ReadsOn c.args.text.now c.loop-at.at c.loop-at.progress (Fault f)) (λ f. ReadsOn c.args.text.now c.args.progress.now.next c.args.progress.now (Fault f)) _
-      (λ f h. leads-from c.args.text.now c.loop-at.at c.args.progress.now c.loop-at.progress c.loop-at.invariant.2 c.loop-at.invariant.1 (Fault f) h) c.in_err-tokens-in-Text.ensures.answers)
+    (λ f h. leads-from c.args.text.now c.loop-at.at c.args.progress.now c.loop-at.progress c.loop-at.invariant.2 c.loop-at.invariant.1 (Fault f) h) c.in_err-tokens-in-Text.ensures.answers)
 
 pub returns-in_err-tokens-in-Text-clause-within : goal.returns-in_err-tokens-in-Text-clause-within
 returns-in_err-tokens-in-Text-clause-within c = c.in_err-tokens-in-Text.ensures.within (omega (arith, c.requires, ap (λ (p : Progress). p.next) c.loop-at.invariant.2))
@@ -30,7 +30,7 @@ pub returns-in-Directive-clause-answers : goal.returns-in-Directive-clause-answe
 returns-in-Directive-clause-answers c = (
   c.loop-at.invariant.2,
   c.loop-at.invariant.1 Nothing
-    (reads c.loop-at.at c.args.progress.now _ Nothing c.loop-at-test.true c.in-Directive.ensures (directive c.loop-at.at c.args.progress.now _ _)),
+      (reads c.loop-at.at c.args.progress.now _ Nothing c.loop-at-test.true c.in-Directive.ensures (directive c.loop-at.at c.args.progress.now _ _)),
 )
 
 pub returns-in-Directive-clause-within : goal.returns-in-Directive-clause-within

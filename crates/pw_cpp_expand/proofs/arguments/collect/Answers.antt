@@ -40,10 +40,10 @@ returns-in_err-look_ahead-clause-answers c =
     fault-on (AnswersCall c.args.source.now c.args.text.now c.args.mode c.args.pending.now c.args.progress.now c.look_ahead.new.pending c.look_ahead.new.progress) c.in_err-look_ahead.field-0.0 c.from_residual.result
     (let e : c.from_residual.result ≡ Err c.in_err-look_ahead.field-0.0 = first_of (search (rules, c.from_residual.ensures), cc (c.from_residual.ensures)) in e)
     (fault-weaker (λ f. (known : Known) → HaveEmpty known → LooksAhead c.args.text.now c.args.mode (at_hand known c.loop-turn.pending) c.loop-turn.progress (Faulty f))
-      (λ f. (known : Known) → HaveEmpty known → Collects c.args.source.now c.args.text.now c.args.mode 0 ([] ∷ []) (at_hand known c.args.pending.now) c.args.progress.now (Fails f)) _
-      (λ f h. leads-faulty c.args.source.now c.args.text.now c.args.mode c.args.pending.now c.args.progress.now c.loop-turn.whole c.loop-turn.last c.loop-turn.pending c.loop-turn.progress c.loop-turn.depth
-          c.loop-turn.invariant.2 f h)
-      c.in_err-look_ahead.ensures.answers)
+    (λ f. (known : Known) → HaveEmpty known → Collects c.args.source.now c.args.text.now c.args.mode 0 ([] ∷ []) (at_hand known c.args.pending.now) c.args.progress.now (Fails f)) _
+    (λ f h. leads-faulty c.args.source.now c.args.text.now c.args.mode c.args.pending.now c.args.progress.now c.loop-turn.whole c.loop-turn.last c.loop-turn.pending c.loop-turn.progress c.loop-turn.depth
+    c.loop-turn.invariant.2 f h)
+    c.in_err-look_ahead.ensures.answers)
 
 pub returns-in_default-clause-answers : goal.returns-in_default-clause-answers
 returns-in_default-clause-answers c =
@@ -66,7 +66,7 @@ returns-then-is_end-clause-answers c = λ known empty.
 pub returns-then-is_end-clause-known : goal.returns-then-is_end-clause-known
 returns-then-is_end-clause-known c = λ known some h.
     (All-pop (λ (l : Numbered). l.hidden < length known) c.look_ahead.new.pending c.pop.new.self (Some c.in-Some.lexeme) c.in-Some.ensures
-      (c.in_ok-look_ahead.ensures.known known some (c.loop-turn.invariant.3 known some h).0)).0
+    (c.in_ok-look_ahead.ensures.known known some (c.loop-turn.invariant.3 known some h).0)).0
 
 pub returns-then-is_end-clause-arguments : goal.returns-then-is_end-clause-arguments
 returns-then-is_end-clause-arguments c = λ known some h.
@@ -79,14 +79,14 @@ loop-turn-preserved c =
     let invariant = c.loop-turn.invariant in
     let no_end : c.cut_of-cut.result ≡ cut.Ends → ⊥ = λ e. false≢true (sym c.if-is_end.false ∙ c.is_end.ensures.1 e) in
     let is : (known : Known) → c.cut_of-cut.result ≡ cut_of (part_of c.args.source.now (named known c.in-Some.lexeme)) c.loop-turn.depth =
-        λ known. c.cut_of-cut.ensures ∙ ap (λ x. cut_of x c.loop-turn.depth) (c.part_of.ensures known) in
+    λ known. c.cut_of-cut.ensures ∙ ap (λ x. cut_of x c.loop-turn.depth) (c.part_of.ensures known) in
     let made = c.in_ok-depth.ensures in (
       c.in_ok-look_ahead.ensures.within,
       omega (arith, invariant.1, put-depth c.cut_of-cut.result c.part_of.result c.loop-turn.depth c.in-Some.lexeme c.loop-turn.whole _ c.loop-turn.last _ _ c.cut_of-cut.ensures no_end made),
       leads-put c.args.source.now c.args.text.now c.args.mode c.args.pending.now c.args.progress.now c.loop-turn.whole c.loop-turn.last c.loop-turn.pending c.loop-turn.progress c.in-Some.lexeme c.pop.new.self
-        c.look_ahead.new.progress c.loop-turn.depth
-        (taken_off c.args.text.now c.args.mode c.loop-turn.pending c.look_ahead.new.pending c.pop.new.self c.loop-turn.progress c.look_ahead.new.progress c.in-Some.lexeme c.in-Some.ensures c.in_ok-look_ahead.ensures.answers)
-        invariant.2 c.cut_of-cut.result is no_end _ _ _ made,
+          c.look_ahead.new.progress c.loop-turn.depth
+          (taken_off c.args.text.now c.args.mode c.loop-turn.pending c.look_ahead.new.pending c.pop.new.self c.loop-turn.progress c.look_ahead.new.progress c.in-Some.lexeme c.in-Some.ensures c.in_ok-look_ahead.ensures.answers)
+          invariant.2 c.cut_of-cut.result is no_end _ _ _ made,
       λ known some h.
           let before = invariant.3 known some h in
           let parts = All-pop (λ (l : Numbered). l.hidden < length known) c.look_ahead.new.pending c.pop.new.self (Some c.in-Some.lexeme) c.in-Some.ensures (c.in_ok-look_ahead.ensures.known known some before.0) in

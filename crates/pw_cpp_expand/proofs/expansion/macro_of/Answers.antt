@@ -12,10 +12,10 @@ returns-then-not-is_word c =
 pub returns-then-contains : goal.returns-then-contains
 returns-then-contains c =
     sym (no-macro c.args.ground.source.now c.args.ground.macros.now (named c.args.sets.now c.args.lexeme)
-      (ap (contains (set_at c.args.sets.now c.args.lexeme.hidden)) (sym c.spelled-name.ensures) ∙ sym c.contains.ensures ∙ c.if-contains.true))
+    (ap (contains (set_at c.args.sets.now c.args.lexeme.hidden)) (sym c.spelled-name.ensures) ∙ sym c.contains.ensures ∙ c.if-contains.true))
 
 pub returns : goal.returns
 returns c =
     c.find.ensures ∙ ap (find c.args.ground.macros.now) c.spelled-name.ensures
     ∙ sym (any-macro c.args.ground.source.now c.args.ground.macros.now (named c.args.sets.now c.args.lexeme) (sym c.is_word.ensures ∙ c.if-not-is_word.false)
-      (ap (contains (set_at c.args.sets.now c.args.lexeme.hidden)) (sym c.spelled-name.ensures) ∙ sym c.contains.ensures ∙ c.if-contains.false))
+    (ap (contains (set_at c.args.sets.now c.args.lexeme.hidden)) (sym c.spelled-name.ensures) ∙ sym c.contains.ensures ∙ c.if-contains.false))

@@ -20,16 +20,16 @@ returns-in_default-used-clause-answers c =
     call-miscounted c.args.ground.source.now c.args.ground.text.now c.args.mode c.args.parameters.now c.args.meaning.now.replacement c.args.place c.args.pending.now c.args.progress.now c.collect.new.pending c.collect.new.progress
     c.in_ok-found.found c.in_ok-found.ensures.answers c.in-Some.call c.in-Some.is c.in_ok-used.used
     (λ known.
-        let P : List Token → Type 0 = λ x. IsWaiting c.args.ground.source.now known c.args.parameters.now x c.in-Some.call.arguments c.in_ok-used.used in
-        subst P c.as_slice-replacement.ensures (c.in_ok-used.ensures.waits known)) c.in_default-used.is
+    let P : List Token → Type 0 = λ x. IsWaiting c.args.ground.source.now known c.args.parameters.now x c.in-Some.call.arguments c.in_ok-used.used in
+    subst P c.as_slice-replacement.ensures (c.in_ok-used.ensures.waits known)) c.in_default-used.is
 
 pub returns-clause-answers : goal.returns-clause-answers
 returns-clause-answers c =
     call-closed c.args.ground.source.now c.args.ground.text.now c.args.mode c.args.parameters.now c.args.meaning.now.replacement c.args.place c.args.pending.now c.args.progress.now c.collect.new.pending c.collect.new.progress
     c.in_ok-found.found c.in_ok-found.ensures.answers c.in-Some.call c.in-Some.is c.in_ok-used.used
     (λ known.
-        let P : List Token → Type 0 = λ x. IsWaiting c.args.ground.source.now known c.args.parameters.now x c.in-Some.call.arguments c.in_ok-used.used in
-        subst P c.as_slice-replacement.ensures (c.in_ok-used.ensures.waits known)) c.in-Some-used.waiting c.in-Some-used.is
+    let P : List Token → Type 0 = λ x. IsWaiting c.args.ground.source.now known c.args.parameters.now x c.in-Some.call.arguments c.in_ok-used.used in
+    subst P c.as_slice-replacement.ensures (c.in_ok-used.ensures.waits known)) c.in-Some-used.waiting c.in-Some-used.is
 
 pub returns-clause-known : goal.returns-clause-known
 returns-clause-known c = λ known some h. (

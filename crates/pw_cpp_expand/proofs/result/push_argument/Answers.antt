@@ -30,7 +30,7 @@ loop-lexeme-preserved c =
     let next = c.in_ok-last.ensures in (
       next.1,
       passed-more c.args.sets.now c.args.replaced.hidden c.args.replaced.place c.args.argument.now c.requires.hidden c.requires.argument c.loop-lexeme.sets _ c.args.made.now c.loop-lexeme.made _
-        c.loop-lexeme.lexeme-index _ _ c.loop-lexeme-test.true (get_or_default _ _ _ _ c.loop-lexeme-test.true) c.loop-lexeme.invariant.1 next.0 next.1 next.2 c.in_ok-push.ensures,
+          c.loop-lexeme.lexeme-index _ _ c.loop-lexeme-test.true (get_or_default _ _ _ _ c.loop-lexeme-test.true) c.loop-lexeme.invariant.1 next.0 next.1 next.2 c.in_ok-push.ensures,
     )
 
 pub returns : goal.returns

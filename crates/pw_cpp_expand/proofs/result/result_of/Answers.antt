@@ -22,7 +22,7 @@ loop-token-preserved c =
     made-more c.args.source.now c.args.sets.now c.args.replaced.hidden c.args.replaced.place c.args.arguments.now c.args.replacement.now c.loop-token.sets _ c.loop-token.made _ c.loop-token.token-index _ _
     c.loop-token-test.true (get_or_default _ _ _ _ c.loop-token-test.true) c.loop-token.invariant c.in_ok-push_replaced.ensures
     (becomes-kept c.args.source.now c.args.sets.now c.args.replaced.hidden c.args.replaced.place c.args.arguments.now c.args.replacement.now c.loop-token.sets c.requires.hidden c.requires.arguments
-      c.loop-token.invariant.0 _ _ (c.argument_for-argument.ensures.named c.loop-token.sets))
+    c.loop-token.invariant.0 _ _ (c.argument_for-argument.ensures.named c.loop-token.sets))
 
 pub returns : goal.returns
 returns c = made-all c.args.source.now c.args.sets.now c.args.replaced.hidden c.args.replaced.place c.args.arguments.now c.args.replacement.now c.loop-token.sets c.loop-token.made c.loop-token.token-index c.loop-token-test.false c.loop-token.invariant

@@ -17,4 +17,4 @@ pub returns-clause-kept : goal.returns-clause-kept
 returns-clause-kept c =
     always (λ _. IsKept c.args.self.now c.open.new.self) c.open.result
     (λ _. kept-on c.args.self.now c.holds.new.self c.open.new.self
-        (kept-judged c.args.self.now c.holds.new.self c.in_ok-holds.ensures.keeps c.in_ok-holds.ensures.limits c.in_ok-holds.ensures.rest) c.open.ensures.beside)
+    (kept-judged c.args.self.now c.holds.new.self c.in_ok-holds.ensures.keeps c.in_ok-holds.ensures.limits c.in_ok-holds.ensures.rest) c.open.ensures.beside)

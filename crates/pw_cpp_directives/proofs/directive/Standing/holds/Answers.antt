@@ -11,15 +11,15 @@ judge-requires-clause-limits c = (c.requires.limits, omega arith)
 
 pub returns-in-Err-clause-judges : goal.returns-in-Err-clause-judges
 returns-in-Err-clause-judges c =
-    judged-stopped c.args.source.now c.args.self.now.macros c.args.digits c.args.d.tokens.now c.args.d.hash c.args.self.now.produced _ c.in-Err.fault c.of_expansion.result _ c.of_expansion.ensures c.in-Err.ensures.judges
+    judged-stopped c.args.source.now c.args.self.now.macros c.args.digits c.args.d.tokens.now c.args.d.hash c.args.self.now.produced c.judge.new.progress.produced c.in-Err.fault c.of_expansion.result c.args.self.now.produced c.of_expansion.ensures c.in-Err.ensures.judges
 
 pub returns-in-Holds-clause-judges : goal.returns-in-Holds-clause-judges
 returns-in-Holds-clause-judges c =
     judged-holds c.args.source.now c.args.self.now.macros c.args.digits c.args.d.tokens.now c.args.d.hash c.args.self.now.produced c.judge.new.progress.produced c.in-Ok.verdict c.in-Holds.holds c.in-Holds.is c.in-Ok.ensures.judges
 
-pub returns-in-Faulty-clause-judges : goal.returns-in-Faulty-clause-judges
-returns-in-Faulty-clause-judges c =
-    judged-faulty c.args.source.now c.args.self.now.macros c.args.digits c.args.d.tokens.now c.args.d.hash c.args.self.now.produced c.judge.new.progress.produced c.in-Ok.verdict c.faulty.result _ c.in-Faulty.is c.faulty.ensures
+pub returns-clause-judges : goal.returns-clause-judges
+returns-clause-judges c =
+    judged-faulty c.args.source.now c.args.self.now.macros c.args.digits c.args.d.tokens.now c.args.d.hash c.args.self.now.produced c.judge.new.progress.produced c.in-Ok.verdict c.faulty.result c.judge.new.progress.produced c.in-Faulty.is c.faulty.ensures
     c.in-Ok.ensures.judges
 
 pub returns-in-Holds-clause-limits : goal.returns-in-Holds-clause-limits

@@ -1,4 +1,4 @@
-use Rattle.std.proofs.Common.{◌≡◌, false, true}
+use Rattle.std.proofs.Common.{◌≡◌, Err, false, true}
 use Rattle.pw_cpp_directives.specs.Directives.{TurnsElif, defines, else_effect, endif_effect, ends, goes_on, one_name, opens, tests, tests_not, turns, undefines, with_definition, with_test, with_undefined}
 use Rattle.pw_cpp_directives.specs.Obeying.{IsKept, OpensIf, standing_of}
 use Rattle.pw_cpp_directives.specs.declared.directive.Word.TheVariants as word_is
@@ -7,11 +7,12 @@ use Rattle.pw_cpp_directives.proofs.directive.Standing.obey.Goals as goal
 use Rattle.pw_cpp_macros.specs.Definitions.{definition_of}
 
 pub returns-in_default-clause-obeys : goal.returns-in_default-clause-obeys
-returns-in_default-clause-obeys c = word-none c.args.source.now c.args.digits c.args.d c.args.self.now c.args.self.now c.faulty.result c.word_of-found.result c.word_of-found.ensures _ c.in_default.is c.faulty.ensures
+returns-in_default-clause-obeys c = word-none c.args.source.now c.args.digits c.args.d c.args.self.now c.args.self.now (Err c.faulty.result) c.word_of-found.result c.word_of-found.ensures c.faulty.result c.in_default.is c.faulty.ensures
 
 pub returns-in-Error-clause-obeys : goal.returns-in-Error-clause-obeys
 returns-in-Error-clause-obeys c =
-    word-error c.args.source.now c.args.digits c.args.d c.args.self.now c.args.self.now c.faulty-2.result c.word_of-found.result c.word_of-found.ensures c.in-Some.word _ c.in-Some.is c.in-Error.is c.faulty-2.ensures
+    word-error c.args.source.now c.args.digits c.args.d c.args.self.now c.args.self.now (Err c.faulty-in-Error.result) c.word_of-found.result c.word_of-found.ensures c.in-Some.word c.faulty-in-Error.result c.in-Some.is
+    c.in-Error.is c.faulty-in-Error.ensures
 
 pub returns-in-Define-clause-obeys : goal.returns-in-Define-clause-obeys
 returns-in-Define-clause-obeys c =
@@ -39,11 +40,11 @@ returns-in-Ifdef-clause-kept c = always (λ _. IsKept c.args.self.now c.test.new
 
 pub returns-in-Ifndef-clause-obeys : goal.returns-in-Ifndef-clause-obeys
 returns-in-Ifndef-clause-obeys c =
-    word-done c.args.source.now c.args.digits c.args.d c.args.self.now c.test-2.new.self c.test-2.result c.word_of-found.result c.word_of-found.ensures c.in-Some.word word_is.Ifndef (λ effect. effect ≡ with_test false (standing_of c.args.self.now) c.args.d.hash (one_name c.args.source.now c.args.d.tokens.now))
-    c.in-Some.is c.in-Ifndef.is (λ effect e. tests_not effect e) c.test-2.ensures.does
+    word-done c.args.source.now c.args.digits c.args.d c.args.self.now c.test-in-Ifndef.new.self c.test-in-Ifndef.result c.word_of-found.result c.word_of-found.ensures c.in-Some.word word_is.Ifndef (λ effect. effect ≡ with_test false (standing_of c.args.self.now) c.args.d.hash (one_name c.args.source.now c.args.d.tokens.now))
+    c.in-Some.is c.in-Ifndef.is (λ effect e. tests_not effect e) c.test-in-Ifndef.ensures.does
 
 pub returns-in-Ifndef-clause-kept : goal.returns-in-Ifndef-clause-kept
-returns-in-Ifndef-clause-kept c = always (λ _. IsKept c.args.self.now c.test-2.new.self) c.test-2.result (λ _. kept-beside c.args.self.now c.test-2.new.self c.requires.limits c.test-2.ensures.beside)
+returns-in-Ifndef-clause-kept c = always (λ _. IsKept c.args.self.now c.test-in-Ifndef.new.self) c.test-in-Ifndef.result (λ _. kept-beside c.args.self.now c.test-in-Ifndef.new.self c.requires.limits c.test-in-Ifndef.ensures.beside)
 
 pub returns-in-If-clause-obeys : goal.returns-in-If-clause-obeys
 returns-in-If-clause-obeys c =

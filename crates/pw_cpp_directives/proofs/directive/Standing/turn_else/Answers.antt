@@ -14,12 +14,12 @@ returns-in_err-section-clause-does c =
     (let e : c.from_residual.result ≡ Err c.in_err-section.field-0.0 = first_of (search (rules, c.from_residual.ensures), cc (c.from_residual.ensures)) in e)
     (else-alone c.args.self.now c.args.d.hash c.in_err-section.field-0.0 c.in_err-section.ensures.fault.0 c.in_err-section.ensures.fault.1 c.args.d.tokens.now (none-there c.args.d.tokens.now c.is_empty.result c.is_empty.ensures c.if-not-is_empty.false))
 
-pub returns-then-behind_else-clause-does : goal.returns-then-behind_else-clause-does
-returns-then-behind_else-clause-does c =
-    else-late c.args.self.now c.innermost.new.self c.in_ok-section.section c.in_ok-section.ensures.taken c.args.d.hash c.args.d.tokens.now c.faulty-2.result
-    (none-there c.args.d.tokens.now c.is_empty.result c.is_empty.ensures c.if-not-is_empty.false) c.if-behind_else.true c.faulty-2.ensures
+pub returns-then-section-clause-does : goal.returns-then-section-clause-does
+returns-then-section-clause-does c =
+    else-late c.args.self.now c.innermost.new.self c.in_ok-section.section c.in_ok-section.ensures.taken c.args.d.hash c.args.d.tokens.now c.faulty-then-section.result
+    (none-there c.args.d.tokens.now c.is_empty.result c.is_empty.ensures c.if-not-is_empty.false) c.if-section.true c.faulty-then-section.ensures
 
 pub returns-clause-does : goal.returns-clause-does
 returns-clause-does c =
     else-done c.args.self.now c.innermost.new.self c.in_ok-section.section c.in_ok-section.ensures.taken c.args.d.hash c.args.d.tokens.now c.open.new.self c.with_else.result c.open.result
-    (none-there c.args.d.tokens.now c.is_empty.result c.is_empty.ensures c.if-not-is_empty.false) c.if-behind_else.false c.with_else.ensures c.open.ensures.opened c.open.ensures.fault
+    (none-there c.args.d.tokens.now c.is_empty.result c.is_empty.ensures c.if-not-is_empty.false) c.if-section.false c.with_else.ensures c.open.ensures.opened c.open.ensures.fault

@@ -16,19 +16,19 @@ returns-in_err-look_ahead c =
     step-failed c.args.ground.source.now c.args.ground.text.now c.args.ground.macros.now c.args.ground.mode c.args.sets.now _ _ _ _ c.in_err-look_ahead.field-0.0 c.from_residual.result
     (let e : c.from_residual.result ≡ Err c.in_err-look_ahead.field-0.0 = first_of (search (rules, c.from_residual.ensures), cc (c.from_residual.ensures)) in e)
     (unread-step c.args.ground.source.now c.args.ground.text.now c.args.ground.macros.now c.args.ground.mode c.args.sets.now c.args.self.now c.args.name c.args.progress.now c.args.meaning.now c.args.parameters.now c.requires.meant c.requires.parameters c.in_err-look_ahead.field-0.0
-      c.requires.ready.empty (subst P c.mode_in-mode.ensures c.in_err-look_ahead.ensures.answers))
+    c.requires.ready.empty (subst P c.mode_in-mode.ensures c.in_err-look_ahead.ensures.answers))
 
 pub put_out-requires : goal.put_out-requires
 put_out-requires c =
     (ahead-ready c.args.ground.source.now c.args.ground.text.now c.args.ground.macros.now c.args.ground.mode c.args.sets.now c.args.self.now c.args.name c.args.progress.now c.args.meaning.now c.args.parameters.now c.requires.meant c.requires.parameters c.requires.ready c.requires.name
-      c.mode_in-mode.result c.mode_in-mode.ensures c.look_ahead.new.pending c.look_ahead.new.progress c.in_ok-look_ahead.ensures.answers c.in_ok-look_ahead.ensures.within
-      (c.in_ok-look_ahead.ensures.known c.args.sets.now c.requires.ready.empty.0 c.requires.ready.sets.0)).limits.1
+    c.mode_in-mode.result c.mode_in-mode.ensures c.look_ahead.new.pending c.look_ahead.new.progress c.in_ok-look_ahead.ensures.answers c.in_ok-look_ahead.ensures.within
+    (c.in_ok-look_ahead.ensures.known c.args.sets.now c.requires.ready.empty.0 c.requires.ready.sets.0)).limits.1
 
 pub put_out-requires-2 : goal.put_out-requires-2
 put_out-requires-2 c =
     (ahead-ready c.args.ground.source.now c.args.ground.text.now c.args.ground.macros.now c.args.ground.mode c.args.sets.now c.args.self.now c.args.name c.args.progress.now c.args.meaning.now c.args.parameters.now c.requires.meant c.requires.parameters c.requires.ready c.requires.name
-      c.mode_in-mode.result c.mode_in-mode.ensures c.look_ahead.new.pending c.look_ahead.new.progress c.in_ok-look_ahead.ensures.answers c.in_ok-look_ahead.ensures.within
-      (c.in_ok-look_ahead.ensures.known c.args.sets.now c.requires.ready.empty.0 c.requires.ready.sets.0)).limits.1
+    c.mode_in-mode.result c.mode_in-mode.ensures c.look_ahead.new.pending c.look_ahead.new.progress c.in_ok-look_ahead.ensures.answers c.in_ok-look_ahead.ensures.within
+    (c.in_ok-look_ahead.ensures.known c.args.sets.now c.requires.ready.empty.0 c.requires.ready.sets.0)).limits.1
 
 pub returns-in_default : goal.returns-in_default
 returns-in_default c =

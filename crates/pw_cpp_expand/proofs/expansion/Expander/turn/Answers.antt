@@ -30,11 +30,11 @@ returns-in_err-end_argument-clause-comes c =
     step-failed c.args.ground.source.now c.args.ground.text.now c.args.ground.macros.now c.args.ground.mode c.args.sets.now _ _ _ _ c.in_err-end_argument.field-0.0 c.from_residual-in_err-end_argument.result
     (let e : c.from_residual-in_err-end_argument.result ≡ Err c.in_err-end_argument.field-0.0 = first_of (search (rules, c.from_residual-in_err-end_argument.ensures), cc (c.from_residual-in_err-end_argument.ensures)) in e)
     (inner-turn c.args.ground.source.now c.args.ground.text.now c.args.ground.macros.now c.args.ground.mode {A = Unit {0}} c.args.sets.now c.end_argument.new.sets c.args.self.now c.args.progress.now c.pop.new.self c.pop-2.new.self c.in-Some-pop.call c.in_default.ensures.0 c.in_default.ensures.1
-      c.in-Some-pop.ensures c.end_argument.new.self c.end_argument.new.progress (Err c.in_err-end_argument.field-0.0) c.in_err-end_argument.ensures)
+    c.in-Some-pop.ensures c.end_argument.new.self c.end_argument.new.progress (Err c.in_err-end_argument.field-0.0) c.in_err-end_argument.ensures)
 
 pub returns-in-Some-pop-clause-comes : goal.returns-in-Some-pop-clause-comes
 returns-in-Some-pop-clause-comes c = inner-turn c.args.ground.source.now c.args.ground.text.now c.args.ground.macros.now c.args.ground.mode {A = Unit {0}} c.args.sets.now c.end_argument.new.sets c.args.self.now c.args.progress.now c.pop.new.self c.pop-2.new.self c.in-Some-pop.call c.in_default.ensures.0 c.in_default.ensures.1
-      c.in-Some-pop.ensures c.end_argument.new.self c.end_argument.new.progress (Ok (tt {0})) c.in_ok-end_argument.ensures
+    c.in-Some-pop.ensures c.end_argument.new.self c.end_argument.new.progress (Ok (tt {0})) c.in_ok-end_argument.ensures
 
 pub returns-clause-done : goal.returns-clause-done
 returns-clause-done c = λ _. (c.in_default.ensures.1, c.in_default-pop.ensures.1)

@@ -1,8 +1,8 @@
 //! All files of a run, one behind the other.
 
 ghost use Rattle.std.specs.Prelude.{◌≡◌, IfOk};
-ghost use Rattle.pw_cpp.specs.Answers as spec;
-ghost use Rattle.pw_cpp.specs.Answers.{digit, digits_of};
+ghost use Rattle.pw_cpp_sources.specs.Sources as spec;
+ghost use Rattle.pw_cpp_sources.specs.Sources.{digit, digits_of};
 
 use pw_cpp_directives::Digits;
 use pw_token::{Token, TokenKind};
