@@ -3,7 +3,7 @@ use Rattle.std.proofs.Common.{◌≡◌, ℕ, suc, ◌+◌, true, false, List, [
 use Rattle.std.proofs.lemmas.Bool.{false≢true}
 use Rattle.pw_token.specs.declared.token.Token.{Token}
 use Rattle.pw_cpp_directives.specs.Directives.{DoesWord, Effect, Standing, word_of}
-use Rattle.pw_cpp.specs.Files.{Continues, File, Includes, IncludesHeader, IncludesQuoted, Obeys, ObeysTokens, Reading, ReadsDirective, ReadsFile, ReadsLine, ReadsLines, ReadsText, Result_of, Step, Use, after_effect, after_header, after_passed, after_text, after_unquoted, header_of, name_of, passing, progress, text_of, use_of}
+use Rattle.pw_cpp.specs.Files.{Continues, Includes, IncludesHeader, IncludesQuoted, Obeys, ObeysTokens, Reading, ReadsDirective, ReadsFile, ReadsLine, ReadsLines, ReadsText, Result_of, Step, Use, after_effect, after_header, after_passed, after_text, after_unquoted, name_of, passing, progress, use_of}
 use Rattle.pw_cpp.specs.Files as file
 use Rattle.pw_cpp_directives.specs.declared.directive.Word.{Word}
 use Rattle.pw_cpp_directives.specs.declared.condition.Digits.{Digits}
@@ -20,6 +20,7 @@ use Rattle.pw_cpp_lines.specs.declared.head.Span.{Span}
 use Rattle.pw_cpp_lines.specs.declared.line.Line.{Line}
 use Rattle.pw_cpp_lines.specs.declared.line.LineFault.{LineFault}
 use Rattle.pw_cpp_macros.specs.Macros.{Macros}
+use Rattle.pw_cpp_sources.specs.Sources.{File, text_of, header_of}
 
 -- what the crates below say of lines, of expansion and of directives
 pub record Below : Type 0 where
@@ -83,7 +84,7 @@ module _ (below : Below) where
       one_step depth f at r what x y (file.text _ _ _ _ further _ a h i) (file.passed_text _ _ _ _ next b k) = absurd (false≢true (sym b ∙ a))
       one_step depth f at r what x y (file.passed_text _ _ _ _ next a h) (file.text _ _ _ _ further _ b k j) = absurd (false≢true (sym a ∙ b))
       one_step depth f at r what x y (file.passed_text _ _ _ _ next a h) (file.passed_text _ _ _ _ other b k) = ap (λ z. file.GoesOn z r) (below.line (text_of source f) at next other h k)
-      one_step depth f at r what x y (file.directive_line _ _ _ _ hash name _ h) (file.directive_line _ _ _ _ _ _ _ k) = one_directive depth f at r hash name (use_of r (name_of source name)) x y h k
+      one_step depth f at r what x y (file.directive_line _ _ _ _ hash name _ h) (file.directive_line _ _ _ _ _ _ _ k) = one_directive depth f at r hash name (use_of r (name_of (text_of source f) name)) x y h k
 
       one_directive : (depth : ℕ) (f : File) (at : ℕ) (r : Reading) (hash : ℕ) (name : Span) (use : Use) (x y : Step)
           → ReadsDirective source files digits depth f at r hash name use x → ReadsDirective source files digits depth f at r hash name use y → x ≡ y
@@ -92,10 +93,10 @@ module _ (below : Below) where
           let P : ℕ → Type 0 = λ z. Includes source files digits depth f r hash (name.at + name.len) (header_name (text_of source f) z) y in
           one_include depth f r hash (name.at + name.len) (header_name (text_of source f) start) x y i (subst P (sym (below.space (text_of source f) (name.at + name.len) start other h k)) j)
       one_directive depth f at r hash name use x y (file.whole_line _ _ _ _ _ _ found _ h i) (file.whole_line _ _ _ _ _ _ other _ k j) =
-          let P : Result Line LineFault → Type 0 = λ z. Obeys source digits f r hash (name_of source name) z y in
-          one_obeyed f r hash (name_of source name) found x y i (subst P (sym (below.lexes (text_of source f) hash found other h k)) j)
+          let P : Result Line LineFault → Type 0 = λ z. Obeys source digits f r hash (name_of (text_of source f) name) z y in
+          one_obeyed f r hash (name_of (text_of source f) name) found x y i (subst P (sym (below.lexes (text_of source f) hash found other h k)) j)
       one_directive depth f at r hash name use x y (file.passed _ _ _ _ _ _ next _ h e) (file.passed _ _ _ _ _ _ other _ k g) =
-          e ∙ ap (λ z. after_passed f hash z r (passing (name_of source name) r.nested)) (below.line (text_of source f) at next other h k) ∙ sym g
+          e ∙ ap (λ z. after_passed f hash z r (passing (name_of (text_of source f) name) r.nested)) (below.line (text_of source f) at next other h k) ∙ sym g
 
       one_include : (depth : ℕ) (f : File) (r : Reading) (hash behind : ℕ) (quoted : Option Span) (x y : Step)
           → Includes source files digits depth f r hash behind quoted x → Includes source files digits depth f r hash behind quoted y → x ≡ y
@@ -112,7 +113,7 @@ module _ (below : Below) where
       one_quoted depth f r hash span found x y (file.wrong _ _ _ _ _ line w) (file.named _ _ _ _ _ _ _ v k) = absurd (false≢true (sym v ∙ w))
       one_quoted depth f r hash span found x y (file.named _ _ _ _ _ line _ w h) (file.wrong _ _ _ _ _ _ v) = absurd (false≢true (sym w ∙ v))
       one_quoted depth f r hash span found x y (file.named _ _ _ _ _ line _ w h) (file.named _ _ _ _ _ _ _ v k) =
-          one_header depth f r hash line.next (name_of source span) (header_of files (name_of source span)) x y h k
+          one_header depth f r hash line.next (name_of (text_of source f) span) (header_of files (name_of (text_of source f) span)) x y h k
 
       one_header : (depth : ℕ) (f : File) (r : Reading) (hash next : ℕ) (name : List ℕ) (inner : Option File) (x y : Step)
           → IncludesHeader source files digits depth f r hash next name inner x → IncludesHeader source files digits depth f r hash next name inner y → x ≡ y

@@ -1,25 +1,31 @@
 -- What the calls of the preprocessor answer.
-use Rattle.std.specs.Prelude.{◌≡◌, ℕ, ◌≤◌, Bool, true, false, take, drop, if◌then◌else◌, ◌&&◌, ◌||◌, nat_le, bytes_eq, All, ◌+◌, reverse, map, length, codes, ◌⊎◌, List, [], ◌∷◌, ◌++◌, Option, Some, None, Result, Ok, Err}
-use Rattle.std.specs.Vec.{Vec}
+use Rattle.std.specs.Prelude.{◌≡◌, slice_get, ℕ, ◌≤◌, Bool, true, false, take, drop, if◌then◌else◌, ◌&&◌, ◌||◌, nat_le, bytes_eq, All, ◌+◌, reverse, map, length, codes, ◌⊎◌, List, [], ◌∷◌, ◌++◌, Option, Some, None, Result, Ok, Err}
+use Rattle.std.specs.Global.{Vec}
 use Rattle.std.specs.List.{flat_map}
 use Rattle.pw_token.specs.Roles.{spelling}
 use Rattle.pw_token.specs.declared.token.Token.{Token}
 use Rattle.pw_token.specs.declared.token.TokenKind.TheVariants as token
-use Rattle.pw_cpp_directives.specs.Directives.{fault, standing}
-use Rattle.pw_cpp.specs.Files.{Faulted, File, GoesOn, Include, Includes, Obeys, Passed, Pragma, Preprocesses, Read, Reading, ReadsFile, ReadsLine, ReadsText, Step, Stops, Use, Whole, after_passed, begins, file_named, line_of, name_of, output_of, passing, progress, text_of, with_standing}
+use Rattle.pw_cpp_directives.specs.Directives.{Becomes, Effect, Fails, Standing, fault, standing}
+use Rattle.pw_cpp.specs.Files.{Faulted, Result_of, ObeysTokens, after_effect, GoesOn, Include, Includes, Obeys, Passed, Pragma, Preprocesses, Read, Reading, ReadsFile, ReadsLine, ReadsText, Step, Stops, Use, Whole, after_passed, begins, name_of, passing, progress, with_standing}
 use Rattle.pw_cpp_directives.specs.Groups.{is_reading, is_turn}
 use Rattle.pw_cpp_directives.specs.Obeying.{IsFaultOf, standing_of}
-use Rattle.pw_cpp.specs.declared.file.Reader.{Reader}
+use Rattle.pw_cpp.specs.declared.reader.Reader.{Reader}
 use Rattle.pw_cpp.specs.declared.fault.CppFault.{CppFault}
-use Rattle.pw_cpp.specs.declared.source.Place.{Place}
+use Rattle.pw_cpp_sources.specs.declared.source.Place.{Place}
 use Rattle.pw_cpp_directives.specs.declared.directive.Fault.{Fault}
 use Rattle.pw_cpp_directives.specs.declared.fault.CppKind.{CppKind}
 use Rattle.pw_cpp_directives.specs.declared.fault.CppKind.TheVariants as kind
 use Rattle.pw_cpp_directives.specs.declared.condition.Digits.{Digits}
-use Rattle.pw_cpp_expand.specs.Expansion.{produced_limit}
-use Rattle.pw_cpp_expand.specs.Lookahead.{Further, ReadsOn, output_limit}
-use Rattle.pw_cpp_expand.specs.Numbered.{HaveEmpty}
+use Rattle.pw_cpp_expand.specs.AtHand.{IsWithinLimits}
+use Rattle.pw_cpp_expand.specs.Expansion.{Done, Expands, Outcome, Stopped, produced_limit}
+use Rattle.pw_cpp_expand.specs.Lookahead.{Further, ReadsOn, Tokens, Fault as Unread, fresh, output_limit}
+use Rattle.pw_cpp_expand.specs.Numbered.{HaveEmpty, IsFault, all_named}
 use Rattle.pw_cpp_expand.specs.declared.progress.Lexeme.{Lexeme as Numbered}
+use Rattle.pw_cpp_expand.specs.declared.progress.ExpandFault.{ExpandFault}
+use Rattle.pw_cpp_expand.specs.declared.progress.Mode.TheVariants.{InText}
+use Rattle.pw_cpp_expand.specs.declared.progress.Progress.{Progress}
+use Rattle.pw_cpp_macros.specs.Macros.{Macros}
+use Rattle.pw_cpp_sets.specs.Sets.{Keeps as KeepsSets}
 use Rattle.pw_cpp_lines.specs.Heads.{IsHead, header_name}
 use Rattle.pw_cpp_lines.specs.Lines.{Lexes, PassesSpace}
 use Rattle.pw_cpp_lines.specs.Passing.{PassesLine}
@@ -29,6 +35,8 @@ use Rattle.pw_cpp_lines.specs.declared.line.Line.{Line}
 use Rattle.pw_cpp_lines.specs.declared.line.LineFault.{LineFault}
 use Rattle.pw_cpp_lines.specs.declared.line.LineFault.TheVariants.{Bad}
 use Rattle.pw_cpp_values.specs.declared.arithmetic.Number.{Number}
+use Rattle.pw_cpp_sources.specs.Sources.{File, text_of, file_named, line_of, files_of, names_of, IsPlaceOf, digits_of, Texts, source_of, spans_of}
+use Rattle.pw_cpp_sources.specs.Rows.{AreInRows, output_of}
 
 -- ---- files
 
@@ -37,18 +45,67 @@ pub record StandsAs (reader : Reader) (reading : Reading) : Type 0 where
   pub standing_is : reading.standing_is ≡ standing_of reader.standing
   pub nested_is : reading.nested ≡ reverse reader.standing.nested
   pub out_is : output_of reader.source.now reading.out ≡ reader.out.items
-  pub size_is : reading.size ≡ length reader.out.items
+  pub size_is : reading.size ≡ reader.size
 
 -- what files a reader reads
 abbrev pub reads_of : Reader → List File
 reads_of reader = files_of (names_of reader.files.now) reader.spans.now
 
--- What a call answers that does a step of a file: where reading goes on, and how it stands there; or a fault, in the file that it names.
+-- a file that is the first of its name
+abbrev pub IsFirst : Reader → File → Type 0
+IsFirst reader file = file_named (reads_of reader) file.name ≡ Some file
+
+-- the file at hand, which is the first of its name
+abbrev pub IsAt : Reader → File → Type 0
+IsAt reader file = (slice_get (reads_of reader) reader.file ≡ Some file) × IsFirst reader file
+
+-- What a call answers that does a step of a file: where reading goes on, in the same file, and how it stands there; or a fault, in the file
+-- that is at hand then.
 abbrev pub AnswersStep : Reader → Reader → (Reading → Step → Type 0) → Result ℕ Fault → Type 0
-AnswersStep old new Does (Ok next) = (r : Reading) → StandsAs old r → (s : Reading) × StandsAs new s × Does r (GoesOn next s)
-AnswersStep old new Does (Err fault) =
-    IsFaultOf fault (λ f. (inner : File) × (file_named (reads_of old) inner.name ≡ Some inner) × IsPlaceOf inner f.place
-        × ((r : Reading) → StandsAs old r → Does r (Stops inner.name f)))
+AnswersStep old new Does (Ok next) = (new.file ≡ old.file) × ((r : Reading) → StandsAs old r → (s : Reading) × StandsAs new s × Does r (GoesOn next s))
+AnswersStep old new Does (Err fault) = IsFaultOf fault (λ f. (inner : File) × IsAt new inner × ((r : Reading) → StandsAs old r → Does r (Stops inner.name f)))
+
+-- the same of one that stays in its line
+abbrev pub AnswersTokens : Reader → Reader → (Reading → Effect → Type 0) → Result (Unit {0}) Fault → Type 0
+AnswersTokens old new Does (Ok done) = (r : Reading) → StandsAs old r → (s : Standing) × StandsAs new (with_standing r s) × Does r (Becomes s)
+AnswersTokens old new Does (Err fault) = IsFaultOf fault (λ f. (r : Reading) → StandsAs old r → Does r (Fails f))
+
+-- what a directive's tokens come to
+abbrev pub DoesTokens : List ℕ → Digits → ℕ → List ℕ → List Token → Reading → Effect → Type 0
+DoesTokens source digits hash name tokens r effect =
+    (file : File) (next : ℕ) → ObeysTokens source digits file r hash name next tokens (after_effect file r next effect)
+
+-- ---- a text line
+
+-- nothing but the sets changes
+pub record IsSame (old new : Reader) : Type 0 where
+  pub file : new.file ≡ old.file
+  pub macros : new.standing.macros ≡ old.standing.macros
+  pub sections : new.standing.sections ≡ old.standing.sections
+  pub nested : new.standing.nested ≡ old.standing.nested
+  pub produced : new.standing.produced ≡ old.standing.produced
+  pub out : new.out.items ≡ old.out.items
+  pub size : new.size ≡ old.size
+  pub sets : KeepsSets old.standing.sets new.standing.sets
+
+-- how far the text has come before a text line of a file is read
+abbrev pub starts : ℕ → Reader → Progress
+starts at reader = record { next = at; rows = []; produced = reader.standing.produced; size = reader.size }
+
+-- a line's tokens, and what they come to
+pub record Expanded (source text : List ℕ) (macros : Macros) (at : ℕ) (p : Progress) (outcome : Outcome) : Type 0 where
+  pub tokens : List Token
+  pub middle : Progress
+  pub reads : ReadsOn text at p (Tokens tokens middle)
+  pub expands : Expands source text macros InText (map fresh tokens) middle outcome
+
+abbrev pub AnswersText : Reader → Reader → List ℕ → ℕ → Progress → Progress → Result (List Numbered) ExpandFault → Type 0
+AnswersText old new text at p q (Ok out) =
+    Expanded old.source.now text old.standing.macros at p (Done (all_named new.standing.sets out) q) × (q.next ≤ length text) × IsWithinLimits q × AreInRows q.rows out
+AnswersText old new text at p q (Err fault) =
+    IsFault fault (λ f. ReadsOn text at p (Unread f) ⊎ Expanded old.source.now text old.standing.macros at p (Stopped f))
+
+-- ---- lines
 
 -- what is done with the line at a place of a file
 abbrev pub DoesLine : List ℕ → List File → Digits → ℕ → File → ℕ → Reading → Step → Type 0
@@ -58,10 +115,10 @@ abbrev pub DoesText : List ℕ → File → ℕ → Reading → Step → Type 0
 DoesText source file at r step = (further : Further) × ReadsOn (text_of source file) at (progress r at) further × ReadsText source file r further step
 
 abbrev pub DoesWhole : List ℕ → Digits → File → ℕ → Span → Reading → Step → Type 0
-DoesWhole source digits file hash name r step = (found : Result Line LineFault) × Lexes (text_of source file) hash found × Obeys source digits file r hash (name_of source name) found step
+DoesWhole source digits file hash name r step = (found : Result Line LineFault) × Lexes (text_of source file) hash found × Obeys source digits file r hash (name_of (text_of source file) name) found step
 
 abbrev pub DoesPassed : List ℕ → File → ℕ → ℕ → Span → Reading → Step → Type 0
-DoesPassed source file at hash name r step = (next : ℕ) × PassesLine (text_of source file) at next × (step ≡ after_passed file hash next r (passing (name_of source name) r.nested))
+DoesPassed source file at hash name r step = (next : ℕ) × PassesLine (text_of source file) at next × (step ≡ after_passed file hash next r (passing (name_of (text_of source file) name) r.nested))
 
 abbrev pub DoesInclude : List ℕ → List File → Digits → ℕ → File → ℕ → Span → Reading → Step → Type 0
 DoesInclude source files digits depth file hash name r step =
@@ -69,20 +126,17 @@ DoesInclude source files digits depth file hash name r step =
     × Includes source files digits depth file r hash (name.at + name.len) (header_name (text_of source file) start) step
 
 -- a file that is read to its end
-abbrev pub ReadsWhole : Digits → ℕ → File → Reader → Reader → Result (Unit {0}) Fault → Type 0
-ReadsWhole digits depth file old new (Ok done) =
-    (r : Reading) → StandsAs old r → (s : Reading) × StandsAs new (with_standing s (begins r.standing_is.sections s.standing_is)) × ReadsFile old.source.now (reads_of old) digits depth file r (Read s)
-ReadsWhole digits depth file old new (Err fault) =
-    IsFaultOf fault (λ f. (inner : File) × (file_named (reads_of old) inner.name ≡ Some inner) × IsPlaceOf inner f.place
-        × ((r : Reading) → StandsAs old r → ReadsFile old.source.now (reads_of old) digits depth file r (Faulted inner.name f)))
+abbrev pub AnswersFile : Reader → Reader → (Reading → Result_of → Type 0) → Result (Unit {0}) Fault → Type 0
+AnswersFile old new Reads (Ok done) = (r : Reading) → StandsAs old r → (s : Reading) × StandsAs new s × Reads r (Read s)
+AnswersFile old new Reads (Err fault) = IsFaultOf fault (λ f. (inner : File) × IsAt new inner × ((r : Reading) → StandsAs old r → Reads r (Faulted inner.name f)))
 
--- a file that is read, with the source up to its end
+-- the file at hand, with the source up to its end
 abbrev pub IsRead : Reader → File → List ℕ → Type 0
-IsRead reader file text = (text ≡ text_of reader.source.now file) × (file_named (reads_of reader) file.name ≡ Some file) × (file.end ≡ length text)
+IsRead reader file text = IsAt reader file × (text ≡ text_of reader.source.now file)
 
 -- what reading keeps within its bounds
 abbrev pub IsWithin : Reader → Type 0
-IsWithin reader = (reader.standing.produced ≤ produced_limit) × HaveEmpty reader.standing.sets × (length reader.out.items ≤ output_limit)
+IsWithin reader = (reader.standing.produced ≤ produced_limit) × HaveEmpty reader.standing.sets × (reader.size ≤ output_limit)
 
 -- ---- parts of a line's reading
 
@@ -97,12 +151,6 @@ use_by reader name =
     else (if is_reading (reverse reader.standing.sections) && bytes_eq name (codes "include") then Include
     else (if is_reading (reverse reader.standing.sections) || (nat_le (length reader.standing.nested) 0 && is_turn name) then Whole else Passed))
 
--- a fault with its file's name and its line
-abbrev pub IsPlacedFault : List ℕ → List (List ℕ × Vec ℕ) → List Place → Fault → CppFault → Type 0
-IsPlacedFault source files spans f found =
-    (inner : File) → file_named (files_of (names_of files) spans) inner.name ≡ Some inner → IsPlaceOf inner f.place
-    → found ≡ record { kind = f.kind; file = inner.name; line = line_of source inner f.place }
-
 -- nothing but how reading stands changes
 abbrev pub Keeps : Reader → Reader → Type 0
 Keeps old new = (new.source.now ≡ old.source.now) × (new.files.now ≡ old.files.now) × (new.spans.now ≡ old.spans.now)
@@ -113,12 +161,11 @@ Keeps old new = (new.source.now ≡ old.source.now) × (new.files.now ≡ old.fi
 abbrev pub PreprocessesFile : Texts → List ℕ → Result (List ℕ) (CppKind × List ℕ × ℕ) → Type 0
 PreprocessesFile files name answer = Preprocesses (source_of files) (spans_of files) digits_of name answer
 
--- what reading the files of a source answers: the output; or a fault at a place of the file that it names, unless memory ran out
-abbrev pub AnswersReading : List ℕ → List File → Digits → List ℕ → Result (Vec ℕ) Fault → Type 0
+-- what reading the files of a source answers: the output; or a fault with the number of its file, unless memory ran out
+abbrev pub AnswersReading : List ℕ → List File → Digits → List ℕ → Result (Vec ℕ) (ℕ × Fault) → Type 0
 AnswersReading source files digits name (Ok out) = Preprocesses source files digits name (Ok out.items)
-AnswersReading source files digits name (Err fault) =
-    IsFaultOf fault (λ f. (inner : File) × (file_named files inner.name ≡ Some inner) × IsPlaceOf inner f.place
-        × Preprocesses source files digits name (Err (f.kind, inner.name, line_of source inner f.place)))
+AnswersReading source files digits name (Err found) =
+    IsFaultOf found.1 (λ f. (file : File) × (slice_get files found.0 ≡ Some file) × Preprocesses source files digits name (Err (f.kind, file.name, line_of source file f.place)))
 
 -- what preprocessing answers: the output; or the fault with its file and its line, unless memory ran out
 abbrev pub AnswersCpp : Texts → List ℕ → Result (Vec ℕ) CppFault → Type 0

@@ -26,6 +26,8 @@ use Rattle.pw_cpp_lines.specs.declared.line.Line.{Line}
 use Rattle.pw_cpp_lines.specs.declared.line.LineFault.{LineFault}
 use Rattle.pw_cpp_lines.specs.declared.line.LineFault.TheVariants as no
 use Rattle.pw_cpp_lines.specs.declared.line.LineFault.TheVariants.{Bad}
+use Rattle.pw_cpp_sources.specs.Sources.{File, text_of, size_of, file_named, depth_limit, header_name_limit, length_limit, header_of, line_of}
+use Rattle.pw_cpp_sources.specs.Rows.{Row, rows_of, output_of}
 
 -- ---- reading a file
 
@@ -142,9 +144,9 @@ mutual
 
   -- the lines of a file from a place on
   pub data ReadsLines (source : List ℕ) (files : List File) (digits : Digits) : ℕ → File → ℕ → Reading → Result_of → Type 0 where
-    ends : (depth : ℕ) (file : File) (at : ℕ) (r : Reading) (found : Result_of) → file.end ≤ at → found ≡ ended_in file r r.standing_is.sections
+    ends : (depth : ℕ) (file : File) (at : ℕ) (r : Reading) (found : Result_of) → length (text_of source file) ≤ at → found ≡ ended_in file r r.standing_is.sections
         → ReadsLines source files digits depth file at r found
-    line : (depth : ℕ) (file : File) (at : ℕ) (r : Reading) (what : Head) (step : Step) (found : Result_of) → at < file.end → IsHead (text_of source file) at what
+    line : (depth : ℕ) (file : File) (at : ℕ) (r : Reading) (what : Head) (step : Step) (found : Result_of) → at < length (text_of source file) → IsHead (text_of source file) at what
         → ReadsLine source files digits depth file at r what step → Continues source files digits depth file step found → ReadsLines source files digits depth file at r found
 
   pub data Continues (source : List ℕ) (files : List File) (digits : Digits) : ℕ → File → Step → Result_of → Type 0 where
@@ -161,7 +163,7 @@ mutual
     passed_text : (depth : ℕ) (file : File) (at : ℕ) (r : Reading) (next : ℕ) → is_reading r.standing_is.sections ≡ false → PassesLine (text_of source file) at next
         → ReadsLine source files digits depth file at r head.Text (GoesOn next r)
     directive_line : (depth : ℕ) (file : File) (at : ℕ) (r : Reading) (hash : ℕ) (name : Span) (step : Step)
-        → ReadsDirective source files digits depth file at r hash name (use_of r (name_of source name)) step
+        → ReadsDirective source files digits depth file at r hash name (use_of r (name_of (text_of source file) name)) step
         → ReadsLine source files digits depth file at r (head.Directive hash name) step
 
   pub data ReadsText (source : List ℕ) : File → Reading → Further → Step → Type 0 where
@@ -178,10 +180,10 @@ mutual
         → Includes source files digits depth file r hash (name.at + name.len) (header_name (text_of source file) start) step
         → ReadsDirective source files digits depth file at r hash name Include step
     whole_line : (depth : ℕ) (file : File) (at : ℕ) (r : Reading) (hash : ℕ) (name : Span) (found : Result Line LineFault) (step : Step)
-        → Lexes (text_of source file) hash found → Obeys source digits file r hash (name_of source name) found step
+        → Lexes (text_of source file) hash found → Obeys source digits file r hash (name_of (text_of source file) name) found step
         → ReadsDirective source files digits depth file at r hash name Whole step
     passed : (depth : ℕ) (file : File) (at : ℕ) (r : Reading) (hash : ℕ) (name : Span) (next : ℕ) (step : Step) → PassesLine (text_of source file) at next
-        → step ≡ after_passed file hash next r (passing (name_of source name) r.nested) → ReadsDirective source files digits depth file at r hash name Passed step
+        → step ≡ after_passed file hash next r (passing (name_of (text_of source file) name) r.nested) → ReadsDirective source files digits depth file at r hash name Passed step
 
   -- A line that lexes whole begins with a `#` alone, and is empty behind it, or a directive with its word.
   pub data Obeys (source : List ℕ) (digits : Digits) : File → Reading → ℕ → List ℕ → Result Line LineFault → Step → Type 0 where
@@ -214,7 +216,7 @@ mutual
     wrong : (depth : ℕ) (file : File) (r : Reading) (hash : ℕ) (x : Span) (found : Line) → is_wrong_include x found ≡ true
         → IncludesQuoted source files digits depth file r hash x (Ok found) (Stops file.name (fault kind.Directive hash))
     named : (depth : ℕ) (file : File) (r : Reading) (hash : ℕ) (x : Span) (found : Line) (step : Step) → is_wrong_include x found ≡ false
-        → IncludesHeader source files digits depth file r hash found.next (name_of source x) (header_of files (name_of source x)) step
+        → IncludesHeader source files digits depth file r hash found.next (name_of (text_of source file) x) (header_of files (name_of (text_of source file) x)) step
         → IncludesQuoted source files digits depth file r hash x (Ok found) step
 
   -- The header is read one deeper, if it is there and not too deep.

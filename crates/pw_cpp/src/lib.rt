@@ -3,8 +3,11 @@
 
 mod fault;
 mod file;
+mod passing;
+mod reader;
+mod whole;
 
 pub use fault::CppFault;
-pub use file::preprocess;
+pub use whole::preprocess;
 pub use pw_cpp_directives::{CppKind, CppWhich};
 pub use pw_cpp_sources::{DEPTH_LIMIT, HEADER_NAME_LIMIT, is_header};

@@ -616,3 +616,42 @@ faults-in-text source text macros pending p fault low e w l = expands_in source 
 pub faults-alone : (source text : List ℕ) (macros : Macros) (pending : List Lexeme) (p : Progress) (fault : ExpandFault) (low high : ℕ) → Expands source text macros Alone pending p (Stopped fault)
     → All (IsWithin low high) pending → IsFaultWithin low high fault
 faults-alone source text macros pending p fault low high e w = expands_in source text macros low high Alone pending p (Stopped fault) tt w tt e
+
+-- ---- the first line of a text
+
+-- its tokens stand behind its beginning, and it is the first that was read
+abbrev pub IsReadFirst : Further → Type 0
+IsReadFirst Nothing = Unit {0}
+IsReadFirst (Tokens tokens q) = (first : ℕ) × StandBetween first (map fresh tokens) q.next × AreReadFrom first q
+IsReadFirst (Fault fault) = Unit {0}
+
+module _ (text : List ℕ) where
+  first_line : (at : ℕ) (p : Progress) (found : Result Line LineFault) → p.rows ≡ [] → Lexes text at found → IsReadFirst (of_text_line at p found)
+  first_line at p (Ok line) e h = by_size (nat_le output_limit p.size)
+    where
+      tokens : StandBetween at (map fresh line.tokens) line.next
+      tokens = found_between text at line h
+
+      IsFirst : List ℕ → Type 0
+      IsFirst rows = FirstIs at (rows ++ at ∷ []) × Ascends at (rows ++ at ∷ []) line.next
+
+      alone : IsFirst []
+      alone = (refl, (omega arith, bounded at (map fresh line.tokens) line.next tokens))
+
+      by_size : (b : Bool) → IsReadFirst (if b then Fault (Length at) else Tokens line.tokens (read_to p at line.next))
+      by_size true = tt
+      by_size false = (at, tokens, subst IsFirst (sym e) alone)
+  first_line at p (Err fault) e h = tt
+
+  mutual
+    reads_first : (at : ℕ) (p : Progress) (x : Further) → p.rows ≡ [] → ReadsOn text at p x → IsReadFirst x
+    reads_first at p x e (look.ends _ _ _) = tt
+    reads_first at p x e (look.reads _ _ what _ w h r) = reads_as_first at p what x e r
+
+    reads_as_first : (at : ℕ) (p : Progress) (what : Head) (x : Further) → p.rows ≡ [] → ReadsAs text at p what x → IsReadFirst x
+    reads_as_first at p what x e (look.directive _ _ hash name) = tt
+    reads_as_first at p what x e (look.marker _ _ hash next _ m r) = reads_first next p x e r
+    reads_as_first at p what x e (look.text_line _ _ found _ h g) = subst IsReadFirst (sym g) (first_line at p found e h)
+
+pub reads-first : (text : List ℕ) (at : ℕ) (p : Progress) (x : Further) → p.rows ≡ [] → ReadsOn text at p x → IsReadFirst x
+reads-first text at p x e h = reads_first text at p x e h

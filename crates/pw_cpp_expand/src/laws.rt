@@ -1,14 +1,15 @@
 //! Laws of expansion.
 
-ghost use Rattle.std.specs.Prelude.{◌≡◌, ◌≤◌, ℕ, List, All, length};
+ghost use Rattle.std.specs.Prelude.{◌≡◌, ◌≤◌, ℕ, List, [], All, length, map};
 ghost use Rattle.pw_cpp_expand.specs.Expansion.{Done, Expands, Outcome, Stopped};
-ghost use Rattle.pw_cpp_expand.specs.Lookahead.{Further, Lexeme, ReadsOn};
+ghost use Rattle.pw_cpp_expand.specs.Lookahead.{Further, Lexeme, ReadsOn, Tokens, fresh};
 ghost use Rattle.pw_cpp_expand.specs.Places.{AreReadFrom, IsFaultWithin, IsWithin, StandBetween};
 ghost use Rattle.pw_cpp_expand.specs.declared.progress.ExpandFault.{ExpandFault};
 ghost use Rattle.pw_cpp_expand.specs.declared.progress.Mode.{Mode};
 ghost use Rattle.pw_cpp_expand.specs.declared.progress.Mode.TheVariants.{Alone, InText};
 ghost use Rattle.pw_cpp_expand.specs.declared.progress.Progress.{Progress};
 ghost use Rattle.pw_cpp_macros.specs.Macros.{Macros};
+ghost use Rattle.pw_token.specs.declared.token.Token.{Token};
 
 use pw_cpp_lines::{one_end, one_head, one_line};
 
@@ -33,6 +34,11 @@ pub fn one_outcome()
 /// The tokens that a text comes to stand in the order of their places, as the lines do that were read.
 pub fn tokens_in_order()
     ensures { (source text : List ℕ) (macros : Macros) (pending out : List Lexeme) (p q : Progress) (low first : ℕ) → Expands source text macros InText pending p (Done out q) → StandBetween low pending p.next → AreReadFrom first p → StandBetween low out q.next × AreReadFrom first q }
+{}
+
+/// The tokens of the line that is read first stand behind its beginning.
+pub fn line_in_order()
+    ensures { (text : List ℕ) (at : ℕ) (p q : Progress) (tokens : List Token) → p.rows ≡ [] → ReadsOn text at p (Tokens tokens q) → (first : ℕ) × StandBetween first (map fresh tokens) q.next × AreReadFrom first q }
 {}
 
 /// A fault of expansion stands among the tokens, or in a line that was read.

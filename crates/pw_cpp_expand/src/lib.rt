@@ -10,5 +10,5 @@ mod result;
 
 pub use ahead::{fresh, read_line};
 pub use expansion::{expand_alone, expand_text};
-pub use laws::{faults_within, one_outcome, one_reading, tokens_in_order};
+pub use laws::{faults_within, line_in_order, one_outcome, one_reading, tokens_in_order};
 pub use progress::{ExpandFault, Lexeme, Mode, OUTPUT_LIMIT, PRODUCED_LIMIT, Progress};

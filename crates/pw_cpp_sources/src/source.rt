@@ -1,6 +1,6 @@
 //! All files of a run, one behind the other.
 
-ghost use Rattle.std.specs.Prelude.{◌≡◌, IfOk};
+ghost use Rattle.std.specs.Prelude.{◌≡◌, length, IfOk};
 ghost use Rattle.pw_cpp_sources.specs.Sources as spec;
 ghost use Rattle.pw_cpp_sources.specs.Sources.{digit, digits_of};
 
@@ -50,6 +50,7 @@ pub fn digits() -> Digits
 /// The source of files.
 pub fn source_of(alloc: Global, files: &[(Name, Vec<u8>)]) -> Result<Source, AllocError>
     ensures bytes { IfOk result (λ source. source.bytes.items ≡ spec.source_of (spec.texts_of files.now)) }
+    ensures count { IfOk result (λ source. length source.spans.items ≡ length files.now) }
     ensures spans { IfOk result (λ source. spec.files_of (spec.names_of files.now) source.spans.items ≡ spec.spans_of (spec.texts_of files.now)) }
 {
     let mut bytes = Vec::from_slice(alloc, DIGITS)?;
