@@ -1,1 +1,5 @@
 pub mod OneOutput
+pub mod Steps
+pub mod Texts
+pub mod Bounds
+pub mod Headers

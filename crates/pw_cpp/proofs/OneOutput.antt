@@ -86,16 +86,16 @@ module _ (below : Below) where
       one_step depth f at r what x y (file.passed_text _ _ _ _ next a h) (file.passed_text _ _ _ _ other b k) = ap (λ z. file.GoesOn z r) (below.line (text_of source f) at next other h k)
       one_step depth f at r what x y (file.directive_line _ _ _ _ hash name _ h) (file.directive_line _ _ _ _ _ _ _ k) = one_directive depth f at r hash name (use_of r (name_of (text_of source f) name)) x y h k
 
-      one_directive : (depth : ℕ) (f : File) (at : ℕ) (r : Reading) (hash : ℕ) (name : Span) (use : Use) (x y : Step)
-          → ReadsDirective source files digits depth f at r hash name use x → ReadsDirective source files digits depth f at r hash name use y → x ≡ y
-      one_directive depth f at r hash name use x y (file.pragma _ _ _ _ _ _ next h) (file.pragma _ _ _ _ _ _ other k) = ap (λ z. file.GoesOn z r) (below.rest (text_of source f) (name.at + name.len) next other h k)
-      one_directive depth f at r hash name use x y (file.include _ _ _ _ _ _ start _ h i) (file.include _ _ _ _ _ _ other _ k j) =
+      one_directive : (depth : ℕ) (f : File) (at : ℕ) (r : Reading) (hash : ℕ) (name : Span) (way : Use) (x y : Step)
+          → ReadsDirective source files digits depth f at r hash name way x → ReadsDirective source files digits depth f at r hash name way y → x ≡ y
+      one_directive depth f at r hash name way x y (file.pragma _ _ _ _ _ _ next h) (file.pragma _ _ _ _ _ _ other k) = ap (λ z. file.GoesOn z r) (below.rest (text_of source f) (name.at + name.len) next other h k)
+      one_directive depth f at r hash name way x y (file.include _ _ _ _ _ _ start _ h i) (file.include _ _ _ _ _ _ other _ k j) =
           let P : ℕ → Type 0 = λ z. Includes source files digits depth f r hash (name.at + name.len) (header_name (text_of source f) z) y in
           one_include depth f r hash (name.at + name.len) (header_name (text_of source f) start) x y i (subst P (sym (below.space (text_of source f) (name.at + name.len) start other h k)) j)
-      one_directive depth f at r hash name use x y (file.whole_line _ _ _ _ _ _ found _ h i) (file.whole_line _ _ _ _ _ _ other _ k j) =
+      one_directive depth f at r hash name way x y (file.whole_line _ _ _ _ _ _ found _ h i) (file.whole_line _ _ _ _ _ _ other _ k j) =
           let P : Result Line LineFault → Type 0 = λ z. Obeys source digits f r hash (name_of (text_of source f) name) z y in
           one_obeyed f r hash (name_of (text_of source f) name) found x y i (subst P (sym (below.lexes (text_of source f) hash found other h k)) j)
-      one_directive depth f at r hash name use x y (file.passed _ _ _ _ _ _ next _ h e) (file.passed _ _ _ _ _ _ other _ k g) =
+      one_directive depth f at r hash name way x y (file.passed _ _ _ _ _ _ next _ h e) (file.passed _ _ _ _ _ _ other _ k g) =
           e ∙ ap (λ z. after_passed f hash z r (passing (name_of (text_of source f) name) r.nested)) (below.line (text_of source f) at next other h k) ∙ sym g
 
       one_include : (depth : ℕ) (f : File) (r : Reading) (hash behind : ℕ) (quoted : Option Span) (x y : Step)

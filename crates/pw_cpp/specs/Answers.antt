@@ -59,6 +59,15 @@ IsFirst reader file = file_named (reads_of reader) file.name ≡ Some file
 abbrev pub IsAt : Reader → File → Type 0
 IsAt reader file = (slice_get (reads_of reader) reader.file ≡ Some file) × IsFirst reader file
 
+-- what is not how things stand is the same
+pub record IsStill (old new : Reader) : Type 0 where
+  pub source : new.source.now ≡ old.source.now
+  pub files : new.files.now ≡ old.files.now
+  pub spans : new.spans.now ≡ old.spans.now
+  pub file : new.file ≡ old.file
+  pub out : new.out.items ≡ old.out.items
+  pub size : new.size ≡ old.size
+
 -- What a call answers that does a step of a file: where reading goes on, in the same file, and how it stands there; or a fault, in the file
 -- that is at hand then.
 abbrev pub AnswersStep : Reader → Reader → (Reading → Step → Type 0) → Result ℕ Fault → Type 0
@@ -79,13 +88,11 @@ DoesTokens source digits hash name tokens r effect =
 
 -- nothing but the sets changes
 pub record IsSame (old new : Reader) : Type 0 where
-  pub file : new.file ≡ old.file
+  pub still : IsStill old new
   pub macros : new.standing.macros ≡ old.standing.macros
   pub sections : new.standing.sections ≡ old.standing.sections
   pub nested : new.standing.nested ≡ old.standing.nested
   pub produced : new.standing.produced ≡ old.standing.produced
-  pub out : new.out.items ≡ old.out.items
-  pub size : new.size ≡ old.size
   pub sets : KeepsSets old.standing.sets new.standing.sets
 
 -- how far the text has come before a text line of a file is read
@@ -171,3 +178,8 @@ AnswersReading source files digits name (Err found) =
 abbrev pub AnswersCpp : Texts → List ℕ → Result (Vec ℕ) CppFault → Type 0
 AnswersCpp files name (Ok out) = PreprocessesFile files name (Ok out.items)
 AnswersCpp files name (Err fault) = (fault.kind ≡ kind.NoMemory) ⊎ PreprocessesFile files name (Err (fault.kind, fault.file, fault.line))
+
+-- the number of the first file of a name, counted from one on
+abbrev pub number_from : ℕ → List (List ℕ × Vec ℕ) → List ℕ → Option ℕ
+number_from number [] name = None
+number_from number (file ∷ files) name = if bytes_eq name file.0 then Some number else number_from (number + 1) files name

@@ -134,6 +134,29 @@ abbrev pub ended_in : File → Reading → Sections → Result_of
 ended_in file r [] = Read r
 ended_in file r (section ∷ outer) = Faulted file.name (fault kind.Condition file.end)
 
+pub data ReadsText (source : List ℕ) : File → Reading → Further → Step → Type 0 where
+  unread : (file : File) (r : Reading) (f : ExpandFault) → ReadsText source file r (Unread f) (Stops file.name (fault_of_expansion f))
+  expands : (file : File) (r : Reading) (tokens : List Token) (p : Progress) (outcome : Outcome) (step : Step)
+      → Expands source (text_of source file) r.standing_is.macros InText (map fresh tokens) p outcome → step ≡ after_text file r outcome
+      → ReadsText source file r (Tokens tokens p) step
+
+-- A line that lexes whole begins with a `#` alone, and is empty behind it, or a directive with its word.
+pub data ObeysTokens (source : List ℕ) (digits : Digits) : File → Reading → ℕ → List ℕ → ℕ → List Token → Step → Type 0 where
+  nothing : (file : File) (r : Reading) (hash : ℕ) (name : List ℕ) (next : ℕ) → ObeysTokens source digits file r hash name next [] (Stops file.name (fault kind.Directive hash))
+  empty : (file : File) (r : Reading) (hash : ℕ) (name : List ℕ) (next : ℕ) (first : Token) (step : Step)
+      → step ≡ (if first.len == 1 then GoesOn next r else Stops file.name (fault kind.Directive hash)) → ObeysTokens source digits file r hash name next (first ∷ []) step
+  two_hashes : (file : File) (r : Reading) (hash : ℕ) (name : List ℕ) (next : ℕ) (first word : Token) (others : List Token) → (first.len == 1) ≡ false
+      → ObeysTokens source digits file r hash name next (first ∷ word ∷ others) (Stops file.name (fault kind.Directive hash))
+  directive : (file : File) (r : Reading) (hash : ℕ) (name : List ℕ) (next : ℕ) (first word : Token) (others : List Token) (effect : Effect) (step : Step)
+      → (first.len == 1) ≡ true → DoesWord source digits r.standing_is hash others (word_of name) effect → step ≡ after_effect file r next effect
+      → ObeysTokens source digits file r hash name next (first ∷ word ∷ others) step
+
+pub data Obeys (source : List ℕ) (digits : Digits) : File → Reading → ℕ → List ℕ → Result Line LineFault → Step → Type 0 where
+  no_tokens : (file : File) (r : Reading) (hash : ℕ) (name : List ℕ) (f : LineFault) (step : Step) → step ≡ unlexed file f
+      → Obeys source digits file r hash name (Err f) step
+  tokens : (file : File) (r : Reading) (hash : ℕ) (name : List ℕ) (found : Line) (step : Step) → ObeysTokens source digits file r hash name found.next found.tokens step
+      → Obeys source digits file r hash name (Ok found) step
+
 mutual
   -- A file at a depth of includes is read whole, from its beginning on; no section of a file is another's.
   pub data ReadsFile (source : List ℕ) (files : List File) (digits : Digits) : ℕ → File → Reading → Result_of → Type 0 where
@@ -166,12 +189,6 @@ mutual
         → ReadsDirective source files digits depth file at r hash name (use_of r (name_of (text_of source file) name)) step
         → ReadsLine source files digits depth file at r (head.Directive hash name) step
 
-  pub data ReadsText (source : List ℕ) : File → Reading → Further → Step → Type 0 where
-    unread : (file : File) (r : Reading) (f : ExpandFault) → ReadsText source file r (Unread f) (Stops file.name (fault_of_expansion f))
-    expands : (file : File) (r : Reading) (tokens : List Token) (p : Progress) (outcome : Outcome) (step : Step)
-        → Expands source (text_of source file) r.standing_is.macros InText (map fresh tokens) p outcome → step ≡ after_text file r outcome
-        → ReadsText source file r (Tokens tokens p) step
-
   pub data ReadsDirective (source : List ℕ) (files : List File) (digits : Digits) : ℕ → File → ℕ → Reading → ℕ → Span → Use → Step → Type 0 where
     pragma : (depth : ℕ) (file : File) (at : ℕ) (r : Reading) (hash : ℕ) (name : Span) (next : ℕ) → PassesRest (text_of source file) (name.at + name.len) next
         → ReadsDirective source files digits depth file at r hash name Pragma (GoesOn next r)
@@ -184,23 +201,6 @@ mutual
         → ReadsDirective source files digits depth file at r hash name Whole step
     passed : (depth : ℕ) (file : File) (at : ℕ) (r : Reading) (hash : ℕ) (name : Span) (next : ℕ) (step : Step) → PassesLine (text_of source file) at next
         → step ≡ after_passed file hash next r (passing (name_of (text_of source file) name) r.nested) → ReadsDirective source files digits depth file at r hash name Passed step
-
-  -- A line that lexes whole begins with a `#` alone, and is empty behind it, or a directive with its word.
-  pub data Obeys (source : List ℕ) (digits : Digits) : File → Reading → ℕ → List ℕ → Result Line LineFault → Step → Type 0 where
-    no_tokens : (file : File) (r : Reading) (hash : ℕ) (name : List ℕ) (f : LineFault) (step : Step) → step ≡ unlexed file f
-        → Obeys source digits file r hash name (Err f) step
-    tokens : (file : File) (r : Reading) (hash : ℕ) (name : List ℕ) (found : Line) (step : Step) → ObeysTokens source digits file r hash name found.next found.tokens step
-        → Obeys source digits file r hash name (Ok found) step
-
-  pub data ObeysTokens (source : List ℕ) (digits : Digits) : File → Reading → ℕ → List ℕ → ℕ → List Token → Step → Type 0 where
-    nothing : (file : File) (r : Reading) (hash : ℕ) (name : List ℕ) (next : ℕ) → ObeysTokens source digits file r hash name next [] (Stops file.name (fault kind.Directive hash))
-    empty : (file : File) (r : Reading) (hash : ℕ) (name : List ℕ) (next : ℕ) (first : Token) (step : Step)
-        → step ≡ (if first.len == 1 then GoesOn next r else Stops file.name (fault kind.Directive hash)) → ObeysTokens source digits file r hash name next (first ∷ []) step
-    two_hashes : (file : File) (r : Reading) (hash : ℕ) (name : List ℕ) (next : ℕ) (first word : Token) (others : List Token) → (first.len == 1) ≡ false
-        → ObeysTokens source digits file r hash name next (first ∷ word ∷ others) (Stops file.name (fault kind.Directive hash))
-    directive : (file : File) (r : Reading) (hash : ℕ) (name : List ℕ) (next : ℕ) (first word : Token) (others : List Token) (effect : Effect) (step : Step)
-        → (first.len == 1) ≡ true → DoesWord source digits r.standing_is hash others (word_of name) effect → step ≡ after_effect file r next effect
-        → ObeysTokens source digits file r hash name next (first ∷ word ∷ others) step
 
   -- The header of an include stands in quotes, with nothing behind it.
   pub data Includes (source : List ℕ) (files : List File) (digits : Digits) : ℕ → File → Reading → ℕ → ℕ → Option Span → Step → Type 0 where

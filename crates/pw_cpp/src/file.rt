@@ -1,7 +1,7 @@
 //! Files, line by line.
 
-ghost use Rattle.std.specs.Prelude.{◌≡◌, ◌≤◌, ◌<◌, ◌+◌, ℕ, List, [], length, position, slice_get, bytes_eq, Some, IfOk};
-ghost use Rattle.pw_cpp.specs.Answers.{AnswersFile, AnswersStep, DoesInclude, DoesLine, IsAt, IsFirst, IsRead, IsWithin, Keeps, reads_of, use_by};
+ghost use Rattle.std.specs.Prelude.{◌≡◌, ◌≤◌, ◌<◌, ◌+◌, ℕ, List, [], length, slice_get, Some, IfOk};
+ghost use Rattle.pw_cpp.specs.Answers.{AnswersFile, AnswersStep, DoesInclude, DoesLine, IsAt, IsFirst, IsRead, IsWithin, Keeps, number_from, reads_of, use_by};
 ghost use Rattle.pw_cpp.specs.Files.{Include, IncludesHeader, ReadsFile, name_of};
 ghost use Rattle.pw_cpp_lines.specs.Heads.{IsHead};
 ghost use Rattle.pw_cpp_sources.specs.Sources.{File, digits_of};
@@ -17,11 +17,12 @@ use pw_value::Name;
 impl<'a> Reader<'a> {
     /// The number of the file of this name.
     pub fn file_named(&self, name: &[u8]) -> Option<usize>
-        ensures { result ≡ position (λ file. bytes_eq file.0 name.now) self.now.files.now }
+        ensures { result ≡ number_from 0 self.now.files.now name.now }
     {
         let mut number = 0;
-        for (other, _) in self.files {
-            if other.as_bytes() == name {
+        let files = self.files;
+        for (other, _) in files {
+            if name == other.as_bytes() {
                 return Some(number);
             }
             number += 1;

@@ -1,7 +1,7 @@
 //! What is read, and what came of it.
 
 ghost use Rattle.std.specs.Prelude.{◌≡◌, ◌≤◌, ◌<◌, take, drop, length, reverse, IfOk, []};
-ghost use Rattle.pw_cpp.specs.Answers.{AnswersStep, AnswersText, AnswersTokens, DoesPassed, DoesText, DoesTokens, DoesWhole, IsLexed, IsRead, IsSame, IsWithin, Keeps};
+ghost use Rattle.pw_cpp.specs.Answers.{AnswersStep, AnswersText, AnswersTokens, DoesPassed, DoesText, DoesTokens, DoesWhole, IsLexed, IsRead, IsSame, IsStill, IsWithin, Keeps};
 ghost use Rattle.pw_cpp.specs.Files.{name_of};
 ghost use Rattle.pw_cpp_directives.specs.Directives.{fault};
 ghost use Rattle.pw_cpp_directives.specs.Groups.{is_reading};
@@ -12,8 +12,11 @@ ghost use Rattle.pw_cpp_sources.specs.Sources.{File, digits_of};
 
 use crate::passing::pass_name;
 use pw_cpp_directives::{CppKind, Directive, Fault, Standing, faulty, of_expansion};
-use pw_cpp_expand::{ExpandFault, Lexeme, Progress, expand_text, read_line};
+use pw_cpp_expand::{
+    ExpandFault, Lexeme, Progress, expand_text, line_in_order, read_line, tokens_in_order,
+};
 use pw_cpp_lines::{Head, Line, LineFault, Span, lex_line, pass_line};
+use pw_cpp_sets::Sets;
 use pw_cpp_sources::{Place, digits, put_rows};
 use pw_items::Items;
 use pw_token::Token;
@@ -122,16 +125,21 @@ impl<'a> Reader<'a> {
         requires within { IsWithin self.old }
         ensures keeps { Keeps self.old self.new }
         ensures within { IfOk result (λ _. IsWithin self.new) }
+        ensures still { IsStill self.old self.new }
         ensures steps { AnswersTokens self.old self.new (DoesTokens self.old.source.now digits_of hash name.now tokens.now) result }
     {
-        match tokens {
-            [first] if first.len == 1 => Ok(()),
-            [first, _, tokens @ ..] if first.len == 1 => {
-                let directive = Directive { name, tokens, hash };
-                self.standing.obey(self.alloc, self.source, digits(), directive)
-            }
-            _ => Err(faulty(CppKind::Directive, hash)),
+        let [first, rest @ ..] = tokens else {
+            return Err(faulty(CppKind::Directive, hash));
+        };
+        if first.len != 1 {
+            return Err(faulty(CppKind::Directive, hash));
         }
+        let [_, tokens @ ..] = rest else {
+            return Ok(());
+        };
+        let directive = Directive { name, tokens, hash };
+        self.standing
+            .obey(self.alloc, self.source, digits(), directive)
     }
 
     /// Obeys a directive whose line lexes whole.
@@ -164,16 +172,22 @@ impl<'a> Reader<'a> {
         ensures same { IfOk result (λ _. IsSame self.old self.new) }
         ensures expands { AnswersText self.old self.new text.now at progress.old progress.new result }
     {
+        line_in_order();
+        tokens_in_order();
         let tokens = read_line(self.alloc, text, at, progress)?;
-        expand_text(
+        let mut sets = Sets::new(self.alloc);
+        std::mem::swap(&mut sets, &mut self.standing.sets);
+        let out = expand_text(
             self.alloc,
             self.source,
             text,
             &self.standing.macros,
-            &mut self.standing.sets,
+            &mut sets,
             tokens,
             progress,
-        )
+        );
+        self.standing.sets = sets;
+        out
     }
 
     /// Reads a text line with what its calls read further, and puts out what it comes to.
