@@ -89,7 +89,8 @@ found_from (f ∷ files) (s ∷ spans) name k n l e = by (bytes_eq name f.0) ref
         )
 
 pub number-found : (files : List (List ℕ × Vec ℕ)) (spans : List Place) (name : List ℕ) (n : ℕ) → length files ≡ length spans → Some n ≡ number_from 0 files name → IsNumbered (files_of (names_of files) spans) name n
-number-found files spans name n l e = (found_from files spans name 0 n l (sym e)).1
+number-found files spans name n l e =
+    let same : n - 0 ≡ n = omega arith in subst (IsNumbered (files_of (names_of files) spans) name) same (found_from files spans name 0 n l (sym e)).1
 
 missing_from : (files : List (List ℕ × Vec ℕ)) (spans : List Place) (name : List ℕ) (k : ℕ) → number_from k files name ≡ None → file_named (files_of (names_of files) spans) name ≡ None
 missing_from [] spans name k e = refl

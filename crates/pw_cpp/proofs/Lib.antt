@@ -3,3 +3,7 @@ pub mod Steps
 pub mod Texts
 pub mod Bounds
 pub mod Headers
+pub mod Lines
+pub mod WholeFiles
+pub mod OneFile
+pub mod Including

@@ -3,7 +3,8 @@ use Rattle.std.proofs.Common.{◌≡◌, ℕ, suc, ◌+◌, true, false, List, [
 use Rattle.std.proofs.lemmas.Bool.{false≢true}
 use Rattle.pw_token.specs.declared.token.Token.{Token}
 use Rattle.pw_cpp_directives.specs.Directives.{DoesWord, Effect, Standing, word_of}
-use Rattle.pw_cpp.specs.Files.{Continues, Includes, IncludesHeader, IncludesQuoted, Obeys, ObeysTokens, Reading, ReadsDirective, ReadsFile, ReadsLine, ReadsLines, ReadsText, Result_of, Step, Use, after_effect, after_header, after_passed, after_text, after_unquoted, name_of, passing, progress, use_of}
+use Rattle.pw_cpp.specs.Files.{Continues, Includes, IncludesHeader, IncludesQuoted, Obeys, ObeysTokens, Reading, ReadsDirective, ReadsFile, ReadsLine, ReadsLines, ReadsText, Result_of, Step, after_effect, after_header, after_passed, after_text, after_unquoted, name_of, passing, progress, quoted_name, use_of}
+use Rattle.pw_cpp.specs.declared.way.Way.{Way}
 use Rattle.pw_cpp.specs.Files as file
 use Rattle.pw_cpp_directives.specs.declared.directive.Word.{Word}
 use Rattle.pw_cpp_directives.specs.declared.condition.Digits.{Digits}
@@ -12,7 +13,7 @@ use Rattle.pw_cpp_expand.specs.Lookahead.{Further, Lexeme, ReadsOn, fresh}
 use Rattle.pw_cpp_expand.specs.declared.progress.Mode.{Mode}
 use Rattle.pw_cpp_expand.specs.declared.progress.Mode.TheVariants.{InText}
 use Rattle.pw_cpp_expand.specs.declared.progress.Progress.{Progress}
-use Rattle.pw_cpp_lines.specs.Heads.{IsHead, header_name}
+use Rattle.pw_cpp_lines.specs.Heads.{IsHead}
 use Rattle.pw_cpp_lines.specs.Lines.{Lexes, PassesSpace}
 use Rattle.pw_cpp_lines.specs.Passing.{PassesLine, PassesRest}
 use Rattle.pw_cpp_lines.specs.declared.head.Head.{Head}
@@ -86,12 +87,12 @@ module _ (below : Below) where
       one_step depth f at r what x y (file.passed_text _ _ _ _ next a h) (file.passed_text _ _ _ _ other b k) = ap (λ z. file.GoesOn z r) (below.line (text_of source f) at next other h k)
       one_step depth f at r what x y (file.directive_line _ _ _ _ hash name _ h) (file.directive_line _ _ _ _ _ _ _ k) = one_directive depth f at r hash name (use_of r (name_of (text_of source f) name)) x y h k
 
-      one_directive : (depth : ℕ) (f : File) (at : ℕ) (r : Reading) (hash : ℕ) (name : Span) (way : Use) (x y : Step)
+      one_directive : (depth : ℕ) (f : File) (at : ℕ) (r : Reading) (hash : ℕ) (name : Span) (way : Way) (x y : Step)
           → ReadsDirective source files digits depth f at r hash name way x → ReadsDirective source files digits depth f at r hash name way y → x ≡ y
       one_directive depth f at r hash name way x y (file.pragma _ _ _ _ _ _ next h) (file.pragma _ _ _ _ _ _ other k) = ap (λ z. file.GoesOn z r) (below.rest (text_of source f) (name.at + name.len) next other h k)
       one_directive depth f at r hash name way x y (file.include _ _ _ _ _ _ start _ h i) (file.include _ _ _ _ _ _ other _ k j) =
-          let P : ℕ → Type 0 = λ z. Includes source files digits depth f r hash (name.at + name.len) (header_name (text_of source f) z) y in
-          one_include depth f r hash (name.at + name.len) (header_name (text_of source f) start) x y i (subst P (sym (below.space (text_of source f) (name.at + name.len) start other h k)) j)
+          let P : ℕ → Type 0 = λ z. Includes source files digits depth f r hash (name.at + name.len) (quoted_name (text_of source f) z) y in
+          one_include depth f r hash (name.at + name.len) (quoted_name (text_of source f) start) x y i (subst P (sym (below.space (text_of source f) (name.at + name.len) start other h k)) j)
       one_directive depth f at r hash name way x y (file.whole_line _ _ _ _ _ _ found _ h i) (file.whole_line _ _ _ _ _ _ other _ k j) =
           let P : Result Line LineFault → Type 0 = λ z. Obeys source digits f r hash (name_of (text_of source f) name) z y in
           one_obeyed f r hash (name_of (text_of source f) name) found x y i (subst P (sym (below.lexes (text_of source f) hash found other h k)) j)

@@ -1,5 +1,6 @@
 -- What a reader does with one line, by what its calls answer.
 use Rattle.std.proofs.Common.{◌≡◌, ℕ, ◌-◌, ◌==◌, ◌≤◌, ◌<◌, Bool, true, false, List, [], ◌∷◌, ◌++◌, length, get_or, map, reverse, take, drop, if◌then◌else◌, Option, Some, None, Result, Ok, Err, inl, inr, ◌⊎◌, refl, sym, ap, ◌∙◌, subst, arith}
+use Rattle.std.proofs.lemmas.Bool.{eqb-true}
 use Rattle.std.proofs.lemmas.List.{length-drop, take_all}
 use Rattle.std.specs.Prelude.{IfOk, slice_get}
 use Rattle.pw_token.specs.declared.token.Token.{Token}
@@ -117,6 +118,13 @@ module _ (old new : Reader) (still : IsStill old new) where
 
 -- ---- a directive's tokens
 
+not_one : (n : ℕ) → (n ≡ 1 → ⊥) → (n == 1) ≡ false
+not_one n h = by (n == 1) refl
+  where
+    by : (b : Bool) → (n == 1) ≡ b → (n == 1) ≡ false
+    by true e = absurd (h (eqb-true n 1 e))
+    by false e = e
+
 module _ (old new : Reader) (still : IsStill old new) (digits : Digits) (hash : ℕ) (name : List ℕ) (tokens : List Token) where
   abbrev pub DoesThese : Reading → Effect → Type 0
   DoesThese = DoesTokens old.source.now digits hash name tokens
@@ -125,14 +133,14 @@ module _ (old new : Reader) (still : IsStill old new) (digits : Digits) (hash : 
   wrong found is h = subst (λ x. AnswersTokens old new DoesThese (Err x)) (sym is) h
 
   pub no-tokens : (found : Fault) → found ≡ fault kind.Directive hash → length tokens < 1 → AnswersTokens old new DoesThese (Err found)
-  no-tokens found is l = wrong found is $ inr (λ r st f next. by_tokens tokens l r f next)
+  no-tokens found is l = wrong found is (inr (λ r st f next. by_tokens tokens l r f next))
     where
       by_tokens : (ts : List Token) → length ts < 1 → (r : Reading) (f : File) (next : ℕ) → file.ObeysTokens old.source.now digits f r hash name next ts (Stops f.name (fault kind.Directive hash))
       by_tokens [] l r f next = file.nothing f r hash name next
       by_tokens (t ∷ ts) l r f next = absurd (omega (arith, l))
 
-  pub long-hash : (found : Fault) → found ≡ fault kind.Directive hash → (d : Token) → 1 ≤ length tokens → ((get_or tokens 0 d).len == 1) ≡ false → AnswersTokens old new DoesThese (Err found)
-  long-hash found is d l e = wrong found is $ inr (λ r st f next. by_tokens tokens l e r f next)
+  pub long-hash : (found : Fault) → found ≡ fault kind.Directive hash → (d : Token) → 1 ≤ length tokens → ((get_or tokens 0 d).len ≡ 1 → ⊥) → AnswersTokens old new DoesThese (Err found)
+  long-hash found is d l e = wrong found is (inr (λ r st f next. by_tokens tokens l (not_one (get_or tokens 0 d).len e) r f next))
     where
       by_tokens : (ts : List Token) → 1 ≤ length ts → ((get_or ts 0 d).len == 1) ≡ false → (r : Reading) (f : File) (next : ℕ)
           → file.ObeysTokens old.source.now digits f r hash name next ts (Stops f.name (fault kind.Directive hash))
@@ -141,9 +149,12 @@ module _ (old new : Reader) (still : IsStill old new) (digits : Digits) (hash : 
           file.empty f r hash name next t (Stops f.name (fault kind.Directive hash)) (sym (ap (λ b. if b then GoesOn next r else Stops f.name (fault kind.Directive hash)) e))
       by_tokens (t ∷ word ∷ others) l e r f next = file.two_hashes f r hash name next t word others e
 
-  module _ (d : Token) (rest : List Token) (rest_is : rest ≡ drop 1 tokens) (some : 1 ≤ length tokens) (one : ((get_or tokens 0 d).len == 1) ≡ true) where
+  module _ (d : Token) (rest : List Token) (rest_is : rest ≡ drop 1 tokens) (some : 1 ≤ length tokens) (one : (get_or tokens 0 d).len ≡ 1) where
+    one_is : ((get_or tokens 0 d).len == 1) ≡ true
+    one_is = ap (λ n. n == 1) one
+
     pub hash-alone : length rest < 1 → standing_of old.standing ≡ standing_of new.standing → old.standing.nested ≡ new.standing.nested → AnswersTokens old new DoesThese (Ok tt)
-    hash-alone l s n = λ r st. (r.standing_is, stands-still old new still r r.standing_is st (st.standing_is ∙ s) r.nested (st.nested_is ∙ ap reverse n), (λ f next. by_tokens tokens rest rest_is some one l r f next))
+    hash-alone l s n = λ r st. (r.standing_is, stands-still old new still r r.standing_is st (st.standing_is ∙ s) r.nested (st.nested_is ∙ ap reverse n), (λ f next. by_tokens tokens rest rest_is some one_is l r f next))
       where
         by_tokens : (ts rest : List Token) → rest ≡ drop 1 ts → 1 ≤ length ts → ((get_or ts 0 d).len == 1) ≡ true → length rest < 1 → (r : Reading) (f : File) (next : ℕ)
             → file.ObeysTokens old.source.now digits f r hash name next ts (GoesOn next r)
@@ -166,10 +177,10 @@ module _ (old new : Reader) (still : IsStill old new) (digits : Digits) (hash : 
     word-obeyed others i l (Ok done) h k = λ r st. (
       standing_of new.standing,
       stands-still old new still r (standing_of new.standing) st refl r.nested (st.nested_is ∙ ap reverse (sym k.2)),
-      (λ f next. these tokens rest others rest_is i some one l r st f next (Becomes (standing_of new.standing)) h),
+      (λ f next. these tokens rest others rest_is i some one_is l r st f next (Becomes (standing_of new.standing)) h),
     )
     word-obeyed others i l (Err found) (inl m) k = inl m
-    word-obeyed others i l (Err found) (inr h) k = inr (λ r st f next. these tokens rest others rest_is i some one l r st f next (Fails found) h)
+    word-obeyed others i l (Err found) (inr h) k = inr (λ r st f next. these tokens rest others rest_is i some one_is l r st f next (Fails found) h)
 
 -- the tokens behind the first
 pub behind-first : (xs : List Token) → take (length xs - 1) (drop 1 xs) ≡ drop 1 xs

@@ -2,7 +2,7 @@
 use Rattle.std.proofs.Common.{◌≡◌, ℕ, ◌≤◌, ◌+◌, Bool, true, false, List, [], ◌∷◌, ◌++◌, length, map, reverse, if◌then◌else◌, Result, Ok, Err, inl, inr, ◌⊎◌, refl, sym, ap, ◌∙◌, subst, arith}
 use Rattle.std.proofs.lemmas.Bool.{leb-false}
 use Rattle.std.proofs.lemmas.List.Concat.{flat_map-append}
-use Rattle.std.specs.Prelude.{nat_le}
+use Rattle.std.specs.Prelude.{IfOk, nat_le}
 use Rattle.pw_token.specs.declared.token.Token.{Token}
 use Rattle.pw_cpp.specs.Answers.{AnswersStep, AnswersText, DoesText, Expanded, IsRead, IsSame, IsStill, StandsAs, starts}
 use Rattle.pw_cpp.specs.Files as file
@@ -12,6 +12,7 @@ use Rattle.pw_cpp.proofs.Steps.{at-still}
 use Rattle.pw_cpp_directives.specs.Directives.{fault_of_expansion, standing}
 use Rattle.pw_cpp_directives.specs.Obeying.{standing_of}
 use Rattle.pw_cpp_directives.specs.declared.directive.Fault.{Fault}
+use Rattle.pw_cpp_directives.specs.declared.directive.Standing.{Standing as Kept}
 use Rattle.pw_cpp_expand.specs.AtHand.{AnswersExpansion, IsWithinLimits}
 use Rattle.pw_cpp_expand.specs.Expansion.{Done, Expands, Outcome, Stopped}
 use Rattle.pw_cpp_expand.specs.Lookahead as look
@@ -80,24 +81,30 @@ abbrev pub TokensInOrder : Type 0
 TokensInOrder = (source text : List ℕ) (macros : Macros) (pending out : List Lexeme) (p q : Progress) (low first : ℕ) → Expands source text macros InText pending p (Done out q)
     → StandBetween low pending p.next → AreReadFrom first p → StandBetween low out q.next × AreReadFrom first q
 
-module _ (old new : Reader) (text : List ℕ) (at : ℕ) (p : Progress) where
-  pub text-unread : (q : Progress) (fault : ExpandFault) → IsFault fault (λ f. ReadsOn text at p (Unread f)) → AnswersText old new text at p q (Err fault)
+module _ (source : List ℕ) (old new : Kept) (text : List ℕ) (at : ℕ) (p : Progress) where
+  pub text-unread : (q : Progress) (fault : ExpandFault) → IsFault fault (λ f. ReadsOn text at p (Unread f)) → AnswersText source old new text at p q (Err fault)
   text-unread q fault (inl m) = inl m
   text-unread q fault (inr h) = inr (inl h)
 
   pub text-expanded : LineInOrder → TokensInOrder → p.rows ≡ [] → (tokens : List Token) (m q : Progress) (result : Result (List Numbered) ExpandFault) → ReadsOn text at p (Tokens tokens m)
-      → AnswersExpansion old.source.now text old.standing.macros InText old.standing.sets (map fresh tokens) m new.standing.sets q result → AnswersText old new text at p q result
+      → AnswersExpansion source text old.macros InText old.sets (map fresh tokens) m new.sets q result → AnswersText source old new text at p q result
   text-expanded line order e tokens m q (Ok out) h x =
       let first = line text at p m tokens e h in
-      let all = order old.source.now text old.standing.macros (map fresh tokens) (all_named new.standing.sets out) m q first.0 first.0 x.0 first.1 first.2 in
-      (record { tokens = tokens; middle = m; reads = h; expands = x.0 }, x.3, x.4, in_rows new.standing.sets first.0 q.rows out q.next all.0 all.1.0 all.1.1)
+      let all = order source text old.macros (map fresh tokens) (all_named new.sets out) m q first.0 first.0 x.0 first.1 first.2 in
+      (record { tokens = tokens; middle = m; reads = h; expands = x.0 }, x.3, x.4, in_rows new.sets first.0 q.rows out q.next all.0 all.1.0 all.1.1)
   text-expanded line order e tokens m q (Err fault) h (inl m') = inl m'
   text-expanded line order e tokens m q (Err fault) h (inr x) = inr (inr (record { tokens = tokens; middle = m; reads = h; expands = x }))
+
+  -- the sets that were known keep their numbers
+  pub same-sets : (tokens : List Token) (m q : Progress) (result : Result (List Numbered) ExpandFault) → AnswersExpansion source text old.macros InText old.sets (map fresh tokens) m new.sets q result
+      → new.macros ≡ old.macros → new.sections ≡ old.sections → new.nested ≡ old.nested → new.produced ≡ old.produced → IfOk result (λ x. IsSame old new)
+  same-sets tokens m q (Ok out) x a b c d = record { macros = a; sections = b; nested = c; produced = d; sets = x.1 }
+  same-sets tokens m q (Err fault) x a b c d = tt
 
 -- ---- a text line of a file
 
 -- what came of it is put out
-pub record IsPut (old mid new : Reader) (q : Progress) (out : List Numbered) : Type 0 where
+pub record IsPut (old new : Reader) (q : Progress) (out : List Numbered) : Type 0 where
   pub source : new.source.now ≡ old.source.now
   pub file : new.file ≡ old.file
   pub macros : new.standing.macros ≡ old.standing.macros
@@ -107,7 +114,7 @@ pub record IsPut (old mid new : Reader) (q : Progress) (out : List Numbered) : T
   pub size : new.size ≡ q.size
   pub put : (known : Known) → new.out.items ≡ old.out.items ++ output_of old.source.now (rows_of q.rows (all_named known out))
 
-module _ (old mid : Reader) (f : File) (text : List ℕ) (read : IsRead old f text) (at : ℕ) where
+module _ (old : Reader) (mid : Kept) (f : File) (text : List ℕ) (read : IsRead old f text) (at : ℕ) where
   abbrev pub Does : Reading → Step → Type 0
   Does = DoesText old.source.now f at
 
@@ -129,18 +136,20 @@ module _ (old mid : Reader) (f : File) (text : List ℕ) (read : IsRead old f te
           e,
       )
 
-  pub text-fault : IsStill old mid → (q : Progress) (fault : ExpandFault) → AnswersText old mid text at (starts at old) q (Err fault) → AnswersStep old mid Does (Err (fault_of_expansion fault))
-  text-fault still q fault (inl m) = inl (ap (λ x. (fault_of_expansion x).kind) m)
-  text-fault still q fault (inr (inl h)) = inr (f, at-still old mid still f read.0, (λ r st. (Unread fault, reads_in r st (Unread fault) h, file.unread f r fault)))
-  text-fault still q fault (inr (inr x)) =
-      inr (f, at-still old mid still f read.0, (λ r st. expands_in r st (Stopped fault) (Stops f.name (fault_of_expansion fault)) refl x))
+  pub text-fault : (new : Reader) → IsStill old new → (q : Progress) (fault : ExpandFault) → AnswersText old.source.now old.standing mid text at (starts at old) q (Err fault) → (found : Fault) → found ≡ fault_of_expansion fault → AnswersStep old new Does (Err found)
+  text-fault new still q fault h found is = subst (λ x. AnswersStep old new Does (Err x)) (sym is) (by h)
+    where
+      by : AnswersText old.source.now old.standing mid text at (starts at old) q (Err fault) → AnswersStep old new Does (Err (fault_of_expansion fault))
+      by (inl m) = inl (ap (λ x. (fault_of_expansion x).kind) m)
+      by (inr (inl h)) = inr (f, at-still old new still f read.0, (λ r st. (Unread fault, reads_in r st (Unread fault) h, file.unread f r fault)))
+      by (inr (inr x)) = inr (f, at-still old new still f read.0, (λ r st. expands_in r st (Stopped fault) (Stops f.name (fault_of_expansion fault)) refl x))
 
-  pub text-put : (new : Reader) (q : Progress) (out : List Numbered) → AnswersText old mid text at (starts at old) q (Ok out) → IsPut old mid new q out → AnswersStep old new Does (Ok q.next)
+  pub text-put : (new : Reader) (q : Progress) (out : List Numbered) → AnswersText old.source.now old.standing mid text at (starts at old) q (Ok out) → IsPut old new q out → AnswersStep old new Does (Ok q.next)
   text-put new q out a put = (
     put.file,
     (λ r st.
-      let lexemes : List Lexeme = all_named mid.standing.sets out in
-      (with_text r lexemes q, stands r st lexemes (put.put mid.standing.sets), expands_in r st (Done lexemes q) (file.GoesOn q.next (with_text r lexemes q)) refl a.0)),
+      let lexemes : List Lexeme = all_named mid.sets out in
+      (with_text r lexemes q, stands r st lexemes (put.put mid.sets), expands_in r st (Done lexemes q) (file.GoesOn q.next (with_text r lexemes q)) refl a.0)),
   )
     where
       stands : (r : Reading) → StandsAs old r → (lexemes : List Lexeme) → new.out.items ≡ old.out.items ++ output_of old.source.now (rows_of q.rows lexemes) → StandsAs new (with_text r lexemes q)

@@ -1,18 +1,21 @@
 -- What the calls of the preprocessor answer.
-use Rattle.std.specs.Prelude.{◌≡◌, slice_get, ℕ, ◌≤◌, Bool, true, false, take, drop, if◌then◌else◌, ◌&&◌, ◌||◌, nat_le, bytes_eq, All, ◌+◌, reverse, map, length, codes, ◌⊎◌, List, [], ◌∷◌, ◌++◌, Option, Some, None, Result, Ok, Err}
+use Rattle.std.specs.Prelude.{◌≡◌, slice_get, ℕ, ◌≤◌, Bool, true, false, take, drop, if◌then◌else◌, ◌&&◌, ◌||◌, ◌==◌, nat_le, bytes_eq, All, ◌+◌, reverse, map, length, codes, ◌⊎◌, List, [], ◌∷◌, ◌++◌, Option, Some, None, Result, Ok, Err}
 use Rattle.std.specs.Global.{Vec}
 use Rattle.std.specs.List.{flat_map}
 use Rattle.pw_token.specs.Roles.{spelling}
 use Rattle.pw_token.specs.declared.token.Token.{Token}
 use Rattle.pw_token.specs.declared.token.TokenKind.TheVariants as token
 use Rattle.pw_cpp_directives.specs.Directives.{Becomes, Effect, Fails, Standing, fault, standing}
-use Rattle.pw_cpp.specs.Files.{Faulted, Result_of, ObeysTokens, after_effect, GoesOn, Include, Includes, Obeys, Passed, Pragma, Preprocesses, Read, Reading, ReadsFile, ReadsLine, ReadsText, Step, Stops, Use, Whole, after_passed, begins, name_of, passing, progress, with_standing}
+use Rattle.pw_cpp.specs.Files.{Faulted, Result_of, ObeysTokens, after_effect, GoesOn, Includes, IncludesQuoted, after_unquoted, quoted_name, Obeys, Preprocesses, Read, Reading, ReadsFile, ReadsLine, ReadsText, Step, Stops, after_passed, begins, name_of, passing, progress, with_standing}
+use Rattle.pw_cpp.specs.declared.way.Way.{Way}
+use Rattle.pw_cpp.specs.declared.way.Way.TheVariants.{Pragma, Include, Whole, Passed}
 use Rattle.pw_cpp_directives.specs.Groups.{is_reading, is_turn}
 use Rattle.pw_cpp_directives.specs.Obeying.{IsFaultOf, standing_of}
 use Rattle.pw_cpp.specs.declared.reader.Reader.{Reader}
 use Rattle.pw_cpp.specs.declared.fault.CppFault.{CppFault}
 use Rattle.pw_cpp_sources.specs.declared.source.Place.{Place}
 use Rattle.pw_cpp_directives.specs.declared.directive.Fault.{Fault}
+use Rattle.pw_cpp_directives.specs.declared.directive.Standing.{Standing as Kept}
 use Rattle.pw_cpp_directives.specs.declared.fault.CppKind.{CppKind}
 use Rattle.pw_cpp_directives.specs.declared.fault.CppKind.TheVariants as kind
 use Rattle.pw_cpp_directives.specs.declared.condition.Digits.{Digits}
@@ -26,7 +29,7 @@ use Rattle.pw_cpp_expand.specs.declared.progress.Mode.TheVariants.{InText}
 use Rattle.pw_cpp_expand.specs.declared.progress.Progress.{Progress}
 use Rattle.pw_cpp_macros.specs.Macros.{Macros}
 use Rattle.pw_cpp_sets.specs.Sets.{Keeps as KeepsSets}
-use Rattle.pw_cpp_lines.specs.Heads.{IsHead, header_name}
+use Rattle.pw_cpp_lines.specs.Heads.{IsHead}
 use Rattle.pw_cpp_lines.specs.Lines.{Lexes, PassesSpace}
 use Rattle.pw_cpp_lines.specs.Passing.{PassesLine}
 use Rattle.pw_cpp_lines.specs.declared.head.Head.{Head}
@@ -87,13 +90,12 @@ DoesTokens source digits hash name tokens r effect =
 -- ---- a text line
 
 -- nothing but the sets changes
-pub record IsSame (old new : Reader) : Type 0 where
-  pub still : IsStill old new
-  pub macros : new.standing.macros ≡ old.standing.macros
-  pub sections : new.standing.sections ≡ old.standing.sections
-  pub nested : new.standing.nested ≡ old.standing.nested
-  pub produced : new.standing.produced ≡ old.standing.produced
-  pub sets : KeepsSets old.standing.sets new.standing.sets
+pub record IsSame (old new : Kept) : Type 0 where
+  pub macros : new.macros ≡ old.macros
+  pub sections : new.sections ≡ old.sections
+  pub nested : new.nested ≡ old.nested
+  pub produced : new.produced ≡ old.produced
+  pub sets : KeepsSets old.sets new.sets
 
 -- how far the text has come before a text line of a file is read
 abbrev pub starts : ℕ → Reader → Progress
@@ -106,11 +108,10 @@ pub record Expanded (source text : List ℕ) (macros : Macros) (at : ℕ) (p : P
   pub reads : ReadsOn text at p (Tokens tokens middle)
   pub expands : Expands source text macros InText (map fresh tokens) middle outcome
 
-abbrev pub AnswersText : Reader → Reader → List ℕ → ℕ → Progress → Progress → Result (List Numbered) ExpandFault → Type 0
-AnswersText old new text at p q (Ok out) =
-    Expanded old.source.now text old.standing.macros at p (Done (all_named new.standing.sets out) q) × (q.next ≤ length text) × IsWithinLimits q × AreInRows q.rows out
-AnswersText old new text at p q (Err fault) =
-    IsFault fault (λ f. ReadsOn text at p (Unread f) ⊎ Expanded old.source.now text old.standing.macros at p (Stopped f))
+abbrev pub AnswersText : List ℕ → Kept → Kept → List ℕ → ℕ → Progress → Progress → Result (List Numbered) ExpandFault → Type 0
+AnswersText source old new text at p q (Ok out) =
+    Expanded source text old.macros at p (Done (all_named new.sets out) q) × (q.next ≤ length text) × IsWithinLimits q × AreInRows q.rows out
+AnswersText source old new text at p q (Err fault) = IsFault fault (λ f. ReadsOn text at p (Unread f) ⊎ Expanded source text old.macros at p (Stopped f))
 
 -- ---- lines
 
@@ -130,7 +131,16 @@ DoesPassed source file at hash name r step = (next : ℕ) × PassesLine (text_of
 abbrev pub DoesInclude : List ℕ → List File → Digits → ℕ → File → ℕ → Span → Reading → Step → Type 0
 DoesInclude source files digits depth file hash name r step =
     (start : ℕ) × PassesSpace (text_of source file) (name.at + name.len) start
-    × Includes source files digits depth file r hash (name.at + name.len) (header_name (text_of source file) start) step
+    × Includes source files digits depth file r hash (name.at + name.len) (quoted_name (text_of source file) start) step
+
+abbrev pub DoesQuoted : List ℕ → List File → Digits → ℕ → File → ℕ → Span → Reading → Step → Type 0
+DoesQuoted source files digits depth file hash name r step =
+    (found : Result Line LineFault) × Lexes (text_of source file) (name.at + name.len + 1) found × IncludesQuoted source files digits depth file r hash name found step
+
+-- the fault of an include whose header does not stand in quotes
+abbrev pub IsUnquoted : List ℕ → ℕ → ℕ → Fault → Type 0
+IsUnquoted text hash behind fault =
+    IsFaultOf fault (λ f. (found : Result Line LineFault) × Lexes text behind found × ((file : File) → Stops file.name f ≡ after_unquoted file hash found))
 
 -- a file that is read to its end
 abbrev pub AnswersFile : Reader → Reader → (Reading → Result_of → Type 0) → Result (Unit {0}) Fault → Type 0
@@ -152,11 +162,11 @@ IsLexed text at (Ok line) = Lexes text at (Ok line)
 IsLexed text at (Err found) = IsFaultOf found (λ f. (place : ℕ) × Lexes text at (Err (Bad place)) × (f ≡ fault kind.Lex place))
 
 -- what is done with a directive
-abbrev pub use_by : Reader → List ℕ → Use
+abbrev pub use_by : Reader → List ℕ → Way
 use_by reader name =
     if is_reading (reverse reader.standing.sections) && bytes_eq name (codes "pragma") then Pragma
     else (if is_reading (reverse reader.standing.sections) && bytes_eq name (codes "include") then Include
-    else (if is_reading (reverse reader.standing.sections) || (nat_le (length reader.standing.nested) 0 && is_turn name) then Whole else Passed))
+    else (if is_reading (reverse reader.standing.sections) || (length reader.standing.nested == 0 && is_turn name) then Whole else Passed))
 
 -- nothing but how reading stands changes
 abbrev pub Keeps : Reader → Reader → Type 0

@@ -1,5 +1,5 @@
 -- Files: lines, groups and includes (ISO/IEC 9899:1990, 6.8).
-use Rattle.std.specs.Prelude.{◌≡◌, ℕ, suc, ◌+◌, ◌-◌, ◌≤◌, ◌<◌, Bool, true, false, not, ◌&&◌, ◌||◌, ◌==◌, if◌then◌else◌, nat_le, List, [], ◌∷◌, ◌++◌, take, drop, length, map, filter, codes, bytes_eq, Option, Some, None, Result, Ok, Err}
+use Rattle.std.specs.Prelude.{◌≡◌, ℕ, suc, ◌+◌, ◌-◌, ◌≤◌, ◌<◌, Bool, true, false, not, ◌&&◌, ◌||◌, ◌==◌, if◌then◌else◌, nat_le, nat_lt, List, [], ◌∷◌, ◌++◌, take, drop, length, map, filter, codes, bytes_eq, Option, Some, None, Result, Ok, Err}
 use Rattle.std.specs.List.{list_any, flat_map, starts_with}
 use Rattle.pw_token.specs.Places.{line_at}
 use Rattle.pw_token.specs.Roles.{spelling}
@@ -28,6 +28,8 @@ use Rattle.pw_cpp_lines.specs.declared.line.LineFault.TheVariants as no
 use Rattle.pw_cpp_lines.specs.declared.line.LineFault.TheVariants.{Bad}
 use Rattle.pw_cpp_sources.specs.Sources.{File, text_of, size_of, file_named, depth_limit, header_name_limit, length_limit, header_of, line_of}
 use Rattle.pw_cpp_sources.specs.Rows.{Row, rows_of, output_of}
+use Rattle.pw_cpp.specs.declared.way.Way.{Way}
+use Rattle.pw_cpp.specs.declared.way.Way.TheVariants.{Pragma, Include, Whole, Passed}
 
 -- ---- reading a file
 
@@ -67,17 +69,11 @@ name_of source name = take name.len (drop name.at source)
 
 -- A directive is looked at where lines are read; in a group that is passed over, where it goes on with the section of the group.
 abbrev pub is_looked_at : Reading → List ℕ → Bool
-is_looked_at r name = is_reading r.standing_is.sections || (nat_le (length r.nested) 0 && is_turn name)
+is_looked_at r name = is_reading r.standing_is.sections || (length r.nested == 0 && is_turn name)
 
 -- What is done with a directive: `#pragma` and `#include` have lines of their own, the line of any other that is looked at lexes whole,
 -- and the others are passed over.
-pub data Use : Type 0 where
-  Pragma : Use
-  Include : Use
-  Whole : Use
-  Passed : Use
-
-abbrev pub use_of : Reading → List ℕ → Use
+abbrev pub use_of : Reading → List ℕ → Way
 use_of r name =
     if is_reading r.standing_is.sections && bytes_eq name (codes "pragma") then Pragma
     else (if is_reading r.standing_is.sections && bytes_eq name (codes "include") then Include
@@ -122,7 +118,11 @@ after_unquoted file hash (Err f) = unlexed file f
 
 -- a header's name that is empty or too long, or with tokens behind it
 abbrev pub is_wrong_include : Span → Line → Bool
-is_wrong_include x found = x.len == 0 || not (nat_le x.len header_name_limit) || not (nat_le (length found.tokens) 0)
+is_wrong_include x found = x.len == 0 || nat_lt header_name_limit x.len || nat_lt 0 (length found.tokens)
+
+-- the name of the header that stands in quotes at a place
+abbrev pub quoted_name : List ℕ → ℕ → Option Span
+quoted_name text start = if nat_lt start (length text) then header_name text start else None
 
 -- a group that is passed over has a directive
 abbrev pub after_passed : File → ℕ → ℕ → Reading → Option Nested → Step
@@ -189,12 +189,12 @@ mutual
         → ReadsDirective source files digits depth file at r hash name (use_of r (name_of (text_of source file) name)) step
         → ReadsLine source files digits depth file at r (head.Directive hash name) step
 
-  pub data ReadsDirective (source : List ℕ) (files : List File) (digits : Digits) : ℕ → File → ℕ → Reading → ℕ → Span → Use → Step → Type 0 where
+  pub data ReadsDirective (source : List ℕ) (files : List File) (digits : Digits) : ℕ → File → ℕ → Reading → ℕ → Span → Way → Step → Type 0 where
     pragma : (depth : ℕ) (file : File) (at : ℕ) (r : Reading) (hash : ℕ) (name : Span) (next : ℕ) → PassesRest (text_of source file) (name.at + name.len) next
         → ReadsDirective source files digits depth file at r hash name Pragma (GoesOn next r)
     include : (depth : ℕ) (file : File) (at : ℕ) (r : Reading) (hash : ℕ) (name : Span) (start : ℕ) (step : Step)
         → PassesSpace (text_of source file) (name.at + name.len) start
-        → Includes source files digits depth file r hash (name.at + name.len) (header_name (text_of source file) start) step
+        → Includes source files digits depth file r hash (name.at + name.len) (quoted_name (text_of source file) start) step
         → ReadsDirective source files digits depth file at r hash name Include step
     whole_line : (depth : ℕ) (file : File) (at : ℕ) (r : Reading) (hash : ℕ) (name : Span) (found : Result Line LineFault) (step : Step)
         → Lexes (text_of source file) hash found → Obeys source digits file r hash (name_of (text_of source file) name) found step

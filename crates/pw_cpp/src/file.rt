@@ -1,18 +1,53 @@
 //! Files, line by line.
 
-ghost use Rattle.std.specs.Prelude.{◌≡◌, ◌≤◌, ◌<◌, ◌+◌, ℕ, List, [], length, slice_get, Some, IfOk};
-ghost use Rattle.pw_cpp.specs.Answers.{AnswersFile, AnswersStep, DoesInclude, DoesLine, IsAt, IsFirst, IsRead, IsWithin, Keeps, number_from, reads_of, use_by};
-ghost use Rattle.pw_cpp.specs.Files.{Include, IncludesHeader, ReadsFile, name_of};
+ghost use Rattle.std.specs.Prelude.{◌≡◌, ◌≤◌, ◌<◌, ◌+◌, ℕ, List, [], length, slice_get, if◌then◌else◌, Some, None, IfOk};
+ghost use Rattle.pw_cpp.specs.Answers.{AnswersFile, AnswersStep, DoesInclude, DoesLine, DoesQuoted, IsAt, IsFirst, IsRead, IsUnquoted, IsWithin, Keeps, number_from, reads_of};
+ghost use Rattle.pw_cpp.specs.Files.{IncludesHeader, ReadsFile, is_wrong_include, quoted_name};
 ghost use Rattle.pw_cpp_lines.specs.Heads.{IsHead};
-ghost use Rattle.pw_cpp_sources.specs.Sources.{File, digits_of};
+ghost use Rattle.pw_cpp_sources.specs.Sources.{File, digits_of, is_header};
+ghost use Rattle.pw_cpp_directives.specs.Directives.{fault};
+ghost use Rattle.pw_cpp_directives.specs.Obeying.{IsFaultOf};
 
 use crate::reader::{Reader, bytes_before, name_in, no_memory};
-use pw_cpp_directives::{CppKind, CppWhich, Fault, faulty, is_turn, limit};
-use pw_cpp_lines::{Head, Span, head_of, header_name, pass_line, pass_rest, pass_space};
+use crate::way::{Way, way_of};
+use pw_cpp_directives::{CppKind, CppWhich, Fault, faulty, limit};
+use pw_cpp_lines::{Head, Line, Span, head_of, header_name, pass_line, pass_rest, pass_space};
 use pw_cpp_sources::{DEPTH_LIMIT, HEADER_NAME_LIMIT, is_header};
 use pw_items::Items;
 use pw_token::TEXT_LIMIT;
 use pw_value::Name;
+use std::alloc::Global;
+
+/// The name of the header that stands in quotes at a place, if one does.
+fn quoted_at(text: &[u8], start: usize) -> Option<Span>
+    ensures { result ≡ quoted_name text.now start }
+{
+    if start < text.len() {
+        header_name(text, start)
+    } else {
+        None
+    }
+}
+
+/// Whether a header's name is empty or too long, or tokens stand behind it.
+fn is_wrong(name: Span, line: &Line) -> bool
+    ensures { result ≡ is_wrong_include name line.now }
+{
+    name.len == 0 || HEADER_NAME_LIMIT < name.len || 0 < line.tokens.len()
+}
+
+/// The fault of an include whose header is missing.
+fn missing(alloc: Global, name: &[u8], hash: usize) -> Fault
+    ensures { IsFaultOf result (λ f. f ≡ fault (CppKind.Include name.now) hash) }
+{
+    if name.is_empty() || HEADER_NAME_LIMIT < name.len() {
+        return no_memory(hash);
+    }
+    match Name::within(alloc, name) {
+        Ok(name) => faulty(CppKind::Include(name), hash),
+        Err(_) => no_memory(hash),
+    }
+}
 
 impl<'a> Reader<'a> {
     /// The number of the file of this name.
@@ -28,6 +63,28 @@ impl<'a> Reader<'a> {
             number += 1;
         }
         None
+    }
+
+    /// The number of the header of this name.
+    fn header(&self, name: &[u8]) -> Option<usize>
+        ensures { result ≡ (if is_header name.now then number_from 0 self.now.files.now name.now else None) }
+    {
+        if is_header(name) {
+            self.file_named(name)
+        } else {
+            None
+        }
+    }
+
+    /// The fault of an include whose header does not stand in quotes.
+    fn unquoted(&self, text: &[u8], hash: usize, behind: usize) -> Fault
+        requires place { behind ≤ length text.now }
+        ensures { IsUnquoted text.now hash behind result }
+    {
+        match self.lexed(text, behind) {
+            Ok(_) => faulty(CppKind::Directive, hash),
+            Err(fault) => fault,
+        }
     }
 
     /// Reads a file at a depth of includes, where no section is open.
@@ -77,20 +134,19 @@ impl<'a> Reader<'a> {
     {
         match head_of(text, at) {
             Head::Marker { hash } => Ok(pass_rest(text, hash)),
-            Head::Text if self.is_reading() => self.read_text(text, at),
-            Head::Text => Ok(pass_line(text, at)),
-            Head::Directive { hash, name } => {
-                let word = name_in(text, name);
-                if self.is_reading() && word == b"pragma".as_slice() {
-                    Ok(pass_rest(text, name.at + name.len))
-                } else if self.is_reading() && word == b"include".as_slice() {
-                    self.include(text, at, hash, name, depth)
-                } else if self.is_reading() || (self.standing.nested.is_empty() && is_turn(word)) {
-                    self.obey(text, hash, name)
+            Head::Text => {
+                if self.is_reading() {
+                    self.read_text(text, at)
                 } else {
-                    self.pass_directive(text, at, hash, name)
+                    Ok(pass_line(text, at))
                 }
             }
+            Head::Directive { hash, name } => match way_of(self, name_in(text, name)) {
+                Way::Pragma => Ok(pass_rest(text, name.at + name.len)),
+                Way::Include => self.include(text, at, hash, name, depth),
+                Way::Whole => self.obey(text, hash, name),
+                Way::Passed => self.pass_directive(text, at, hash, name),
+            },
         }
     }
 
@@ -122,6 +178,35 @@ impl<'a> Reader<'a> {
         Ok(next)
     }
 
+    /// Reads the header whose name stands in quotes.
+    #[cycle(files)]
+    fn quoted(
+        &mut self,
+        text: &'a [u8],
+        hash: usize,
+        name: Span,
+        depth: usize,
+    ) -> Result<usize, Fault>
+        requires place { name.at + name.len < length text.now }
+        requires depth { depth ≤ DEPTH_LIMIT }
+        requires matched { length self.old.files.now ≡ length self.old.spans.now }
+        requires within { IsWithin self.old }
+        ensures keeps { Keeps self.old self.new }
+        ensures within { IfOk result (λ next. IsWithin self.new × (next ≤ length text.now)) }
+        ensures steps { (file : File) → IsRead self.old file text.now → AnswersStep self.old self.new (DoesQuoted self.old.source.now (reads_of self.old) digits_of depth file hash name) result }
+    {
+        let line = self.lexed(text, name.at + name.len + 1)?;
+        let next = line.next;
+        if is_wrong(name, &line) {
+            return Err(faulty(CppKind::Directive, hash));
+        }
+        let bytes = name_in(text, name);
+        let Some(number) = self.header(bytes) else {
+            return Err(missing(self.alloc, bytes, hash));
+        };
+        self.read_header(number, depth, hash, next)
+    }
+
     /// Reads the header that an include names.
     #[cycle(files)]
     fn include(
@@ -136,7 +221,6 @@ impl<'a> Reader<'a> {
         requires depth { depth ≤ DEPTH_LIMIT }
         requires matched { length self.old.files.now ≡ length self.old.spans.now }
         requires head { IsHead text.now at (Head.Directive hash name) }
-        requires read { use_by self.old (name_of text.now name) ≡ Include }
         requires within { IsWithin self.old }
         ensures keeps { Keeps self.old self.new }
         ensures within { IfOk result (λ next. IsWithin self.new × (next ≤ length text.now)) }
@@ -144,31 +228,9 @@ impl<'a> Reader<'a> {
     {
         let behind = name.at + name.len;
         let start = pass_space(text, behind);
-        let quoted = if start < text.len() {
-            header_name(text, start)
-        } else {
-            None
+        let Some(header) = quoted_at(text, start) else {
+            return Err(self.unquoted(text, hash, behind));
         };
-        let Some(name) = quoted else {
-            self.lexed(text, behind)?;
-            return Err(faulty(CppKind::Directive, hash));
-        };
-        let line = self.lexed(text, name.at + name.len + 1)?;
-        if name.len == 0 || HEADER_NAME_LIMIT < name.len || !line.tokens.is_empty() {
-            return Err(faulty(CppKind::Directive, hash));
-        }
-        let bytes = name_in(text, name);
-        let header = if is_header(bytes) {
-            self.file_named(bytes)
-        } else {
-            None
-        };
-        let Some(number) = header else {
-            return Err(match Name::within(self.alloc, bytes) {
-                Ok(name) => faulty(CppKind::Include(name), hash),
-                Err(_) => no_memory(hash),
-            });
-        };
-        self.read_header(number, depth, hash, line.next)
+        self.quoted(text, hash, header, depth)
     }
 }

@@ -5,6 +5,7 @@ mod fault;
 mod file;
 mod passing;
 mod reader;
+mod way;
 mod whole;
 
 pub use fault::CppFault;

@@ -16,7 +16,6 @@ use pw_cpp_expand::{
     ExpandFault, Lexeme, Progress, expand_text, line_in_order, read_line, tokens_in_order,
 };
 use pw_cpp_lines::{Head, Line, LineFault, Span, lex_line, pass_line};
-use pw_cpp_sets::Sets;
 use pw_cpp_sources::{Place, digits, put_rows};
 use pw_items::Items;
 use pw_token::Token;
@@ -72,6 +71,38 @@ pub fn name_in(text: &[u8], name: Span) -> &[u8]
     ensures { result.now ≡ name_of text.now name }
 {
     bytes_before(bytes_from(text, name.at), name.len)
+}
+
+/// What a text line comes to, with what its calls read further.
+fn expanded<'a>(
+    alloc: Global,
+    source: &'a [u8],
+    text: &'a [u8],
+    at: usize,
+    standing: &mut Standing<'a>,
+    progress: &mut Progress,
+) -> Result<Items<Lexeme>, ExpandFault>
+    requires place { at < length text.now }
+    requires head { IsHead text.now at Head.Text }
+    requires next { progress.old.next ≤ length text.now }
+    requires limits { IsWithinLimits progress.old }
+    requires empty { HaveEmpty standing.old.sets }
+    requires first { progress.old.rows ≡ [] }
+    ensures same { IfOk result (λ _. IsSame standing.old standing.new) }
+    ensures expands { AnswersText source.now standing.old standing.new text.now at progress.old progress.new result }
+{
+    line_in_order();
+    tokens_in_order();
+    let tokens = read_line(alloc, text, at, progress)?;
+    expand_text(
+        alloc,
+        source,
+        text,
+        &standing.macros,
+        &mut standing.sets,
+        tokens,
+        progress,
+    )
 }
 
 impl<'a> Reader<'a> {
@@ -155,41 +186,6 @@ impl<'a> Reader<'a> {
         Ok(line.next)
     }
 
-    /// What a text line comes to, with what its calls read further.
-    fn expanded(
-        &mut self,
-        text: &'a [u8],
-        at: usize,
-        progress: &mut Progress,
-    ) -> Result<Items<Lexeme>, ExpandFault>
-        requires place { at < length text.now }
-        requires head { IsHead text.now at Head.Text }
-        requires next { progress.old.next ≤ length text.now }
-        requires limits { IsWithinLimits progress.old }
-        requires empty { HaveEmpty self.old.standing.sets }
-        requires first { progress.old.rows ≡ [] }
-        ensures keeps { Keeps self.old self.new }
-        ensures same { IfOk result (λ _. IsSame self.old self.new) }
-        ensures expands { AnswersText self.old self.new text.now at progress.old progress.new result }
-    {
-        line_in_order();
-        tokens_in_order();
-        let tokens = read_line(self.alloc, text, at, progress)?;
-        let mut sets = Sets::new(self.alloc);
-        std::mem::swap(&mut sets, &mut self.standing.sets);
-        let out = expand_text(
-            self.alloc,
-            self.source,
-            text,
-            &self.standing.macros,
-            &mut sets,
-            tokens,
-            progress,
-        );
-        self.standing.sets = sets;
-        out
-    }
-
     /// Reads a text line with what its calls read further, and puts out what it comes to.
     pub fn read_text(&mut self, text: &'a [u8], at: usize) -> Result<usize, Fault>
         requires place { at < length text.now }
@@ -205,7 +201,15 @@ impl<'a> Reader<'a> {
             produced: self.standing.produced,
             size: self.size,
         };
-        let out = match self.expanded(text, at, &mut progress) {
+        let expanded = expanded(
+            self.alloc,
+            self.source,
+            text,
+            at,
+            &mut self.standing,
+            &mut progress,
+        );
+        let out = match expanded {
             Ok(out) => out,
             Err(fault) => return Err(of_expansion(fault)),
         };

@@ -78,7 +78,9 @@ fn read_all(
         out: Vec::new(alloc),
         size: 0,
     };
-    let number = reader.file_named(name).unwrap_or(0);
+    let Some(number) = reader.file_named(name) else {
+        return Ok(Vec::new(alloc));
+    };
     match reader.read_file(number, 0) {
         Ok(()) => {
             let Reader { out, .. } = reader;
