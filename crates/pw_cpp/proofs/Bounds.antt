@@ -4,8 +4,10 @@ use Rattle.std.proofs.lemmas.Bool.{eqb-true, false≢true}
 use Rattle.std.proofs.lemmas.List.{length-drop}
 use Rattle.std.specs.List.{prefix_len}
 use Rattle.std.specs.Prelude.{is_some, slice_index}
+use Rattle.pw_token.specs.Bytes.{is_in}
+use Rattle.pw_token.specs.declared.bytes.Class.TheVariants as class
 use Rattle.pw_cpp_lines.specs.Heads.{IsHead, closing_quote, header_name, is_hash, is_name_byte, name_before, name_behind}
-use Rattle.pw_cpp_lines.specs.Lines.{Cuts, Kinds, LinePiece, PassesSpace}
+use Rattle.pw_cpp_lines.specs.Lines.{Cuts, Kinds, LinePiece, PassesSpace, is_space}
 use Rattle.pw_cpp_lines.specs.declared.head.Head.TheVariants as head
 use Rattle.pw_cpp_lines.specs.declared.head.Span.{Span}
 
@@ -17,7 +19,7 @@ prefix_within : (P : ℕ → Bool) (xs : List ℕ) → prefix_len P xs ≤ lengt
 prefix_within P [] = omega arith
 prefix_within P (x ∷ xs) = by (P x) (prefix_within P xs)
   where
-    by : (b : Bool) → prefix_len P xs ≤ length xs → (if b then suc (prefix_len P xs) else 0) ≤ suc (length xs)
+    by : (b : Bool) → prefix_len P xs ≤ length xs → (if b then 1 + prefix_len P xs else 0) ≤ suc (length xs)
     by true l = omega (arith, l)
     by false l = omega arith
 
@@ -35,11 +37,11 @@ hash-within text at hash name h = there text hash 35 (omega arith) h.1
 
 pub name-within : (text : List ℕ) (at hash : ℕ) (name : Span) → IsHead text at (head.Directive hash name) → name.at + name.len ≤ length text
 name-within text at hash name h =
-    let begins : name.at ≤ length text = cuts_to _ text (hash + 1) h.3.pieces name.at h.3.cut (omega (arith, hash-within text at hash name h)) in
-    omega (arith, begins, h.4, prefix_within _ (drop name.at text), length-drop name.at text)
+    let begins : name.at ≤ length text = cuts_to is_space text (hash + 1) h.3.pieces name.at h.3.cut (omega (arith, hash-within text at hash name h)) in
+    omega (arith, begins, h.4, prefix_within (is_in class.Word) (drop name.at text), length-drop name.at text)
 
 -- a header's name ends before a quote
-span_or : Span → Option Span → Span
+abbrev span_or : Span → Option Span → Span
 span_or d (Some x) = x
 span_or d None = d
 
@@ -54,7 +56,7 @@ before text at quote x l e = by (slice_index text (at + len) == quote) refl e
     by false s e = absurd (false≢true (ap is_some e))
 
 pub header-within : (text : List ℕ) (start : ℕ) (x : Span) → header_name text start ≡ Some x → x.at + x.len < length text
-header-within text start x e = by (slice_index text start == 34) (slice_index text start == 62) e
+header-within text start x e = by (slice_index text start == 34) (slice_index text start == 60) e
   where
     by : (b c : Bool) → name_behind text (start + 1) (if b then Some 34 else (if c then Some 62 else None)) ≡ Some x → x.at + x.len < length text
     by true c e = before text (start + 1) 34 x (omega arith) e

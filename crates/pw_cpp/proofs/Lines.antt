@@ -17,6 +17,16 @@ use Rattle.pw_cpp_lines.specs.declared.head.Head.TheVariants as head
 use Rattle.pw_cpp_lines.specs.declared.head.Span.{Span}
 use Rattle.pw_cpp_sources.specs.Sources.{File, text_of}
 
+-- what is done with a directive's name where these sections are open
+abbrev way_in : Sections → Nested → List ℕ → Way
+way_in sections nested name =
+    if is_reading sections && bytes_eq name (codes "pragma") then Pragma
+    else (if is_reading sections && bytes_eq name (codes "include") then Include
+    else (if is_reading sections || (length nested == 0 && is_turn name) then Whole else Passed))
+
+same_way : (s s' : Sections) → s ≡ s' → (n n' : Nested) → n ≡ n' → (w w' : List ℕ) → w ≡ w' → way_in s n w ≡ way_in s' n' w'
+same_way s s' a n n' b w w' e = ap (λ x. way_in x n w) a ∙ ap (λ x. way_in s' x w) b ∙ ap (way_in s' n') e
+
 -- what does one thing does another
 pub step-as : (old new : Reader) (Does Does' : Reading → Step → Type 0) → ((r : Reading) (step : Step) → StandsAs old r → Does r step → Does' r step) → (result : Result ℕ Fault) → AnswersStep old new Does result
     → AnswersStep old new Does' result
@@ -62,18 +72,9 @@ module _ (old : Reader) (f : File) (text : List ℕ) (read : IsRead old f text) 
     -- how a directive is used
     used : (r : Reading) → StandsAs old r → (way : Way) → way ≡ use_by old word → use_of r (name_of (text_of old.source.now f) name) ≡ way
     used r st way e =
-        by_way r.standing_is.sections (reverse old.standing.sections) (ap (λ s. s.sections) st.standing_is) r.nested (reverse old.standing.nested) st.nested_is (name_of (text_of old.source.now f) name) word
+        same_way r.standing_is.sections (reverse old.standing.sections) (ap (λ s. s.sections) st.standing_is) r.nested (reverse old.standing.nested) st.nested_is (name_of (text_of old.source.now f) name) word
           (ap (λ x. name_of x name) (sym read.1) ∙ sym word_is)
         ∙ sym e
-      where
-        way_in : Sections → Nested → List ℕ → Way
-        way_in sections nested name =
-            if is_reading sections && bytes_eq name (codes "pragma") then Pragma
-            else (if is_reading sections && bytes_eq name (codes "include") then Include
-            else (if is_reading sections || (length nested == 0 && is_turn name) then Whole else Passed))
-
-        by_way : (s s' : Sections) → s ≡ s' → (n n' : Nested) → n ≡ n' → (w w' : List ℕ) → w ≡ w' → way_in s n w ≡ way_in s' n' w'
-        by_way s s' a n n' b w w' e = ap (λ x. way_in x n w) a ∙ ap (λ x. way_in s' x w) b ∙ ap (way_in s' n') e
 
     directive_as : (r : Reading) → StandsAs old r → (way : Way) → way ≡ use_by old word → (step : Step)
         → file.ReadsDirective old.source.now (reads_of old) digits depth f at r hash name way step → Line r step
