@@ -1,5 +1,6 @@
 -- What is done with a line, by what it is.
 use Rattle.std.proofs.Common.{◌≡◌, ℕ, ◌+◌, ◌==◌, Bool, true, false, List, [], length, reverse, if◌then◌else◌, ◌&&◌, ◌||◌, Option, Some, None, Result, Ok, Err, inl, inr, refl, sym, ap, ◌∙◌, subst}
+use Rattle.std.proofs.lemmas.List.{length-reverse}
 use Rattle.std.specs.Prelude.{bytes_eq, codes}
 use Rattle.pw_cpp.specs.Answers.{AnswersStep, DoesInclude, DoesLine, DoesPassed, DoesText, DoesWhole, IsRead, StandsAs, reads_of, use_by}
 use Rattle.pw_cpp.specs.Files as file
@@ -7,7 +8,7 @@ use Rattle.pw_cpp.specs.Files.{GoesOn, Reading, Step, Stops, name_of, use_of}
 use Rattle.pw_cpp.specs.declared.reader.Reader.{Reader}
 use Rattle.pw_cpp.specs.declared.way.Way.{Way}
 use Rattle.pw_cpp.specs.declared.way.Way.TheVariants.{Pragma, Include, Whole, Passed}
-use Rattle.pw_cpp_directives.specs.Groups.{Nested, Sections, is_reading, is_turn}
+use Rattle.pw_cpp_directives.specs.Groups.{Sections, is_reading, is_turn}
 use Rattle.pw_cpp_directives.specs.declared.condition.Digits.{Digits}
 use Rattle.pw_cpp_directives.specs.declared.directive.Fault.{Fault}
 use Rattle.pw_cpp_lines.specs.Heads.{IsHead}
@@ -18,13 +19,13 @@ use Rattle.pw_cpp_lines.specs.declared.head.Span.{Span}
 use Rattle.pw_cpp_sources.specs.Sources.{File, text_of}
 
 -- what is done with a directive's name where these sections are open
-abbrev way_in : Sections → Nested → List ℕ → Way
-way_in sections nested name =
+abbrev way_in : Sections → ℕ → List ℕ → Way
+way_in sections count name =
     if is_reading sections && bytes_eq name (codes "pragma") then Pragma
     else (if is_reading sections && bytes_eq name (codes "include") then Include
-    else (if is_reading sections || (length nested == 0 && is_turn name) then Whole else Passed))
+    else (if is_reading sections || (count == 0 && is_turn name) then Whole else Passed))
 
-same_way : (s s' : Sections) → s ≡ s' → (n n' : Nested) → n ≡ n' → (w w' : List ℕ) → w ≡ w' → way_in s n w ≡ way_in s' n' w'
+same_way : (s s' : Sections) → s ≡ s' → (n n' : ℕ) → n ≡ n' → (w w' : List ℕ) → w ≡ w' → way_in s n w ≡ way_in s' n' w'
 same_way s s' a n n' b w w' e = ap (λ x. way_in x n w) a ∙ ap (λ x. way_in s' x w) b ∙ ap (way_in s' n') e
 
 -- what does one thing does another
@@ -72,7 +73,7 @@ module _ (old : Reader) (f : File) (text : List ℕ) (read : IsRead old f text) 
     -- how a directive is used
     used : (r : Reading) → StandsAs old r → (way : Way) → way ≡ use_by old word → use_of r (name_of (text_of old.source.now f) name) ≡ way
     used r st way e =
-        same_way r.standing_is.sections (reverse old.standing.sections) (ap (λ s. s.sections) st.standing_is) r.nested (reverse old.standing.nested) st.nested_is (name_of (text_of old.source.now f) name) word
+        same_way r.standing_is.sections (reverse old.standing.sections) (ap (λ s. s.sections) st.standing_is) (length r.nested) (length old.standing.nested) (ap length st.nested_is ∙ length-reverse old.standing.nested) (name_of (text_of old.source.now f) name) word
           (ap (λ x. name_of x name) (sym read.1) ∙ sym word_is)
         ∙ sym e
 

@@ -12,11 +12,23 @@ use crate::reader::{Reader, bytes_before, name_in, no_memory};
 use crate::way::{Way, way_of};
 use pw_cpp_directives::{CppKind, CppWhich, Fault, faulty, limit};
 use pw_cpp_lines::{Head, Line, Span, head_of, header_name, pass_line, pass_rest, pass_space};
-use pw_cpp_sources::{DEPTH_LIMIT, HEADER_NAME_LIMIT, is_header};
+use pw_cpp_sources::{DEPTH_LIMIT, HEADER_NAME_LIMIT, Place, is_header};
 use pw_items::Items;
 use pw_token::TEXT_LIMIT;
 use pw_value::Name;
 use std::alloc::Global;
+
+/// The place of a file by its number.
+#[tactic(auto, using(std::proofs::lemmas::Option::slice_get_read, std::proofs::lemmas::Option::slice_get_past))]
+pub fn place_at(spans: &[Place], number: usize) -> Option<Place>
+    ensures { result ≡ slice_get spans.now number }
+{
+    if number < spans.len() {
+        Some(spans[number])
+    } else {
+        None
+    }
+}
 
 /// The name of the header that stands in quotes at a place, if one does.
 fn quoted_at(text: &[u8], start: usize) -> Option<Span>
@@ -98,7 +110,7 @@ impl<'a> Reader<'a> {
         ensures within { IfOk result (λ _. IsWithin self.new) }
         ensures reads { (file : File) → slice_get (reads_of self.old) number ≡ Some file → IsFirst self.old file → AnswersFile self.old self.new (ReadsFile self.old.source.now (reads_of self.old) digits_of depth file) result }
     {
-        let Some(span) = self.spans.get(number).copied() else {
+        let Some(span) = place_at(self.spans, number) else {
             return Err(no_memory(0));
         };
         self.file = number;

@@ -5,6 +5,7 @@ ghost use Rattle.pw_cpp.specs.Answers.{AnswersCpp, AnswersReading};
 ghost use Rattle.pw_cpp_sources.specs.Sources.{File, IsThere, line_of, digits_of, files_of, names_of, source_of, spans_of, texts_of};
 
 use crate::fault::CppFault;
+use crate::file::place_at;
 use crate::reader::{Reader, bytes_before, bytes_from};
 use pw_cpp_directives::{CppKind, Fault, Standing};
 use pw_cpp_macros::Macros;
@@ -33,15 +34,15 @@ fn placed(
     requires spans { files_of (names_of files.now) source.now.spans.items ≡ spans_of (texts_of files.now) }
     ensures { (file : File) → slice_get (spans_of (texts_of files.now)) number ≡ Some file → IfOk result (λ found. found ≡ record { kind = fault.kind; file = file.name; line = line_of source.now.bytes.items file fault.place }) }
 {
-    let Some((name, _)) = files.get(number) else {
+    if files.len() <= number {
         return Err(AllocError);
-    };
-    let Some(span) = source.spans.as_slice().get(number).copied() else {
+    }
+    let Some(span) = place_at(source.spans.as_slice(), number) else {
         return Err(AllocError);
     };
     let size = span.end.saturating_sub(span.from);
     let text = bytes_before(bytes_from(source.bytes.as_slice(), span.from), size);
-    let file = name.copy(alloc)?;
+    let file = files[number].0.copy(alloc)?;
     let line = line_at(text, fault.place.saturating_sub(span.from)) as u64;
     Ok(CppFault {
         kind: fault.kind,
