@@ -78,3 +78,23 @@ module _ (old new : Reader) (keeps : Keeps old new) (digits : Digits) (name : Li
     subst (λ x. slice_get x new.file ≡ Some h.0) reads_same h.1.0,
     file.faulted it.it h.0 found it.named (subst (λ x. file_named x h.0.name ≡ Some h.0) reads_same h.1.1) (h.2 at_first first),
   )
+
+  -- the same of files that stand in a source
+  module _ (source : List ℕ) (files : List File) (source_is : old.source.now ≡ source) (files_are : reads_of old ≡ files) where
+    pub run-read : (done : Unit {0}) → ((f : File) → slice_get (reads_of old) n ≡ Some f → IsFirst old f → AnswersFile old new (ReadsFile old.source.now (reads_of old) digits 0 f) (Ok done))
+        → Preprocesses source files digits name (Ok new.out.items)
+    run-read done h =
+        subst (λ x. Preprocesses source x digits name (Ok new.out.items)) files_are
+          (subst (λ x. Preprocesses x (reads_of old) digits name (Ok new.out.items)) source_is (whole-read done (h it.it it.there named_itself)))
+
+    pub run-fault : (found : Fault) → ((f : File) → slice_get (reads_of old) n ≡ Some f → IsFirst old f → AnswersFile old new (ReadsFile old.source.now (reads_of old) digits 0 f) (Err found))
+        → AnswersReading source files digits name (Err (new.file, found))
+    run-fault found h =
+        subst (λ x. AnswersReading source x digits name (Err (new.file, found))) files_are
+          (subst (λ x. AnswersReading x (reads_of old) digits name (Err (new.file, found))) source_is (whole-fault found (h it.it it.there named_itself)))
+
+-- a name that is there has a number
+pub not-there : (files : List (List ℕ × Vec ℕ)) (spans : List Place) (whole : List File) (name : List ℕ) (f : File) → files_of (names_of files) spans ≡ whole → None ≡ number_from 0 files name
+    → file_named whole name ≡ Some f → ⊥
+not-there files spans whole name f w e there =
+    false≢true (ap is_some (sym (number-missing files spans name e) ∙ ap (λ x. file_named x name) w ∙ there))
