@@ -65,8 +65,7 @@ found_from (f ∷ files) (s ∷ spans) name k n l e = by (bytes_eq name f.0) ref
         → (k ≤ n) × IsNumbered (files_of (names_of (f ∷ files)) (s ∷ spans)) name (n - k)
     by true b e rec =
         let same : k ≡ n = ap number_or e in
-        let zero_is : n - k ≡ 0 = omega (arith, same) in
-        (
+        let zero_is : n - k ≡ 0 = omega (arith, same) in (
           omega (arith, same),
           record {
             it = here;
@@ -77,8 +76,7 @@ found_from (f ∷ files) (s ∷ spans) name k n l e = by (bytes_eq name f.0) ref
         )
     by false b e rec =
         let found = rec e in
-        let next : n - k ≡ suc (n - (k + 1)) = omega (arith, found.0) in
-        (
+        let next : n - k ≡ suc (n - (k + 1)) = omega (arith, found.0) in (
           omega (arith, found.0),
           record {
             it = found.1.it;
@@ -123,7 +121,7 @@ module _ (old bare : Reader) (still : IsStill old bare) (digits : Digits) (depth
   pub header-deep : IsAt old f → depth_limit ≤ depth → (found : Fault) → found ≡ fault (kind.Limit which.Depth (depth_limit + 1)) hash → AnswersStep old old DoesHeader (Err found)
   header-deep at l found is =
       subst (λ x. AnswersStep old old DoesHeader (Err x)) (sym is)
-        (inr (f, at, (λ r st. file.too_deep depth f inner r hash next name l)))
+      (inr (f, at, (λ r st. file.too_deep depth f inner r hash next name l)))
 
   -- no section is open where the header is read
   module _ (deep : depth < depth_limit) (bare_is : standing_of bare.standing ≡ begins [] (standing_of old.standing)) (nested_is : bare.standing.nested ≡ old.standing.nested) where
@@ -153,19 +151,18 @@ module _ (old bare : Reader) (still : IsStill old bare) (digits : Digits) (depth
     header-read read new done h source number out size stand nested = (
       number,
       (λ r st.
-        let found = h (with_standing r (begins [] r.standing_is)) (bare_as r st) in
-        let s = found.0 in
-        (
-          with_standing s (begins r.standing_is.sections s.standing_is),
-          record {
-            standing_is =
-                ap (λ x. begins x.sections s.standing_is) st.standing_is
-                ∙ ap (begins (standing_of old.standing).sections) found.1.standing_is
-                ∙ sym stand;
-            nested_is = found.1.nested_is ∙ ap reverse (sym nested);
-            out_is = ap (λ x. output_of x s.out) source ∙ found.1.out_is ∙ sym out;
-            size_is = found.1.size_is ∙ sym size;
-          },
-          file.header depth f inner r hash next name (Read s) (GoesOn next (with_standing s (begins r.standing_is.sections s.standing_is))) deep (inner_of r (Read s) found.2) refl,
-        )),
+          let found = h (with_standing r (begins [] r.standing_is)) (bare_as r st) in
+          let s = found.0 in (
+            with_standing s (begins r.standing_is.sections s.standing_is),
+            record {
+              standing_is =
+                  ap (λ x. begins x.sections s.standing_is) st.standing_is
+                  ∙ ap (begins (standing_of old.standing).sections) found.1.standing_is
+                  ∙ sym stand;
+              nested_is = found.1.nested_is ∙ ap reverse (sym nested);
+              out_is = ap (λ x. output_of x s.out) source ∙ found.1.out_is ∙ sym out;
+              size_is = found.1.size_is ∙ sym size;
+            },
+            file.header depth f inner r hash next name (Read s) (GoesOn next (with_standing s (begins r.standing_is.sections s.standing_is))) deep (inner_of r (Read s) found.2) refl,
+          )),
     )

@@ -50,7 +50,7 @@ module _ (old : Reader) (f : File) (text : List ℕ) (read : IsRead old f text) 
       f,
       read.0,
       (λ r st.
-        includes_in None e r (Stops f.name found)
+          includes_in None e r (Stops f.name found)
           (file.unquoted depth f r hash (name.at + name.len) x.0 (Stops f.name found) (subst (λ t. Lexes t (name.at + name.len) x.0) read.1 x.1) (x.2 f))),
     )
 
@@ -58,14 +58,13 @@ module _ (old : Reader) (f : File) (text : List ℕ) (read : IsRead old f text) 
         → AnswersStep old new DoesThis result
     include-quoted x e new result =
         step-as old new (DoesQuoted old.source.now (reads_of old) digits depth f hash x) DoesThis
-          (λ r step st d. includes_in (Some x) e r step (file.quoted depth f r hash (name.at + name.len) x d.0 step d.1 d.2)) result
+        (λ r step st d. includes_in (Some x) e r step (file.quoted depth f r hash (name.at + name.len) x d.0 step d.1 d.2)) result
 
   -- ---- the name in them
 
   module _ (x : Span) where
     abbrev pub DoesName : Reading → Step → Type 0
     DoesName = DoesQuoted old.source.now (reads_of old) digits depth f hash x
-
 
     pub quoted-unlexed : (found : Fault) → IsLexed text (x.at + x.len + 1) (Err found) → AnswersStep old old DoesName (Err found)
     quoted-unlexed found (inl m) = inl m
@@ -124,12 +123,12 @@ module _ (old : Reader) (f : File) (text : List ℕ) (read : IsRead old f text) 
 
           pub quoted-found : (new : Reader) (result : Result ℕ Fault)
               → ((g it : File) (name : List ℕ) → IsAt old g → slice_get (reads_of old) n ≡ Some it → IsFirst old it
-                  → AnswersStep old new (λ r step. IncludesHeader old.source.now (reads_of old) digits depth g r hash line.next name (Some it) step) result)
+              → AnswersStep old new (λ r step. IncludesHeader old.source.now (reads_of old) digits depth g r hash line.next name (Some it) step) result)
               → AnswersStep old new DoesName result
           quoted-found new result h =
               step-as old new (λ r step. IncludesHeader old.source.now (reads_of old) digits depth f r hash line.next word (Some inner.it) step) DoesName
-                (λ r step st d. named_as r step (Some inner.it) (header_is (is_header word) e inner.named) d) result
-                (h f inner.it word read.0 inner.there first_is)
+              (λ r step st d. named_as r step (Some inner.it) (header_is (is_header word) e inner.named) d) result
+              (h f inner.it word read.0 inner.there first_is)
 
 -- a line that does not lex
 pub unlexed-unquoted : (text : List ℕ) (hash behind : ℕ) (found : Fault) → IsLexed text behind (Err found) → IsUnquoted text hash behind found

@@ -60,7 +60,7 @@ module _ (old : Reader) (f : File) (text : List ℕ) (read : IsRead old f text) 
       → AnswersStep old new Line result
   line-text new result h b =
       step-as old new (DoesText old.source.now f at) Line
-        (λ r step st x. (head.Text, head_in head.Text h, file.text depth f at r x.0 step (reading_is r st true b) x.1 x.2)) result
+      (λ r step st x. (head.Text, head_in head.Text h, file.text depth f at r x.0 step (reading_is r st true b) x.1 x.2)) result
 
   pub line-passed : (next : ℕ) → IsHead text at head.Text → is_reading (reverse old.standing.sections) ≡ false → PassesLine text at next → AnswersStep old old Line (Ok next)
   line-passed next h b p = step-past old Line next (λ r st. (
@@ -74,7 +74,7 @@ module _ (old : Reader) (f : File) (text : List ℕ) (read : IsRead old f text) 
     used : (r : Reading) → StandsAs old r → (way : Way) → way ≡ use_by old word → use_of r (name_of (text_of old.source.now f) name) ≡ way
     used r st way e =
         same_way r.standing_is.sections (reverse old.standing.sections) (ap (λ s. s.sections) st.standing_is) (length r.nested) (length old.standing.nested) (ap length st.nested_is ∙ length-reverse old.standing.nested) (name_of (text_of old.source.now f) name) word
-          (ap (λ x. name_of x name) (sym read.1) ∙ sym word_is)
+        (ap (λ x. name_of x name) (sym read.1) ∙ sym word_is)
         ∙ sym e
 
     directive_as : (r : Reading) → StandsAs old r → (way : Way) → way ≡ use_by old word → (step : Step)
@@ -90,14 +90,14 @@ module _ (old : Reader) (f : File) (text : List ℕ) (read : IsRead old f text) 
     pub line-include : (new : Reader) (result : Result ℕ Fault) → Include ≡ use_by old word → AnswersStep old new (DoesInclude old.source.now (reads_of old) digits depth f hash name) result → AnswersStep old new Line result
     line-include new result e =
         step-as old new (DoesInclude old.source.now (reads_of old) digits depth f hash name) Line
-          (λ r step st x. directive_as r st Include e step (file.include depth f at r hash name x.0 step x.1 x.2)) result
+        (λ r step st x. directive_as r st Include e step (file.include depth f at r hash name x.0 step x.1 x.2)) result
 
     pub line-whole : (new : Reader) (result : Result ℕ Fault) → Whole ≡ use_by old word → AnswersStep old new (DoesWhole old.source.now digits f hash name) result → AnswersStep old new Line result
     line-whole new result e =
         step-as old new (DoesWhole old.source.now digits f hash name) Line
-          (λ r step st x. directive_as r st Whole e step (file.whole_line depth f at r hash name x.0 step x.1 x.2)) result
+        (λ r step st x. directive_as r st Whole e step (file.whole_line depth f at r hash name x.0 step x.1 x.2)) result
 
     pub line-left : (new : Reader) (result : Result ℕ Fault) → Passed ≡ use_by old word → AnswersStep old new (DoesPassed old.source.now f at hash name) result → AnswersStep old new Line result
     line-left new result e =
         step-as old new (DoesPassed old.source.now f at hash name) Line
-          (λ r step st x. directive_as r st Passed e step (file.passed depth f at r hash name x.0 step x.1 x.2)) result
+        (λ r step st x. directive_as r st Passed e step (file.passed depth f at r hash name x.0 step x.1 x.2)) result

@@ -23,9 +23,9 @@ abbrev pub LeadsFrom : Reader → Reader → List ℕ → ℕ → ℕ → ℕ �
 LeadsFrom start now text number depth at =
     (f : File) → slice_get (reads_of start) number ≡ Some f → IsFirst start f
     → IsRead now f text
-      × ((r : Reading) → StandsAs start r
-        → (s : Reading) × StandsAs now s
-          × ((found : Result_of) → ReadsLines start.source.now (reads_of start) digits_of depth f at s found → ReadsFile start.source.now (reads_of start) digits_of depth f r found))
+    × ((r : Reading) → StandsAs start r
+    → (s : Reading) × StandsAs now s
+    × ((found : Result_of) → ReadsLines start.source.now (reads_of start) digits_of depth f at s found → ReadsFile start.source.now (reads_of start) digits_of depth f r found))
 
 module _ (start : Reader) (number depth : ℕ) (span : Place) (there : slice_get start.spans.now number ≡ Some span) where
   abbrev pub Reads : File → Reading → Result_of → Type 0
@@ -52,8 +52,7 @@ module _ (start : Reader) (number depth : ℕ) (span : Place) (there : slice_get
   pub reads-start : (now : Reader) → reads_of now ≡ reads_of start → now.file ≡ number → now.source.now ≡ start.source.now → now.out.items ≡ start.out.items → now.size ≡ start.size → now.standing ≡ start.standing
       → start.standing.sections ≡ [] → span.end - span.from ≤ length_limit → (text : List ℕ) → text ≡ take span.end start.source.now → LeadsFrom start now text number depth span.from
   reads-start now same here source out size stand bare l text text_is = λ f e first.
-      let place = place_of f e in
-      (
+      let place = place_of f e in (
         (
           (
             subst (λ x. slice_get x now.file ≡ Some f) (sym same) (subst (λ n. slice_get (reads_of start) n ≡ Some f) (sym here) e),
@@ -70,9 +69,9 @@ module _ (start : Reader) (number depth : ℕ) (span : Place) (there : slice_get
             size_is = st.size_is ∙ sym size;
           },
           (λ found lines.
-            file.whole depth f r found (omega (arith, l, place.0, place.1))
+              file.whole depth f r found (omega (arith, l, place.0, place.1))
               (subst (λ x. ReadsLines start.source.now (reads_of start) digits_of depth f f.from x found) (bare_as r st)
-                (subst (λ n. ReadsLines start.source.now (reads_of start) digits_of depth f n r found) (sym place.0) lines))),
+              (subst (λ n. ReadsLines start.source.now (reads_of start) digits_of depth f n r found) (sym place.0) lines))),
         )),
       )
     where
@@ -99,26 +98,23 @@ module _ (start : Reader) (number depth : ℕ) (span : Place) (there : slice_get
     pub reads-on : at < length text → (new : Reader) → Keeps now new → (next : ℕ) → ((f : File) → IsRead now f text → AnswersStep now new (Line f) (Ok next)) → LeadsFrom start new text number depth next
     reads-on l new kept next h = λ f e first.
         let before = leads f e first in
-        let step = h f before.0 in
-        (
+        let step = h f before.0 in (
           at_new f before.0 step.0,
           (λ r st.
-            let here = before.1 r st in
-            let done = step.1 here.0 here.1 in
-            (
-              done.0,
-              done.1,
-              (λ found lines.
-                let line = line_in f here.0 (GoesOn next done.0) done.2 in
-                here.2 found
-                  (file.line depth f at here.0 line.0 (GoesOn next done.0) found (subst (λ x. at < length x) (text_in f before.0) l) line.1 line.2 (file.goes_on depth f next done.0 found lines))),
-            )),
+              let here = before.1 r st in
+              let done = step.1 here.0 here.1 in (
+                done.0,
+                done.1,
+                (λ found lines.
+                    let line = line_in f here.0 (GoesOn next done.0) done.2 in
+                    here.2 found
+                    (file.line depth f at here.0 line.0 (GoesOn next done.0) found (subst (λ x. at < length x) (text_in f before.0) l) line.1 line.2 (file.goes_on depth f next done.0 found lines))),
+              )),
         )
       where
         at_new : (f : File) → IsRead now f text → new.file ≡ now.file → IsRead new f text
         at_new f read number_is =
-            let files : reads_of new ≡ reads_of now = ap (λ x. files_of (names_of x) new.spans.now) kept.1 ∙ ap (files_of (names_of now.files.now)) kept.2 in
-            (
+            let files : reads_of new ≡ reads_of now = ap (λ x. files_of (names_of x) new.spans.now) kept.1 ∙ ap (files_of (names_of now.files.now)) kept.2 in (
               (
                 subst (λ x. slice_get x new.file ≡ Some f) (sym files) (subst (λ n. slice_get (reads_of now) n ≡ Some f) (sym number_is) read.0.0),
                 subst (λ x. file_named x f.name ≡ Some f) (sym files) read.0.1,
@@ -136,11 +132,11 @@ module _ (start : Reader) (number depth : ℕ) (span : Place) (there : slice_get
           x.0,
           x.1,
           (λ r st.
-            let here = (leads f e first).1 r st in
-            let line = line_in f here.0 (Stops x.0.name found) (x.2 here.0 here.1) in
-            here.2 (Faulted x.0.name found)
+              let here = (leads f e first).1 r st in
+              let line = line_in f here.0 (Stops x.0.name found) (x.2 here.0 here.1) in
+              here.2 (Faulted x.0.name found)
               (file.line depth f at here.0 line.0 (Stops x.0.name found) (Faulted x.0.name found) (subst (λ z. at < length z) (text_in f (leads f e first).0) l) line.1 line.2
-                (file.stops depth f x.0.name found))),
+              (file.stops depth f x.0.name found))),
         )
 
     -- ---- the end
@@ -161,10 +157,10 @@ module _ (start : Reader) (number depth : ℕ) (span : Place) (there : slice_get
       f,
       (leads f e first).0.0,
       (λ r st.
-        let here = (leads f e first).1 r st in
-        here.2 (Faulted f.name found)
+          let here = (leads f e first).1 r st in
+          here.2 (Faulted f.name found)
           (ends_as l f (leads f e first).0 here.0 here.1 (Faulted f.name found)
-            (ap (Faulted f.name) (is ∙ ap (fault kind.Condition) (sym (place_of f e).1)) ∙ open_in here.0 (reverse now.standing.sections) (λ x. some (sym (reverse-reverse now.standing.sections) ∙ ap reverse x))))),
+          (ap (Faulted f.name) (is ∙ ap (fault kind.Condition) (sym (place_of f e).1)) ∙ open_in here.0 (reverse now.standing.sections) (λ x. some (sym (reverse-reverse now.standing.sections) ∙ ap reverse x))))),
     )
       where
         open_in : (s : Reading) (sections : Sections) → (sections ≡ [] → ⊥) → Faulted f.name (fault kind.Condition f.end) ≡ ended_in f s sections

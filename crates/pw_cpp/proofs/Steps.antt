@@ -69,9 +69,9 @@ module _ (old new : Reader) (still : IsStill old new) where
     pub passed-wrong : (at hash next : ℕ) (name : Span) → PassesLine text at next → passing (name_of text name) (reverse old.standing.nested) ≡ None
         → (found : Fault) → found ≡ fault kind.Condition hash → AnswersStep old new (DoesPassed old.source.now f at hash name) (Err found)
     passed-wrong at hash next name h e found is =
-      subst (λ x. AnswersStep old new (DoesPassed old.source.now f at hash name) (Err x)) (sym is)
+        subst (λ x. AnswersStep old new (DoesPassed old.source.now f at hash name) (Err x)) (sym is)
         (fault-here (DoesPassed old.source.now f at hash name) (fault kind.Condition hash)
-          (λ r st. (next, passes_in at next h, sym (ap (after_passed f hash next r) (passed_to name None r st e)))))
+        (λ r st. (next, passes_in at next h, sym (ap (after_passed f hash next r) (passed_to name None r st e)))))
 
     module _ (digits : Digits) (hash : ℕ) (name : Span) where
       abbrev pub Does : Reading → Step → Type 0
@@ -82,11 +82,11 @@ module _ (old new : Reader) (still : IsStill old new) where
       obeys-unlexed found (inl m) = inl m
       obeys-unlexed found (inr l) =
           fault-here Does found
-            (λ r st. (
-              Err (bad.Bad l.0),
-              subst (λ x. Lexes x hash (Err (bad.Bad l.0))) read.1 l.1,
-              file.no_tokens f r hash (name_of (text_of old.source.now f) name) (bad.Bad l.0) (Stops f.name found) (ap (Stops f.name) l.2),
-            ))
+          (λ r st. (
+            Err (bad.Bad l.0),
+            subst (λ x. Lexes x hash (Err (bad.Bad l.0))) read.1 l.1,
+            file.no_tokens f r hash (name_of (text_of old.source.now f) name) (bad.Bad l.0) (Stops f.name found) (ap (Stops f.name) l.2),
+          ))
 
       module _ (line : Line) (lexes : Lexes text hash (Ok line)) where
         word_in : name_of text name ≡ name_of (text_of old.source.now f) name
@@ -99,22 +99,21 @@ module _ (old new : Reader) (still : IsStill old new) where
         obeys-done r' h = (
           still.file,
           (λ r st.
-            let found = h r st in
-            let Q : List ℕ → Type 0 = λ x. file.ObeysTokens old.source.now digits f r hash x line.next line.tokens (GoesOn line.next (with_standing r found.0)) in
-            (
-              with_standing r found.0,
-              found.1,
-              (Ok line, lexes_in, file.tokens f r hash (name_of (text_of old.source.now f) name) line (GoesOn line.next (with_standing r found.0)) (subst Q word_in (found.2 f line.next))),
-            )),
+              let found = h r st in
+              let Q : List ℕ → Type 0 = λ x. file.ObeysTokens old.source.now digits f r hash x line.next line.tokens (GoesOn line.next (with_standing r found.0)) in (
+                with_standing r found.0,
+                found.1,
+                (Ok line, lexes_in, file.tokens f r hash (name_of (text_of old.source.now f) name) line (GoesOn line.next (with_standing r found.0)) (subst Q word_in (found.2 f line.next))),
+              )),
         )
 
         pub obeys-fault : (found : Fault) → AnswersTokens old new (DoesTokens old.source.now digits hash (name_of text name) line.tokens) (Err found) → AnswersStep old new Does (Err found)
         obeys-fault found (inl m) = inl m
         obeys-fault found (inr h) =
             fault-here Does found
-              (λ r st.
-                let Q : List ℕ → Type 0 = λ x. file.ObeysTokens old.source.now digits f r hash x line.next line.tokens (Stops f.name found) in
-                (Ok line, lexes_in, file.tokens f r hash (name_of (text_of old.source.now f) name) line (Stops f.name found) (subst Q word_in (h r st f line.next))))
+            (λ r st.
+            let Q : List ℕ → Type 0 = λ x. file.ObeysTokens old.source.now digits f r hash x line.next line.tokens (Stops f.name found) in
+            (Ok line, lexes_in, file.tokens f r hash (name_of (text_of old.source.now f) name) line (Stops f.name found) (subst Q word_in (h r st f line.next))))
 
 -- ---- a directive's tokens
 

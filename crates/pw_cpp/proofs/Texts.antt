@@ -126,14 +126,13 @@ module _ (old : Reader) (mid : Kept) (f : File) (text : List ℕ) (read : IsRead
 
   expands_in : (r : Reading) → StandsAs old r → (outcome : Outcome) → (step : Step) → step ≡ after_text f r outcome → Expanded old.source.now text old.standing.macros at (starts at old) outcome → Does r step
   expands_in r st outcome step e x =
-      let macros_are : old.standing.macros ≡ r.standing_is.macros = sym (ap (λ s. s.macros) st.standing_is) in
-      (
+      let macros_are : old.standing.macros ≡ r.standing_is.macros = sym (ap (λ s. s.macros) st.standing_is) in (
         Tokens x.tokens x.middle,
         reads_in r st (Tokens x.tokens x.middle) x.reads,
         file.expands f r x.tokens x.middle outcome step
-          (subst (λ m. Expands old.source.now (text_of old.source.now f) m InText (map fresh x.tokens) x.middle outcome) macros_are
+            (subst (λ m. Expands old.source.now (text_of old.source.now f) m InText (map fresh x.tokens) x.middle outcome) macros_are
             (subst (λ t. Expands old.source.now t old.standing.macros InText (map fresh x.tokens) x.middle outcome) read.1 x.expands))
-          e,
+            e,
       )
 
   pub text-fault : (new : Reader) → IsStill old new → (q : Progress) (fault : ExpandFault) → AnswersText old.source.now old.standing mid text at (starts at old) q (Err fault) → (found : Fault) → found ≡ fault_of_expansion fault → AnswersStep old new Does (Err found)
@@ -148,8 +147,8 @@ module _ (old : Reader) (mid : Kept) (f : File) (text : List ℕ) (read : IsRead
   text-put new q out a put = (
     put.file,
     (λ r st.
-      let lexemes : List Lexeme = all_named mid.sets out in
-      (with_text r lexemes q, stands r st lexemes (put.put mid.sets), expands_in r st (Done lexemes q) (file.GoesOn q.next (with_text r lexemes q)) refl a.0)),
+        let lexemes : List Lexeme = all_named mid.sets out in
+        (with_text r lexemes q, stands r st lexemes (put.put mid.sets), expands_in r st (Done lexemes q) (file.GoesOn q.next (with_text r lexemes q)) refl a.0)),
   )
     where
       stands : (r : Reading) → StandsAs old r → (lexemes : List Lexeme) → new.out.items ≡ old.out.items ++ output_of old.source.now (rows_of q.rows lexemes) → StandsAs new (with_text r lexemes q)

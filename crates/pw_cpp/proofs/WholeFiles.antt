@@ -51,7 +51,7 @@ placed-answer bytes files spans whole w n x span a b fault found kind_is file_is
     ∙ ap (λ k. record { kind = fault.kind; file = k; line = found.line }) file_is
     ∙ ap (λ k. record { kind = fault.kind; file = x.0; line = k }) line_is
     ∙ ap (λ (g : File). record { kind = fault.kind; file = g.name; line = line_of bytes g fault.place })
-      (sym (file-of files spans n x span f a b (subst (λ z. slice_get z n ≡ Some f) (sym w) e)))
+    (sym (file-of files spans n x span f a b (subst (λ z. slice_get z n ≡ Some f) (sym w) e)))
 
 -- ---- a file that is read
 
@@ -85,13 +85,13 @@ module _ (old new : Reader) (keeps : Keeps old new) (digits : Digits) (name : Li
         → Preprocesses source files digits name (Ok new.out.items)
     run-read done h =
         subst (λ x. Preprocesses source x digits name (Ok new.out.items)) files_are
-          (subst (λ x. Preprocesses x (reads_of old) digits name (Ok new.out.items)) source_is (whole-read done (h it.it it.there named_itself)))
+        (subst (λ x. Preprocesses x (reads_of old) digits name (Ok new.out.items)) source_is (whole-read done (h it.it it.there named_itself)))
 
     pub run-fault : (found : Fault) → ((f : File) → slice_get (reads_of old) n ≡ Some f → IsFirst old f → AnswersFile old new (ReadsFile old.source.now (reads_of old) digits 0 f) (Err found))
         → AnswersReading source files digits name (Err (new.file, found))
     run-fault found h =
         subst (λ x. AnswersReading source x digits name (Err (new.file, found))) files_are
-          (subst (λ x. AnswersReading x (reads_of old) digits name (Err (new.file, found))) source_is (whole-fault found (h it.it it.there named_itself)))
+        (subst (λ x. AnswersReading x (reads_of old) digits name (Err (new.file, found))) source_is (whole-fault found (h it.it it.there named_itself)))
 
 -- a name that is there has a number
 pub not-there : (files : List (List ℕ × Vec ℕ)) (spans : List Place) (whole : List File) (name : List ℕ) (f : File) → files_of (names_of files) spans ≡ whole → None ≡ number_from 0 files name

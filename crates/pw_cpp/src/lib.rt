@@ -9,6 +9,6 @@ mod way;
 mod whole;
 
 pub use fault::CppFault;
-pub use whole::preprocess;
 pub use pw_cpp_directives::{CppKind, CppWhich};
 pub use pw_cpp_sources::{DEPTH_LIMIT, HEADER_NAME_LIMIT, is_header};
+pub use whole::preprocess;

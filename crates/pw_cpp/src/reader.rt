@@ -59,11 +59,7 @@ pub fn bytes_before(bytes: &[u8], count: usize) -> &[u8]
 pub fn bytes_from(bytes: &[u8], at: usize) -> &[u8]
     ensures { result.now ≡ drop at bytes.now }
 {
-    if at < bytes.len() {
-        &bytes[at..]
-    } else {
-        &[]
-    }
+    if at < bytes.len() { &bytes[at..] } else { &[] }
 }
 
 /// The bytes of a name.

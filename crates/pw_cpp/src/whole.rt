@@ -117,11 +117,7 @@ fn preprocess_source(
 /// # Errors
 ///
 /// The first fault in the order of reading, with its file and its line. Want of memory has the file's own name.
-pub fn preprocess(
-    alloc: Global,
-    files: &[(Name, Vec<u8>)],
-    name: Name,
-) -> Result<Vec<u8>, CppFault>
+pub fn preprocess(alloc: Global, files: &[(Name, Vec<u8>)], name: Name) -> Result<Vec<u8>, CppFault>
     ensures { IsThere (texts_of files.now) name → AnswersCpp (texts_of files.now) name result }
 {
     match preprocess_source(alloc, files, name.as_bytes()) {

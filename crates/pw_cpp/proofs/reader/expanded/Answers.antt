@@ -8,6 +8,6 @@ expand_text-requires-clause-limits c =
 pub returns-clause-expands : goal.returns-clause-expands
 returns-clause-expands c =
     text-expanded c.args.source.now c.args.standing.now
-      (record { macros = c.args.standing.now.macros; sets = c.expand_text.new.sets; sections = c.args.standing.now.sections; nested = c.args.standing.now.nested; produced = c.args.standing.now.produced })
-      c.args.text.now c.args.at c.args.progress.now c.line_in_order.ensures c.tokens_in_order.ensures c.requires.first c.in_ok-tokens.tokens c.read_line.new.progress c.expand_text.new.progress c.expand_text.result
-      c.in_ok-tokens.ensures.answers c.expand_text.ensures
+    (record { macros = c.args.standing.now.macros; sets = c.expand_text.new.sets; sections = c.args.standing.now.sections; nested = c.args.standing.now.nested; produced = c.args.standing.now.produced })
+    c.args.text.now c.args.at c.args.progress.now c.line_in_order.ensures c.tokens_in_order.ensures c.requires.first c.in_ok-tokens.tokens c.read_line.new.progress c.expand_text.new.progress c.expand_text.result
+    c.in_ok-tokens.ensures.answers c.expand_text.ensures

@@ -35,7 +35,7 @@ pub quoted-returns-in_err-line-clause-steps : goal.quoted-returns-in_err-line-cl
 quoted-returns-in_err-line-clause-steps d c = λ f read.
     let e : c.from_residual.result ≡ Err c.in_err-line.field-0.0 = first_of (search (rules, c.from_residual.ensures), cc (c.from_residual.ensures)) in
     subst (AnswersStep c.args.self.now c.args.self.now (DoesQuoted c.args.self.now.source.now (reads_of c.args.self.now) digits_of c.args.depth f c.args.hash c.args.name)) (sym e)
-      (quoted-unlexed c.args.self.now f c.args.text.now read digits_of c.args.depth c.args.hash c.args.name c.in_err-line.field-0.0 c.in_err-line.ensures.lexes)
+    (quoted-unlexed c.args.self.now f c.args.text.now read digits_of c.args.depth c.args.hash c.args.name c.in_err-line.field-0.0 c.in_err-line.ensures.lexes)
 
 pub quoted-returns-then-is_wrong-clause-steps : goal.quoted-returns-then-is_wrong-clause-steps
 quoted-returns-then-is_wrong-clause-steps d c = λ f read.
@@ -44,35 +44,35 @@ quoted-returns-then-is_wrong-clause-steps d c = λ f read.
 pub quoted-returns-in_default-clause-steps : goal.quoted-returns-in_default-clause-steps
 quoted-returns-in_default-clause-steps d c = λ f read.
     quoted-missing c.args.self.now f c.args.text.now read digits_of c.args.depth c.args.hash c.args.name c.in_ok-line.line c.in_ok-line.ensures.lexes (sym c.is_wrong.ensures ∙ c.if-is_wrong.false) c.name_in-bytes.result.now c.name_in-bytes.ensures
-      (sym c.in_default.is ∙ c.header.ensures) c.missing.result c.missing.ensures
+    (sym c.in_default.is ∙ c.header.ensures) c.missing.result c.missing.ensures
 
 pub quoted-returns-clause-steps : goal.quoted-returns-clause-steps
 quoted-returns-clause-steps d c = λ f read.
     quoted-found c.args.self.now f c.args.text.now read digits_of c.args.depth c.args.hash c.args.name c.in_ok-line.line c.in_ok-line.ensures.lexes (sym c.is_wrong.ensures ∙ c.if-is_wrong.false) c.name_in-bytes.result.now c.name_in-bytes.ensures c.requires.matched
-      c.in-Some.number (sym c.in-Some.is ∙ c.header.ensures) c.read_header.new.self c.read_header.result c.read_header.ensures.steps
+    c.in-Some.number (sym c.in-Some.is ∙ c.header.ensures) c.read_header.new.self c.read_header.result c.read_header.ensures.steps
 
 -- ---- a file
 
 pub read_file-returns-then-saturating_sub-gt-TEXT_LIMIT-clause-reads : goal.read_file-returns-then-saturating_sub-gt-TEXT_LIMIT-clause-reads
 read_file-returns-then-saturating_sub-gt-TEXT_LIMIT-clause-reads d c =
     reads-long c.args.self.now c.args.number c.args.depth c.in-Some.span (sym c.place_at.ensures ∙ c.in-Some.is)
-      (record { alloc = c.args.self.now.alloc; source = c.args.self.now.source; files = c.args.self.now.files; spans = c.args.self.now.spans; file = c.args.number; standing = c.args.self.now.standing; out = c.args.self.now.out; size = c.args.self.now.size })
-      refl refl (search (rules, c.if-saturating_sub-gt-TEXT_LIMIT.true, c.saturating_sub.ensures)) c.limit.result c.limit.ensures
+    (record { alloc = c.args.self.now.alloc; source = c.args.self.now.source; files = c.args.self.now.files; spans = c.args.self.now.spans; file = c.args.number; standing = c.args.self.now.standing; out = c.args.self.now.out; size = c.args.self.now.size })
+    refl refl (search (rules, c.if-saturating_sub-gt-TEXT_LIMIT.true, c.saturating_sub.ensures)) c.limit.result c.limit.ensures
 
 pub read_file-loop-at-init : goal.read_file-loop-at-init
 read_file-loop-at-init d c = (
   (refl, refl, refl),
   c.requires.within,
   reads-start c.args.self.now c.args.number c.args.depth c.in-Some.span (sym c.place_at.ensures ∙ c.in-Some.is)
-    (record { alloc = c.args.self.now.alloc; source = c.args.self.now.source; files = c.args.self.now.files; spans = c.args.self.now.spans; file = c.args.number; standing = c.args.self.now.standing; out = c.args.self.now.out; size = c.args.self.now.size })
-    refl refl refl refl refl refl c.requires.bare (search (rules, c.if-saturating_sub-gt-TEXT_LIMIT.false, c.saturating_sub.ensures)) c.bytes_before-text.result.now c.bytes_before-text.ensures,
+      (record { alloc = c.args.self.now.alloc; source = c.args.self.now.source; files = c.args.self.now.files; spans = c.args.self.now.spans; file = c.args.number; standing = c.args.self.now.standing; out = c.args.self.now.out; size = c.args.self.now.size })
+      refl refl refl refl refl refl c.requires.bare (search (rules, c.if-saturating_sub-gt-TEXT_LIMIT.false, c.saturating_sub.ensures)) c.bytes_before-text.result.now c.bytes_before-text.ensures,
 )
 
 pub read_file-returns-in_err-next-clause-reads : goal.read_file-returns-in_err-next-clause-reads
 read_file-returns-in_err-next-clause-reads d c = λ f e first.
     let is : c.from_residual.result ≡ Err c.in_err-next.field-0.0 = first_of (search (rules, c.from_residual.ensures), cc (c.from_residual.ensures)) in
     subst (AnswersFile c.args.self.now c.read_line.new.self (ReadsFile c.args.self.now.source.now (reads_of c.args.self.now) digits_of c.args.depth f)) (sym is)
-      (reads-fault c.args.self.now c.args.number c.args.depth c.in-Some.span (sym c.place_at.ensures ∙ c.in-Some.is) c.loop-at.self c.loop-at.invariant.0 c.bytes_before-text.result.now c.loop-at.at c.loop-at.invariant.2 (search rules) c.read_line.new.self c.in_err-next.field-0.0 c.in_err-next.ensures.steps f e first)
+    (reads-fault c.args.self.now c.args.number c.args.depth c.in-Some.span (sym c.place_at.ensures ∙ c.in-Some.is) c.loop-at.self c.loop-at.invariant.0 c.bytes_before-text.result.now c.loop-at.at c.loop-at.invariant.2 (search rules) c.read_line.new.self c.in_err-next.field-0.0 c.in_err-next.ensures.steps f e first)
 
 pub read_file-loop-at-preserved : goal.read_file-loop-at-preserved
 read_file-loop-at-preserved d c = (
@@ -99,13 +99,13 @@ pub read_header-returns-in_err-read_file-clause-steps : goal.read_header-returns
 read_header-returns-in_err-read_file-clause-steps d c = λ f inner name at e first.
     let is : c.from_residual.result ≡ Err c.in_err-read_file.field-0.0 = first_of (search (rules, c.from_residual.ensures), cc (c.from_residual.ensures)) in
     subst (AnswersStep c.args.self.now c.read_file.new.self (λ r step. IncludesHeader c.args.self.now.source.now (reads_of c.args.self.now) digits_of c.args.depth f r c.args.hash c.args.next name (Some inner) step)) (sym is)
-      (header-fault c.args.self.now (record { alloc = c.args.self.now.alloc; source = c.args.self.now.source; files = c.args.self.now.files; spans = c.args.self.now.spans; file = c.args.self.now.file; standing = record { macros = c.args.self.now.standing.macros; sets = c.args.self.now.standing.sets; sections = c.swap.new.y; nested = c.args.self.now.standing.nested; produced = c.args.self.now.standing.produced }; out = c.args.self.now.out; size = c.args.self.now.size }) (record { source = refl; files = refl; spans = refl; file = refl; out = refl; size = refl }) digits_of c.args.depth c.args.hash c.args.next name f inner (search rules) (let none : c.swap.new.y ≡ [] = search (rules, c.swap.ensures, c.new-outer.ensures) in ap (λ x. standing c.args.self.now.standing.macros (reverse x) c.args.self.now.standing.produced) none) refl c.read_file.new.self c.in_err-read_file.field-0.0 (c.in_err-read_file.ensures.reads inner e first))
+    (header-fault c.args.self.now (record { alloc = c.args.self.now.alloc; source = c.args.self.now.source; files = c.args.self.now.files; spans = c.args.self.now.spans; file = c.args.self.now.file; standing = record { macros = c.args.self.now.standing.macros; sets = c.args.self.now.standing.sets; sections = c.swap.new.y; nested = c.args.self.now.standing.nested; produced = c.args.self.now.standing.produced }; out = c.args.self.now.out; size = c.args.self.now.size }) (record { source = refl; files = refl; spans = refl; file = refl; out = refl; size = refl }) digits_of c.args.depth c.args.hash c.args.next name f inner (search rules) (let none : c.swap.new.y ≡ [] = search (rules, c.swap.ensures, c.new-outer.ensures) in ap (λ x. standing c.args.self.now.standing.macros (reverse x) c.args.self.now.standing.produced) none) refl c.read_file.new.self c.in_err-read_file.field-0.0 (c.in_err-read_file.ensures.reads inner e first))
 
 pub read_header-returns-clause-steps : goal.read_header-returns-clause-steps
 read_header-returns-clause-steps d c = λ f inner name at e first.
     header-read c.args.self.now (record { alloc = c.args.self.now.alloc; source = c.args.self.now.source; files = c.args.self.now.files; spans = c.args.self.now.spans; file = c.args.self.now.file; standing = record { macros = c.args.self.now.standing.macros; sets = c.args.self.now.standing.sets; sections = c.swap.new.y; nested = c.args.self.now.standing.nested; produced = c.args.self.now.standing.produced }; out = c.args.self.now.out; size = c.args.self.now.size }) (record { source = refl; files = refl; spans = refl; file = refl; out = refl; size = refl }) digits_of c.args.depth c.args.hash c.args.next name f inner (search rules) (let none : c.swap.new.y ≡ [] = search (rules, c.swap.ensures, c.new-outer.ensures) in ap (λ x. standing c.args.self.now.standing.macros (reverse x) c.args.self.now.standing.produced) none) refl c.read_file.new.self (record { alloc = c.read_file.new.self.alloc; source = c.read_file.new.self.source; files = c.read_file.new.self.files; spans = c.read_file.new.self.spans; file = c.args.self.now.file; standing = record { macros = c.read_file.new.self.standing.macros; sets = c.read_file.new.self.standing.sets; sections = c.swap.new.x; nested = c.read_file.new.self.standing.nested; produced = c.read_file.new.self.standing.produced }; out = c.read_file.new.self.out; size = c.read_file.new.self.size })
-      (tt {0}) (c.in_ok-read_file.ensures.reads inner e first) refl refl refl refl
-      (let back : c.swap.new.x ≡ c.args.self.now.standing.sections = search (rules, c.swap.ensures) in ap (λ x. standing c.read_file.new.self.standing.macros (reverse x) c.read_file.new.self.standing.produced) back) refl
+    (tt {0}) (c.in_ok-read_file.ensures.reads inner e first) refl refl refl refl
+    (let back : c.swap.new.x ≡ c.args.self.now.standing.sections = search (rules, c.swap.ensures) in ap (λ x. standing c.read_file.new.self.standing.macros (reverse x) c.read_file.new.self.standing.produced) back) refl
 
 -- ---- a line
 

@@ -17,4 +17,4 @@ returns-in_default-rest-clause-steps c =
 pub returns-clause-steps : goal.returns-clause-steps
 returns-clause-steps c =
     word-obeyed c.args.self.now _ (record { source = refl; files = refl; spans = refl; file = refl; out = refl; size = refl }) digits_of c.args.hash c.args.name.now c.args.tokens.now _ (take (length c.args.tokens.now - 1) (drop 1 c.args.tokens.now)) (behind-first c.args.tokens.now) c.in-len1-up.len_at_least c.if-first-ne1.false _ (behind-first (take (length c.args.tokens.now - 1) (drop 1 c.args.tokens.now))) c.in-len1-up-rest.len_at_least
-      c.obey.result (search (rules, c.obey.ensures.obeys, c.digits.ensures)) c.obey.ensures.kept
+    c.obey.result (search (rules, c.obey.ensures.obeys, c.digits.ensures)) c.obey.ensures.kept
