@@ -19,13 +19,15 @@ use Rattle.pw_law_session.specs.FromBuildLaws.Complete.{CanBeBuilt}
 use Rattle.pw_law_session.specs.Full.{SessionBuildsInFull}
 use Rattle.pw_top.specs.Rest.{LeavesRest}
 use Rattle.pw_top.specs.Whole.{BenchesFull, ComesInFull, IfMade, ReportsFull, RunsFull}
+use Rattle.pw_commands_cpp.specs.Command.{cpp_puts}
 use Rattle.pw_commands_phases.specs.First.{phase_line, phase_one_puts}
 use Rattle.pw_commands_phases.specs.Second.{phase_two_puts}
 use Rattle.pw_top_words.specs.declared.commands.Command.{Command}
-use Rattle.pw_top_words.specs.declared.commands.Command.TheVariants.{Go, Build, Session, PhaseOne, Analyse, PhaseTwo, Link, Run, List as ListImage, Db, Bench, Where}
+use Rattle.pw_top_words.specs.declared.commands.Command.TheVariants.{Go, Build, Session, PhaseOne, Analyse, PhaseTwo, Link, Run, List as ListImage, Db, Bench, Where, Preprocess}
 
 -- the command is a phase of separate compiling, the analysis or the link
 abbrev pub is_phase : Command → Bool
+is_phase (Preprocess name) = true
 is_phase (PhaseOne name) = true
 is_phase (Analyse colours) = true
 is_phase (PhaseTwo name) = true
@@ -54,6 +56,7 @@ OnlyReads (Some (Go opts)) = ⊥
 OnlyReads (Some (Build opts)) = ⊥
 OnlyReads (Some (Where k opts)) = ⊥
 OnlyReads (Some (Session opts)) = ⊥
+OnlyReads (Some (Preprocess name)) = ⊥
 OnlyReads (Some (PhaseOne name)) = ⊥
 OnlyReads (Some (Analyse colours)) = ⊥
 OnlyReads (Some (PhaseTwo name)) = ⊥
@@ -62,6 +65,7 @@ OnlyReads _ = Unit {0}
 
 -- the names of the files that a command puts, where they are known from its words
 abbrev pub files_put : Option Command → List (List ℕ)
+files_put (Some (Preprocess name)) = cpp_puts name
 files_put (Some (PhaseOne name)) = phase_one_puts name
 files_put (Some (Analyse colours)) = database_name ∷ []
 files_put (Some (PhaseTwo name)) = phase_two_puts name

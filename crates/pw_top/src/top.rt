@@ -13,6 +13,7 @@ ghost use Rattle.pw_top_words.specs.CommandLine.{command_of};
 ghost use Rattle.pw_top_words.specs.Limits.{IsWithin};
 
 use pw_commands::{analyse_modules, link_modules, list_image, run_image, show_database};
+use pw_commands_cpp::preprocess_module;
 use pw_commands_phases::{compile_flow, compile_text};
 use pw_commands_where::show_call;
 use pw_go::go;
@@ -37,6 +38,10 @@ fn obey_phase<S: Store>(alloc: Global, command: &Command, store: &mut S) -> Repl
 {
     genuine_files_keep_genuine();
     match command {
+        Command::Preprocess(name) => Reply {
+            answer: preprocess_module(alloc, store, name),
+            line: 1,
+        },
         Command::PhaseOne(name) => compile_text(alloc, store, name),
         Command::Analyse { colours } => Reply {
             answer: analyse_modules(alloc, store, *colours),
@@ -123,7 +128,8 @@ fn obey<S: Store, I: Source, O: Sink>(
     ensures obeys { CarriesOut (Some command.now) result.answer result.line (outside_of (S.told store.old) (I.rest input.old) (O.taken out.old) (S.faults store.old) (I.faults input.old) (O.faults out.old)) (outside_of (S.told store.new) (I.rest input.new) (O.taken out.new) (S.faults store.new) (I.faults input.new) (O.faults out.new)) }
 {
     match command {
-        Command::PhaseOne(_)
+        Command::Preprocess(_)
+        | Command::PhaseOne(_)
         | Command::Analyse { .. }
         | Command::PhaseTwo(_)
         | Command::Link { .. } => obey_phase(alloc, command, store),

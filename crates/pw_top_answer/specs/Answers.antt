@@ -1,6 +1,10 @@
 -- The status and the line of each answer.
 use Rattle.std.specs.Prelude.{Bool, ℕ, List, [], ◌++◌, codes, false, true, Option, Some, None}
 use Rattle.std.specs.Fmt.{decimal}
+use Rattle.pw_cpp.specs.declared.fault.CppKind.{CppKind}
+use Rattle.pw_cpp.specs.declared.fault.CppKind.TheVariants as cpp
+use Rattle.pw_cpp.specs.declared.fault.CppWhich.{CppWhich}
+use Rattle.pw_cpp.specs.declared.fault.CppWhich.TheVariants as limit
 use Rattle.pw_machine.specs.declared.ends.Halt.{Halt}
 use Rattle.pw_machine.specs.declared.ends.Halt.TheVariants.{Illegal, Unaligned, OutOfMemoryRange, TextWrite, BadBranch, BadBreak}
 use Rattle.pw_token.specs.declared.token.Feature.{Feature}
@@ -22,7 +26,7 @@ use Rattle.pw_value.specs.declared.fault.What.{What}
 use Rattle.pw_value.specs.declared.fault.What.TheVariants.{Modules, TextBytes, Functions, Globals}
 use Rattle.pw_store_modules.specs.FileNames.{text_name}
 use Rattle.pw_top_answer.specs.declared.answer.Answer.{Answer}
-use Rattle.pw_top_answer.specs.declared.answer.Answer.TheVariants.{Done, Ended, Usage, Refused, LinkRefused, StackStop, Spent, Halted, ReadFault, WriteFault, StoreFault, NoMemory, BadFile, BadScript, NoFrames}
+use Rattle.pw_top_answer.specs.declared.answer.Answer.TheVariants.{Done, Ended, Usage, Refused, LinkRefused, StackStop, Spent, Halted, ReadFault, WriteFault, StoreFault, NoMemory, BadFile, BadScript, NoFrames, RefusedSource, Cpp}
 
 -- the status with which the process ends
 abbrev pub status_of : Answer → ℕ
@@ -30,6 +34,8 @@ status_of Done = 0
 status_of (Ended status) = status
 status_of Usage = 112
 status_of (Refused name refusal) = 113
+status_of (RefusedSource name refusal) = 113
+status_of (Cpp fault) = 113
 status_of (LinkRefused fault) = 114
 status_of StackStop = 115
 status_of Spent = 116
@@ -99,6 +105,24 @@ refusal_text (Lex fault) = lex_text fault
 refusal_text (Parse fault) = parse_text fault
 refusal_text (Unsupported token feature) = codes "Unsupported " ++ feature_name feature ++ codes " at token " ++ decimal token
 
+abbrev pub limit_name : CppWhich → List ℕ
+limit_name limit.Depth = codes "Depth"
+limit_name limit.Macros = codes "Macros"
+limit_name limit.Parameters = codes "Parameters"
+limit_name limit.Produced = codes "Produced"
+limit_name limit.Length = codes "Length"
+
+-- what the preprocessor finds wrong, with the header that is missing, or the limit and the first number that passes it
+abbrev pub cpp_text : CppKind → List ℕ
+cpp_text cpp.Lex = codes "Lex"
+cpp_text cpp.Directive = codes "Directive"
+cpp_text cpp.Macro = codes "Macro"
+cpp_text cpp.Condition = codes "Condition"
+cpp_text (cpp.Include name) = codes "Include " ++ name
+cpp_text cpp.Error = codes "Error"
+cpp_text (cpp.Limit which number) = codes "Limit " ++ limit_name which ++ codes " " ++ decimal number
+cpp_text cpp.NoMemory = codes "NoMemory"
+
 abbrev pub what_name : What → List ℕ
 what_name Modules = codes "Modules"
 what_name TextBytes = codes "TextBytes"
@@ -140,12 +164,18 @@ abbrev pub at_line : Option ℕ → List ℕ
 at_line None = []
 at_line (Some line) = codes ":" ++ decimal line
 
+-- the file of a module's C source
+abbrev pub source_file : List ℕ → List ℕ
+source_file name = name ++ codes ".c"
+
 -- The line of an answer, where a refused module is refused on this line of its text. A command that is done and a run that ended have none.
 abbrev pub line_text : Option ℕ → Answer → List ℕ
 line_text line Done = []
 line_text line (Ended status) = []
 line_text line Usage = codes "usage" ++ newline
 line_text line (Refused name refusal) = text_name name ++ at_line line ++ codes ": " ++ refusal_text refusal ++ newline
+line_text line (RefusedSource name refusal) = source_file name ++ at_line line ++ codes ": " ++ refusal_text refusal ++ newline
+line_text line (Cpp fault) = fault.file ++ codes ":" ++ decimal fault.line ++ codes ": Cpp " ++ cpp_text fault.kind ++ newline
 line_text line (LinkRefused fault) = codes "link: " ++ link_text fault ++ newline
 line_text line StackStop = codes "StackStop" ++ newline
 line_text line Spent = codes "Spent" ++ newline
@@ -164,6 +194,8 @@ NeedsMemory Done = ⊥
 NeedsMemory (Ended status) = ⊥
 NeedsMemory Usage = ⊥
 NeedsMemory (Refused name refusal) = Unit {0}
+NeedsMemory (RefusedSource name refusal) = Unit {0}
+NeedsMemory (Cpp fault) = Unit {0}
 NeedsMemory (LinkRefused fault) = Unit {0}
 NeedsMemory StackStop = ⊥
 NeedsMemory Spent = ⊥

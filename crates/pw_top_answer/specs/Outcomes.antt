@@ -9,7 +9,7 @@ use Rattle.pw_value.specs.declared.fault.What.TheVariants.{Modules}
 use Rattle.pw_store_modules.specs.declared.few.ModulesFault.{ModulesFault}
 use Rattle.pw_store_modules.specs.declared.few.ModulesFault.TheVariants as modules
 use Rattle.pw_top_answer.specs.declared.answer.Answer.{Answer}
-use Rattle.pw_top_answer.specs.declared.answer.Answer.TheVariants.{Done, Ended, Usage, Refused, LinkRefused, StackStop, Spent, Halted, ReadFault, WriteFault, StoreFault, NoMemory, BadFile, BadScript, NoFrames}
+use Rattle.pw_top_answer.specs.declared.answer.Answer.TheVariants.{Done, Ended, Usage, Refused, LinkRefused, StackStop, Spent, Halted, ReadFault, WriteFault, StoreFault, NoMemory, BadFile, BadScript, NoFrames, RefusedSource, Cpp}
 use Rattle.pw_top_answer.specs.Answers.{line_text, NeedsMemory}
 
 -- ---- what the call answers: what is wanted; a fault and want of memory may come in its place
@@ -19,6 +19,8 @@ Answers wanted Done = wanted ≡ Done
 Answers wanted (Ended status) = wanted ≡ Ended status
 Answers wanted Usage = wanted ≡ Usage
 Answers wanted (Refused name refusal) = wanted ≡ Refused name refusal
+Answers wanted (RefusedSource name refusal) = wanted ≡ RefusedSource name refusal
+Answers wanted (Cpp fault) = wanted ≡ Cpp fault
 Answers wanted (LinkRefused fault) = wanted ≡ LinkRefused fault
 Answers wanted StackStop = wanted ≡ StackStop
 Answers wanted Spent = wanted ≡ Spent
@@ -34,6 +36,8 @@ Answers wanted (NoFrames address) = wanted ≡ NoFrames address
 -- the answer refuses nothing
 abbrev pub IsNoRefusal : Answer → Type 0
 IsNoRefusal (Refused name refusal) = ⊥
+IsNoRefusal (RefusedSource name refusal) = ⊥
+IsNoRefusal (Cpp fault) = ⊥
 IsNoRefusal (LinkRefused fault) = ⊥
 IsNoRefusal (BadFile name at) = ⊥
 IsNoRefusal (BadScript at) = ⊥
@@ -48,6 +52,7 @@ RefusesAs refusal answer = Answers refusal answer
 -- the line, where the answer names a module
 abbrev pub IsLineDue : Option ℕ → Answer → Option ℕ → Type 0
 IsLineDue due (Refused name refusal) line = line ≡ due
+IsLineDue due (RefusedSource name refusal) line = line ≡ due
 IsLineDue due _ line = Unit {0}
 
 -- ---- what it puts out
@@ -136,6 +141,8 @@ TellsSome answer old new before now = (line : Option ℕ) × Tells (line_text li
 abbrev pub LeavesStreams : Answer → (input input' output output' : Option (List ℕ)) → Type 0
 LeavesStreams Usage input input' output output' = (input' ≡ input) × (output' ≡ output)
 LeavesStreams (Refused name refusal) input input' output output' = (input' ≡ input) × (output' ≡ output)
+LeavesStreams (RefusedSource name refusal) input input' output output' = (input' ≡ input) × (output' ≡ output)
+LeavesStreams (Cpp fault) input input' output output' = (input' ≡ input) × (output' ≡ output)
 LeavesStreams (LinkRefused fault) input input' output output' = (input' ≡ input) × (output' ≡ output)
 LeavesStreams (BadFile name at) input input' output output' = (input' ≡ input) × (output' ≡ output)
 LeavesStreams StoreFault input input' output output' = (input' ≡ input) × (output' ≡ output)

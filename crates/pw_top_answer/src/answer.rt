@@ -4,6 +4,7 @@ ghost use Rattle.std.specs.Prelude.{◌≡◌};
 ghost use Rattle.std.specs.Process.{exit_status};
 ghost use Rattle.pw_top_answer.specs.Answers.{is_untold, status_of};
 
+use pw_cpp::CppFault;
 use pw_front_end::Refusal;
 use pw_io::StoreError;
 use pw_machine::Halt;
@@ -23,6 +24,10 @@ pub enum Answer {
     Usage,
     /// The module of this name is refused.
     Refused(Name, Refusal),
+    /// The output that the preprocessor makes of the C source of the module of this name is refused.
+    RefusedSource(Name, Refusal),
+    /// The preprocessor refuses a file.
+    Cpp(CppFault),
     /// The modules are refused together.
     LinkRefused(LinkFault),
     /// The program stopped for want of stack.
@@ -105,7 +110,7 @@ pub fn status(answer: &Answer) -> u8
         Answer::Done => 0,
         Answer::Ended(status) => *status,
         Answer::Usage => 112,
-        Answer::Refused(_, _) => 113,
+        Answer::Refused(_, _) | Answer::RefusedSource(_, _) | Answer::Cpp(_) => 113,
         Answer::LinkRefused(_) => 114,
         Answer::StackStop => 115,
         Answer::Spent => 116,

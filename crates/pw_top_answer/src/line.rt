@@ -2,11 +2,12 @@
 
 ghost use Rattle.std.specs.Prelude.{◌≡◌, IfOk, OnOk, OnErr, ◌++◌, ◌<◌, ◌^◌, codes};
 ghost use Rattle.std.specs.Fmt.{decimal};
-ghost use Rattle.pw_top_answer.specs.Answers.{feature_name, what_name, which_name, kind_text, bad_file_text, halt_name, lex_text, link_text, parse_text, refusal_text, line_text, at_line, NeedsMemory};
+ghost use Rattle.pw_top_answer.specs.Answers.{feature_name, what_name, which_name, limit_name, kind_text, cpp_text, bad_file_text, halt_name, lex_text, link_text, parse_text, refusal_text, line_text, at_line, NeedsMemory};
 ghost use Rattle.pw_top_answer.specs.Lines.{line_bytes};
 
 use crate::answer::Answer;
 use pw_check_walk::{CheckKind, Which};
+use pw_cpp::{CppFault, CppKind, CppWhich};
 use pw_front_end::{ParseFault, Refusal};
 use pw_machine::Halt;
 use pw_store_modules::TEXT_ENDING;
@@ -51,6 +52,18 @@ fn which_name(which: Which) -> &'static [u8]
         Which::Room => b"Room",
         Which::TypeDepth => b"TypeDepth",
         Which::Parameters => b"Parameters",
+    }
+}
+
+fn limit_name(which: CppWhich) -> &'static [u8]
+    ensures { result.now ≡ limit_name which }
+{
+    match which {
+        CppWhich::Depth => b"Depth",
+        CppWhich::Macros => b"Macros",
+        CppWhich::Parameters => b"Parameters",
+        CppWhich::Produced => b"Produced",
+        CppWhich::Length => b"Length",
     }
 }
 
@@ -234,6 +247,25 @@ fn push_line(text: &mut Vec<u8>, line: Option<usize>) -> Result<(), AllocError>
     Ok(())
 }
 
+/// The line of a text of a module, of this ending, that is refused, on its line `line`.
+fn refused_text(
+    alloc: Global,
+    name: &Name,
+    ending: &str,
+    refusal: &Refusal,
+    line: Option<usize>,
+) -> Result<Vec<u8>, AllocError>
+    ensures { IfOk result (λ text. text.items ≡ name.now ++ ending.now ++ at_line line ++ codes ": " ++ refusal_text refusal.now ++ codes "\n") }
+{
+    let mut text = Vec::from_slice(alloc, name.as_bytes())?;
+    text.extend_from_slice(ending.as_bytes())?;
+    push_line(&mut text, line)?;
+    text.extend_from_slice(b": ")?;
+    push_refusal(&mut text, refusal)?;
+    text.extend_from_slice(b"\n")?;
+    Ok(text)
+}
+
 /// The line of a module that is refused, on line `line` of its text.
 fn refused_line(
     alloc: Global,
@@ -243,11 +275,55 @@ fn refused_line(
 ) -> Result<Vec<u8>, AllocError>
     ensures { IfOk result (λ text. text.items ≡ line_text line (Answer.Refused name.now refusal.now)) }
 {
-    let mut text = Vec::from_slice(alloc, name.as_bytes())?;
-    text.extend_from_slice(TEXT_ENDING.as_bytes())?;
-    push_line(&mut text, line)?;
-    text.extend_from_slice(b": ")?;
-    push_refusal(&mut text, refusal)?;
+    refused_text(alloc, name, TEXT_ENDING, refusal, line)
+}
+
+/// The line of a module whose C source's output is refused, on line `line` of that output.
+fn refused_source_line(
+    alloc: Global,
+    name: &Name,
+    refusal: &Refusal,
+    line: Option<usize>,
+) -> Result<Vec<u8>, AllocError>
+    ensures { IfOk result (λ text. text.items ≡ line_text line (Answer.RefusedSource name.now refusal.now)) }
+{
+    refused_text(alloc, name, ".c", refusal, line)
+}
+
+/// Puts behind a text what the preprocessor finds wrong.
+fn push_cpp_kind(text: &mut Vec<u8>, kind: &CppKind) -> Result<(), AllocError>
+    ensures { OnOk result (text.new.items ≡ text.old.items ++ cpp_text kind.now) }
+{
+    match kind {
+        CppKind::Lex => text.extend_from_slice(b"Lex")?,
+        CppKind::Directive => text.extend_from_slice(b"Directive")?,
+        CppKind::Macro => text.extend_from_slice(b"Macro")?,
+        CppKind::Condition => text.extend_from_slice(b"Condition")?,
+        CppKind::Include(name) => {
+            text.extend_from_slice(b"Include ")?;
+            text.extend_from_slice(name.as_bytes())?;
+        }
+        CppKind::Error => text.extend_from_slice(b"Error")?,
+        CppKind::Limit(which, number) => {
+            text.extend_from_slice(b"Limit ")?;
+            text.extend_from_slice(limit_name(*which))?;
+            text.extend_from_slice(b" ")?;
+            push_decimal(text, *number)?;
+        }
+        CppKind::NoMemory => text.extend_from_slice(b"NoMemory")?,
+    }
+    Ok(())
+}
+
+/// The line of a file that the preprocessor refuses.
+fn cpp_line(alloc: Global, fault: &CppFault) -> Result<Vec<u8>, AllocError>
+    ensures { IfOk result (λ text. text.items ≡ fault.now.file ++ codes ":" ++ decimal fault.now.line ++ codes ": Cpp " ++ cpp_text fault.now.kind ++ codes "\n") }
+{
+    let mut text = Vec::from_slice(alloc, fault.file.as_bytes())?;
+    text.extend_from_slice(b":")?;
+    push_decimal(&mut text, fault.line)?;
+    text.extend_from_slice(b": Cpp ")?;
+    push_cpp_kind(&mut text, &fault.kind)?;
     text.extend_from_slice(b"\n")?;
     Ok(text)
 }
@@ -337,6 +413,10 @@ pub fn line_of(alloc: Global, answer: &Answer, line: Option<usize>) -> Result<Li
 {
     match answer {
         Answer::Refused(name, refusal) => Ok(Line::Made(refused_line(alloc, name, refusal, line)?)),
+        Answer::RefusedSource(name, refusal) => {
+            Ok(Line::Made(refused_source_line(alloc, name, refusal, line)?))
+        }
+        Answer::Cpp(fault) => Ok(Line::Made(cpp_line(alloc, fault)?)),
         Answer::LinkRefused(fault) => Ok(Line::Made(link_refused_line(alloc, fault)?)),
         Answer::Halted(halt, at) => Ok(Line::Made(halted_line(alloc, *halt, *at)?)),
         Answer::BadFile(name, at) => Ok(Line::Made(bad_file_line(alloc, name, *at)?)),

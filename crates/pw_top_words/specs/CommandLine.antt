@@ -11,7 +11,7 @@ use Rattle.pw_build_opts.specs.declared.opts.RunOpts.{RunOpts}
 use Rattle.pw_top_words.specs.declared.fault.WordsFault.{WordsFault}
 use Rattle.pw_top_words.specs.declared.fault.WordsFault.TheVariants.{Usage, NoMemory}
 use Rattle.pw_top_words.specs.declared.commands.Command.{Command}
-use Rattle.pw_top_words.specs.declared.commands.Command.TheVariants.{Go, Build, Session, PhaseOne, Analyse, PhaseTwo, Link, Run, List as ListImage, Db, Bench, Where}
+use Rattle.pw_top_words.specs.declared.commands.Command.TheVariants.{Go, Build, Session, PhaseOne, Analyse, PhaseTwo, Link, Run, List as ListImage, Db, Bench, Where, Preprocess}
 use Rattle.pw_db.specs.Limits.{colour_limit}
 
 abbrev pub Text : Type 0
@@ -207,6 +207,9 @@ build_of words = option_and_then (with_build Build) (parts_of (colours ∷ stack
 abbrev pub session_of : List Text → Option Command
 session_of words = option_and_then (with_run Session) (parts_of (colours ∷ stack ∷ steps ∷ []) 0 words)
 
+abbrev pub preprocess_of : List Text → Option Command
+preprocess_of words = option_and_then (λ parts. option_map Preprocess (module_in parts)) (parts_of [] 1 words)
+
 abbrev pub phase_one_of : List Text → Option Command
 phase_one_of words = option_and_then (λ parts. option_map PhaseOne (module_in parts)) (parts_of [] 1 words)
 
@@ -242,6 +245,7 @@ command_by_name name words =
     if bytes_eq name (codes "go") then go_of words else
     if bytes_eq name (codes "build") then build_of words else
     if bytes_eq name (codes "session") then session_of words else
+    if bytes_eq name (codes "cpp") then preprocess_of words else
     if bytes_eq name (codes "phase1") then phase_one_of words else
     if bytes_eq name (codes "analyse") then analyse_of words else
     if bytes_eq name (codes "phase2") then phase_two_of words else

@@ -4,7 +4,7 @@ use Rattle.pw_value.specs.Limits.{stack_least, stack_limit}
 use Rattle.pw_store_modules.specs.Modules.{is_module_name}
 use Rattle.pw_build_opts.specs.declared.opts.Opts.{Opts}
 use Rattle.pw_top_words.specs.declared.commands.Command.{Command}
-use Rattle.pw_top_words.specs.declared.commands.Command.TheVariants.{Go, Build, Session, PhaseOne, Analyse, PhaseTwo, Link, Run, List as ListImage, Db, Bench, Where}
+use Rattle.pw_top_words.specs.declared.commands.Command.TheVariants.{Go, Build, Session, PhaseOne, Analyse, PhaseTwo, Link, Run, List as ListImage, Db, Bench, Where, Preprocess}
 use Rattle.pw_db.specs.Limits.{colour_limit}
 
 -- the bytes of a stack
@@ -20,6 +20,7 @@ abbrev pub IsWithin : Command → Type 0
 IsWithin (Go opts) = AreWithin opts.build
 IsWithin (Build opts) = AreWithin opts
 IsWithin (Session opts) = AreWithin opts.build
+IsWithin (Preprocess name) = is_module_name name ≡ true
 IsWithin (PhaseOne name) = is_module_name name ≡ true
 IsWithin (Analyse colours) = colours ≤ colour_limit
 IsWithin (PhaseTwo name) = is_module_name name ≡ true

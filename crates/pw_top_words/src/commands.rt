@@ -16,6 +16,8 @@ pub enum Command {
     Build(Opts),
     /// A script of edits, builds and runs.
     Session(RunOpts),
+    /// The text of a C module, preprocessed.
+    Preprocess(Name),
     /// The first phase of a module.
     PhaseOne(Name),
     /// The analysis of all modules.

@@ -2,7 +2,7 @@
 
 ghost use Rattle.std.specs.Prelude.{◌≡◌, ◌≢◌, ◌≤◌, ℕ, List, None, Err, IfErr, IfOk, drop, map, string_bytes, codes, option_map, option_and_then, Option};
 ghost use Rattle.clap.specs.Matches.{first_value, found_of};
-ghost use Rattle.pw_top_words.specs.CommandLine.{Part, Reads, colours_in, command_of, go_of, command_by_name, module_in, number_or, parts_of, seed_in, stack_in, steps_in, with_build, with_run, build_of, session_of, bench_of, phase_one_of, phase_two_of, analyse_of, link_of, run_of, list_of, db_of, where_of, call_in, call_limit, digits_limit, usual_stack, steps_limit, seed_limit, usual_steps};
+ghost use Rattle.pw_top_words.specs.CommandLine.{Part, Reads, colours_in, command_of, go_of, command_by_name, module_in, number_or, parts_of, seed_in, stack_in, steps_in, with_build, with_run, build_of, session_of, bench_of, phase_one_of, phase_two_of, analyse_of, link_of, run_of, list_of, db_of, where_of, call_in, call_limit, digits_limit, usual_stack, steps_limit, seed_limit, usual_steps, preprocess_of};
 ghost use Rattle.pw_top_words.specs.Reading.{IsMatchOf};
 
 use crate::commands::Command;
@@ -197,6 +197,13 @@ fn session(alloc: Global, words: &[String]) -> Result<Command, WordsFault>
     }))
 }
 
+fn preprocess(alloc: Global, words: &[String]) -> Result<Command, WordsFault>
+    ensures { Reads (preprocess_of (drop 1 (map string_bytes words.now))) result }
+{
+    let matches = read_parts(alloc, words, &[], true)?;
+    Ok(Command::Preprocess(module(alloc, &matches)?))
+}
+
 fn phase_one(alloc: Global, words: &[String]) -> Result<Command, WordsFault>
     ensures { Reads (phase_one_of (drop 1 (map string_bytes words.now))) result }
 {
@@ -293,6 +300,7 @@ fn command_named(alloc: Global, name: &str, words: &[String]) -> Result<Command,
         "go" => go(alloc, words),
         "build" => build(alloc, words),
         "session" => session(alloc, words),
+        "cpp" => preprocess(alloc, words),
         "phase1" => phase_one(alloc, words),
         "analyse" => analyse(alloc, words),
         "phase2" => phase_two(alloc, words),

@@ -1,0 +1,62 @@
+//! The headers of a store.
+
+ghost use Rattle.std.specs.Prelude.{◌≡◌, ◌++◌, IfOk, IfSome, OnOk, option_to_list, string_bytes};
+ghost use Rattle.pw_io.specs.Faults.{HasStoreCause};
+ghost use Rattle.pw_io.specs.Files.{Keeps};
+ghost use Rattle.pw_store_texts.specs.Headers.{header_in, headers_of};
+ghost use Rattle.pw_cpp.specs.Answers.{texts_of};
+
+use pw_cpp::is_header;
+use pw_io::{Store, StoreError};
+use pw_token::TEXT_LIMIT;
+use pw_value::Name;
+use std::alloc::Global;
+
+/// The greatest count of bytes that is read of a file: one more than a text may have.
+pub const TEXT_READ: usize = TEXT_LIMIT + 1;
+
+/// Puts a header with its text behind others, where a file is one. A file that is gone is left out.
+fn add_header<S: Store>(
+    alloc: Global,
+    store: &mut S,
+    headers: &mut Vec<(Name, Vec<u8>)>,
+    file: &str,
+) -> Result<(), StoreError>
+    ensures read { IfSome (S.told store.old) (λ told. OnOk result (texts_of headers.new.items ≡ texts_of headers.old.items ++ option_to_list (header_in told.files file.now))) }
+    ensures same { Keeps (S.told store.old) (S.told store.new) }
+    ensures cause { HasStoreCause (S.faults store.old) (S.faults store.new) result }
+{
+    if !is_header(file.as_bytes()) {
+        return Ok(());
+    }
+    let Some(text) = store.get(alloc, file, TEXT_READ)? else {
+        return Ok(());
+    };
+    let name = match Name::lawful(alloc, file.as_bytes()) {
+        Ok(name) => name,
+        Err(_) => return Err(StoreError::NoMemory),
+    };
+    match headers.push((name, text)) {
+        Ok(()) => Ok(()),
+        Err(_) => Err(StoreError::NoMemory),
+    }
+}
+
+/// The headers of a store in the byte order of their names, behind other files, each text up to one byte more than a text may have. The
+/// store stays as it is.
+pub fn read_headers<S: Store>(
+    alloc: Global,
+    store: &mut S,
+    files: Vec<(Name, Vec<u8>)>,
+) -> Result<Vec<(Name, Vec<u8>)>, StoreError>
+    ensures read { IfSome (S.told store.old) (λ told. IfOk result (λ all. texts_of all.items ≡ texts_of files.items ++ headers_of told.files)) }
+    ensures same { Keeps (S.told store.old) (S.told store.new) }
+    ensures cause { HasStoreCause (S.faults store.old) (S.faults store.new) result }
+{
+    let names = store.names(alloc)?;
+    let mut all = files;
+    for name in &names {
+        add_header(alloc, store, &mut all, name.as_str())?;
+    }
+    Ok(all)
+}
