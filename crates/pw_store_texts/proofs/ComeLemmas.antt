@@ -1,5 +1,5 @@
 -- What C sources come to, one after another, and that it is one thing.
-use Rattle.std.proofs.Common.{◌≡◌, ℕ, List, [], ◌∷◌, ◌++◌, refl, sym, ap, ◌∙◌, subst, append_assoc}
+use Rattle.std.proofs.Common.{◌≡◌, ℕ, List, [], ◌∷◌, ◌++◌, refl, sym, ap, ◌∙◌, subst, append_assoc, append-nil}
 use Rattle.pw_cpp.specs.Answers.{PreprocessesFile}
 use Rattle.pw_cpp_sources.specs.Sources.{Texts}
 use Rattle.pw_store_texts.specs.Names.{source_name}
@@ -16,6 +16,13 @@ come-more headers sources left rest all new name text output e comes is inv outp
     let Q : Outputs → Type 0 = λ x. AllCome headers sources x in
     subst Q (sym (append_assoc all ((name, output) ∷ []) outputs) ∙ ap (λ x. x ++ outputs) (sym is))
     (inv ((name, output) ∷ outputs) (subst P (sym e) (seen.more name text output rest outputs comes h)))
+
+-- none is left
+pub come-all : (headers sources left : Texts) (all : Outputs) → left ≡ [] → ((outputs : Outputs) → AllCome headers left outputs → AllCome headers sources (all ++ outputs)) → AllCome headers sources all
+come-all headers sources left all e inv =
+    let P : Texts → Type 0 = λ x. AllCome headers x [] in
+    let Q : Outputs → Type 0 = λ x. AllCome headers sources x in
+    subst Q (append-nil all) (inv [] (subst P (sym e) seen.none))
 
 abbrev pub HaveOne : Type 0
 HaveOne = (files : Texts) (name : List ℕ) (answer other : Output) → PreprocessesFile files name answer → PreprocessesFile files name other → answer ≡ other

@@ -73,7 +73,7 @@ fn sources_among<S: Store>(
 }
 
 /// What comes of a C source among headers, which stay as they are.
-fn compiled(
+fn compile_source(
     alloc: Global,
     headers: &mut Vec<(Name, Vec<u8>)>,
     source: &Source,
@@ -82,24 +82,23 @@ fn compiled(
     ensures comes { IfOk result (λ made. ComesBy (texts_of headers.old.items) source.now.name source.now.text.items (output_of made.output)) }
     ensures same { OnOk result (headers.new.items ≡ headers.old.items) }
 {
-    let own = source.text.clone()?;
+    let own = Vec::from_slice(alloc, source.text.as_slice())?;
     let output = preprocess_source(alloc, headers, &source.name, own)?;
     let name = source.name.copy(alloc)?;
     Ok(Compiled { name, output })
 }
 
 /// What comes of C sources among headers, in their order.
-fn all_compiled(
+fn compile_all(
     alloc: Global,
-    headers: Vec<(Name, Vec<u8>)>,
+    headers: &mut Vec<(Name, Vec<u8>)>,
     sources: &[Source],
 ) -> Result<Vec<Compiled>, AllocError>
-    ensures { IfOk result (λ all. AllCome (texts_of headers.items) (map named_text sources.now) (map outcome all.items)) }
+    ensures { IfOk result (λ all. AllCome (texts_of headers.old.items) (map named_text sources.now) (map outcome all.items)) }
 {
-    let mut headers = headers;
     let mut all = Vec::new(alloc);
     for source in sources {
-        all.push(compiled(alloc, &mut headers, source)?)?;
+        all.push(compile_source(alloc, headers, source)?)?;
     }
     Ok(all)
 }
@@ -116,6 +115,6 @@ pub fn compile_sources<S: Store>(
 {
     let names = store.names(alloc)?;
     let sources = sources_among(alloc, store, &names)?;
-    let headers = headers_among(alloc, store, &names)?;
-    Ok(all_compiled(alloc, headers, &sources)?)
+    let mut headers = headers_among(alloc, store, &names)?;
+    Ok(compile_all(alloc, &mut headers, &sources)?)
 }

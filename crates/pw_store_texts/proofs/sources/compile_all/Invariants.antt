@@ -2,7 +2,7 @@ use Rattle.std.proofs.Common.{◌≡◌, ◌++◌, drop, map}
 use Rattle.pw_cpp_sources.specs.Sources.{texts_of}
 use Rattle.pw_store_texts.specs.Seen.{AllCome, Outputs, outcome}
 use Rattle.pw_store_texts.specs.Views.{named_text}
-use Rattle.pw_store_texts.proofs.sources.all_compiled.Given as goal
+use Rattle.pw_store_texts.proofs.sources.compile_all.Given as goal
 
 -- whatever comes of the sources that are left, comes behind what came so far; the headers are as they were
 abbrev pub invariant-loop-source : goal.invariant-loop-source
