@@ -1,4 +1,4 @@
-use Rattle.std.proofs.Common.{◌≡◌, ℕ, List, [], ◌∷◌, ◌++◌, map, ap, arith, subst, ◌∙◌}
+use Rattle.std.proofs.Common.{◌≡◌, ℕ, ◌+◌, List, [], ◌∷◌, ◌++◌, drop, map, ap, arith, subst, ◌∙◌}
 use Rattle.std.specs.Global.{Vec}
 use Rattle.std.proofs.lemmas.List.{map-append}
 use Rattle.pw_cpp_sources.specs.Sources.{texts_of}
@@ -14,7 +14,7 @@ loop-source-preserved c =
     let next = mapped_rest named_text c.args.sources.now c.loop-source.source-index c.source-item.result (omega arith) c.source-item.is in
     let made = c.in_ok-compile_source.field-0 in
     record {
-      comes = come-more (texts_of c.args.headers.now.items) (map named_text c.args.sources.now) _ _ (map outcome c.loop-source.all.items) (map outcome c.push.new.self.items)
+      comes = come-more (texts_of c.args.headers.now.items) (map named_text c.args.sources.now) (drop c.loop-source.source-index (map named_text c.args.sources.now)) (drop (c.loop-source.source-index + 1) (map named_text c.args.sources.now)) (map outcome c.loop-source.all.items) (map outcome c.push.new.self.items)
           c.source-item.result.name c.source-item.result.text.items (output_of made.output) next
           (subst (λ (hs : List (List ℕ × Vec ℕ)). ComesBy (texts_of hs) c.source-item.result.name c.source-item.result.text.items (output_of made.output)) c.loop-source.invariant.same c.in_ok-compile_source.ensures.comes)
           (ap (map outcome) c.in_ok-push.ensures.items ∙ map-append outcome c.loop-source.all.items (made ∷ []) ∙ ap (λ n. map outcome c.loop-source.all.items ++ (n, output_of made.output) ∷ []) c.in_ok-compile_source.ensures.name)
