@@ -16,7 +16,7 @@ use Rattle.pw_commands_phases.specs.First.{phase_one_puts}
 use Rattle.pw_commands_phases.specs.Second.{IsMade, IsMadeFile, PutsMade}
 use Rattle.pw_law_session.specs.FromSession.FromBuildFiles.Driving.{KeepsUnput}
 use Rattle.pw_top_words.specs.declared.commands.Command.{Command}
-use Rattle.pw_top_words.specs.declared.commands.Command.TheVariants.{Go, Build as BuildAll, Session, PhaseOne, Analyse, PhaseTwo, Link}
+use Rattle.pw_top_words.specs.declared.commands.Command.TheVariants.{Go, Build as BuildAll, Session, Where, PhaseOne, Analyse, PhaseTwo, Link}
 use Rattle.pw_law_session.specs.FromSession.Removals.{MayRemove}
 use Rattle.pw_top.specs.Commands.{KeepsTheRest, files_put}
 use Rattle.pw_top.proofs.SessionLemmas.{changes_none, rest_none}
@@ -71,6 +71,7 @@ stays_genuine names answer (Some t) (Some now) apart h =
 abbrev pub PutsNoObject : Option Command → Type 0
 PutsNoObject (Some (Go opts)) = ⊥
 PutsNoObject (Some (BuildAll opts)) = ⊥
+PutsNoObject (Some (Where k opts)) = ⊥
 PutsNoObject (Some (Session opts)) = ⊥
 PutsNoObject (Some (PhaseTwo name)) = ⊥
 PutsNoObject _ = Unit {0}
@@ -85,6 +86,7 @@ puts_apart _ h name = tt
 others_of : (command : Option Command) (script : Option (List ℕ)) (answer : Answer) (told new : Option Told) → PutsNoObject command → KeepsTheRest command script answer told new → KeepsOthers (files_put command) answer told new
 others_of (Some (Go opts)) script answer told new p h = absurd p
 others_of (Some (BuildAll opts)) script answer told new p h = absurd p
+others_of (Some (Where k opts)) script answer told new p h = absurd p
 others_of (Some (Session opts)) script answer told new p h = absurd p
 others_of command script answer told new p h = h
 
@@ -136,6 +138,8 @@ rest_alone (Some (Go opts)) script None = tt
 rest_alone (Some (Go opts)) script (Some t) = unput_alone NoMemory t
 rest_alone (Some (BuildAll opts)) script None = tt
 rest_alone (Some (BuildAll opts)) script (Some t) = unput_alone NoMemory t
+rest_alone (Some (Where k opts)) script None = tt
+rest_alone (Some (Where k opts)) script (Some t) = unput_alone NoMemory t
 rest_alone (Some (Session opts)) script None = tt
 rest_alone (Some (Session opts)) script (Some t) = (changes_none (MayRemove script) t, rest_none (MayRemove script) NoMemory t)
 rest_alone command script told = others_alone (files_put command) NoMemory told

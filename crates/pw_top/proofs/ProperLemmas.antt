@@ -10,6 +10,7 @@ use Rattle.pw_commands.specs.Showing.{IsShowAnswer}
 use Rattle.pw_commands_phases.specs.Made.{IsPhaseAnswer}
 use Rattle.pw_law_session.specs.FromSession.FromBuildFiles.Driving.{IsBuildAnswer}
 use Rattle.pw_go.specs.Going.{IsGoAnswer}
+use Rattle.pw_commands_where.specs.Showing.{IsWhereAnswer}
 use Rattle.pw_law_session.specs.FromSession.Bench.{IsBenchAnswer}
 use Rattle.pw_law_session.specs.FromSession.Outcomes.{IsSessionAnswer}
 use Rattle.pw_top.specs.Answers.{HoldsNoLinkWant, HoldsNoWantOfMemory}
@@ -27,6 +28,11 @@ pub go_proper : (answer : Answer) → IsGoAnswer answer → HoldsNoWantOfMemory 
 go_proper (Refused name refusal) h = h
 go_proper (LinkRefused fault) h = link_proper fault h
 go_proper _ h = tt
+
+pub where_proper : (answer : Answer) → IsWhereAnswer answer → HoldsNoWantOfMemory answer
+where_proper (Refused name refusal) h = h
+where_proper (LinkRefused fault) h = link_proper fault h
+where_proper _ h = tt
 
 pub bench_proper : (answer : Answer) → IsBenchAnswer answer → HoldsNoWantOfMemory answer
 bench_proper (Refused name refusal) h = h
