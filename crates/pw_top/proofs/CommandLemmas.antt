@@ -31,7 +31,8 @@ use Rattle.pw_commands.specs.Running.{IsRunOrStop, core_in, run_effect, runs}
 use Rattle.pw_commands.specs.Showing.{DatabaseEffect, IsShowAnswer, ListEffect, ListOver, Shows, database_text, image_in, printed}
 use Rattle.pw_law_session.specs.FromSession.Bench.{BenchEffect}
 use Rattle.pw_top_words.specs.declared.commands.Command.{Command}
-use Rattle.pw_top_words.specs.declared.commands.Command.TheVariants.{Go, Build as BuildAll, Session, PhaseOne, Analyse, PhaseTwo, Link, Run, List as ListImage, Db, Bench, Where}
+use Rattle.pw_top_words.specs.declared.commands.Command.TheVariants.{Go, Build as BuildAll, Session, PhaseOne, Analyse, PhaseTwo, Link, Run, List as ListImage, Db, Bench, Where, Preprocess}
+use Rattle.pw_commands_cpp.specs.Command.{CppEffect, CppOver, IsCppAnswer, effect_of, needed_source}
 use Rattle.pw_commands_phases.specs.First.{EffectOfPhase, PhaseOneEffect, PhaseOneOver}
 use Rattle.pw_commands_phases.specs.Made.{IsPhaseAnswer}
 use Rattle.pw_commands_phases.specs.Second.{PhaseTwoEffect, PhaseTwoOver, database_at, flow_at}
@@ -48,6 +49,7 @@ Comes (Some (Where k opts)) files input = WhereEffect files opts k input
 Comes (Some (BuildAll opts)) files input = BuildEffect files opts input
 Comes (Some (Session opts)) files input = λ effect. ⊥
 Comes (Some (Bench number opts)) files input = BenchEffect number opts input
+Comes (Some (Preprocess name)) files input = CppEffect files name input
 Comes (Some (PhaseOne name)) files input = PhaseOneEffect files name input
 Comes (Some (Analyse colours)) files input = AnalyseEffect files colours input
 Comes (Some (PhaseTwo name)) files input = PhaseTwoEffect files name input
@@ -77,6 +79,17 @@ link_quiet (Ok objects) stack input e h =
     (λ l. subst (Quiet input) (sym l.1.2) (record { output = refl; rest = refl }))
     h
 
+output_quiet : (name : List ℕ) (output : _) (input : List ℕ) (e : Effect) → e ≡ effect_of name output input → Quiet input e
+output_quiet name (Ok output) input e h = subst (Quiet input) (sym h) (record { output = refl; rest = refl })
+output_quiet name (Err fault) input e h = subst (Quiet input) (sym h) (record { output = refl; rest = refl })
+
+cpp_over_quiet : (headers : _) (name : List ℕ) (text : Result (List ℕ) Answer) (input : List ℕ) (e : Effect) → CppOver headers name text input e → Quiet input e
+cpp_over_quiet headers name (Err answer) input e h = quiet_answer answer input e h
+cpp_over_quiet headers name (Ok text) input e h = output_quiet name h.0 input e h.2
+
+cpp_quiet : (files : Files) (name input : List ℕ) (e : Effect) → CppEffect files name input e → Quiet input e
+cpp_quiet files name input e h = cpp_over_quiet _ name (needed_source files name) input e h
+
 phase_quiet : (name : List ℕ) (phase : Phase) (input : List ℕ) (e : Effect) → EffectOfPhase name phase input e → Quiet input e
 phase_quiet name (Err refusal) input e h = quiet_answer (Refused name refusal) input e h
 phase_quiet name (Ok flow) input e h = subst (Quiet input) (sym h.3) (record { output = refl; rest = refl })
@@ -100,6 +113,11 @@ pub phase_one_does : (told new : Option Told) (rest taken : Option (List ℕ)) (
     → IfSome told (λ t. IfSome rest (λ input. Does (PhaseOneEffect t.files name input) answer t new input rest taken taken))
 phase_one_does told new rest taken name answer h =
     store_does (λ files input. PhaseOneEffect files name input) told new rest taken answer (λ files input e d. phase_one_quiet name (needed_bytes files (text_name name)) input e d) h
+
+pub cpp_does : (told new : Option Told) (rest taken : Option (List ℕ)) (name : List ℕ) (answer : Answer) → IfSome told (λ t. (input : List ℕ) → Obeys (CppEffect t.files name input) answer t new)
+    → IfSome told (λ t. IfSome rest (λ input. Does (CppEffect t.files name input) answer t new input rest taken taken))
+cpp_does told new rest taken name answer h =
+    store_does (λ files input. CppEffect files name input) told new rest taken answer (λ files input e d. cpp_quiet files name input e d) h
 
 pub analyse_does : (told new : Option Told) (rest taken : Option (List ℕ)) (colours : ℕ) (answer : Answer) → IfSome told (λ t. (input : List ℕ) → Obeys (AnalyseEffect t.files colours input) answer t new)
     → IfSome told (λ t. IfSome rest (λ input. Does (AnalyseEffect t.files colours input) answer t new input rest taken taken))
@@ -271,6 +289,7 @@ comes_ends ends (Some (Where k opts)) files input e h = ends.looks files opts k 
 comes_ends ends (Some (BuildAll opts)) files input e h = left_all input e (comes_rest files opts input e h)
 comes_ends ends (Some (Session opts)) files input e h = absurd h
 comes_ends ends (Some (Bench number opts)) files input e h = left_all input e (bench_prints number opts input e h).rest
+comes_ends ends (Some (Preprocess name)) files input e h = left_all input e (cpp_quiet files name input e h).rest
 comes_ends ends (Some (PhaseOne name)) files input e h = left_all input e (phase_one_quiet name (needed_bytes files (text_name name)) input e h).rest
 comes_ends ends (Some (Analyse colours)) files input e h = left_all input e (analyse_quiet (summaries_of files) colours input e h).rest
 comes_ends ends (Some (PhaseTwo name)) files input e h = left_all input e (phase_two_quiet name (needed flow_at files (flow_name name)) (needed database_at files database_name) input e h).rest
@@ -307,6 +326,18 @@ store_writes count _ h = refl
 pub show_reads : (count : ℕ) (answer : Answer) → IsShowAnswer answer → InputCount count count answer
 show_reads count ReadFault h = absurd h
 show_reads count _ h = refl
+
+pub cpp_reads : (count : ℕ) (answer : Answer) → IsCppAnswer answer → InputCount count count answer
+cpp_reads count ReadFault h = absurd h
+cpp_reads count _ h = refl
+
+pub cpp_writes : (count : ℕ) (answer : Answer) → IsCppAnswer answer → OutputCount count count answer
+cpp_writes count WriteFault h = absurd h
+cpp_writes count _ h = refl
+
+pub cpp_no_usage : (answer : Answer) → IsCppAnswer answer → IsNoUsage answer
+cpp_no_usage Usage h = h
+cpp_no_usage _ h = tt
 
 pub phase_reads : (count : ℕ) (answer : Answer) → IsPhaseAnswer answer → InputCount count count answer
 phase_reads count ReadFault h = absurd h
