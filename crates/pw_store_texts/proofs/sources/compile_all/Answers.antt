@@ -1,13 +1,20 @@
-use Rattle.std.proofs.Common.{◌≡◌, ℕ, ◌+◌, List, [], ◌∷◌, ◌++◌, drop, map, ap, arith, subst, ◌∙◌}
+use Rattle.std.proofs.Common.{◌≡◌, ℕ, ◌+◌, List, [], ◌∷◌, ◌++◌, drop, map, ap, arith, refl, subst, sym, ◌∙◌}
 use Rattle.std.specs.Global.{Vec}
 use Rattle.std.proofs.lemmas.List.{map-append}
 use Rattle.pw_cpp_sources.specs.Sources.{texts_of}
 use Rattle.pw_store_modules.proofs.ModuleLemmas.{mapped_rest}
 use Rattle.pw_store_texts.specs.Outputs.{ComesBy, output_of}
-use Rattle.pw_store_texts.specs.Seen.{outcome}
+use Rattle.pw_store_texts.specs.Seen.{AllCome, outcome}
 use Rattle.pw_store_texts.specs.Views.{named_text}
-use Rattle.pw_store_texts.proofs.ComeLemmas.{come-more}
+use Rattle.pw_store_texts.specs.declared.sources.Compiled.{Compiled}
+use Rattle.pw_store_texts.proofs.ComeLemmas.{come-all, come-more, none-left}
 use Rattle.pw_store_texts.proofs.sources.compile_all.Goals as goal
+
+pub loop-source-init : goal.loop-source-init
+loop-source-init c = record {
+  comes = λ outputs h. subst (λ (all : List Compiled). AllCome (texts_of c.args.headers.now.items) (map named_text c.args.sources.now) (map outcome all ++ outputs)) (sym c.new-all.ensures.items) h;
+  same = refl;
+}
 
 pub loop-source-preserved : goal.loop-source-preserved
 loop-source-preserved c =
@@ -21,3 +28,8 @@ loop-source-preserved c =
           c.loop-source.invariant.comes;
       same = c.in_ok-compile_source.ensures.same ∙ c.loop-source.invariant.same;
     }
+
+pub returns : goal.returns
+returns c =
+    come-all (texts_of c.args.headers.now.items) (map named_text c.args.sources.now) (drop c.loop-source.source-index (map named_text c.args.sources.now)) (map outcome c.loop-source.all.items)
+    (none-left named_text c.args.sources.now c.loop-source.source-index c.loop-source-test.false) c.loop-source.invariant.comes
