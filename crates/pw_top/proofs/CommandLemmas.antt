@@ -32,6 +32,7 @@ use Rattle.pw_commands.specs.Showing.{DatabaseEffect, IsShowAnswer, ListEffect, 
 use Rattle.pw_law_session.specs.FromSession.Bench.{BenchEffect}
 use Rattle.pw_top_words.specs.declared.commands.Command.{Command}
 use Rattle.pw_top_words.specs.declared.commands.Command.TheVariants.{Go, Build as BuildAll, Session, PhaseOne, Analyse, PhaseTwo, Link, Run, List as ListImage, Db, Bench, Where, Preprocess}
+use Rattle.pw_store_texts.specs.Headers.{headers_of}
 use Rattle.pw_commands_cpp.specs.Command.{CppEffect, CppOver, IsCppAnswer, effect_of, needed_source}
 use Rattle.pw_commands_phases.specs.First.{EffectOfPhase, PhaseOneEffect, PhaseOneOver}
 use Rattle.pw_commands_phases.specs.Made.{IsPhaseAnswer}
@@ -88,7 +89,7 @@ cpp_over_quiet headers name (Err answer) input e h = quiet_answer answer input e
 cpp_over_quiet headers name (Ok text) input e h = output_quiet name h.0 input e h.2
 
 cpp_quiet : (files : Files) (name input : List ℕ) (e : Effect) → CppEffect files name input e → Quiet input e
-cpp_quiet files name input e h = cpp_over_quiet _ name (needed_source files name) input e h
+cpp_quiet files name input e h = cpp_over_quiet (headers_of files) name (needed_source files name) input e h
 
 phase_quiet : (name : List ℕ) (phase : Phase) (input : List ℕ) (e : Effect) → EffectOfPhase name phase input e → Quiet input e
 phase_quiet name (Err refusal) input e h = quiet_answer (Refused name refusal) input e h
