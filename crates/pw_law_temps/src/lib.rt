@@ -1,4 +1,4 @@
-//! Laws of temporaries in registers, without code: the places that allocation gives in its second form serve.
+//! Laws of temporaries in registers, without code: the places that allocation gives in its third form serve.
 #![tactic(auto)]
 
 pub mod laws;
