@@ -9,7 +9,7 @@ use Rattle.pw_db.specs.Limits.{first_register, last_register, last_temporary, re
 use Rattle.pw_db.specs.declared.database.Web.{Web}
 use Rattle.pw_db.specs.declared.database.Role.{Role}
 use Rattle.pw_db.specs.declared.database.Role.TheVariants.{Entry, Member}
-use Rattle.pw_db.specs.Database.{IsWeb, IsDirectives}
+use Rattle.pw_db.specs.Database.{IsWeb}
 use Rattle.pw_flow.specs.declared.flow.End.{End}
 use Rattle.pw_flow.specs.Uses.{end_uses, successors}
 use Rattle.pw_flow.specs.Outline.{Act, Stretch, Outline}
@@ -30,11 +30,9 @@ use Rattle.pw_alloc_temps.specs.Registers.{changed_registers, shared, unshared, 
 use Rattle.pw_alloc_temps.specs.Temporaries.{cluster_of, registers_in, is_given, is_saved, saved_in, placed, allocated}
 use Rattle.pw_run_languages.specs.Serving as run
 use Rattle.pw_run_languages.specs.Serving.{StandsIn, Interfere, by_operation, by_start, parameters, IsHeld, IsTempRegister, IsKeptOver, slots_alone, HasWebIn, Changes, places, enters, saves, Serves}
+use Rattle.pw_law_temps.specs.Laws.{AreKept}
 use Rattle.pw_law_temps.proofs.Lists.{stands_at, listed, has_listed, not_listed, some_passes, passing, Kept, kept, stays, within, all_within, rises}
 use Rattle.pw_law_temps.proofs.Words.{each_placed, register_at, register_back, register_there, nones, word_at, nones_rise, one_number, alone, counted}
-
-nowhere : {X : Type 0} (x : X) → Contains [] x → ⊥
-nowhere x c = let h : c.0 < 0 = c.1 in omega (arith, h)
 
 -- ---- registers of webs that are entered
 
@@ -190,9 +188,6 @@ module _
 
     -- ---- registers
 
-    none_saved : (r : ℕ) → ¬ Contains (saves_of f.directives) r
-    none_saved r c = nowhere r c
-
     not_there : (r : ℕ) (rs : List ℕ) → not (has r rs) ≡ true → ¬ Contains rs r
     not_there r rs e c = let k = listed r rs (has_by r rs c) in let n = ap not k in cc
 
@@ -281,7 +276,7 @@ module _
     stands_saved : (r : ℕ) → first_register ≤ r → r < first_register + register_count → is_saved f (registers_in f) r ≡ true → Contains (saved_in f (registers_in f)) r
     stands_saved r low high e = contains_by r (saved_in f (registers_in f)) (stays (is_saved f (registers_in f)) r kept_registers (all_within first_register register_count r low high) e)
 
-    module _ (lawful : IsDirectives f.directives) where
+    module _ (lawful : AreKept f.directives) where
       saved_there : (l : Located) → l.places ≡ all_in f head saved → (r : ℕ) → Changes f l r → Contains (saved_in f (registers_in f)) r
       saved_there l is r (places c high owned) =
           let here = subst (λ (ps : List Place). Contains ps (Reg r)) is c in
@@ -293,15 +288,19 @@ module _
       saved_there l is r (enters w) =
           let webs = f.directives.webs in
           let there = has_by (w.web, Entry) webs w.there in
-          let web : IsWeb w.web = has_each IsWeb (map (λ w. w.0) webs) w.web lawful.each (has_map (λ (w : Web × Role). w.0) (w.web, Entry) webs there) in
+          let web : IsWeb w.web = has_each IsWeb (map (λ w. w.0) webs) w.web lawful.webs (has_map (λ (w : Web × Role). w.0) (w.web, Entry) webs there) in
           let same : w.web.reg ≡ r = w.is in
           stands_saved r (omega (arith, web.low, same)) (omega (arith, web.high, same))
           (or_left (is_entered webs r) (has r (saves_of f.directives) || (not (has r f.directives.free) && is_given (registers_in f) r)) (enters_so webs w.web r there same))
-      saved_there l is r (saves c) = absurd (none_saved r c)
+      saved_there l is r (saves c) =
+          let k = lawful.saves r c in
+          stands_saved r k.0 (omega (arith, k.1))
+          (or_right (is_entered f.directives.webs r) (has r (saves_of f.directives) || (not (has r f.directives.free) && is_given (registers_in f) r))
+          (or_left (has r (saves_of f.directives)) (not (has r f.directives.free) && is_given (registers_in f) r) (listed r (saves_of f.directives) (has_by r (saves_of f.directives) c))))
 
   -- ---- together
 
-  pub serves : (f : WebFn) → IsDirectives f.directives → Serves f (allocated f)
+  pub serves : (f : WebFn) → AreKept f.directives → Serves f (allocated f)
   unfolding allocated
   serves f lawful =
       let head = head_size f in
