@@ -1,1 +1,6 @@
 mod Registers
+mod Climbing
+mod Roots
+mod Sharing
+mod Naming
+mod Greatest

@@ -3,7 +3,7 @@ use Rattle.std.proofs.Common.{◌≡◌, ◌⊎◌, ℕ, zero, suc, ◌+◌, ◌
 use Rattle.std.specs.Prelude.{Contains, min}
 use Rattle.std.specs.List.{range_with_len}
 use Rattle.pw_files.proofs.Standing.{Has, has_by}
-use Rattle.pw_db.specs.Limits.{first_register, last_register}
+use Rattle.pw_db.specs.Limits.{first_register, last_register, colour_limit}
 use Rattle.pw_flow.specs.Outline.{Outline}
 use Rattle.pw_live.specs.Points.{points}
 use Rattle.pw_clusters.specs.Needs.{need, need_limit, most_short, changed_count}
@@ -22,6 +22,9 @@ within a (suc n) r (inr h) = let k = within (a + 1) n r h in (omega (arith, k.0)
 
 pub kept : (k r : ℕ) → k ≤ need_limit → Contains (last_registers k) r → (first_register ≤ r) × (r ≤ last_register)
 kept k r le c = let w = within (last_register + 1 - k) k r (has_by r (last_registers k) c) in (omega (arith, le, w.0), omega (arith, le, w.1))
+
+pub above_webs : (k r : ℕ) → k ≤ need_limit → Contains (last_registers k) r → first_register + colour_limit ≤ r
+above_webs k r le c = let w = within (last_register + 1 - k) k r (has_by r (last_registers k) c) in omega (arith, le, w.0)
 
 either : (b : Bool) (rs : List ℕ) → ((if b then rs else []) ≡ []) ⊎ ((if b then [] else rs) ≡ [])
 either true rs = inr refl

@@ -1,6 +1,6 @@
 -- Clusters: a root, and the functions that work for it alone, since each way of calls to them comes through it. Functions go
 -- by their places in a call graph.
-use Rattle.std.specs.Prelude.{ℕ, ◌≡◌, ◌≢◌, ◌<◌, ◌⊎◌, List, length, map, Some, slice_get, slice_index, Contains}
+use Rattle.std.specs.Prelude.{ℕ, ◌≡◌, ◌≢◌, ◌<◌, List, length, map, Some, slice_get, slice_index, Contains}
 use Rattle.std.specs.List.{flat_map}
 use Rattle.pw_value.specs.ProgramNames.{start_name}
 use Rattle.pw_summary.specs.declared.summary.Summary.{Summary}

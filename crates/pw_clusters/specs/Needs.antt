@@ -2,6 +2,7 @@
 -- call, the greatest number that is live at one point, less these two.
 use Rattle.std.specs.Prelude.{ℕ, ◌-◌, ◌&&◌, not, Bool, min, max, List, [], ◌∷◌}
 use Rattle.std.specs.List.{count_by, range_with_len}
+use Rattle.pw_db.specs.Limits.{last_register, last_temporary}
 use Rattle.pw_flow.specs.Outline.{Outline}
 use Rattle.pw_live.specs.Points.{Point, points, lives}
 use Rattle.pw_live.specs.Interference.{is_held}
@@ -12,7 +13,7 @@ need_limit = 4
 
 -- the registers that every call may change and a temporary may have
 abbrev pub changed_count : ℕ
-changed_count = 2
+changed_count = last_temporary - last_register
 
 -- a temporary that is live at a point and held over no call
 abbrev pub is_short : Outline → Point → ℕ → Bool
