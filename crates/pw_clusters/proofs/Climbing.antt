@@ -29,9 +29,9 @@ unfolding IsDistinct
 none_distinct = tt
 
 -- functions to which calls lead from f, no two of them the same
-record Trail (g : CallGraph) (f : ℕ) (trail : List ℕ) : Type 0 where
-  distinct : IsDistinct eqb trail
-  each : (q : ℕ) → list_any (eqb q) trail ≡ true → (q < length g.functions) × Path g f q
+pub record Trail (g : CallGraph) (f : ℕ) (trail : List ℕ) : Type 0 where
+  pub distinct : IsDistinct eqb trail
+  pub each : (q : ℕ) → list_any (eqb q) trail ≡ true → (q < length g.functions) × Path g f q
 
 -- what holds of each function or else the function does not come to call itself, and holds if it holds of all that call it
 pub record IsCarried (g : CallGraph) (P : ℕ → Type 0) : Type 0 where
@@ -58,13 +58,13 @@ module _ (g : CallGraph) (rows : length g.calls ≡ length g.functions) where
     | inr k ↦ on c f q calls (t.each q k).1
   ]
 
-  longer : (c f : ℕ) (trail : List ℕ) → Trail g f trail → (Path g f f → ⊥) → f < length g.functions → Calls g c f → Trail g c (f ∷ trail)
+  pub longer : (c f : ℕ) (trail : List ℕ) → Trail g f trail → (Path g f f → ⊥) → f < length g.functions → Calls g c f → Trail g c (f ∷ trail)
   longer c f trail t once lt calls = record {
     distinct = distinct_with f trail t once;
     each = λ q h. (within f trail t lt q h, leads c f trail t calls q h);
   }
 
-  full : (f : ℕ) (trail : List ℕ) → Trail g f trail → (Path g f f → ⊥) → f < length g.functions → length g.functions ≤ length trail → ⊥
+  pub full : (f : ℕ) (trail : List ℕ) → Trail g f trail → (Path g f f → ⊥) → f < length g.functions → length g.functions ≤ length trail → ⊥
   full f trail t once lt long =
       let few : length (f ∷ trail) ≤ length g.functions = length-le_from_distinct_below (f ∷ trail) (length g.functions) (distinct_with f trail t once) (within f trail t lt) in
       omega (arith, few, long)
@@ -82,5 +82,8 @@ module _ (g : CallGraph) (rows : length g.calls ≡ length g.functions) where
     | inr others ↦ k.from_callers f lt (λ c calls. climb P k more c (f ∷ trail) (longer c f trail t others lt calls) (caller_within c f calls) (omega (arith, long)))
   ]
 
+  pub nothing : (f : ℕ) → Trail g f []
+  nothing f = record { distinct = none_distinct; each = λ q h. absurd (false≢true h) }
+
   pub everywhere : (P : ℕ → Type 0) → IsCarried g P → (f : ℕ) → f < length g.functions → P f
-  everywhere P k f lt = climb P k (length g.functions) f [] (record { distinct = none_distinct; each = λ q h. absurd (false≢true h) }) lt (omega arith)
+  everywhere P k f lt = climb P k (length g.functions) f [] (nothing f) lt (omega arith)

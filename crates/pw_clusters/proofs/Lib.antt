@@ -1,6 +1,8 @@
 mod Registers
+mod Callers
 mod Climbing
 mod Roots
 mod Sharing
 mod Naming
 mod Greatest
+mod Making

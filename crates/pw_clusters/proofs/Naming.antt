@@ -1,10 +1,8 @@
 -- Roots by places are roots by names, and so are the registers that roots save.
-use Rattle.std.proofs.Common.{◌≡◌, ◌⊎◌, ℕ, zero, suc, ◌<◌, List, [], ◌∷◌, length, get_or, refl, sym, ap, subst, ◌∙◌, arith, inl, inr}
-use Rattle.std.specs.Prelude.{◌↔◌, Option, None, Some, slice_get, slice_index, Contains}
-use Rattle.std.proofs.lemmas.Bool.{cases_eq, cases_lt}
+use Rattle.std.proofs.Common.{◌≡◌, ℕ, ◌<◌, List, [], length, get_or, refl, sym, ap, subst, ◌∙◌, inl, inr}
+use Rattle.std.specs.Prelude.{◌↔◌, Some, slice_get, slice_index, Contains}
 use Rattle.std.proofs.lemmas.Option.{same_Some, slice_get-get_or, slice_get_within}
 use Rattle.pw_files.specs.Rising.{IsRising}
-use Rattle.pw_files.proofs.Standing.{Has, has_by, contains_by}
 use Rattle.pw_summary.specs.declared.summary.Summary.{Summary}
 use Rattle.pw_graph.specs.declared.graph.CallGraph.{CallGraph}
 use Rattle.pw_graph.specs.CallGraph.{Calls, Path, call, on}
@@ -19,32 +17,10 @@ use Rattle.pw_clusters.specs.Clusters.{IsDefined, IsInner, HaveRoot, AreRoots}
 use Rattle.pw_clusters.specs.Saving.{free_at}
 use Rattle.pw_clusters.specs.Sharing.{PathBelow, here, further}
 use Rattle.pw_clusters.specs.Naming.{TellsMovable, AreTold, IsSavedAboveNamed}
+use Rattle.pw_clusters.proofs.Callers.{search}
 use Rattle.pw_clusters.proofs.Climbing.{caller_within, everywhere}
 use Rattle.pw_clusters.proofs.Roots.{each_is_within}
 use Rattle.pw_clusters.proofs.Sharing.{saved_above}
-
--- ---- calls can be told
-
-neither : (x b : ℕ) (xs : List ℕ) → (x ≡ b → ⊥) → (Has b xs → ⊥) → (x ≡ b) ⊎ Has b xs → ⊥
-neither x b xs one others (inl e) = one e
-neither x b xs one others (inr h) = others h
-
-has_told : (b : ℕ) (row : List ℕ) → Has b row ⊎ (Has b row → ⊥)
-has_told b [] = inr (λ h. h)
-has_told b (x ∷ xs) = elim (cases_eq x b) [
-  | inl e ↦ inl (inl e)
-  | inr other ↦ elim (has_told b xs) [
-    | inl h ↦ inl (inr h)
-    | inr none ↦ inr (neither x b xs other none)
-  ]
-]
-
-calls_by_row : (g : CallGraph) (a b : ℕ) (o : Option (List ℕ)) → slice_get g.calls a ≡ o → Calls g a b ⊎ (Calls g a b → ⊥)
-calls_by_row g a b None e = inr (λ c. absurd (let there : None ≡ Some c.row = sym e ∙ c.at in cc))
-calls_by_row g a b (Some row) e = elim (has_told b row) [
-  | inl h ↦ inl (record { row = row; at = e; stands = contains_by b row h })
-  | inr none ↦ inr (λ c. none (has_by b row (subst (λ (r : List ℕ). Contains r b) (sym (same_Some row c.row (sym e ∙ c.at))) c.stands)))
-]
 
 module _ (ss : List Summary) (g : CallGraph) (roots : List ℕ) (n : Graph) (of : IsGraphOf ss g) (are : AreRoots ss g roots)
     (named : (a b : List ℕ) → Named.Calls n a b ↔ CallsByName g a b) (movable : TellsMovable ss n) (told : AreTold ss g) where
@@ -112,34 +88,6 @@ module _ (ss : List Summary) (g : CallGraph) (roots : List ℕ) (n : Graph) (of 
         called = caller_at k.caller f lt c;
       }
 
-  -- ---- all callers have one root, or two have two
-
-  record Other (f r : ℕ) : Type 0 where
-    caller : ℕ
-    calls : Calls g caller f
-    differs : slice_index roots caller ≡ r → ⊥
-
-  one_more : (f r m : ℕ) → ((c : ℕ) → c < m → Calls g c f → slice_index roots c ≡ r) → (Calls g m f → slice_index roots m ≡ r) → (c : ℕ) → c < suc m → Calls g c f → slice_index roots c ≡ r
-  one_more f r m all last c lt calls = elim (cases_lt c m) [
-    | inl below ↦ all c below calls
-    | inr past ↦
-        let same : m ≡ c = omega (arith, lt, past) in
-        subst (λ k. slice_index roots k ≡ r) same (last (subst (λ k. Calls g k f) (sym same) calls))
-  ]
-
-  search : (f r m : ℕ) → ((c : ℕ) → c < m → Calls g c f → slice_index roots c ≡ r) ⊎ Other f r
-  search f r zero = inl (λ c lt calls. absurd (omega (arith, lt)))
-  search f r (suc m) = elim (search f r m) [
-    | inr o ↦ inr o
-    | inl all ↦ elim (cases_eq (slice_index roots m) r) [
-      | inl e ↦ inl (one_more f r m all (λ calls. e))
-      | inr other ↦ elim (calls_by_row g m f (slice_get g.calls m) refl) [
-        | inl c ↦ inr (record { caller = m; calls = c; differs = other })
-        | inr none ↦ inl (one_more f r m all (λ calls. absurd (none calls)))
-      ]
-    ]
-  ]
-
   -- ---- roots
 
   outer_root : (f : ℕ) → f < length g.functions → (IsInner ss g f → ⊥) → RootOf n (name f) (name (slice_index roots f))
@@ -158,7 +106,7 @@ module _ (ss : List Summary) (g : CallGraph) (roots : List ℕ) (n : Graph) (of 
 
   inner_root : (f : ℕ) → f < length g.functions → IsInner ss g f → ((c : ℕ) → Calls g c f → RootOf n (name c) (name (slice_index roots c))) → RootOf n (name f) (name (slice_index roots f))
   inner_root f lt inner all =
-      elim (search f (slice_index roots inner.caller) (length g.functions)) [
+      elim (search g (slice_index roots) f (slice_index roots inner.caller) (length g.functions)) [
         | inl each ↦
             let have : HaveRoot g roots f (slice_index roots inner.caller) = λ c calls. each c (caller_within g of.call_rows c f calls) calls in
             subst (λ k. RootOf n (name f) (name k)) (sym (are.of_callers f (slice_index roots inner.caller) inner have))

@@ -47,3 +47,8 @@ pub fn members_have_what_they_need()
     ensures enough { (roots needs : List ℕ) (r f n : ℕ) → IsMember roots r f → slice_get needs f ≡ Some n → n ≤ length (free_at roots needs f) }
     ensures attained { (roots needs : List ℕ) (r : ℕ) → (need_in roots needs r ≡ 0) ⊎ IsNeed roots needs r (need_in roots needs r) }
 {}
+
+/// A call graph has an assignment of roots, where one can tell of each function whether it may work for another alone.
+pub fn roots_are_there()
+    ensures { (ss : List Summary) (g : CallGraph) → IsGraphOf ss g → AreTold ss g → (roots : List ℕ) × AreRoots ss g roots }
+{}
