@@ -54,7 +54,7 @@ module _ (ss : List Summary) (g : CallGraph) (told : AreTold ss g) (of : IsGraph
     | inl e ↦ e
     | inr differ ↦
         let none : (v : ℕ) → IsInner ss g f → ((c : ℕ) → Calls g c f → one c ≡ v) → ⊥ =
-          λ v inner have. differ (a.of_callers v inner have ∙ sym (b.of_callers v inner (λ c calls. sym (same c calls) ∙ have c calls))) in
+        λ v inner have. differ (a.of_callers v inner have ∙ sym (b.of_callers v inner (λ c calls. sym (same c calls) ∙ have c calls))) in
         a.itself none ∙ sym (b.itself (λ v inner have. none v inner (λ c calls. same c calls ∙ have c calls)))
   ]
 
@@ -92,10 +92,10 @@ module _ (ss : List Summary) (g : CallGraph) (told : AreTold ss g) (of : IsGraph
   are_made = record {
     each = length-map (range_with_len 0 (length g.functions)) (after (length g.functions)) ∙ length-range_with_len 0 (length g.functions);
     of_callers = λ f r inner have.
-      let lt = slice_get_within g.functions f inner.name inner.at in
-      made_at f lt ∙ settled f lt ∙ (step_takes (after (length g.functions)) f lt).of_callers r inner (λ c calls. sym (made_at c (caller_within g of.call_rows c f calls)) ∙ have c calls);
+        let lt = slice_get_within g.functions f inner.name inner.at in
+        made_at f lt ∙ settled f lt ∙ (step_takes (after (length g.functions)) f lt).of_callers r inner (λ c calls. sym (made_at c (caller_within g of.call_rows c f calls)) ∙ have c calls);
     itself = λ f lt none.
-      made_at f lt ∙ settled f lt ∙ (step_takes (after (length g.functions)) f lt).itself (λ v inner have. none v inner (λ c calls. made_at c (caller_within g of.call_rows c f calls) ∙ have c calls));
+        made_at f lt ∙ settled f lt ∙ (step_takes (after (length g.functions)) f lt).itself (λ v inner have. none v inner (λ c calls. made_at c (caller_within g of.call_rows c f calls) ∙ have c calls));
   }
 
   pub there : (roots : List ℕ) × AreRoots ss g roots
