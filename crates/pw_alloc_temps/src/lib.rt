@@ -1,4 +1,4 @@
-//! Allocation in its third form, in definitions: temporaries have registers by weight, and those that get none a word of
+//! Allocation, in definitions: temporaries have registers by weight, and those that get none a word of
 //! the frame; a function shares some registers with its cluster.
 #![tactic(auto)]
 

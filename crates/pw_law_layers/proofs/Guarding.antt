@@ -12,7 +12,7 @@ use Rattle.pw_webflow.specs.declared.web.WebFn.{WebFn}
 use Rattle.pw_webflow.specs.Direction.{directed}
 use Rattle.pw_alloc.specs.declared.located.Located.{Located}
 use Rattle.pw_db_sound.specs.CallGraphs.{Node, Graph, Calls}
-use Rattle.pw_db_sound.specs.Sound.{saves_of, IsFree, IsSaver, LeavesAlone, Sound}
+use Rattle.pw_db_sound.specs.Sound.{IsFree, IsSaver, LeavesAlone, Sound}
 use Rattle.pw_db_sound.specs.Sound.{Has as HasRole}
 use Rattle.pw_run_languages.specs.Traces.{MayChange, member, free}
 use Rattle.pw_run_languages.specs.Calls.{Saves}
@@ -63,7 +63,7 @@ web_saved p d functions a r w base k has is =
 saver_saved : (p : Program) (d : List (List ℕ × Directives)) (functions : List Located) (a : List ℕ) (r : ℕ) → IsDatabase d → Placed p d functions a → IsSaver d a r → Saves functions a r
 unfolding directed
 saver_saved p d functions a r base k s =
-    let there : Contains (saves_of (directives_of d k.function.name)) r = subst (λ (dirs : Directives). Contains (saves_of dirs) r) (own p d functions a s.directives base k s.there) s.register in
+    let there : Contains (directives_of d k.function.name).saves r = subst (λ (dirs : Directives). Contains dirs.saves r) (own p d functions a s.directives base k s.there) s.register in
     placed_saves p d functions a r k (saves there)
 
 by_role : (p : Program) (d : List (List ℕ × Directives)) (functions : List Located) (a : List ℕ) (r : ℕ) (w : Web) (role : Role) → IsDatabase d → Placed p d functions a → HasRole d a w role → w.reg ≡ r

@@ -4,8 +4,8 @@ use Rattle.std.proofs.Common.{arith, subst, sym, ap, refl, inl, inr, ◌∙◌, 
 use Rattle.std.proofs.lemmas.Bool.{cases_lt, cases_order, or_cases, or_left, or_right, and_from, and_parts, lt-ltb, ne_eqb, eqb-true, eq-eqb}
 use Rattle.std.proofs.lemmas.Option.{same_Some, slice_get-map, slice_get-get_or, slice_get_within, slice_get_past}
 use Rattle.std.proofs.lemmas.List.{map-append}
-use Rattle.pw_files.proofs.Standing.{Has, has_by, contains_by, has_left, has_right, has_map, has_split, has_each}
-use Rattle.pw_db.specs.Limits.{first_register, last_register, last_temporary, register_count, kept_registers}
+use Rattle.pw_files.proofs.Standing.{Has, has_by, contains_by, has_left, has_right, has_map, has_each}
+use Rattle.pw_db.specs.Limits.{first_register, register_count, kept_registers}
 use Rattle.pw_db.specs.declared.database.Web.{Web}
 use Rattle.pw_db.specs.declared.database.Role.{Role}
 use Rattle.pw_db.specs.declared.database.Role.TheVariants.{Entry, Member}
@@ -25,13 +25,13 @@ use Rattle.pw_alloc.specs.Frames.{head_size, temp_offset, slots_begin, last_reac
 use Rattle.pw_live.specs.Liveness as live
 use Rattle.pw_live.specs.Liveness.{has, is_that, is_live_in}
 use Rattle.pw_live.specs.Interference.{written_beside, starts_beside, overwrites, interfere, is_held}
-use Rattle.pw_db_sound.specs.Sound.{saves_of}
-use Rattle.pw_alloc_temps.specs.Registers.{changed_registers, shared, unshared, of_temporaries, allowed, registers}
+use Rattle.pw_alloc_temps.specs.Registers.{unshared, of_temporaries, registers}
 use Rattle.pw_alloc_temps.specs.Temporaries.{cluster_of, registers_in, is_given, is_saved, saved_in, placed, allocated}
 use Rattle.pw_run_languages.specs.Serving as run
 use Rattle.pw_run_languages.specs.Serving.{StandsIn, Interfere, by_operation, by_start, parameters, IsHeld, IsTempRegister, IsKeptOver, slots_alone, HasWebIn, Changes, places, enters, saves, Serves}
 use Rattle.pw_law_temps.specs.Laws.{AreKept}
-use Rattle.pw_alloc_temps.proofs.Lists.{stands_at, listed, has_listed, not_listed, some_passes, passing, Kept, kept, stays, within, all_within, rises}
+use Rattle.pw_alloc_temps.proofs.Lists.{listed, has_listed, not_listed, passing, kept, within, rises}
+use Rattle.pw_alloc_temps.proofs.Lawful.{not_there, may_stand, of_some, stands_saved, temporary_saved}
 use Rattle.pw_alloc_temps.proofs.Places.{each_placed, register_at, register_back, register_there}
 use Rattle.pw_law_temps.proofs.Words.{nones, word_at, nones_rise, one_number, alone, counted}
 
@@ -99,8 +99,7 @@ module _
     (written : (f : Outline) (s : Stretch) (before after : List Act) (a : Act) (d t : ℕ) → Contains f.blocks s → s.acts ≡ before ++ a ∷ after → a.defines ≡ Some d → live.Live f t after s.uses s.next → written_beside f d t ≡ true)
     (over : (f : Outline) (s : Stretch) (before after : List Act) (a : Act) (t : ℕ) → Contains f.blocks s → s.acts ≡ before ++ a ∷ after → a.calls ≡ true → a.defines ≢ Some t → live.Live f t after s.uses s.next → is_held f t ≡ true)
     (each : (f : Outline) (webs cluster : List ℕ) → length (registers f webs cluster) ≡ f.temps)
-    (keep_apart : (f : Outline) (webs cluster : List ℕ) (a b r : ℕ) → slice_get (registers f webs cluster) a ≡ Some (Some r) → slice_get (registers f webs cluster) b ≡ Some (Some r) → interfere f a b ≡ false)
-    (may_have : (f : Outline) (webs cluster : List ℕ) (t r : ℕ) → slice_get (registers f webs cluster) t ≡ Some (Some r) → Contains (allowed f webs cluster t) r) where
+    (keep_apart : (f : Outline) (webs cluster : List ℕ) (a b r : ℕ) → slice_get (registers f webs cluster) a ≡ Some (Some r) → slice_get (registers f webs cluster) b ≡ Some (Some r) → interfere f a b ≡ false) where
   -- ---- interference
 
   acts_of : (f : WebFn) (o : WebOp) (after : List WebOp) (end : End) (there : StandsIn f o after end) → map web_act there.block.ops ≡ map web_act there.before ++ web_act o ∷ map web_act after
@@ -189,57 +188,23 @@ module _
 
     -- ---- registers
 
-    not_there : (r : ℕ) (rs : List ℕ) → not (has r rs) ≡ true → ¬ Contains rs r
-    not_there r rs e c = let k = listed r rs (has_by r rs c) in let n = ap not k in cc
-
-    shared_bounds : (r : ℕ) → Has r (shared (cluster_of f.directives)) → IsTempRegister r
-    shared_bounds r h =
-        let k = within first_register register_count r (kept (λ r. has r (cluster_of f.directives)) r kept_registers h).there in
-        record { low = k.0; high = omega (arith, k.1) }
-
-    unshared_bounds : (r : ℕ) → Has r (unshared (cluster_of f.directives)) → IsTempRegister r
-    unshared_bounds r h =
-        let k = within first_register register_count r (kept (λ r. not (has r (cluster_of f.directives))) r kept_registers h).there in
-        record { low = k.0; high = omega (arith, k.1) }
-
-    in_bounds : (held : Bool) (r : ℕ) → Has r (of_temporaries (cluster_of f.directives) held) → IsTempRegister r
-    in_bounds true r h = unshared_bounds r h
-    in_bounds false r h = elim (has_split r changed_registers (shared (cluster_of f.directives) ++ unshared (cluster_of f.directives)) h) [
-      | inl c ↦ let k = within (last_register + 1) (last_temporary - last_register) r c in record { low = omega (arith, k.0); high = omega (arith, k.1) }
-      | inr c ↦ elim (has_split r (shared (cluster_of f.directives)) (unshared (cluster_of f.directives)) c) [
-        | inl one ↦ shared_bounds r one
-        | inr one ↦ unshared_bounds r one
-      ]
-    ]
-
-    -- the register of a temporary: one that it may have, and of no web
-    may : (t r : ℕ) → slice_get (registers_in f) t ≡ Some (Some r) → Kept (λ r. not (has r (webs_of f))) r (of_temporaries (cluster_of f.directives) (is_held (web_outline f) t))
-    may t r e =
-        kept (λ r. not (has r (webs_of f))) r (of_temporaries (cluster_of f.directives) (is_held (web_outline f) t))
-        (has_by r (allowed (web_outline f) (webs_of f) (cluster_of f.directives) t) (may_have (web_outline f) (webs_of f) (cluster_of f.directives) t r e))
-
-    of_temporary : (t r : ℕ) → slice_get (registers_in f) t ≡ Some (Some r) → IsTempRegister r × (¬ Contains (webs_of f) r)
-    of_temporary t r e =
-        let k = may t r e in
-        (in_bounds (is_held (web_outline f) t) r k.there, not_there r (webs_of f) k.passes)
-
     of_place : (r : ℕ) → Contains (all_in f head saved) (Reg r) → IsTempRegister r × (¬ Contains (webs_of f) r)
     of_place r c =
-        let p = stands_at (Some r) (registers_in f) (register_back head saved 0 (registers_in f) r (has_by (Reg r) (all_in f head saved) c)) in
-        of_temporary p.place r p.is
+        let free = of_some f r (register_back head saved 0 (registers_in f) r (has_by (Reg r) (all_in f head saved) c)) in
+        (record { low = free.bounds.low; high = free.bounds.high }, free.apart)
 
     held_in : (t r : ℕ) → IsHeld f t → slice_get (registers_in f) t ≡ Some (Some r) → IsKeptOver f (Reg r)
     held_in t r h e =
         let is = over (web_outline f) (web_stretch h.there.block) (map web_act h.there.before) (map web_act h.after) (web_act h.op) t
         (block_of f h.op h.after h.end h.there) (acts_of f h.op h.after h.end h.there) h.call h.other (behind f h.op h.after h.end h.there t h.lives) in
-        let low : Has r (unshared (cluster_of f.directives)) = subst (λ (b : Bool). Has r (of_temporaries (cluster_of f.directives) b)) is (may t r e).there in
+        let low : Has r (unshared (cluster_of f.directives)) = subst (λ (b : Bool). Has r (of_temporaries (cluster_of f.directives) b)) is (may_stand f t r e).there in
         let k = kept (λ r. not (has r (cluster_of f.directives))) r kept_registers low in
         let w = within first_register register_count r k.there in
         let apart = not_there r (cluster_of f.directives) k.passes in (
           w.0,
           omega (arith, w.1),
-          λ c. apart (contains_by r (cluster_of f.directives) (has_left r f.directives.free (saves_of f.directives) (has_by r f.directives.free c))),
-          λ c. apart (contains_by r (cluster_of f.directives) (has_right r f.directives.free (saves_of f.directives) (has_by r (saves_of f.directives) c))),
+          λ c. apart (contains_by r (cluster_of f.directives) (has_left r f.directives.free f.directives.saves (has_by r f.directives.free c))),
+          λ c. apart (contains_by r (cluster_of f.directives) (has_right r f.directives.free f.directives.saves (has_by r f.directives.saves c))),
         )
 
     held_at : (t : ℕ) (one : Option ℕ) (place : Place) → IsHeld f t → slice_get (registers_in f) t ≡ Some one → slice_get (all_in f head saved) t ≡ Some place → IsKeptOver f place
@@ -262,11 +227,11 @@ module _
     saved_back : (l : Located) → l.places ≡ all_in f head saved → (r : ℕ) → Contains (saved_in f (registers_in f)) r → Changes f l r
     saved_back l is r c =
         let webs = f.directives.webs in
-        let k = kept (is_saved f (registers_in f)) r kept_registers (has_by r (saved_in f (registers_in f)) c) in
-        elim (or_cases (is_entered webs r) (has r (saves_of f.directives) || (not (has r f.directives.free) && is_given (registers_in f) r)) k.passes) [
+        let k = kept (is_saved f.directives (registers_in f)) r kept_registers (has_by r (saved_in f (registers_in f)) c) in
+        elim (or_cases (is_entered webs r) (has r f.directives.saves || (not (has r f.directives.free) && is_given (registers_in f) r)) k.passes) [
           | inl e ↦ let w = entered_by webs r e in enters (record { web = w.web; there = contains_by (w.web, Entry) webs w.there; is = w.is })
-          | inr e ↦ elim (or_cases (has r (saves_of f.directives)) (not (has r f.directives.free) && is_given (registers_in f) r) e) [
-            | inl own ↦ saves (contains_by r (saves_of f.directives) (has_listed r (saves_of f.directives) own))
+          | inr e ↦ elim (or_cases (has r f.directives.saves) (not (has r f.directives.free) && is_given (registers_in f) r) e) [
+            | inl own ↦ saves (contains_by r f.directives.saves (has_listed r f.directives.saves own))
             | inr own ↦
                 let both = and_parts (not (has r f.directives.free)) (is_given (registers_in f) r) own in
                 let high = within first_register register_count r k.there in
@@ -274,30 +239,23 @@ module _
           ]
         ]
 
-    stands_saved : (r : ℕ) → first_register ≤ r → r < first_register + register_count → is_saved f (registers_in f) r ≡ true → Contains (saved_in f (registers_in f)) r
-    stands_saved r low high e = contains_by r (saved_in f (registers_in f)) (stays (is_saved f (registers_in f)) r kept_registers (all_within first_register register_count r low high) e)
-
     module _ (lawful : AreKept f.directives) where
       saved_there : (l : Located) → l.places ≡ all_in f head saved → (r : ℕ) → Changes f l r → Contains (saved_in f (registers_in f)) r
       saved_there l is r (places c high owned) =
           let here = subst (λ (ps : List Place). Contains ps (Reg r)) is c in
-          stands_saved r (of_place r here).0.low (omega (arith, high))
-          (or_right (is_entered f.directives.webs r) (has r (saves_of f.directives) || (not (has r f.directives.free) && is_given (registers_in f) r))
-          (or_right (has r (saves_of f.directives)) (not (has r f.directives.free) && is_given (registers_in f) r)
-          (and_from (not (has r f.directives.free)) (is_given (registers_in f) r) (not_listed r f.directives.free owned)
-          (some_passes (λ o. is_that o r) (Some r) (registers_in f) (register_back head saved 0 (registers_in f) r (has_by (Reg r) (all_in f head saved) here)) (eq-eqb r r refl)))))
+          temporary_saved f r (register_back head saved 0 (registers_in f) r (has_by (Reg r) (all_in f head saved) here)) (omega (arith, high)) (not_listed r f.directives.free owned)
       saved_there l is r (enters w) =
           let webs = f.directives.webs in
           let there = has_by (w.web, Entry) webs w.there in
           let web : IsWeb w.web = has_each IsWeb (map (λ w. w.0) webs) w.web lawful.webs (has_map (λ (w : Web × Role). w.0) (w.web, Entry) webs there) in
           let same : w.web.reg ≡ r = w.is in
-          stands_saved r (omega (arith, web.low, same)) (omega (arith, web.high, same))
-          (or_left (is_entered webs r) (has r (saves_of f.directives) || (not (has r f.directives.free) && is_given (registers_in f) r)) (enters_so webs w.web r there same))
+          stands_saved f r (omega (arith, web.low, same)) (omega (arith, web.high, same))
+          (or_left (is_entered webs r) (has r f.directives.saves || (not (has r f.directives.free) && is_given (registers_in f) r)) (enters_so webs w.web r there same))
       saved_there l is r (saves c) =
           let k = lawful.saves r c in
-          stands_saved r k.0 (omega (arith, k.1))
-          (or_right (is_entered f.directives.webs r) (has r (saves_of f.directives) || (not (has r f.directives.free) && is_given (registers_in f) r))
-          (or_left (has r (saves_of f.directives)) (not (has r f.directives.free) && is_given (registers_in f) r) (listed r (saves_of f.directives) (has_by r (saves_of f.directives) c))))
+          stands_saved f r k.0 (omega (arith, k.1))
+          (or_right (is_entered f.directives.webs r) (has r f.directives.saves || (not (has r f.directives.free) && is_given (registers_in f) r))
+          (or_left (has r f.directives.saves) (not (has r f.directives.free) && is_given (registers_in f) r) (listed r f.directives.saves (has_by r f.directives.saves c))))
 
   -- ---- together
 
@@ -314,7 +272,7 @@ module _
         held = held f head saved;
         registers = of_place f head saved;
         saved = λ r. (saved_back f head saved (allocated f) refl r, saved_there f head saved lawful (allocated f) refl r);
-        order = rises (is_saved f (registers_in f)) first_register register_count;
+        order = rises (is_saved f.directives (registers_in f)) first_register register_count;
         words = alone head saved 0 (registers_in f);
         frame = ap (λ (n : ℕ). last_reach (slots_begin head saved n) f.slots) (counted all);
       }

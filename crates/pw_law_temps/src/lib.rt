@@ -1,4 +1,4 @@
-//! Laws of temporaries in registers, without code: the places that allocation gives in its third form serve.
+//! Laws of temporaries in registers, without code: the places that allocation gives serve.
 #![tactic(auto)]
 
 pub mod laws;

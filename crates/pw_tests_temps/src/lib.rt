@@ -1,3 +1,3 @@
-//! A test of allocation in its third form: small functions, whose weights, interference and registers are computed by their
+//! A test of allocation: small functions, whose weights, interference and registers are computed by their
 //! definitions.
 #![tactic(auto)]
