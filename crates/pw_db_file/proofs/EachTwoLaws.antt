@@ -5,7 +5,7 @@ use Rattle.std.specs.List.{AllByRecursion}
 use Rattle.std.proofs.lemmas.Bool.{eqb-true, eq-eqb}
 use Rattle.pw_db.specs.declared.database.Web.{Web}
 use Rattle.pw_db.specs.Database.{EachTwo, Agree}
-use Rattle.pw_db.specs.Reading.{first_with}
+use Rattle.pw_db_file.specs.Reading.{first_with}
 
 -- ---- lists
 

@@ -10,8 +10,8 @@ use Rattle.std.proofs.lemmas.Map.Lookups.{exact_unsigned}
 use Rattle.std.proofs.lemmas.List.{map_push}
 use Rattle.pw_db.specs.declared.database.Web.{Web}
 use Rattle.pw_db.specs.declared.database.Role.{Role}
-use Rattle.pw_db.specs.Reading.{first_with, web_at}
-use Rattle.pw_db.specs.Seen.{place_with}
+use Rattle.pw_db_file.specs.Reading.{first_with, web_at}
+use Rattle.pw_db_file.specs.Seen.{place_with}
 
 -- ---- the first web of a number, by its place
 

@@ -23,9 +23,10 @@ use Rattle.pw_db.specs.Limits.{first_register, last_register}
 use Rattle.pw_db.specs.declared.database.Web.{Web}
 use Rattle.pw_db.specs.declared.database.Role.{Role}
 use Rattle.pw_db.specs.declared.database.Role.TheVariants.{Entry, Member}
-use Rattle.pw_db.specs.Database.{IsWeb, web, role_code}
-use Rattle.pw_db.specs.Reading.{first_with, fits_first, number_at, global_at, kind_at, register_at, writes_at, role_of, role_at, web_at}
-use Rattle.pw_db.proofs.EachTwoLaws.{IsFirst, first_number}
+use Rattle.pw_db.specs.Database.{IsWeb}
+use Rattle.pw_db_file.specs.Spelling.{web, role_code}
+use Rattle.pw_db_file.specs.Reading.{first_with, fits_first, number_at, global_at, kind_at, register_at, writes_at, role_of, role_at, web_at}
+use Rattle.pw_db_file.proofs.EachTwoLaws.{IsFirst, first_number}
 
 -- ---- the rules as tests
 
@@ -124,11 +125,11 @@ all_back : (test : Web → Bool) (P : Web → Type 0) → ((w : Web) → P w →
 all_back test P f [] all = refl
 all_back test P f (x ∷ xs) all = both_true (f x all.0) (all_back test P f xs all.1)
 
-not_true : (b : Bool) → not b ≡ true → b ≡ true → ⊥
+pub not_true : (b : Bool) → not b ≡ true → b ≡ true → ⊥
 not_true true e h = absurd cc
 not_true false e h = absurd cc
 
-not_by : (b : Bool) → (b ≡ true → ⊥) → not b ≡ true
+pub not_by : (b : Bool) → (b ≡ true → ⊥) → not b ≡ true
 not_by true h = absurd (h refl)
 not_by false h = refl
 

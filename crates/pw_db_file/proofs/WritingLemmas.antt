@@ -1,5 +1,5 @@
 -- What writing asks of a database's parts, and what it gives.
-use Rattle.std.proofs.Common.{◌≡◌, ℕ, List, [], ◌∷◌, length, map, All, Result, Ok, Err, subst, arith}
+use Rattle.std.proofs.Common.{◌≡◌, ℕ, List, [], ◌∷◌, length, map, All, Result, Ok, Err, refl, subst, arith}
 use Rattle.std.specs.Prelude.{Contains, IfOk, OnOk}
 use Rattle.std.specs.Global.{Vec}
 use Rattle.std.specs.List.{AllByRecursion}
@@ -10,12 +10,15 @@ use Rattle.pw_fields.specs.FieldFrame.{file, FitsFile}
 use Rattle.pw_fields.specs.FieldNames.{IsTableOf}
 use Rattle.pw_fields.proofs.NameLaws.{AllUsed, used_by_table}
 use Rattle.pw_files.proofs.RisingLaws.{used_front, used_back}
+use Rattle.pw_files.specs.Contents.{IsContentsOf}
 use Rattle.pw_files.proofs.Views.{seen_all}
 use Rattle.pw_db.specs.declared.database.Web.{Web}
 use Rattle.pw_db.specs.declared.database.Role.{Role}
 use Rattle.pw_files.proofs.ContentsLaws as files
 use Rattle.pw_db.specs.declared.database.Directives.{Directives}
-use Rattle.pw_db.specs.Database.{IsDatabase, IsDatabaseContents, IsNamedBy, names_of_function, names_of, FitsDatabase, spelling, kind, database_version, IsPayload, IsDatabaseFile}
+use Rattle.pw_db.specs.declared.database.Database.{Database}
+use Rattle.pw_db.specs.Database.{kind, first_version, database_version, IsDatabase, IsVersioned, IsStored, of_version, newest}
+use Rattle.pw_db_file.specs.Spelling.{IsDatabaseContents, IsNamedBy, names_of_function, names_of, FitsDatabase, spelling, IsPayload, IsDatabaseFile}
 
 -- ---- names that stand in a table
 
@@ -37,10 +40,19 @@ all_named view names xs table = seen_all view (IsNamedBy names) xs (functions_na
 
 -- ---- the payload and the file
 
-pub is_payload : {E : Type 0} (names : List (List ℕ)) (fs : List (List ℕ × Directives)) (r : Result (Vec ℕ) E) → IsDatabase fs → FitsU32 (length names) → IsTableOf names (names_of fs) → OnOk r (FitsDatabase fs)
-    → IfOk r (λ v. v.items ≡ spelling (record { names = names; value = fs })) → IfOk r (λ v. IsPayload v.items fs)
-is_payload names fs (Ok v) is count table fits written = (names, record { lawful = is; fits = fits; name_count = count; names = table }, written)
-is_payload names fs (Err e) is count table fits written = tt
+pub is_payload : {E : Type 0} (version : ℕ) (names : List (List ℕ)) (fs : List (List ℕ × Directives)) (r : Result (Vec ℕ) E) → IsVersioned (of_version version fs) → FitsU32 (length names) → IsTableOf names (names_of fs) → OnOk r (FitsDatabase fs)
+    → IfOk r (λ v. v.items ≡ spelling version (record { names = names; value = of_version version fs })) → IfOk r (λ v. IsContentsOf (spelling version) (IsDatabaseContents version) v.items (of_version version fs))
+is_payload version names fs (Ok v) is count table fits written = (names, record { version_is = refl; contents = record { lawful = is; fits = fits; name_count = count; names = table } }, written)
+is_payload version names fs (Err e) is count table fits written = tt
 
-pub is_file : {E : Type 0} (fs : List (List ℕ × Directives)) (payload : List ℕ) (r : Result (Vec ℕ) E) → IsPayload payload fs → OnOk r (FitsFile payload) → IfOk r (λ v. v.items ≡ file kind database_version payload) → IfOk r (λ v. IsDatabaseFile v.items fs)
-is_file fs payload r is room made = files.is_file kind database_version database_version database_version (λ version. spelling) (λ version. IsDatabaseContents) (record { names = is.0; value = fs }) payload r (omega arith) (omega arith) is.1 is.2 room made
+-- functions of a database are one of the last version
+pub newest_lawful : (fs : List (List ℕ × Directives)) → IsDatabase fs → IsVersioned (newest fs)
+newest_lawful fs is = record { not_below = omega arith; not_above = omega arith; functions = is; unshared = λ (e : 2 ≡ 1). absurd (omega (arith, e)) }
+
+pub stored_payload : {E : Type 0} (fs stored : List (List ℕ × Directives)) (r : Result (Vec ℕ) E) → IsStored fs stored → IfOk r (λ v. IsPayload v.items stored) → IfOk r (λ v. (gs : List (List ℕ × Directives)) × IsStored fs gs × IsPayload v.items gs)
+stored_payload fs stored (Ok v) is made = (stored, is, made)
+stored_payload fs stored (Err e) is made = tt
+
+pub is_file : {E : Type 0} (db : Database) (payload : List ℕ) (r : Result (Vec ℕ) E) → IsVersioned db → IsContentsOf (spelling db.version) (IsDatabaseContents db.version) payload db → OnOk r (FitsFile payload) → IfOk r (λ v. v.items ≡ file kind db.version payload) → IfOk r (λ v. IsDatabaseFile v.items db)
+is_file db payload r lawful is room made =
+    files.is_file kind first_version database_version db.version spelling IsDatabaseContents (record { names = is.0; value = db }) payload r lawful.not_below lawful.not_above is.1 is.2 room made

@@ -16,7 +16,9 @@ use Rattle.pw_db.specs.declared.database.Web.{Web}
 use Rattle.pw_db.specs.declared.database.Role.{Role}
 use Rattle.pw_db.specs.declared.database.Role.TheVariants.{Entry, Member}
 use Rattle.pw_db.specs.declared.database.Directives.{Directives}
-use Rattle.pw_db.specs.Database.{webs_of, names_of, kind, database_version}
+use Rattle.pw_db.specs.declared.database.Database.{Database}
+use Rattle.pw_db.specs.Database.{webs_of, kind, first_version, database_version, of_version}
+use Rattle.pw_db_file.specs.Spelling.{names_in}
 
 -- ---- webs that were read before
 
@@ -79,24 +81,47 @@ next_web own w = own ++ w.0 ∷ []
 abbrev pub webs_at : List (List ℕ) → List Web → ℕ → List ℕ → Result (List (Web × Role) × List ℕ) ℕ
 webs_at names seen count = items_at (λ own. web_at names (seen ++ own) own) next_web count []
 
--- no free registers
-unfoldable pub no_free_at : List ℕ → Result (List ℕ × List ℕ) ℕ
-no_free_at = do
+-- a register that a callee keeps, from one on, that is none of some others
+unfoldable pub kept_at : List ℕ → ℕ → List ℕ → Result (ℕ × List ℕ) ℕ
+kept_at others least = checked (λ r. (nat_le least r && nat_le r last_register) && list_all (λ q. not (q == r)) others) u8_at
+
+abbrev pub next_least : ℕ → ℕ → ℕ
+next_least least r = suc r
+
+-- a list of such registers, which rise
+unfoldable pub registers_at : List ℕ → List ℕ → Result (List ℕ × List ℕ) ℕ
+registers_at others = do
+  count ← u32_at
+  registers ← items_at (kept_at others) next_least count first_register
+  done registers
+
+-- the registers that a function is free to use, and those that it saves for others; in the first version there are none
+unfoldable pub no_sharing_at : List ℕ → Result ((List ℕ × List ℕ) × List ℕ) ℕ
+no_sharing_at = do
   count ← checked (λ n. n == 0) u32_at
-  done []
+  done ([], [])
+
+unfoldable pub all_sharing_at : List ℕ → Result ((List ℕ × List ℕ) × List ℕ) ℕ
+all_sharing_at = do
+  free ← registers_at []
+  saves ← registers_at free
+  done (free, saves)
+
+abbrev pub sharing_at : ℕ → List ℕ → Result ((List ℕ × List ℕ) × List ℕ) ℕ
+sharing_at version = if version == first_version then no_sharing_at else all_sharing_at
 
 -- the function before, and the webs of all functions before
 pub record Before : Type 0 where
   pub name : Option (List ℕ)
   pub webs : List Web
 
-unfoldable pub function_at : List (List ℕ) → Before → List ℕ → Result ((List ℕ × Directives) × List ℕ) ℕ
-function_at names before = do
+unfoldable pub function_at : ℕ → List (List ℕ) → Before → List ℕ → Result ((List ℕ × Directives) × List ℕ) ℕ
+function_at version names before = do
   name ← name_above_at names Allowed before.name
   count ← u32_at
   webs ← webs_at names before.webs count
-  free ← no_free_at
-  done (name, record { webs = webs; free = free })
+  shared ← sharing_at version
+  done (name, record { webs = webs; free = shared.0; saves = shared.1 })
 
 abbrev pub next_function : Before → List ℕ × Directives → Before
 next_function before f = record { name = Some f.0; webs = before.webs ++ webs_of f.1 }
@@ -106,25 +131,25 @@ nothing_before = record { name = None; webs = [] }
 
 -- ---- the payload
 
-unfoldable pub functions_at : List (List ℕ) → List ℕ → Result (List (List ℕ × Directives) × List ℕ) ℕ
-functions_at names = do
+unfoldable pub functions_at : ℕ → List (List ℕ) → List ℕ → Result (List (List ℕ × Directives) × List ℕ) ℕ
+functions_at version names = do
   count ← u32_at
-  functions ← items_at (function_at names) next_function count nothing_before
+  functions ← items_at (function_at version names) next_function count nothing_before
   done functions
 
 -- the rule that is looked at last: each name of the table is used, where so many bytes are left behind it
-abbrev pub unused_rule : List (List ℕ) → ℕ → List (List ℕ × Directives) → ℕ → Option ℕ
-unused_rule names behind fs count = first_unused names (names_of fs) behind
+abbrev pub unused_rule : List (List ℕ) → ℕ → Database → ℕ → Option ℕ
+unused_rule names behind db count = first_unused names (names_in db) behind
 
--- the fields to their end, under such a rule
-unfoldable pub fields_at : List (List ℕ) → (List (List ℕ × Directives) → ℕ → Option ℕ) → List ℕ → Result (Contents (List (List ℕ × Directives)) × List ℕ) ℕ
-fields_at names late = do
+-- the fields of a version to their end, under such a rule
+unfoldable pub fields_at : ℕ → List (List ℕ) → (Database → ℕ → Option ℕ) → List ℕ → Result (Contents Database × List ℕ) ℕ
+fields_at version names late = do
   count ← here
-  functions ← functions_at names
-  ended (late functions count) (record { names = names; value = functions })
+  functions ← functions_at version names
+  ended (late (of_version version functions) count) (record { names = names; value = of_version version functions })
 
-abbrev pub payload_at : List ℕ → Result (Contents (List (List ℕ × Directives)) × List ℕ) ℕ
-payload_at = contents_at fields_at unused_rule
+abbrev pub payload_at : List ℕ → Result (Contents Database × List ℕ) ℕ
+payload_at = contents_at (fields_at database_version) unused_rule
 
-abbrev pub database_file_at : List ℕ → Result (Contents (List (List ℕ × Directives))) ℕ
-database_file_at = contents_file_at kind database_version database_version (λ version. fields_at) unused_rule
+abbrev pub database_file_at : List ℕ → Result (Contents Database) ℕ
+database_file_at = contents_file_at kind first_version database_version fields_at unused_rule

@@ -1,7 +1,7 @@
 -- The webs that a reader has seen: what a web of the table of names is, and where a number stands first.
 use Rattle.std.specs.Prelude.{ℕ, suc, ◌==◌, List, [], ◌∷◌, Option, Some, None, option_map, if◌then◌else◌}
 use Rattle.pw_db.specs.declared.database.Web.{Web}
-use Rattle.pw_db.specs.declared.seen.Known.{Known}
+use Rattle.pw_db_file.specs.declared.seen.Known.{Known}
 
 abbrev pub known_web : Known → Web
 known_web k = record { id = k.id; global = k.global.now; kind = k.kind; reg = k.reg; writes = k.writes }

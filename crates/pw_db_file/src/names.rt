@@ -2,9 +2,9 @@
 
 ghost use Rattle.std.specs.Prelude.{◌≡◌, ◌++◌, map, IfOk, OnOk};
 ghost use Rattle.std.specs.List.{flat_map};
-ghost use Rattle.pw_db.specs.Database.{names_of, names_of_function};
+ghost use Rattle.pw_db_file.specs.Spelling.{names_of, names_of_function};
 
-use crate::database::{Directives, Role, Web};
+use pw_db::{Directives, Role, Web};
 use pw_value::Name;
 use std::alloc::{AllocError, Global};
 

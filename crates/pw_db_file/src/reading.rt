@@ -11,14 +11,16 @@ ghost use Rattle.pw_files.specs.Kinds.{scalar_code};
 ghost use Rattle.pw_value.specs.ProgramNames.{same_truth};
 ghost use Rattle.pw_files.specs.Contents.{broken_at, value_of};
 ghost use Rattle.pw_db.specs.declared.database.Directives.{Directives as AnyDirectives};
-ghost use Rattle.pw_db.specs.Database.{IsDatabaseFile, IsPayload, kind as kind_of_file, database_version, webs_of, names_of};
-ghost use Rattle.pw_db.specs.Reading.{fits_first, number_at, global_at, kind_at, register_at, writes_at, role_at, web_at, webs_at, no_free_at, function_at, next_function, nothing_before, functions_at, unused_rule, fields_at, payload_at, database_file_at};
-ghost use Rattle.pw_db.specs.Seen.{known_web};
+ghost use Rattle.pw_db.specs.declared.database.Database.{Database as AnyDatabase};
+ghost use Rattle.pw_db.specs.Database.{kind as kind_of_file, first_version, database_version, webs_of, newest};
+ghost use Rattle.pw_db_file.specs.Spelling.{IsDatabaseFile, IsPayload, names_of};
+ghost use Rattle.pw_db_file.specs.Reading.{fits_first, number_at, global_at, kind_at, register_at, writes_at, role_at, web_at, webs_at, function_at, next_function, nothing_before, functions_at, unused_rule, fields_at, payload_at, database_file_at};
+ghost use Rattle.pw_db_file.specs.Seen.{known_web};
 
-use crate::database::{Database, Directives, Role, Web};
-use crate::limits::{FIRST_REGISTER, LAST_REGISTER};
 use crate::names::used_names;
 use crate::seen::{Known, Seen};
+use crate::sharing::{Sharing, read_sharing};
+use pw_db::{Database, Directives, FIRST, FIRST_REGISTER, KIND, LAST_REGISTER, Role, VERSION, Web};
 use pw_fields::names::read_name;
 use pw_fields::{FieldFault, read_choice, read_flag, read_u8, read_u32};
 use pw_files::format::{Format, read_contents, read_value};
@@ -29,12 +31,6 @@ use pw_items::{Items, refs_of};
 use pw_value::program_names::StartName;
 use pw_value::{FileError, Kind, Name};
 use std::alloc::Global;
-
-/// `PAWD`, the first four bytes of a database file.
-pub const KIND: u32 = 0x5041_5744;
-
-/// The version of the form of a database's file.
-pub const VERSION: u32 = 1;
 
 // ---- whether a field fits the webs before
 
@@ -260,54 +256,43 @@ fn read_webs<'a, 'b>(
     Ok((webs, seen, rest))
 }
 
-/// No free registers.
-#[tactic(auto, unfolding(crate::specs::Reading::no_free_at))]
-fn read_no_free(alloc: Global, bytes: &[u8]) -> Result<(Items<u8>, &[u8]), FieldFault>
-    ensures found { AnswersField (λ x. (x.0, x.1.now)) result (no_free_at bytes.now) }
-    ensures no_memory { IfErr result (λ e. e ≢ FieldFault.NoMemory) }
-{
-    let (count, rest) = read_u32(bytes)?;
-    if count == 0 {
-        Ok((Items::new(alloc), rest))
-    } else {
-        Err(FieldFault::Fault { left: bytes.len() })
-    }
-}
-
 /// A function behind others, its name in the table.
 #[tactic(auto, unfolding(crate::specs::Reading::function_at))]
 fn read_function<'a, 'b>(
     alloc: Global,
+    version: u32,
     names: &'b [Name],
     before: Option<&Name>,
     seen: Seen<'b>,
     bytes: &'a [u8],
 ) -> Result<((&'b Name, Directives), Seen<'b>, &'a [u8]), FieldFault>
-    ensures found { AnswersField (λ x. ((x.0.0.now, x.0.1), x.2.now)) result (function_at names.now (record { name = option_map (λ n. n.now) before.entry; webs = map known_web seen.entry.webs.items }) bytes.now) }
+    ensures found { AnswersField (λ x. ((x.0.0.now, x.0.1), x.2.now)) result (function_at version names.now (record { name = option_map (λ n. n.now) before.entry; webs = map known_web seen.entry.webs.items }) bytes.now) }
     ensures seen { IfOk result (λ x. map known_web x.1.webs.items ≡ map known_web seen.entry.webs.items ++ webs_of x.0.1) }
 {
     let (name, rest) = read_name_above(names, StartName::Allowed, before, bytes)?;
     let (count, rest) = read_u32(rest)?;
     let (webs, seen, rest) = read_webs(alloc, names, seen, count, rest)?;
-    let (free, rest) = read_no_free(alloc, rest)?;
-    Ok(((name, Directives { webs, free }), seen, rest))
+    let (Sharing { free, saves }, rest) = read_sharing(alloc, version, rest)?;
+    Ok(((name, Directives { webs, free, saves }), seen, rest))
 }
 
 /// So many functions.
 fn read_function_items<'a>(
     alloc: Global,
+    version: u32,
     names: &[Name],
     count: u32,
     bytes: &'a [u8],
 ) -> Result<(Items<(Name, Directives)>, &'a [u8]), FieldFault>
-    ensures { AnswersField (λ x. (x.0, x.1.now)) result (items_at (function_at names.now) next_function count nothing_before bytes.now) }
+    ensures { AnswersField (λ x. (x.0, x.1.now)) result (items_at (function_at version names.now) next_function count nothing_before bytes.now) }
 {
     let mut functions = Items::new(alloc);
     let mut seen = Seen::new(alloc);
     let mut before: Option<&Name> = None;
     let mut rest = bytes;
     for _ in 0..count {
-        let ((name, directives), more, after) = read_function(alloc, names, before, seen, rest)?;
+        let ((name, directives), more, after) =
+            read_function(alloc, version, names, before, seen, rest)?;
         functions.push((name.copy(alloc)?, directives))?;
         seen = more;
         before = Some(name);
@@ -320,13 +305,14 @@ fn read_function_items<'a>(
 #[tactic(auto, unfolding(crate::specs::Reading::functions_at))]
 fn read_functions<'a>(
     alloc: Global,
+    version: u32,
     names: &[Name],
     bytes: &'a [u8],
 ) -> Result<(Items<(Name, Directives)>, &'a [u8]), FieldFault>
-    ensures { AnswersField (λ x. (x.0, x.1.now)) result (functions_at names.now bytes.now) }
+    ensures { AnswersField (λ x. (x.0, x.1.now)) result (functions_at version names.now bytes.now) }
 {
     let (count, rest) = read_u32(bytes)?;
-    read_function_items(alloc, names, count, rest)
+    read_function_items(alloc, version, names, count, rest)
 }
 
 // ---- the payload
@@ -347,91 +333,103 @@ fn check_last(
     check_used(alloc, names, used, behind)
 }
 
-/// The functions behind the table of names, how many bytes are left from their count on, and what is left behind them.
+/// The database behind the table of names, how many bytes are left from the count of its functions on, and what is left
+/// behind it.
 #[tactic(auto, unfolding(crate::specs::Reading::fields_at))]
 fn read_parts<'a>(
     alloc: Global,
+    version: u32,
     names: &[Name],
     bytes: &'a [u8],
-) -> Result<(Items<(Name, Directives)>, usize, &'a [u8]), FieldFault>
-    ensures found { IfOk result (λ x. (rule : List (List ℕ × AnyDirectives) → ℕ → Option ℕ) → fields_at names.now rule bytes.now ≡ ended (rule x.0 x.1) (record { names = names.now; value = x.0 }) x.2.now) }
-    ensures fault { IfErr result (λ e. (rule : List (List ℕ × AnyDirectives) → ℕ → Option ℕ) → Fails e (fields_at names.now rule bytes.now)) }
+) -> Result<(Database, usize, &'a [u8]), FieldFault>
+    ensures found { IfOk result (λ x. (rule : AnyDatabase → ℕ → Option ℕ) → fields_at version names.now rule bytes.now ≡ ended (rule x.0 x.1) (record { names = names.now; value = x.0 }) x.2.now) }
+    ensures fault { IfErr result (λ e. (rule : AnyDatabase → ℕ → Option ℕ) → Fails e (fields_at version names.now rule bytes.now)) }
 {
-    let (functions, rest) = read_functions(alloc, names, bytes)?;
-    Ok((functions, bytes.len(), rest))
+    let (functions, rest) = read_functions(alloc, version, names, bytes)?;
+    Ok((Database { version, functions }, bytes.len(), rest))
 }
 
 /// Database files, which are read as all files of the compiler are.
 struct DatabaseFormat;
 
 impl Format for DatabaseFormat {
-    type Value = Items<(Name, Directives)>;
+    type Value = Database;
 
     const KIND: u32 = KIND;
 
     ghost KIND = { kind_of_file };
 
-    const FIRST: u32 = VERSION;
+    const FIRST: u32 = FIRST;
 
-    ghost FIRST = { database_version };
+    ghost FIRST = { first_version };
 
     const VERSION: u32 = VERSION;
 
     ghost VERSION = { database_version };
 
-    ghost fields = { λ version. fields_at };
+    ghost fields = { fields_at };
 
     ghost late = { unused_rule };
 
     fn read_parts<'a>(
         alloc: Global,
-        _version: u32,
+        version: u32,
         names: &[Name],
         bytes: &'a [u8],
-    ) -> Result<(Items<(Name, Directives)>, usize, &'a [u8]), FieldFault> {
-        read_parts(alloc, names, bytes)
+    ) -> Result<(Database, usize, &'a [u8]), FieldFault> {
+        read_parts(alloc, version, names, bytes)
     }
 
     fn check_late(
         alloc: Global,
         names: &[Name],
-        value: &Items<(Name, Directives)>,
+        value: &Database,
         behind: usize,
         _place: usize,
     ) -> Result<(), FieldFault> {
-        check_last(alloc, names, value.as_slice(), behind)
+        check_last(alloc, names, value.functions.as_slice(), behind)
     }
 }
 
 /// The database of a whole file.
 fn read_alone(alloc: Global, bytes: &[u8]) -> Result<Database, FileError>
-    ensures { GivesFile (λ db. db.functions) result (value_of (database_file_at bytes.now)) }
+    ensures { GivesFile (λ db. db) result (value_of (database_file_at bytes.now)) }
 {
-    let functions = read_value::<DatabaseFormat>(alloc, bytes)?;
-    Ok(Database { functions })
+    read_value::<DatabaseFormat>(alloc, bytes)
 }
 
 /// The database that the bytes are the file of. A fault is the first field, in order, that is short or
 /// breaks its rule.
 pub fn read(alloc: Global, bytes: &[u8]) -> Result<Database, FileError>
     // The bytes are the file of what is read.
-    ensures found { IfOk result (λ db. IsDatabaseFile bytes.now db.functions) }
+    ensures found { IfOk result (λ db. IsDatabaseFile bytes.now db) }
     // A file of a database is read, unless memory runs out.
-    ensures only { (fs : List (List ℕ × AnyDirectives)) → IsDatabaseFile bytes.now fs → GivesFile (λ db. db.functions) result (Ok fs) }
+    ensures only { (db : AnyDatabase) → IsDatabaseFile bytes.now db → GivesFile (λ db. db) result (Ok db) }
     // Which fault it is.
-    ensures exact { GivesFile (λ db. db.functions) result (value_of (database_file_at bytes.now)) }
+    ensures exact { GivesFile (λ db. db) result (value_of (database_file_at bytes.now)) }
 {
     read_alone(alloc, bytes)
 }
 
-/// The functions of a payload, without its table of names.
-fn read_payload_alone(alloc: Global, bytes: &[u8]) -> Result<Items<(Name, Directives)>, FileError>
-    ensures { GivesFile (λ fs. fs) result (value_of (placed (length bytes.now) (payload_at bytes.now))) }
+/// The database of a payload, without its table of names.
+fn read_payload_alone(alloc: Global, bytes: &[u8]) -> Result<Database, FileError>
+    ensures { GivesFile (λ db. db) result (value_of (placed (length bytes.now) (payload_at bytes.now))) }
 {
     match read_contents::<DatabaseFormat>(alloc, VERSION, bytes) {
         Err(e) => Err(e.at(bytes.len())),
-        Ok(((_names, functions), _)) => Ok(functions),
+        Ok(((_names, db), _)) => Ok(db),
     }
+}
+
+/// The functions of a database, alone.
+fn functions_of(db: Database) -> Items<(Name, Directives)>
+    ensures { result ≡ db.functions }
+{
+    let Database {
+        version: _,
+        functions,
+    } = db;
+    functions
 }
 
 /// The functions that the bytes are the payload of. A fault is the first field, in order, that is short
@@ -442,7 +440,10 @@ pub fn read_payload(alloc: Global, bytes: &[u8]) -> Result<Items<(Name, Directiv
     // A payload is read, unless memory runs out.
     ensures only { (fs : List (List ℕ × AnyDirectives)) → IsPayload bytes.now fs → GivesFile (λ fs. fs) result (Ok fs) }
     // Which fault it is.
-    ensures exact { GivesFile (λ fs. fs) result (value_of (placed (length bytes.now) (payload_at bytes.now))) }
+    ensures exact { GivesFile newest result (value_of (placed (length bytes.now) (payload_at bytes.now))) }
 {
-    read_payload_alone(alloc, bytes)
+    match read_payload_alone(alloc, bytes) {
+        Ok(db) => Ok(functions_of(db)),
+        Err(e) => Err(e),
+    }
 }

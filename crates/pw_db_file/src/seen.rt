@@ -3,10 +3,10 @@
 ghost use Rattle.std.specs.Prelude.{◌≡◌, ℕ, [], ◌∷◌, ◌++◌, map, option_map, IfOk};
 ghost use Rattle.std.specs.Ordering.{nat_cmp};
 ghost use Rattle.std.specs.BTreeMap.{get};
-ghost use Rattle.pw_db.specs.Reading.{first_with};
-ghost use Rattle.pw_db.specs.Seen.{known_web, place_with};
+ghost use Rattle.pw_db_file.specs.Reading.{first_with};
+ghost use Rattle.pw_db_file.specs.Seen.{known_web, place_with};
 
-use crate::database::Web;
+use pw_db::Web;
 use pw_value::{Kind, Name};
 use std::alloc::{AllocError, Global};
 use std::collections::BTreeMap;

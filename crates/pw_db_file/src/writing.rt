@@ -1,15 +1,16 @@
 //! Writing a database.
 
-ghost use Rattle.std.specs.Prelude.{◌≡◌, ◌++◌, ◌<◌, ◌^◌, List, length, map, OnOk, IfOk, All, Contains};
+ghost use Rattle.std.specs.Prelude.{◌≡◌, ◌++◌, ◌<◌, ◌^◌, map, OnOk, IfOk, All, Contains};
 ghost use Rattle.std.specs.List.{flat_map};
 ghost use Rattle.pw_fields.specs.Fields.{u8, FitsU32};
 ghost use Rattle.pw_fields.specs.FieldNames.{IsNameTable, IsTableOf};
 ghost use Rattle.pw_files.specs.Rising.{counted};
-ghost use Rattle.pw_db.specs.Database.{IsDatabase, IsDatabaseFile, IsPayload, FitsFunction, FitsDatabase, IsNamedBy, role_code, web as web_text, function as function_text, names_of, spelling};
+ghost use Rattle.pw_db.specs.Database.{IsDatabase, IsVersioned, of_version};
+ghost use Rattle.pw_db_file.specs.Spelling.{IsDatabaseContents, IsDatabaseFile, IsPayload, FitsFunction, FitsDatabase, IsNamedBy, role_code, sharing, web as web_text, function as function_text, names_of, spelling};
+ghost use Rattle.pw_files.specs.Contents.{IsContentsOf};
 
-use crate::database::{Database, Directives, Role, Web};
 use crate::names::used_names;
-use crate::reading::{KIND, VERSION};
+use pw_db::{Database, Directives, FIRST, KIND, Role, VERSION, Web};
 use pw_fields::names::{push_name, push_names};
 use pw_fields::writing::{push_flag, push_u8, push_u32};
 use pw_files::kinds::push_scalar;
@@ -63,60 +64,101 @@ fn push_registers(out: &mut Vec<u8>, registers: &[u8]) -> Result<(), AllocError>
     Ok(())
 }
 
+/// A list of registers.
+#[tactic(auto, unfolding(pw_files::specs::Rising::counted))]
+fn push_list(out: &mut Vec<u8>, registers: &[u8]) -> Result<(), AllocError>
+    ensures { OnOk result (out.new.items ≡ out.old.items ++ counted u8 registers.now) }
+{
+    push_count(out, registers.len())?;
+    push_registers(out, registers)
+}
+
+/// The registers that a function shares with others, in a version: a count of none stands for them in the first.
+fn push_sharing(
+    out: &mut Vec<u8>,
+    version: u32,
+    directives: &Directives,
+) -> Result<(), AllocError>
+    ensures { OnOk result (out.new.items ≡ out.old.items ++ sharing version (directives.now.free, directives.now.saves)) }
+{
+    if version == FIRST {
+        push_u32(out, 0)
+    } else {
+        push_list(out, directives.free.as_slice())?;
+        push_list(out, directives.saves.as_slice())
+    }
+}
+
 /// A function.
 #[tactic(auto, unfolding(pw_files::specs::Rising::counted))]
 fn push_function(
     out: &mut Vec<u8>,
+    version: u32,
     names: &[Name],
     function: &(Name, Directives),
 ) -> Result<(), AllocError>
     requires table { IsNameTable names.now }
     requires stand { IsNamedBy names.now function.now }
     ensures fits { OnOk result (FitsFunction function.now) }
-    ensures written { OnOk result (out.new.items ≡ out.old.items ++ function_text names.now function.now) }
+    ensures written { OnOk result (out.new.items ≡ out.old.items ++ function_text version names.now function.now) }
 {
     push_name(out, names, &function.0)?;
     push_count(out, function.1.webs.len())?;
     push_webs(out, names, function.1.webs.as_slice())?;
-    push_count(out, function.1.free.len())?;
-    push_registers(out, function.1.free.as_slice())?;
+    push_sharing(out, version, &function.1)?;
     Ok(())
 }
 
 /// Functions, one after the other.
 fn push_functions(
     out: &mut Vec<u8>,
+    version: u32,
     names: &[Name],
     functions: &[&(Name, Directives)],
 ) -> Result<(), AllocError>
     requires table { IsNameTable names.now }
     requires stand { All (λ f. IsNamedBy names.now f.now) functions.now }
     ensures fits { OnOk result (All (λ f. FitsFunction f.now) functions.now) }
-    ensures written { OnOk result (out.new.items ≡ out.old.items ++ flat_map (function_text names.now) (map (λ f. f.now) functions.now)) }
+    ensures written { OnOk result (out.new.items ≡ out.old.items ++ flat_map (function_text version names.now) (map (λ f. f.now) functions.now)) }
 {
     for function in functions {
-        push_function(out, names, function)?;
+        push_function(out, version, names, function)?;
     }
     Ok(())
 }
 
-/// The payload of functions, with this table of names.
+/// The payload of functions in a version, with this table of names.
 #[tactic(auto, unfolding(pw_files::specs::Rising::counted))]
 fn write_contents(
     alloc: Global,
+    version: u32,
     names: &[Name],
     functions: &[&(Name, Directives)],
 ) -> Result<Vec<u8>, AllocError>
     requires table { IsNameTable names.now }
     requires stand { All (λ f. IsNamedBy names.now f.now) functions.now }
     ensures fits { OnOk result (FitsDatabase (map (λ f. f.now) functions.now)) }
-    ensures written { IfOk result (λ v. v.items ≡ spelling (record { names = names.now; value = map (λ f. f.now) functions.now })) }
+    ensures written { IfOk result (λ v. v.items ≡ spelling version (record { names = names.now; value = of_version version (map (λ f. f.now) functions.now) })) }
 {
     let mut out = Vec::new(alloc);
     push_names(&mut out, names)?;
     push_count(&mut out, functions.len())?;
-    push_functions(&mut out, names, functions)?;
+    push_functions(&mut out, version, names, functions)?;
     Ok(out)
+}
+
+/// The payload of a database's functions in a version.
+fn write_version(
+    alloc: Global,
+    version: u32,
+    functions: &[&(Name, Directives)],
+) -> Result<Vec<u8>, AllocError>
+    requires { IsVersioned (of_version version (map (λ f. f.now) functions.now)) }
+    ensures { IfOk result (λ v. IsContentsOf (spelling version) (IsDatabaseContents version) v.items (of_version version (map (λ f. f.now) functions.now))) }
+{
+    let used = used_names(alloc, functions)?;
+    let names = make_table(alloc, used)?;
+    write_contents(alloc, version, &names, functions)
 }
 
 /// The payload of a database's functions.
@@ -127,17 +169,15 @@ pub(crate) fn write_payload(
     requires { IsDatabase (map (λ f. f.now) functions.now) }
     ensures { IfOk result (λ v. IsPayload v.items (map (λ f. f.now) functions.now)) }
 {
-    let used = used_names(alloc, functions)?;
-    let names = make_table(alloc, used)?;
-    write_contents(alloc, &names, functions)
+    write_version(alloc, VERSION, functions)
 }
 
 /// The one file of a database. Where it would be longer than a file can be, that is want of memory.
 pub fn write(alloc: Global, db: &Database) -> Result<Vec<u8>, AllocError>
-    requires { IsDatabase db.now.functions }
-    ensures { IfOk result (λ v. IsDatabaseFile v.items db.now.functions) }
+    requires { IsVersioned db.now }
+    ensures { IfOk result (λ v. IsDatabaseFile v.items db.now) }
 {
     let refs = refs_of(alloc, db.functions.as_slice())?;
-    let payload = write_payload(alloc, &refs)?;
-    seal_payload(alloc, KIND, VERSION, &payload)
+    let payload = write_version(alloc, db.version, &refs)?;
+    seal_payload(alloc, KIND, db.version, &payload)
 }

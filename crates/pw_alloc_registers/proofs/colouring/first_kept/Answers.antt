@@ -16,4 +16,4 @@ pub returns-in-None-clause-first : goal.returns-in-None-clause-first
 returns-in-None-clause-first c = λ cs mask.
     let p = λ (r : ℕ). not (in_mask c.args.away r) in
     let among = find_among (λ r. in_mask c.args.cluster r && p r) (λ r. has r cs) p kept_registers (λ r. ap (λ (b : Bool). b && p r) (mask r)) in
-    c.first_unshared-in-None.ensures.first cs mask ∙ sym (find_second p (shared cs) (unshared cs) (sym among ∙ sym c.first_shared.ensures.first ∙ c.in-None.is))
+    c.first_unshared.ensures.first cs mask ∙ sym (find_second p (shared cs) (unshared cs) (sym among ∙ sym c.first_shared.ensures.first ∙ c.in-None.is))

@@ -12,4 +12,4 @@ returns-in-Some-clause-first c = λ cs mask.
 pub returns-in-None-clause-first : goal.returns-in-None-clause-first
 returns-in-None-clause-first c = λ cs mask.
     let p = λ (r : ℕ). not (in_mask c.args.away r) in
-    c.first_kept-in-None.ensures.first cs mask ∙ sym (find_second p changed_registers (shared cs ++ unshared cs) (sym c.first_in.ensures.first ∙ c.in-None.is))
+    c.first_kept.ensures.first cs mask ∙ sym (find_second p changed_registers (shared cs ++ unshared cs) (sym c.first_in.ensures.first ∙ c.in-None.is))

@@ -1,4 +1,4 @@
-use Rattle.std.proofs.Common.{ℕ, List, [], ◌<◌, ◌++◌, sym, ap, subst}
+use Rattle.std.proofs.Common.{ℕ, List, get_or, ◌++◌, refl, sym, subst}
 use Rattle.std.proofs.lemmas.List.{append-nil, take_all}
 use Rattle.pw_alloc_registers.specs.Masks.{IsMaskOf}
 use Rattle.pw_alloc_registers.proofs.Barring.{more_registers}
@@ -8,12 +8,11 @@ pub loop-register-init : goal.loop-register-init
 loop-register-init c = λ rs mask. subst (IsMaskOf c.args.mask) (sym (append-nil rs)) mask
 
 pub with_register-more-requires : goal.with_register-more-requires
-with_register-more-requires c =
-    subst (λ (r : ℕ). r < 32) (sym c.register-item.is) (c.requires c.loop-register.register-index c.register-item.result.now c.loop-register-test.true)
+with_register-more-requires c = c.requires c.loop-register.register-index 0 c.loop-register-test.true
 
 pub loop-register-preserved : goal.loop-register-preserved
 loop-register-preserved c = λ rs mask.
-    more_registers c.args.registers.now c.loop-register.register-index c.register-item.result.now rs c.loop-register.all c.with_register-more.result c.loop-register-test.true (sym c.register-item.is) c.with_register-more.ensures
+    more_registers c.args.registers.now c.loop-register.register-index (get_or c.args.registers.now c.loop-register.register-index 0) rs c.loop-register.all c.with_register-more.result c.loop-register-test.true refl c.with_register-more.ensures
     (c.loop-register.invariant rs mask)
 
 pub returns : goal.returns

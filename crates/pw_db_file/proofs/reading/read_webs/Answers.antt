@@ -2,10 +2,10 @@ use Rattle.std.proofs.Common.{◌≡◌, ◌++◌, map, Ok}
 use Rattle.std.proofs.lemmas.Result.{err_from_is_err_and}
 use Rattle.pw_fields.specs.FieldFaults.{Fails}
 use Rattle.pw_fields.proofs.FieldLoops.{goes_on, ends, is_done}
-use Rattle.pw_db.specs.Reading.{web_at, next_web}
-use Rattle.pw_db.specs.Seen.{known_web}
-use Rattle.pw_db.proofs.SeenLaws.{web_behind, one_more, webs_pushed, seen_more}
-use Rattle.pw_db.proofs.reading.read_webs.Goals as goal
+use Rattle.pw_db_file.specs.Reading.{web_at, next_web}
+use Rattle.pw_db_file.specs.Seen.{known_web}
+use Rattle.pw_db_file.proofs.SeenLaws.{web_behind, one_more, webs_pushed, seen_more}
+use Rattle.pw_db_file.proofs.reading.read_webs.Goals as goal
 
 pub returns-in_err-known-clause-found : goal.returns-in_err-known-clause-found
 returns-in_err-known-clause-found c =

@@ -1,9 +1,9 @@
 use Rattle.std.proofs.Common.{◌≡◌, ◌-◌, ◌++◌, [], map}
 use Rattle.pw_fields.specs.Fields.{items_at}
 use Rattle.pw_fields.proofs.FieldLoops.{with_front}
-use Rattle.pw_db.specs.Reading.{web_at, next_web}
-use Rattle.pw_db.specs.Seen.{known_web}
-use Rattle.pw_db.proofs.reading.read_webs.Given as goal
+use Rattle.pw_db_file.specs.Reading.{web_at, next_web}
+use Rattle.pw_db_file.specs.Seen.{known_web}
+use Rattle.pw_db_file.proofs.reading.read_webs.Given as goal
 
 abbrev pub invariant-loop : goal.invariant-loop
 invariant-loop l =

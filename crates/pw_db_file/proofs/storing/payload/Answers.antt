@@ -7,9 +7,11 @@ use Rattle.std.proofs.lemmas.Fn.{always_returns_same}
 use Rattle.std.proofs.lemmas.List.Sorted.{ranks_by}
 use Rattle.pw_value.specs.declared.name.Name.{Name}
 use Rattle.pw_db.specs.declared.database.Directives.{Directives}
-use Rattle.pw_db.specs.Database.{IsDatabase, IsPayload}
-use Rattle.pw_db.proofs.StoringLaws.{is_stored, stored_payload}
-use Rattle.pw_db.proofs.storing.payload.Goals as goal
+use Rattle.pw_db.specs.Database.{IsDatabase}
+use Rattle.pw_db.proofs.StoringLaws.{is_stored}
+use Rattle.pw_db_file.specs.Spelling.{IsPayload}
+use Rattle.pw_db_file.proofs.WritingLemmas.{stored_payload}
+use Rattle.pw_db_file.proofs.storing.payload.Goals as goal
 
 pub write_payload-requires : goal.write_payload-requires
 write_payload-requires c =

@@ -3,7 +3,7 @@ use Rattle.pw_fields.specs.Fields.{FitsU32}
 use Rattle.pw_db.specs.declared.database.Web.{Web}
 use Rattle.pw_db.specs.declared.database.Role.{Role}
 use Rattle.pw_files.proofs.Views.{all_by_seen}
-use Rattle.pw_db.proofs.writing.push_function.Goals as goal
+use Rattle.pw_db_file.proofs.writing.push_function.Goals as goal
 
 pub returns-clause-fits : goal.returns-clause-fits
 returns-clause-fits c = record {

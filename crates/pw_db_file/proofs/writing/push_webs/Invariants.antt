@@ -3,8 +3,8 @@ use Rattle.std.specs.List.{flat_map}
 use Rattle.pw_fields.specs.Fields.{FitsU32}
 use Rattle.pw_db.specs.declared.database.Web.{Web}
 use Rattle.pw_db.specs.declared.database.Role.{Role}
-use Rattle.pw_db.specs.Database.{web}
-use Rattle.pw_db.proofs.writing.push_webs.Given as goal
+use Rattle.pw_db_file.specs.Spelling.{web}
+use Rattle.pw_db_file.proofs.writing.push_webs.Given as goal
 
 abbrev pub invariant-loop-web : goal.invariant-loop-web
 invariant-loop-web l = record {

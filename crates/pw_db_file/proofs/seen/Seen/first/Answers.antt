@@ -1,9 +1,9 @@
 use Rattle.std.proofs.Common.{List, map, sym, ap, ◌∙◌}
 use Rattle.std.specs.Prelude.{option_map, slice_get}
-use Rattle.pw_db.specs.declared.seen.Known.{Known}
-use Rattle.pw_db.specs.Seen.{known_web}
-use Rattle.pw_db.proofs.SeenLaws.{first_none, first_some, got}
-use Rattle.pw_db.proofs.seen.Seen.first.Goals as goal
+use Rattle.pw_db_file.specs.declared.seen.Known.{Known}
+use Rattle.pw_db_file.specs.Seen.{known_web}
+use Rattle.pw_db_file.proofs.SeenLaws.{first_none, first_some, got}
+use Rattle.pw_db_file.proofs.seen.Seen.first.Goals as goal
 
 pub returns-in-None : goal.returns-in-None
 returns-in-None c = sym (first_none c.args.id (map known_web c.args.self.now.webs.items) (sym (c.args.self.now.indexed c.args.id) ∙ sym c.in-None.ensures.value))

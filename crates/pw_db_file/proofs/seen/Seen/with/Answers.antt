@@ -4,10 +4,10 @@ use Rattle.std.specs.Ordering.{is_eq}
 use Rattle.std.specs.BTreeMap.{BTreeMap, get}
 use Rattle.std.proofs.lemmas.List.{length-map}
 use Rattle.pw_db.specs.declared.database.Web.{Web}
-use Rattle.pw_db.specs.Seen.{known_web, place_with}
-use Rattle.pw_db.proofs.SeenLaws.{new_place, old_place, nowhere, somewhere, known_pushed}
-use Rattle.pw_db.proofs.seen.Seen.with.Goals.{then-is_none+in_ok-insert, else-is_none}
-use Rattle.pw_db.proofs.seen.Seen.with.Goals as goal
+use Rattle.pw_db_file.specs.Seen.{known_web, place_with}
+use Rattle.pw_db_file.proofs.SeenLaws.{new_place, old_place, nowhere, somewhere, known_pushed}
+use Rattle.pw_db_file.proofs.seen.Seen.with.Goals.{then-is_none+in_ok-insert, else-is_none}
+use Rattle.pw_db_file.proofs.seen.Seen.with.Goals as goal
 
 pub invariant_of-result : goal.invariant_of-result
 invariant_of-result c =
