@@ -227,7 +227,9 @@ lawful_webs g colours qs db few made f = record {
   numbers = two_webs g (λ (a b : ℕ × RawWeb × ℕ). a.0 < b.0) (λ a b. a.id < b.id) f qs (λ q p h k m n lt. lt) made.rise;
   globals = two_webs g AreApart (λ a b. a.global ≡ b.global → ⊥) f qs (λ q p h k m n apart e. (apart f m n).1 (one_global g q.1 p.1 made.globals (made.raw q h) (made.raw p k) e)) made.apart;
   registers = two_webs g AreApart (λ a b. a.reg ≡ b.reg → ⊥) f qs (λ q p h k m n apart e. (apart f m n).0 e) made.apart;
-  free = refl;
+  free = tt;
+  saves = tt;
+  apart = tt;
 }
 
 pub lawful : (g : CallGraph) (colours : ℕ) (qs : List (ℕ × RawWeb × ℕ)) (db : List (List ℕ × Directives)) → colours ≤ register_count → IsMade g colours qs db → IsDatabase db

@@ -220,5 +220,7 @@ module _ (g : CallGraph) (colours : ℕ) (qs : List (ℕ × RawWeb × ℕ)) (db 
     free = λ f r i.
         let none : i.directives.free ≡ [] = ap (λ (d : Directives). d.free) ((made.of f i.directives).0 i.there).2 in
         absurd (has_by r [] (subst (λ (rs : List ℕ). Contains rs r) none i.register));
-    saves = λ f r i w has. absurd (has_by r [] i.register);
+    saves = λ f r i w has.
+        let none : i.directives.saves ≡ [] = ap (λ (d : Directives). d.saves) ((made.of f i.directives).0 i.there).2 in
+        absurd (has_by r [] (subst (λ (rs : List ℕ). Contains rs r) none i.register));
   }

@@ -27,10 +27,10 @@ use Rattle.pw_db.specs.declared.database.Web.{Web}
 use Rattle.pw_db.specs.declared.database.Role.{Role}
 use Rattle.pw_db.specs.declared.database.Database.{Database}
 use Rattle.pw_db.specs.declared.database.Directives.{Directives}
-use Rattle.pw_db.specs.Database.{EachTwo, IsWeb, webs_of, IsDirectives, all_webs, Agree, kind, first_version, database_version, IsUnshared, of_version, newest, IsStored}
+use Rattle.pw_db.specs.Database.{EachTwo, IsWeb, webs_of, IsDirectives, all_webs, Agree, kind, first_version, database_version, IsUnshared, IsDatabase, of_version, newest, IsStored}
 use Rattle.pw_db.proofs.StoringLaws.{one_stored}
-use Rattle.pw_db_file.specs.Spelling.{web, sharing, function, names_of_function, names_of, names_in, FitsFunction, spelling, IsDatabaseContents, IsDatabaseFile, IsPayload}
-use Rattle.pw_db_file.specs.Reading.{web_at, next_web, webs_at, sharing_at, Before, function_at, next_function, nothing_before, functions_at, unused_rule, fields_at, payload_at, database_file_at}
+use Rattle.pw_db_file.specs.Spelling.{web, sharing, function, names_of_function, names_of, names_in, FitsFunction, spelling, IsDatabaseContents, IsDatabaseFile, IsNewFile, IsPayload}
+use Rattle.pw_db_file.specs.Reading.{web_at, next_web, webs_at, sharing_at, Before, function_at, next_function, nothing_before, functions_at, unused_rule, fields_at, payload_at, database_file_at, functions_in}
 use Rattle.pw_db_file.proofs.EachTwoLaws.{two_push, two_last, two_front, agree_all, first_same}
 use Rattle.pw_db_file.proofs.WebLaws.{FitsWeb, web_spells}
 use Rattle.pw_db_file.proofs.SharingLaws.{FitsSharing, sharing_spells}
@@ -291,6 +291,19 @@ found_by bytes r fits given = files.found_by kind first_version database_version
 pub only_by : (bytes : List ℕ) (r : Result Database FileError) → GivesFile (λ db. db) r (value_of (database_file_at bytes)) → (db : Database) → IsDatabaseFile bytes db → GivesFile (λ db. db) r (Ok db)
 only_by bytes r given db is = files.only_by kind first_version database_version fields_at unused_rule spelling IsDatabaseContents contents_spells (lit< tt) (lit< tt) bytes r given db is
 
+-- the same of its functions alone
+pub functions_by : (r : Result Database FileError) (found : Result Database ℕ) → GivesFile (λ db. db) r found → GivesFile (λ db. db.functions) r (functions_in found)
+functions_by (Ok db) found given = ap functions_in given
+functions_by (Err e) found given = fails e found given
+  where
+    fails : (e : FileError) (found : Result Database ℕ) → FailsFile e found → FailsFile e (functions_in found)
+    fails file.NoMemory found h = tt
+    fails (file.FileFault at) found h = ap functions_in h
+
+pub lawful_by : (bytes : List ℕ) (r : Result Database FileError) → IfOk r (IsDatabaseFile bytes) → IfOk r (λ db. IsDatabase db.functions)
+lawful_by bytes (Ok db) is = is.1.fits.contents.lawful.functions
+lawful_by bytes (Err e) is = tt
+
 -- ---- the payload alone
 
 abbrev pub alone : List ℕ → Result Database ℕ
@@ -355,6 +368,9 @@ known_version m n c d m_from m_to n_from n_to one two same = sym one.version_is 
 
 pub one_file : (bytes others : List ℕ) (db : Database) → IsDatabaseFile bytes db → IsDatabaseFile others db → bytes ≡ others
 one_file = files.one_file kind first_version database_version spelling IsDatabaseContents names_in known_version (λ n c is. is.contents.names)
+
+pub one_new_file : (bytes others : List ℕ) (fs : Functions) → IsNewFile bytes fs → IsNewFile others fs → bytes ≡ others
+one_new_file bytes others fs p q = one_file bytes others (newest fs) p q
 
 pub one_list : (bytes : List ℕ) (fs gs : Functions) → IsPayload bytes fs → IsPayload bytes gs → fs ≡ gs
 one_list bytes fs gs p q = let both : got (newest fs) ≡ got (newest gs) = sym (payload_again bytes fs p) ∙ payload_again bytes gs q in cc

@@ -1,5 +1,5 @@
 -- Reading a database from left to right, with the first fault that is met.
-use Rattle.std.specs.Prelude.{ℕ, zero, suc, ◌==◌, ◌&&◌, nat_le, nat_lt, not, Bool, true, List, [], ◌∷◌, ◌++◌, Option, Some, None, Result, if◌then◌else◌}
+use Rattle.std.specs.Prelude.{ℕ, zero, suc, ◌==◌, ◌&&◌, nat_le, nat_lt, not, Bool, true, List, [], ◌∷◌, ◌++◌, Option, Some, None, Result, Ok, Err, if◌then◌else◌}
 use Rattle.std.specs.List.{list_all}
 use Rattle.std.specs.Str.{bytes_eq}
 use Rattle.pw_value.specs.declared.value.Kind.{Kind}
@@ -153,3 +153,8 @@ payload_at = contents_at (fields_at database_version) unused_rule
 
 abbrev pub database_file_at : List ℕ → Result (Contents Database) ℕ
 database_file_at = contents_file_at kind first_version database_version fields_at unused_rule
+
+-- its functions alone, whatever the version
+abbrev pub functions_in : Result Database ℕ → Result (List (List ℕ × Directives)) ℕ
+functions_in (Ok db) = Ok db.functions
+functions_in (Err at) = Err at

@@ -65,6 +65,10 @@ pub record IsDatabaseContents (version : ℕ) (c : Contents Database) : Type 0 w
 abbrev pub IsDatabaseFile : List ℕ → Database → Type 0
 IsDatabaseFile = IsFileWith kind first_version database_version spelling IsDatabaseContents
 
+-- the file of functions in the last version
+abbrev pub IsNewFile : List ℕ → List (List ℕ × Directives) → Type 0
+IsNewFile bytes fs = IsDatabaseFile bytes (newest fs)
+
 -- the bytes are the payload of the functions, alone and in the last version
 abbrev pub IsPayload : List ℕ → List (List ℕ × Directives) → Type 0
 IsPayload bytes fs = IsContentsOf (spelling database_version) (IsDatabaseContents database_version) bytes (newest fs)

@@ -7,13 +7,14 @@ ghost use Rattle.pw_files.specs.Faults.{FaultsStay, PayloadFaultsStay};
 ghost use Rattle.pw_db.specs.declared.database.Database.{Database};
 ghost use Rattle.pw_db.specs.declared.database.Directives.{Directives};
 ghost use Rattle.pw_db.specs.Database.{IsStored, kind, first_version, database_version};
-ghost use Rattle.pw_db_file.specs.Spelling.{IsDatabaseFile, IsPayload};
+ghost use Rattle.pw_db_file.specs.Spelling.{IsDatabaseFile, IsNewFile, IsPayload};
 ghost use Rattle.pw_db_file.specs.Reading.{fields_at, payload_at, database_file_at};
 
 /// No bytes are the file of two databases, and no database has two files.
 pub fn databases_and_files_are_one_to_one()
     ensures one_database { (bytes : List ℕ) (one other : Database) → IsDatabaseFile bytes one → IsDatabaseFile bytes other → one ≡ other }
     ensures one_file { (bytes others : List ℕ) (db : Database) → IsDatabaseFile bytes db → IsDatabaseFile others db → bytes ≡ others }
+    ensures one_new_file { (bytes others : List ℕ) (fs : List (List ℕ × Directives)) → IsNewFile bytes fs → IsNewFile others fs → bytes ≡ others }
 {}
 
 /// The same of payloads.

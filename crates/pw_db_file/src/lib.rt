@@ -11,4 +11,4 @@ mod writing;
 
 pub use reading::{read, read_payload};
 pub use storing::payload;
-pub use writing::write;
+pub use writing::{write, write_functions};

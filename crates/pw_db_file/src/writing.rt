@@ -6,7 +6,7 @@ ghost use Rattle.pw_fields.specs.Fields.{u8, FitsU32};
 ghost use Rattle.pw_fields.specs.FieldNames.{IsNameTable, IsTableOf};
 ghost use Rattle.pw_files.specs.Rising.{counted};
 ghost use Rattle.pw_db.specs.Database.{IsDatabase, IsVersioned, of_version};
-ghost use Rattle.pw_db_file.specs.Spelling.{IsDatabaseContents, IsDatabaseFile, IsPayload, FitsFunction, FitsDatabase, IsNamedBy, role_code, sharing, web as web_text, function as function_text, names_of, spelling};
+ghost use Rattle.pw_db_file.specs.Spelling.{IsDatabaseContents, IsDatabaseFile, IsNewFile, IsPayload, FitsFunction, FitsDatabase, IsNamedBy, role_code, sharing, web as web_text, function as function_text, names_of, spelling};
 ghost use Rattle.pw_files.specs.Contents.{IsContentsOf};
 
 use crate::names::used_names;
@@ -180,4 +180,17 @@ pub fn write(alloc: Global, db: &Database) -> Result<Vec<u8>, AllocError>
     let refs = refs_of(alloc, db.functions.as_slice())?;
     let payload = write_version(alloc, db.version, &refs)?;
     seal_payload(alloc, KIND, db.version, &payload)
+}
+
+/// The one file of functions, in the last version.
+pub fn write_functions(
+    alloc: Global,
+    functions: &[(Name, Directives)],
+) -> Result<Vec<u8>, AllocError>
+    requires { IsDatabase functions.now }
+    ensures { IfOk result (λ v. IsNewFile v.items functions.now) }
+{
+    let refs = refs_of(alloc, functions)?;
+    let payload = write_payload(alloc, &refs)?;
+    seal_payload(alloc, KIND, VERSION, &payload)
 }

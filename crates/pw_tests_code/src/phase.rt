@@ -4,7 +4,8 @@ ghost use Rattle.pw_flow.specs.ValidFlow.{IsValid};
 ghost use Rattle.pw_db.specs.Database.{IsDatabase};
 
 use crate::codes::push_object;
-use pw_db::{Database, read_payload};
+use pw_db::{Database, VERSION};
+use pw_db_file::read_payload;
 use pw_flow::FlowModule;
 use pw_object::Object;
 use pw_phase_two::{directives_for, phase_two};

@@ -1,7 +1,8 @@
 //! Databases and their payloads as text.
 
 use crate::shown::{push_again, push_value, push_word};
-use pw_db::{Directives, Role, Web, of_module, payload, read, read_payload, write};
+use pw_db::{Directives, Role, Web, of_module};
+use pw_db_file::{payload, read, read_payload, write};
 use pw_rows::Text;
 use pw_value::Name;
 

@@ -2,7 +2,8 @@
 
 use crate::shown::{push_again, push_names, push_row, push_shaped, push_value, push_word};
 use pw_rows::Text;
-use pw_summary::{Summary, Uses, read, write};
+use pw_summary::{Summary, Uses};
+use pw_summary_file::{read, write};
 use pw_value::{Kind, Name, Shape};
 
 /// Adds objects, each with its name, its shape, its kind and whether it is volatile.

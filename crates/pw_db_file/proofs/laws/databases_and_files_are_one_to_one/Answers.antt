@@ -6,3 +6,6 @@ returns-clause-one_database c = laws.one_database
 
 pub returns-clause-one_file : goal.returns-clause-one_file
 returns-clause-one_file c = laws.one_file
+
+pub returns-clause-one_new_file : goal.returns-clause-one_new_file
+returns-clause-one_new_file c = laws.one_new_file

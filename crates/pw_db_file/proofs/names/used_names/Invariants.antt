@@ -1,5 +1,5 @@
 use Rattle.std.proofs.Common.{◌≡◌, map, take}
-use Rattle.pw_db.specs.Database.{names_of}
+use Rattle.pw_db_file.specs.Spelling.{names_of}
 use Rattle.pw_db_file.proofs.names.used_names.Given as goal
 
 abbrev pub invariant-loop-function : goal.invariant-loop-function
