@@ -6,7 +6,8 @@ use Rattle.pw_files.proofs.Standing.{Has, has_by}
 use Rattle.pw_db.specs.Limits.{first_register, last_register, colour_limit}
 use Rattle.pw_flow.specs.Outline.{Outline}
 use Rattle.pw_live.specs.Points.{points}
-use Rattle.pw_clusters.specs.Needs.{need, need_limit, most_short, changed_count}
+use Rattle.pw_summary.specs.Summary.{need_limit}
+use Rattle.pw_live_needs.specs.Needs.{need, most_short, changed_count}
 use Rattle.pw_clusters.specs.Saving.{last_registers, saves_by, free_by}
 
 pub few : (f : Outline) → need f ≤ need_limit

@@ -1,4 +1,3 @@
-pub mod Needs
 pub mod Clusters
 pub mod Saving
 pub mod Sharing

@@ -7,8 +7,8 @@ use Rattle.pw_db_file.specs.Spelling.{IsDatabaseContents, spelling}
 use Rattle.pw_db_file.proofs.WritingLemmas.{is_file}
 use Rattle.pw_db_file.proofs.writing.write.Goals as goal
 
-pub write_version-payload-requires : goal.write_version-payload-requires
-write_version-payload-requires c =
+pub write_version-requires : goal.write_version-requires
+write_version-requires c =
     let same = ap (λ (rs : List (Bor (Name × Directives))). map (λ f. f.now) rs) c.deref.ensures.value ∙ c.in_ok-refs.ensures ∙ c.as_slice.ensures in
     subst (λ (fs : List (List ℕ × Directives)). IsVersioned (of_version c.args.db.now.version fs)) (sym same) c.requires
 

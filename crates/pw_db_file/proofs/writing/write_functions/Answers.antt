@@ -6,8 +6,8 @@ use Rattle.pw_db_file.specs.Spelling.{IsPayload}
 use Rattle.pw_db_file.proofs.WritingLemmas.{is_file, newest_lawful}
 use Rattle.pw_db_file.proofs.writing.write_functions.Goals as goal
 
-pub write_payload-payload-requires : goal.write_payload-payload-requires
-write_payload-payload-requires c =
+pub write_payload-requires : goal.write_payload-requires
+write_payload-requires c =
     let same = ap (λ (rs : List (Bor (Name × Directives))). map (λ f. f.now) rs) c.deref.ensures.value ∙ c.in_ok-refs.ensures in
     subst IsDatabase (sym same) c.requires
 
