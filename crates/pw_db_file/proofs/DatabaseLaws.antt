@@ -27,7 +27,7 @@ use Rattle.pw_db.specs.declared.database.Web.{Web}
 use Rattle.pw_db.specs.declared.database.Role.{Role}
 use Rattle.pw_db.specs.declared.database.Database.{Database}
 use Rattle.pw_db.specs.declared.database.Directives.{Directives}
-use Rattle.pw_db.specs.Database.{EachTwo, IsWeb, webs_of, IsDirectives, all_webs, Agree, kind, first_version, database_version, IsUnshared, IsDatabase, of_version, newest, IsStored}
+use Rattle.pw_db.specs.Database.{EachTwo, IsWeb, webs_of, IsDirectives, all_webs, Agree, kind, first_version, database_version, IsUnshared, IsDatabase, IsVersioned, of_version, newest, IsStored}
 use Rattle.pw_db.proofs.StoringLaws.{one_stored}
 use Rattle.pw_db_file.specs.Spelling.{web, sharing, function, names_of_function, names_of, names_in, FitsFunction, spelling, IsDatabaseContents, IsDatabaseFile, IsNewFile, IsPayload}
 use Rattle.pw_db_file.specs.Reading.{web_at, next_web, webs_at, sharing_at, Before, function_at, next_function, nothing_before, functions_at, unused_rule, fields_at, payload_at, database_file_at, functions_in}
@@ -303,6 +303,10 @@ functions_by (Err e) found given = fails e found given
 pub lawful_by : (bytes : List ℕ) (r : Result Database FileError) → IfOk r (IsDatabaseFile bytes) → IfOk r (λ db. IsDatabase db.functions)
 lawful_by bytes (Ok db) is = is.1.fits.contents.lawful.functions
 lawful_by bytes (Err e) is = tt
+
+pub versioned_by : (bytes : List ℕ) (r : Result Database FileError) → IfOk r (IsDatabaseFile bytes) → IfOk r (λ db. IsVersioned db)
+versioned_by bytes (Ok db) is = is.1.fits.contents.lawful
+versioned_by bytes (Err e) is = tt
 
 -- ---- the payload alone
 

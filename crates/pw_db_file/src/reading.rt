@@ -12,7 +12,7 @@ ghost use Rattle.pw_value.specs.ProgramNames.{same_truth};
 ghost use Rattle.pw_files.specs.Contents.{broken_at, value_of};
 ghost use Rattle.pw_db.specs.declared.database.Directives.{Directives as AnyDirectives};
 ghost use Rattle.pw_db.specs.declared.database.Database.{Database as AnyDatabase};
-ghost use Rattle.pw_db.specs.Database.{kind as kind_of_file, first_version, database_version, IsDatabase, webs_of, newest};
+ghost use Rattle.pw_db.specs.Database.{kind as kind_of_file, first_version, database_version, IsDatabase, IsVersioned, webs_of, newest};
 ghost use Rattle.pw_db_file.specs.Spelling.{IsDatabaseFile, IsPayload, names_of};
 ghost use Rattle.pw_db_file.specs.Reading.{fits_first, number_at, global_at, kind_at, register_at, writes_at, role_at, web_at, webs_at, function_at, next_function, nothing_before, functions_at, unused_rule, fields_at, payload_at, database_file_at, functions_in};
 ghost use Rattle.pw_db_file.specs.Seen.{known_web};
@@ -410,6 +410,7 @@ pub fn read(alloc: Global, bytes: &[u8]) -> Result<Database, FileError>
     // The same of its functions alone.
     ensures functions { GivesFile (λ db. db.functions) result (functions_in (value_of (database_file_at bytes.now))) }
     ensures lawful { IfOk result (λ db. IsDatabase db.functions) }
+    ensures versioned { IfOk result (λ db. IsVersioned db) }
 {
     read_alone(alloc, bytes)
 }

@@ -1,5 +1,5 @@
 -- What is read is the file of a summary, and the file of a summary is read.
-use Rattle.std.proofs.Common.{◌≡◌, ℕ, ◌<◌, ◌≤◌, Bool, true, false, List, [], ◌∷◌, ◌++◌, length, map, Result, Ok, refl, sym, ap, subst, ◌∙◌, append_assoc, arith, lit<}
+use Rattle.std.proofs.Common.{◌≡◌, ℕ, ◌<◌, ◌≤◌, Bool, true, false, List, [], ◌∷◌, ◌++◌, length, map, Result, Ok, Err, refl, sym, ap, subst, ◌∙◌, append_assoc, arith, lit<}
 use Rattle.std.specs.Prelude.{IsTrue, IfOk, Option, None, Some, Contains, nat_lt, nat_le, ◌==◌, if◌then◌else◌}
 use Rattle.std.specs.List.{flat_map, AllByRecursion}
 use Rattle.std.proofs.lemmas.Bool.{ltb-true, lt-ltb, leb-true, le-leb, eqb-true, eq-eqb}
@@ -30,7 +30,7 @@ use Rattle.pw_files.proofs.ContentsLaws.{ModuleRules, module_rules_forth, module
 use Rattle.pw_files.proofs.ContentsLaws as files
 use Rattle.pw_summary.specs.declared.summary.Uses.{Uses}
 use Rattle.pw_summary.specs.declared.summary.Summary.{Summary}
-use Rattle.pw_summary.specs.Summary.{global_names, function_names, IsUses, IsSummary, kind, first_version, summary_version, weight_bound, need_limit}
+use Rattle.pw_summary.specs.Summary.{global_names, function_names, IsUses, IsSummary, IsVersioned, kind, first_version, summary_version, weight_bound, need_limit}
 use Rattle.pw_summary_file.specs.Spelling.{global, reference, need, uses, others, names_of_uses, names_of, FitsUses, FitsSummary, spelling, IsSummaryContents, IsSummaryFile}
 use Rattle.pw_summary_file.specs.Reading.{global_at, weight_at, reference_at, some_need_at, need_at, uses_at, last_rules, fields_at, summary_file_at}
 use Rattle.pw_summary_file.proofs.Parts.{row_at, in_a_row}
@@ -368,6 +368,14 @@ found_by = files.found_by kind first_version summary_version fields_at last_rule
 
 pub only_by : (bytes : List ℕ) (r : Result Summary FileError) → GivesFile (λ s. s) r (value_of (summary_file_at bytes)) → (s : Summary) → IsSummaryFile bytes s → GivesFile (λ s. s) r (Ok s)
 only_by = files.only_by kind first_version summary_version fields_at last_rules spelling IsSummaryContents contents_spells (lit< tt) (lit< tt)
+
+pub lawful_by : (bytes : List ℕ) (r : Result Summary FileError) → IfOk r (IsSummaryFile bytes) → IfOk r (λ s. IsSummary s)
+lawful_by bytes (Ok s) is = is.1.fits.contents.lawful.summary
+lawful_by bytes (Err e) is = tt
+
+pub versioned_by : (bytes : List ℕ) (r : Result Summary FileError) → IfOk r (IsSummaryFile bytes) → IfOk r (λ s. IsVersioned s)
+versioned_by bytes (Ok s) is = is.1.fits.contents.lawful
+versioned_by bytes (Err e) is = tt
 
 pub one_summary : (bytes : List ℕ) (s t : Summary) → IsSummaryFile bytes s → IsSummaryFile bytes t → s ≡ t
 one_summary = files.one_value kind first_version summary_version fields_at last_rules spelling IsSummaryContents contents_spells (lit< tt) (lit< tt)

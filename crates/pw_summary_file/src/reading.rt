@@ -8,7 +8,7 @@ ghost use Rattle.pw_fields.specs.FieldFrame.{ended};
 ghost use Rattle.pw_files.specs.Rising.{next_key, rising_at};
 ghost use Rattle.pw_files.specs.Contents.{broken_at, value_of};
 ghost use Rattle.pw_summary.specs.declared.summary.Summary.{Summary as AnySummary};
-ghost use Rattle.pw_summary.specs.Summary.{kind as kind_of_file, first_version, summary_version};
+ghost use Rattle.pw_summary.specs.Summary.{kind as kind_of_file, first_version, summary_version, IsSummary, IsVersioned};
 ghost use Rattle.pw_summary_file.specs.Spelling.{IsSummaryFile};
 ghost use Rattle.pw_summary_file.specs.Reading.{global_at, weight_at, reference_at, some_need_at, need_at, uses_at, defined_at, used_at, last_rules, fields_at, summary_file_at};
 
@@ -346,6 +346,8 @@ pub fn read(alloc: Global, bytes: &[u8]) -> Result<Summary, FileError>
     ensures only { (s : AnySummary) → IsSummaryFile bytes.now s → GivesFile (λ s. s) result (Ok s) }
     // Which fault it is.
     ensures exact { GivesFile (λ s. s) result (value_of (summary_file_at bytes.now)) }
+    ensures lawful { IfOk result (λ s. IsSummary s) }
+    ensures versioned { IfOk result (λ s. IsVersioned s) }
 {
     read_value::<SummaryFormat>(alloc, bytes)
 }

@@ -1,5 +1,5 @@
-use Rattle.std.proofs.Common.{ℕ, List, get_or, ◌++◌, refl, sym, subst}
-use Rattle.std.proofs.lemmas.List.{append-nil, take_all}
+use Rattle.std.proofs.Common.{ℕ, List, get_or, ◌++◌, sym, subst}
+use Rattle.std.proofs.lemmas.List.{append-nil, take_all, get_or_default}
 use Rattle.pw_alloc_registers.specs.Masks.{IsMaskOf}
 use Rattle.pw_alloc_registers.proofs.Barring.{more_registers}
 use Rattle.pw_alloc_registers.proofs.finding.with_registers.Goals as goal
@@ -12,7 +12,7 @@ with_register-more-requires c = c.requires c.loop-register.register-index 0 c.lo
 
 pub loop-register-preserved : goal.loop-register-preserved
 loop-register-preserved c = λ rs mask.
-    more_registers c.args.registers.now c.loop-register.register-index (get_or c.args.registers.now c.loop-register.register-index 0) rs c.loop-register.all c.with_register-more.result c.loop-register-test.true refl c.with_register-more.ensures
+    more_registers c.args.registers.now c.loop-register.register-index (get_or c.args.registers.now c.loop-register.register-index 0) rs c.loop-register.all c.with_register-more.result c.loop-register-test.true (get_or_default c.args.registers.now c.loop-register.register-index (get_or c.args.registers.now c.loop-register.register-index 0) 0 c.loop-register-test.true) c.with_register-more.ensures
     (c.loop-register.invariant rs mask)
 
 pub returns : goal.returns

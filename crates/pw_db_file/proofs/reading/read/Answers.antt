@@ -1,5 +1,5 @@
 use Rattle.std.proofs.Common.{arith}
-use Rattle.pw_db_file.proofs.DatabaseLaws.{found_by, only_by, functions_by, lawful_by}
+use Rattle.pw_db_file.proofs.DatabaseLaws.{found_by, only_by, functions_by, lawful_by, versioned_by}
 use Rattle.pw_db_file.proofs.reading.read.Goals as goal
 
 pub returns-clause-found : goal.returns-clause-found
@@ -13,3 +13,6 @@ returns-clause-functions c = functions_by c.read_alone.result _ c.read_alone.ens
 
 pub returns-clause-lawful : goal.returns-clause-lawful
 returns-clause-lawful c = lawful_by c.args.bytes.now c.read_alone.result (found_by c.args.bytes.now c.read_alone.result (λ i. omega (arith, c.type_inv.bytes i)) c.read_alone.ensures)
+
+pub returns-clause-versioned : goal.returns-clause-versioned
+returns-clause-versioned c = versioned_by c.args.bytes.now c.read_alone.result (found_by c.args.bytes.now c.read_alone.result (λ i. omega (arith, c.type_inv.bytes i)) c.read_alone.ensures)
