@@ -353,8 +353,13 @@ pub payload_exact : (bytes : List ℕ) (r : Result Database FileError) (db : Dat
 payload_exact bytes r db fs fits given is same =
     given_is bytes r db given is ∙ ap got ((payload_found bytes db fits (given_is bytes r db given is)).1 ∙ ap newest (sym same))
 
+-- the functions of what was found
+value_in : Result Database ℕ → Result Functions ℕ
+value_in (Ok db) = Ok db.functions
+value_in (Err at) = Err at
+
 pub payload_only : (bytes : List ℕ) (r : Result Functions FileError) → GivesFile newest r (alone bytes) → (fs : Functions) → IsPayload bytes fs → GivesFile (λ fs. fs) r (Ok fs)
-payload_only bytes (Ok gs) given fs is = let both : got (newest fs) ≡ got (newest gs) = sym (payload_again bytes fs is) ∙ given in cc
+payload_only bytes (Ok gs) given fs is = ap value_in (sym (payload_again bytes fs is) ∙ given)
 payload_only bytes (Err e) given fs is = fails e (alone bytes) given (payload_again bytes fs is)
   where
     fails : (e : FileError) (found : Result Database ℕ) → FailsFile e found → found ≡ Ok (newest fs) → FailsFile e (value fs)

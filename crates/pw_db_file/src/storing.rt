@@ -10,10 +10,11 @@ use pw_db::Directives;
 use pw_value::Name;
 use std::alloc::{AllocError, Global};
 
-/// Whether directives hold a web, a register that is free to use, or one to save for others.
-fn says_something(directives: &Directives) -> bool
-    ensures { (name : List ℕ) → result ≡ says_something (name, directives.now) }
+/// Whether the directives of a function hold a web, a register that is free to use, or one to save for others.
+fn says_something(function: &(Name, Directives)) -> bool
+    ensures { result ≡ says_something function.now }
 {
+    let directives = &function.1;
     !directives.webs.is_empty() || (!directives.free.is_empty() || !directives.saves.is_empty())
 }
 
@@ -26,7 +27,7 @@ fn speaking(
 {
     let mut stored = Vec::new(alloc);
     for function in functions {
-        if says_something(&function.1) {
+        if says_something(function) {
             stored.push(function)?;
         }
     }
