@@ -2,3 +2,4 @@ pub mod Clusters
 pub mod Saving
 pub mod Sharing
 pub mod Naming
+pub mod ByName

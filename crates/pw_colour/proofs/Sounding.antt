@@ -23,10 +23,10 @@ use Rattle.pw_db_sound.specs.CallGraphs.{call as named_call, on as named_on}
 use Rattle.pw_db_sound.specs.Sound.{In, Needs, refers, keeps, Sound}
 use Rattle.pw_db_sound.specs.Sound.{Has as HasRole}
 use Rattle.pw_colour.specs.Colours.{global_of, web_of, has_number, webs_of, directives_of}
-use Rattle.pw_colour.specs.Naming.{IsNamed}
-use Rattle.pw_colour.proofs.GraphOne.{map_same}
+use Rattle.pw_clusters.specs.ByName.{IsNamed}
+use Rattle.pw_clusters.proofs.Once.{map_same, once_there}
 use Rattle.pw_colour.proofs.Numbered.{number_there}
-use Rattle.pw_colour.proofs.Lawful.{once_there, two_of, AreApart, IsWebOf, web_from, web_to, holds_number, IsMade, global_at, one_global}
+use Rattle.pw_colour.proofs.Lawful.{two_of, AreApart, IsWebOf, web_from, web_to, holds_number, IsMade, global_at, one_global}
 
 module _ (g : CallGraph) (colours : ℕ) (qs : List (ℕ × RawWeb × ℕ)) (db : List (List ℕ × Directives)) (n : Graph) (made : IsMade g colours qs db) (named : IsNamed g n) where
   one_place : (i j : ℕ) (f : List ℕ) → slice_get g.functions i ≡ Some f → slice_get g.functions j ≡ Some f → i ≡ j

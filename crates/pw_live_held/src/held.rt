@@ -6,7 +6,7 @@ ghost use Rattle.pw_live.specs.Interference.{is_held};
 ghost use Rattle.pw_live.specs.Points.{points};
 ghost use Rattle.pw_live_spans.specs.Spans.{Covers};
 ghost use Rattle.pw_live_spans.specs.AreSpans.{AreSpans};
-ghost use Rattle.pw_live_held.specs.Makers.{maker, calls, IsOverCall};
+ghost use Rattle.pw_live_held.specs.Makers.{maker, calls as call_at, IsOverCall};
 
 use pw_live_fronts::Outline;
 use pw_live_spans::Spans;
@@ -71,7 +71,7 @@ pub fn is_held(
 ) -> bool
     requires spans { AreSpans f.now spans.now }
     requires makers { makers.now ≡ map maker (points f.now) }
-    requires calls { calls.now ≡ map calls (points f.now) }
+    requires calls { calls.now ≡ map call_at (points f.now) }
     requires temp { t < f.now.temps }
     ensures { result ≡ is_held f.now t }
 {
