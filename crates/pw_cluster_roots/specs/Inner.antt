@@ -1,24 +1,23 @@
 -- Which functions may work for others alone, by the names that summaries tell.
-use Rattle.std.specs.Prelude.{ℕ, ◌≡◌, ◌≢◌, ◌↔◌, List, length, map, Some, slice_get, Contains}
+use Rattle.std.specs.Prelude.{ℕ, ◌≡◌, ◌↔◌, ◌&&◌, not, Bool, List, length, map}
 use Rattle.std.specs.List.{flat_map}
+use Rattle.std.specs.Str.{bytes_eq}
 use Rattle.pw_value.specs.ProgramNames.{start_name}
+use Rattle.pw_fields.specs.FieldNames.{is_among}
 use Rattle.pw_fix.specs.Row.{Holds}
 use Rattle.pw_fix.specs.declared.bit_row.BitRow.{BitRow}
 use Rattle.pw_summary.specs.declared.summary.Summary.{Summary}
 use Rattle.pw_graph.specs.declared.graph.CallGraph.{CallGraph}
-use Rattle.pw_graph.specs.Program.{IsTaken, IsEscaped}
-use Rattle.pw_clusters.specs.Clusters.{IsDefined, IsInner}
+use Rattle.pw_clusters.specs.Clusters.{IsInner}
 
 -- the names of the functions that modules define
 abbrev pub all_defined : List Summary → List (List ℕ)
 all_defined ss = map (λ f. f.0) (flat_map (λ s. s.functions) ss)
 
--- the name allows it
-pub record MayBeNamed (ss : List Summary) (name : List ℕ) : Type 0 where
-  pub defined : IsDefined ss name
-  pub no_start : name ≢ start_name
-  pub not_taken : ¬ IsTaken ss name
-  pub not_escaped : ¬ IsEscaped ss name
+-- the name allows it: a module defines the function, it is not the start, and no module takes its address
+abbrev pub is_named : List (List ℕ) → List (List ℕ) → List (List ℕ) → List ℕ → Bool
+is_named defined taken escaped name =
+    not (bytes_eq name start_name) && (is_among defined name && (not (is_among taken name) && not (is_among escaped name)))
 
 -- exactly these
 pub record AreInner (ss : List Summary) (g : CallGraph) (inner : BitRow) : Type 0 where

@@ -1,21 +1,19 @@
 -- Roots in rounds: a function that may work for another alone is settled once all that call it are, and keeps its root then.
-use Rattle.std.specs.Prelude.{ℕ, ◌≡◌, ◌<◌, ◌&&◌, if◌then◌else◌, Bool, true, List, [], ◌∷◌, length, slice_index}
-use Rattle.std.proofs.Math.Dec.{eqb}
+use Rattle.std.specs.Prelude.{ℕ, ◌≡◌, ◌<◌, List, length, slice_index, Contains}
 use Rattle.pw_fix.specs.Row.{Holds}
 use Rattle.pw_fix.specs.declared.bit_row.BitRow.{BitRow}
 use Rattle.pw_graph.specs.declared.graph.CallGraph.{CallGraph}
 use Rattle.pw_graph.specs.CallGraph.{Calls, Path}
 use Rattle.pw_clusters.specs.Clusters.{HaveRoot}
 
--- all of these have the root
-abbrev pub all_have : List ℕ → ℕ → List ℕ → Bool
-all_have roots r [] = true
-all_have roots r (c ∷ cs) = eqb (slice_index roots c) r && all_have roots r cs
+-- all of these have one root
+abbrev pub HaveAll : List ℕ → List ℕ → ℕ → Type 0
+HaveAll roots places r = (c : ℕ) → Contains places c → slice_index roots c ≡ r
 
 -- the one root of those that call a function, or else the function itself
-abbrev pub root_by : List ℕ → ℕ → List ℕ → ℕ
-root_by roots f [] = f
-root_by roots f (c ∷ cs) = if all_have roots (slice_index roots c) cs then slice_index roots c else f
+pub record IsRootBy (roots callers : List ℕ) (f root : ℕ) : Type 0 where
+  pub of_callers : (r c : ℕ) → Contains callers c → HaveAll roots callers r → root ≡ r
+  pub itself : ((r : ℕ) → HaveAll roots callers r → ⊥) → root ≡ f
 
 -- of each function the root is the one of its callers, where it is one of these and they have one; else itself
 pub record AreRootsAmong (g : CallGraph) (inner : BitRow) (roots : List ℕ) : Type 0 where

@@ -1,14 +1,13 @@
 //! Which functions may work for others alone.
 
-ghost use Rattle.std.specs.Prelude.{◌≡◌, ◌↔◌, ◌⊎◌, ℕ, [], length, IsTrue, IfOk, All};
+ghost use Rattle.std.specs.Prelude.{◌≡◌, ◌↔◌, ℕ, [], length, IsTrue, IfOk};
 ghost use Rattle.pw_fields.specs.FieldNames.{IsTableOf, IsRisingFrom};
 ghost use Rattle.pw_fix.specs.Row.{Holds};
-ghost use Rattle.pw_summary.specs.Summary.{IsSummary};
-ghost use Rattle.pw_graph.specs.CallGraph.{IsGraph, Calls, Path};
+ghost use Rattle.pw_graph.specs.CallGraph.{Calls, Path};
 ghost use Rattle.pw_graph.specs.Making.{all_taken, all_escaped};
 ghost use Rattle.pw_graph.specs.Program.{IsGraphOf};
 ghost use Rattle.pw_webs.specs.Walking.{Leads};
-ghost use Rattle.pw_cluster_roots.specs.Inner.{all_defined, MayBeNamed, AreInner};
+ghost use Rattle.pw_cluster_roots.specs.Inner.{all_defined, is_named as named, AreInner};
 
 use pw_fields::names::table_of;
 use pw_files::used::add_shaped;
@@ -52,19 +51,34 @@ fn known(alloc: Global, summaries: &[Summary]) -> Result<Known, NoMemory>
 }
 
 /// Whether the name allows it.
-fn may_be_named(known: &Known, name: &Name) -> bool
+fn is_named(known: &Known, name: &Name) -> bool
     requires defined { IsRisingFrom [] known.now.defined.items }
     requires taken { IsRisingFrom [] known.now.taken.items }
     requires escaped { IsRisingFrom [] known.now.escaped.items }
+    ensures { result ≡ named known.now.defined.items known.now.taken.items known.now.escaped.items name.now }
 {
     name.as_bytes() != START
-        && is_among(&known.defined, name)
-        && !is_among(&known.taken, name)
-        && !is_among(&known.escaped, name)
+        && (is_among(&known.defined, name)
+            && (!is_among(&known.taken, name) && !is_among(&known.escaped, name)))
 }
 
-/// The functions that may work for others alone: the name allows it, they do not come to call themselves, and somebody calls
-/// them.
+/// Whether a function may work for others alone: somebody calls it, it does not come to call itself, and its name allows it.
+fn is_inner(known: &Known, cycles: &BitRow, callers: &[u32], name: &Name, place: usize) -> bool
+    requires defined { IsRisingFrom [] known.now.defined.items }
+    requires taken { IsRisingFrom [] known.now.taken.items }
+    requires escaped { IsRisingFrom [] known.now.escaped.items }
+    ensures { IsTrue result ↔ ((¬ (callers.now ≡ [])) × (¬ Holds cycles.now place) × IsTrue (named known.now.defined.items known.now.taken.items known.now.escaped.items name.now)) }
+{
+    if callers.is_empty() {
+        return false;
+    }
+    if cycles.contains(place) {
+        return false;
+    }
+    is_named(known, name)
+}
+
+/// The functions that may work for others alone.
 pub(crate) fn inner_of(
     alloc: Global,
     summaries: &[Summary],
@@ -72,7 +86,6 @@ pub(crate) fn inner_of(
     callers: &[Items<u32>],
     cycles: &BitRow,
 ) -> Result<BitRow, NoMemory>
-    requires graph { IsGraph graph.now }
     requires of { IsGraphOf summaries.now graph.now }
     requires count { length callers.now ≡ length graph.now.functions }
     requires callers { (a b : ℕ) → Leads callers.now a b ↔ Calls graph.now b a }
@@ -83,8 +96,8 @@ pub(crate) fn inner_of(
     let functions = graph.functions.as_slice();
     let mut inner = BitRow::new(alloc, functions.len())?;
     for place in 0..functions.len() {
-        let called = !callers[place].is_empty();
-        if called && !cycles.contains(place) && may_be_named(&known, &functions[place]) {
+        let row = callers[place].as_slice();
+        if is_inner(&known, cycles, row, &functions[place], place) {
             inner.insert(place);
         }
     }

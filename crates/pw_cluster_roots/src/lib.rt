@@ -1,7 +1,6 @@
 //! The roots of functions: which function each one works for alone.
 #![tactic(auto)]
 
-mod cycles;
 mod inner;
 mod roots;
 mod rounds;

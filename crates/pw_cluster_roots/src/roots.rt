@@ -5,10 +5,10 @@ ghost use Rattle.pw_graph.specs.CallGraph.{IsGraph};
 ghost use Rattle.pw_graph.specs.Program.{IsGraphOf};
 ghost use Rattle.pw_clusters.specs.Clusters.{AreRoots};
 
-use crate::cycles::in_cycles;
 use crate::inner::inner_of;
 use crate::rounds::roots_among;
 use pw_graph::CallGraph;
+use pw_graph_refs::in_cycles;
 use pw_summary::Summary;
 use pw_webs::callers_of;
 use std::alloc::{AllocError as NoMemory, Global};

@@ -1,12 +1,12 @@
 //! Roots in rounds.
 
-ghost use Rattle.std.specs.Prelude.{◌≡◌, ◌<◌, ◌⊎◌, ℕ, All, Contains, length, slice_index, slice_set, map, IsTrue, IfOk};
+ghost use Rattle.std.specs.Prelude.{◌≡◌, ◌<◌, ◌↔◌, ◌⊎◌, ◌^◌, ℕ, All, Contains, length, slice_index, slice_set, IfOk};
 ghost use Rattle.std.specs.Bool.{OnTrue, OnFalse, MatchBool};
 ghost use Rattle.std.specs.List.{range_with_len};
 ghost use Rattle.pw_fix.specs.Row.{Holds};
 ghost use Rattle.pw_graph.specs.CallGraph.{IsGraph, Calls};
-ghost use Rattle.pw_webs.specs.Walking.{AreSteps, Leads};
-ghost use Rattle.pw_cluster_roots.specs.Rounds.{all_have, root_by, AreRootsAmong, MayBeInner, AreSettled, NoneReady};
+ghost use Rattle.pw_webs.specs.Walking.{Leads};
+ghost use Rattle.pw_cluster_roots.specs.Rounds.{HaveAll, IsRootBy, AreRootsAmong, MayBeInner, AreSettled, NoneReady};
 
 use pw_fix::BitRow;
 use pw_graph::CallGraph;
@@ -16,16 +16,21 @@ use std::alloc::{AllocError as NoMemory, Global};
 /// Whether all of these functions have the root.
 fn have_root(roots: &[u32], root: u32, places: &[u32]) -> bool
     requires { All (λ c. c < length roots.now) places.now }
-    ensures { result ≡ all_have roots.now root places.now }
+    ensures { MatchBool result (HaveAll roots.now places.now root) ((c : ℕ) × Contains places.now c × ¬ (slice_index roots.now c ≡ root)) }
 {
-    places.iter().all(|c| roots[*c as usize] == root)
+    for place in places {
+        if roots[*place as usize] != root {
+            return false;
+        }
+    }
+    true
 }
 
 /// The one root of those that call a function, or else the function itself.
 fn root_of(roots: &[u32], place: usize, callers: &[u32]) -> u32
     requires within { All (λ c. c < length roots.now) callers.now }
     requires place { place < 2 ^ 32 }
-    ensures { result ≡ root_by roots.now place callers.now }
+    ensures { IsRootBy roots.now callers.now place result }
 {
     match callers.first() {
         Some(first) => {
@@ -60,14 +65,18 @@ fn settle(roots: &mut [u32], settled: &mut BitRow, callers: &[u32], place: usize
     requires within { All (λ c. c < length roots.old) callers.now }
     ensures count { length roots.new ≡ length roots.old }
     ensures width { settled.new.len ≡ settled.old.len }
-    ensures settled { OnTrue result ((¬ Holds settled.old place) × ((c : ℕ) → Contains callers.now c → Holds settled.old c) × ((k : ℕ) → Holds settled.new k ↔ ((k ≡ place) ⊎ Holds settled.old k)) × (roots.new ≡ slice_set roots.old place (root_by roots.old place callers.now))) }
+    ensures settled { OnTrue result ((¬ Holds settled.old place) × ((c : ℕ) → Contains callers.now c → Holds settled.old c) × ((k : ℕ) → Holds settled.new k ↔ ((k ≡ place) ⊎ Holds settled.old k)) × ((root : ℕ) × IsRootBy roots.old callers.now place root × (roots.new ≡ slice_set roots.old place root))) }
     ensures not { OnFalse result ((settled.new ≡ settled.old) × (roots.new ≡ roots.old) × (((c : ℕ) → Contains callers.now c → Holds settled.old c) → Holds settled.old place)) }
 {
-    if settled.contains(place) || !are_settled(settled, callers) {
+    if settled.contains(place) {
+        return false;
+    }
+    if !are_settled(settled, callers) {
         return false;
     }
     roots[place] = root_of(roots, place, callers);
-    settled.insert(place)
+    settled.insert(place);
+    true
 }
 
 /// Settles what is ready, in the order of places; whether something was.

@@ -354,7 +354,7 @@ payload_exact bytes r db fs fits given is same =
     given_is bytes r db given is ∙ ap got ((payload_found bytes db fits (given_is bytes r db given is)).1 ∙ ap newest (sym same))
 
 -- the functions of what was found
-value_in : Result Database ℕ → Result Functions ℕ
+abbrev value_in : Result Database ℕ → Result Functions ℕ
 value_in (Ok db) = Ok db.functions
 value_in (Err at) = Err at
 

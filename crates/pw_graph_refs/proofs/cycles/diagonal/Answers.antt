@@ -1,0 +1,13 @@
+use Rattle.std.proofs.Common.{◌∙◌}
+use Rattle.pw_fix.specs.Table.{HoldsAt}
+use Rattle.pw_graph_refs.proofs.Cycles.{some_first, some_more}
+use Rattle.pw_graph_refs.proofs.cycles.diagonal.Goals as goal
+
+pub loop-place-init : goal.loop-place-init
+loop-place-init c = record { size = c.in_ok-row.ensures.length; holds = some_first (λ f. HoldsAt c.args.table.now f f) c.in_ok-row.row c.in_ok-row.ensures.empty }
+
+pub loop-place-preserved : goal.loop-place-preserved
+loop-place-preserved c = record {
+  size = c.add_own.ensures.length ∙ c.loop-place.invariant.size;
+  holds = some_more (λ f. HoldsAt c.args.table.now f f) c.loop-place.place c.loop-place.row c.add_own.new.row c.loop-place.invariant.holds c.add_own.ensures.holds;
+}
