@@ -1,3 +1,4 @@
 mod Lists
 mod RoundLaws
 mod InnerLaws
+mod NeedLaws

@@ -4,5 +4,7 @@
 mod inner;
 mod roots;
 mod rounds;
+mod saving;
 
 pub use roots::find_roots;
+pub use saving::{free, greatest_needs, saved};

@@ -1,4 +1,4 @@
 pub mod Flowing
 pub mod Edges
 pub mod Marks
-pub mod Cycles
+pub mod OwnFlows

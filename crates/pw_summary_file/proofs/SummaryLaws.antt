@@ -75,7 +75,7 @@ reference_spells names table before = format (reference names) (FitsBehind (λ r
 abbrev FitsNeed : ℕ → ℕ → Type 0
 FitsNeed version n = (version ≡ first_version → n ≡ 0) × (n ≤ need_limit)
 
-none_spells : Spells (λ n. []) (λ n. n ≡ 0) (done 0)
+none_spells : Spells {X = ℕ} (λ n. []) (λ n. n ≡ 0) (done 0)
 none_spells = record {
   takes = λ bytes n rest fits e. let p = found_is 0 n bytes rest e in (p.1, sym p.0);
   again = λ n rest none. ap (λ (k : ℕ). Ok (k, rest)) (sym none);
@@ -87,7 +87,7 @@ some_need_spells = checked_spells u8 FitsU8 u8_at (λ n. nat_le n need_limit) u8
 
 need_spells_by : (version : ℕ) (b : Bool) → (version == first_version) ≡ b → Spells (λ (n : ℕ). if b then [] else u8 n) (FitsNeed version) (if b then done 0 else some_need_at)
 need_spells_by version true e =
-    refit (λ n. []) (λ n. n ≡ 0) (FitsNeed version) (done 0) (λ n none. ((λ is. none), subst (λ (k : ℕ). k ≤ need_limit) (sym none) (omega arith))) (λ n fit. fit.0 (eqb-true version first_version e)) none_spells
+    refit (λ (n : ℕ). []) (λ (n : ℕ). n ≡ 0) (FitsNeed version) (done 0) (λ n none. ((λ is. none), subst (λ (k : ℕ). k ≤ need_limit) (sym none) (omega arith))) (λ n fit. fit.0 (eqb-true version first_version e)) none_spells
 need_spells_by version false e =
     refit u8 (λ n. FitsU8 n × IsTrue (nat_le n need_limit)) (FitsNeed version) some_need_at (λ n fit. ((λ is. absurd (apart (sym e ∙ eq-eqb version first_version is))), leb-true _ _ fit.1))
     (λ n fit. let low = fit.1 in (omega (arith, low), le-leb _ _ low)) some_need_spells

@@ -1,6 +1,6 @@
 use Rattle.std.proofs.Common.{◌∙◌}
 use Rattle.pw_fix.specs.Table.{HoldsAt}
-use Rattle.pw_graph_refs.proofs.Cycles.{some_first, some_more}
+use Rattle.pw_graph_refs.proofs.OwnFlows.{some_first, some_more}
 use Rattle.pw_graph_refs.proofs.cycles.diagonal.Goals as goal
 
 pub loop-place-init : goal.loop-place-init

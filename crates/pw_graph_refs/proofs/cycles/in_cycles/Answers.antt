@@ -3,7 +3,7 @@ use Rattle.std.specs.Prelude.{◌↔◌}
 use Rattle.pw_fix.specs.Table.{HoldsAt}
 use Rattle.pw_graph_refs.specs.Flows.{AreWithin, FlowsTo, edges_from}
 use Rattle.pw_graph_refs.proofs.Edges.{calls_within}
-use Rattle.pw_graph_refs.proofs.Cycles.{cycle_holds}
+use Rattle.pw_graph_refs.proofs.OwnFlows.{cycle_holds}
 use Rattle.pw_graph_refs.proofs.cycles.in_cycles.Goals as goal
 
 pub flown-requires : goal.flown-requires

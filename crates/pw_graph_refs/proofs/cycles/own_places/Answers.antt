@@ -1,5 +1,5 @@
 use Rattle.std.proofs.Common.{◌∙◌}
-use Rattle.pw_graph_refs.proofs.Cycles.{own_first, own_more, own_all}
+use Rattle.pw_graph_refs.proofs.OwnFlows.{own_first, own_more, own_all}
 use Rattle.pw_graph_refs.proofs.cycles.own_places.Goals as goal
 
 pub loop-place-init : goal.loop-place-init
