@@ -1,7 +1,9 @@
 -- What holds of the first elements of a list, one by one.
-use Rattle.std.specs.Prelude.{ℕ, ◌≡◌, ◌<◌, ◌≤◌, ◌+◌, Bool, true, false, List, [], length, Contains}
-use Rattle.std.proofs.Common.{arith, sym, subst, take, get_or, inl, inr}
-use Rattle.std.proofs.lemmas.List.Elements.{Contains-push_cases}
+use Rattle.std.specs.Prelude.{ℕ, zero, suc, ◌≡◌, ◌<◌, ◌≤◌, ◌+◌, List, [], ◌∷◌, ◌++◌, length, replicate, slice_index_or, Contains}
+use Rattle.std.specs.List.{range_with_len}
+use Rattle.std.proofs.Common.{arith, refl, ap, subst, ◌∙◌, take, get_or, inl, inr}
+use Rattle.std.proofs.Math.Seq.{take-append_seam}
+use Rattle.std.proofs.lemmas.List.Elements.{Contains-push_cases, Contains-get_or}
 use Rattle.std.proofs.lemmas.List.{take_all}
 use Rattle.pw_webs.proofs.WalkLaws.{next_item}
 
@@ -11,8 +13,25 @@ all_first P b c = let lt = c.1 in absurd (omega (arith, lt))
 pub all_more : (P : ℕ → Type 0) (row : List ℕ) (i p : ℕ) → i < length row → p ≡ get_or row i p → P p → ((b : ℕ) → Contains (take i row) b → P b) → (b : ℕ) → Contains (take (i + 1) row) b → P b
 all_more P row i p lt at has before b c = elim (Contains-push_cases (take i row) p b (subst (λ (ys : List ℕ). Contains ys b) (next_item row i p lt at) c)) [
   | inl k ↦ before b k
-  | inr e ↦ subst P (sym e) has
+  | inr e ↦ subst P e has
 ]
 
 pub all_end : (P : ℕ → Type 0) (row : List ℕ) (i : ℕ) → length row ≤ i → ((b : ℕ) → Contains (take i row) b → P b) → (b : ℕ) → Contains row b → P b
 all_end P row i le before = subst (λ (ys : List ℕ). (b : ℕ) → Contains ys b → P b) (take_all i row le) before
+
+-- a list that was written back over one as long
+pub written_back : (n : ℕ) (new rest : List ℕ) → n ≡ length new → take n (new ++ rest) ≡ new
+written_back n new rest e = ap (λ (k : ℕ). take k (new ++ rest)) e ∙ take-append_seam new rest
+
+-- numbers one behind the other
+pub range_more : (a n : ℕ) → range_with_len a n ++ (a + n) ∷ [] ≡ range_with_len a (n + 1)
+range_more a zero = ap (λ (k : ℕ). k ∷ []) (omega arith)
+range_more a (suc n) = ap (λ (xs : List ℕ). a ∷ xs) (subst (λ (k : ℕ). range_with_len (a + 1) n ++ k ∷ [] ≡ range_with_len (a + 1) (n + 1)) (omega arith) (range_more (a + 1) n))
+
+pub zeros_more : (n : ℕ) → replicate n 0 ++ 0 ∷ [] ≡ replicate (n + 1) 0
+zeros_more zero = refl
+zeros_more (suc n) = ap (λ (xs : List ℕ). 0 ∷ xs) (zeros_more n)
+
+-- the functions of a row are some of the graph's
+pub row_below : (row : List ℕ) (n : ℕ) → ((c : ℕ) → Contains row c → c < n) → (k d : ℕ) → k < length row → slice_index_or row k d < n
+row_below row n each k d lt = each (get_or row k d) (Contains-get_or row k d lt)

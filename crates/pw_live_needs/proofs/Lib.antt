@@ -1,2 +1,2 @@
-mod Counting
+mod Counted
 mod Temps

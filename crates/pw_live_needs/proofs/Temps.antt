@@ -11,7 +11,7 @@ use Rattle.pw_live.specs.Interference.{is_held}
 use Rattle.pw_live_needs.specs.Needs.{is_short, short_at}
 use Rattle.pw_live_needs.specs.Counts.{full, AreCounts, IsCounted}
 use Rattle.pw_live_needs.specs.declared.counting.Counting.{Counting}
-use Rattle.pw_live_needs.proofs.Counting.{count_yes, count_no}
+use Rattle.pw_live_needs.proofs.Counted.{count_yes, count_no}
 
 -- nothing has been counted
 pub none_counted : (f : Outline) (v : Counting) → AreCounts (length (points f)) v → ((q : ℕ) → slice_index v.counts.items q ≡ 0) → ((q : ℕ) → slice_index v.marks.items q ≡ 0) → IsCounted f 0 v

@@ -1,4 +1,4 @@
-use Rattle.std.proofs.Common.{Result, Err, arith, sym, subst}
+use Rattle.std.proofs.Common.{Result, Ok, Err, arith, sym, subst}
 use Rattle.pw_value.specs.declared.fault.FileError.{FileError}
 use Rattle.pw_fields.specs.FieldFaults.{GivesFile}
 use Rattle.pw_db.specs.declared.database.Database.{Database}
@@ -15,7 +15,7 @@ returns-in-Ok-clause-exact c =
 
 pub returns-in-Ok-clause-only : goal.returns-in-Ok-clause-only
 returns-in-Ok-clause-only c = λ fs is.
-    payload_only c.args.bytes.now _ (payload_exact c.args.bytes.now c.read_payload_alone.result c.in-Ok.db c.functions_of.result (λ i. omega (arith, c.type_inv.bytes i)) c.read_payload_alone.ensures c.in-Ok.is c.functions_of.ensures) fs is
+    payload_only c.args.bytes.now (Ok c.functions_of.result) (payload_exact c.args.bytes.now c.read_payload_alone.result c.in-Ok.db c.functions_of.result (λ i. omega (arith, c.type_inv.bytes i)) c.read_payload_alone.ensures c.in-Ok.is c.functions_of.ensures) fs is
 
 pub returns-in-Err-clause-only : goal.returns-in-Err-clause-only
 returns-in-Err-clause-only c = λ fs is.
