@@ -1,8 +1,8 @@
 -- The functions that may work for others alone, by names, callers and cycles.
-use Rattle.std.specs.Prelude.{ℕ, ◌≡◌, ◌≢◌, ◌<◌, ◌↔◌, ◌&&◌, not, Bool, true, false, Some, List, [], ◌∷◌, length, slice_get, Contains}
+use Rattle.std.specs.Prelude.{ℕ, ◌≡◌, ◌≢◌, ◌<◌, ◌≤◌, ◌+◌, ◌⊎◌, ◌↔◌, ◌&&◌, not, Bool, true, false, Some, List, [], ◌∷◌, length, slice_get, Contains}
 use Rattle.std.proofs.Common.{arith, refl, sym, ap, subst, ◌∙◌, inl, inr}
 use Rattle.std.specs.Str.{bytes_eq}
-use Rattle.std.proofs.lemmas.Option.{same_Some}
+use Rattle.std.proofs.lemmas.Option.{same_Some, slice_get_within}
 use Rattle.std.proofs.lemmas.Slice.Eq.{bytes_eq-Decides}
 use Rattle.pw_value.specs.ProgramNames.{start_name}
 use Rattle.pw_files.proofs.Standing.{contains_by}
@@ -16,9 +16,10 @@ use Rattle.pw_graph.specs.CallGraph.{Calls, Path}
 use Rattle.pw_graph.specs.Making.{all_taken, all_escaped}
 use Rattle.pw_graph.specs.Program.{IsTaken, IsEscaped}
 use Rattle.pw_graph.proofs.IsGraph.{among_taken, taken_among, among_escaped, escaped_among}
+use Rattle.pw_graph_refs.proofs.OwnFlows.{some_more}
 use Rattle.pw_webs.specs.Walking.{Leads}
 use Rattle.pw_clusters.specs.Clusters.{IsDefined, IsInner}
-use Rattle.pw_cluster_roots.specs.Inner.{all_defined, is_named}
+use Rattle.pw_cluster_roots.specs.Inner.{all_defined, is_named, AreInner}
 
 both : (a b : Bool) → (a && b) ≡ true → (a ≡ true) × (b ≡ true)
 both true b e = (refl, e)
@@ -104,3 +105,24 @@ module _ (ss : List Summary) (defined taken escaped : List (List ℕ)) (of_defin
         so_named name (subst Named same (record { is_defined = i.defined; no_start = i.no_start; not_taken = i.not_taken; not_escaped = i.not_escaped })),
       ),
   )
+
+-- ---- place by place
+
+-- a function that is one of them is put among them
+pub one_put : (P : ℕ → Type 0) (i : ℕ) (now new : BitRow) → P i → ((k : ℕ) → Holds new k ↔ ((k ≡ i) ⊎ Holds now k)) → ((f : ℕ) → Holds now f ↔ ((f < i) × P f)) → (f : ℕ) → Holds new f ↔ ((f < i + 1) × P f)
+one_put P i now new is after before =
+    some_more P i now new before (λ f. (
+      λ h. elim ((after f).0 h) [ inl e ↦ inr (e, is) | inr k ↦ inl k ],
+      λ w. (after f).1 (elim w [ inl k ↦ inr k | inr e ↦ inl e.0 ]),
+    ))
+
+-- another one is left
+pub one_left : (P : ℕ → Type 0) (i : ℕ) (now : BitRow) → (P i → ⊥) → ((f : ℕ) → Holds now f ↔ ((f < i) × P f)) → (f : ℕ) → Holds now f ↔ ((f < i + 1) × P f)
+one_left P i now none before = some_more P i now now before (λ f. (λ h. inl h, λ w. elim w [ inl k ↦ k | inr e ↦ absurd (none e.1) ]))
+
+-- all of them
+pub all_inner : (ss : List Summary) (g : CallGraph) (i : ℕ) (inner : BitRow) → inner.len ≡ length g.functions → length g.functions ≤ i → ((f : ℕ) → Holds inner f ↔ ((f < i) × IsInner ss g f)) → AreInner ss g inner
+all_inner ss g i inner width past holds = record {
+  width = width;
+  of = λ f. (λ h. ((holds f).0 h).1, λ is. let lt = slice_get_within g.functions f is.name is.at in (holds f).1 (omega (arith, lt, past), is));
+}

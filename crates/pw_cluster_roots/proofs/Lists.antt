@@ -25,12 +25,26 @@ written_back n new rest e = ap (λ (k : ℕ). take k (new ++ rest)) e ∙ take-a
 
 -- numbers one behind the other
 pub range_more : (a n : ℕ) → range_with_len a n ++ (a + n) ∷ [] ≡ range_with_len a (n + 1)
-range_more a zero = ap (λ (k : ℕ). k ∷ []) (omega arith)
-range_more a (suc n) = ap (λ (xs : List ℕ). a ∷ xs) (subst (λ (k : ℕ). range_with_len (a + 1) n ++ k ∷ [] ≡ range_with_len (a + 1) (n + 1)) (omega arith) (range_more (a + 1) n))
+range_more a zero = subst (λ (m : ℕ). (a + zero) ∷ [] ≡ range_with_len a m) (same_one zero) (ap (λ (k : ℕ). k ∷ []) (omega arith)) where
+  same_one : (k : ℕ) → suc k ≡ k + 1
+  same_one k = omega arith
+range_more a (suc n) = subst (λ (m : ℕ). range_with_len a (suc n) ++ (a + suc n) ∷ [] ≡ range_with_len a m) (one_up n) (ap (λ (xs : List ℕ). a ∷ xs) (later n)) where
+  one_up : (k : ℕ) → suc (k + 1) ≡ suc k + 1
+  one_up k = omega arith
 
-pub zeros_more : (n : ℕ) → replicate n 0 ++ 0 ∷ [] ≡ replicate (n + 1) 0
-zeros_more zero = refl
-zeros_more (suc n) = ap (λ (xs : List ℕ). 0 ∷ xs) (zeros_more n)
+  moved : (k : ℕ) → (a + 1) + k ≡ a + suc k
+  moved k = omega arith
+
+  later : (k : ℕ) → range_with_len (a + 1) k ++ (a + suc k) ∷ [] ≡ range_with_len (a + 1) (k + 1)
+  later k = subst (λ (m : ℕ). range_with_len (a + 1) k ++ m ∷ [] ≡ range_with_len (a + 1) (k + 1)) (moved k) (range_more (a + 1) k)
+
+pub same_more : {X : Type 0} (x : X) (n : ℕ) → replicate n x ++ x ∷ [] ≡ replicate (n + 1) x
+same_more x zero = subst (λ (m : ℕ). x ∷ [] ≡ replicate m x) (one_up zero) refl where
+  one_up : (k : ℕ) → suc k ≡ k + 1
+  one_up k = omega arith
+same_more {X} x (suc n) = subst (λ (m : ℕ). replicate (suc n) x ++ x ∷ [] ≡ replicate m x) (one_up n) (ap (λ (xs : List X). x ∷ xs) (same_more x n)) where
+  one_up : (k : ℕ) → suc (k + 1) ≡ suc k + 1
+  one_up k = omega arith
 
 -- the functions of a row are some of the graph's
 pub row_below : (row : List ℕ) (n : ℕ) → ((c : ℕ) → Contains row c → c < n) → (k d : ℕ) → k < length row → slice_index_or row k d < n

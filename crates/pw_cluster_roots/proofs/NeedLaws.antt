@@ -1,7 +1,7 @@
 -- The greatest need of a root's members, function by function.
 use Rattle.std.specs.Prelude.{ℕ, zero, suc, ◌≡◌, ◌<◌, ◌≤◌, ◌+◌, ◌==◌, ◌&&◌, not, max, if◌then◌else◌, List, [], ◌∷◌, ◌++◌, length, slice_index, replicate}
 use Rattle.std.proofs.Common.{arith, refl, sym, ap, subst, ◌∙◌, take, get_or}
-use Rattle.std.proofs.lemmas.List.{length-take}
+use Rattle.std.proofs.lemmas.List.{length-take-le}
 use Rattle.pw_webs.proofs.WalkLaws.{next_item}
 use Rattle.pw_clusters.specs.Saving.{greatest_need}
 
@@ -26,8 +26,8 @@ one_more r f (q ∷ roots) (m ∷ needs) root n same =
 pub next_needs : (roots needs : List ℕ) (i root n r : ℕ) → length needs ≡ length roots → i < length roots → root ≡ get_or roots i root → n ≡ get_or needs i n
     → greatest_need r 0 (take (i + 1) roots) (take (i + 1) needs) ≡ max (adds r i root n) (greatest_need r 0 (take i roots) (take i needs))
 next_needs roots needs i root n r same lt at_root at_need =
-    let long : length (take i roots) ≡ i = length-take i roots (omega (arith, lt)) in
-    let as_long : length (take i needs) ≡ i = length-take i needs (omega (arith, lt, same)) in
+    let long : length (take i roots) ≡ i = length-take-le i roots (omega (arith, lt)) in
+    let as_long : length (take i needs) ≡ i = length-take-le i needs (omega (arith, lt, same)) in
     ap (λ (xs : List ℕ). greatest_need r 0 xs (take (i + 1) needs)) (next_item roots i root lt at_root)
     ∙ ap (λ (xs : List ℕ). greatest_need r 0 (take i roots ++ root ∷ []) xs) (next_item needs i n (omega (arith, lt, same)) at_need)
     ∙ one_more r 0 (take i roots) (take i needs) root n (as_long ∙ sym long)

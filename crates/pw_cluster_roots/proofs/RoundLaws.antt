@@ -6,7 +6,7 @@ use Rattle.std.specs.Int.{bit_at}
 use Rattle.std.specs.List.{range_with_len}
 use Rattle.std.proofs.lemmas.List.FromFn.{length-range_with_len, get_or-range_with_len}
 use Rattle.std.proofs.lemmas.Bool.{cases_eq, cases_lt}
-use Rattle.std.proofs.lemmas.Option.{same_Some}
+use Rattle.std.proofs.lemmas.Option.{same_Some, slice_get_within}
 use Rattle.std.proofs.lemmas.List.{get_or-set_same, get_or-set_other, length-set}
 use Rattle.pw_fix.specs.Row.{Holds, member_count}
 use Rattle.pw_fix.specs.RowLaws.{members_fit}
@@ -29,6 +29,9 @@ row_calls g callers f row calls there c = (
   λ h. (calls f c).0 (record { row = row; at = there; stands = h }),
   λ k. let leads = (calls f c).1 k in subst (λ (l : List ℕ). Contains l c) (same_Some leads.row row (sym leads.at ∙ there)) leads.stands,
 )
+
+pub caller_below : (g : CallGraph) (c f : ℕ) → length g.calls ≡ length g.functions → Calls g c f → c < length g.functions
+caller_below g c f rows calls = let lt = slice_get_within g.calls c calls.row calls.at in omega (arith, lt, rows)
 
 module _ (g : CallGraph) (inner : BitRow) where
   one_settled : (old new : BitRow) (roots : List ℕ) (row : List ℕ) (place root : ℕ) → AreSettled g inner old roots → place < length g.functions → new.len ≡ old.len
@@ -139,7 +142,7 @@ module _ (g : CallGraph) (inner : BitRow) where
     outer = λ f lt out. (holds f).1 (omega (arith, lt, width), out);
     callers = λ f c h i calls. absurd (((holds f).0 h).1 i);
     of_callers = λ f r h i have. absurd (((holds f).0 h).1 i);
-    itself = λ f h none. let lt = ((holds f).0 h).0 in ap (λ (rs : List ℕ). slice_index rs f) same ∙ get_or-range_with_len 0 (length g.functions) f 0 (omega (arith, lt, width));
+    itself = λ f h none. let lt = ((holds f).0 h).0 in ap (λ (rs : List ℕ). slice_index rs f) same ∙ get_or-range_with_len 0 (length g.functions) f 0 (omega (arith, lt, width)) ∙ omega arith;
   }
 
   -- ---- the end

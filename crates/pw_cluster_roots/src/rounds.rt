@@ -8,6 +8,7 @@ ghost use Rattle.pw_graph.specs.CallGraph.{IsGraph, Calls};
 ghost use Rattle.pw_webs.specs.Walking.{Leads};
 ghost use Rattle.pw_cluster_roots.specs.Rounds.{HaveAll, IsRootBy, AreRootsAmong, MayBeInner, AreSettled, NoneReady};
 
+use pw_clusters::laws::what_callers_hand_on_holds;
 use pw_fix::BitRow;
 use pw_graph::CallGraph;
 use pw_items::Items;
@@ -136,6 +137,7 @@ pub(crate) fn roots_among(
     requires inner { MayBeInner graph.now inner.now }
     ensures { IfOk result (λ v. AreRootsAmong graph.now inner.now v.items) }
 {
+    what_callers_hand_on_holds();
     let mut roots = own_roots(alloc, graph.functions.len())?;
     let mut settled = others(alloc, inner)?;
     loop {

@@ -1,7 +1,6 @@
 use Rattle.std.proofs.Common.{◌∙◌, ◌≡◌, ℕ, subst, sym}
 use Rattle.std.specs.List.{range_with_len}
 use Rattle.pw_fix.specs.Row.{Holds}
-use Rattle.pw_clusters.proofs.Climbing.{everywhere}
 use Rattle.pw_cluster_roots.specs.Rounds.{AreRootsAmong}
 use Rattle.pw_cluster_roots.proofs.Lists.{written_back}
 use Rattle.pw_cluster_roots.proofs.RoundLaws.{started, fewer, roots_found}
@@ -19,7 +18,7 @@ returns-then-not-round c =
     let news = c.round.new.roots in
     let same = c.loop-roots.invariant.each ∙ sym c.round.ensures.settled.each in
     subst (AreRootsAmong g inner) (sym (written_back c.loop-roots.roots.len news _ same))
-    (roots_found g inner settled news (λ once from f lt. everywhere g c.requires.graph.call_rows (Holds settled) (record { once = once; from_callers = from }) f lt) c.requires.inner c.round.ensures.settled c.if-not-round.ensures.none)
+    (roots_found g inner settled news (c.what_callers_hand_on_holds.ensures g (Holds settled) c.requires.graph.call_rows) c.requires.inner c.round.ensures.settled c.if-not-round.ensures.none)
 
 pub loop-roots-smaller : goal.loop-roots-smaller
 loop-roots-smaller c =

@@ -4,9 +4,8 @@ use Rattle.std.proofs.lemmas.Option.{slice_get_read, same_Some}
 use Rattle.pw_graph.specs.CallGraph.{Calls}
 use Rattle.pw_webs.specs.Walking.{Leads}
 use Rattle.pw_webs.proofs.RegionLaws.{on_true, on_false}
-use Rattle.pw_clusters.proofs.Climbing.{caller_within}
 use Rattle.pw_cluster_roots.proofs.Lists.{row_below}
-use Rattle.pw_cluster_roots.proofs.RoundLaws.{begun, round_more, round_same, none_ready, row_calls}
+use Rattle.pw_cluster_roots.proofs.RoundLaws.{begun, round_more, round_same, row_calls, caller_below}
 use Rattle.pw_cluster_roots.proofs.rounds.round.Goals as goal
 use Rattle.pw_cluster_roots.proofs.rounds.round.Goals.{then-settle, else-settle}
 
@@ -21,7 +20,7 @@ settle-requires-clause-within c =
     let there = slice_get_read c.args.callers.now (length c.args.callers.now) i row refl c.loop-place-test.true c.index-callers-place.is in
     let each = c.loop-place.invariant.are.each in
     subst (λ (cs : List ℕ). (k : ℕ) → (d : ℕ) → k < length cs → _) (sym c.as_slice.ensures)
-    (row_below row (length c.loop-place.roots) (λ q h. let lt = caller_within g c.requires.graph.call_rows q i ((row_calls g c.args.callers.now i row c.requires.callers there q).0 h) in omega (arith, lt, each)))
+    (row_below row (length c.loop-place.roots) (λ q h. let lt = caller_below g q i c.requires.graph.call_rows ((row_calls g c.args.callers.now i row c.requires.callers there q).0 h) in omega (arith, lt, each)))
 
 pub loop-place-preserved : goal.loop-place-preserved
 loop-place-preserved c =
