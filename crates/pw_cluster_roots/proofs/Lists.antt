@@ -1,7 +1,7 @@
 -- What holds of the first elements of a list, one by one.
 use Rattle.std.specs.Prelude.{ℕ, zero, suc, ◌≡◌, ◌<◌, ◌≤◌, ◌+◌, List, [], ◌∷◌, ◌++◌, length, replicate, slice_index_or, Contains}
 use Rattle.std.specs.List.{range_with_len}
-use Rattle.std.proofs.Common.{arith, refl, ap, subst, ◌∙◌, take, get_or, inl, inr}
+use Rattle.std.proofs.Common.{arith, refl, sym, ap, subst, ◌∙◌, take, get_or, inl, inr}
 use Rattle.std.proofs.Math.Seq.{take-append_seam}
 use Rattle.std.proofs.lemmas.List.Elements.{Contains-push_cases, Contains-get_or}
 use Rattle.std.proofs.lemmas.List.{take_all}
@@ -24,19 +24,14 @@ pub written_back : (n : ℕ) (new rest : List ℕ) → n ≡ length new → take
 written_back n new rest e = ap (λ (k : ℕ). take k (new ++ rest)) e ∙ take-append_seam new rest
 
 -- numbers one behind the other
+range_last : (a n : ℕ) → range_with_len a (suc n) ≡ range_with_len a n ++ (a + n) ∷ []
+range_last a zero = let z : a ≡ a + zero = omega arith in ap (λ (k : ℕ). k ∷ []) z
+range_last a (suc n) =
+    let same : (a + 1) + n ≡ a + suc n = omega arith in
+    ap (λ (xs : List ℕ). a ∷ xs) (range_last (a + 1) n ∙ ap (λ (k : ℕ). range_with_len (a + 1) n ++ k ∷ []) same)
+
 pub range_more : (a n : ℕ) → range_with_len a n ++ (a + n) ∷ [] ≡ range_with_len a (n + 1)
-range_more a zero = subst (λ (m : ℕ). (a + zero) ∷ [] ≡ range_with_len a m) (same_one zero) (ap (λ (k : ℕ). k ∷ []) (omega arith)) where
-  same_one : (k : ℕ) → suc k ≡ k + 1
-  same_one k = omega arith
-range_more a (suc n) = subst (λ (m : ℕ). range_with_len a (suc n) ++ (a + suc n) ∷ [] ≡ range_with_len a m) (one_up n) (ap (λ (xs : List ℕ). a ∷ xs) (later n)) where
-  one_up : (k : ℕ) → suc (k + 1) ≡ suc k + 1
-  one_up k = omega arith
-
-  moved : (k : ℕ) → (a + 1) + k ≡ a + suc k
-  moved k = omega arith
-
-  later : (k : ℕ) → range_with_len (a + 1) k ++ (a + suc k) ∷ [] ≡ range_with_len (a + 1) (k + 1)
-  later k = subst (λ (m : ℕ). range_with_len (a + 1) k ++ m ∷ [] ≡ range_with_len (a + 1) (k + 1)) (moved k) (range_more (a + 1) k)
+range_more a n = let up : suc n ≡ n + 1 = omega arith in sym (range_last a n) ∙ ap (range_with_len a) up
 
 pub same_more : {X : Type 0} (x : X) (n : ℕ) → replicate n x ++ x ∷ [] ≡ replicate (n + 1) x
 same_more x zero = subst (λ (m : ℕ). x ∷ [] ≡ replicate m x) (one_up zero) refl where

@@ -27,8 +27,9 @@ pub next_needs : (roots needs : List ℕ) (i root n r : ℕ) → length needs �
     → greatest_need r 0 (take (i + 1) roots) (take (i + 1) needs) ≡ max (adds r i root n) (greatest_need r 0 (take i roots) (take i needs))
 next_needs roots needs i root n r same lt at_root at_need =
     let long : length (take i roots) ≡ i = length-take-le i roots (omega (arith, lt)) in
+    let place : 0 + length (take i roots) ≡ i = omega (arith, long) in
     let as_long : length (take i needs) ≡ i = length-take-le i needs (omega (arith, lt, same)) in
     ap (λ (xs : List ℕ). greatest_need r 0 xs (take (i + 1) needs)) (next_item roots i root lt at_root)
     ∙ ap (λ (xs : List ℕ). greatest_need r 0 (take i roots ++ root ∷ []) xs) (next_item needs i n (omega (arith, lt, same)) at_need)
     ∙ one_more r 0 (take i roots) (take i needs) root n (as_long ∙ sym long)
-    ∙ ap (λ (k : ℕ). max (adds r k root n) (greatest_need r 0 (take i roots) (take i needs))) long
+    ∙ ap (λ (k : ℕ). max (adds r k root n) (greatest_need r 0 (take i roots) (take i needs))) place

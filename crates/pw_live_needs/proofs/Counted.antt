@@ -1,9 +1,10 @@
 -- Counts and marks, point by point and span by span.
-use Rattle.std.proofs.Common.{◌≡◌, ◌≢◌, ◌⊎◌, ℕ, zero, suc, ◌+◌, ◌<◌, ◌≤◌, ◌==◌, ◌&&◌, not, Bool, true, false, cond, List, [], ◌∷◌, length, get_or, max, set, take, drop, map, refl, sym, ap, subst, ◌∙◌, arith, inl, inr}
+use Rattle.std.proofs.Common.{◌≡◌, ◌≢◌, ◌⊎◌, ℕ, zero, suc, ◌+◌, ◌<◌, ◌≤◌, ◌==◌, ◌&&◌, not, Bool, true, false, cond, List, [], ◌∷◌, ◌++◌, length, get_or, max, set, take, drop, map, refl, sym, ap, subst, ◌∙◌, arith, inl, inr}
 use Rattle.std.specs.Prelude.{if◌then◌else◌, Option, Some, None, slice_get, slice_index, Contains, ◌↔◌}
 use Rattle.std.specs.List.{count_by, sum_by, range_with_len}
 use Rattle.std.proofs.lemmas.Bool.{cases_eq, ne_eqb, eq-eqb, eqb-true}
 use Rattle.std.proofs.lemmas.List.{take_more, take_all, get_or-set_same, get_or-set_other}
+use Rattle.std.proofs.lemmas.List.Sums.{sum_by_push}
 use Rattle.pw_live_spans.specs.Spans.{IsIn, Covers}
 use Rattle.pw_live_held.proofs.Spanning.{first_more, first_none}
 use Rattle.pw_flow.specs.Outline.{Outline}
@@ -13,16 +14,14 @@ use Rattle.pw_live_needs.specs.Counts.{greatest}
 
 -- ---- one more number of a range
 
-one_more : (a b c : ℕ) → a + (b + c) ≡ (a + b) + c
-one_more a b c = omega arith
+range_last : (a n : ℕ) → range_with_len a (suc n) ≡ range_with_len a n ++ (a + n) ∷ []
+range_last a zero = let z : a ≡ a + zero = omega arith in ap (λ (k : ℕ). k ∷ []) z
+range_last a (suc n) =
+    let same : (a + 1) + n ≡ a + suc n = omega arith in
+    ap (λ (xs : List ℕ). a ∷ xs) (range_last (a + 1) n ∙ ap (λ (k : ℕ). range_with_len (a + 1) n ++ k ∷ []) same)
 
 pub count_next : (p : ℕ → Bool) (a n : ℕ) → count_by p (range_with_len a (suc n)) ≡ count_by p (range_with_len a n) + cond (p (a + n)) 1 0
-count_next p a zero = let z : a + 0 ≡ a = omega arith in let h : cond (p a) 1 0 + 0 ≡ 0 + cond (p a) 1 0 = omega arith in h ∙ ap (λ (k : ℕ). 0 + cond (p k) 1 0) (sym z)
-count_next p a (suc n) =
-    let later = count_next p (a + 1) n in
-    let same : (a + 1) + n ≡ a + suc n = omega arith in
-    ap (λ (k : ℕ). cond (p a) 1 0 + k) (later ∙ ap (λ (k : ℕ). count_by p (range_with_len (a + 1) n) + cond (p k) 1 0) same)
-    ∙ one_more (cond (p a) 1 0) (count_by p (range_with_len (a + 1) n)) (cond (p (a + suc n)) 1 0)
+count_next p a n = ap (count_by p) (range_last a n) ∙ sum_by_push (λ (x : ℕ). cond (p x) 1 0) (range_with_len a n) (a + n)
 
 pub count_yes : (p : ℕ → Bool) (n : ℕ) → p n ≡ true → count_by p (range_with_len 0 (n + 1)) ≡ count_by p (range_with_len 0 n) + 1
 count_yes p n e =
@@ -128,3 +127,9 @@ greatest_more most n ns = let g = greatest ns in omega arith
 pub same_most : (f : Outline) (ps : List Point) → greatest (map (short_at f) ps) ≡ most_short f ps
 same_most f [] = refl
 same_most f (p ∷ ps) = ap (λ (n : ℕ). max (short_at f p) n) (same_most f ps)
+
+pub greatest_next : (most : ℕ) (ns : List ℕ) (i n : ℕ) → i < length ns → n ≡ get_or ns i n → max most (greatest (drop i ns)) ≡ max (max most n) (greatest (drop (i + 1) ns))
+greatest_next most ns i n lt at = ap (λ (ms : List ℕ). max most (greatest ms)) (drop_next ns i n lt at) ∙ greatest_more most n (drop (i + 1) ns)
+  where
+    drop_next : (ms : List ℕ) (k m : ℕ) → k < length ms → m ≡ get_or ms k m → drop k ms ≡ m ∷ drop (k + 1) ms
+    drop_next ms k m lt at = let up : suc k ≡ k + 1 = omega arith in drop-get_or ms k m lt ∙ ap (λ (x : ℕ). x ∷ drop (suc k) ms) (sym at) ∙ ap (λ (q : ℕ). m ∷ drop q ms) up

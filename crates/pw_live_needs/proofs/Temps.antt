@@ -66,12 +66,12 @@ module _ (f : Outline) (t : ℕ) (v w : Counting) (spans : List (ℕ × ℕ))
 
   each : (q : ℕ) (p : Point) → slice_get (points f) q ≡ Some p → slice_index w.counts.items q ≡ count_by (is_short f p) (range_with_len 0 (t + 1))
   each q p at = elim (cases_Bool (lives f t p)) [
-    | inl yes ↦
-        counted_yes q ((live q).1 ((lives_at t q p at).1 yes)) ∙ ap (λ (n : ℕ). n + 1) (before.each q p at)
-        ∙ sym (count_yes (is_short f p) t (ap (λ (b : Bool). not b && lives f t p) short ∙ yes))
-    | inr no ↦
-        counted_no q (λ c. let yes = (lives_at t q p at).0 ((live q).0 c) in let clash = sym no ∙ yes in cc) ∙ before.each q p at
-        ∙ sym (count_no (is_short f p) t (ap (λ (b : Bool). not b && lives f t p) short ∙ no))
+    | inl is ↦
+        counted_yes q ((live q).1 ((lives_at t q p at).1 is)) ∙ ap (λ (n : ℕ). n + 1) (before.each q p at)
+        ∙ sym (count_yes (is_short f p) t (ap (λ (b : Bool). not b && lives f t p) short ∙ is))
+    | inr out ↦
+        counted_no q (λ c. let is = (lives_at t q p at).0 ((live q).0 c) in let clash = sym out ∙ is in cc) ∙ before.each q p at
+        ∙ sym (count_no (is_short f p) t (ap (λ (b : Bool). not b && lives f t p) short ∙ out))
   ]
 
   pub short_counted : IsCounted f (t + 1) w

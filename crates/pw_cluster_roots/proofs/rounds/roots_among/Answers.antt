@@ -16,7 +16,7 @@ returns-then-not-round c =
     let inner = c.args.inner.now in
     let settled = c.round.new.settled in
     let news = c.round.new.roots in
-    let same = c.loop-roots.invariant.each ∙ sym c.round.ensures.settled.each in
+    let same = c.loop-roots.roots.ok.0 ∙ c.loop-roots.invariant.each ∙ sym c.round.ensures.settled.each in
     subst (AreRootsAmong g inner) (sym (written_back c.loop-roots.roots.len news _ same))
     (roots_found g inner settled news (c.what_callers_hand_on_holds.ensures g (Holds settled) c.requires.graph.call_rows) c.requires.inner c.round.ensures.settled c.if-not-round.ensures.none)
 

@@ -1,5 +1,5 @@
 use Rattle.std.proofs.Common.{◌≡◌, ◌<◌, ◌∙◌, ℕ, List, length, refl, subst, sym, arith}
-use Rattle.std.specs.Prelude.{Some, slice_get, Contains, ◌↔◌}
+use Rattle.std.specs.Prelude.{Some, slice_get, slice_index_or, Contains, ◌↔◌}
 use Rattle.std.proofs.lemmas.Option.{slice_get_read, same_Some}
 use Rattle.pw_graph.specs.CallGraph.{Calls}
 use Rattle.pw_webs.specs.Walking.{Leads}
@@ -19,7 +19,7 @@ settle-requires-clause-within c =
     let row = c.index-callers-place.result in
     let there = slice_get_read c.args.callers.now (length c.args.callers.now) i row refl c.loop-place-test.true c.index-callers-place.is in
     let each = c.loop-place.invariant.are.each in
-    subst (λ (cs : List ℕ). (k : ℕ) → (d : ℕ) → k < length cs → _) (sym c.as_slice.ensures)
+    subst (λ (cs : List ℕ). (k : ℕ) → (d : ℕ) → k < length cs → slice_index_or cs k d < length c.loop-place.roots) (sym c.as_slice.ensures)
     (row_below row (length c.loop-place.roots) (λ q h. let lt = caller_below g q i c.requires.graph.call_rows ((row_calls g c.args.callers.now i row c.requires.callers there q).0 h) in omega (arith, lt, each)))
 
 pub loop-place-preserved : goal.loop-place-preserved
@@ -34,9 +34,9 @@ loop-place-preserved c =
     let past : i < length g.functions = subst (λ (n : ℕ). i < n) c.requires.count c.loop-place-test.true in
     elim c.if-settle.branch [
       | then-settle w ↦
-          let k = on_true c.settle.result _ c.settle.ensures.settled w.if-settle in
+          let k = on_true c.settle.result _ c.settle.ensures.settled w.if-settle.true in
           round_more g inner c.args.settled.now c.loop-place.settled c.settle.new.settled c.loop-place.roots c.settle.new.roots c.loop-place.added c.if-settle.added i k.3.0 c.as_slice.result.now past c.settle.ensures.width own c.requires.called c.loop-place.invariant w.added-is k.0 k.1 k.2 k.3.1 k.3.2
       | else-settle w ↦
-          let k = on_false c.settle.result _ c.settle.ensures.not w.if-settle in
+          let k = on_false c.settle.result _ c.settle.ensures.not w.if-settle.false in
           round_same g inner c.args.settled.now c.loop-place.settled c.settle.new.settled c.loop-place.roots c.settle.new.roots c.loop-place.added c.if-settle.added i c.as_slice.result.now own c.loop-place.invariant w.added-is k.0 k.1 k.2
     ]
