@@ -3,7 +3,7 @@ use Rattle.std.proofs.Common.{◌≡◌, ◌≢◌, ◌⊎◌, ℕ, zero, suc, �
 use Rattle.std.specs.Prelude.{if◌then◌else◌, Option, Some, None, slice_get, slice_index, Contains, ◌↔◌}
 use Rattle.std.specs.List.{count_by, sum_by, range_with_len}
 use Rattle.std.proofs.lemmas.Bool.{cases_eq, ne_eqb, eq-eqb, eqb-true}
-use Rattle.std.proofs.lemmas.List.{take_more, take_all, get_or-set_same, get_or-set_other}
+use Rattle.std.proofs.lemmas.List.{take_more, take_all, drop_all, get_or-set_same, get_or-set_other}
 use Rattle.std.proofs.lemmas.List.Sums.{sum_by_push}
 use Rattle.pw_live_spans.specs.Spans.{IsIn, Covers}
 use Rattle.pw_live_held.proofs.Spanning.{first_more, first_none}
@@ -128,8 +128,25 @@ pub same_most : (f : Outline) (ps : List Point) → greatest (map (short_at f) p
 same_most f [] = refl
 same_most f (p ∷ ps) = ap (λ (n : ℕ). max (short_at f p) n) (same_most f ps)
 
+drop_next : (ns : List ℕ) (i n : ℕ) → i < length ns → n ≡ get_or ns i n → drop i ns ≡ n ∷ drop (suc i) ns
+drop_next [] i n lt at = absurd (omega (arith, lt))
+drop_next (m ∷ ns) zero n lt at = ap (λ (k : ℕ). k ∷ ns) (sym at)
+drop_next (m ∷ ns) (suc i) n lt at = drop_next ns i n (omega (arith, lt)) at
+
 pub greatest_next : (most : ℕ) (ns : List ℕ) (i n : ℕ) → i < length ns → n ≡ get_or ns i n → max most (greatest (drop i ns)) ≡ max (max most n) (greatest (drop (i + 1) ns))
-greatest_next most ns i n lt at = ap (λ (ms : List ℕ). max most (greatest ms)) (drop_next ns i n lt at) ∙ greatest_more most n (drop (i + 1) ns)
+greatest_next most ns i n lt at =
+    let up : suc i ≡ i + 1 = omega arith in
+    ap (λ (ms : List ℕ). max most (greatest ms)) (drop_next ns i n lt at ∙ ap (λ (q : ℕ). n ∷ drop q ns) up) ∙ greatest_more most n (drop (i + 1) ns)
+
+pub greatest_end : (most : ℕ) (ns : List ℕ) (i : ℕ) → length ns ≤ i → max most (greatest (drop i ns)) ≡ most
+greatest_end most ns i past = ap (λ (ms : List ℕ). max most (greatest ms)) (drop_all i ns past) ∙ (let h : max most 0 ≡ most = omega arith in h)
+
+pub here : (ns : List ℕ) (i d : ℕ) → i < length ns → get_or ns i d ≡ get_or ns i (get_or ns i d)
+here [] i d lt = absurd (omega (arith, lt))
+here (n ∷ ns) zero d lt = refl
+here (n ∷ ns) (suc i) d lt = again ns i d (get_or ns i d) (omega (arith, lt))
   where
-    drop_next : (ms : List ℕ) (k m : ℕ) → k < length ms → m ≡ get_or ms k m → drop k ms ≡ m ∷ drop (k + 1) ms
-    drop_next ms k m lt at = let up : suc k ≡ k + 1 = omega arith in drop-get_or ms k m lt ∙ ap (λ (x : ℕ). x ∷ drop (suc k) ms) (sym at) ∙ ap (λ (q : ℕ). m ∷ drop q ms) up
+    again : (ms : List ℕ) (k d e : ℕ) → k < length ms → get_or ms k d ≡ get_or ms k e
+    again [] k d e lt = absurd (omega (arith, lt))
+    again (m ∷ ms) zero d e lt = refl
+    again (m ∷ ms) (suc k) d e lt = again ms k d e (omega (arith, lt))

@@ -85,12 +85,9 @@ impl Counting {
 pub(crate) fn greatest(counts: &[u32]) -> u32
     ensures { result ≡ greatest counts.now }
 {
-    let mut most = 0;
+    let mut most: u32 = 0;
     for place in 0..counts.len() {
-        let count = counts[place];
-        if most < count {
-            most = count;
-        }
+        most = most.max(counts[place]);
     }
     most
 }
