@@ -1,11 +1,12 @@
 -- The functions that may work for others alone, by names, callers and cycles.
-use Rattle.std.specs.Prelude.{ℕ, ◌≡◌, ◌≢◌, ◌<◌, ◌≤◌, ◌+◌, ◌⊎◌, ◌↔◌, ◌&&◌, not, Bool, true, false, Some, List, [], ◌∷◌, length, slice_get, Contains}
+use Rattle.std.specs.Prelude.{ℕ, ◌≡◌, ◌≢◌, ◌<◌, ◌≤◌, ◌+◌, ◌⊎◌, ◌↔◌, ◌&&◌, not, Bool, true, false, Some, List, [], ◌∷◌, length, map, slice_get, Contains}
 use Rattle.std.proofs.Common.{arith, refl, sym, ap, subst, ◌∙◌, inl, inr}
+use Rattle.std.specs.List.{flat_map}
 use Rattle.std.specs.Str.{bytes_eq}
 use Rattle.std.proofs.lemmas.Option.{same_Some, slice_get_within}
 use Rattle.std.proofs.lemmas.Slice.Eq.{bytes_eq-Decides}
 use Rattle.pw_value.specs.ProgramNames.{start_name}
-use Rattle.pw_files.proofs.Standing.{contains_by}
+use Rattle.pw_files.proofs.Standing.{Has, has_by, contains_by, has_map, has_map_back, has_flat, has_flat_back}
 use Rattle.pw_fields.specs.FieldNames.{IsTableOf, is_among}
 use Rattle.pw_fields.proofs.NameLaws.{among_contains, contains_among}
 use Rattle.pw_fix.specs.Row.{Holds}
@@ -39,6 +40,20 @@ with_negated false out = refl
 
 -- ---- names
 
+defined_so : (ss : List Summary) (name : List ℕ) → Contains (all_defined ss) name → IsDefined ss name
+defined_so ss name c =
+    let p = has_flat_back (λ s. map (λ f. f.0) s.functions) name ss (has_by name (all_defined ss) c) in
+    let q = has_map_back (λ f. f.0) name p.0.functions p.2 in
+    contains_by name (map (λ f. f.0) (flat_map (λ s. s.functions) ss))
+    (subst (λ (n : List ℕ). Has n (map (λ f. f.0) (flat_map (λ s. s.functions) ss))) q.2 (has_map (λ f. f.0) q.0 (flat_map (λ s. s.functions) ss) (has_flat (λ s. s.functions) p.0 q.0 ss p.1 q.1)))
+
+so_defined : (ss : List Summary) (name : List ℕ) → IsDefined ss name → Contains (all_defined ss) name
+so_defined ss name c =
+    let q = has_map_back (λ f. f.0) name (flat_map (λ s. s.functions) ss) (has_by name (map (λ f. f.0) (flat_map (λ s. s.functions) ss)) c) in
+    let p = has_flat_back (λ s. s.functions) q.0 ss q.1 in
+    contains_by name (all_defined ss)
+    (has_flat (λ s. map (λ f. f.0) s.functions) p.0 name ss p.1 (subst (λ (n : List ℕ). Has n (map (λ f. f.0) p.0.functions)) q.2 (has_map (λ f. f.0) q.0 p.0.functions p.2)))
+
 module _ (ss : List Summary) (defined taken escaped : List (List ℕ)) (of_defined : IsTableOf defined (all_defined ss)) (of_taken : IsTableOf taken (all_taken ss)) (of_escaped : IsTableOf escaped (all_escaped ss)) where
   -- what the name has to be
   record Named (name : List ℕ) : Type 0 where
@@ -53,7 +68,7 @@ module _ (ss : List Summary) (defined taken escaped : List (List ℕ)) (of_defin
       let two = both (is_among defined name) (not (is_among taken name) && not (is_among escaped name)) one.1 in
       let three = both (not (is_among taken name)) (not (is_among escaped name)) two.1 in
       record {
-        is_defined = (of_defined.of name).0 (among_contains defined name two.0);
+        is_defined = defined_so ss name ((of_defined.of name).0 (among_contains defined name two.0));
         no_start = λ same. negated (bytes_eq name start_name) one.0 ((bytes_eq-Decides name start_name).1 same);
         not_taken = λ t. negated (is_among taken name) three.0 (among_taken ss taken of_taken name t);
         not_escaped = λ t. negated (is_among escaped name) three.1 (among_escaped ss escaped of_escaped name t);
@@ -61,7 +76,7 @@ module _ (ss : List Summary) (defined taken escaped : List (List ℕ)) (of_defin
 
   so_named : (name : List ℕ) → Named name → is_named defined taken escaped name ≡ true
   so_named name n =
-      let c = (of_defined.of name).1 n.is_defined in
+      let c = (of_defined.of name).1 (so_defined ss name n.is_defined) in
       with_both (not (bytes_eq name start_name)) (is_among defined name && (not (is_among taken name) && not (is_among escaped name)))
       (with_negated (bytes_eq name start_name) (λ e. n.no_start ((bytes_eq-Decides name start_name).0 e)))
       (with_both (is_among defined name) (not (is_among taken name) && not (is_among escaped name)) (contains_among defined name c.0 c.1 c.2)

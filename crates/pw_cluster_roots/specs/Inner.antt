@@ -12,7 +12,7 @@ use Rattle.pw_clusters.specs.Clusters.{IsInner}
 
 -- the names of the functions that modules define
 abbrev pub all_defined : List Summary → List (List ℕ)
-all_defined ss = map (λ f. f.0) (flat_map (λ s. s.functions) ss)
+all_defined ss = flat_map (λ s. map (λ f. f.0) s.functions) ss
 
 -- the name allows it: a module defines the function, it is not the start, and no module takes its address
 abbrev pub is_named : List (List ℕ) → List (List ℕ) → List (List ℕ) → List ℕ → Bool
