@@ -20,6 +20,7 @@ use pw_value::program_names::START;
 use std::alloc::{AllocError as NoMemory, Global};
 
 /// The names that tell which functions may work for others alone: those that modules define, and those whose address one takes.
+#[derive(Drop)]
 struct Known {
     defined: Vec<Name>,
     taken: Vec<Name>,

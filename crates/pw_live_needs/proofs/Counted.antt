@@ -141,12 +141,21 @@ greatest_next most ns i n lt at =
 pub greatest_end : (most : ℕ) (ns : List ℕ) (i : ℕ) → length ns ≤ i → max most (greatest (drop i ns)) ≡ most
 greatest_end most ns i past = ap (λ (ms : List ℕ). max most (greatest ms)) (drop_all i ns past) ∙ (let h : max most 0 ≡ most = omega arith in h)
 
-pub here : (ns : List ℕ) (i d : ℕ) → i < length ns → get_or ns i d ≡ get_or ns i (get_or ns i d)
+pub here : {X : Type 0} (xs : List X) (i : ℕ) (d : X) → i < length xs → get_or xs i d ≡ get_or xs i (get_or xs i d)
 here [] i d lt = absurd (omega (arith, lt))
-here (n ∷ ns) zero d lt = refl
-here (n ∷ ns) (suc i) d lt = again ns i d (get_or ns i d) (omega (arith, lt))
+here (x ∷ xs) zero d lt = refl
+here {X} (x ∷ xs) (suc i) d lt = again xs i d (get_or xs i d) (omega (arith, lt))
   where
-    again : (ms : List ℕ) (k d e : ℕ) → k < length ms → get_or ms k d ≡ get_or ms k e
+    again : (ys : List X) (k : ℕ) (d e : X) → k < length ys → get_or ys k d ≡ get_or ys k e
     again [] k d e lt = absurd (omega (arith, lt))
-    again (m ∷ ms) zero d e lt = refl
-    again (m ∷ ms) (suc k) d e lt = again ms k d e (omega (arith, lt))
+    again (y ∷ ys) zero d e lt = refl
+    again (y ∷ ys) (suc k) d e lt = again ys k d e (omega (arith, lt))
+
+-- the points of a whole span
+pub span_end : (Old New : ℕ → Type 0) (from to q : ℕ) → to ≤ q → (q ≤ to) ⊎ (q ≡ from) → ((p : ℕ) → New p ↔ (Old p ⊎ ((from ≤ p) × (p < q)))) → (p : ℕ) → New p ↔ (Old p ⊎ ((from ≤ p) × (p < to)))
+span_end Old New from to q past high now p = (
+  λ h. elim ((now p).0 h) [ inl o ↦ inl o | inr w ↦ inr (w.0, below w.0 w.1) ],
+  λ h. (now p).1 (elim h [ inl o ↦ inl o | inr w ↦ inr (w.0, let lt = w.1 in omega (arith, lt, past)) ]),
+) where
+  below : from ≤ p → p < q → p < to
+  below low lt = elim high [ inl le ↦ omega (arith, lt, le) | inr e ↦ omega (arith, low, lt, e) ]

@@ -7,7 +7,7 @@ pub loop-place-preserved : goal.loop-place-preserved
 loop-place-preserved c =
     let ns = c.args.counts.now in
     let i = c.loop-place.place in
-    ap (λ (m : ℕ). max m (greatest (drop (i + 1) ns))) c.max.ensures ∙ sym (greatest_next c.loop-place.most ns i (get_or ns i 0) c.loop-place-test.true (here ns i 0 c.loop-place-test.true)) ∙ c.loop-place.invariant
+    ap (λ (m : ℕ). max m (greatest (drop (i + 1) ns))) c.max-most.ensures ∙ sym (greatest_next c.loop-place.most ns i (get_or ns i 0) c.loop-place-test.true (here ns i 0 c.loop-place-test.true)) ∙ c.loop-place.invariant
 
 pub returns : goal.returns
 returns c = sym (greatest_end c.loop-place.most c.args.counts.now c.loop-place.place c.loop-place-test.false) ∙ c.loop-place.invariant
