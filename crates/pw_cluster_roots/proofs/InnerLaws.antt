@@ -34,6 +34,10 @@ negated : (b : Bool) → not b ≡ true → b ≡ true → ⊥
 negated true e f = cc
 negated false e f = cc
 
+pub clash : (b : Bool) → b ≡ false → b ≡ true → ⊥
+clash true x y = cc
+clash false x y = cc
+
 with_negated : (b : Bool) → (b ≡ true → ⊥) → not b ≡ true
 with_negated true out = absurd (out refl)
 with_negated false out = refl

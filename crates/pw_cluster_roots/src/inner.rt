@@ -39,7 +39,7 @@ fn defined_names(alloc: Global, summaries: &[Summary]) -> Result<Vec<Name>, NoMe
 }
 
 /// All these names.
-fn known(alloc: Global, summaries: &[Summary]) -> Result<Known, NoMemory>
+fn find_known(alloc: Global, summaries: &[Summary]) -> Result<Known, NoMemory>
     ensures defined { IfOk result (λ k. IsTableOf k.defined.items (all_defined summaries.now)) }
     ensures taken { IfOk result (λ k. IsTableOf k.taken.items (all_taken summaries.now)) }
     ensures escaped { IfOk result (λ k. IsTableOf k.escaped.items (all_escaped summaries.now)) }
@@ -93,7 +93,7 @@ pub(crate) fn inner_of(
     requires cycles { (f : ℕ) → Holds cycles.now f ↔ Path graph.now f f }
     ensures { IfOk result (AreInner summaries.now graph.now) }
 {
-    let known = known(alloc, summaries)?;
+    let known = find_known(alloc, summaries)?;
     let functions = graph.functions.as_slice();
     let mut inner = BitRow::new(alloc, functions.len())?;
     for place in 0..functions.len() {
