@@ -1,8 +1,9 @@
-use Rattle.std.proofs.Common.{◌≡◌, ◌<◌, ◌≤◌, ◌∙◌, ℕ, List, length, refl, subst, sym}
-use Rattle.std.specs.Prelude.{Some, slice_get}
+use Rattle.std.proofs.Common.{◌≡◌, ◌<◌, ◌≤◌, ◌+◌, ◌∙◌, ℕ, List, length, refl, ap, subst, sym}
+use Rattle.std.specs.Prelude.{Some, slice_get, ◌↔◌}
 use Rattle.std.proofs.lemmas.Option.{slice_get_read}
+use Rattle.pw_fix.specs.Row.{Holds}
+use Rattle.pw_fix.specs.declared.bit_row.BitRow.{BitRow}
 use Rattle.pw_clusters.specs.Clusters.{IsInner}
-use Rattle.pw_cluster_roots.specs.Inner.{is_named}
 use Rattle.pw_cluster_roots.proofs.InnerLaws.{inner_here, one_put, one_left, all_inner, clash}
 use Rattle.pw_cluster_roots.proofs.inner.inner_of.Goals as goal
 use Rattle.pw_cluster_roots.proofs.inner.inner_of.Goals.{then-is_inner, else-is_inner}
@@ -23,12 +24,12 @@ loop-place-preserved c =
     let is = inner_here ss known.defined.items known.taken.items known.escaped.items c.in_ok-known.ensures.defined c.in_ok-known.ensures.taken c.in_ok-known.ensures.escaped g c.args.callers.now c.args.cycles.now i row name c.requires.callers c.requires.cycles at there in
     elim c.if-is_inner.branch [
       | then-is_inner w ↦ record {
-          width = w.insert.ensures.length ∙ c.loop-place.invariant.width;
-          holds = one_put (IsInner ss g) i c.loop-place.inner c.if-is_inner.inner (is.0 (c.is_inner.ensures.0 w.if-is_inner.true)) w.insert.ensures.holds c.loop-place.invariant.holds;
+          width = ap (λ (r : BitRow). r.len) w.inner-is ∙ w.insert.ensures.length ∙ c.loop-place.invariant.width;
+          holds = subst (λ (r : BitRow). (f : ℕ) → Holds r f ↔ ((f < i + 1) × IsInner ss g f)) (sym w.inner-is) (one_put (IsInner ss g) i c.loop-place.inner w.insert.new.self (is.0 (c.is_inner.ensures.0 w.if-is_inner.true)) w.insert.ensures.holds c.loop-place.invariant.holds);
         }
       | else-is_inner w ↦ record {
-          width = c.loop-place.invariant.width;
-          holds = one_left (IsInner ss g) i c.loop-place.inner (λ inner. clash c.is_inner.result w.if-is_inner.false (c.is_inner.ensures.1 (is.1 inner))) c.loop-place.invariant.holds;
+          width = ap (λ (r : BitRow). r.len) w.inner-is ∙ c.loop-place.invariant.width;
+          holds = subst (λ (r : BitRow). (f : ℕ) → Holds r f ↔ ((f < i + 1) × IsInner ss g f)) (sym w.inner-is) (one_left (IsInner ss g) i c.loop-place.inner (λ inner. clash c.is_inner.result w.if-is_inner.false (c.is_inner.ensures.1 (is.1 inner))) c.loop-place.invariant.holds);
         }
     ]
 
