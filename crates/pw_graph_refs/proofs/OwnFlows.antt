@@ -1,6 +1,6 @@
 -- What flows from each function itself, and rows that are filled place by place.
-use Rattle.std.specs.Prelude.{ℕ, ◌≡◌, ◌<◌, ◌≤◌, ◌+◌, ◌⊎◌, ◌↔◌, length}
-use Rattle.std.proofs.Common.{arith, refl, sym, subst, inl, inr}
+use Rattle.std.specs.Prelude.{ℕ, ◌≡◌, ◌<◌, ◌≤◌, ◌+◌, ◌⊎◌, ◌↔◌, IfOk, length}
+use Rattle.std.proofs.Common.{Result, Ok, Err, arith, refl, sym, subst, inl, inr}
 use Rattle.std.proofs.lemmas.Bool.{cases_eq, cases_lt}
 use Rattle.pw_fix.specs.Row.{Holds}
 use Rattle.pw_fix.specs.Table.{HoldsAt}
@@ -67,3 +67,12 @@ cycle_holds g own table row ok is flows width holds f = (
     let lt = walk_within (length g.functions) (edges_from 0 g.calls) (calls_within g ok) (path_walk g path) in
     (holds f).1 (omega (arith, lt, width), (flows f f).1 ((cycle_flows g own ok is f).1 path)),
 )
+
+-- what a row holds in the end
+pub some_all : (P : ℕ → Type 0) (count i : ℕ) (row : BitRow) → count ≤ i → i ≤ count → ((f : ℕ) → Holds row f ↔ ((f < i) × P f)) → (f : ℕ) → Holds row f ↔ ((f < count) × P f)
+some_all P count i row low high before = let same : i ≡ count = omega (arith, low, high) in subst (λ (k : ℕ). (f : ℕ) → Holds row f ↔ ((f < k) × P f)) same before
+
+pub cycles_found : {E : Type 0} (g : CallGraph) (own table : BitRows) (r : Result BitRow E) → IsGraph g → ((n v : ℕ) → HoldsAt own n v ↔ ((n < length g.functions) × (v ≡ n))) → ((n v : ℕ) → HoldsAt table n v ↔ FlowsTo (edges_from 0 g.calls) own n v)
+    → table.len ≡ length g.functions → IfOk r (λ row. (f : ℕ) → Holds row f ↔ ((f < table.len) × HoldsAt table f f)) → IfOk r (λ row. (f : ℕ) → Holds row f ↔ Path g f f)
+cycles_found g own table (Ok row) ok is flows width holds = cycle_holds g own table row ok is flows width holds
+cycles_found g own table (Err e) ok is flows width holds = tt

@@ -11,3 +11,6 @@ loop-place-preserved c = record {
   size = c.insert.ensures.length ∙ c.loop-place.invariant.size;
   holds = own_more c.loop-place.place c.loop-place.table c.insert.new.self c.loop-place.invariant.holds c.insert.ensures.holds;
 }
+
+pub returns-clause-holds : goal.returns-clause-holds
+returns-clause-holds c = own_all c.args.count c.loop-place.place c.loop-place.table c.loop-place-test.false c.loop-place.auto.place-end c.loop-place.invariant.holds
