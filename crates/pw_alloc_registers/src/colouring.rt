@@ -128,7 +128,11 @@ pub(crate) struct Masks {
 }
 
 /// The register of each temporary of a function, beside those of its webs.
-pub(crate) fn registers(alloc: Global, f: &Outline, masks: Masks) -> Result<Vec<Option<u8>>, NoMemory>
+pub(crate) fn registers(
+    alloc: Global,
+    f: &Outline,
+    masks: Masks,
+) -> Result<Vec<Option<u8>>, NoMemory>
     requires { IsOutline f.now }
     ensures { IfOk result (λ v. (ws cs : List ℕ) → IsMaskOf masks.webs ws → IsMaskOf masks.cluster cs → v.items ≡ registers f.now ws cs) }
 {

@@ -102,27 +102,27 @@ module _ (ss : List Summary) (defined taken escaped : List (List ℕ)) (of_defin
       → ((¬ (row ≡ [])) × (¬ Holds cycles f) × (is_named defined taken escaped name ≡ true)) ↔ IsInner ss g f
   inner_here g callers cycles f row name calls cycle at there = (
     λ k.
-      let c = some_caller row k.0 in
-      let n = named_so name k.2 in
-      record {
-        name = name;
-        at = at;
-        defined = n.is_defined;
-        no_start = n.no_start;
-        no_cycle = λ path. k.1 ((cycle f).1 path);
-        not_taken = n.not_taken;
-        not_escaped = n.not_escaped;
-        caller = c.0;
-        called = (calls f c.0).0 (record { row = row; at = there; stands = c.1 });
-      },
+        let c = some_caller row k.0 in
+        let n = named_so name k.2 in
+        record {
+          name = name;
+          at = at;
+          defined = n.is_defined;
+          no_start = n.no_start;
+          no_cycle = λ path. k.1 ((cycle f).1 path);
+          not_taken = n.not_taken;
+          not_escaped = n.not_escaped;
+          caller = c.0;
+          called = (calls f c.0).0 (record { row = row; at = there; stands = c.1 });
+        },
     λ i.
-      let same : i.name ≡ name = same_Some i.name name (sym i.at ∙ at) in
-      let leads = (calls f i.caller).1 i.called in
-      let one : leads.row ≡ row = same_Some leads.row row (sym leads.at ∙ there) in (
-        none_empty row i.caller (subst (λ (l : List ℕ). Contains l i.caller) one leads.stands),
-        λ h. i.no_cycle ((cycle f).0 h),
-        so_named name (subst Named same (record { is_defined = i.defined; no_start = i.no_start; not_taken = i.not_taken; not_escaped = i.not_escaped })),
-      ),
+        let same : i.name ≡ name = same_Some i.name name (sym i.at ∙ at) in
+        let leads = (calls f i.caller).1 i.called in
+        let one : leads.row ≡ row = same_Some leads.row row (sym leads.at ∙ there) in (
+          none_empty row i.caller (subst (λ (l : List ℕ). Contains l i.caller) one leads.stands),
+          λ h. i.no_cycle ((cycle f).0 h),
+          so_named name (subst Named same (record { is_defined = i.defined; no_start = i.no_start; not_taken = i.not_taken; not_escaped = i.not_escaped })),
+        ),
   )
 
 -- ---- place by place

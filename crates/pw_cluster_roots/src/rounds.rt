@@ -81,7 +81,13 @@ fn settle(roots: &mut [u32], settled: &mut BitRow, callers: &[u32], place: usize
 }
 
 /// Settles what is ready, in the order of places; whether something was.
-fn round(graph: &CallGraph, callers: &[Items<u32>], inner: &BitRow, roots: &mut [u32], settled: &mut BitRow) -> bool
+fn round(
+    graph: &CallGraph,
+    callers: &[Items<u32>],
+    inner: &BitRow,
+    roots: &mut [u32],
+    settled: &mut BitRow,
+) -> bool
     requires graph { IsGraph graph.now }
     requires count { length callers.now ≡ length graph.now.functions }
     requires callers { (a b : ℕ) → Leads callers.now a b ↔ Calls graph.now b a }

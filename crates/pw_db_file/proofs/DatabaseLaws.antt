@@ -273,7 +273,7 @@ contents_back version c holds =
         (
           is.fits.count,
           functions_back version c.names nothing_before c.value.functions
-          (record { order = is.lawful.functions.functions; directives = is.lawful.functions.directives; unshared = λ first. is.lawful.unshared (holds.version_is ∙ first); fits = is.fits.each; agree = is.lawful.functions.agree; named = both.1 }),
+              (record { order = is.lawful.functions.functions; directives = is.lawful.functions.directives; unshared = λ first. is.lawful.unshared (holds.version_is ∙ first); fits = is.fits.each; agree = is.lawful.functions.agree; named = both.1 }),
         ),
         (holds.version_is, both.0),
       ),

@@ -291,8 +291,9 @@ fn read_function_items<'a>(
     let mut before: Option<&Name> = None;
     let mut rest = bytes;
     for _ in 0..count {
-        let ((name, directives), more, after) =
-            read_function(alloc, version, names, before, seen, rest)?;
+        let ((name, directives), more, after) = read_function(
+            alloc, version, names, before, seen, rest,
+        )?;
         functions.push((name.copy(alloc)?, directives))?;
         seen = more;
         before = Some(name);

@@ -26,11 +26,7 @@ fn is_apart(others: &[u8], r: u8) -> bool
 
 /// A register that a callee keeps, from one on, that is none of some others.
 #[tactic(auto, unfolding(crate::specs::Reading::kept_at))]
-fn read_kept<'a>(
-    others: &[u8],
-    least: u8,
-    bytes: &'a [u8],
-) -> Result<(u8, &'a [u8]), FieldFault>
+fn read_kept<'a>(others: &[u8], least: u8, bytes: &'a [u8]) -> Result<(u8, &'a [u8]), FieldFault>
     ensures found { AnswersField (λ x. (x.0, x.1.now)) result (kept_at others.now least bytes.now) }
     ensures high { IfOk result (λ x. x.0 ≤ last_register) }
     ensures no_memory { IfErr result (λ e. e ≢ FieldFault.NoMemory) }

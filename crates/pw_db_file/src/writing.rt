@@ -74,11 +74,7 @@ fn push_list(out: &mut Vec<u8>, registers: &[u8]) -> Result<(), AllocError>
 }
 
 /// The registers that a function shares with others, in a version: a count of none stands for them in the first.
-fn push_sharing(
-    out: &mut Vec<u8>,
-    version: u32,
-    directives: &Directives,
-) -> Result<(), AllocError>
+fn push_sharing(out: &mut Vec<u8>, version: u32, directives: &Directives) -> Result<(), AllocError>
     ensures { OnOk result (out.new.items ≡ out.old.items ++ sharing version (directives.now.free, directives.now.saves)) }
 {
     if version == FIRST {

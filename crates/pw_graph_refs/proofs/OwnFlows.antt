@@ -64,8 +64,8 @@ pub cycle_holds : (g : CallGraph) (own table : BitRows) (row : BitRow) → IsGra
 cycle_holds g own table row ok is flows width holds f = (
   λ h. (cycle_flows g own ok is f).0 ((flows f f).0 ((holds f).0 h).1),
   λ path.
-    let lt = walk_within (length g.functions) (edges_from 0 g.calls) (calls_within g ok) (path_walk g path) in
-    (holds f).1 (omega (arith, lt, width), (flows f f).1 ((cycle_flows g own ok is f).1 path)),
+      let lt = walk_within (length g.functions) (edges_from 0 g.calls) (calls_within g ok) (path_walk g path) in
+      (holds f).1 (omega (arith, lt, width), (flows f f).1 ((cycle_flows g own ok is f).1 path)),
 )
 
 -- what a row holds in the end

@@ -44,9 +44,9 @@ pub back_same : (p : Program) (d : List (List ℕ × Directives)) (Free : ℕ �
 back_same p d Free f y after is alone same r high out = elim (has_or_not r (map (λ (s : ℕ × Value). s.0) f.placed.saved)) [
   | inl there ↦ with_covered f.placed.saved after y r there
   | inr lacks ↦ with_same f.placed.saved after y r (same r high (λ free. elim (alone r free).1 [
-      | inl own ↦ out (free_of p d f r is own)
-      | inr others ↦ lacks (has_by r (map (λ (s : ℕ × Value). s.0) f.placed.saved) (subst (λ (l : List ℕ). Contains l r) (sym is.placed) ((is.serves.saved r).1 (saves others))))
-    ]))
+    | inl own ↦ out (free_of p d f r is own)
+    | inr others ↦ lacks (has_by r (map (λ (s : ℕ × Value). s.0) f.placed.saved) (subst (λ (l : List ℕ). Contains l r) (sym is.placed) ((is.serves.saved r).1 (saves others))))
+  ]))
 ]
 
 -- it finds the same where the registers that a callee keeps are the same, but for those that it leaves to those below

@@ -64,8 +64,20 @@ fn push_function(
     ensures { OnOk result (out.new.items ≡ out.old.items ++ shared_lines function.now) }
 {
     let directives = &function.1;
-    push_line(alloc, out, &function.0, b" saves", directives.saves.as_slice())?;
-    push_line(alloc, out, &function.0, b" free", directives.free.as_slice())?;
+    push_line(
+        alloc,
+        out,
+        &function.0,
+        b" saves",
+        directives.saves.as_slice(),
+    )?;
+    push_line(
+        alloc,
+        out,
+        &function.0,
+        b" free",
+        directives.free.as_slice(),
+    )?;
     Ok(())
 }
 

@@ -62,13 +62,7 @@ fn is_held_over(spans: &[(usize, usize)], makers: &[Option<u32>], calls: &[bool]
 
 /// Whether a temporary is held over a call, where it is known where temporaries are live, which one is written before each
 /// point, and where calls are.
-pub fn is_held(
-    f: &Outline,
-    spans: &Spans,
-    makers: &[Option<u32>],
-    calls: &[bool],
-    t: u32,
-) -> bool
+pub fn is_held(f: &Outline, spans: &Spans, makers: &[Option<u32>], calls: &[bool], t: u32) -> bool
     requires spans { AreSpans f.now spans.now }
     requires makers { makers.now ≡ map maker (points f.now) }
     requires calls { calls.now ≡ map call_at (points f.now) }

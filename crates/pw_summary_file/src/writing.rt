@@ -129,12 +129,7 @@ fn push_need(out: &mut Vec<u8>, version: u32, need: u8) -> Result<(), AllocError
 }
 
 /// What a function uses.
-fn push_uses(
-    out: &mut Vec<u8>,
-    version: u32,
-    names: &[Name],
-    uses: &Uses,
-) -> Result<(), AllocError>
+fn push_uses(out: &mut Vec<u8>, version: u32, names: &[Name], uses: &Uses) -> Result<(), AllocError>
     requires table { IsNameTable names.now }
     requires stand { AreNamed names.now uses.now }
     ensures fits { OnOk result (FitsUses uses.now) }
@@ -181,11 +176,7 @@ fn push_own(out: &mut Vec<u8>, names: &[Name], summary: &Summary) -> Result<(), 
 }
 
 /// The names that the module uses, those whose address it takes, and what each function uses.
-fn push_used(
-    out: &mut Vec<u8>,
-    names: &[Name],
-    summary: &Summary,
-) -> Result<(), AllocError>
+fn push_used(out: &mut Vec<u8>, names: &[Name], summary: &Summary) -> Result<(), AllocError>
     requires table { IsNameTable names.now }
     requires stand { IsNamedBy names.now summary.now }
     ensures used_fit { OnOk result (FitsU32 (length summary.now.used)) }

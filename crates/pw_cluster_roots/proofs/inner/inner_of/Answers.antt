@@ -24,13 +24,13 @@ loop-place-preserved c =
     let is = inner_here ss known.defined.items known.taken.items known.escaped.items c.in_ok-known.ensures.defined c.in_ok-known.ensures.taken c.in_ok-known.ensures.escaped g c.args.callers.now c.args.cycles.now i row name c.requires.callers c.requires.cycles at there in
     elim c.if-is_inner.branch [
       | then-is_inner w ↦ record {
-          width = ap (λ (r : BitRow). r.len) w.inner-is ∙ w.insert.ensures.length ∙ c.loop-place.invariant.width;
-          holds = subst (λ (r : BitRow). (f : ℕ) → Holds r f ↔ ((f < i + 1) × IsInner ss g f)) (sym w.inner-is) (one_put (IsInner ss g) i c.loop-place.inner w.insert.new.self (is.0 (c.is_inner.ensures.0 w.if-is_inner.true)) w.insert.ensures.holds c.loop-place.invariant.holds);
-        }
+        width = ap (λ (r : BitRow). r.len) w.inner-is ∙ w.insert.ensures.length ∙ c.loop-place.invariant.width;
+        holds = subst (λ (r : BitRow). (f : ℕ) → Holds r f ↔ ((f < i + 1) × IsInner ss g f)) (sym w.inner-is) (one_put (IsInner ss g) i c.loop-place.inner w.insert.new.self (is.0 (c.is_inner.ensures.0 w.if-is_inner.true)) w.insert.ensures.holds c.loop-place.invariant.holds);
+      }
       | else-is_inner w ↦ record {
-          width = ap (λ (r : BitRow). r.len) w.inner-is ∙ c.loop-place.invariant.width;
-          holds = subst (λ (r : BitRow). (f : ℕ) → Holds r f ↔ ((f < i + 1) × IsInner ss g f)) (sym w.inner-is) (one_left (IsInner ss g) i c.loop-place.inner (λ inner. clash c.is_inner.result w.if-is_inner.false (c.is_inner.ensures.1 (is.1 inner))) c.loop-place.invariant.holds);
-        }
+        width = ap (λ (r : BitRow). r.len) w.inner-is ∙ c.loop-place.invariant.width;
+        holds = subst (λ (r : BitRow). (f : ℕ) → Holds r f ↔ ((f < i + 1) × IsInner ss g f)) (sym w.inner-is) (one_left (IsInner ss g) i c.loop-place.inner (λ inner. clash c.is_inner.result w.if-is_inner.false (c.is_inner.ensures.1 (is.1 inner))) c.loop-place.invariant.holds);
+      }
     ]
 
 pub returns : goal.returns
