@@ -1,11 +1,11 @@
 -- What a round keeps, and where no function is ready.
-use Rattle.std.specs.Prelude.{ℕ, ◌≡◌, ◌<◌, ◌+◌, ◌⊎◌, ◌↔◌, ◌/◌, ◌%◌, ◌-◌, ◌≤◌, Bool, true, false, Some, List, length, slice_get, slice_index, slice_set, Contains}
+use Rattle.std.specs.Prelude.{ℕ, ◌≡◌, ◌<◌, ◌+◌, ◌⊎◌, ◌↔◌, ◌/◌, ◌%◌, ◌==◌, ◌-◌, ◌≤◌, Bool, true, false, Some, List, length, slice_get, slice_index, slice_set, Contains}
 use Rattle.std.proofs.Common.{arith, refl, sym, ap, subst, ◌∙◌, inl, inr}
 use Rattle.std.specs.Bool.{OnTrue, OnFalse}
 use Rattle.std.specs.Int.{bit_at}
 use Rattle.std.specs.List.{range_with_len}
 use Rattle.std.proofs.lemmas.List.FromFn.{length-range_with_len, get_or-range_with_len}
-use Rattle.std.proofs.lemmas.Bool.{cases_eq, cases_lt}
+use Rattle.std.proofs.lemmas.Bool.{cases_eq, cases_lt, eqb-true, eq-eqb}
 use Rattle.std.proofs.lemmas.Option.{same_Some, slice_get_within}
 use Rattle.std.proofs.lemmas.List.{get_or-set_same, get_or-set_other, length-set}
 use Rattle.pw_fix.specs.Row.{Holds, member_count}
@@ -172,3 +172,18 @@ fewer old new width more added =
     let one : member_count old < member_count new = more_members old new added.0 (sym width) more added.1 added.2 in
     let fit : member_count new ≤ new.len = members_fit new.len new refl in
     omega (arith, one, fit, width)
+
+-- the same said of flags
+abbrev pub FlagsEverywhere : CallGraph → Type 0
+FlagsEverywhere g =
+    (holds : ℕ → Bool) → length g.calls ≡ length g.functions → ((f : ℕ) → f < length g.functions → (holds f ≡ true) ⊎ (Path g f f → ⊥))
+    → ((f : ℕ) → f < length g.functions → ((c : ℕ) → Calls g c f → holds c ≡ true) → holds f ≡ true) → (f : ℕ) → f < length g.functions → holds f ≡ true
+
+abbrev bit_of : BitRow → ℕ → ℕ
+bit_of row f = bit_at (slice_index row.words.items (f / 64)) (f % 64)
+
+pub holds_everywhere : (g : CallGraph) (inner settled : BitRow) → length g.calls ≡ length g.functions → FlagsEverywhere g → HoldsEverywhere g inner (Holds settled)
+holds_everywhere g inner settled rows law once from f lt =
+    eqb-true (bit_of settled f) 1
+    (law (λ q. bit_of settled q == 1) rows (λ q h. elim (once q h) [ inl k ↦ inl (eq-eqb (bit_of settled q) 1 k) | inr k ↦ inr k ])
+    (λ q h all. eq-eqb (bit_of settled q) 1 (from q h (λ c calls. eqb-true (bit_of settled c) 1 (all c calls)))) f lt)

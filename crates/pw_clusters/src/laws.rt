@@ -1,6 +1,6 @@
 //! Laws of the registers that roots save.
 
-ghost use Rattle.std.specs.Prelude.{◌≡◌, ◌+◌, Some, slice_get, ◌<◌, ◌≤◌, ◌⊎◌, ℕ, List, [], length, slice_index, Contains};
+ghost use Rattle.std.specs.Prelude.{◌≡◌, ◌+◌, Some, slice_get, ◌<◌, ◌≤◌, ◌⊎◌, ℕ, List, [], length, slice_index, Contains, Bool, IsTrue};
 ghost use Rattle.std.specs.List.{AllByRecursion};
 ghost use Rattle.pw_db.specs.Limits.{first_register, last_register, colour_limit};
 ghost use Rattle.pw_summary.specs.declared.summary.Summary.{Summary};
@@ -55,5 +55,5 @@ pub fn roots_are_there()
 /// What holds of each function if it holds of all that call it, and holds of it or else it does not come to call itself, holds
 /// of all.
 pub fn what_callers_hand_on_holds()
-    ensures { (g : CallGraph) (P : ℕ → Type 0) → length g.calls ≡ length g.functions → ((f : ℕ) → f < length g.functions → P f ⊎ (¬ Path g f f)) → ((f : ℕ) → f < length g.functions → ((c : ℕ) → Calls g c f → P c) → P f) → (f : ℕ) → f < length g.functions → P f }
+    ensures { (g : CallGraph) (holds : ℕ → Bool) → length g.calls ≡ length g.functions → ((f : ℕ) → f < length g.functions → IsTrue (holds f) ⊎ (¬ Path g f f)) → ((f : ℕ) → f < length g.functions → ((c : ℕ) → Calls g c f → IsTrue (holds c)) → IsTrue (holds f)) → (f : ℕ) → f < length g.functions → IsTrue (holds f) }
 {}

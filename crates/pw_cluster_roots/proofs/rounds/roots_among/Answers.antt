@@ -1,9 +1,8 @@
 use Rattle.std.proofs.Common.{◌∙◌, ◌≡◌, ℕ, subst, sym}
 use Rattle.std.specs.List.{range_with_len}
-use Rattle.pw_fix.specs.Row.{Holds}
 use Rattle.pw_cluster_roots.specs.Rounds.{AreRootsAmong}
 use Rattle.pw_cluster_roots.proofs.Lists.{written_back}
-use Rattle.pw_cluster_roots.proofs.RoundLaws.{started, fewer, roots_found}
+use Rattle.pw_cluster_roots.proofs.RoundLaws.{started, fewer, holds_everywhere, roots_found}
 use Rattle.pw_cluster_roots.proofs.rounds.roots_among.Goals as goal
 
 pub loop-roots-init : goal.loop-roots-init
@@ -18,7 +17,7 @@ returns-then-not-round c =
     let news = c.round.new.roots in
     let same = c.loop-roots.roots.ok.0 ∙ c.loop-roots.invariant.each ∙ sym c.round.ensures.settled.each in
     subst (AreRootsAmong g inner) (sym (written_back c.loop-roots.roots.len news _ same))
-    (roots_found g inner settled news (c.what_callers_hand_on_holds.ensures g (Holds settled) c.requires.graph.call_rows) c.requires.inner c.round.ensures.settled c.if-not-round.ensures.none)
+    (roots_found g inner settled news (holds_everywhere g inner settled c.requires.graph.call_rows (c.what_callers_hand_on_holds.ensures g)) c.requires.inner c.round.ensures.settled c.if-not-round.ensures.none)
 
 pub loop-roots-smaller : goal.loop-roots-smaller
 loop-roots-smaller c =
