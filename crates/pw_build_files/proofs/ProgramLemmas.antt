@@ -11,7 +11,7 @@ use Rattle.pw_value.specs.Limits.{module_limit, texts_limit}
 use Rattle.pw_value.specs.declared.fault.LinkFault.{LinkFault}
 use Rattle.pw_value.specs.declared.fault.LinkFault.TheVariants.{TooMany}
 use Rattle.pw_value.specs.declared.fault.What.TheVariants.{Modules, TextBytes}
-use Rattle.pw_db.specs.Database.{IsDatabaseFile}
+use Rattle.pw_db_file.specs.Spelling.{IsNewFile}
 use Rattle.pw_object.specs.declared.object.Object.{Object}
 use Rattle.pw_image.specs.declared.image.Image.{Image}
 use Rattle.pw_image.specs.Image.{IsImageFile}
@@ -130,7 +130,7 @@ counted_names ms built names before now many e counted =
 -- ---- the files of a program
 
 made_files : (ms : List Module) (opts : Opts) (kept : List (Option Object)) (built : Built) (made : ProgramFiles) (linked_objects : List Object) → Builds (map source ms) kept opts (Ok (parts_of built)) → made.fresh.names.items ≡ map (λ m. m.0) (made_anew (map (λ m. m.name) ms) (objects_of built.made.items) (marks_of built.made.items))
-    → AreObjectFiles (made_anew (map (λ m. m.name) ms) (objects_of built.made.items) (marks_of built.made.items)) (map file_view made.fresh.files.items) → IsDatabaseFile made.database.items built.database.functions
+    → AreObjectFiles (made_anew (map (λ m. m.name) ms) (objects_of built.made.items) (marks_of built.made.items)) (map file_view made.fresh.files.items) → IsNewFile made.database.items built.database.functions
     → ((names : List (List ℕ)) × IsImageFile made.image.items (record { names = names; value = built.image })) → built.image ≡ linked (objects_of built.made.items) opts.stack → linked_objects ≡ objects_of built.made.items → BuildsFiles (map source ms) kept opts made linked_objects
 made_files ms opts kept built made linked_objects builds names objects database image is_linked are =
     let same : map (λ m. m.name) ms ≡ map (λ s. s.0) (map source ms) = sym (names_by ms) in
@@ -149,7 +149,7 @@ made_files ms opts kept built made linked_objects builds names objects database 
 
 pub made_of_program : (ms : List Module) (opts : Opts) (kept : Told → List (Option Object)) (first : Option Told) (built : Built) (made : ProgramFiles) (linked_objects : List Object) → IfSome first (λ told. Builds (map source ms) (kept told) opts (Ok (parts_of built)))
     → made.fresh.names.items ≡ map (λ m. m.0) (made_anew (map (λ m. m.name) ms) (objects_of built.made.items) (marks_of built.made.items))
-    → AreObjectFiles (made_anew (map (λ m. m.name) ms) (objects_of built.made.items) (marks_of built.made.items)) (map file_view made.fresh.files.items) → IsDatabaseFile made.database.items built.database.functions
+    → AreObjectFiles (made_anew (map (λ m. m.name) ms) (objects_of built.made.items) (marks_of built.made.items)) (map file_view made.fresh.files.items) → IsNewFile made.database.items built.database.functions
     → ((names : List (List ℕ)) × IsImageFile made.image.items (record { names = names; value = built.image })) → built.image ≡ linked (objects_of built.made.items) opts.stack → linked_objects ≡ objects_of built.made.items → IfSome first (λ told. BuildsFiles (map source ms) (kept told) opts made linked_objects)
 made_of_program ms opts kept None built made linked_objects builds names objects database image is_linked are = tt
 made_of_program ms opts kept (Some told) built made linked_objects builds names objects database image is_linked are = made_files ms opts (kept told) built made linked_objects builds names objects database image is_linked are

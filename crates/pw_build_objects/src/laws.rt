@@ -16,7 +16,8 @@ ghost use Rattle.pw_db.specs.Limits.{colour_limit};
 ghost use Rattle.pw_build_opts.specs.declared.opts.Opts.{Opts};
 
 use pw_colour::laws::{databases_are_lawful, databases_are_one};
-use pw_db::laws::{databases_and_payloads_are_one_to_one, directives_are_one};
+use pw_db::laws::directives_are_one;
+use pw_db_file::laws::databases_and_payloads_are_one_to_one;
 use pw_flowfile::laws::flow_graphs_and_files_are_one_to_one;
 use pw_law_link::laws::objects_have_one_answer;
 use pw_law_shown::summaries_and_objects_are_refused_alike;

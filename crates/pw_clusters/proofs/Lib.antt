@@ -1,3 +1,4 @@
+pub mod Once
 mod Registers
 mod Callers
 mod Climbing

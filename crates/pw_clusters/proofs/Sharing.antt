@@ -9,7 +9,7 @@ use Rattle.pw_summary.specs.declared.summary.Summary.{Summary}
 use Rattle.pw_graph.specs.declared.graph.CallGraph.{CallGraph}
 use Rattle.pw_graph.specs.Program.{IsGraphOf}
 use Rattle.pw_clusters.specs.Clusters.{AreRoots}
-use Rattle.pw_clusters.specs.Needs.{need_limit}
+use Rattle.pw_summary.specs.Summary.{need_limit}
 use Rattle.pw_clusters.specs.Saving.{greatest_need, last_registers, saves_by, free_by, need_in, saves_at, free_at}
 use Rattle.pw_clusters.specs.Sharing.{Shares, IsSavedAbove}
 use Rattle.pw_clusters.proofs.Registers.{above_webs, kept}

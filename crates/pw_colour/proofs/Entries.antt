@@ -60,11 +60,12 @@ entries_skip g ws fs i f entries lt at none is =
     let here : entry_of g ws i f ≡ [] = ap (λ (b : Bool). if b then ((f, directives_of g ws i) ∷ []) else []) off in
     is ∙ sym (append-nil (entries_from g ws 0 (take i fs))) ∙ ap (λ (es : List (List ℕ × Directives)). entries_from g ws 0 (take i fs) ++ es) (sym here) ∙ sym (entries_next g ws fs i f lt at)
 
-abbrev pub made : List (Web × Role) → List ℕ → Directives
-made webs free = record { webs = webs; free = free }
+abbrev pub made : List (Web × Role) → List ℕ → List ℕ → Directives
+made webs free saves = record { webs = webs; free = free; saves = saves }
 
-pub made_same : (g : CallGraph) (ws : List (ℕ × RawWeb × ℕ)) (i : ℕ) (webs : List (Web × Role)) (free : List ℕ) → webs ≡ webs_of g ws i → free ≡ [] → made webs free ≡ directives_of g ws i
-made_same g ws i webs free one two = ap (λ (xs : List (Web × Role)). made xs free) one ∙ ap (λ (ys : List ℕ). made (webs_of g ws i) ys) two
+pub made_same : (g : CallGraph) (ws : List (ℕ × RawWeb × ℕ)) (i : ℕ) (webs : List (Web × Role)) (free saves : List ℕ) → webs ≡ webs_of g ws i → free ≡ [] → saves ≡ [] → made webs free saves ≡ directives_of g ws i
+made_same g ws i webs free saves one two three =
+    ap (λ (xs : List (Web × Role)). made xs free saves) one ∙ ap (λ (ys : List ℕ). made (webs_of g ws i) ys saves) two ∙ ap (λ (ys : List ℕ). made (webs_of g ws i) [] ys) three
 
 -- ---- which functions there are
 

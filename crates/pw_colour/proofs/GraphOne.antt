@@ -13,6 +13,7 @@ use Rattle.pw_graph.specs.declared.graph.CallGraph.{CallGraph}
 use Rattle.pw_graph.specs.CallGraph.{Calls, Weighs}
 use Rattle.pw_graph.specs.Program.{IsGraphOf}
 use Rattle.pw_graph.proofs.Lists.{has_at}
+use Rattle.pw_clusters.proofs.Once.{map_same}
 
 -- ---- lists whose keys rise
 
@@ -54,10 +55,6 @@ all_above key x (y ∷ xs) up =
 pub key_ups : {X : Type 0} (key : X → ℕ) (xs : List X) → IsStrictlyIncreasing (map key xs) → KeyUps key xs
 key_ups key [] up = tt
 key_ups key (x ∷ xs) up = (all_above key x xs up, key_ups key xs (below_tail key x xs up))
-
-pub map_same : {X : Type 0} (xs : List X) → map (λ x. x) xs ≡ xs
-map_same [] = refl
-map_same {X} (x ∷ xs) = ap (λ (ys : List X). x ∷ ys) (map_same xs)
 
 -- ---- lists place by place
 

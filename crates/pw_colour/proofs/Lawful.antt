@@ -23,26 +23,11 @@ use Rattle.pw_graph.proofs.Lists.{has_at}
 use Rattle.pw_webs.specs.declared.web.RawWeb.{RawWeb}
 use Rattle.pw_webs.specs.Webs.{IsRawWeb, IsSameWeb, Interfere}
 use Rattle.pw_colour.specs.Colours.{IsColour, AreColoured, numbered, global_of, web_of, has_number, webs_of, directives_of, IsDatabaseOf}
+use Rattle.pw_clusters.proofs.Once.{once_there}
 use Rattle.pw_colour.proofs.Same.{differ}
 use Rattle.pw_colour.proofs.Numbered.{web_at, number_there}
 use Rattle.pw_colour.proofs.Unique.{raw_in}
 use Rattle.pw_db.specs.Limits.{first_register, register_count}
-
--- ---- names stand once
-
-behind_once : {X : Type 0} (key : X → List ℕ) (before : Option (List ℕ)) (xs : List X) → IsRisingBehind before (map key xs) → (i j : ℕ) (x y : X) → slice_get xs i ≡ Some x → slice_get xs j ≡ Some y → key x ≡ key y → i ≡ j
-behind_once key before [] up i j x y ex ey e = absurd cc
-behind_once key before (z ∷ xs) up zero zero x y ex ey e = refl
-behind_once key before (z ∷ xs) up zero (suc j) x y ex ey e =
-    let same : z ≡ x = same_Some z x ex in
-    absurd (not_behind (key z) (map key xs) up.1 (subst (λ k. Has k (map key xs)) (sym e ∙ sym (ap key same)) (has_map key y xs (has_at xs j y ey))))
-behind_once key before (z ∷ xs) up (suc i) zero x y ex ey e =
-    let same : z ≡ y = same_Some z y ey in
-    absurd (not_behind (key z) (map key xs) up.1 (subst (λ k. Has k (map key xs)) (e ∙ sym (ap key same)) (has_map key x xs (has_at xs i x ex))))
-behind_once key before (z ∷ xs) up (suc i) (suc j) x y ex ey e = ap suc (behind_once key (Some (key z)) xs up.1 i j x y ex ey e)
-
-pub once_there : {X : Type 0} (key : X → List ℕ) (xs : List X) → IsRising (map key xs) → (i j : ℕ) (x y : X) → slice_get xs i ≡ Some x → slice_get xs j ≡ Some y → key x ≡ key y → i ≡ j
-once_there key xs up i j x y ex ey e = behind_once key None xs up i j x y ex ey e
 
 -- ---- numbered webs
 
@@ -227,7 +212,9 @@ lawful_webs g colours qs db few made f = record {
   numbers = two_webs g (λ (a b : ℕ × RawWeb × ℕ). a.0 < b.0) (λ a b. a.id < b.id) f qs (λ q p h k m n lt. lt) made.rise;
   globals = two_webs g AreApart (λ a b. a.global ≡ b.global → ⊥) f qs (λ q p h k m n apart e. (apart f m n).1 (one_global g q.1 p.1 made.globals (made.raw q h) (made.raw p k) e)) made.apart;
   registers = two_webs g AreApart (λ a b. a.reg ≡ b.reg → ⊥) f qs (λ q p h k m n apart e. (apart f m n).0 e) made.apart;
-  free = refl;
+  free = tt;
+  saves = tt;
+  apart = tt;
 }
 
 pub lawful : (g : CallGraph) (colours : ℕ) (qs : List (ℕ × RawWeb × ℕ)) (db : List (List ℕ × Directives)) → colours ≤ register_count → IsMade g colours qs db → IsDatabase db

@@ -23,10 +23,10 @@ use Rattle.pw_db_sound.specs.CallGraphs.{call as named_call, on as named_on}
 use Rattle.pw_db_sound.specs.Sound.{In, Needs, refers, keeps, Sound}
 use Rattle.pw_db_sound.specs.Sound.{Has as HasRole}
 use Rattle.pw_colour.specs.Colours.{global_of, web_of, has_number, webs_of, directives_of}
-use Rattle.pw_colour.specs.Naming.{IsNamed}
-use Rattle.pw_colour.proofs.GraphOne.{map_same}
+use Rattle.pw_clusters.specs.ByName.{IsNamed}
+use Rattle.pw_clusters.proofs.Once.{map_same, once_there}
 use Rattle.pw_colour.proofs.Numbered.{number_there}
-use Rattle.pw_colour.proofs.Lawful.{once_there, two_of, AreApart, IsWebOf, web_from, web_to, holds_number, IsMade, global_at, one_global}
+use Rattle.pw_colour.proofs.Lawful.{two_of, AreApart, IsWebOf, web_from, web_to, holds_number, IsMade, global_at, one_global}
 
 module _ (g : CallGraph) (colours : ℕ) (qs : List (ℕ × RawWeb × ℕ)) (db : List (List ℕ × Directives)) (n : Graph) (made : IsMade g colours qs db) (named : IsNamed g n) where
   one_place : (i j : ℕ) (f : List ℕ) → slice_get g.functions i ≡ Some f → slice_get g.functions j ≡ Some f → i ≡ j
@@ -220,5 +220,7 @@ module _ (g : CallGraph) (colours : ℕ) (qs : List (ℕ × RawWeb × ℕ)) (db 
     free = λ f r i.
         let none : i.directives.free ≡ [] = ap (λ (d : Directives). d.free) ((made.of f i.directives).0 i.there).2 in
         absurd (has_by r [] (subst (λ (rs : List ℕ). Contains rs r) none i.register));
-    saves = λ f r i w has. absurd (has_by r [] i.register);
+    saves = λ f r i w has.
+        let none : i.directives.saves ≡ [] = ap (λ (d : Directives). d.saves) ((made.of f i.directives).0 i.there).2 in
+        absurd (has_by r [] (subst (λ (rs : List ℕ). Contains rs r) none i.register));
   }

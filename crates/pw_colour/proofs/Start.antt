@@ -14,7 +14,7 @@ use Rattle.pw_graph.specs.Program.{IsGraphOf, IsCall, by_name, through_value}
 use Rattle.pw_db_sound.specs.CallGraphs.{Graph}
 use Rattle.pw_db_sound.specs.Sound.{Sound}
 use Rattle.pw_colour.specs.Colours.{numbered, IsDatabaseOf}
-use Rattle.pw_colour.specs.Naming.{IsNamed}
+use Rattle.pw_clusters.specs.ByName.{IsNamed}
 use Rattle.pw_colour.proofs.GraphOne.{item_there, each_at, graph_one}
 use Rattle.pw_colour.proofs.Unique.{meet_same}
 use Rattle.pw_colour.proofs.Lawful.{is_made, lawful}

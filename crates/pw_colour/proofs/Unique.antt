@@ -257,7 +257,7 @@ from_one g colours cs ds d e one two f x c =
     let zip = colours_one g colours [] [] cs ds tt rx ry same one.colours_of two.colours_of in
     let p = (one.of f x).0 c in
     let webs = webs_one g p.0 (numbered 0 cs) (numbered 0 ds) (numbers_one g 0 cs ds rx ry zip) in
-    (two.of f x).1 (p.0, p.1, p.2 ∙ ap (λ (ws : List (Web × Role)). record { webs = ws; free = [] }) webs, p.3)
+    (two.of f x).1 (p.0, p.1, p.2 ∙ ap (λ (ws : List (Web × Role)). record { webs = ws; free = []; saves = [] }) webs, p.3)
 
 pub database_one : (ss : List Summary) (colours : ℕ) (d e : List (List ℕ × Directives)) → IsDatabaseOf ss colours d → IsDatabaseOf ss colours e → d ≡ e
 database_one ss colours d e one two =

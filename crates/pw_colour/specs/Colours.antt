@@ -66,7 +66,7 @@ abbrev pub webs_of : CallGraph → List (ℕ × RawWeb × ℕ) → ℕ → List 
 webs_of g ws f = flat_map (λ w. if has_number w.1.members f then ((web_of g w, (if has_number w.1.entries f then Entry else Member)) ∷ []) else []) ws
 
 abbrev pub directives_of : CallGraph → List (ℕ × RawWeb × ℕ) → ℕ → Directives
-directives_of g ws f = record { webs = webs_of g ws f; free = [] }
+directives_of g ws f = record { webs = webs_of g ws f; free = []; saves = [] }
 
 -- the database of a program for so many registers: its webs in order, each coloured behind those before it;
 -- those with a register numbered in this order; and each function that is in one of them with its directives

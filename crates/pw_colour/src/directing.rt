@@ -5,7 +5,7 @@ ghost use Rattle.pw_db.specs.declared.database.Role.TheVariants.{Entry, Member};
 ghost use Rattle.pw_colour.specs.Colours.{numbered as numbered_from, web_of as web_at, has_number, webs_of as webs_at};
 ghost use Rattle.pw_colour.specs.Giving.{coloured as seen, paired, entries_from};
 
-use pw_db::{Database, Directives, Role, Web};
+use pw_db::{Database, Directives, Role, VERSION, Web};
 use pw_graph::CallGraph;
 use pw_items::Items;
 use pw_webs::RawWeb;
@@ -106,9 +106,13 @@ pub(crate) fn database(
             let directives = Directives {
                 webs,
                 free: Items::new(alloc),
+                saves: Items::new(alloc),
             };
             entries.push((functions[place].copy(alloc)?, directives))?;
         }
     }
-    Ok(Database { functions: entries })
+    Ok(Database {
+        version: VERSION,
+        functions: entries,
+    })
 }

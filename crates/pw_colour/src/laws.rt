@@ -10,7 +10,7 @@ ghost use Rattle.pw_graph.specs.Program.{IsGraphOf};
 ghost use Rattle.pw_db_sound.specs.CallGraphs.{Graph};
 ghost use Rattle.pw_db_sound.specs.Sound.{Sound};
 ghost use Rattle.pw_colour.specs.Colours.{IsDatabaseOf};
-ghost use Rattle.pw_colour.specs.Naming.{IsNamed};
+ghost use Rattle.pw_clusters.specs.ByName.{IsNamed};
 ghost use Rattle.pw_db.specs.Limits.{register_count};
 
 /// Summaries have at most one database for so many registers.

@@ -43,7 +43,7 @@ fn texted<S: Store>(alloc: Global, store: &mut S) -> Result<Vec<u8>, Answer>
 {
     match read_needed(alloc, store, DATABASE_NAME) {
         Err(answer) => Err(answer),
-        Ok(bytes) => match pw_db::read(alloc, &bytes) {
+        Ok(bytes) => match pw_db_file::read(alloc, &bytes) {
             Ok(db) => match db_text(alloc, &db) {
                 Ok(text) => Ok(text),
                 Err(_none) => Err(Answer::NoMemory),

@@ -6,7 +6,7 @@ use Rattle.pw_flow.specs.declared.flow.FlowModule.{FlowModule}
 use Rattle.pw_flow.specs.ValidFlow.{IsValid}
 use Rattle.pw_flowfile.specs.FlowFile.{IsFlowFile}
 use Rattle.pw_summary.specs.declared.summary.Summary.{Summary}
-use Rattle.pw_summary.specs.Summary.{IsSummaryFile}
+use Rattle.pw_summary_file.specs.Spelling.{IsSummaryFile}
 use Rattle.pw_summarise.specs.Summarises.{Summarises}
 use Rattle.pw_phase_one.specs.FirstPhase.{Phase, compiled}
 use Rattle.pw_store_modules.specs.FileNames.{text_name, flow_name, summary_name}

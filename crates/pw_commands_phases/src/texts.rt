@@ -21,7 +21,7 @@ use pw_phase_one::{PhaseError, phase_one};
 use pw_store_modules::{FLOW_ENDING, SUMMARY_ENDING, TEXT_ENDING};
 use pw_summarise::laws::a_module_has_one_summary;
 use pw_summarise::summarise;
-use pw_summary::laws::summaries_and_files_are_one_to_one;
+use pw_summary_file::laws::summaries_and_files_are_one_to_one;
 use pw_top_answer::{Answer, Reply};
 use pw_value::Name;
 use std::alloc::{AllocError, Global};
@@ -39,7 +39,7 @@ fn sum_file(alloc: Global, flow: &FlowModule) -> Result<Vec<u8>, AllocError>
     ensures { IfOk result (λ sum. IsSumOf flow.now sum.items) }
 {
     let summary = summarise(alloc, flow)?;
-    pw_summary::write(alloc, &summary)
+    pw_summary_file::write(alloc, &summary)
 }
 
 /// The bytes of the file of a flow graph, and of the file of its summary.

@@ -17,7 +17,7 @@ use Rattle.pw_webs.specs.Webs.{refers}
 use Rattle.pw_db_sound.specs.CallGraphs.{Graph}
 use Rattle.pw_run_languages.specs.Traffic.{IsCovered, KeepsIt}
 use Rattle.pw_colour.specs.Colours.{numbered, global_of, web_of, has_number, webs_of, directives_of, IsDatabaseOf}
-use Rattle.pw_colour.specs.Naming.{IsByName, IsNamed}
+use Rattle.pw_clusters.specs.ByName.{IsByName, IsNamed}
 use Rattle.pw_colour.proofs.Lawful.{web_to}
 use Rattle.pw_law_analysis.specs.PlacedGlobals.{AreColoured}
 

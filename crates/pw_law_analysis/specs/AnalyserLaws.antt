@@ -5,7 +5,7 @@ use Rattle.pw_summary.specs.declared.summary.Summary.{Summary}
 use Rattle.pw_graph.specs.declared.graph.CallGraph.{CallGraph}
 use Rattle.pw_graph.specs.Program.{IsGraphOf}
 use Rattle.pw_colour.specs.Colours.{IsDatabaseOf}
-use Rattle.pw_colour.specs.Naming.{IsNamed}
+use Rattle.pw_clusters.specs.ByName.{IsNamed}
 use Rattle.pw_alloc.specs.declared.located.Located.{Located}
 use Rattle.pw_object.specs.declared.object.Object.{Object}
 use Rattle.pw_db_sound.specs.CallGraphs.{SayTheSame}

@@ -8,7 +8,8 @@ use Rattle.pw_flowfile.specs.FlowFile.{IsFlowFile}
 use Rattle.pw_summary.specs.declared.summary.Summary.{Summary}
 use Rattle.pw_summary.specs.Summary.{IsSummary}
 use Rattle.pw_summarise.specs.Summarises.{Summarises}
-use Rattle.pw_db.specs.Database.{IsPayload, IsStored}
+use Rattle.pw_db.specs.Database.{IsStored}
+use Rattle.pw_db_file.specs.Spelling.{IsPayload}
 use Rattle.pw_db.specs.Limits.{colour_limit}
 use Rattle.pw_graph.specs.Program.{AreLinked}
 use Rattle.pw_object.specs.declared.object.Object.{Object}

@@ -60,9 +60,9 @@ pub fn format_of(word: &str) -> Option<Format> {
 fn error_in(alloc: Global, format: Format, bytes: &[u8]) -> Option<FileError> {
     match format {
         Format::Flow => pw_flowfile::read(alloc, bytes).err(),
-        Format::Summary => pw_summary::read(alloc, bytes).err(),
-        Format::Database => pw_db::read(alloc, bytes).err(),
-        Format::Payload => pw_db::read_payload(alloc, bytes).err(),
+        Format::Summary => pw_summary_file::read(alloc, bytes).err(),
+        Format::Database => pw_db_file::read(alloc, bytes).err(),
+        Format::Payload => pw_db_file::read_payload(alloc, bytes).err(),
         Format::Object => pw_object::read(alloc, bytes).err(),
         Format::Function => read_named(alloc, bytes).err(),
     }

@@ -6,7 +6,8 @@ use crate::shown::push_value;
 use crate::summaries::push_summary;
 use pw_rows::Text;
 use pw_summarise::summarise;
-use pw_summary::{Summary, write};
+use pw_summary::Summary;
+use pw_summary_file::write;
 
 /// Adds a summary and its file.
 fn push_with_file(text: &mut Text, summary: &Summary)

@@ -3,7 +3,8 @@
 use crate::command_lines::push_command_line;
 use crate::made_programs::push_program;
 use crate::scripts::push_script;
-use pw_db::{Database, read};
+use pw_db::Database;
+use pw_db_file::read;
 use pw_fields::frame::seal;
 use pw_image::LoadError;
 use pw_list::{db_text, listing};

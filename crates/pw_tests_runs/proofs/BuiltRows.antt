@@ -41,7 +41,7 @@ abbrev pub graphs : ℕ → Program
 graphs stack = record { modules = bumping.modules; frame_of = frame_in (linked objects stack); stack = stack }
 
 pub nothing_lawful : IsDirectives empty
-nothing_lawful = record { each = tt; numbers = tt; globals = tt; registers = tt; free = refl }
+nothing_lawful = record { each = tt; numbers = tt; globals = tt; registers = tt; free = tt; saves = tt; apart = tt }
 
 pub all_serve : AllServe (directed_functions bumping bump_directives) places
 all_serve = (

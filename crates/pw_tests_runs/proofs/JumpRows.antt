@@ -49,7 +49,7 @@ choosing = function (codes "f") (codes "fii") 1 3
     ∷ block [] (Jump 3) ∷ [])
 
 abbrev chosen : LineFn
-chosen = with_lines (in_words (directed choosing (record { webs = []; free = [] })))
+chosen = with_lines (in_words (directed choosing (record { webs = []; free = []; saves = [] })))
 
 abbrev last_item : Item → List Item → Item
 last_item first [] = first

@@ -179,7 +179,7 @@ given f d c =
     each (λ (x : List ℕ × Directives). (place : ℕ) × (slice_get graph.functions place ≡ Some x.0) × (x.1 ≡ directives_of graph (numbered 0 coloured) place) × (0 < length x.1.webs))
     bump_directives ((1, refl, refl, omega arith), ((4, refl, refl, omega arith), tt)) (f, d) c
 
-webless : (f : List ℕ) (d : Directives) → d ≡ record { webs = []; free = [] } → 0 < length d.webs → Contains bump_directives (f, d)
+webless : (f : List ℕ) (d : Directives) → d ≡ record { webs = []; free = []; saves = [] } → 0 < length d.webs → Contains bump_directives (f, d)
 webless f d e some = let none : 0 < 0 = subst (λ (d : Directives). 0 < length d.webs) e some in absurd (omega (arith, none))
 
 abbrev IsStored : ℕ → List ℕ → Type 0

@@ -19,7 +19,7 @@ loop-place-preserved c =
           let there : index ≡ get_or fs i index = subst (λ (xs : List (List ℕ)). index ≡ get_or xs i index) c.as_slice-functions.ensures w.index-functions-place.is in
           let name = w.in_ok-copy.field-0 in
           let at : name ≡ get_or fs i name = subst (λ (x : List ℕ). x ≡ get_or fs i x) (sym w.in_ok-copy.ensures) there in
-          rw w.entries-is (entries_put g ws fs i name (made c.in_ok-webs.webs w.new.result) c.loop-place.entries w.push.new.self lt at (made_same g ws i c.in_ok-webs.webs w.new.result c.in_ok-webs.ensures w.new.ensures)
+          rw w.entries-is (entries_put g ws fs i name (made c.in_ok-webs.webs w.new.result w.new-2.result) c.loop-place.entries w.push.new.self lt at (made_same g ws i c.in_ok-webs.webs w.new.result w.new-2.result c.in_ok-webs.ensures w.new.ensures w.new-2.ensures)
           (λ e. clash c.is_empty.result w.if-not-is_empty.true (c.is_empty.ensures.1 e)) w.in_ok-push.ensures c.loop-place.invariant)
       | else-not-is_empty w ↦
           rw w.entries-is (entries_skip g ws fs i (get_or fs i []) c.loop-place.entries lt (item_at fs i [] lt) (sym c.in_ok-webs.ensures ∙ c.is_empty.ensures.0 w.if-not-is_empty.false) c.loop-place.invariant)

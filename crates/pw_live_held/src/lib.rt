@@ -1,0 +1,8 @@
+//! Which temporaries of a function are held over a call, and what stands before its points.
+#![tactic(auto)]
+
+mod held;
+mod points;
+
+pub use held::is_held;
+pub use points::{find_calls, find_makers};
