@@ -1,6 +1,5 @@
 -- The one web of bump and main, their roots, and the database that these make for eight registers.
-use Rattle.std.specs.Prelude.{ℕ, zero, suc, ◌≡◌, ◌<◌, ◌≤◌, ◌+◌, ◌*◌, ◌/◌, ◌%◌, ◌⊎◌, ◌↔◌, true, false, IsTrue, pos, Option, Some, unwrap_or, List, [], ◌∷◌, map, length, codes, slice_get, slice_index, Contains}
-use Rattle.std.specs.List.{AllByRecursion}
+use Rattle.std.specs.Prelude.{ℕ, zero, suc, ◌≡◌, ◌<◌, ◌≤◌, ◌+◌, ◌*◌, ◌/◌, ◌%◌, ◌⊎◌, ◌↔◌, true, false, IsTrue, pos, Option, Some, unwrap_or, List, [], ◌∷◌, map, codes, slice_get, slice_index, Contains}
 use Rattle.std.specs.Int.{bit_at}
 use Rattle.std.specs.List.Sorted.{IsPermutation}
 use Rattle.std.proofs.Common.{arith, ap, subst, sym, refl, ◌∙◌, inl, inr}
