@@ -66,6 +66,11 @@ data PathPast (g : CallGraph) (past : List ℕ) : ℕ → ℕ → Type 0 where
   last : (a b : ℕ) → Calls g a b → PathPast g past a b
   more : (a c b : ℕ) → Calls g a c → list_any (eqb c) past ≡ false → PathPast g past c b → PathPast g past a b
 
+-- from the second function on a path does not come back to the first
+record IsOnward (g : CallGraph) (past : List ℕ) (a b c : ℕ) : Type 0 where
+  free : list_any (eqb c) (a ∷ past) ≡ false
+  path : PathPast g (a ∷ past) c b
+
 or_false : (x y : Bool) → x ≡ false → y ≡ false → (x || y) ≡ false
 or_false true y one two = one
 or_false false y one two = two
@@ -138,17 +143,17 @@ module _ (g : CallGraph) (rows : length g.calls ≡ length g.functions) (calls_w
       let now = behind_more past a behind out lt in
       elim (calls_by_row g a b (slice_get g.calls a) refl) [
         | inl calls ↦ inl (last a b calls)
-        | inr none ↦ elim (some_told (λ c. (list_any (eqb c) (a ∷ past) ≡ false) × PathPast g (a ∷ past) c b) (row_of a) (λ c h.
+        | inr none ↦ elim (some_told (IsOnward g past a b) (row_of a) (λ c h.
             elim (flag (list_any (eqb c) (a ∷ past))) [
-              | inl t ↦ inr (λ p. clash (list_any (eqb c) (a ∷ past)) t p.0)
+              | inl t ↦ inr (λ p. clash (list_any (eqb c) (a ∷ past)) t p.free)
               | inr free ↦ elim (past_told n (a ∷ past) c b now free (calls_within a c (of_row a c lt h)) (omega (arith, long))) [
-                | inl path ↦ inl (free, path)
-                | inr lacks ↦ inr (λ p. lacks p.1)
+                | inl path ↦ inl (record { free = free; path = path })
+                | inr lacks ↦ inr (λ p. lacks p.path)
               ]
             ])) [
-          | inl found ↦ inl (more a found.0 b (of_row a found.0 lt found.1) (right_false (eqb found.0 a) (list_any (eqb found.0) past) found.2.0) (fewer g past a found.2.1))
+          | inl found ↦ inl (more a found.0 b (of_row a found.0 lt found.1) (right_false (eqb found.0 a) (list_any (eqb found.0) past) found.2.free) (fewer g past a found.2.path))
           | inr others ↦
-              let all : PathPast g (a ∷ past) a b → ⊥ = no_path g (a ∷ past) none (λ c calls free path. others c (in_row a c lt calls) (free, path)) in
+              let all : PathPast g (a ∷ past) a b → ⊥ = no_path g (a ∷ past) none (λ c calls free path. others c (in_row a c lt calls) (record { free = free; path = path })) in
               inr (λ path. elim (cut g past a path) [ inl p ↦ all p | inr p ↦ all p ])
         ]
       ]

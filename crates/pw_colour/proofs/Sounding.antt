@@ -227,11 +227,17 @@ module _ (g : CallGraph) (colours : ℕ) (roots : List ℕ) (qs : List (ℕ × R
 
   -- ---- registers that are shared
 
-  shared_free : (f : List ℕ) (r : ℕ) → IsFree db f r → (place : ℕ) × (slice_get g.functions place ≡ Some f) × Contains (free_at roots g.needs place) r
-  shared_free f r i = let p = (made.of f i.directives).0 i.there in (p.0, p.1, subst (λ (d : Directives). Contains d.free r) p.2 i.register)
+  -- where a function is free to use the register, or saves it
+  record IsListed (list : ℕ → List ℕ) (f : List ℕ) (r : ℕ) : Type 0 where
+    place : ℕ
+    at : slice_get g.functions place ≡ Some f
+    register : Contains (list place) r
 
-  shared_saver : (f : List ℕ) (r : ℕ) → IsSaver db f r → (place : ℕ) × (slice_get g.functions place ≡ Some f) × Contains (saves_at roots g.needs place) r
-  shared_saver f r i = let p = (made.of f i.directives).0 i.there in (p.0, p.1, subst (λ (d : Directives). Contains d.saves r) p.2 i.register)
+  listed_free : (f : List ℕ) (r : ℕ) → IsFree db f r → IsListed (free_at roots g.needs) f r
+  listed_free f r i = let p = (made.of f i.directives).0 i.there in record { place = p.0; at = p.1; register = subst (λ (d : Directives). Contains d.free r) p.2 i.register }
+
+  listed_saver : (f : List ℕ) (r : ℕ) → IsSaver db f r → IsListed (saves_at roots g.needs) f r
+  listed_saver f r i = let p = (made.of f i.directives).0 i.there in record { place = p.0; at = p.1; register = subst (λ (d : Directives). Contains d.saves r) p.2 i.register }
 
   is_free : (f : List ℕ) (r place : ℕ) → slice_get g.functions place ≡ Some f → Contains (free_at roots g.needs place) r → IsFree db f r
   is_free f r place at free = record {
@@ -271,8 +277,8 @@ module _ (g : CallGraph) (colours : ℕ) (roots : List ℕ) (qs : List (ℕ × R
 
   saved_above : AreShared → (f : List ℕ) (r : ℕ) → IsFree db f r → IsSavedAbove n db f r
   saved_above all f r i =
-      let p = shared_free f r i in
-      let a = all.above p.0 f r p.1 p.2 in
+      let p = listed_free f r i in
+      let a = all.above p.place f r p.at p.register in
       record {
         root = a.root;
         is = a.is;
@@ -291,5 +297,5 @@ module _ (g : CallGraph) (colours : ℕ) (roots : List ℕ) (qs : List (ℕ × R
     eligible = eligible;
     writes = written;
     free = saved_above all;
-    saves = λ f r i w has. let p = shared_saver f r i in webless all p.0 r (inr p.2) f w Member has;
+    saves = λ f r i w has. let p = listed_saver f r i in webless all p.place r (inr p.register) f w Member has;
   }
