@@ -2,7 +2,6 @@
 
 ghost use Rattle.std.specs.Prelude.{◌≡◌, ◌≤◌, ◌⊎◌, ◌↔◌, ℕ, List, All, IfOk, IfErr, OnOk};
 ghost use Rattle.pw_db.specs.declared.database.Directives.{Directives};
-ghost use Rattle.pw_summary.specs.declared.summary.Summary.{Summary as Whole};
 ghost use Rattle.pw_summary.specs.Summary.{IsSummary};
 ghost use Rattle.pw_graph.specs.CallGraph.{IsGraph};
 ghost use Rattle.pw_graph.specs.Program.{AreLinked, AreRefused, IsGraphOf};
@@ -10,8 +9,10 @@ ghost use Rattle.pw_colour.specs.Colours.{IsDatabaseOf};
 ghost use Rattle.pw_db.specs.Limits.{colour_limit};
 
 use crate::colouring::registers;
-use crate::directing::{database, numbered};
+use crate::directing::{Clusters, database, numbered};
 use crate::ranking::ranked;
+use pw_cluster_roots::{find_roots, greatest_needs};
+use pw_clusters::laws::roots_are_one;
 use pw_db::Database;
 use pw_graph::{CallGraph, build_graph};
 use pw_graph_refs::ref_sets;
@@ -20,17 +21,30 @@ use pw_value::LinkFault;
 use pw_webs::webs;
 use std::alloc::{AllocError, Global};
 
-/// The database of a call graph.
-fn database_of(alloc: Global, graph: &CallGraph, colours: u8) -> Result<Database, AllocError>
+/// The database of a program, of its call graph.
+fn database_of(
+    alloc: Global,
+    summaries: &[Summary],
+    graph: &CallGraph,
+    colours: u8,
+) -> Result<Database, AllocError>
+    requires of { IsGraphOf summaries.now graph.now }
     requires graph { IsGraph graph.now }
     requires few { colours ≤ colour_limit }
-    ensures { IfOk result (λ db. (ss : List Whole) → IsGraphOf ss graph.now → IsDatabaseOf ss colours db.functions) }
+    ensures { IfOk result (λ db. IsDatabaseOf summaries.now colours db.functions) }
 {
+    roots_are_one();
+    let roots = find_roots(alloc, summaries, graph)?;
+    let needs = greatest_needs(alloc, &roots, graph.needs.as_slice())?;
     let sets = ref_sets(alloc, graph)?;
     let all = ranked(webs(alloc, graph, &sets)?)?;
     let given = registers(alloc, graph.functions.len(), colours, &all)?;
     let coloured = numbered(alloc, &all, &given)?;
-    database(alloc, graph, &coloured)
+    let clusters = Clusters {
+        roots: &roots,
+        needs: &needs,
+    };
+    database(alloc, graph, &coloured, clusters)
 }
 
 /// The database of a program for so many registers, made of the summaries of its modules; or which rule of
@@ -43,5 +57,5 @@ pub fn analyse(alloc: Global, summaries: &[Summary], colours: u8) -> Result<Data
     ensures refused { IfErr result (λ fault. (fault ≡ LinkFault.NoMemory) ⊎ AreRefused summaries.now fault) }
 {
     let graph = build_graph(alloc, summaries)?;
-    Ok(database_of(alloc, &graph, colours)?)
+    Ok(database_of(alloc, summaries, &graph, colours)?)
 }
