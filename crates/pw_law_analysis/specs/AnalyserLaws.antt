@@ -1,5 +1,6 @@
 -- What the analyser's laws give, now that they stand: the same as in pw_law_analysis, without them as premises.
 use Rattle.std.specs.Prelude.{ℕ, ◌≤◌, List}
+use Rattle.pw_db.specs.Limits.{colour_limit}
 use Rattle.pw_db.specs.declared.database.Directives.{Directives}
 use Rattle.pw_summary.specs.declared.summary.Summary.{Summary}
 use Rattle.pw_graph.specs.declared.graph.CallGraph.{CallGraph}
@@ -25,7 +26,7 @@ NamedGraphsSayTheSame = (ss : List Summary) (g : CallGraph) → IsGraphOf ss g �
 abbrev pub DatabasesServe : Type 0
 DatabasesServe =
     (q : flows.Program) (ss : List Summary) (colours : ℕ) (db : List (List ℕ × Directives)) →
-    AreSummaries ss → colours ≤ 16 → (i : IsDatabaseOf ss colours db) → SayTheSame (named_graph ss i.graph) (graph_of q) →
+    AreSummaries ss → colours ≤ colour_limit → (i : IsDatabaseOf ss colours db) → SayTheSame (named_graph ss i.graph) (graph_of q) →
     Serves q ss colours db i
 
 -- what holds of a program that was built with this database and with places that serve, from the law of selection

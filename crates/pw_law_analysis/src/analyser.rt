@@ -16,14 +16,14 @@ pub fn named_graphs_say_the_same()
     ensures { NamedGraphsSayTheSame }
 {}
 
-/// The database of summaries that make a program is lawful, for as many registers as a callee keeps.
+/// The database of summaries that make a program is lawful, for no more registers than a callee keeps.
 pub fn databases_are_lawful()
     ensures { DatabaseIsLawful }
 {
     laws::databases_are_lawful();
 }
 
-/// It is sound for the graph of its summaries by names, for however many registers.
+/// It is sound for the graph of its summaries by names, for no more registers than webs may have.
 pub fn databases_are_sound_by_name()
     ensures { DatabaseIsSound }
 {
