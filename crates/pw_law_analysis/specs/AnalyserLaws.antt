@@ -15,6 +15,8 @@ use Rattle.pw_run_languages.specs.Programs.{AreBytes}
 use Rattle.pw_run_languages.specs.LawfulPrograms.{graph_of}
 use Rattle.pw_run_languages.specs.SelectionLaws.{SelectionKeepsRuns}
 use Rattle.pw_cmean.specs.Worlds.{Program}
+use Rattle.pw_image.specs.declared.image.Image.{Image}
+use Rattle.pw_law_analysis.specs.ImageRegisters.{CallsKeepRegisters, SavedRegistersComeBack}
 use Rattle.pw_law_analysis.specs.SummaryGraphs.{named_graph}
 use Rattle.pw_law_analysis.specs.OwedLaws.{AreSummaries, Serves, IsAnalysed, HoldsOver}
 
@@ -36,3 +38,9 @@ LayersGiveAll =
     (p : Program) (q : flows.Program) (ss : List Summary) (colours : ℕ) (db : List (List ℕ × Directives)) (functions : List Located) (objects : List Object) (input : List ℕ) →
     IsAnalysed p q ss colours db functions objects → AreBytes input →
     HoldsOver p q ss colours db functions objects input
+
+-- where calls keep registers, what a root saves for its cluster comes back
+abbrev pub RootsKeepRegisters : Type 0
+RootsKeepRegisters =
+    (ss : List Summary) (colours : ℕ) (db : List (List ℕ × Directives)) (v : Image) (input : List ℕ) →
+    AreSummaries ss → colours ≤ colour_limit → IsDatabaseOf ss colours db → CallsKeepRegisters db v input → SavedRegistersComeBack db v input

@@ -8,6 +8,7 @@ use Rattle.pw_image.specs.declared.image.Image.{Image}
 use Rattle.pw_machine.specs.Core.{Core, register}
 use Rattle.pw_machine.specs.Start.{image_start}
 use Rattle.pw_machine.specs.Run.{State, Progress, Running, run_of}
+use Rattle.pw_db_sound.specs.Sound.{IsSaver}
 use Rattle.pw_run_languages.specs.Traces.{MayChange}
 use Rattle.pw_run_languages.specs.ImageTrace.{Call, function_at, has_returned, start_state, symbols_of}
 
@@ -36,3 +37,9 @@ abbrev pub CallsKeepRegisters : List (List ℕ × Directives) → Image → List
 CallsKeepRegisters d v input =
     (f : List ℕ) (n m : ℕ) (called returned : State) → CallReturns v input f n m called returned →
     (r : ℕ) → first_register ≤ r → r ≤ last_register → ¬ MayChange d f r → register returned.core r ≡ register called.core r
+
+-- so does each register that the function saves for others
+abbrev pub SavedRegistersComeBack : List (List ℕ × Directives) → Image → List ℕ → Type 0
+SavedRegistersComeBack d v input =
+    (f : List ℕ) (n m : ℕ) (called returned : State) → CallReturns v input f n m called returned →
+    (r : ℕ) → IsSaver d f r → register returned.core r ≡ register called.core r
