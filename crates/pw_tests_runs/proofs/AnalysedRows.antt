@@ -210,4 +210,4 @@ analysed p implements = record {
 }
 
 too_many : (p : source.Program) → IsAnalysed p (graphs 4096) summaries 17 bump_directives places objects → ⊥
-too_many p a = let few : 17 ≤ 16 = a.few in omega (arith, few)
+too_many p a = let few : 17 ≤ 8 = a.few in omega (arith, few)
