@@ -8,6 +8,7 @@ use Rattle.pw_value.specs.declared.value.Value.TheVariants.{Undefined}
 use Rattle.pw_value.specs.declared.value.Byte.TheVariants as B
 use Rattle.pw_value.specs.declared.value.Pointer.{Pointer}
 use Rattle.pw_value.specs.Objects.{Object, object_at, no_object}
+use Rattle.pw_files.proofs.Standing.{has_by}
 use Rattle.pw_flow.specs.declared.flow.FlowGlobal.{FlowGlobal}
 use Rattle.pw_inst.specs.Computing.{offset_by}
 use Rattle.pw_inst.specs.Registers.{help, second, return_address, stack_pointer}
@@ -15,7 +16,8 @@ use Rattle.pw_db.specs.declared.database.Web.{Web}
 use Rattle.pw_db.specs.declared.database.Role.{Role}
 use Rattle.pw_db.specs.declared.database.Role.TheVariants.{Entry}
 use Rattle.pw_db.specs.Limits.{first_register}
-use Rattle.pw_db.specs.Database.{IsWeb, AreKeptFrom, IsDirectives}
+use Rattle.pw_db.specs.Database.{IsWeb, IsDirectives}
+use Rattle.pw_db.proofs.Keeping.{kept_from}
 use Rattle.pw_webflow.specs.declared.web.WebBlock.{WebBlock}
 use Rattle.pw_alloc.specs.declared.located.Place.{Place}
 use Rattle.pw_alloc.specs.declared.located.Place.TheVariants.{Slot, Reg}
@@ -108,16 +110,6 @@ web_at [] k d h less = absurd (omega (arith, less))
 web_at (x ∷ xs) zero d h less = h.0
 web_at (x ∷ xs) (suc k) d h less = web_at xs k d h.1 (omega (arith, less))
 
-kept_at : (least : ℕ) (rs : List ℕ) (k d : ℕ) → first_register ≤ least → AreKeptFrom least rs → k < length rs → IsTempRegister (slice_index_or rs k d)
-kept_at least [] k d low h less = absurd (omega (arith, less))
-kept_at least (r ∷ rs) zero d low h less =
-    let up : least ≤ r = h.0 in
-    let high = h.1 in
-    record { low = omega (arith, low, up); high = omega (arith, high) }
-kept_at least (r ∷ rs) (suc k) d low h less =
-    let up : least ≤ r = h.0 in
-    kept_at (suc r) rs k d (omega (arith, low, up)) h.2 (omega (arith, less))
-
 pub saved_are_temps : (f : Located) → Serves f.body f → IsDirectives f.body.directives → AllByRecursion IsTempRegister f.saved
 saved_are_temps f serves directives = all_contained f.saved (λ r c. by_change r ((serves.saved r).0 c))
   where
@@ -128,7 +120,10 @@ saved_are_temps f serves directives = all_contained f.saved (λ r c. by_change r
         let is : IsWeb has.web = subst (λ (x : Web × Role). IsWeb x.0) c.2 (web_at f.body.directives.webs c.0 (has.web, Entry) directives.each c.1) in
         let high = is.high in
         subst IsTempRegister has.is (record { low = is.low; high = omega (arith, high) })
-    by_change r (Changes.saves c) = subst IsTempRegister c.2 (kept_at first_register f.body.directives.saves c.0 r (omega arith) directives.saves c.1)
+    by_change r (Changes.saves c) =
+        let k = kept_from first_register f.body.directives.saves r directives.saves (has_by r f.body.directives.saves c) in
+        let high = k.1 in
+        record { low = k.0; high = omega (arith, high) }
 
 -- ---- the state
 
