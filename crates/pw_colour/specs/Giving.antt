@@ -1,6 +1,5 @@
 -- Which registers are busy in which functions, and which one a web gets; and the database, function by function.
 use Rattle.std.specs.Prelude.{ℕ, suc, ◌≡◌, ◌<◌, ◌+◌, ◌⊎◌, ◌↔◌, Option, Some, None, if◌then◌else◌, List, [], ◌∷◌, ◌++◌, length, slice_index, vec_len}
-use Rattle.std.specs.List.{AllByRecursion}
 use Rattle.std.specs.Prelude.{pos, ◌<ℤ◌, ◌≤ℤ◌}
 use Rattle.pw_fix.specs.Row.{Holds}
 use Rattle.pw_fix.specs.Table.{HoldsAt}
@@ -62,7 +61,7 @@ pub record AreClusters (g : CallGraph) (roots most : List ℕ) : Type 0 where
   pub within : (f : ℕ) → f < length g.functions → slice_index roots f < length g.functions
   pub count : length most ≡ length roots
   pub needs : (r : ℕ) → slice_index most r ≡ need_in roots g.needs r
-  pub few : AllByRecursion (λ n. n ≤ need_limit) g.needs
+  pub few : (r : ℕ) → need_in roots g.needs r ≤ need_limit
 
 -- what a function has, where its directives say something
 abbrev pub entry_of : CallGraph → List ℕ → List (ℕ × RawWeb × ℕ) → ℕ → List ℕ → List (List ℕ × Directives)
