@@ -198,7 +198,7 @@ database_with ss colours g roots ws us rs of graph are_roots webs count moved or
     let same : length us ≡ length ws = length_permutation ws us moved in
     let fewer = pairs_few us rs in (
       db,
-      is_database ss g colours roots ws us rs (numbered 0 (paired us rs)) db of are_roots webs moved order long coloured refl refl,
+      is_database ss g colours ws us rs (numbered 0 (paired us rs)) db roots of are_roots webs moved order long coloured refl refl,
       entries_small g roots (paired us rs) (omega (arith, few, same, fewer)) (global_within g ws us rs webs over),
     )
 
