@@ -57,19 +57,19 @@ is_addressed ss name = list_any (λ s. is_addressed_in s name) ss
 taken_seen : (ss : List Summary) (name : List ℕ) → IsTaken ss name → is_addressed ss name ≡ true
 taken_seen ss name t =
     has_any (λ (s : Summary). is_addressed_in s name) ss t.summary (has_by t.summary ss t.stands)
-    (or_left (is_among t.summary.taken name) (list_any (λ e. bytes_eq e name) t.summary.escaped)
+    (or_left (is_among t.summary.taken name) (list_any (λ (e : List ℕ). bytes_eq e name) t.summary.escaped)
     (to_among t.summary.taken name (has_by name (named t.summary.taken) t.taken)))
 
 escaped_seen : (ss : List Summary) (name : List ℕ) → IsEscaped ss name → is_addressed ss name ≡ true
 escaped_seen ss name t =
     has_any (λ (s : Summary). is_addressed_in s name) ss t.summary (has_by t.summary ss t.stands)
-    (or_right (is_among t.summary.taken name) (list_any (λ e. bytes_eq e name) t.summary.escaped)
+    (or_right (is_among t.summary.taken name) (list_any (λ (e : List ℕ). bytes_eq e name) t.summary.escaped)
     (has_any (λ (e : List ℕ). bytes_eq e name) t.summary.escaped name (has_by name t.summary.escaped t.escaped) ((bytes_eq-Decides name name).1 refl)))
 
 seen_addressed : (ss : List Summary) (name : List ℕ) → is_addressed ss name ≡ true → IsTaken ss name ⊎ IsEscaped ss name
 seen_addressed ss name e =
     let s = any_has (λ (s : Summary). is_addressed_in s name) ss e in
-    elim (or_cases (is_among s.0.taken name) (list_any (λ e. bytes_eq e name) s.0.escaped) s.2) [
+    elim (or_cases (is_among s.0.taken name) (list_any (λ (e : List ℕ). bytes_eq e name) s.0.escaped) s.2) [
       | inl t ↦ inl (record { summary = s.0; stands = contains_by s.0 ss s.1; taken = contains_by name (named s.0.taken) (among s.0.taken name t) })
       | inr k ↦
           let r = any_has (λ (e : List ℕ). bytes_eq e name) s.0.escaped k in
