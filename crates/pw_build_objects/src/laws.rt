@@ -28,7 +28,7 @@ use pw_summarise::laws::a_module_has_one_summary;
 /// Flow graphs and kept objects come to one answer, and so many objects of theirs are made anew.
 pub fn flow_graphs_have_one_answer()
     ensures answer { (flows : List FlowModule) (kept : List (Option Object)) (opts : Opts) (a b : Result Parts LinkFault) → opts.colours ≤ colour_limit → Completes flows kept opts a → Completes flows kept opts b → a ≡ b }
-    ensures count { (flows : List FlowModule) (kept : List (Option Object)) (colours made other : ℕ) → colours ≤ colour_limit → MakesAnew flows kept colours made → MakesAnew flows kept colours other → made ≡ other }
+    ensures count { (flows : List FlowModule) (kept : List (Option Object)) (opts : Opts) (made other : ℕ) → opts.colours ≤ colour_limit → MakesAnew flows kept opts made → MakesAnew flows kept opts other → made ≡ other }
 {
     databases_are_lawful();
     databases_are_one();
@@ -51,10 +51,10 @@ pub fn genuine_objects_change_nothing()
 /// The objects of a program that the analyser accepted keep the rules of linking where the second phase made all of them, so
 /// they are refused for want of room alone: the text or the memory is too small.
 pub fn objects_are_refused_for_room_alone()
-    ensures links { (flows : List FlowModule) (colours : ℕ) (parts : Parts) →
-        AllByRecursion DeclaresMain flows → AreParts flows [] colours parts → Links (map interface parts.objects) }
+    ensures links { (flows : List FlowModule) (opts : Opts) (parts : Parts) →
+        AllByRecursion DeclaresMain flows → AreParts flows [] opts parts → Links (map interface parts.objects) }
     ensures room { (flows : List FlowModule) (opts : Opts) (parts : Parts) (fault : LinkFault) →
-        AllByRecursion DeclaresMain flows → AreParts flows [] opts.colours parts → IsRefusal parts.objects opts.stack fault → size_fault parts.objects opts.stack ≡ Some fault }
+        AllByRecursion DeclaresMain flows → AreParts flows [] opts parts → IsRefusal parts.objects opts.stack fault → size_fault parts.objects opts.stack ≡ Some fault }
 {
     modules_have_one_answer();
     summaries_and_objects_are_refused_alike();

@@ -127,7 +127,7 @@ pub fn complete<L: Ledger>(
     ensures were_made { IfOk result (λ built. AllByRecursion WasMade (objects_of built.made.items)) }
     ensures lawful_image { IfOk result (λ built. IsImage built.image) }
     ensures counted { IfOk result (λ built. steps.new ≡ steps.old + count_by (λ fresh. fresh) (marks_of built.made.items)) }
-    ensures counted_fault { IfErr result (λ fault. (fault ≡ LinkFault.NoMemory) ⊎ CountsAnew flows.items kept.items opts.now.colours steps.old steps.new) }
+    ensures counted_fault { IfErr result (λ fault. (fault ≡ LinkFault.NoMemory) ⊎ CountsAnew flows.items kept.items opts.now steps.old steps.new) }
     ensures bound { CountsUpTo (length flows.items) steps.old steps.new }
 {
     objects_are_refused_for_room_alone();

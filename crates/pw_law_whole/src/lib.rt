@@ -47,7 +47,7 @@ pub fn modules_of_files_have_plain_names()
 /// gives serve their functions; and the objects are made of these, and fit into the memory.
 pub fn full_builds_are_whole()
     ensures { (texts : Texts) (opts : Opts) (parts : Parts) (p : Program) → FullBuild texts opts (Ok parts) → IsProgramOf texts p →
-        HavePlainNames texts → opts.colours ≤ colour_limit → stack_least ≤ opts.stack → opts.stack ≤ stack_limit → IsWholeWith p parts opts.colours opts.stack }
+        HavePlainNames texts → opts.colours ≤ colour_limit → stack_least ≤ opts.stack → opts.stack ≤ stack_limit → IsWholeWith p parts opts }
 {
     phase_one_is_exact();
     databases_are_lawful();
@@ -74,7 +74,7 @@ pub fn frames_of_full_builds_fit()
 /// of the summaries of its flow graphs.
 pub fn full_builds_hold()
     ensures { (texts : Texts) (opts : Opts) (parts : Parts) (p : Program) → FullBuild texts opts (Ok parts) → IsProgramOf texts p →
-        HavePlainNames texts → opts.colours ≤ colour_limit → stack_least ≤ opts.stack → opts.stack ≤ stack_limit → HoldsWith p parts opts.colours opts.stack }
+        HavePlainNames texts → opts.colours ≤ colour_limit → stack_least ≤ opts.stack → opts.stack ≤ stack_limit → HoldsWith p parts opts }
 {
     full_builds_are_whole();
     lowering_keeps_runs();
