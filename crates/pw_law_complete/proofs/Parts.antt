@@ -15,8 +15,10 @@ use Rattle.pw_graph.specs.Program.{AreLinked}
 use Rattle.pw_object.specs.declared.object.Object.{Object}
 use Rattle.pw_phase_two.specs.Phases.{AreDirectivesIn, IsObjectOf, IsPayloadOf}
 use Rattle.pw_colour.specs.Colours.{IsDatabaseOf}
-use Rattle.pw_build_objects.specs.Programs.{DirectivesList, AreSummariesOf, Stays, IsObjectFrom, IsModuleFrom, AreObjectsFrom, AreParts, Parts, first_kept, kept_behind}
+use Rattle.pw_build_objects.specs.Programs.{AreForms, DirectivesList, KeepRules, AreSummariesOf, Stays, IsObjectFrom, IsModuleFrom, AreObjectsFrom, AreParts, Parts, first_kept, kept_behind}
+use Rattle.pw_build_opts.specs.declared.opts.Opts.{Opts}
 use Rattle.pw_law_answers.specs.Held.{HasFile, HasNames}
+use Rattle.pw_law_complete.specs.Forms.{HaveForms}
 use Rattle.pw_law_answers.proofs.Telling.{Told, told_bytes, told_both, told_same}
 
 -- ---- summaries
@@ -83,15 +85,33 @@ module _ (one : FilesAreOne) (db : DirectivesList) (have : HaveObjects db) where
 
 -- the laws on which it stands
 pub record Laws : Type 0 where
+  pub summaries : (flows : List FlowModule) → AllByRecursion IsValid flows → (ss : List Summary) × AreSummariesOf flows ss × AllByRecursion IsSummary ss
+  pub lawful : (optimise : Bool) (flows forms : List FlowModule) → AreForms optimise flows forms → AllByRecursion IsValid flows → AllByRecursion IsValid forms
+  pub rules : (optimise : Bool) (flows forms : List FlowModule) (ss : List Summary) → AreForms optimise flows forms → AllByRecursion IsValid flows → KeepRules flows → AreSummariesOf forms ss → AreLinked ss
   pub names : (m : FlowModule) (s : Summary) → HasFile m → Summarises m s → HasNames s
   pub database : (ss : List Summary) (colours : ℕ) → AllByRecursion IsSummary ss → AllByRecursion HasNames ss → AreLinked ss → (db : DirectivesList) × IsDatabaseOf ss colours db
   pub objects : (ss : List Summary) (colours : ℕ) (db : DirectivesList) → colours ≤ colour_limit → AllByRecursion IsSummary ss → AllByRecursion HasNames ss → AreLinked ss → IsDatabaseOf ss colours db → HaveObjects db
   pub one : FilesAreOne
 
-pub parts_exist : Laws → (flows : List FlowModule) (ss : List Summary) (kept : List (Option Object)) (colours : ℕ) → colours ≤ colour_limit → AllByRecursion IsValid flows → AllByRecursion HasFile flows → AreSummariesOf flows ss → AllByRecursion IsSummary ss → AreLinked ss
-    → (parts : Parts) × AreParts flows kept colours parts
-parts_exist laws flows ss kept colours few valid files of lawful linked =
-    let names = names_exist laws.names flows ss files of in
-    let db = laws.database ss colours lawful names linked in
-    let os = objects_exist laws.one db.0 (laws.objects ss colours db.0 few lawful names linked db.1) flows kept valid files in
-    (record { database = db.0; objects = os.0; fresh = os.1 }, record { lawful = valid; database = record { summaries = ss; of_flows = of; linked = linked; database = db.1 }; objects = os.2 })
+pub parts_exist : Laws → (flows : List FlowModule) (ss : List Summary) (kept : List (Option Object)) (opts : Opts) → opts.colours ≤ colour_limit → AllByRecursion IsValid flows → HaveForms flows opts → AreSummariesOf flows ss → AllByRecursion IsSummary ss → AreLinked ss
+    → (parts : Parts) × AreParts flows kept opts parts
+parts_exist laws flows ss kept opts few valid have of lawful linked =
+    let forms = have.forms in
+    let rules : KeepRules flows = record { summaries = ss; of_flows = of; linked = linked } in
+    let fine = laws.lawful opts.optimise flows forms have.of_flows valid in
+    let own = laws.summaries forms fine in
+    let together = laws.rules opts.optimise flows forms own.0 have.of_flows valid rules own.1 in
+    let names = names_exist laws.names forms own.0 have.files own.1 in
+    let db = laws.database own.0 opts.colours own.2 names together in
+    let os = objects_exist laws.one db.0 (laws.objects own.0 opts.colours db.0 few own.2 names together db.1) forms kept fine have.files in
+    (
+      record { database = db.0; objects = os.0; fresh = os.1 },
+      record {
+        lawful = valid;
+        rules = rules;
+        forms = forms;
+        of_flows = have.of_flows;
+        database = record { summaries = own.0; of_flows = own.1; linked = together; database = db.1 };
+        objects = os.2;
+      },
+    )

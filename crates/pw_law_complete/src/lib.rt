@@ -21,7 +21,9 @@ ghost use Rattle.pw_law_build.specs.Complete.{CanBeBuilt};
 ghost use Rattle.pw_law_shown.specs.Alike.{shown};
 
 use pw_build_files::build_laws::modules_have_one_build;
-use pw_build_objects::laws::objects_are_refused_for_room_alone;
+use pw_build_objects::laws::{
+    forms_keep_what_modules_have, objects_are_refused_for_room_alone,
+};
 use pw_db_file::laws::one_list_is_stored;
 use pw_flowfile::laws::flow_graphs_and_files_are_one_to_one;
 use pw_law_answers::{
@@ -46,6 +48,7 @@ pub fn programs_have_parts()
         AreSummariesOf flows ss → AllByRecursion IsSummary ss → AreLinked ss → (parts : Parts) × AreParts flows kept opts parts }
 {
     flow_graphs_and_files_are_one_to_one();
+    forms_keep_what_modules_have();
     modules_have_summaries();
     one_list_is_stored();
     programs_have_databases();
