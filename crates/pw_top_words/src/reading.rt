@@ -9,6 +9,7 @@ use crate::commands::Command;
 use crate::fault::WordsFault;
 use crate::numbers::{DIGITS_LIMIT, number_in};
 use crate::reader::{OPERAND, read_parts};
+use crate::switch::line_of;
 use clap::ArgMatches;
 use pw_build_opts::{Opts, RunOpts};
 use pw_db::COLOUR_LIMIT;
@@ -164,11 +165,13 @@ fn call(matches: &ArgMatches) -> Result<u64, WordsFault>
 fn go(alloc: Global, words: &[String]) -> Result<Command, WordsFault>
     ensures { Reads (go_of (drop 1 (map string_bytes words.now))) result }
 {
-    let matches = read_parts(alloc, words, &BUILD_AND_RUN, false)?;
+    let line = line_of(alloc, words)?;
+    let matches = read_parts(alloc, &line.words, &BUILD_AND_RUN, false)?;
     Ok(Command::Go(RunOpts {
         build: Opts {
             colours: colours(&matches)?,
             stack: stack(&matches)?,
+            optimise: line.optimise,
         },
         budget: steps(&matches)?,
     }))
@@ -177,21 +180,25 @@ fn go(alloc: Global, words: &[String]) -> Result<Command, WordsFault>
 fn build(alloc: Global, words: &[String]) -> Result<Command, WordsFault>
     ensures { Reads (build_of (drop 1 (map string_bytes words.now))) result }
 {
-    let matches = read_parts(alloc, words, &BUILD, false)?;
+    let line = line_of(alloc, words)?;
+    let matches = read_parts(alloc, &line.words, &BUILD, false)?;
     Ok(Command::Build(Opts {
         colours: colours(&matches)?,
         stack: stack(&matches)?,
+        optimise: line.optimise,
     }))
 }
 
 fn session(alloc: Global, words: &[String]) -> Result<Command, WordsFault>
     ensures { Reads (session_of (drop 1 (map string_bytes words.now))) result }
 {
-    let matches = read_parts(alloc, words, &BUILD_AND_RUN, false)?;
+    let line = line_of(alloc, words)?;
+    let matches = read_parts(alloc, &line.words, &BUILD_AND_RUN, false)?;
     Ok(Command::Session(RunOpts {
         build: Opts {
             colours: colours(&matches)?,
             stack: stack(&matches)?,
+            optimise: line.optimise,
         },
         budget: steps(&matches)?,
     }))
@@ -207,8 +214,12 @@ fn preprocess(alloc: Global, words: &[String]) -> Result<Command, WordsFault>
 fn phase_one(alloc: Global, words: &[String]) -> Result<Command, WordsFault>
     ensures { Reads (phase_one_of (drop 1 (map string_bytes words.now))) result }
 {
-    let matches = read_parts(alloc, words, &[], true)?;
-    Ok(Command::PhaseOne(module(alloc, &matches)?))
+    let line = line_of(alloc, words)?;
+    let matches = read_parts(alloc, &line.words, &[], true)?;
+    Ok(Command::PhaseOne {
+        name: module(alloc, &matches)?,
+        optimise: line.optimise,
+    })
 }
 
 fn analyse(alloc: Global, words: &[String]) -> Result<Command, WordsFault>
@@ -262,13 +273,15 @@ fn db(alloc: Global, words: &[String]) -> Result<Command, WordsFault>
 fn bench(alloc: Global, words: &[String]) -> Result<Command, WordsFault>
     ensures { Reads (bench_of (drop 1 (map string_bytes words.now))) result }
 {
-    let matches = read_parts(alloc, words, &BUILD_AND_RUN, true)?;
+    let line = line_of(alloc, words)?;
+    let matches = read_parts(alloc, &line.words, &BUILD_AND_RUN, true)?;
     Ok(Command::Bench {
         number: seed(&matches)?,
         opts: RunOpts {
             build: Opts {
                 colours: colours(&matches)?,
                 stack: stack(&matches)?,
+                optimise: line.optimise,
             },
             budget: steps(&matches)?,
         },
@@ -278,13 +291,15 @@ fn bench(alloc: Global, words: &[String]) -> Result<Command, WordsFault>
 fn show_call(alloc: Global, words: &[String]) -> Result<Command, WordsFault>
     ensures { Reads (where_of (drop 1 (map string_bytes words.now))) result }
 {
-    let matches = read_parts(alloc, words, &BUILD_AND_RUN, true)?;
+    let line = line_of(alloc, words)?;
+    let matches = read_parts(alloc, &line.words, &BUILD_AND_RUN, true)?;
     Ok(Command::Where {
         call: call(&matches)?,
         opts: RunOpts {
             build: Opts {
                 colours: colours(&matches)?,
                 stack: stack(&matches)?,
+                optimise: line.optimise,
             },
             budget: steps(&matches)?,
         },
