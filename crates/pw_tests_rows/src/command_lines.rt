@@ -11,7 +11,7 @@ fn word_of(command: &Command) -> &'static str {
         Command::Go(_) => "go",
         Command::Build(_) => "build",
         Command::Session(_) => "session",
-        Command::PhaseOne(_) => "phase1",
+        Command::PhaseOne { .. } => "phase1",
         Command::Analyse { .. } => "analyse",
         Command::PhaseTwo(_) => "phase2",
         Command::Link { .. } => "link",
@@ -26,7 +26,7 @@ fn word_of(command: &Command) -> &'static str {
 /// The module of a command, or nothing.
 fn module_of(command: &Command) -> &[u8] {
     match command {
-        Command::PhaseOne(name) | Command::PhaseTwo(name) => name.as_bytes(),
+        Command::PhaseOne { name, .. } | Command::PhaseTwo(name) => name.as_bytes(),
         _ => &[],
     }
 }

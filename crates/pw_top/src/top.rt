@@ -42,7 +42,7 @@ fn obey_phase<S: Store>(alloc: Global, command: &Command, store: &mut S) -> Repl
             answer: preprocess_module(alloc, store, name),
             line: 1,
         },
-        Command::PhaseOne(name) => compile_text(alloc, store, name),
+        Command::PhaseOne { name, optimise } => compile_text(alloc, store, name, *optimise),
         Command::Analyse { colours } => Reply {
             answer: analyse_modules(alloc, store, *colours),
             line: None,
@@ -129,7 +129,7 @@ fn obey<S: Store, I: Source, O: Sink>(
 {
     match command {
         Command::Preprocess(_)
-        | Command::PhaseOne(_)
+        | Command::PhaseOne { .. }
         | Command::Analyse { .. }
         | Command::PhaseTwo(_)
         | Command::Link { .. } => obey_phase(alloc, command, store),
