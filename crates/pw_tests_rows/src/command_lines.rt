@@ -60,6 +60,18 @@ fn numbers_of(command: &Command) -> [Option<u64>; 4] {
     }
 }
 
+/// The switch for optimised flow graphs, where a command has it.
+fn switch_of(command: &Command) -> &'static str {
+    let optimise = match command {
+        Command::Go(opts) | Command::Session(opts) => opts.build.optimise,
+        Command::Bench { opts, .. } | Command::Where { opts, .. } => opts.build.optimise,
+        Command::Build(opts) => opts.optimise,
+        Command::PhaseOne { optimise, .. } => *optimise,
+        _ => false,
+    };
+    if optimise { "-O" } else { "" }
+}
+
 /// Adds a blank and a word, where there is one.
 fn push_word(text: &mut Text, word: &[u8]) {
     if !word.is_empty() {
@@ -83,6 +95,7 @@ fn push_command(text: &mut Text, command: &Command) {
     push_word(text, word_of(command).as_bytes());
     push_word(text, module_of(command));
     push_numbers(text, &numbers_of(command));
+    push_word(text, switch_of(command).as_bytes());
 }
 
 /// Adds the command that a line says.
