@@ -19,7 +19,7 @@ use Rattle.pw_build_files.specs.FromBuild.BuildFault.{BuildFault}
 use Rattle.pw_build_files.specs.FromBuild.BuildFault.TheVariants.{LinkRefused}
 use Rattle.pw_build_files.specs.FromBuild.Builds.{Builds, BuildsBy, CompletesAs, first_phases}
 use Rattle.pw_build_opts.specs.declared.opts.Opts.{Opts}
-use Rattle.pw_law_complete.specs.Forms.{HaveForms}
+use Rattle.pw_law_complete.specs.Forms.{HaveFiles}
 use Rattle.pw_law_shown.specs.Alike.{DeclaresMain, shown}
 use Rattle.pw_law_build.specs.Complete.{CanBeBuilt}
 
@@ -42,12 +42,12 @@ pub record Laws : Type 0 where
   pub alike : (flows : List FlowModule) (ss : List Summary) → AllByRecursion IsValid flows → AreSummariesOf flows ss → AreLinked ss → Links (map shown flows)
   pub link : (modules : List Interface) → Links modules ⊎ ((fault : LinkFault) × Refusal modules fault)
   pub links : (flows : List FlowModule) (opts : Opts) (parts : Parts) → AllByRecursion DeclaresMain flows → AreParts flows [] opts parts → Links (map interface parts.objects)
-  pub parts : (flows : List FlowModule) (ss : List Summary) (kept : List (Option Object)) (opts : Opts) → opts.colours ≤ colour_limit → AllByRecursion IsValid flows → HaveForms flows opts → AreSummariesOf flows ss → AllByRecursion IsSummary ss → AreLinked ss
+  pub parts : (flows : List FlowModule) (ss : List Summary) (kept : List (Option Object)) (opts : Opts) → opts.colours ≤ colour_limit → AllByRecursion IsValid flows → HaveFiles flows opts → AreSummariesOf flows ss → AllByRecursion IsSummary ss → AreLinked ss
       → (parts : Parts) × AreParts flows kept opts parts
 
 -- files can hold them, where they keep the rules of linking
-abbrev pub HaveFiles : List FlowModule → Opts → Type 0
-HaveFiles flows opts = Links (map shown flows) → HaveForms flows opts
+abbrev pub FilesHold : List FlowModule → Opts → Type 0
+FilesHold flows opts = Links (map shown flows) → HaveFiles flows opts
 
 -- flow graphs come to an answer
 abbrev Answered : List FlowModule → Opts → Type 0
@@ -59,7 +59,7 @@ module _ (laws : Laws) where
   by_size flows opts parts declares are None e = (Ok parts, (are, record { program = laws.links flows opts parts declares are; fits = e }))
   by_size flows opts parts declares are (Some fault) e = (Err (LinkRefused fault), inr (parts, are, too_large (laws.links flows opts parts declares are) e))
 
-  by_rules : (flows : List FlowModule) (opts : Opts) → opts.colours ≤ colour_limit → AllByRecursion IsValid flows → AllByRecursion DeclaresMain flows → HaveFiles flows opts → (ss : List Summary) → AreSummariesOf flows ss → AllByRecursion IsSummary ss
+  by_rules : (flows : List FlowModule) (opts : Opts) → opts.colours ≤ colour_limit → AllByRecursion IsValid flows → AllByRecursion DeclaresMain flows → FilesHold flows opts → (ss : List Summary) → AreSummariesOf flows ss → AllByRecursion IsSummary ss
       → AreLinked ss ⊎ ((fault : LinkFault) × AreRefused ss fault) → Answered flows opts
   by_rules flows opts few valid declares files ss of lawful (inl linked) =
       let p = laws.parts flows ss [] opts few valid (files (laws.alike flows ss valid of linked)) of lawful linked in
@@ -67,16 +67,16 @@ module _ (laws : Laws) where
   by_rules flows opts few valid declares files ss of lawful (inr refused) =
       (Err (LinkRefused refused.0), inl (valid, record { summaries = ss; of_flows = of; refused = refused.1 }))
 
-  by_flows : (sources : List Source) (flows : List FlowModule) (opts : Opts) → opts.colours ≤ colour_limit → first_phases sources ≡ Ok flows → HaveFiles flows opts → Answered flows opts
+  by_flows : (sources : List Source) (flows : List FlowModule) (opts : Opts) → opts.colours ≤ colour_limit → first_phases sources ≡ Ok flows → FilesHold flows opts → Answered flows opts
   by_flows sources flows opts few is files =
       let valid = laws.lawful sources flows is in
       let ss = laws.summaries flows valid in
       by_rules flows opts few valid (laws.declares sources flows is) files ss.0 ss.1 ss.2 (laws.link (map interface_of ss.0))
 
-  by_phases : (sources : List Source) (opts : Opts) → opts.colours ≤ colour_limit → ((flows : List FlowModule) → first_phases sources ≡ Ok flows → HaveFiles flows opts)
+  by_phases : (sources : List Source) (opts : Opts) → opts.colours ≤ colour_limit → ((flows : List FlowModule) → first_phases sources ≡ Ok flows → FilesHold flows opts)
       → (phases : Result (List FlowModule) BuildFault) → first_phases sources ≡ phases → (answer : Result Parts BuildFault) × BuildsBy phases [] opts answer
   by_phases sources opts few files (Err fault) is = (Err fault, refl)
   by_phases sources opts few files (Ok flows) is = by_flows sources flows opts few is (files flows is)
 
-  pub build_exists : (sources : List Source) (opts : Opts) → opts.colours ≤ colour_limit → ((flows : List FlowModule) → first_phases sources ≡ Ok flows → HaveFiles flows opts) → (answer : Result Parts BuildFault) × Builds sources [] opts answer
+  pub build_exists : (sources : List Source) (opts : Opts) → opts.colours ≤ colour_limit → ((flows : List FlowModule) → first_phases sources ≡ Ok flows → FilesHold flows opts) → (answer : Result Parts BuildFault) × Builds sources [] opts answer
   build_exists sources opts few files = by_phases sources opts few files (first_phases sources) refl

@@ -6,8 +6,6 @@ use Rattle.pw_build_objects.specs.Programs.{AreForms}
 use Rattle.pw_build_opts.specs.declared.opts.Opts.{Opts}
 use Rattle.pw_law_answers.specs.Held.{HasFile}
 
--- the modules have forms, as the options say, and files can hold these
-pub record HaveForms (flows : List FlowModule) (opts : Opts) : Type 0 where
-  pub forms : List FlowModule
-  pub of_flows : AreForms opts.optimise flows forms
-  pub files : AllByRecursion HasFile forms
+-- files can hold the forms of the modules: their own flow graphs, or the optimised ones, as the options say
+abbrev pub HaveFiles : List FlowModule → Opts → Type 0
+HaveFiles flows opts = (forms : List FlowModule) → AreForms opts.optimise flows forms → AllByRecursion HasFile forms
