@@ -1,7 +1,7 @@
 -- What the objects of a program are refused for.
-use Rattle.std.proofs.Common.{◌≡◌, ◌↔◌, ◌⊎◌, inl, inr, ℕ, Bool, true, false, List, [], ◌∷◌, map, Option, None, Some}
+use Rattle.std.proofs.Common.{◌≡◌, ◌↔◌, ◌⊎◌, inl, inr, ℕ, Bool, true, false, List, [], ◌∷◌, map, Option, None, Some, Result, Err, sym, subst}
 use Rattle.std.specs.List.{AllByRecursion}
-use Rattle.std.specs.Prelude.{IsTrue}
+use Rattle.std.specs.Prelude.{IfErr, IsTrue}
 use Rattle.pw_value.specs.declared.fault.LinkFault.{LinkFault}
 use Rattle.pw_value.specs.declared.fault.LinkFault.TheVariants as link
 use Rattle.pw_flow.specs.declared.flow.FlowModule.{FlowModule}
@@ -72,10 +72,13 @@ new_objects_link links flows kept opts parts declares are t =
 
 -- ---- forms of modules that keep the rules of linking
 
-pub no_rule_broken : ((modules : List Interface) (fault : LinkFault) → Links modules → ¬ Refusal modules fault)
+pub no_rule_broken : {V : Type 0} → ((modules : List Interface) (fault : LinkFault) → Links modules → ¬ Refusal modules fault)
     → ((o : Bool) (flows forms : List FlowModule) (ss : List Summary) → AreForms o flows forms → AllByRecursion IsValid flows → KeepRules flows → AreSummariesOf forms ss → graph.AreLinked ss)
-    → (o : Bool) (flows forms : List FlowModule) (fault : LinkFault) → AreForms o flows forms → AllByRecursion IsValid flows → KeepRules flows
-    → (fault ≡ link.NoMemory) ⊎ BreakRule forms fault → (fault ≡ link.NoMemory) ⊎ BreakRule flows fault
-no_rule_broken not_both linked o flows forms fault are valid rules (inl none) = inl none
-no_rule_broken not_both linked o flows forms fault are valid rules (inr broken) =
-    absurd (not_both (map graph.interface_of broken.summaries) fault (linked o flows forms broken.summaries are valid rules broken.of_flows) broken.refused)
+    → (o : Bool) (flows forms : List FlowModule) (result : Result V LinkFault) (fault : LinkFault) → result ≡ Err fault → AreForms o flows forms → AllByRecursion IsValid flows → KeepRules flows
+    → (fault ≡ link.NoMemory) ⊎ BreakRule forms fault → IfErr result (λ f. (f ≡ link.NoMemory) ⊎ BreakRule flows f)
+no_rule_broken not_both linked o flows forms result fault e are valid rules h = subst (λ (r : Result _ LinkFault). IfErr r (λ f. (f ≡ link.NoMemory) ⊎ BreakRule flows f)) (sym e) (by_fault h)
+  where
+    by_fault : (fault ≡ link.NoMemory) ⊎ BreakRule forms fault → (fault ≡ link.NoMemory) ⊎ BreakRule flows fault
+    by_fault (inl none) = inl none
+    by_fault (inr broken) =
+        absurd (not_both (map graph.interface_of broken.summaries) fault (linked o flows forms broken.summaries are valid rules broken.of_flows) broken.refused)
