@@ -49,12 +49,12 @@ returns-in_err-prepared-clause-bound g c = bound_none (length c.args.flows.items
 pub returns-in_err-made-clause-bound : goal.returns-in_err-made-clause-bound
 returns-in_err-made-clause-bound g c =
     subst (λ (n : ℕ). CountsUpTo n _ _)
-    (c.forms_keep_what_modules_have.ensures.count c.args.opts.now.optimise c.args.flows.items c.in_ok-prepared.prepared.forms.items c.in_ok-prepared.ensures.prepared.of_flows) c.in_err-made.ensures.bound
+    (c.forms_keep_what_modules_have.ensures.count c.args.opts.now.optimise c.args.flows.items c.in_ok-prepared.prepared.forms.items c.in_ok-prepared.ensures.prepared.of_flows) c.all_objects.ensures.bound
 
 pub returns-clause-bound : goal.returns-clause-bound
 returns-clause-bound g c =
     subst (λ (n : ℕ). CountsUpTo n _ _)
-    (c.forms_keep_what_modules_have.ensures.count c.args.opts.now.optimise c.args.flows.items c.in_ok-prepared.prepared.forms.items c.in_ok-prepared.ensures.prepared.of_flows) c.in_ok-made.ensures.bound
+    (c.forms_keep_what_modules_have.ensures.count c.args.opts.now.optimise c.args.flows.items c.in_ok-prepared.prepared.forms.items c.in_ok-prepared.ensures.prepared.of_flows) c.all_objects.ensures.bound
 
 pub returns-clause-counted_fault : goal.returns-clause-counted_fault
 returns-clause-counted_fault g c =
