@@ -106,22 +106,19 @@ coloured say o (Some c) parts all h = stacked say o c (stack_in parts) parts all
 run_options_within : (say : RunOpts → Command) (o : Bool) (parts : List Part) → Runs say → Within (with_run say o parts)
 run_options_within say o parts all = coloured say o (colours_in parts) parts all (colours_are_in parts)
 
-go_within : (words : List Text) → Within (go_of words)
-go_within words =
-    parts_within (parts_of (colours ∷ stack ∷ steps ∷ []) 0 (unswitched words)) (with_run Go (is_switched words)) (λ parts. run_options_within Go (is_switched words) parts (λ c s n o h k. (h, k)))
+go_within : (o : Bool) (words : List Text) → Within (go_of o words)
+go_within o words = parts_within (parts_of (colours ∷ stack ∷ steps ∷ []) 0 words) (with_run Go o) (λ parts. run_options_within Go o parts (λ c s n o h k. (h, k)))
 
-session_within : (words : List Text) → Within (session_of words)
-session_within words =
-    parts_within (parts_of (colours ∷ stack ∷ steps ∷ []) 0 (unswitched words)) (with_run Session (is_switched words)) (λ parts. run_options_within Session (is_switched words) parts (λ c s n o h k. (h, k)))
+session_within : (o : Bool) (words : List Text) → Within (session_of o words)
+session_within o words = parts_within (parts_of (colours ∷ stack ∷ steps ∷ []) 0 words) (with_run Session o) (λ parts. run_options_within Session o parts (λ c s n o h k. (h, k)))
 
 seeded : (o : Bool) (given : Option ℕ) (parts : List Part) → Within (option_and_then (λ x. with_run (Bench x) o parts) given)
 seeded o None parts = none_within
 seeded o (Some x) parts = run_options_within (Bench x) o parts (λ c s n o h k. (h, k))
 
-bench_within : (words : List Text) → Within (bench_of words)
-bench_within words =
-    parts_within (parts_of (colours ∷ stack ∷ steps ∷ []) 1 (unswitched words)) (λ parts. option_and_then (λ x. with_run (Bench x) (is_switched words) parts) (seed_in parts))
-    (λ parts. seeded (is_switched words) (seed_in parts) parts)
+bench_within : (o : Bool) (words : List Text) → Within (bench_of o words)
+bench_within o words =
+    parts_within (parts_of (colours ∷ stack ∷ steps ∷ []) 1 words) (λ parts. option_and_then (λ x. with_run (Bench x) o parts) (seed_in parts)) (λ parts. seeded o (seed_in parts) parts)
 
 -- the number of a call is one at least
 call_is_in : (found : Option Text) → IsIn 1 call_limit (option_and_then (number_in 1 call_limit) found)
@@ -132,10 +129,10 @@ called : (o : Bool) (given : Option ℕ) (parts : List Part) → IsIn 1 call_lim
 called o None parts h = none_within
 called o (Some k) parts h = run_options_within (Where k) o parts (λ c s n o few is_stack. (omega (arith, h.0), (few, is_stack)))
 
-where_within : (words : List Text) → Within (where_of words)
-where_within words =
-    parts_within (parts_of (colours ∷ stack ∷ steps ∷ []) 1 (unswitched words)) (λ parts. option_and_then (λ k. with_run (Where k) (is_switched words) parts) (call_in parts))
-    (λ parts. called (is_switched words) (call_in parts) parts (call_is_in (plain_word parts)))
+where_within : (o : Bool) (words : List Text) → Within (where_of o words)
+where_within o words =
+    parts_within (parts_of (colours ∷ stack ∷ steps ∷ []) 1 words) (λ parts. option_and_then (λ k. with_run (Where k) o parts) (call_in parts))
+    (λ parts. called o (call_in parts) parts (call_is_in (plain_word parts)))
 
 -- the numbers of a build
 built : (o : Bool) (c : ℕ) (given : Option ℕ) → c ≤ colour_limit → IsIn stack_least stack_limit given → Within (option_map (λ s. Build (built_with c s o)) given)
@@ -146,9 +143,8 @@ build_options_within : (o : Bool) (given : Option ℕ) (parts : List Part) → I
 build_options_within o None parts h = none_within
 build_options_within o (Some c) parts h = built o c (stack_in parts) h.1 (stack_is_in parts)
 
-build_within : (words : List Text) → Within (build_of words)
-build_within words =
-    parts_within (parts_of (colours ∷ stack ∷ []) 0 (unswitched words)) (with_build Build (is_switched words)) (λ parts. build_options_within (is_switched words) (colours_in parts) parts (colours_are_in parts))
+build_within : (o : Bool) (words : List Text) → Within (build_of o words)
+build_within o words = parts_within (parts_of (colours ∷ stack ∷ []) 0 words) (with_build Build o) (λ parts. build_options_within o (colours_in parts) parts (colours_are_in parts))
 
 phase_within : (make : Text → Command) (words : List Text) → ((name : Text) → is_module_name name ≡ true → IsWithin (make name)) → Within (option_and_then (λ parts. option_map make (module_in parts)) (parts_of [] 1 words))
 phase_within make words k =
@@ -164,24 +160,24 @@ link_within words = parts_within (parts_of (stack ∷ []) 0 words) (λ parts. op
 run_within : (words : List Text) → Within (run_of words)
 run_within words = parts_within (parts_of (steps ∷ []) 0 words) (λ parts. option_map Run (steps_in parts)) (λ parts. any_within Run (steps_in parts) (λ n. tt))
 
-name_within : (name : Text) (words : List Text) → Within (command_by_name name words)
+name_within : (name : Text) (o : Bool) (others words : List Text) → Within (command_by_name name o others words)
 unfolding command_by_name
-name_within name words =
-    if_within (bytes_eq name (codes "go")) _ _ (go_within words)
-    (if_within (bytes_eq name (codes "build")) _ _ (build_within words)
-    (if_within (bytes_eq name (codes "session")) _ _ (session_within words)
+name_within name o others words =
+    if_within (bytes_eq name (codes "go")) _ _ (go_within o others)
+    (if_within (bytes_eq name (codes "build")) _ _ (build_within o others)
+    (if_within (bytes_eq name (codes "session")) _ _ (session_within o others)
     (if_within (bytes_eq name (codes "cpp")) _ _ (phase_within Preprocess words (λ n h. h))
-    (if_within (bytes_eq name (codes "phase1")) _ _ (phase_within (λ n. PhaseOne n (is_switched words)) (unswitched words) (λ n h. h))
+    (if_within (bytes_eq name (codes "phase1")) _ _ (phase_within (λ n. PhaseOne n o) others (λ n h. h))
     (if_within (bytes_eq name (codes "analyse")) _ _ (analyse_within words)
     (if_within (bytes_eq name (codes "phase2")) _ _ (phase_within PhaseTwo words (λ n h. h))
     (if_within (bytes_eq name (codes "link")) _ _ (link_within words)
     (if_within (bytes_eq name (codes "run")) _ _ (run_within words)
     (if_within (bytes_eq name (codes "list")) _ _ (listed_within (parts_of [] 0 words) ListImage tt)
     (if_within (bytes_eq name (codes "db")) _ _ (listed_within (parts_of [] 0 words) Db tt)
-    (if_within (bytes_eq name (codes "bench")) _ _ (bench_within words)
-    (if_within (bytes_eq name (codes "where")) _ _ (where_within words)
+    (if_within (bytes_eq name (codes "bench")) _ _ (bench_within o others)
+    (if_within (bytes_eq name (codes "where")) _ _ (where_within o others)
     none_within))))))))))))
 
 pub words_within : (words : List Text) → Within (command_of words)
 words_within [] = none_within
-words_within (name ∷ words) = name_within name words
+words_within (name ∷ words) = name_within name (is_switched words) (unswitched words) words

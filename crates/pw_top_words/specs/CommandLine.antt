@@ -225,22 +225,21 @@ abbrev pub with_run : (RunOpts → Command) → Bool → List Part → Option Co
 with_run say o parts =
     option_and_then (λ c. option_and_then (λ s. option_map (λ n. say (run_with c s o n)) (steps_in parts)) (stack_in parts)) (colours_in parts)
 
--- what the words behind a command's name say
-abbrev pub go_of : List Text → Option Command
-go_of words = option_and_then (with_run Go (is_switched words)) (parts_of (colours ∷ stack ∷ steps ∷ []) 0 (unswitched words))
+-- what the words behind a command's name say, of those that may have a switch the others with whether it is there
+abbrev pub go_of : Bool → List Text → Option Command
+go_of o words = option_and_then (with_run Go o) (parts_of (colours ∷ stack ∷ steps ∷ []) 0 words)
 
-abbrev pub build_of : List Text → Option Command
-build_of words = option_and_then (with_build Build (is_switched words)) (parts_of (colours ∷ stack ∷ []) 0 (unswitched words))
+abbrev pub build_of : Bool → List Text → Option Command
+build_of o words = option_and_then (with_build Build o) (parts_of (colours ∷ stack ∷ []) 0 words)
 
-abbrev pub session_of : List Text → Option Command
-session_of words = option_and_then (with_run Session (is_switched words)) (parts_of (colours ∷ stack ∷ steps ∷ []) 0 (unswitched words))
+abbrev pub session_of : Bool → List Text → Option Command
+session_of o words = option_and_then (with_run Session o) (parts_of (colours ∷ stack ∷ steps ∷ []) 0 words)
 
 abbrev pub preprocess_of : List Text → Option Command
 preprocess_of words = option_and_then (λ parts. option_map Preprocess (module_in parts)) (parts_of [] 1 words)
 
-abbrev pub phase_one_of : List Text → Option Command
-phase_one_of words =
-    option_and_then (λ parts. option_map (λ name. PhaseOne name (is_switched words)) (module_in parts)) (parts_of [] 1 (unswitched words))
+abbrev pub phase_one_of : Bool → List Text → Option Command
+phase_one_of o words = option_and_then (λ parts. option_map (λ name. PhaseOne name o) (module_in parts)) (parts_of [] 1 words)
 
 abbrev pub analyse_of : List Text → Option Command
 analyse_of words = option_and_then (λ parts. option_map Analyse (colours_in parts)) (parts_of (colours ∷ []) 0 words)
@@ -260,38 +259,36 @@ list_of words = option_map (λ parts. ListImage) (parts_of [] 0 words)
 abbrev pub db_of : List Text → Option Command
 db_of words = option_map (λ parts. Db) (parts_of [] 0 words)
 
-abbrev pub bench_of : List Text → Option Command
-bench_of words =
-    option_and_then (λ parts. option_and_then (λ x. with_run (Bench x) (is_switched words) parts) (seed_in parts))
-    (parts_of (colours ∷ stack ∷ steps ∷ []) 1 (unswitched words))
+abbrev pub bench_of : Bool → List Text → Option Command
+bench_of o words =
+    option_and_then (λ parts. option_and_then (λ x. with_run (Bench x) o parts) (seed_in parts)) (parts_of (colours ∷ stack ∷ steps ∷ []) 1 words)
 
-abbrev pub where_of : List Text → Option Command
-where_of words =
-    option_and_then (λ parts. option_and_then (λ k. with_run (Where k) (is_switched words) parts) (call_in parts))
-    (parts_of (colours ∷ stack ∷ steps ∷ []) 1 (unswitched words))
+abbrev pub where_of : Bool → List Text → Option Command
+where_of o words =
+    option_and_then (λ parts. option_and_then (λ k. with_run (Where k) o parts) (call_in parts)) (parts_of (colours ∷ stack ∷ steps ∷ []) 1 words)
 
--- the command of a name, and what the words behind it say
-unfoldable pub command_by_name : Text → List Text → Option Command
-command_by_name name words =
-    if bytes_eq name (codes "go") then go_of words else
-    if bytes_eq name (codes "build") then build_of words else
-    if bytes_eq name (codes "session") then session_of words else
+-- the command of a name, and what the words behind it say: all of them, or those without a switch and whether it was there
+unfoldable pub command_by_name : Text → Bool → List Text → List Text → Option Command
+command_by_name name o others words =
+    if bytes_eq name (codes "go") then go_of o others else
+    if bytes_eq name (codes "build") then build_of o others else
+    if bytes_eq name (codes "session") then session_of o others else
     if bytes_eq name (codes "cpp") then preprocess_of words else
-    if bytes_eq name (codes "phase1") then phase_one_of words else
+    if bytes_eq name (codes "phase1") then phase_one_of o others else
     if bytes_eq name (codes "analyse") then analyse_of words else
     if bytes_eq name (codes "phase2") then phase_two_of words else
     if bytes_eq name (codes "link") then link_of words else
     if bytes_eq name (codes "run") then run_of words else
     if bytes_eq name (codes "list") then list_of words else
     if bytes_eq name (codes "db") then db_of words else
-    if bytes_eq name (codes "bench") then bench_of words else
-    if bytes_eq name (codes "where") then where_of words else
+    if bytes_eq name (codes "bench") then bench_of o others else
+    if bytes_eq name (codes "where") then where_of o others else
     None
 
 -- the command that words say
 abbrev pub command_of : List Text → Option Command
 command_of [] = None
-command_of (name ∷ words) = command_by_name name words
+command_of (name ∷ words) = command_by_name name (is_switched words) (unswitched words) words
 
 -- ---- what a call answers
 

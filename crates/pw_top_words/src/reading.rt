@@ -2,14 +2,14 @@
 
 ghost use Rattle.std.specs.Prelude.{◌≡◌, ◌≢◌, ◌≤◌, ℕ, List, None, Err, IfErr, IfOk, drop, map, string_bytes, codes, option_map, option_and_then, Option};
 ghost use Rattle.clap.specs.Matches.{first_value, found_of};
-ghost use Rattle.pw_top_words.specs.CommandLine.{Part, Reads, colours_in, command_of, go_of, command_by_name, module_in, number_or, parts_of, seed_in, stack_in, steps_in, with_build, with_run, build_of, session_of, bench_of, phase_one_of, phase_two_of, analyse_of, link_of, run_of, list_of, db_of, where_of, call_in, call_limit, digits_limit, usual_stack, steps_limit, seed_limit, usual_steps, preprocess_of};
+ghost use Rattle.pw_top_words.specs.CommandLine.{Part, Reads, is_switched, unswitched, colours_in, command_of, go_of, command_by_name, module_in, number_or, parts_of, seed_in, stack_in, steps_in, with_build, with_run, build_of, session_of, bench_of, phase_one_of, phase_two_of, analyse_of, link_of, run_of, list_of, db_of, where_of, call_in, call_limit, digits_limit, usual_stack, steps_limit, seed_limit, usual_steps, preprocess_of};
 ghost use Rattle.pw_top_words.specs.Reading.{IsMatchOf};
 
 use crate::commands::Command;
 use crate::fault::WordsFault;
 use crate::numbers::{DIGITS_LIMIT, number_in};
 use crate::reader::{OPERAND, read_parts};
-use crate::switch::line_of;
+use crate::switch::{Line, line_of};
 use clap::ArgMatches;
 use pw_build_opts::{Opts, RunOpts};
 use pw_db::COLOUR_LIMIT;
@@ -162,10 +162,9 @@ fn call(matches: &ArgMatches) -> Result<u64, WordsFault>
     }
 }
 
-fn go(alloc: Global, words: &[String]) -> Result<Command, WordsFault>
-    ensures { Reads (go_of (drop 1 (map string_bytes words.now))) result }
+fn go(alloc: Global, line: &Line) -> Result<Command, WordsFault>
+    ensures { Reads (go_of line.now.optimise (drop 1 (map string_bytes line.now.words.items))) result }
 {
-    let line = line_of(alloc, words)?;
     let matches = read_parts(alloc, &line.words, &BUILD_AND_RUN, false)?;
     Ok(Command::Go(RunOpts {
         build: Opts {
@@ -177,10 +176,9 @@ fn go(alloc: Global, words: &[String]) -> Result<Command, WordsFault>
     }))
 }
 
-fn build(alloc: Global, words: &[String]) -> Result<Command, WordsFault>
-    ensures { Reads (build_of (drop 1 (map string_bytes words.now))) result }
+fn build(alloc: Global, line: &Line) -> Result<Command, WordsFault>
+    ensures { Reads (build_of line.now.optimise (drop 1 (map string_bytes line.now.words.items))) result }
 {
-    let line = line_of(alloc, words)?;
     let matches = read_parts(alloc, &line.words, &BUILD, false)?;
     Ok(Command::Build(Opts {
         colours: colours(&matches)?,
@@ -189,10 +187,9 @@ fn build(alloc: Global, words: &[String]) -> Result<Command, WordsFault>
     }))
 }
 
-fn session(alloc: Global, words: &[String]) -> Result<Command, WordsFault>
-    ensures { Reads (session_of (drop 1 (map string_bytes words.now))) result }
+fn session(alloc: Global, line: &Line) -> Result<Command, WordsFault>
+    ensures { Reads (session_of line.now.optimise (drop 1 (map string_bytes line.now.words.items))) result }
 {
-    let line = line_of(alloc, words)?;
     let matches = read_parts(alloc, &line.words, &BUILD_AND_RUN, false)?;
     Ok(Command::Session(RunOpts {
         build: Opts {
@@ -211,10 +208,9 @@ fn preprocess(alloc: Global, words: &[String]) -> Result<Command, WordsFault>
     Ok(Command::Preprocess(module(alloc, &matches)?))
 }
 
-fn phase_one(alloc: Global, words: &[String]) -> Result<Command, WordsFault>
-    ensures { Reads (phase_one_of (drop 1 (map string_bytes words.now))) result }
+fn phase_one(alloc: Global, line: &Line) -> Result<Command, WordsFault>
+    ensures { Reads (phase_one_of line.now.optimise (drop 1 (map string_bytes line.now.words.items))) result }
 {
-    let line = line_of(alloc, words)?;
     let matches = read_parts(alloc, &line.words, &[], true)?;
     Ok(Command::PhaseOne {
         name: module(alloc, &matches)?,
@@ -270,10 +266,9 @@ fn db(alloc: Global, words: &[String]) -> Result<Command, WordsFault>
     Ok(Command::Db)
 }
 
-fn bench(alloc: Global, words: &[String]) -> Result<Command, WordsFault>
-    ensures { Reads (bench_of (drop 1 (map string_bytes words.now))) result }
+fn bench(alloc: Global, line: &Line) -> Result<Command, WordsFault>
+    ensures { Reads (bench_of line.now.optimise (drop 1 (map string_bytes line.now.words.items))) result }
 {
-    let line = line_of(alloc, words)?;
     let matches = read_parts(alloc, &line.words, &BUILD_AND_RUN, true)?;
     Ok(Command::Bench {
         number: seed(&matches)?,
@@ -288,10 +283,9 @@ fn bench(alloc: Global, words: &[String]) -> Result<Command, WordsFault>
     })
 }
 
-fn show_call(alloc: Global, words: &[String]) -> Result<Command, WordsFault>
-    ensures { Reads (where_of (drop 1 (map string_bytes words.now))) result }
+fn show_call(alloc: Global, line: &Line) -> Result<Command, WordsFault>
+    ensures { Reads (where_of line.now.optimise (drop 1 (map string_bytes line.now.words.items))) result }
 {
-    let line = line_of(alloc, words)?;
     let matches = read_parts(alloc, &line.words, &BUILD_AND_RUN, true)?;
     Ok(Command::Where {
         call: call(&matches)?,
@@ -306,27 +300,40 @@ fn show_call(alloc: Global, words: &[String]) -> Result<Command, WordsFault>
     })
 }
 
-/// The command of a name, by the words, of which the first is the name.
+/// The command of a name, by the words, of which the first is the name, and by the words without the switch.
 #[tactic(auto, unfolding(crate::specs::CommandLine::command_by_name))]
-fn command_named(alloc: Global, name: &str, words: &[String]) -> Result<Command, WordsFault>
-    ensures { Reads (command_by_name name.now (drop 1 (map string_bytes words.now))) result }
+fn command_named(
+    alloc: Global,
+    name: &str,
+    words: &[String],
+    line: &Line,
+) -> Result<Command, WordsFault>
+    ensures { Reads (command_by_name name.now line.now.optimise (drop 1 (map string_bytes line.now.words.items)) (drop 1 (map string_bytes words.now))) result }
 {
     match name {
-        "go" => go(alloc, words),
-        "build" => build(alloc, words),
-        "session" => session(alloc, words),
+        "go" => go(alloc, line),
+        "build" => build(alloc, line),
+        "session" => session(alloc, line),
         "cpp" => preprocess(alloc, words),
-        "phase1" => phase_one(alloc, words),
+        "phase1" => phase_one(alloc, line),
         "analyse" => analyse(alloc, words),
         "phase2" => phase_two(alloc, words),
         "link" => link(alloc, words),
         "run" => run(alloc, words),
         "list" => list(alloc, words),
         "db" => db(alloc, words),
-        "bench" => bench(alloc, words),
-        "where" => show_call(alloc, words),
+        "bench" => bench(alloc, line),
+        "where" => show_call(alloc, line),
         _ => Err(WordsFault::Usage),
     }
+}
+
+/// The command of a name, by the words, of which the first is the name.
+fn command_behind(alloc: Global, name: &str, words: &[String]) -> Result<Command, WordsFault>
+    ensures { Reads (command_by_name name.now (is_switched (drop 1 (map string_bytes words.now))) (unswitched (drop 1 (map string_bytes words.now))) (drop 1 (map string_bytes words.now))) result }
+{
+    let line = line_of(alloc, words)?;
+    command_named(alloc, name, words, &line)
 }
 
 /// The command that words say, the first of which is its name.
@@ -338,7 +345,7 @@ pub fn command(alloc: Global, words: &[String]) -> Result<Command, WordsFault>
     ensures { Reads (command_of (map string_bytes words.now)) result }
 {
     match words {
-        [name, ..] => command_named(alloc, name.as_str(), words),
+        [name, ..] => command_behind(alloc, name.as_str(), words),
         [] => Err(WordsFault::Usage),
     }
 }
