@@ -9,7 +9,7 @@ use crate::commands::Command;
 use crate::fault::WordsFault;
 use crate::numbers::{DIGITS_LIMIT, number_in};
 use crate::reader::{OPERAND, read_parts};
-use crate::switch::{Line, line_of};
+use crate::switch::line_of;
 use clap::ArgMatches;
 use pw_build_opts::{Opts, RunOpts};
 use pw_db::COLOUR_LIMIT;
@@ -162,40 +162,40 @@ fn call(matches: &ArgMatches) -> Result<u64, WordsFault>
     }
 }
 
-fn go(alloc: Global, line: &Line) -> Result<Command, WordsFault>
-    ensures { Reads (go_of line.now.optimise (drop 1 (map string_bytes line.now.words.items))) result }
+fn go(alloc: Global, words: &[String], optimise: bool) -> Result<Command, WordsFault>
+    ensures { Reads (go_of optimise (drop 1 (map string_bytes words.now))) result }
 {
-    let matches = read_parts(alloc, &line.words, &BUILD_AND_RUN, false)?;
+    let matches = read_parts(alloc, words, &BUILD_AND_RUN, false)?;
     Ok(Command::Go(RunOpts {
         build: Opts {
             colours: colours(&matches)?,
             stack: stack(&matches)?,
-            optimise: line.optimise,
+            optimise,
         },
         budget: steps(&matches)?,
     }))
 }
 
-fn build(alloc: Global, line: &Line) -> Result<Command, WordsFault>
-    ensures { Reads (build_of line.now.optimise (drop 1 (map string_bytes line.now.words.items))) result }
+fn build(alloc: Global, words: &[String], optimise: bool) -> Result<Command, WordsFault>
+    ensures { Reads (build_of optimise (drop 1 (map string_bytes words.now))) result }
 {
-    let matches = read_parts(alloc, &line.words, &BUILD, false)?;
+    let matches = read_parts(alloc, words, &BUILD, false)?;
     Ok(Command::Build(Opts {
         colours: colours(&matches)?,
         stack: stack(&matches)?,
-        optimise: line.optimise,
+        optimise,
     }))
 }
 
-fn session(alloc: Global, line: &Line) -> Result<Command, WordsFault>
-    ensures { Reads (session_of line.now.optimise (drop 1 (map string_bytes line.now.words.items))) result }
+fn session(alloc: Global, words: &[String], optimise: bool) -> Result<Command, WordsFault>
+    ensures { Reads (session_of optimise (drop 1 (map string_bytes words.now))) result }
 {
-    let matches = read_parts(alloc, &line.words, &BUILD_AND_RUN, false)?;
+    let matches = read_parts(alloc, words, &BUILD_AND_RUN, false)?;
     Ok(Command::Session(RunOpts {
         build: Opts {
             colours: colours(&matches)?,
             stack: stack(&matches)?,
-            optimise: line.optimise,
+            optimise,
         },
         budget: steps(&matches)?,
     }))
@@ -208,13 +208,13 @@ fn preprocess(alloc: Global, words: &[String]) -> Result<Command, WordsFault>
     Ok(Command::Preprocess(module(alloc, &matches)?))
 }
 
-fn phase_one(alloc: Global, line: &Line) -> Result<Command, WordsFault>
-    ensures { Reads (phase_one_of line.now.optimise (drop 1 (map string_bytes line.now.words.items))) result }
+fn phase_one(alloc: Global, words: &[String], optimise: bool) -> Result<Command, WordsFault>
+    ensures { Reads (phase_one_of optimise (drop 1 (map string_bytes words.now))) result }
 {
-    let matches = read_parts(alloc, &line.words, &[], true)?;
+    let matches = read_parts(alloc, words, &[], true)?;
     Ok(Command::PhaseOne {
         name: module(alloc, &matches)?,
-        optimise: line.optimise,
+        optimise,
     })
 }
 
@@ -266,34 +266,34 @@ fn db(alloc: Global, words: &[String]) -> Result<Command, WordsFault>
     Ok(Command::Db)
 }
 
-fn bench(alloc: Global, line: &Line) -> Result<Command, WordsFault>
-    ensures { Reads (bench_of line.now.optimise (drop 1 (map string_bytes line.now.words.items))) result }
+fn bench(alloc: Global, words: &[String], optimise: bool) -> Result<Command, WordsFault>
+    ensures { Reads (bench_of optimise (drop 1 (map string_bytes words.now))) result }
 {
-    let matches = read_parts(alloc, &line.words, &BUILD_AND_RUN, true)?;
+    let matches = read_parts(alloc, words, &BUILD_AND_RUN, true)?;
     Ok(Command::Bench {
         number: seed(&matches)?,
         opts: RunOpts {
             build: Opts {
                 colours: colours(&matches)?,
                 stack: stack(&matches)?,
-                optimise: line.optimise,
+                optimise,
             },
             budget: steps(&matches)?,
         },
     })
 }
 
-fn show_call(alloc: Global, line: &Line) -> Result<Command, WordsFault>
-    ensures { Reads (where_of line.now.optimise (drop 1 (map string_bytes line.now.words.items))) result }
+fn show_call(alloc: Global, words: &[String], optimise: bool) -> Result<Command, WordsFault>
+    ensures { Reads (where_of optimise (drop 1 (map string_bytes words.now))) result }
 {
-    let matches = read_parts(alloc, &line.words, &BUILD_AND_RUN, true)?;
+    let matches = read_parts(alloc, words, &BUILD_AND_RUN, true)?;
     Ok(Command::Where {
         call: call(&matches)?,
         opts: RunOpts {
             build: Opts {
                 colours: colours(&matches)?,
                 stack: stack(&matches)?,
-                optimise: line.optimise,
+                optimise,
             },
             budget: steps(&matches)?,
         },
@@ -306,24 +306,25 @@ fn command_named(
     alloc: Global,
     name: &str,
     words: &[String],
-    line: &Line,
+    others: &[String],
+    optimise: bool,
 ) -> Result<Command, WordsFault>
-    ensures { Reads (command_by_name name.now line.now.optimise (drop 1 (map string_bytes line.now.words.items)) (drop 1 (map string_bytes words.now))) result }
+    ensures { Reads (command_by_name name.now optimise (drop 1 (map string_bytes others.now)) (drop 1 (map string_bytes words.now))) result }
 {
     match name {
-        "go" => go(alloc, line),
-        "build" => build(alloc, line),
-        "session" => session(alloc, line),
+        "go" => go(alloc, others, optimise),
+        "build" => build(alloc, others, optimise),
+        "session" => session(alloc, others, optimise),
         "cpp" => preprocess(alloc, words),
-        "phase1" => phase_one(alloc, line),
+        "phase1" => phase_one(alloc, others, optimise),
         "analyse" => analyse(alloc, words),
         "phase2" => phase_two(alloc, words),
         "link" => link(alloc, words),
         "run" => run(alloc, words),
         "list" => list(alloc, words),
         "db" => db(alloc, words),
-        "bench" => bench(alloc, line),
-        "where" => show_call(alloc, line),
+        "bench" => bench(alloc, others, optimise),
+        "where" => show_call(alloc, others, optimise),
         _ => Err(WordsFault::Usage),
     }
 }
@@ -333,7 +334,7 @@ fn command_behind(alloc: Global, name: &str, words: &[String]) -> Result<Command
     ensures { Reads (command_by_name name.now (is_switched (drop 1 (map string_bytes words.now))) (unswitched (drop 1 (map string_bytes words.now))) (drop 1 (map string_bytes words.now))) result }
 {
     let line = line_of(alloc, words)?;
-    command_named(alloc, name, words, &line)
+    command_named(alloc, name, words, &line.words, line.optimise)
 }
 
 /// The command that words say, the first of which is its name.

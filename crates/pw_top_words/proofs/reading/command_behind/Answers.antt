@@ -7,4 +7,4 @@ returns c =
     let words = drop 1 (map string_bytes c.args.words.now) in
     let name = c.args.name.now in
     subst (λ (o : Bool). Reads (command_by_name name o (unswitched words) words) c.command_named.result) c.in_ok-line.ensures.optimise
-    (subst (λ (others : List Text). Reads (command_by_name name c.in_ok-line.line.optimise others words) c.command_named.result) c.in_ok-line.ensures.words c.command_named.ensures)
+    (subst (λ (others : List Text). Reads (command_by_name name c.in_ok-line.line.optimise others words) c.command_named.result) c.in_ok-line.ensures.words (rw c.deref.ensures.value at c.command_named.ensures))
