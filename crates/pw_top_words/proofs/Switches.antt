@@ -1,7 +1,8 @@
 -- The switch among the words of a command line.
-use Rattle.std.proofs.Common.{◌≡◌, ℕ, zero, suc, ◌+◌, ◌<◌, ◌≤◌, Bool, true, false, ◌&&◌, not, cond, List, [], ◌∷◌, ◌++◌, length, map, take, drop, get_or, Option, Some, None, refl, sym, ap, ◌∙◌, subst, arith}
+use Rattle.std.proofs.Common.{◌≡◌, ℕ, zero, suc, ◌+◌, ◌<◌, ◌≤◌, Bool, true, false, ◌&&◌, not, cond, List, [], ◌∷◌, ◌++◌, length, map, take, drop, get_or, Option, Some, None, refl, sym, ap, ◌∙◌, subst, append_assoc, arith}
 use Rattle.std.specs.Prelude.{option_map, codes, is_some, if◌then◌else◌, String, IfSome}
 use Rattle.std.specs.String.{string_bytes}
+use Rattle.std.proofs.lemmas.List.{map-append, take_more}
 use Rattle.std.specs.Str.{bytes_eq}
 use Rattle.pw_top_words.specs.CommandLine.{Text, has_value, is_named, is_switched, switch, switch_from, unswitched, without_place}
 
@@ -98,6 +99,29 @@ pub dropped_words : {Z : Type 0} (words : List (String Z)) (at : ℕ) → map st
 dropped_words words zero = refl
 dropped_words [] (suc at) = refl
 dropped_words (w ∷ words) (suc at) = dropped_words words at
+
+pub copy_pushed : {Z : Type 0} (old new : List (String Z)) (copy : String Z) (word : Text) → new ≡ old ++ copy ∷ [] → string_bytes copy ≡ word → map string_bytes new ≡ map string_bytes old ++ word ∷ []
+copy_pushed old new copy word e same =
+    ap (λ (ws : List (String _)). map string_bytes ws) e ∙ map-append string_bytes old (copy ∷ []) ∙ ap (λ (w : Text). map string_bytes old ++ w ∷ []) same
+
+pub one_pushed : {Z : Type 0} (words : List (String Z)) (at : ℕ) (word : String Z) (front old new : List Text) → at < length words → word ≡ get_or words at word → old ≡ front ++ map string_bytes (take at words) → new ≡ old ++ string_bytes word ∷ []
+    → new ≡ front ++ map string_bytes (take (at + 1) words)
+one_pushed words at word front old new lt is before e =
+    e ∙ ap (λ (ws : List Text). ws ++ string_bytes word ∷ []) before
+    ∙ append_assoc front (map string_bytes (take at words)) (string_bytes word ∷ [])
+    ∙ ap (λ (ws : List Text). front ++ ws) (sym (map-append string_bytes (take at words) (word ∷ [])))
+    ∙ ap (λ (ws : List (String _)). front ++ map string_bytes ws) (sym (take_more words at word lt ∙ ap (λ (w : String _). take at words ++ w ∷ []) (sym is)))
+
+pub but_one : {Z : Type 0} (words first second before behind : List (String Z)) (at : ℕ) → before ≡ take at words → behind ≡ drop (at + 1) words → map string_bytes first ≡ map string_bytes before → map string_bytes second ≡ map string_bytes first ++ map string_bytes behind
+    → map string_bytes second ≡ without_place (Some at) (map string_bytes words)
+but_one words first second before behind at b d f s =
+    let all = map string_bytes words in
+    s ∙ ap (λ (ws : List Text). ws ++ map string_bytes behind) (f ∙ ap (λ (ws : List (String _)). map string_bytes ws) b ∙ taken_words words at)
+    ∙ ap (λ (ws : List Text). take at all ++ ws) (ap (λ (ws : List (String _)). map string_bytes ws) d ∙ dropped_words words (at + 1))
+    ∙ ap (λ (n : ℕ). take at all ++ drop n all) (next_place at)
+  where
+    next_place : (n : ℕ) → n + 1 ≡ suc n
+    next_place n = omega arith
 
 pub behind_name : (o : Option ℕ) (words : List Text) → drop 1 (without_place (option_map suc o) words) ≡ without_place o (drop 1 words)
 behind_name None words = refl

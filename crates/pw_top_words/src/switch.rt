@@ -1,7 +1,7 @@
 //! The switch of a command line, and its other words.
 
-ghost use Rattle.std.specs.Prelude.{◌≡◌, ◌++◌, ◌&&◌, ◌<◌, not, false, drop, length, map, option_map, string_bytes, suc, IfOk, IfSome, OnOk};
-ghost use Rattle.pw_top_words.specs.CommandLine.{has_value, is_named, is_switched, switch, switch_from, unswitched, without_place};
+ghost use Rattle.std.specs.Prelude.{◌≡◌, ◌++◌, ◌∷◌, [], ◌&&◌, ◌<◌, Some, not, false, drop, take, length, map, option_map, string_bytes, suc, IfOk, IfSome, OnOk};
+ghost use Rattle.pw_top_words.specs.CommandLine.{has_value, is_named, is_switched, switch_from, unswitched, without_place};
 
 use std::alloc::{AllocError, Global};
 
@@ -46,17 +46,70 @@ fn switch_at(words: &[String]) -> Option<usize>
     None
 }
 
-/// Puts words behind others.
-fn push_words(alloc: Global, line: &mut Vec<String>, words: &[String]) -> Result<(), AllocError>
+/// So many of the first words.
+fn words_before(words: &[String], count: usize) -> &[String]
+    ensures { result.now ≡ take count words.now }
+{
+    if count < words.len() {
+        &words[..count]
+    } else {
+        words
+    }
+}
+
+/// The words from a place on.
+fn words_from(words: &[String], at: usize) -> &[String]
+    ensures { result.now ≡ drop at words.now }
+{
+    if at < words.len() { &words[at..] } else { &[] }
+}
+
+/// Puts a word behind others.
+fn push_word(line: &mut Vec<String>, word: String) -> Result<(), AllocError>
+    ensures { OnOk result (line.new.items ≡ line.old.items ++ word ∷ []) }
+{
+    line.push(word)?;
+    Ok(())
+}
+
+/// Puts a word behind others, again.
+#[tactic(auto, using(crate::proofs::Switches::copy_pushed))]
+fn push_copy(alloc: Global, line: &mut Vec<String>, word: &str) -> Result<(), AllocError>
+    ensures { OnOk result (map string_bytes line.new.items ≡ map string_bytes line.old.items ++ word.now ∷ []) }
+{
+    push_word(line, String::from_str(alloc, word)?)
+}
+
+/// Puts words behind others, again.
+fn push_copies(alloc: Global, line: &mut Vec<String>, words: &[String]) -> Result<(), AllocError>
     ensures { OnOk result (map string_bytes line.new.items ≡ map string_bytes line.old.items ++ map string_bytes words.now) }
 {
     for word in words {
-        line.push(String::from_str(alloc, word.as_str())?)?;
+        push_copy(alloc, line, word.as_str())?;
     }
     Ok(())
 }
 
-/// The words but the one at a place.
+/// All words, again.
+fn all_words(alloc: Global, words: &[String]) -> Result<Vec<String>, AllocError>
+    ensures { IfOk result (λ line. map string_bytes line.items ≡ map string_bytes words.now) }
+{
+    let mut line = Vec::new(alloc);
+    push_copies(alloc, &mut line, words)?;
+    Ok(line)
+}
+
+/// The words but the one at a place, again.
+fn words_but(alloc: Global, words: &[String], at: usize) -> Result<Vec<String>, AllocError>
+    requires { at < length words.now }
+    ensures { IfOk result (λ line. map string_bytes line.items ≡ without_place (Some at) (map string_bytes words.now)) }
+{
+    let mut line = all_words(alloc, words_before(words, at))?;
+    push_copies(alloc, &mut line, words_from(words, at + 1))?;
+    Ok(line)
+}
+
+/// The words but the one at a place, if one is given.
 fn others(
     alloc: Global,
     words: &[String],
@@ -65,15 +118,10 @@ fn others(
     requires { IfSome place (λ n. n < length words.now) }
     ensures { IfOk result (λ line. map string_bytes line.items ≡ without_place place (map string_bytes words.now)) }
 {
-    let mut line = Vec::new(alloc);
     match place {
-        None => push_words(alloc, &mut line, words)?,
-        Some(at) => {
-            push_words(alloc, &mut line, &words[..at])?;
-            push_words(alloc, &mut line, &words[at + 1..])?;
-        }
+        None => all_words(alloc, words),
+        Some(at) => words_but(alloc, words, at),
     }
-    Ok(line)
 }
 
 /// The words of a command line but the switch, which stands behind the command's name: in front of `--`, and not as the value
