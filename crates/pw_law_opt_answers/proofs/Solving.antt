@@ -139,7 +139,7 @@ abbrev Table : Type 0
 Table = ℕ → ℕ → Flat
 
 -- anything may be at the start, and nothing is known to come elsewhere
-abbrev first : Table
+abbrev first : ℕ → ℕ → Flat
 first zero t = Many
 first (suc b) t = Bottom
 
@@ -227,7 +227,7 @@ module _ (transfer : List Flat → Op → List Flat) (r : Rises transfer) (f : F
   abbrev flow : (p : Table) → Gap p → ℕ → Flat
   flow p g t = known (out p g.from g.block) t
 
-  abbrev raised : (p : Table) → Gap p → Table
+  abbrev raised : (p : Table) → Gap p → ℕ → ℕ → Flat
   raised p g b t = if b == g.to then joined (p b t) (flow p g t) else p b t
 
   raised_above : (p : Table) (g : Gap p) (b t : ℕ) → IsBelow (p b t) (raised p g b t)

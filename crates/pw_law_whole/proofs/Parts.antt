@@ -35,7 +35,7 @@ use Rattle.pw_graph.specs.Program.{AreLinked}
 use Rattle.pw_law_shown.specs.Alike.{DeclaresMain, shown}
 use Rattle.pw_law_opt_links.specs.Less.{AllShowLess}
 use Rattle.pw_law_whole.proofs.Shown.{object_shown, objects_show, objects_less}
-use Rattle.pw_law_whole.proofs.Forms as forms
+use Rattle.pw_law_whole.proofs.Forms as formed
 use Rattle.pw_law_whole.proofs.Texts.{names_same, all_checked}
 use Rattle.pw_law_whole.proofs.Objects.{modules_named, same_globals, code_of_all}
 
@@ -80,7 +80,7 @@ pub record Laws : Type 0 where
   pub alike : (flows : List FlowModule) (ss : List Summary) → AllByRecursion IsValid flows → AreSummariesOf flows ss → Links (map shown flows) ↔ AreLinked ss
   pub less : (is js : List Interface) → AllShowLess is js → Links is → Links js
   pub lawful_forms : (o : Bool) (flows forms : List FlowModule) → AreForms o flows forms → AllByRecursion IsValid flows → AllByRecursion IsValid forms
-  pub forms : forms.Laws
+  pub forms : formed.Laws
 
 -- modules that keep the rules of linking are accepted in the words of C's meaning
 is_whole : Laws → (texts : Texts) (p : Program) (frame_of : List ℕ → ℕ) (stack : ℕ) → AllByRecursion IsValid (map flow_of p.modules) → AllByRecursion DeclaresMain (map flow_of p.modules) → KeepRules (map flow_of p.modules)
@@ -102,11 +102,11 @@ whole_with laws texts opts parts p declares (are, linked) of_texts plain few eno
     let single = laws.one db lawful_db in
     let checked : AreChecked p = λ m there. all_checked (finite.entries texts) p.modules of_texts m (has_by m p.modules there) in
     let whole : IsWhole p frame_of opts.stack = is_whole laws texts p frame_of opts.stack are.lawful declares are.rules of_texts plain room checked in
-    let program = forms.program_of_forms laws.forms opts.optimise p q ms are.of_flows whole.accepted.program in
+    let program = formed.program_of_forms laws.forms opts.optimise p q ms are.of_flows whole.accepted.program in
     let summarised : AllSummarise ms has.summaries = all_summarise ms has.summaries has.of_flows in
     let laid : IsLaidOut p (flows_in ms parts opts.stack) db (functions_under ms parts opts.stack) parts.objects = record {
       program = program;
-      rooms = forms.rooms_of_forms laws.forms opts.optimise p q ms are.of_flows (laws.rooms p frame_of opts.stack whole.parts whole.accepted);
+      rooms = formed.rooms_of_forms laws.forms opts.optimise p q ms are.of_flows (laws.rooms p frame_of opts.stack whole.parts whole.accepted);
       frames = refl;
       database = lawful_db;
       serve = laws.serve (flows_in ms parts opts.stack) db lawful_db;
@@ -125,15 +125,15 @@ whole_with laws texts opts parts p declares (are, linked) of_texts plain few eno
       summaries = has.summaries;
       summarise = has.of_flows;
       analysed = λ low. record {
-        implements = forms.runs_of_forms laws.forms opts.optimise p q ms are.of_flows (laws.implement low p frame_of opts.stack checked whole.parts whole.accepted);
+        implements = formed.runs_of_forms laws.forms opts.optimise p q ms are.of_flows (laws.implement low p frame_of opts.stack checked whole.parts whole.accepted);
         frames = laid.frames;
-        names = forms.names_of_forms laws.forms opts.optimise p q ms are.of_flows whole.names;
+        names = formed.names_of_forms laws.forms opts.optimise p q ms are.of_flows whole.names;
         enough = enough;
         linked = record { each = all_lawful ms has.summaries (laws.lawful_forms opts.optimise (map flow_of p.modules) ms are.of_flows are.lawful) has.of_flows; linked = has.linked };
         few = omega (arith, few);
         database = has.database;
         alike = laws.same (flows_in ms parts opts.stack) has.summaries has.database.graph program
-            (forms.shapes_of_forms laws.forms opts.optimise p q ms are.of_flows (laws.accepted_shapes p frame_of opts.stack whole.accepted)) summarised has.database.graph_of;
+            (formed.shapes_of_forms laws.forms opts.optimise p q ms are.of_flows (laws.accepted_shapes p frame_of opts.stack whole.accepted)) summarised has.database.graph_of;
         serve = laid.serve;
         made = laid.made;
         fits = linked.fits;

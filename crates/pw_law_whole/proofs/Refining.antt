@@ -6,6 +6,7 @@ use Rattle.pw_cmean.specs.Acts as source
 use Rattle.pw_run_languages.specs.Programs as flows
 use Rattle.pw_run_languages.specs.Programs.{globals_of}
 use Rattle.pw_flow.specs.declared.flow.FlowGlobal.{FlowGlobal}
+use Rattle.pw_value.specs.Objects.{Object}
 use Rattle.pw_run_languages.specs.FlowRun as flow
 use Rattle.pw_law_source.specs.Lowering.{GlobalsKept, SameGlobals, MomentKept}
 
@@ -43,7 +44,7 @@ module _ {M N : Type 0} (F G : M → N → Type 0) (weaker : (m : M) (n : N) →
 
 -- ---- moments of two programs with the same globals
 
-kept_globals : (p q : flows.Program) → globals_of q ≡ globals_of p → (objects kept : _) → SameGlobals p objects kept → SameGlobals q objects kept
+kept_globals : (p q : flows.Program) → globals_of q ≡ globals_of p → (objects kept : List Object) → SameGlobals p objects kept → SameGlobals q objects kept
 kept_globals p q same objects kept h = record { place = h.place; globals = subst (λ (gs : List FlowGlobal). GlobalsKept h.place gs 0 objects kept) (sym same) h.globals }
 
 pub kept_moments : (p q : flows.Program) → globals_of q ≡ globals_of p → (m : source.Moment) (n : flow.Moment) → MomentKept p m n → MomentKept q m n
