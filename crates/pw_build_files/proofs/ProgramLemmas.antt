@@ -67,9 +67,7 @@ few_by sources flows false t e = not_passed module_limit (length sources) t
 pub few_modules : (ms : List Module) (flows : List FlowModule) → first_phases (map source ms) ≡ Ok flows → length ms ≤ module_limit
 few_modules ms flows e = subst (λ (n : ℕ). n ≤ module_limit) (length-map ms source) (few_by (map source ms) flows (nat_lt module_limit (length (map source ms))) refl e)
 
--- ---- there are as many forms as modules
-abbrev pub FormsAreAsMany : Type 0
-FormsAreAsMany = (optimise : Bool) (flows forms : List FlowModule) → AreForms optimise flows forms → length forms ≡ length flows
+-- ---- as many objects as modules
 
 -- as many objects as modules
 
