@@ -2,7 +2,7 @@
 use Rattle.std.proofs.Common.{◌≡◌, ℕ, zero, suc, ◌+◌, ◌<◌, ◌≤◌, Bool, true, false, ◌&&◌, not, cond, List, [], ◌∷◌, ◌++◌, length, map, take, drop, get_or, Option, Some, None, refl, sym, ap, ◌∙◌, subst, append_assoc, arith}
 use Rattle.std.specs.Prelude.{option_map, codes, is_some, if◌then◌else◌, String, IfSome}
 use Rattle.std.specs.String.{string_bytes}
-use Rattle.std.proofs.lemmas.List.{map-append, take_more}
+use Rattle.std.proofs.lemmas.List.{length-map, map-append, take_more, take-map, drop_more, drop-map, get_or-map}
 use Rattle.std.specs.Str.{bytes_eq}
 use Rattle.pw_top_words.specs.CommandLine.{Text, has_value, is_named, is_switched, switch, switch_from, unswitched, without_place}
 
@@ -27,9 +27,10 @@ passed_next n (Some k) = ap (λ (m : ℕ). Some m) (next n k)
 -- ---- the words that are left
 
 pub next_word : {Z : Type 0} (words : List (String Z)) (at : ℕ) (word : String Z) → at < length words → word ≡ get_or words at word → drop at (map string_bytes words) ≡ string_bytes word ∷ drop (at + 1) (map string_bytes words)
-next_word [] at word lt is = absurd (omega (arith, lt))
-next_word (w ∷ words) zero word lt is = ap (λ (x : String _). string_bytes x ∷ map string_bytes words) (sym is)
-next_word (w ∷ words) (suc at) word lt is = next_word words at word (omega (arith, lt)) is
+next_word words at word lt is =
+    let size : length (map string_bytes words) ≡ length words = length-map words string_bytes in
+    drop_more (map string_bytes words) at (string_bytes word) (omega (arith, lt, size))
+    ∙ ap (λ (w : Text). w ∷ drop (at + 1) (map string_bytes words)) (get_or-map string_bytes words at word (string_bytes word) lt ∙ ap (λ (w : String _). string_bytes w) (sym is))
 
 -- ---- what was not found so far
 
@@ -90,16 +91,6 @@ starts_so words = passed_one (switch_from false (drop 1 words))
 
 -- ---- the other words
 
-pub taken_words : {Z : Type 0} (words : List (String Z)) (at : ℕ) → map string_bytes (take at words) ≡ take at (map string_bytes words)
-taken_words words zero = refl
-taken_words [] (suc at) = refl
-taken_words (w ∷ words) (suc at) = ap (λ (ws : List Text). string_bytes w ∷ ws) (taken_words words at)
-
-pub dropped_words : {Z : Type 0} (words : List (String Z)) (at : ℕ) → map string_bytes (drop at words) ≡ drop at (map string_bytes words)
-dropped_words words zero = refl
-dropped_words [] (suc at) = refl
-dropped_words (w ∷ words) (suc at) = dropped_words words at
-
 pub copy_pushed : {Z : Type 0} (old new : List (String Z)) (copy : String Z) (word : Text) → new ≡ old ++ copy ∷ [] → string_bytes copy ≡ word → map string_bytes new ≡ map string_bytes old ++ word ∷ []
 copy_pushed old new copy word e same =
     ap (λ (ws : List (String _)). map string_bytes ws) e ∙ map-append string_bytes old (copy ∷ []) ∙ ap (λ (w : Text). map string_bytes old ++ w ∷ []) same
@@ -116,8 +107,8 @@ pub but_one : {Z : Type 0} (words first second before behind : List (String Z)) 
     → map string_bytes second ≡ without_place (Some at) (map string_bytes words)
 but_one words first second before behind at b d f s =
     let all = map string_bytes words in
-    s ∙ ap (λ (ws : List Text). ws ++ map string_bytes behind) (f ∙ ap (λ (ws : List (String _)). map string_bytes ws) b ∙ taken_words words at)
-    ∙ ap (λ (ws : List Text). take at all ++ ws) (ap (λ (ws : List (String _)). map string_bytes ws) d ∙ dropped_words words (at + 1))
+    s ∙ ap (λ (ws : List Text). ws ++ map string_bytes behind) (f ∙ ap (λ (ws : List (String _)). map string_bytes ws) b ∙ sym (take-map string_bytes at words))
+    ∙ ap (λ (ws : List Text). take at all ++ ws) (ap (λ (ws : List (String _)). map string_bytes ws) d ∙ sym (drop-map string_bytes (at + 1) words))
     ∙ ap (λ (n : ℕ). take at all ++ drop n all) (next_place at)
   where
     next_place : (n : ℕ) → n + 1 ≡ suc n
