@@ -21,7 +21,7 @@ use Rattle.pw_store_modules.specs.Modules.{Source}
 use Rattle.pw_store_modules.specs.Views.{source}
 use Rattle.pw_flow.specs.declared.flow.FlowModule.{FlowModule}
 use Rattle.pw_build_objects.specs.declared.making.Built.{Built}
-use Rattle.pw_build_objects.specs.Programs.{AreObjectsFrom, Completes, DirectivesList, Parts, kept_behind}
+use Rattle.pw_build_objects.specs.Programs.{AreForms, AreObjectsFrom, Completes, DirectivesList, Parts, kept_behind}
 use Rattle.pw_build_objects.specs.declared.remade.Made.{Made}
 use Rattle.pw_build_objects.specs.Choosing.{marks_of, objects_of, parts_of}
 use Rattle.pw_build_objects.specs.Counting.{CountsUpTo}
@@ -69,6 +69,8 @@ few_modules ms flows e = subst (λ (n : ℕ). n ≤ module_limit) (length-map ms
 
 -- ---- as many objects as modules
 
+-- as many objects as modules
+
 ok_flows : (a b : List FlowModule) → ◌≡◌ {A = Result (List FlowModule) BuildFault} (Ok a) (Ok b) → a ≡ b
 ok_flows a b e = cc
 
@@ -93,12 +95,17 @@ objects_long db (f ∷ fs) kept [] bs h = absurd h
 objects_long db (f ∷ fs) kept (o ∷ os) [] h = absurd h
 objects_long db (f ∷ fs) kept (o ∷ os) (b ∷ bs) h = let l = objects_long db fs (kept_behind kept) os bs h.1 in (ap suc l.0, ap suc l.1)
 
+-- there are as many forms as modules
+abbrev pub FormsAreAsMany : Type 0
+FormsAreAsMany = (optimise : Bool) (flows forms : List FlowModule) → AreForms optimise flows forms → length forms ≡ length flows
+
 -- as many objects as modules
-pub as_many : (ms : List Module) (flows : List FlowModule) (kept : List (Option Object)) (opts : Opts) (built : Built) → first_phases (map source ms) ≡ Ok flows → Completes flows kept opts (Ok (parts_of built)) → AreAsMany ms built
-as_many ms flows kept opts built phases h =
-    let l = objects_long built.database.functions flows kept (objects_of built.made.items) (marks_of built.made.items) h.0.objects in
+pub as_many : FormsAreAsMany → (ms : List Module) (flows : List FlowModule) (kept : List (Option Object)) (opts : Opts) (built : Built) → first_phases (map source ms) ≡ Ok flows → Completes flows kept opts (Ok (parts_of built)) → AreAsMany ms built
+as_many count ms flows kept opts built phases h =
+    let l = objects_long built.database.functions h.0.forms kept (objects_of built.made.items) (marks_of built.made.items) h.0.objects in
+    let f = count opts.optimise flows h.0.forms h.0.of_flows in
     let k : length flows ≡ length ms = flows_long (map source ms) flows (within_flows (limit_passed (map source ms)) (flows_of (map source ms)) flows phases) ∙ length-map ms source in
-    sym (length-map built.made.items (λ (one : Made). one.object)) ∙ l.0 ∙ k
+    sym (length-map built.made.items (λ (one : Made). one.object)) ∙ l.0 ∙ f ∙ k
 
 one_more : (n : ℕ) → 1 + n ≡ suc n
 one_more n = omega arith

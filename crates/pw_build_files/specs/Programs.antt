@@ -67,10 +67,10 @@ CountsAtMost (Ok flows) before now = CountsUpTo (length flows) before now
 
 -- Where a fault is answered: as many objects as the build makes anew of these modules and these kept objects. A fault of
 -- the store and want of memory may come before all of them are made.
-abbrev pub IsCounted : List Source → List (Option Object) → ℕ → BuildFault → ℕ → ℕ → Type 0
-IsCounted sources kept colours build.StoreFault before now = Unit {0}
-IsCounted sources kept colours build.NoMemory before now = Unit {0}
-IsCounted sources kept colours fault before now = (made : ℕ) × BuildsAnew sources kept colours made × (now ≡ before + made)
+abbrev pub IsCounted : List Source → List (Option Object) → Opts → BuildFault → ℕ → ℕ → Type 0
+IsCounted sources kept opts build.StoreFault before now = Unit {0}
+IsCounted sources kept opts build.NoMemory before now = Unit {0}
+IsCounted sources kept opts fault before now = (made : ℕ) × BuildsAnew sources kept opts made × (now ≡ before + made)
 
 -- ---- files
 

@@ -103,13 +103,20 @@ anew_objects laws db (f ∷ fs) kept (o ∷ os) (b ∷ bs) all h = (
   anew_objects laws db fs (kept_behind kept) os bs (behind_genuine kept all) h.1,
 )
 
-anew_parts : Laws → (flows : List FlowModule) (kept : List (Option Object)) (colours : ℕ) (parts : Parts) → AllByRecursion IsGenuineIfKept kept → AreParts flows kept colours parts → AreParts flows [] colours (all_fresh parts)
-anew_parts laws flows kept colours parts all h = record { lawful = h.lawful; database = h.database; objects = anew_objects laws parts.database flows kept parts.objects parts.fresh all h.objects }
+anew_parts : Laws → (flows : List FlowModule) (kept : List (Option Object)) (opts : Opts) (parts : Parts) → AllByRecursion IsGenuineIfKept kept → AreParts flows kept opts parts → AreParts flows [] opts (all_fresh parts)
+anew_parts laws flows kept opts parts all h = record {
+  lawful = h.lawful;
+  rules = h.rules;
+  forms = h.forms;
+  of_flows = h.of_flows;
+  database = h.database;
+  objects = anew_objects laws parts.database h.forms kept parts.objects parts.fresh all h.objects;
+}
 
 pub change_nothing : Laws → (flows : List FlowModule) (kept : List (Option Object)) (opts : Opts) (a : Result Parts LinkFault) → AllByRecursion IsGenuineIfKept kept → Completes flows kept opts a → Completes flows [] opts (anew a)
-change_nothing laws flows kept opts (Ok parts) all h = (anew_parts laws flows kept opts.colours parts all h.0, h.1)
+change_nothing laws flows kept opts (Ok parts) all h = (anew_parts laws flows kept opts parts all h.0, h.1)
 change_nothing laws flows kept opts (Err fault) all h =
     ⊎_elim {C = Completes flows [] opts (Err fault)}
     (λ l. inl l)
-    (λ r. inr (all_fresh r.0, anew_parts laws flows kept opts.colours r.0 all r.1, r.2))
+    (λ r. inr (all_fresh r.0, anew_parts laws flows kept opts r.0 all r.1, r.2))
     h

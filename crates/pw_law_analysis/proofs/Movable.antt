@@ -8,8 +8,7 @@ use Rattle.pw_value.specs.ProgramNames.{library_functions}
 use Rattle.pw_flow.specs.declared.flow.FlowFn.{FlowFn}
 use Rattle.pw_flow.specs.declared.flow.FlowModule.{FlowModule}
 use Rattle.pw_link_rules.specs.Linking.{library_declarations}
-use Rattle.pw_run_languages.specs.Programs.{functions_of}
-use Rattle.pw_cmean.specs.Worlds.{Program}
+use Rattle.pw_run_languages.specs.Programs.{Program as FlowProgram, functions_of}
 use Rattle.pw_files.proofs.Standing.{Has, has_by, contains_by, has_right, has_map, has_map_back, has_flat, has_flat_back}
 use Rattle.pw_summary.specs.declared.summary.Summary.{Summary}
 use Rattle.pw_summarise.specs.Summarises.{function_entry, function_entries}
@@ -19,8 +18,8 @@ use Rattle.pw_graph.specs.Program as summaries
 use Rattle.pw_clusters.specs.Clusters.{IsDefined}
 use Rattle.pw_clusters.specs.Naming.{TellsMovable}
 use Rattle.pw_db_sound.specs.CallGraphs.{Node, IsMovable}
-use Rattle.pw_run_languages.specs.LawfulPrograms.{has_name, taken_names, node_of, graph_of}
-use Rattle.pw_law_source.specs.Lowering.{flow_program, IsAccepted}
+use Rattle.pw_run_languages.specs.LawfulPrograms.{IsProgram, has_name, taken_names, node_of, graph_of}
+use Rattle.pw_law_analysis.specs.SummaryLaws.{HaveShapes}
 use Rattle.pw_law_analysis.specs.SummaryGraphs.{AllSummarise, is_among, is_addressed_in, name_at, node_at, nodes_from, named_graph}
 use Rattle.pw_law_analysis.proofs.Lists.{clash, any_has, has_any, named_has, has_named}
 use Rattle.pw_law_analysis.proofs.Addresses.{taken_in, summary_of, module_of, taken_addressed, escaped_addressed, function_taken}
@@ -132,27 +131,24 @@ module _ (ss : List Summary) (g : CallGraph) (is : IsGraphOf ss g) where
 
 -- ---- both ways
 
-module _ (p : Program) (frame_of : List ℕ → ℕ) (stack : ℕ) (accepted : IsAccepted p frame_of stack) (ss : List Summary) (all : AllSummarise (flow_program p frame_of stack).modules ss) where
-  pub is_taken : (name : List ℕ) → IsTaken ss name → has_name (taken_names (flow_program p frame_of stack)) name ≡ true
+module _ (q : FlowProgram) (program : IsProgram q) (shapes : HaveShapes q) (ss : List Summary) (all : AllSummarise q.modules ss) where
+  pub is_taken : (name : List ℕ) → IsTaken ss name → has_name (taken_names q) name ≡ true
   is_taken name t =
-      let q = flow_program p frame_of stack in
       let m = taken_addressed q.modules ss all name t in
       has_named (taken_names q) name (taken_in q m.0 name m.1 m.2)
 
-  is_escaped : (name : List ℕ) → IsEscaped ss name → has_name (taken_names (flow_program p frame_of stack)) name ≡ true
+  is_escaped : (name : List ℕ) → IsEscaped ss name → has_name (taken_names q) name ≡ true
   is_escaped name t =
-      let q = flow_program p frame_of stack in
       let m = escaped_addressed q.modules ss all name t in
       has_named (taken_names q) name (taken_in q m.0 name m.1 m.2)
 
-  is_address : (name : List ℕ) → IsTaken ss name ⊎ IsEscaped ss name → has_name (taken_names (flow_program p frame_of stack)) name ≡ true
+  is_address : (name : List ℕ) → IsTaken ss name ⊎ IsEscaped ss name → has_name (taken_names q) name ≡ true
   is_address name (inl t) = is_taken name t
   is_address name (inr t) = is_escaped name t
 
-  pub movable_to : (g : CallGraph) → IsGraphOf ss g → (f : List ℕ) → IsMovable (named_graph ss g) f → IsMovable (graph_of (flow_program p frame_of stack)) f
+  pub movable_to : (g : CallGraph) → IsGraphOf ss g → (f : List ℕ) → IsMovable (named_graph ss g) f → IsMovable (graph_of q) f
   unfolding named_graph graph_of
   movable_to g is f m =
-      let q = flow_program p frame_of stack in
       let n = node_back ss g is 0 (length g.functions) m.node (has_by m.node (nodes_from ss g 0 (length g.functions)) m.there) in
       let name : name_at g n.0 ≡ f = ap (λ (x : Node). x.name) n.2 ∙ m.name in
       let defined : is_defined ss f ≡ true = subst (λ (k : List ℕ). is_defined ss k ≡ true) name (ap (λ (x : Node). x.defined) n.2 ∙ m.defined) in
@@ -172,13 +168,12 @@ module _ (p : Program) (frame_of : List ℕ → ℕ) (stack : ℕ) (accepted : I
         defined = refl;
         taken = not_so (has_name (taken_names q) e.0.name) (λ t.
             let addressed : has_name (taken_names q) f ≡ true = subst (λ (n : List ℕ). has_name (taken_names q) n ≡ true) same t in
-            clash (is_addressed ss f) (taken_seen ss f (function_taken p frame_of stack accepted ss all f listed (named_has (taken_names q) f addressed))) untaken);
+            clash (is_addressed ss f) (taken_seen ss f (function_taken q shapes ss all f listed (named_has (taken_names q) f addressed))) untaken);
       }
 
-  pub movable_from : (g : CallGraph) → IsGraphOf ss g → (f : List ℕ) → IsMovable (graph_of (flow_program p frame_of stack)) f → IsMovable (named_graph ss g) f
+  pub movable_from : (g : CallGraph) → IsGraphOf ss g → (f : List ℕ) → IsMovable (graph_of q) f → IsMovable (named_graph ss g) f
   unfolding named_graph graph_of
   movable_from g is f m =
-      let q = flow_program p frame_of stack in
       let x = has_map_back (node_of q) m.node (functions_of q) (has_by m.node (map (node_of q) (functions_of q)) m.there) in
       let name : x.0.name ≡ f = ap (λ (n : Node). n.name) x.2 ∙ m.name in
       let untaken : has_name (taken_names q) f ≡ false = subst (λ (k : List ℕ). has_name (taken_names q) k ≡ false) name (ap (λ (n : Node). n.taken) x.2 ∙ m.taken) in
@@ -187,7 +182,7 @@ module _ (p : Program) (frame_of : List ℕ → ℕ) (stack : ℕ) (accepted : I
       let own = has_by (function_entry x.0) s.0.functions ((s.2.functions.of (function_entry x.0)).1 (contains_by (function_entry x.0) (function_entries home.0) (has_map function_entry x.0 home.0.functions home.2))) in
       let entered : Has f (named s.0.functions) = subst (λ (n : List ℕ). Has n (named s.0.functions)) name (has_map (λ (e : List ℕ × List ℕ). e.0) (function_entry x.0) s.0.functions own) in
       let listed = subst (λ (n : List ℕ). Has n (named (summaries.functions_of ss))) name
-      (has_map (λ (e : List ℕ × List ℕ). e.0) (function_entry x.0) (summaries.functions_of ss) (function_listed q accepted.program ss all x.0 x.1)) in
+      (has_map (λ (e : List ℕ × List ℕ). e.0) (function_entry x.0) (summaries.functions_of ss) (function_listed q program ss all x.0 x.1)) in
       let i = place_of ss g is f listed in
       let at : name_at g i.0 ≡ f = name_of ss g is i.0 f i.1 in
       record {

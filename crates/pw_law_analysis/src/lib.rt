@@ -10,4 +10,4 @@ pub use analyser::{
     databases_serve, layers_give_all, named_graphs_say_the_same, roots_keep_registers,
 };
 pub use owed::{all_laws_compose, analyses_compose};
-pub use summaries::summaries_say_the_same;
+pub use summaries::{accepted_programs_have_shapes, summaries_say_the_same};

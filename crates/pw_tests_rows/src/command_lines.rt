@@ -12,7 +12,7 @@ fn word_of(command: &Command) -> &'static str {
         Command::Build(_) => "build",
         Command::Session(_) => "session",
         Command::Preprocess(_) => "cpp",
-        Command::PhaseOne(_) => "phase1",
+        Command::PhaseOne { .. } => "phase1",
         Command::Analyse { .. } => "analyse",
         Command::PhaseTwo(_) => "phase2",
         Command::Link { .. } => "link",
@@ -27,9 +27,9 @@ fn word_of(command: &Command) -> &'static str {
 /// The module of a command, or nothing.
 fn module_of(command: &Command) -> &[u8] {
     match command {
-        Command::Preprocess(name) | Command::PhaseOne(name) | Command::PhaseTwo(name) => {
-            name.as_bytes()
-        }
+        Command::Preprocess(name)
+        | Command::PhaseOne { name, .. }
+        | Command::PhaseTwo(name) => name.as_bytes(),
         _ => &[],
     }
 }
@@ -63,6 +63,18 @@ fn numbers_of(command: &Command) -> [Option<u64>; 4] {
     }
 }
 
+/// The switch for optimised flow graphs, where a command has it.
+fn switch_of(command: &Command) -> &'static str {
+    let optimise = match command {
+        Command::Go(opts) | Command::Session(opts) => opts.build.optimise,
+        Command::Bench { opts, .. } | Command::Where { opts, .. } => opts.build.optimise,
+        Command::Build(opts) => opts.optimise,
+        Command::PhaseOne { optimise, .. } => *optimise,
+        _ => false,
+    };
+    if optimise { "-O" } else { "" }
+}
+
 /// Adds a blank and a word, where there is one.
 fn push_word(text: &mut Text, word: &[u8]) {
     if !word.is_empty() {
@@ -86,6 +98,7 @@ fn push_command(text: &mut Text, command: &Command) {
     push_word(text, word_of(command).as_bytes());
     push_word(text, module_of(command));
     push_numbers(text, &numbers_of(command));
+    push_word(text, switch_of(command).as_bytes());
 }
 
 /// Adds the command that a line says.

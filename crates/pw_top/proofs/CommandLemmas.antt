@@ -1,5 +1,5 @@
 -- What each command did, by its own clauses.
-use Rattle.std.proofs.Common.{◌≡◌, ℕ, ◌⊎◌, ⊎_elim, List, [], Option, Some, None, Result, Ok, Err, refl, sym, ap, ◌∙◌, subst}
+use Rattle.std.proofs.Common.{◌≡◌, ℕ, Bool, ◌⊎◌, ⊎_elim, List, [], Option, Some, None, Result, Ok, Err, refl, sym, ap, ◌∙◌, subst}
 use Rattle.std.specs.Prelude.{IfSome}
 use Rattle.pw_io.specs.Files.{Files, Told, Keeps}
 use Rattle.pw_object.specs.declared.object.Object.{Object}
@@ -50,7 +50,7 @@ Comes (Some (BuildAll opts)) files input = BuildEffect files opts input
 Comes (Some (Session opts)) files input = λ effect. ⊥
 Comes (Some (Bench number opts)) files input = BenchEffect number opts input
 Comes (Some (Preprocess name)) files input = CppEffect files name input
-Comes (Some (PhaseOne name)) files input = PhaseOneEffect files name input
+Comes (Some (PhaseOne name optimise)) files input = PhaseOneEffect files name optimise input
 Comes (Some (Analyse colours)) files input = AnalyseEffect files colours input
 Comes (Some (PhaseTwo name)) files input = PhaseTwoEffect files name input
 Comes (Some (Link stack)) files input = LinkEffect files stack input
@@ -90,13 +90,13 @@ cpp_over_quiet headers name (Ok text) input e h = output_quiet name h.0 input e 
 cpp_quiet : (files : Files) (name input : List ℕ) (e : Effect) → CppEffect files name input e → Quiet input e
 cpp_quiet files name input e h = cpp_over_quiet _ name (needed_source files name) input e h
 
-phase_quiet : (name : List ℕ) (phase : Phase) (input : List ℕ) (e : Effect) → EffectOfPhase name phase input e → Quiet input e
-phase_quiet name (Err refusal) input e h = quiet_answer (Refused name refusal) input e h
-phase_quiet name (Ok flow) input e h = subst (Quiet input) (sym h.3) (record { output = refl; rest = refl })
+phase_quiet : (name : List ℕ) (o : Bool) (phase : Phase) (input : List ℕ) (e : Effect) → EffectOfPhase name o phase input e → Quiet input e
+phase_quiet name o (Err refusal) input e h = quiet_answer (Refused name refusal) input e h
+phase_quiet name o (Ok flow) input e h = subst (Quiet input) (sym h.3) (record { output = refl; rest = refl })
 
-phase_one_quiet : (name : List ℕ) (text : Result (List ℕ) Answer) (input : List ℕ) (e : Effect) → PhaseOneOver name text input e → Quiet input e
-phase_one_quiet name (Err answer) input e h = quiet_answer answer input e h
-phase_one_quiet name (Ok text) input e h = phase_quiet name (compiled name text) input e h
+phase_one_quiet : (name : List ℕ) (o : Bool) (text : Result (List ℕ) Answer) (input : List ℕ) (e : Effect) → PhaseOneOver name o text input e → Quiet input e
+phase_one_quiet name o (Err answer) input e h = quiet_answer answer input e h
+phase_one_quiet name o (Ok text) input e h = phase_quiet name o (compiled name text) input e h
 
 phase_two_quiet : (name : List ℕ) (flow : Result FlowModule Answer) (db : Result (List (List ℕ × Directives)) Answer) (input : List ℕ) (e : Effect) → PhaseTwoOver name flow db input e → Quiet input e
 phase_two_quiet name (Err answer) db input e h = quiet_answer answer input e h
@@ -109,10 +109,10 @@ store_does comes None new rest taken answer quiet h = tt
 store_does comes (Some t) new None taken answer quiet h = tt
 store_does comes (Some t) new (Some input) taken answer quiet h = quiet_does (comes t.files input) answer t new input taken (quiet t.files input) (h input)
 
-pub phase_one_does : (told new : Option Told) (rest taken : Option (List ℕ)) (name : List ℕ) (answer : Answer) → IfSome told (λ t. (input : List ℕ) → Obeys (PhaseOneEffect t.files name input) answer t new)
-    → IfSome told (λ t. IfSome rest (λ input. Does (PhaseOneEffect t.files name input) answer t new input rest taken taken))
-phase_one_does told new rest taken name answer h =
-    store_does (λ files input. PhaseOneEffect files name input) told new rest taken answer (λ files input e d. phase_one_quiet name (needed_bytes files (text_name name)) input e d) h
+pub phase_one_does : (told new : Option Told) (rest taken : Option (List ℕ)) (name : List ℕ) (o : Bool) (answer : Answer) → IfSome told (λ t. (input : List ℕ) → Obeys (PhaseOneEffect t.files name o input) answer t new)
+    → IfSome told (λ t. IfSome rest (λ input. Does (PhaseOneEffect t.files name o input) answer t new input rest taken taken))
+phase_one_does told new rest taken name o answer h =
+    store_does (λ files input. PhaseOneEffect files name o input) told new rest taken answer (λ files input e d. phase_one_quiet name o (needed_bytes files (text_name name)) input e d) h
 
 pub cpp_does : (told new : Option Told) (rest taken : Option (List ℕ)) (name : List ℕ) (answer : Answer) → IfSome told (λ t. (input : List ℕ) → Obeys (CppEffect t.files name input) answer t new)
     → IfSome told (λ t. IfSome rest (λ input. Does (CppEffect t.files name input) answer t new input rest taken taken))
@@ -290,7 +290,7 @@ comes_ends ends (Some (BuildAll opts)) files input e h = left_all input e (comes
 comes_ends ends (Some (Session opts)) files input e h = absurd h
 comes_ends ends (Some (Bench number opts)) files input e h = left_all input e (bench_prints number opts input e h).rest
 comes_ends ends (Some (Preprocess name)) files input e h = left_all input e (cpp_quiet files name input e h).rest
-comes_ends ends (Some (PhaseOne name)) files input e h = left_all input e (phase_one_quiet name (needed_bytes files (text_name name)) input e h).rest
+comes_ends ends (Some (PhaseOne name optimise)) files input e h = left_all input e (phase_one_quiet name optimise (needed_bytes files (text_name name)) input e h).rest
 comes_ends ends (Some (Analyse colours)) files input e h = left_all input e (analyse_quiet (summaries_of files) colours input e h).rest
 comes_ends ends (Some (PhaseTwo name)) files input e h = left_all input e (phase_two_quiet name (needed flow_at files (flow_name name)) (needed database_at files database_name) input e h).rest
 comes_ends ends (Some (Link stack)) files input e h = left_all input e (link_quiet (objects_of files) stack input e h).rest

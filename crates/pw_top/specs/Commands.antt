@@ -28,7 +28,7 @@ use Rattle.pw_top_words.specs.declared.commands.Command.TheVariants.{Go, Build, 
 -- the command is a phase of separate compiling, the analysis or the link
 abbrev pub is_phase : Command → Bool
 is_phase (Preprocess name) = true
-is_phase (PhaseOne name) = true
+is_phase (PhaseOne name optimise) = true
 is_phase (Analyse colours) = true
 is_phase (PhaseTwo name) = true
 is_phase (Link stack) = true
@@ -57,7 +57,7 @@ OnlyReads (Some (Build opts)) = ⊥
 OnlyReads (Some (Where k opts)) = ⊥
 OnlyReads (Some (Session opts)) = ⊥
 OnlyReads (Some (Preprocess name)) = ⊥
-OnlyReads (Some (PhaseOne name)) = ⊥
+OnlyReads (Some (PhaseOne name optimise)) = ⊥
 OnlyReads (Some (Analyse colours)) = ⊥
 OnlyReads (Some (PhaseTwo name)) = ⊥
 OnlyReads (Some (Link stack)) = ⊥
@@ -66,7 +66,7 @@ OnlyReads _ = Unit {0}
 -- the names of the files that a command puts, where they are known from its words
 abbrev pub files_put : Option Command → List (List ℕ)
 files_put (Some (Preprocess name)) = cpp_puts name
-files_put (Some (PhaseOne name)) = phase_one_puts name
+files_put (Some (PhaseOne name optimise)) = phase_one_puts name
 files_put (Some (Analyse colours)) = database_name ∷ []
 files_put (Some (PhaseTwo name)) = phase_two_puts name
 files_put (Some (Link stack)) = image_name ∷ []
@@ -132,5 +132,5 @@ line_of (Some (Go opts)) files = phases.refused_line (modules_of files)
 line_of (Some (Where k opts)) files = phases.refused_line (modules_of files)
 line_of (Some (Build opts)) files = phases.refused_line (modules_of files)
 line_of (Some (Bench number opts)) files = phases.refused_line (modules_of (bench_files number))
-line_of (Some (PhaseOne name)) files = phase_line files name
+line_of (Some (PhaseOne name optimise)) files = phase_line files name
 line_of _ files = None

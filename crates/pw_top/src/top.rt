@@ -43,7 +43,7 @@ fn obey_phase<S: Store>(alloc: Global, command: &Command, store: &mut S) -> Repl
             answer: preprocess_module(alloc, store, name),
             line: None,
         },
-        Command::PhaseOne(name) => compile_text(alloc, store, name),
+        Command::PhaseOne { name, optimise } => compile_text(alloc, store, name, *optimise),
         Command::Analyse { colours } => Reply {
             answer: analyse_modules(alloc, store, *colours),
             line: None,
@@ -129,7 +129,7 @@ fn obey<S: Store, I: Source, O: Sink>(
     ensures obeys { CarriesOut (Some command.now) result.answer result.line (outside_of (S.told store.old) (I.rest input.old) (O.taken out.old) (S.faults store.old) (I.faults input.old) (O.faults out.old)) (outside_of (S.told store.new) (I.rest input.new) (O.taken out.new) (S.faults store.new) (I.faults input.new) (O.faults out.new)) }
 {
     match command {
-        Command::PhaseOne(_)
+        Command::PhaseOne { .. }
         | Command::Preprocess(_)
         | Command::Analyse { .. }
         | Command::PhaseTwo(_)

@@ -18,8 +18,8 @@ pub enum Command {
     Session(RunOpts),
     /// The text of a C module, preprocessed.
     Preprocess(Name),
-    /// The first phase of a module.
-    PhaseOne(Name),
+    /// The first phase of a module, whose flow graph may be optimised.
+    PhaseOne { name: Name, optimise: bool },
     /// The analysis of all modules.
     Analyse { colours: u8 },
     /// The second phase of a module.
