@@ -5,4 +5,4 @@ mod held;
 mod points;
 
 pub use held::is_held;
-pub use points::{find_calls, find_makers};
+pub use points::{find_last_calls, find_makers};

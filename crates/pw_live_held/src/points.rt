@@ -1,8 +1,9 @@
 //! What stands before the points of a function.
 
-ghost use Rattle.std.specs.Prelude.{◌≡◌, ◌++◌, map, IfOk, OnOk};
+ghost use Rattle.std.specs.Prelude.{◌≡◌, ◌+◌, ◌++◌, ℕ, List, Bool, Some, map, slice_get, IfOk, OnOk};
 ghost use Rattle.pw_live.specs.Points.{points_in, points};
 ghost use Rattle.pw_live_held.specs.Makers.{maker, calls};
+ghost use Rattle.pw_live_held.specs.Calls.{IsLastCall, AreLastCalls, AreCallsOf};
 
 use pw_live_fronts::{Outline, Stretch};
 use std::alloc::{AllocError as NoMemory, Global};
@@ -41,7 +42,7 @@ fn add_calls(all: &mut Vec<bool>, block: &Stretch) -> Result<(), NoMemory>
 }
 
 /// Of each point whether the operation directly before it calls.
-pub fn find_calls(alloc: Global, f: &Outline) -> Result<Vec<bool>, NoMemory>
+fn find_calls(alloc: Global, f: &Outline) -> Result<Vec<bool>, NoMemory>
     ensures { IfOk result (λ v. v.items ≡ map calls (points f.now)) }
 {
     let mut all = Vec::new(alloc);
@@ -49,4 +50,33 @@ pub fn find_calls(alloc: Global, f: &Outline) -> Result<Vec<bool>, NoMemory>
         add_calls(&mut all, block)?;
     }
     Ok(all)
+}
+
+/// The last point up to one that stands behind a call, where the last one before is known.
+fn last_call(call: bool, p: usize, before: Option<usize>) -> Option<usize>
+    ensures { (calls : List Bool) → slice_get calls p ≡ Some call → IsLastCall calls 0 p before → IsLastCall calls 0 (p + 1) result }
+{
+    if call { Some(p) } else { before }
+}
+
+/// Of each point the last one up to it that stands behind a call, if one does.
+fn last_calls(alloc: Global, calls: &[bool]) -> Result<Vec<Option<usize>>, NoMemory>
+    ensures { IfOk result (λ v. AreLastCalls calls.now v.items) }
+{
+    let mut lasts = Vec::new(alloc);
+    let mut last = None;
+    for p in 0..calls.len() {
+        let here = last_call(calls[p], p, last);
+        lasts.push(here)?;
+        last = here;
+    }
+    Ok(lasts)
+}
+
+/// Of each point of a function the last one up to it that stands behind a call, if one does.
+pub fn find_last_calls(alloc: Global, f: &Outline) -> Result<Vec<Option<usize>>, NoMemory>
+    ensures { IfOk result (λ v. AreCallsOf f.now v.items) }
+{
+    let calls = find_calls(alloc, f)?;
+    last_calls(alloc, &calls)
 }

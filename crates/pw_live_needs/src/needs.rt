@@ -4,14 +4,15 @@ ghost use Rattle.std.specs.Prelude.{◌≡◌, ◌<◌, ◌+◌, ◌^◌, map, I
 ghost use Rattle.pw_live_fronts.specs.Blocks.{IsOutline};
 ghost use Rattle.pw_live.specs.Points.{points};
 ghost use Rattle.pw_live_spans.specs.AreSpans.{AreSpans};
-ghost use Rattle.pw_live_held.specs.Makers.{maker, calls};
+ghost use Rattle.pw_live_held.specs.Makers.{maker};
+ghost use Rattle.pw_live_held.specs.Calls.{AreCallsOf};
 ghost use Rattle.pw_live_needs.specs.Needs.{need, short_at};
 ghost use Rattle.pw_live_needs.specs.Counts.{IsCounted};
 
 use crate::counting::{Counting, greatest};
 use pw_db::{LAST_REGISTER, LAST_TEMPORARY};
 use pw_live_fronts::{Outline, find_fronts};
-use pw_live_held::{find_calls, find_makers, is_held};
+use pw_live_held::{find_last_calls, find_makers, is_held};
 use pw_live_spans::laws::points_stand_by_number;
 use pw_live_spans::{Spans, find_spans};
 use pw_summary::NEED_LIMIT;
@@ -22,7 +23,7 @@ use std::alloc::{AllocError as NoMemory, Global};
 struct Known {
     spans: Spans,
     makers: Vec<Option<u32>>,
-    calls: Vec<bool>,
+    calls: Vec<Option<usize>>,
 }
 
 /// What is known of them.
@@ -30,10 +31,10 @@ fn find_known(alloc: Global, f: &Outline) -> Result<Known, NoMemory>
     requires { IsOutline f.now }
     ensures spans { IfOk result (λ v. AreSpans f.now v.spans) }
     ensures makers { IfOk result (λ v. v.makers.items ≡ map maker (points f.now)) }
-    ensures calls { IfOk result (λ v. v.calls.items ≡ map calls (points f.now)) }
+    ensures calls { IfOk result (λ v. AreCallsOf f.now v.calls.items) }
 {
     let makers = find_makers(alloc, f)?;
-    let calls = find_calls(alloc, f)?;
+    let calls = find_last_calls(alloc, f)?;
     let fronts = find_fronts(alloc, f)?;
     let spans = find_spans(alloc, &fronts, f)?;
     Ok(Known {
@@ -47,7 +48,7 @@ fn find_known(alloc: Global, f: &Outline) -> Result<Known, NoMemory>
 fn count_temp(counting: &mut Counting, known: &Known, f: &Outline, t: u32)
     requires spans { AreSpans f.now known.now.spans }
     requires makers { known.now.makers.items ≡ map maker (points f.now) }
-    requires calls { known.now.calls.items ≡ map calls (points f.now) }
+    requires calls { AreCallsOf f.now known.now.calls.items }
     requires temp { t < f.now.temps }
     requires room { t + 1 < 2 ^ 32 }
     requires before { IsCounted f.now t counting.old }

@@ -4,7 +4,7 @@ use Rattle.std.specs.List.{find}
 use Rattle.pw_live.specs.Liveness.{has}
 use Rattle.pw_alloc_temps.specs.Registers.{of_temporaries, allowed, is_taken, with_register}
 use Rattle.pw_alloc_taken.specs.Knowing.{AreGiven}
-use Rattle.pw_alloc_taken.specs.Masks.{in_mask}
+use Rattle.pw_alloc_masks.specs.Masks.{in_mask}
 use Rattle.pw_alloc_registers.proofs.Choosing.{in_joined, find_left}
 use Rattle.pw_alloc_registers.proofs.colouring.colour.Goals as goal
 

@@ -10,10 +10,12 @@ definitions-requires c =
     (subst (λ (n : ℕ). AreBelow n c.in_ok-makers.makers.items) (sym c.temps.ensures) (makers_below c.args.f.now c.in_ok-makers.makers.items c.requires c.in_ok-makers.ensures))
 
 pub returns : goal.returns
-returns c = record {
-  spans = c.in_ok-spans.ensures;
-  makers = c.in_ok-makers.ensures;
-  calls = c.in_ok-calls.ensures;
-  count = c.in_ok-definitions.ensures.count ∙ c.temps.ensures;
-  definitions = subst (λ (ms : List (Option ℕ)). (t p : ℕ) (row : List ℕ) → slice_get c.in_ok-definitions.definitions.items t ≡ Some row → Contains row p ↔ (slice_get ms p ≡ Some (Some t))) c.deref.ensures.value c.in_ok-definitions.ensures.each;
-}
+returns c =
+    let made = c.deref.ensures.value ∙ c.in_ok-makers.ensures in
+    record {
+      spans = c.in_ok-spans.ensures;
+      makers = c.in_ok-makers.ensures;
+      calls = c.in_ok-calls.ensures;
+      count = c.in_ok-definitions.ensures.count ∙ c.temps.ensures;
+      definitions = subst (λ (ms : List (Option ℕ)). (t p : ℕ) (row : List ℕ) → slice_get c.in_ok-definitions.definitions.items t ≡ Some row → Contains row p ↔ (slice_get ms p ≡ Some (Some t))) made c.in_ok-definitions.ensures.each;
+    }

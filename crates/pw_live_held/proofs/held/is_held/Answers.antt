@@ -13,8 +13,9 @@ is_held_over-requires c =
     let there = c.points_stand_by_number.ensures.there f in
     let long = many_points f c.args.makers.now c.requires.makers in
     record {
+      lasts = c.requires.calls;
+      long = same_points f c.args.makers.now c.args.lasts.now c.requires.makers c.requires.calls;
       points = λ p covers. let lt = spanned_points f c.args.spans.now c.args.t c.of.result.now p c.requires.spans there c.of.ensures covers in omega (arith, lt, long);
-      calls = same_points f c.args.makers.now c.args.calls.now c.requires.makers c.requires.calls;
     }
 
 pub returns : goal.returns
@@ -25,5 +26,5 @@ returns c =
     let there = c.points_stand_by_number.ensures.there f in
     let is = c.is_held_over.ensures in
     both_ways c.is_held_over.result (is_held f t)
-    (λ e. held_there f c.args.spans.now t c.of.result.now c.args.makers.now c.args.calls.now c.requires.spans lives there c.of.ensures c.requires.makers c.requires.calls (is.0 e))
-    (λ e. is.1 (there_held f c.args.spans.now t c.of.result.now c.args.makers.now c.args.calls.now c.requires.spans lives there c.of.ensures c.requires.makers c.requires.calls e))
+    (λ e. held_there f c.args.spans.now t c.of.result.now c.args.makers.now c.requires.spans lives there c.of.ensures c.requires.makers (is.0 e))
+    (λ e. is.1 (there_held f c.args.spans.now t c.of.result.now c.args.makers.now c.requires.spans lives there c.of.ensures c.requires.makers e))
