@@ -1,13 +1,13 @@
 //! The need of a function.
 
-ghost use Rattle.std.specs.Prelude.{◌≡◌, ◌<◌, ◌+◌, ◌^◌, map, IfOk};
+ghost use Rattle.std.specs.Prelude.{◌≡◌, ◌<◌, ◌+◌, ◌^◌, min, map, IfOk};
 ghost use Rattle.pw_live_fronts.specs.Blocks.{IsOutline};
 ghost use Rattle.pw_live.specs.Points.{points};
 ghost use Rattle.pw_live_spans.specs.AreSpans.{AreSpans};
 ghost use Rattle.pw_live_held.specs.Makers.{maker};
 ghost use Rattle.pw_live_held.specs.Calls.{AreCallsOf};
-ghost use Rattle.pw_live_needs.specs.Needs.{need, short_at};
-ghost use Rattle.pw_live_needs.specs.Counts.{IsCounted};
+ghost use Rattle.pw_live_needs.specs.Needs.{need, enough, most_short};
+ghost use Rattle.pw_live_needs.specs.Counts.{IsCounted, IsReached};
 
 use crate::counting::{Counting, greatest};
 use pw_db::{LAST_REGISTER, LAST_TEMPORARY};
@@ -44,37 +44,44 @@ fn find_known(alloc: Global, f: &Outline) -> Result<Known, NoMemory>
     })
 }
 
-/// Counts a temporary at the points where it is live, if it is held over no call.
-fn count_temp(counting: &mut Counting, known: &Known, f: &Outline, t: u32)
+/// Counts a temporary at the points where it is live, if it is held over no call. Answers no more than what is counted at one
+/// of all points, and the greatest count where it is live.
+fn count_temp(counting: &mut Counting, known: &Known, f: &Outline, t: u32) -> u32
     requires spans { AreSpans f.now known.now.spans }
     requires makers { known.now.makers.items ≡ map maker (points f.now) }
     requires calls { AreCallsOf f.now known.now.calls.items }
     requires temp { t < f.now.temps }
     requires room { t + 1 < 2 ^ 32 }
     requires before { IsCounted f.now t counting.old }
-    ensures { IsCounted f.now (t + 1) counting.new }
+    ensures counted { IsCounted f.now (t + 1) counting.new }
+    ensures reached { IsReached result counting.new }
 {
     points_stand_by_number();
     let held = is_held(f, &known.spans, &known.makers, &known.calls, t);
     if held {
-        return;
+        return 0;
     }
     let points = known.makers.len();
-    counting.count_spans(points, t + 1, known.spans.of(t));
+    counting.count_spans(points, t + 1, known.spans.of(t))
 }
 
-/// Of each point how many temporaries are live there that are held over no call.
-fn short_counts(alloc: Global, f: &Outline) -> Result<Vec<u32>, NoMemory>
+/// The greatest number of temporaries that are live at one point and held over no call, as far as it tells the need: once
+/// there are enough at one point, no more of them are counted, so that no point is counted for more temporaries than that.
+fn find_most(alloc: Global, f: &Outline) -> Result<u32, NoMemory>
     requires { IsOutline f.now }
-    ensures { IfOk result (λ v. v.items ≡ map (short_at f.now) (points f.now)) }
+    ensures { IfOk result (λ n. min enough n ≡ min enough (most_short f.now (points f.now))) }
 {
+    let enough = u32::from(NEED_LIMIT) + u32::from(LAST_TEMPORARY - LAST_REGISTER);
     let known = find_known(alloc, f)?;
     let mut counting = Counting::new(alloc, known.makers.len())?;
     for t in 0..f.temps() {
-        count_temp(&mut counting, &known, f, t);
+        let reached = count_temp(&mut counting, &known, f, t);
+        if reached >= enough {
+            return Ok(reached);
+        }
     }
     let Counting { counts, marks: _ } = counting;
-    Ok(counts)
+    Ok(greatest(&counts))
 }
 
 /// How many registers a lawful function needs beside those that every call may change.
@@ -82,8 +89,7 @@ pub fn need(alloc: Global, f: &Outline) -> Result<u8, NoMemory>
     requires { IsOutline f.now }
     ensures { IfOk result (λ n. n ≡ need f.now) }
 {
-    let counts = short_counts(alloc, f)?;
-    let most = greatest(&counts);
+    let most = find_most(alloc, f)?;
     let changed = u32::from(LAST_TEMPORARY - LAST_REGISTER);
     let beside = most.saturating_sub(changed);
     Ok(beside.min(u32::from(NEED_LIMIT)) as u8)

@@ -5,8 +5,8 @@ use Rattle.pw_live_needs.specs.Counts.{AreCounts}
 use Rattle.pw_live_needs.proofs.Temps.{held_counted, short_counted}
 use Rattle.pw_live_needs.proofs.needs.count_temp.Goals as goal
 
-pub returns-then-held : goal.returns-then-held
-returns-then-held c = held_counted c.args.f.now c.args.t c.args.counting.now (sym c.is_held-held.ensures ∙ c.if-held.true) c.requires.before
+pub returns-then-held-clause-counted : goal.returns-then-held-clause-counted
+returns-then-held-clause-counted c = held_counted c.args.f.now c.args.t c.args.counting.now (sym c.is_held-held.ensures ∙ c.if-held.true) c.requires.before
 
 pub count_spans-requires-clause-spans : goal.count_spans-requires-clause-spans
 count_spans-requires-clause-spans c = λ p covers.
@@ -17,8 +17,11 @@ count_spans-requires-clause-spans c = λ p covers.
     let n = c.len-points.ensures ∙ known.makers.ok.0 in
     omega (arith, lt, long, n)
 
-pub returns : goal.returns
-returns c =
+pub returns-then-held-clause-reached : goal.returns-then-held-clause-reached
+returns-then-held-clause-reached c = (0, omega arith)
+
+pub returns-clause-counted : goal.returns-clause-counted
+returns-clause-counted c =
     let f = c.args.f.now in
     let known = c.args.known.now in
     let n : c.len-points.result ≡ length (points f) = c.len-points.ensures ∙ known.makers.ok.0 ∙ many_points f known.makers.items c.requires.makers in
