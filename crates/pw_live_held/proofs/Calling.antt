@@ -17,7 +17,7 @@ no_call : (calls : List Bool) (p q : ℕ) → slice_get calls p ≡ Some false �
 no_call calls p q none same call = let clash = same_Some false true (sym none ∙ ap (slice_get calls) (sym same) ∙ call) in cc
 
 pub last_before : (calls : List Bool) (p : ℕ) (before : Option ℕ) → slice_get calls p ≡ Some false → IsLastCall calls 0 p before → IsLastCall calls 0 (p + 1) before
-last_before calls p None none is q low high = elim (cases_eq q p) [
+last_before calls p None none is = λ q low high. elim (cases_eq q p) [
   | inl same ↦ no_call calls p q none same
   | inr other ↦ is q low (omega (arith, high, other))
 ]

@@ -25,7 +25,7 @@ fn is_other(maker: Option<u32>, t: u32) -> bool
 
 /// A point, unless it stands before the first one.
 fn not_before(last: Option<usize>, from: usize) -> Option<usize>
-    ensures { (calls : List Bool) (to : ℕ) → IsLastCall calls 0 to last → IsLastCall calls from to result }
+    ensures { (all : List Bool) (to : ℕ) → IsLastCall all 0 to last → IsLastCall all from to result }
 {
     match last {
         Some(p) => if p < from { None } else { Some(p) },
@@ -59,8 +59,8 @@ fn is_held_within(
     requires points { (p : ℕ) → span.0 ≤ p → p < span.1 → p < length makers.now }
     ensures { IsTrue result ↔ ((p : ℕ) × (span.0 ≤ p) × (p < span.1) × IsOverCall makers.now (map calls (points f.now)) t p) }
 {
-    let (from, mut to) = span;
-    while let Some(p) = last_within(f, lasts, from, to) {
+    let mut to = span.1;
+    while let Some(p) = last_within(f, lasts, span.0, to) {
         if is_other(makers[p], t) {
             return true;
         }

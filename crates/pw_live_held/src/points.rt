@@ -54,19 +54,19 @@ fn find_calls(alloc: Global, f: &Outline) -> Result<Vec<bool>, NoMemory>
 
 /// The last point up to one that stands behind a call, where the last one before is known.
 fn last_call(call: bool, p: usize, before: Option<usize>) -> Option<usize>
-    ensures { (calls : List Bool) → slice_get calls p ≡ Some call → IsLastCall calls 0 p before → IsLastCall calls 0 (p + 1) result }
+    ensures { (all : List Bool) → slice_get all p ≡ Some call → IsLastCall all 0 p before → IsLastCall all 0 (p + 1) result }
 {
     if call { Some(p) } else { before }
 }
 
 /// Of each point the last one up to it that stands behind a call, if one does.
-fn last_calls(alloc: Global, calls: &[bool]) -> Result<Vec<Option<usize>>, NoMemory>
-    ensures { IfOk result (λ v. AreLastCalls calls.now v.items) }
+fn last_calls(alloc: Global, all: &[bool]) -> Result<Vec<Option<usize>>, NoMemory>
+    ensures { IfOk result (λ v. AreLastCalls all.now v.items) }
 {
     let mut lasts = Vec::new(alloc);
     let mut last = None;
-    for p in 0..calls.len() {
-        let here = last_call(calls[p], p, last);
+    for p in 0..all.len() {
+        let here = last_call(all[p], p, last);
         lasts.push(here)?;
         last = here;
     }
@@ -78,5 +78,6 @@ pub fn find_last_calls(alloc: Global, f: &Outline) -> Result<Vec<Option<usize>>,
     ensures { IfOk result (λ v. AreCallsOf f.now v.items) }
 {
     let calls = find_calls(alloc, f)?;
-    last_calls(alloc, &calls)
+    let lasts = last_calls(alloc, &calls)?;
+    Ok(lasts)
 }

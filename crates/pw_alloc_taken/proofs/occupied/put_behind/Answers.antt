@@ -17,7 +17,7 @@ loop-place-preserved c =
     record {
       sets = c.put.ensures.sets;
       points = c.put.ensures.points ∙ c.loop-place.invariant.points;
-      each = put_more ds place (get_or ds place 0) c.args.r (HasAt c.put.new.made) (HasAt c.loop-place.made) (HasAt c.args.made.now) c.loop-place-test.true (read_again ds place 0 c.loop-place-test.true) c.put.ensures.each c.loop-place.invariant.each;
+      each = put_more ds place (get_or ds place 0) c.args.r (HasAt c.put.new.self) (HasAt c.loop-place.made) (HasAt c.args.made.now) c.loop-place-test.true (read_again ds place 0 c.loop-place-test.true) c.put.ensures.each c.loop-place.invariant.each;
     }
 
 pub returns-clause-each : goal.returns-clause-each

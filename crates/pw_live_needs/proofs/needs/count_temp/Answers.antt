@@ -1,9 +1,13 @@
 use Rattle.std.proofs.Common.{◌≡◌, ◌∙◌, ◌<◌, ℕ, length, arith, sym, subst}
 use Rattle.pw_live.specs.Points.{points}
+use Rattle.pw_live_held.specs.Calls.{AreCallsOf}
 use Rattle.pw_live_held.proofs.Knowledge.{many_points, spanned_points}
 use Rattle.pw_live_needs.specs.Counts.{AreCounts}
 use Rattle.pw_live_needs.proofs.Temps.{held_counted, short_counted}
 use Rattle.pw_live_needs.proofs.needs.count_temp.Goals as goal
+
+pub is_held-held-requires-clause-calls : goal.is_held-held-requires-clause-calls
+is_held-held-requires-clause-calls c = subst (AreCallsOf c.args.f.now) (sym c.deref-2.ensures.value) c.requires.calls
 
 pub returns-then-held-clause-counted : goal.returns-then-held-clause-counted
 returns-then-held-clause-counted c = held_counted c.args.f.now c.args.t c.args.counting.now (sym c.is_held-held.ensures ∙ c.if-held.true) c.requires.before
