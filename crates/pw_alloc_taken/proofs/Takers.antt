@@ -50,15 +50,15 @@ module _ (f : Outline) (gs : List (ℕ × ℕ)) (given : Given) (facts : Facts) 
     (known : AreFacts f facts) (has : AreGiven f gs given) where
   -- ---- of temporaries that are written where it is live
 
-  pub made_are : (spans : List (ℕ × ℕ)) → slice_get facts.spans.lists.items t ≡ Some spans
+  pub made_are : (spans : List (ℕ × ℕ)) → slice_get facts.liveness.spans.lists.items t ≡ Some spans
       → IsMadeBeside given.made spans r ↔ ((u : ℕ) × (register_of gs u ≡ Some r) × (written_beside f u t ≡ true))
   made_are spans at = (
     λ h.
         let m = (has.made h.0 r).0 h.2 in
-        (m.0, m.1, at_beside f lives_at there m.0 t h.0 m.2 ((known.spans.each t h.0 spans at).0 h.1)),
+        (m.0, m.1, at_beside f lives_at there m.0 t h.0 m.2 ((known.liveness.spans.each t h.0 spans at).0 h.1)),
     λ h.
         let b = beside_at f lives_at there h.0 t h.2 in
-        (b.0, (known.spans.each t b.0 spans at).1 b.2, (has.made b.0 r).1 (h.0, h.1, b.1)),
+        (b.0, (known.liveness.spans.each t b.0 spans at).1 b.2, (has.made b.0 r).1 (h.0, h.1, b.1)),
   )
 
   -- ---- of temporaries that are live where it is written

@@ -3,9 +3,8 @@ use Rattle.std.specs.Prelude.{ℕ, ◌≡◌, ◌<◌, ◌↔◌, Some, List, le
 use Rattle.pw_flow.specs.Outline.{Outline}
 use Rattle.pw_live.specs.Points.{points}
 use Rattle.pw_live_spans.specs.LivePoints.{LivesFrom}
-use Rattle.pw_live_spans.specs.AreSpans.{AreSpans}
 use Rattle.pw_live_held.specs.Makers.{maker}
-use Rattle.pw_live_held.specs.Calls.{AreCallsOf}
+use Rattle.pw_live_held.specs.IsLiveness.{IsLiveness}
 use Rattle.pw_alloc_masks.specs.Masks.{HasRegister}
 use Rattle.pw_alloc_masks.specs.Sets.{AreSets, HasAt}
 use Rattle.pw_alloc_temps.specs.Registers.{register_of}
@@ -17,9 +16,7 @@ abbrev pub IsMade : Outline → ℕ → ℕ → Type 0
 IsMade f p t = slice_get (map maker (points f)) p ≡ Some (Some t)
 
 pub record AreFacts (f : Outline) (v : Facts) : Type 0 where
-  pub spans : AreSpans f v.spans
-  pub makers : v.makers.items ≡ map maker (points f)
-  pub calls : AreCallsOf f v.calls.items
+  pub liveness : IsLiveness f v.liveness
   pub count : vec_len v.definitions ≡ f.temps
   pub definitions : (t p : ℕ) (row : List ℕ) → slice_get v.definitions.items t ≡ Some row → Contains row p ↔ IsMade f p t
 

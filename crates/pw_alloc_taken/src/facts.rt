@@ -2,24 +2,18 @@
 
 ghost use Rattle.std.specs.Prelude.{◌≡◌, ◌+◌, ◌<◌, ◌↔◌, ℕ, [], List, Some, length, slice_get, vec_len, All, Contains, IfOk, OnOk};
 ghost use Rattle.pw_live_fronts.specs.Blocks.{IsOutline};
-ghost use Rattle.pw_live.specs.Interference.{is_held};
 ghost use Rattle.pw_alloc_taken.specs.Makers.{AreBelow, AreDefinitions};
 ghost use Rattle.pw_alloc_taken.specs.Knowing.{AreFacts};
 
 use pw_items::Items;
-use pw_live_fronts::{Outline, find_fronts};
-use pw_live_held::{find_last_calls, find_makers};
-use pw_live_spans::{Spans, find_spans};
+use pw_live_fronts::Outline;
+use pw_live_held::{Liveness, find_liveness};
 use std::alloc::{AllocError as NoMemory, Global};
 
 /// Where temporaries are live and where they are written.
 #[derive(Drop)]
 pub struct Facts {
-    pub spans: Spans,
-    /// Of each point the temporary that the operation directly before it writes.
-    pub makers: Vec<Option<u32>>,
-    /// Of each point the last one up to it that stands behind a call, if one does.
-    pub calls: Vec<Option<usize>>,
+    pub liveness: Liveness,
     /// Of each temporary the points directly behind its definitions.
     pub definitions: Vec<Items<usize>>,
 }
@@ -75,24 +69,10 @@ pub fn find_facts(alloc: Global, f: &Outline) -> Result<Facts, NoMemory>
     requires { IsOutline f.now }
     ensures { IfOk result (AreFacts f.now) }
 {
-    let makers = find_makers(alloc, f)?;
-    let calls = find_last_calls(alloc, f)?;
-    let definitions = definitions(alloc, &makers, f.temps())?;
-    let fronts = find_fronts(alloc, f)?;
-    let spans = find_spans(alloc, &fronts, f)?;
+    let liveness = find_liveness(alloc, f)?;
+    let definitions = definitions(alloc, &liveness.makers, f.temps())?;
     Ok(Facts {
-        spans,
-        makers,
-        calls,
+        liveness,
         definitions,
     })
-}
-
-/// Whether a temporary is held over a call.
-pub fn is_held(facts: &Facts, f: &Outline, t: u32) -> bool
-    requires facts { AreFacts f.now facts.now }
-    requires temp { t < f.now.temps }
-    ensures { result ≡ is_held f.now t }
-{
-    pw_live_held::is_held(f, &facts.spans, &facts.makers, &facts.calls, t)
 }

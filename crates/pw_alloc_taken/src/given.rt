@@ -83,7 +83,7 @@ pub fn taken(given: &Given, facts: &Facts, f: &Outline, t: u32) -> u32
     ensures { (gs : List (ℕ × ℕ)) → AreGiven f.now gs given.now → register_of gs t ≡ None → (r : ℕ) → HasRegister result r ↔ (is_taken f.now gs t r ≡ true) }
 {
     points_stand_by_number();
-    let spans = facts.spans.of(t);
+    let spans = facts.liveness.spans.of(t);
     let beside = made_beside(&given.made, spans);
     let row = facts.definitions[t as usize].as_slice();
     let behind = occupied_behind(row, &given.occupied);
@@ -120,5 +120,5 @@ pub fn give(given: &mut Given, facts: &Facts, f: &Outline, t: u32, r: u8)
     given.params = params;
     given.registers[t as usize] = Some(r);
     put_behind(&mut given.made, facts.definitions[t as usize].as_slice(), r);
-    occupy(&mut given.occupied, facts.spans.of(t), r);
+    occupy(&mut given.occupied, facts.liveness.spans.of(t), r);
 }

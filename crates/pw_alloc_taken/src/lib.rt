@@ -5,5 +5,5 @@ mod facts;
 mod given;
 mod occupied;
 
-pub use facts::{Facts, find_facts, is_held};
+pub use facts::{Facts, find_facts};
 pub use given::{Given, give, taken};

@@ -5,12 +5,12 @@ ghost use Rattle.pw_live.specs.Liveness.{is_that};
 ghost use Rattle.pw_live.specs.Interference.{is_held};
 ghost use Rattle.pw_live.specs.Points.{points};
 ghost use Rattle.pw_live_spans.specs.Spans.{Covers};
-ghost use Rattle.pw_live_spans.specs.AreSpans.{AreSpans};
-ghost use Rattle.pw_live_held.specs.Makers.{maker, calls, IsOverCall};
+ghost use Rattle.pw_live_held.specs.Makers.{calls, IsOverCall};
 ghost use Rattle.pw_live_held.specs.Calls.{IsLastCall, AreCallsOf};
+ghost use Rattle.pw_live_held.specs.IsLiveness.{IsLiveness};
 
+use crate::liveness::Liveness;
 use pw_live_fronts::Outline;
-use pw_live_spans::Spans;
 use pw_live_spans::laws::points_stand_by_number;
 
 /// Whether another temporary is written, or none.
@@ -90,21 +90,12 @@ fn is_held_over(
     false
 }
 
-/// Whether a temporary is held over a call, where it is known where temporaries are live, which one is written before each
-/// point, and where the last call up to each point is.
-pub fn is_held(
-    f: &Outline,
-    spans: &Spans,
-    makers: &[Option<u32>],
-    lasts: &[Option<usize>],
-    t: u32,
-) -> bool
-    requires spans { AreSpans f.now spans.now }
-    requires makers { makers.now ≡ map maker (points f.now) }
-    requires calls { AreCallsOf f.now lasts.now }
+/// Whether a temporary is held over a call.
+pub fn is_held(liveness: &Liveness, f: &Outline, t: u32) -> bool
+    requires liveness { IsLiveness f.now liveness.now }
     requires temp { t < f.now.temps }
     ensures { result ≡ is_held f.now t }
 {
     points_stand_by_number();
-    is_held_over(f, spans.of(t), makers, lasts, t)
+    is_held_over(f, liveness.spans.of(t), &liveness.makers, &liveness.calls, t)
 }

@@ -20,7 +20,7 @@ fn add_makers(makers: &mut Vec<Option<u32>>, block: &Stretch) -> Result<(), NoMe
 }
 
 /// Of each point the temporary that the operation directly before it writes.
-pub fn find_makers(alloc: Global, f: &Outline) -> Result<Vec<Option<u32>>, NoMemory>
+pub(crate) fn find_makers(alloc: Global, f: &Outline) -> Result<Vec<Option<u32>>, NoMemory>
     ensures { IfOk result (λ v. v.items ≡ map maker (points f.now)) }
 {
     let mut makers = Vec::new(alloc);
@@ -74,7 +74,7 @@ fn last_calls(alloc: Global, all: &[bool]) -> Result<Vec<Option<usize>>, NoMemor
 }
 
 /// Of each point of a function the last one up to it that stands behind a call, if one does.
-pub fn find_last_calls(alloc: Global, f: &Outline) -> Result<Vec<Option<usize>>, NoMemory>
+pub(crate) fn find_last_calls(alloc: Global, f: &Outline) -> Result<Vec<Option<usize>>, NoMemory>
     ensures { IfOk result (λ v. AreCallsOf f.now v.items) }
 {
     let calls = find_calls(alloc, f)?;

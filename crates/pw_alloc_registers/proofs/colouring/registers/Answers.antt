@@ -12,7 +12,7 @@ use Rattle.pw_alloc_registers.proofs.colouring.registers.Goals as goal
 pub new-requires : goal.new-requires
 new-requires c =
     let v = c.in_ok-facts.facts in
-    c.len-points.ensures ∙ v.makers.ok.0 ∙ ap (λ (ms : List (Option ℕ)). length ms) c.in_ok-facts.ensures.makers ∙ length-map (points c.args.f.now) maker
+    c.len-points.ensures ∙ v.liveness.makers.ok.0 ∙ ap (λ (ms : List (Option ℕ)). length ms) c.in_ok-facts.ensures.liveness.makers ∙ length-map (points c.args.f.now) maker
 
 pub colour-requires : goal.colour-requires
 colour-requires c =

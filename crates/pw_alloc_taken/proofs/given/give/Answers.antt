@@ -12,7 +12,7 @@ use Rattle.pw_alloc_taken.proofs.Knowledge.{defined_points}
 use Rattle.pw_alloc_taken.proofs.given.give.Goals as goal
 
 pub of-requires : goal.of-requires
-of-requires c = let lt = c.requires.temp in let count = c.requires.facts.spans.count in omega (arith, lt, count)
+of-requires c = let lt = c.requires.temp in let count = c.requires.facts.liveness.spans.count in omega (arith, lt, count)
 
 pub index-requires : goal.index-requires
 index-requires c = let lt = c.requires.temp in let count = c.requires.facts.count in omega (arith, lt, count)
@@ -34,7 +34,7 @@ put_behind-requires c =
 pub occupy-requires-clause-points : goal.occupy-requires-clause-points
 occupy-requires-clause-points c = λ p covers.
     let given = c.args.given.now in
-    let lt = spanned_points c.args.f.now c.args.facts.now.spans c.args.t c.of.result.now p c.requires.facts.spans (c.points_stand_by_number.ensures.there c.args.f.now) c.of.ensures covers in
+    let lt = spanned_points c.args.f.now c.args.facts.now.liveness.spans c.args.t c.of.result.now p c.requires.facts.liveness.spans (c.points_stand_by_number.ensures.there c.args.f.now) c.of.ensures covers in
     let points = c.requires.sized.points in
     let size = given.occupied.ok.0 in
     let same : length c.deref_mut.result.now ≡ length given.occupied.items = ap (λ (ms : List ℕ). length ms) c.deref_mut.ensures.value in
@@ -65,7 +65,7 @@ returns-clause-given c = λ gs has none.
     let count = c.requires.facts.count in
     let at = slice_get_read v.definitions.items (vec_len v.definitions) t row v.definitions.ok.0 (let lt = c.requires.temp in omega (arith, lt, count)) c.index.ensures in
     let put = subst (λ (ps : List ℕ). (q k : ℕ) → HasAt c.put_behind.new.made q k ↔ (HasAt given.made q k ⊎ (Contains ps q × (k ≡ r)))) c.as_slice.ensures c.put_behind.ensures.each in
-    given_more f gs given _ t r c.of.result.now c.requires.temp (sym given.registers.ok.0 ∙ c.requires.sized.temps) none (λ q. c.requires.facts.spans.each t q c.of.result.now c.of.ensures) refl occupied
+    given_more f gs given _ t r c.of.result.now c.requires.temp (sym given.registers.ok.0 ∙ c.requires.sized.temps) none (λ q. c.requires.facts.liveness.spans.each t q c.of.result.now c.of.ensures) refl occupied
     (λ p k. (
       λ h. elim ((put p k).0 h) [ inl old ↦ inl old | inr new ↦ inr ((c.requires.facts.definitions t p row at).0 new.0, new.1) ],
       λ h. (put p k).1 (elim h [ inl old ↦ inl old | inr new ↦ inr ((c.requires.facts.definitions t p row at).1 new.0, new.1) ]),

@@ -11,13 +11,13 @@ use Rattle.pw_alloc_taken.proofs.Takers.{made_are, behind_are, first_are, taken_
 use Rattle.pw_alloc_taken.proofs.given.taken.Goals as goal
 
 pub of-spans-requires : goal.of-spans-requires
-of-spans-requires c = let lt = c.requires.temp in let count = c.requires.facts.spans.count in omega (arith, lt, count)
+of-spans-requires c = let lt = c.requires.temp in let count = c.requires.facts.liveness.spans.count in omega (arith, lt, count)
 
 pub made_beside-beside-requires : goal.made_beside-beside-requires
 made_beside-beside-requires c = record {
   sets = c.requires.sized.sets;
   points = λ p covers.
-      let lt = spanned_points c.args.f.now c.args.facts.now.spans c.args.t c.of-spans.result.now p c.requires.facts.spans (c.points_stand_by_number.ensures.there c.args.f.now) c.of-spans.ensures covers in
+      let lt = spanned_points c.args.f.now c.args.facts.now.liveness.spans c.args.t c.of-spans.result.now p c.requires.facts.liveness.spans (c.points_stand_by_number.ensures.there c.args.f.now) c.of-spans.ensures covers in
       let many = c.requires.sized.made in
       omega (arith, lt, many);
 }
@@ -54,7 +54,7 @@ returns c = λ gs has none r.
     (subst (λ (ms : List ℕ). HasRegister c.occupied_behind-behind.result r ↔ IsOccupiedBehind c.as_slice-row.result.now ms r) c.deref.ensures.value (c.occupied_behind-behind.ensures r)) in
     let beside = made_are f gs given v t r lives there first c.requires.facts has c.of-spans.result.now c.of-spans.ensures in
     let behind = behind_are f gs given v t r lives there first c.requires.facts has row at in
-    let live : (c.is_live_at_start-is_live.result ≡ true) ↔ LivesFrom f 0 t 0 = (λ e. (c.requires.facts.spans.each t 0 c.of-spans.result.now c.of-spans.ensures).0 (c.is_live_at_start-is_live.ensures.0 e), λ l. c.is_live_at_start-is_live.ensures.1 ((c.requires.facts.spans.each t 0 c.of-spans.result.now c.of-spans.ensures).1 l)) in
+    let live : (c.is_live_at_start-is_live.result ≡ true) ↔ LivesFrom f 0 t 0 = (λ e. (c.requires.facts.liveness.spans.each t 0 c.of-spans.result.now c.of-spans.ensures).0 (c.is_live_at_start-is_live.ensures.0 e), λ l. c.is_live_at_start-is_live.ensures.1 ((c.requires.facts.liveness.spans.each t 0 c.of-spans.result.now c.of-spans.ensures).1 l)) in
     let param : (nat_lt t c.params.result ≡ true) ↔ (t < f.params) = (λ e. subst (λ (n : ℕ). t < n) c.params.ensures (ltb-true t c.params.result e), λ lt. lt-ltb t c.params.result (subst (λ (n : ℕ). t < n) (sym c.params.ensures) lt)) in
     let start = first_are f gs given v t r lives there first c.requires.facts has (nat_lt t c.params.result) c.is_live_at_start-is_live.result c.at_start-start.result param live
     (c.at_start-start.ensures ∙ ap (λ (ms : List ℕ). slice_index ms 0) c.deref-2.ensures.value) in

@@ -1,14 +1,23 @@
-use Rattle.std.proofs.Common.{◌≡◌, ◌≤◌, ◌∙◌, ℕ, List, ap, arith, min}
+use Rattle.std.proofs.Common.{◌≡◌, ◌≤◌, ◌∙◌, ℕ, length, ap, arith, min, subst}
 use Rattle.std.specs.List.{count_by, range_with_len}
 use Rattle.pw_live.specs.Points.{points}
+use Rattle.pw_live_held.proofs.Knowledge.{many_points}
 use Rattle.pw_live_needs.specs.Needs.{is_short, short_at, enough, most_short}
-use Rattle.pw_live_needs.specs.Counts.{greatest}
+use Rattle.pw_live_needs.specs.Counts.{AreCounts, greatest}
 use Rattle.pw_live_needs.proofs.Counted.{same_most}
-use Rattle.pw_live_needs.proofs.Temps.{same_counts, reached_most}
+use Rattle.pw_live_needs.proofs.Temps.{none_counted, same_counts, reached_most}
 use Rattle.pw_live_needs.proofs.needs.find_most.Goals as goal
 
-pub returns-then-reached-ge-enough : goal.returns-then-reached-ge-enough
-returns-then-reached-ge-enough c =
+pub loop-t-init : goal.loop-t-init
+loop-t-init c =
+    let f = c.args.f.now in
+    let v = c.in_ok-liveness.liveness in
+    let w = c.in_ok-counting.counting in
+    let n : c.len.result ≡ length (points f) = c.len.ensures ∙ v.makers.ok.0 ∙ many_points f v.makers.items c.in_ok-liveness.ensures.makers in
+    none_counted f w (subst (λ (k : ℕ). AreCounts k w) n c.in_ok-counting.ensures.sized) c.in_ok-counting.ensures.counts c.in_ok-counting.ensures.marks
+
+pub returns-then-reached-ge-limit : goal.returns-then-reached-ge-limit
+returns-then-reached-ge-limit c =
     let f = c.args.f.now in
     let temps = c.temps-t-end.ensures in
     let lt = c.loop-t-test.true in
