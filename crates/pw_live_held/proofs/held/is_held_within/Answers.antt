@@ -50,3 +50,6 @@ loop-p-preserved c =
 
 pub returns : goal.returns
 returns c = found_none c.args.makers.now (map calls (points c.args.f.now)) c.args.t c.args.span.0 c.loop-p.to c.args.span.1 c.in_default.ensures c.loop-p.invariant.none
+
+pub loop-p-smaller : goal.loop-p-smaller
+loop-p-smaller c = let last = c.in-Some.ensures in last.1
