@@ -121,14 +121,21 @@ halves points masks low high next last k joined least some most is_next is_last 
   where
     Answer : Type 0
     Answer = (((low % 2 ≡ 1) × HasPlace masks low k) ⊎ ((high % 2 ≡ 1) × HasPlace masks (high - 1) k)) ⊎ HasAmong masks next last k
+
     middle : (i : ℕ) → next ≤ i / 2 → i / 2 < last → HasPlace masks i k → Answer
     middle i from to has =
         let positive : 0 < i / 2 = omega (arith, from, is_next, least) in
         let few : i / 2 < points = omega (arith, to, is_last, most) in
-        inr (i / 2, from, to, (joined.each (i / 2) k positive few).1 (elim (cases_eq (i / 2 + i / 2) i) [
-          | inl same ↦ inl (subst (λ (n : ℕ). HasPlace masks n k) (sym same) has)
-          | inr other ↦ let same : i ≡ i / 2 + i / 2 + 1 = omega (arith, other) in inr (subst (λ (n : ℕ). HasPlace masks n k) same has)
-        ]))
+        inr (
+          i / 2,
+          from,
+          to,
+          (joined.each (i / 2) k positive few).1 (elim (cases_eq (i / 2 + i / 2) i) [
+            | inl same ↦ inl (subst (λ (n : ℕ). HasPlace masks n k) (sym same) has)
+            | inr other ↦ let same : i ≡ i / 2 + i / 2 + 1 = omega (arith, other) in inr (subst (λ (n : ℕ). HasPlace masks n k) same has)
+          ]),
+        )
+
     upper : (i : ℕ) → i < high → next ≤ i / 2 → HasPlace masks i k → Answer
     upper i to from has = elim (cases_eq (i + 1) high) [
       | inl same ↦ elim (cases_eq (high % 2) 1) [

@@ -138,6 +138,11 @@ impl PointSets {
         if span.0 >= span.1 {
             return 0;
         }
-        joined(&self.masks, self.points, self.points + span.0, self.points + span.1)
+        joined(
+            &self.masks,
+            self.points,
+            self.points + span.0,
+            self.points + span.1,
+        )
     }
 }

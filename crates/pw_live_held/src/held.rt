@@ -97,5 +97,11 @@ pub fn is_held(liveness: &Liveness, f: &Outline, t: u32) -> bool
     ensures { result ≡ is_held f.now t }
 {
     points_stand_by_number();
-    is_held_over(f, liveness.spans.of(t), &liveness.makers, &liveness.calls, t)
+    is_held_over(
+        f,
+        liveness.spans.of(t),
+        &liveness.makers,
+        &liveness.calls,
+        t,
+    )
 }
