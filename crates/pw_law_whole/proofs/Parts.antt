@@ -3,6 +3,7 @@ use Rattle.std.proofs.Common.{◌≡◌, ◌≤◌, ℕ, List, [], ◌∷◌, ma
 use Rattle.std.specs.Prelude.{All, Ok}
 use Rattle.std.specs.List.{AllByRecursion}
 use Rattle.std.specs.FinMap as finite
+use Rattle.std.proofs.lemmas.List.Elements.{All-from_recursion}
 use Rattle.pw_value.specs.Limits.{stack_least, stack_limit}
 use Rattle.pw_files.specs.Rising.{IsRising}
 use Rattle.pw_files.proofs.Standing.{Has, has_by, has_map, has_each}
@@ -60,7 +61,7 @@ plain_names texts p plain are m there =
 -- ---- together
 
 pub whole_with : LoweredHaveRooms → LoweredImplements → SummariesSayTheSame → TemporariesServePrograms →
-    ((ss : List Summary) (colours : ℕ) (d : DirectivesList) → colours ≤ register_count → IsDatabaseOf ss colours d → IsDatabase d) →
+    ((ss : List Summary) (colours : ℕ) (d : DirectivesList) → colours ≤ register_count → All IsSummary ss → IsDatabaseOf ss colours d → IsDatabase d) →
     ((db : DirectivesList) → IsDatabase db → (gs hs : DirectivesList) → All (HasDirectives db) gs → All (HasDirectives db) hs → map (λ f. f.0) gs ≡ map (λ f. f.0) hs → gs ≡ hs) →
     CheckedIsAccepted →
     (texts : Texts) (opts : Opts) (parts : Parts) (p : Program) → Completes (map flow_of p.modules) [] opts (Ok parts) → IsProgramOf texts p →
@@ -69,7 +70,8 @@ whole_with rooms implements same serve databases one accepted texts opts parts p
     let flows = map flow_of p.modules in
     let db = parts.database in
     let has = are.database in
-    let lawful_db : IsDatabase db = databases has.summaries opts.colours db (omega (arith, few)) has.database in
+    let lawful_summaries = all_lawful flows has.summaries are.lawful has.of_flows in
+    let lawful_db : IsDatabase db = databases has.summaries opts.colours db (omega (arith, few)) (All-from_recursion IsSummary has.summaries lawful_summaries) has.database in
     let single = one db lawful_db in
     let checked : AreChecked p = λ m there. all_checked (finite.entries texts) p.modules of_texts m (has_by m p.modules there) in
     let whole : IsWhole p (frame_in (image_of parts.objects opts.stack)) opts.stack =
@@ -98,8 +100,8 @@ whole_with rooms implements same serve databases one accepted texts opts parts p
         frames = laid.frames;
         names = whole.names;
         enough = enough;
-        linked = record { each = all_lawful flows has.summaries are.lawful has.of_flows; linked = has.linked };
-        few = omega (arith, few);
+        linked = record { each = lawful_summaries; linked = has.linked };
+        few = few;
         database = has.database;
         alike = same p (frame_in (image_of parts.objects opts.stack)) opts.stack has.summaries has.database.graph whole.accepted summarised has.database.graph_of;
         serve = laid.serve;
