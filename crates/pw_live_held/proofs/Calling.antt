@@ -1,7 +1,7 @@
 -- Calls, one behind the other, and calls that do not write a temporary.
 use Rattle.std.proofs.Common.{◌≡◌, ◌⊎◌, ℕ, zero, suc, ◌+◌, ◌-◌, ◌≤◌, ◌<◌, not, Bool, true, false, List, [], ◌∷◌, ◌++◌, length, refl, sym, ap, subst, ◌∙◌, arith, inl, inr}
-use Rattle.std.specs.Prelude.{Option, None, Some, slice_get, ◌↔◌}
-use Rattle.std.proofs.lemmas.Bool.{cases_eq, cases_lt}
+use Rattle.std.specs.Prelude.{Option, None, Some, IfSome, nat_lt, slice_get, ◌↔◌}
+use Rattle.std.proofs.lemmas.Bool.{cases_eq, cases_lt, ltb-true, lt-ltb}
 use Rattle.std.proofs.lemmas.Option.{same_Some}
 use Rattle.pw_live.specs.Liveness.{is_that}
 use Rattle.pw_live_held.specs.Makers.{IsOverCall}
@@ -51,11 +51,27 @@ lasts_more calls lasts new p here long is now before q last at = elim (push_case
 
 -- ---- from one point on
 
-pub last_from : (calls : List Bool) (from to p : ℕ) → from ≤ p → IsLastCall calls 0 to (Some p) → IsLastCall calls from to (Some p)
-last_from calls from to p low is = (low, is.1, is.2, is.3)
+pub before_some : (last : Option ℕ) (p from : ℕ) → last ≡ Some p → (nat_lt p from ≡ true) ↔ IfSome last (λ q. q < from)
+before_some last p from is = (
+  λ e. subst (λ (o : Option ℕ). IfSome o (λ q. q < from)) (sym is) (ltb-true p from e),
+  λ h. let lt : p < from = subst (λ (o : Option ℕ). IfSome o (λ q. q < from)) is h in lt-ltb p from lt,
+)
 
-pub none_behind : (calls : List Bool) (from to p : ℕ) → p < from → IsLastCall calls 0 to (Some p) → IsLastCall calls from to None
-none_behind calls from to p lt is q low high = is.3 q (omega (arith, low, lt)) high
+pub before_none : (last : Option ℕ) (from : ℕ) → last ≡ None → (true ≡ true) ↔ IfSome last (λ q. q < from)
+before_none last from is = (λ _. subst (λ (o : Option ℕ). IfSome o (λ q. q < from)) (sym is) tt, λ _. refl)
+
+pub last_from : (calls : List Bool) (from to : ℕ) (last : Option ℕ) → ¬ IfSome last (λ p. p < from) → IsLastCall calls 0 to last → IsLastCall calls from to last
+last_from calls from to None behind is = absurd (behind tt)
+last_from calls from to (Some p) behind is = (
+  elim (cases_lt p from) [ inl lt ↦ absurd (behind lt) | inr le ↦ le ],
+  is.1,
+  is.2,
+  is.3,
+)
+
+pub none_from : (calls : List Bool) (from to : ℕ) (last : Option ℕ) → IfSome last (λ p. p < from) → IsLastCall calls 0 to last → IsLastCall calls from to None
+none_from calls from to None before is = λ q low high. is q (omega arith) high
+none_from calls from to (Some p) before is = λ q low high. let lt : p < from = before in is.3 q (omega (arith, low, lt)) high
 
 pub last_at : (calls : List Bool) (lasts : List (Option ℕ)) (to : ℕ) (last : Option ℕ) → AreLastCalls calls lasts → 0 < to → slice_get lasts (to - 1) ≡ Some last → IsLastCall calls 0 to last
 last_at calls lasts to last known some at =

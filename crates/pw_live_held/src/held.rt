@@ -1,6 +1,6 @@
 //! Which temporaries are held over a call.
 
-ghost use Rattle.std.specs.Prelude.{◌≡◌, ◌≤◌, ◌<◌, ◌↔◌, not, ℕ, List, Bool, length, map, IsTrue};
+ghost use Rattle.std.specs.Prelude.{◌≡◌, ◌≤◌, ◌<◌, ◌↔◌, not, ℕ, length, map, IsTrue, IfSome};
 ghost use Rattle.pw_live.specs.Liveness.{is_that};
 ghost use Rattle.pw_live.specs.Interference.{is_held};
 ghost use Rattle.pw_live.specs.Points.{points};
@@ -23,13 +23,13 @@ fn is_other(maker: Option<u32>, t: u32) -> bool
     }
 }
 
-/// A point, unless it stands before the first one.
-fn not_before(last: Option<usize>, from: usize) -> Option<usize>
-    ensures { (all : List Bool) (to : ℕ) → IsLastCall all 0 to last → IsLastCall all from to result }
+/// Whether a point that may be is none, or stands before another.
+fn is_before(last: Option<usize>, from: usize) -> bool
+    ensures { IsTrue result ↔ IfSome last (λ p. p < from) }
 {
     match last {
-        Some(p) => if p < from { None } else { Some(p) },
-        None => None,
+        Some(p) => p < from,
+        None => true,
     }
 }
 
@@ -42,7 +42,9 @@ fn last_within(f: &Outline, lasts: &[Option<usize>], from: usize, to: usize) -> 
     if to <= from {
         return None;
     }
-    not_before(lasts[to - 1], from)
+    let end = to - 1;
+    let last = lasts[end];
+    if is_before(last, from) { None } else { last }
 }
 
 /// Whether one of the points of a span stands behind a call that does not write the temporary: they are looked at from call

@@ -1,4 +1,4 @@
-use Rattle.std.proofs.Common.{◌∙◌, arith, get_or, map, refl, sym}
+use Rattle.std.proofs.Common.{◌<◌, ◌∙◌, arith, rules, get_or, length, map, refl, sym}
 use Rattle.std.specs.Prelude.{None}
 use Rattle.std.proofs.lemmas.Option.{slice_get-get_or}
 use Rattle.pw_live.specs.Points.{points}
@@ -22,6 +22,14 @@ bounds-makers-p c =
     let high = c.loop-p.invariant.high in
     let lt = last.1 in
     c.requires.points c.in-Some.p last.0 (omega (arith, lt, high))
+
+pub offset_bounds-makers-p : goal.offset_bounds-makers-p
+offset_bounds-makers-p c =
+    let last = c.in-Some.ensures in
+    let high = c.loop-p.invariant.high in
+    let lt = last.1 in
+    let there : c.in-Some.p < length c.args.makers.now = c.requires.points c.in-Some.p last.0 (omega (arith, lt, high)) in
+    first_of (omega arith, search rules, grind arith)
 
 pub returns-then-is_other : goal.returns-then-is_other
 returns-then-is_other c =
