@@ -1,7 +1,7 @@
 -- Calls, one behind the other, and calls that do not write a temporary.
 use Rattle.std.proofs.Common.{◌≡◌, ◌⊎◌, ℕ, zero, suc, ◌+◌, ◌-◌, ◌≤◌, ◌<◌, not, Bool, true, false, List, [], ◌∷◌, ◌++◌, length, refl, sym, ap, subst, ◌∙◌, arith, inl, inr}
 use Rattle.std.specs.Prelude.{Option, None, Some, IfSome, nat_lt, slice_get, ◌↔◌}
-use Rattle.std.proofs.lemmas.Bool.{cases_eq, cases_lt, ltb-true, lt-ltb}
+use Rattle.std.proofs.lemmas.Bool.{cases_eq, cases_lt, not-false, ltb-true, lt-ltb}
 use Rattle.std.proofs.lemmas.Option.{same_Some}
 use Rattle.pw_live.specs.Liveness.{is_that}
 use Rattle.pw_live_held.specs.Makers.{IsOverCall}
@@ -80,10 +80,6 @@ last_at calls lasts to last known some at =
 
 -- ---- calls that do not write a temporary
 
-not_false : (x : Bool) → not x ≡ false → x ≡ true
-not_false true e = refl
-not_false false e = absurd cc
-
 pub other_call : (makers : List (Option ℕ)) (calls : List Bool) (t p : ℕ) (m : Option ℕ) → slice_get makers p ≡ Some m → IsCall calls p → not (is_that m t) ≡ true → IsOverCall makers calls t p
 other_call makers calls t p m made call other = (
   call,
@@ -95,7 +91,7 @@ other_call makers calls t p m made call other = (
 )
 
 pub own_call : (makers : List (Option ℕ)) (calls : List Bool) (t p : ℕ) (m : Option ℕ) → slice_get makers p ≡ Some m → not (is_that m t) ≡ false → ¬ IsOverCall makers calls t p
-own_call makers calls t p m made own over = over.1 (made ∙ ap Some (that_is m t (not_false (is_that m t) own)))
+own_call makers calls t p m made own over = over.1 (made ∙ ap Some (that_is m t (not-false (is_that m t) own)))
 
 -- behind the last call that is left there is none
 pub none_more : (makers : List (Option ℕ)) (calls : List Bool) (t from to p end : ℕ) → IsLastCall calls from to (Some p) → ¬ IsOverCall makers calls t p
