@@ -16,7 +16,7 @@ use Rattle.pw_db.specs.Database.{IsWeb, AreKeptFrom}
 use Rattle.pw_webflow.specs.declared.web.WebFn.{WebFn}
 use Rattle.pw_webflow.specs.ValidWebs.{IsWebFn}
 use Rattle.pw_live.specs.Liveness.{has}
-use Rattle.pw_alloc_taken.specs.Masks.{in_mask, HasRegister}
+use Rattle.pw_alloc_masks.specs.Masks.{in_mask, HasRegister}
 use Rattle.pw_alloc_registers.specs.Masks.{IsMaskOf}
 use Rattle.std.specs.Cmp.{both_ways}
 

@@ -7,7 +7,7 @@ use Rattle.std.specs.Int.{bit_at}
 use Rattle.std.specs.List.{find, range_with_len}
 use Rattle.std.proofs.lemmas.Bool.{eqb-true, eq-eqb, or_cases, or_left, or_right}
 use Rattle.std.proofs.lemmas.List.Folds.{find-append}
-use Rattle.pw_alloc_taken.specs.Masks.{in_mask, HasRegister}
+use Rattle.pw_alloc_masks.specs.Masks.{in_mask, HasRegister}
 
 pub in_joined : (webs taken away r : ℕ) (barred full : Bool) → in_mask webs r ≡ barred → (HasRegister taken r ↔ (full ≡ true))
     → (HasRegister away r ↔ (HasRegister webs r ⊎ HasRegister taken r)) → in_mask away r ≡ (barred || full)

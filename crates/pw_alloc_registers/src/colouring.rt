@@ -3,16 +3,18 @@
 ghost use Rattle.std.specs.Prelude.{◌≡◌, ◌<◌, ◌-◌, ◌++◌, ◌&&◌, not, ℕ, List, None, false, IfOk, IfSome};
 ghost use Rattle.std.specs.List.{find, range_with_len};
 ghost use Rattle.pw_live_fronts.specs.Blocks.{IsOutline};
-ghost use Rattle.pw_alloc_taken.specs.Masks.{in_mask};
+ghost use Rattle.pw_alloc_masks.specs.Masks.{in_mask};
 ghost use Rattle.pw_alloc_taken.specs.Knowing.{AreFacts, AreSized, AreGiven};
 ghost use Rattle.pw_db.specs.Limits.{kept_registers};
 ghost use Rattle.pw_alloc_registers.specs.Masks.{IsMaskOf};
 ghost use Rattle.pw_alloc_temps.specs.Registers.{shared, unshared, of_temporaries, allowed, is_taken, with_register, register_of, registers};
 
-use pw_alloc_taken::{Facts, Given, both, find_facts, give, has_register, is_held, taken};
+use pw_alloc_masks::{both, has_register};
+use pw_alloc_taken::{Facts, Given, find_facts, give, taken};
 use pw_alloc_weights::ordered;
 use pw_db::{FIRST_REGISTER, LAST_REGISTER, LAST_TEMPORARY};
 use pw_live_fronts::Outline;
+use pw_live_held::is_held;
 use std::alloc::{AllocError as NoMemory, Global};
 
 /// Whether a register is not in a set.
@@ -103,7 +105,6 @@ fn first_free(held: bool, cluster: u32, away: u32) -> Option<u8>
 
 /// Gives a temporary the first register that it may have and that is not taken, if there is one.
 fn colour(given: &mut Given, facts: &Facts, f: &Outline, masks: Masks, t: u32)
-    requires outline { IsOutline f.now }
     requires facts { AreFacts f.now facts.now }
     requires sized { AreSized f.now given.old }
     requires temp { t < f.now.temps }
@@ -112,7 +113,7 @@ fn colour(given: &mut Given, facts: &Facts, f: &Outline, masks: Masks, t: u32)
         → AreGiven f.now (with_register t (find (λ r. not (is_taken f.now gs t r)) (allowed f.now ws cs t)) gs) given.new }
 {
     let taken = taken(given, facts, f, t);
-    let held = is_held(facts, f, t);
+    let held = is_held(&facts.liveness, f, t);
     let away = both(masks.webs, taken);
     match first_free(held, masks.cluster, away) {
         Some(r) => give(given, facts, f, t, r),
@@ -138,7 +139,7 @@ pub(crate) fn registers(
 {
     let facts = find_facts(alloc, f)?;
     let order = ordered(alloc, f)?;
-    let points = facts.makers.len();
+    let points = facts.liveness.makers.len();
     let mut given = Given::new(alloc, f, points)?;
     let count = order.len();
     for place in 0..count {
@@ -147,6 +148,7 @@ pub(crate) fn registers(
     let Given {
         registers,
         occupied: _,
+        made: _,
         params: _,
     } = given;
     Ok(registers)

@@ -8,7 +8,7 @@ ghost use Rattle.pw_alloc_temps.specs.Temporaries.{cluster_of, registers_in};
 
 use crate::colouring::{Masks, registers};
 use crate::outline::outline_of;
-use pw_alloc_taken::with_register;
+use pw_alloc_masks::with_register;
 use pw_db::{Directives, Role, Web};
 use pw_webflow::WebFn;
 use std::alloc::{AllocError, Global};

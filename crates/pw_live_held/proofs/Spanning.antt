@@ -1,7 +1,6 @@
 -- Points of spans, one behind the other.
 use Rattle.std.proofs.Common.{◌≡◌, ◌⊎◌, ℕ, ◌+◌, ◌<◌, ◌≤◌, true, false, List, [], ◌∷◌, ◌++◌, length, get_or, take, refl, sym, ap, subst, ◌∙◌, arith, inl, inr}
 use Rattle.std.specs.Prelude.{Contains, ◌↔◌}
-use Rattle.std.proofs.lemmas.Bool.{cases_eq}
 use Rattle.std.proofs.lemmas.List.{take_more, take_all, get_or_default}
 use Rattle.std.proofs.lemmas.List.Elements.{Contains-append_left, Contains-push, Contains-push_cases}
 use Rattle.pw_live_spans.specs.Spans.{IsIn, Covers}
@@ -26,19 +25,7 @@ first_none (x ∷ xs) y c = let lt : c.0 < 0 = c.1 in omega (arith, lt)
 pub read_again : {X : Type 0} (xs : List X) (k : ℕ) (d : X) → k < length xs → get_or xs k (get_or xs k d) ≡ get_or xs k d
 read_again xs k d lt = get_or_default xs k (get_or xs k d) d lt
 
--- ---- the first point of a kind
-
-pub found_within : (P : ℕ → Type 0) (from to p : ℕ) → from ≤ p → p < to → P p → (true ≡ true) ↔ ((q : ℕ) × (from ≤ q) × (q < to) × P q)
-found_within P from to p low high is = (λ _. (p, low, high, is), λ _. refl)
-
-pub none_within : (P : ℕ → Type 0) (from to p : ℕ) → to ≤ p → ((q : ℕ) → from ≤ q → q < p → ¬ P q) → (false ≡ true) ↔ ((q : ℕ) × (from ≤ q) × (q < to) × P q)
-none_within P from to p past none = (λ e. absurd cc, λ w. absurd (none w.0 w.1 (let high = w.2 in omega (arith, high, past)) w.3))
-
-pub none_more : (P : ℕ → Type 0) (from p : ℕ) → ¬ P p → ((q : ℕ) → from ≤ q → q < p → ¬ P q) → (q : ℕ) → from ≤ q → q < p + 1 → ¬ P q
-none_more P from p here before q low high is = elim (cases_eq q p) [
-  | inl same ↦ here (subst P same is)
-  | inr other ↦ before q low (omega (arith, high, other)) is
-]
+-- ---- a point of a kind
 
 pub found_in : (P : ℕ → Type 0) (spans : List (ℕ × ℕ)) (span : ℕ × ℕ) → Contains spans span → ((q : ℕ) × (span.0 ≤ q) × (q < span.1) × P q) → (true ≡ true) ↔ ((q : ℕ) × Covers spans q × P q)
 found_in P spans span there w = (λ _. (w.0, (span, there, (w.1, w.2)), w.3), λ _. refl)

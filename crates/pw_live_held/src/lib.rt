@@ -2,7 +2,8 @@
 #![tactic(auto)]
 
 mod held;
+mod liveness;
 mod points;
 
 pub use held::is_held;
-pub use points::{find_calls, find_makers};
+pub use liveness::{Liveness, find_liveness};

@@ -2,7 +2,7 @@
 use Rattle.std.proofs.Common.{◌≡◌, ◌≢◌, ◌⊎◌, ℕ, zero, suc, ◌+◌, ◌<◌, ◌≤◌, ◌==◌, ◌&&◌, not, Bool, true, false, cond, List, [], ◌∷◌, ◌++◌, length, get_or, max, set, take, drop, map, refl, sym, ap, subst, ◌∙◌, arith, inl, inr}
 use Rattle.std.specs.Prelude.{if◌then◌else◌, Option, Some, None, slice_get, slice_index, Contains, ◌↔◌}
 use Rattle.std.specs.List.{count_by, sum_by, range_with_len}
-use Rattle.std.proofs.lemmas.Bool.{cases_eq, ne_eqb, eq-eqb, eqb-true}
+use Rattle.std.proofs.lemmas.Bool.{cases_eq, cases_lt, ne_eqb, eq-eqb, eqb-true}
 use Rattle.std.proofs.lemmas.List.{take_more, take_all, drop_all, get_or-set_same, get_or-set_other}
 use Rattle.std.proofs.lemmas.List.Sums.{sum_by_push}
 use Rattle.pw_live_spans.specs.Spans.{IsIn, Covers}
@@ -10,7 +10,8 @@ use Rattle.pw_live_held.proofs.Spanning.{first_more, first_none}
 use Rattle.pw_flow.specs.Outline.{Outline}
 use Rattle.pw_live.specs.Points.{Point, points}
 use Rattle.pw_live_needs.specs.Needs.{is_short, short_at, most_short}
-use Rattle.pw_live_needs.specs.Counts.{greatest}
+use Rattle.pw_live_needs.specs.Counts.{full, IsReached, greatest}
+use Rattle.pw_live_needs.specs.declared.counting.Counting.{Counting}
 
 -- ---- one more number of a range
 
@@ -118,6 +119,35 @@ pub then_others : (mark a b c : ℕ) → (c ≡ mark) ⊎ (c ≡ b) → (b ≡ m
 then_others mark a b c (inl e) before = inl e
 then_others mark a b c (inr e) (inl d) = inl (e ∙ d)
 then_others mark a b c (inr e) (inr d) = inr (e ∙ d)
+
+-- ---- what is counted grows, and what has been reached is reached still
+
+pub counts_grow : (v w : Counting) (mark p : ℕ) (Now : Type 0) → full w mark p ≡ full v mark p → (slice_index w.marks.items p ≡ mark) ↔ ((slice_index v.marks.items p ≡ mark) ⊎ Now) → slice_index v.counts.items p ≤ slice_index w.counts.items p
+counts_grow v w mark p Now same marked = elim (cases_eq (slice_index w.marks.items p) mark) [
+  | inl now ↦
+      let after = ap (λ (b : Bool). slice_index w.counts.items p + (if b then 0 else 1)) (eq-eqb (slice_index w.marks.items p) mark now) in
+      elim (cases_eq (slice_index v.marks.items p) mark) [
+        | inl was ↦
+            let before = ap (λ (b : Bool). slice_index v.counts.items p + (if b then 0 else 1)) (eq-eqb (slice_index v.marks.items p) mark was) in
+            let h : slice_index w.counts.items p + 0 ≡ slice_index v.counts.items p + 0 = sym after ∙ same ∙ before in
+            omega (arith, h)
+        | inr other ↦
+            let before = ap (λ (b : Bool). slice_index v.counts.items p + (if b then 0 else 1)) (ne_eqb (slice_index v.marks.items p) mark other) in
+            let h : slice_index w.counts.items p + 0 ≡ slice_index v.counts.items p + 1 = sym after ∙ same ∙ before in
+            omega (arith, h)
+      ]
+  | inr not_now ↦
+      let after = ap (λ (b : Bool). slice_index w.counts.items p + (if b then 0 else 1)) (ne_eqb (slice_index w.marks.items p) mark not_now) in
+      let before = ap (λ (b : Bool). slice_index v.counts.items p + (if b then 0 else 1)) (ne_eqb (slice_index v.marks.items p) mark (λ e. not_now (marked.1 (inl e)))) in
+      let h : slice_index w.counts.items p + 1 ≡ slice_index v.counts.items p + 1 = sym after ∙ same ∙ before in
+      omega (arith, h)
+]
+
+pub reached_more : (v w : Counting) (most more : ℕ) → ((p : ℕ) → slice_index v.counts.items p ≤ slice_index w.counts.items p) → IsReached most v → IsReached more w → IsReached (max most more) w
+reached_more v w most more grows before now = elim (cases_lt most more) [
+  | inl lt ↦ let high = now.1 in (now.0, omega (arith, lt, high))
+  | inr le ↦ let high = before.1 in let up = grows before.0 in (before.0, omega (arith, le, high, up))
+]
 
 -- ---- the greatest
 

@@ -1,17 +1,19 @@
 -- One more temporary is counted, or none where it is held.
-use Rattle.std.proofs.Common.{◌≡◌, ◌≢◌, ◌⊎◌, ℕ, suc, ◌+◌, ◌<◌, ◌≤◌, ◌^◌, ◌==◌, ◌&&◌, not, Bool, true, false, List, [], ◌∷◌, length, map, refl, sym, ap, ◌∙◌, arith, inl, inr}
-use Rattle.std.specs.Prelude.{if◌then◌else◌, Some, slice_get, slice_index, ◌↔◌}
+use Rattle.std.proofs.Common.{◌≡◌, ◌≢◌, ◌⊎◌, ℕ, zero, suc, ◌+◌, ◌-◌, ◌<◌, ◌≤◌, ◌^◌, ◌==◌, ◌&&◌, not, Bool, true, false, List, [], ◌∷◌, length, get_or, max, map, refl, sym, ap, ◌∙◌, arith, inl, inr}
+use Rattle.std.specs.Prelude.{if◌then◌else◌, None, Some, slice_get, slice_index, ◌↔◌}
 use Rattle.std.specs.List.{count_by, range_with_len}
-use Rattle.std.proofs.lemmas.Bool.{cases_Bool, ne_eqb, eq-eqb}
+use Rattle.std.proofs.lemmas.Bool.{cases_Bool, cases_lt, ne_eqb, eq-eqb}
+use Rattle.std.proofs.lemmas.List.{get_or_past}
+use Rattle.std.proofs.lemmas.Option.{same_Some, slice_get-get_or}
 use Rattle.pw_live_spans.specs.Spans.{Covers}
 use Rattle.pw_live_spans.specs.LivePoints.{LivesFrom}
 use Rattle.pw_flow.specs.Outline.{Outline}
 use Rattle.pw_live.specs.Points.{Point, points, lives}
 use Rattle.pw_live.specs.Interference.{is_held}
-use Rattle.pw_live_needs.specs.Needs.{is_short, short_at}
-use Rattle.pw_live_needs.specs.Counts.{full, AreCounts, IsCounted}
+use Rattle.pw_live_needs.specs.Needs.{is_short, short_at, most_short}
+use Rattle.pw_live_needs.specs.Counts.{full, AreCounts, IsReached, IsCounted}
 use Rattle.pw_live_needs.specs.declared.counting.Counting.{Counting}
-use Rattle.pw_live_needs.proofs.Counted.{count_yes, count_no}
+use Rattle.pw_live_needs.proofs.Counted.{count_next, count_yes, count_no}
 
 -- nothing has been counted
 pub none_counted : (f : Outline) (v : Counting) → AreCounts (length (points f)) v → ((q : ℕ) → slice_index v.counts.items q ≡ 0) → ((q : ℕ) → slice_index v.marks.items q ≡ 0) → IsCounted f 0 v
@@ -81,6 +83,52 @@ module _ (f : Outline) (t : ℕ) (v w : Counting) (spans : List (ℕ × ℕ))
     low = λ q. let h = full_now q in let n = before.low q in omega (arith, h, n);
     marked = λ q. elim (others q) [ inl e ↦ omega (arith, e) | inr e ↦ let n = before.marked q in omega (arith, e, n) ];
   }
+
+-- ---- no more is counted than there are at some point
+
+count_grows : (p : ℕ → Bool) (n more : ℕ) → count_by p (range_with_len 0 n) ≤ count_by p (range_with_len 0 (n + more))
+count_grows p n zero = let same : n ≡ n + zero = omega arith in let h = ap (λ (k : ℕ). count_by p (range_with_len 0 k)) same in omega (arith, h)
+count_grows p n (suc more) =
+    let up : n + suc more ≡ suc (n + more) = omega arith in
+    let h = ap (λ (k : ℕ). count_by p (range_with_len 0 k)) up in
+    let step = count_next p 0 (n + more) in
+    let before = count_grows p n more in
+    omega (arith, h, step, before)
+
+most_at : (f : Outline) (ps : List Point) (q : ℕ) (p : Point) → slice_get ps q ≡ Some p → short_at f p ≤ most_short f ps
+most_at f [] q p at = absurd cc
+most_at f (x ∷ ps) zero p at =
+    let same : short_at f x ≡ short_at f p = ap (short_at f) (same_Some x p at) in
+    let whole : most_short f (x ∷ ps) ≡ max (short_at f x) (most_short f ps) = refl in
+    omega (arith, same, whole)
+most_at f (x ∷ ps) (suc q) p at =
+    let rest = most_at f ps q p at in
+    let whole : most_short f (x ∷ ps) ≡ max (short_at f x) (most_short f ps) = refl in
+    omega (arith, rest, whole)
+
+abbrev nowhere : Point
+nowhere = record { before = None; acts = []; uses = []; next = [] }
+
+pub reached_most : (f : Outline) (n reached : ℕ) (v : Counting) → IsCounted f n v → n ≤ f.temps → IsReached reached v → reached ≤ most_short f (points f)
+reached_most f n reached v counted few at = elim (cases_lt at.0 (length (points f))) [
+  | inl lt ↦
+      let q = at.0 in
+      let p = get_or (points f) q nowhere in
+      let there : slice_get (points f) q ≡ Some p = slice_get-get_or (points f) q nowhere lt in
+      let is = counted.each q p there in
+      let all : f.temps ≡ n + (f.temps - n) = omega (arith, few) in
+      let whole = ap (λ (k : ℕ). count_by (is_short f p) (range_with_len 0 k)) all in
+      let grows = count_grows (is_short f p) n (f.temps - n) in
+      let most = most_at f (points f) q p there in
+      let low = at.1 in
+      let short : short_at f p ≡ count_by (is_short f p) (range_with_len 0 f.temps) = refl in
+      omega (arith, is, whole, grows, most, low, short)
+  | inr past ↦
+      let long = counted.sized.counts in
+      let none : slice_index v.counts.items at.0 ≡ 0 = get_or_past v.counts.items at.0 0 (omega (arith, past, long)) in
+      let low = at.1 in
+      omega (arith, none, low)
+]
 
 -- ---- all counts are those of the definition
 

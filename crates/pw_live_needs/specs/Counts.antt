@@ -15,6 +15,10 @@ pub record AreCounts (points : ℕ) (v : Counting) : Type 0 where
   pub counts : length v.counts.items ≡ points
   pub marks : length v.marks.items ≡ points
 
+-- at some point so many are counted, or more
+abbrev pub IsReached : ℕ → Counting → Type 0
+IsReached n v = (q : ℕ) × (n ≤ slice_index v.counts.items q)
+
 -- so many temporaries have been counted
 pub record IsCounted (f : Outline) (temps : ℕ) (v : Counting) : Type 0 where
   pub sized : AreCounts (length (points f)) v

@@ -1,6 +1,6 @@
 -- How many registers a function needs beside the two that every call may change: of the temporaries that are held over no
 -- call, the greatest number that is live at one point, less these two.
-use Rattle.std.specs.Prelude.{ℕ, ◌-◌, ◌&&◌, not, Bool, min, max, List, [], ◌∷◌}
+use Rattle.std.specs.Prelude.{ℕ, ◌+◌, ◌-◌, ◌&&◌, not, Bool, min, max, List, [], ◌∷◌}
 use Rattle.std.specs.List.{count_by, range_with_len}
 use Rattle.pw_db.specs.Limits.{last_register, last_temporary}
 use Rattle.pw_summary.specs.Summary.{need_limit}
@@ -22,6 +22,10 @@ short_at f p = count_by (is_short f p) (range_with_len 0 f.temps)
 abbrev pub most_short : Outline → List Point → ℕ
 most_short f [] = 0
 most_short f (p ∷ ps) = max (short_at f p) (most_short f ps)
+
+-- where so many are live at one point, the need is as great as it may be
+abbrev pub enough : ℕ
+enough = need_limit + changed_count
 
 -- at most as many registers as are saved for others
 abbrev pub need : Outline → ℕ

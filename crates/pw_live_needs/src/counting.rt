@@ -2,7 +2,7 @@
 
 ghost use Rattle.std.specs.Prelude.{◌≡◌, ◌⊎◌, ◌↔◌, ◌+◌, ◌≤◌, ◌<◌, ◌^◌, ℕ, length, slice_index, IfOk};
 ghost use Rattle.pw_live_spans.specs.Spans.{IsIn, Covers};
-ghost use Rattle.pw_live_needs.specs.Counts.{full, AreCounts, greatest};
+ghost use Rattle.pw_live_needs.specs.Counts.{full, AreCounts, IsReached, greatest};
 
 use std::alloc::{AllocError as NoMemory, Global};
 
@@ -50,8 +50,9 @@ impl Counting {
         }
     }
 
-    /// The same at the points of a span.
-    fn count_span(&mut self, points: usize, mark: u32, span: (usize, usize))
+    /// The same at the points of a span. Answers no more than what is counted at one of all points, and the greatest count
+    /// of this span.
+    fn count_span(&mut self, points: usize, mark: u32, span: (usize, usize)) -> u32
         requires sized { AreCounts points self.old }
         requires span { (p : ℕ) → IsIn span p → p < points }
         requires room { (p : ℕ) → full self.old mark p < 2 ^ 32 }
@@ -59,14 +60,18 @@ impl Counting {
         ensures same { (p : ℕ) → full self.new mark p ≡ full self.old mark p }
         ensures marked { (p : ℕ) → (slice_index self.new.marks.items p ≡ mark) ↔ ((slice_index self.old.marks.items p ≡ mark) ⊎ IsIn span p) }
         ensures others { (p : ℕ) → (slice_index self.new.marks.items p ≡ mark) ⊎ (slice_index self.new.marks.items p ≡ slice_index self.old.marks.items p) }
+        ensures reached { IsReached result self.new }
     {
+        let mut most: u32 = 0;
         for q in span.0..span.1 {
             self.count_at(points, mark, q);
+            most = most.max(self.counts[q]);
         }
+        most
     }
 
     /// The same at the points of spans.
-    pub fn count_spans(&mut self, points: usize, mark: u32, spans: &[(usize, usize)])
+    pub fn count_spans(&mut self, points: usize, mark: u32, spans: &[(usize, usize)]) -> u32
         requires sized { AreCounts points self.old }
         requires spans { (p : ℕ) → Covers spans.now p → p < points }
         requires room { (p : ℕ) → full self.old mark p < 2 ^ 32 }
@@ -74,10 +79,14 @@ impl Counting {
         ensures same { (p : ℕ) → full self.new mark p ≡ full self.old mark p }
         ensures marked { (p : ℕ) → (slice_index self.new.marks.items p ≡ mark) ↔ ((slice_index self.old.marks.items p ≡ mark) ⊎ Covers spans.now p) }
         ensures others { (p : ℕ) → (slice_index self.new.marks.items p ≡ mark) ⊎ (slice_index self.new.marks.items p ≡ slice_index self.old.marks.items p) }
+        ensures reached { IsReached result self.new }
     {
+        let mut most: u32 = 0;
         for place in 0..spans.len() {
-            self.count_span(points, mark, spans[place]);
+            let reached = self.count_span(points, mark, spans[place]);
+            most = most.max(reached);
         }
+        most
     }
 }
 

@@ -4,9 +4,12 @@ use Rattle.std.specs.List.{find}
 use Rattle.pw_live.specs.Liveness.{has}
 use Rattle.pw_alloc_temps.specs.Registers.{of_temporaries, allowed, is_taken, with_register}
 use Rattle.pw_alloc_taken.specs.Knowing.{AreGiven}
-use Rattle.pw_alloc_taken.specs.Masks.{in_mask}
+use Rattle.pw_alloc_masks.specs.Masks.{in_mask}
 use Rattle.pw_alloc_registers.proofs.Choosing.{in_joined, find_left}
 use Rattle.pw_alloc_registers.proofs.colouring.colour.Goals as goal
+
+pub is_held-held-requires-clause-liveness : goal.is_held-held-requires-clause-liveness
+is_held-held-requires-clause-liveness c = c.requires.facts.liveness
 
 pub give-requires-clause-register : goal.give-requires-clause-register
 give-requires-clause-register c = subst (λ (o : Option ℕ). IfSome o (λ r. r < 32)) c.in-Some.is c.first_free.ensures.low

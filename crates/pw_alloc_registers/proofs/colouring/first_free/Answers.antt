@@ -1,6 +1,6 @@
 use Rattle.std.proofs.Common.{◌∙◌, not, Bool, sym, ap}
 use Rattle.std.specs.List.{find}
-use Rattle.pw_alloc_taken.specs.Masks.{in_mask}
+use Rattle.pw_alloc_masks.specs.Masks.{in_mask}
 use Rattle.pw_alloc_temps.specs.Registers.{of_temporaries}
 use Rattle.pw_alloc_registers.proofs.colouring.first_free.Goals as goal
 

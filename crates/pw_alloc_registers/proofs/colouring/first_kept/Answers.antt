@@ -2,7 +2,7 @@ use Rattle.std.proofs.Common.{◌&&◌, ◌∙◌, ℕ, not, Bool, sym, ap}
 use Rattle.pw_live.specs.Liveness.{has}
 use Rattle.pw_db.specs.Limits.{kept_registers}
 use Rattle.pw_alloc_temps.specs.Registers.{shared, unshared}
-use Rattle.pw_alloc_taken.specs.Masks.{in_mask}
+use Rattle.pw_alloc_masks.specs.Masks.{in_mask}
 use Rattle.pw_alloc_registers.proofs.Choosing.{find_among, find_first, find_second}
 use Rattle.pw_alloc_registers.proofs.colouring.first_kept.Goals as goal
 

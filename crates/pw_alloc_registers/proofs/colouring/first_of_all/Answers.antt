@@ -1,6 +1,6 @@
 use Rattle.std.proofs.Common.{◌∙◌, ◌++◌, ℕ, not, sym}
 use Rattle.pw_alloc_temps.specs.Registers.{changed_registers, shared, unshared}
-use Rattle.pw_alloc_taken.specs.Masks.{in_mask}
+use Rattle.pw_alloc_masks.specs.Masks.{in_mask}
 use Rattle.pw_alloc_registers.proofs.Choosing.{find_first, find_second}
 use Rattle.pw_alloc_registers.proofs.colouring.first_of_all.Goals as goal
 

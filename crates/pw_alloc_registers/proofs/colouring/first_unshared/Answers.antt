@@ -1,7 +1,7 @@
 use Rattle.std.proofs.Common.{◌∙◌, ℕ, sym}
 use Rattle.pw_live.specs.Liveness.{has}
 use Rattle.pw_db.specs.Limits.{kept_registers}
-use Rattle.pw_alloc_taken.specs.Masks.{in_mask}
+use Rattle.pw_alloc_masks.specs.Masks.{in_mask}
 use Rattle.pw_alloc_registers.proofs.Choosing.{find_left, in_neither}
 use Rattle.pw_alloc_registers.proofs.colouring.first_unshared.Goals as goal
 

@@ -4,7 +4,7 @@ use Rattle.std.proofs.lemmas.List.{take_all, length-map}
 use Rattle.pw_live.specs.Points.{points}
 use Rattle.pw_alloc_temps.specs.Weights.{by_weight}
 use Rattle.pw_alloc_temps.specs.Registers.{given_to}
-use Rattle.pw_alloc_taken.specs.Makers.{maker}
+use Rattle.pw_live_held.specs.Makers.{maker}
 use Rattle.pw_alloc_taken.specs.Knowing.{AreGiven}
 use Rattle.pw_alloc_registers.proofs.Turns.{next_turn, none_yet, all_registers, ordered_below}
 use Rattle.pw_alloc_registers.proofs.colouring.registers.Goals as goal
@@ -12,14 +12,13 @@ use Rattle.pw_alloc_registers.proofs.colouring.registers.Goals as goal
 pub new-requires : goal.new-requires
 new-requires c =
     let v = c.in_ok-facts.facts in
-    c.len-points.ensures ∙ v.makers.ok.0 ∙ ap (λ (ms : List (Option ℕ)). length ms) c.in_ok-facts.ensures.makers ∙ length-map (points c.args.f.now) maker
+    c.len-points.ensures ∙ v.liveness.makers.ok.0 ∙ ap (λ (ms : List (Option ℕ)). length ms) c.in_ok-facts.ensures.liveness.makers ∙ length-map (points c.args.f.now) maker
 
 pub colour-requires : goal.colour-requires
 colour-requires c =
     let f = c.args.f.now in
     let order = c.in_ok-order.order in
     record {
-      outline = c.requires;
       facts = c.in_ok-facts.ensures;
       sized = c.loop-place.invariant.sized;
       temp = ordered_below f order.items c.loop-place.place c.index.result.now c.in_ok-order.ensures (let low = c.loop-place-test.true in let size = order.ok.0 in let many = c.len-count.ensures in omega (arith, low, size, many)) c.index.ensures;

@@ -3,7 +3,7 @@ use Rattle.std.proofs.lemmas.Bool.{both_ways}
 use Rattle.std.proofs.lemmas.List.{take_all}
 use Rattle.std.proofs.lemmas.List.Elements.{Contains-get_or}
 use Rattle.pw_live_spans.specs.Spans.{IsIn, Covers}
-use Rattle.pw_alloc_taken.proofs.Masking.{first_none, first_more, read_again}
+use Rattle.pw_live_held.proofs.Spanning.{first_none, first_more, read_again}
 use Rattle.pw_alloc_taken.proofs.given.is_live_at_start.Goals as goal
 
 pub loop-place-init : goal.loop-place-init

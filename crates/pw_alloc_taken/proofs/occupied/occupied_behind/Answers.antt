@@ -1,8 +1,11 @@
 use Rattle.std.proofs.Common.{◌<◌, ℕ, List, get_or, length, arith, rules, subst}
 use Rattle.std.specs.Prelude.{◌↔◌}
 use Rattle.std.proofs.lemmas.List.{take_all}
-use Rattle.pw_alloc_taken.specs.Masks.{HasRegister, IsOccupiedBehind}
-use Rattle.pw_alloc_taken.proofs.Masking.{behind_none, behind_more, zero_mask, read_again}
+use Rattle.pw_alloc_masks.specs.Masks.{HasRegister}
+use Rattle.pw_alloc_taken.specs.Masks.{IsOccupiedBehind}
+use Rattle.pw_live_held.proofs.Spanning.{read_again}
+use Rattle.pw_alloc_masks.proofs.Joining.{zero_mask}
+use Rattle.pw_alloc_taken.proofs.Masking.{behind_none, behind_more}
 use Rattle.pw_alloc_taken.proofs.occupied.occupied_behind.Goals as goal
 
 pub loop-place-init : goal.loop-place-init

@@ -1,8 +1,9 @@
 use Rattle.std.proofs.Common.{◌∙◌, ℕ, get_or, arith, refl}
 use Rattle.std.specs.Prelude.{slice_index}
 use Rattle.std.proofs.lemmas.List.Elements.{Contains-get_or}
-use Rattle.pw_alloc_taken.specs.Masks.{HasRegister}
-use Rattle.pw_alloc_taken.proofs.Masking.{spread_none, spread_more, spread_all, read_again}
+use Rattle.pw_alloc_masks.specs.Masks.{HasRegister}
+use Rattle.pw_live_held.proofs.Spanning.{read_again}
+use Rattle.pw_alloc_taken.proofs.Masking.{spread_none, spread_more, spread_all}
 use Rattle.pw_alloc_taken.proofs.occupied.occupy.Goals as goal
 
 pub loop-place-init : goal.loop-place-init

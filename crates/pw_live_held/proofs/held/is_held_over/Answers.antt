@@ -1,7 +1,8 @@
-use Rattle.std.proofs.Common.{get_or}
+use Rattle.std.proofs.Common.{get_or, map}
 use Rattle.std.proofs.lemmas.Bool.{both_ways}
 use Rattle.std.proofs.lemmas.List.Elements.{Contains-get_or}
-use Rattle.pw_live_held.specs.Makers.{IsOverCall}
+use Rattle.pw_live.specs.Points.{points}
+use Rattle.pw_live_held.specs.Makers.{calls, IsOverCall}
 use Rattle.pw_live_held.proofs.Spanning.{first_none, found_in, none_in, none_so_far, read_again}
 use Rattle.pw_live_held.proofs.held.is_held_over.Goals as goal
 
@@ -13,15 +14,15 @@ is_held_within-requires-clause-points c = λ p low high. c.requires.points p (ge
 
 pub returns-then-is_held_within : goal.returns-then-is_held_within
 returns-then-is_held_within c =
-    found_in (IsOverCall c.args.makers.now c.args.calls.now c.args.t) c.args.spans.now (get_or c.args.spans.now c.loop-place.place (0, 0)) (Contains-get_or c.args.spans.now c.loop-place.place (0, 0) c.loop-place-test.true)
+    found_in (IsOverCall c.args.makers.now (map calls (points c.args.f.now)) c.args.t) c.args.spans.now (get_or c.args.spans.now c.loop-place.place (0, 0)) (Contains-get_or c.args.spans.now c.loop-place.place (0, 0) c.loop-place-test.true)
     (c.is_held_within.ensures.0 c.if-is_held_within.true)
 
 pub loop-place-preserved : goal.loop-place-preserved
 loop-place-preserved c =
     let spans = c.args.spans.now in
     let place = c.loop-place.place in
-    none_so_far (IsOverCall c.args.makers.now c.args.calls.now c.args.t) spans place (get_or spans place (0, 0)) c.loop-place-test.true (read_again spans place (0, 0) c.loop-place-test.true)
+    none_so_far (IsOverCall c.args.makers.now (map calls (points c.args.f.now)) c.args.t) spans place (get_or spans place (0, 0)) c.loop-place-test.true (read_again spans place (0, 0) c.loop-place-test.true)
     (λ is. both_ways c.is_held_within.result c.if-is_held_within.false (c.is_held_within.ensures.1 is)) c.loop-place.invariant
 
 pub returns : goal.returns
-returns c = none_in (IsOverCall c.args.makers.now c.args.calls.now c.args.t) c.args.spans.now c.loop-place.place c.loop-place-test.false c.loop-place.invariant
+returns c = none_in (IsOverCall c.args.makers.now (map calls (points c.args.f.now)) c.args.t) c.args.spans.now c.loop-place.place c.loop-place-test.false c.loop-place.invariant

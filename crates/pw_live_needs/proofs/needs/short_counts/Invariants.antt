@@ -1,5 +1,0 @@
-use Rattle.pw_live_needs.specs.Counts.{IsCounted}
-use Rattle.pw_live_needs.proofs.needs.short_counts.Given as goal
-
-abbrev pub invariant-loop-t : goal.invariant-loop-t
-invariant-loop-t l = IsCounted l.f l.t l.counting
