@@ -1,10 +1,13 @@
-use Rattle.std.proofs.Common.{ap, ◌∙◌}
+use Rattle.std.proofs.Common.{subst}
 use Rattle.std.proofs.lemmas.Result.{IfOk-weaker}
 use Rattle.pw_cmean.specs.SourceRun.{source_run}
 use Rattle.pw_interp_world.specs.Views.{view_program}
 use Rattle.pw_interp_calls.specs.Frames.{frame_among}
+use Rattle.pw_interp.specs.Streaming.{Interprets}
 use Rattle.pw_interp.proofs.run.run_listed.Goals as goal
 
-pub returns : goal.returns
-returns c =
-    IfOk-weaker c.run_owned.result _ _ (λ r h. h ∙ ap (λ ps. source_run (view_program ps) (frame_among c.args.frames.now) c.args.stack c.args.input.now c.args.bound) c.in_ok-names.ensures) c.run_owned.ensures
+pub returns-clause-over : goal.returns-clause-over
+returns-clause-over g c =
+    IfOk-weaker c.run_owned.result _ _ (λ end h.
+    subst (λ ps. Interprets (λ bytes. source_run (view_program ps) (frame_among c.args.frames.now) c.args.stack bytes c.args.bound) (g.I.Source.rest c.args.input.now) (g.O.Sink.taken c.args.out.now) end _ _) c.in_ok-names.ensures h)
+    c.run_owned.ensures.over
