@@ -6,7 +6,7 @@ ghost use Rattle.pw_top_answer.specs.Answers.{line_text};
 ghost use Rattle.pw_top_answer.specs.Outcomes.{InputCount, LeavesStreams, OutputCount, StoreCount, Tells, TellsSome};
 ghost use Rattle.pw_law_session.specs.FromSession.FromBuildFiles.Genuine.{KeepsGenuine};
 ghost use Rattle.pw_top.specs.Answers.{HoldsNoWantOfMemory, IsNoUsage};
-ghost use Rattle.pw_top.specs.Commands.{BuildsFirst, BuildsWhole, EndsScript, IsComplete, IsNoSession, KeepsTheRest, OnlyReads, is_builder, is_phase, is_reader, line_of};
+ghost use Rattle.pw_top.specs.Commands.{BuildsFirst, BuildsWhole, EndsScript, IsComplete, IsNoSession, KeepsTheRest, OnlyReads, is_builder, is_phase, is_reader, line_due};
 ghost use Rattle.pw_top.specs.Does.{DoesAs};
 ghost use Rattle.pw_top.specs.Obeying.{CarriesOut, outside_of};
 ghost use Rattle.pw_top_words.specs.CommandLine.{command_of};
@@ -14,6 +14,7 @@ ghost use Rattle.pw_top_words.specs.Limits.{IsWithin};
 
 use pw_commands::{analyse_modules, link_modules, list_image, run_image, show_database};
 use pw_commands_cpp::preprocess_module;
+use pw_commands_interp::interpret_modules;
 use pw_commands_phases::{compile_flow, compile_text};
 use pw_commands_where::show_call;
 use pw_go::go;
@@ -111,6 +112,7 @@ fn obey_builder<S: Store, I: Source, O: Sink>(
         },
         Command::Bench { number, opts } => bench(alloc, *number, opts, out),
         Command::Where { call, opts } => show_call(alloc, store, opts, *call, input, out),
+        Command::Interp(opts) => interpret_modules(alloc, store, opts, input, out),
         _ => unreachable!(),
     }
 }
@@ -140,7 +142,8 @@ fn obey<S: Store, I: Source, O: Sink>(
         | Command::Build(_)
         | Command::Session(_)
         | Command::Bench { .. }
-        | Command::Where { .. } => obey_builder(alloc, command, store, input, out),
+        | Command::Where { .. }
+        | Command::Interp(_) => obey_builder(alloc, command, store, input, out),
     }
 }
 
@@ -221,7 +224,7 @@ pub fn pawc_top<S: Store, I: Source, O: Sink, E: Sink>(
     ensures output_faults { OutputCount (O.faults out.old) (O.faults out.new) result }
 
     // the line
-    ensures line { IfSome (S.told store.old) (λ told. Tells (line_text (line_of (command_of (map string_bytes words.now)) told.files) result) (E.taken err.old) (E.taken err.new) (E.faults err.old) (E.faults err.new)) }
+    ensures line { IfSome (S.told store.old) (λ told. Tells (line_text (line_due (command_of (map string_bytes words.now)) told.files result) result) (E.taken err.old) (E.taken err.new) (E.faults err.old) (E.faults err.new)) }
     ensures some_line { TellsSome result (E.taken err.old) (E.taken err.new) (E.faults err.old) (E.faults err.new) }
 {
     a_store_is_built_exactly_where_it_can_be();
