@@ -8,20 +8,23 @@ use Rattle.pw_token.specs.Places.{line_at}
 use Rattle.pw_front_end.specs.Fronts.{HoldsNoWant}
 use Rattle.pw_front_end.specs.Places.{token_place}
 use Rattle.pw_phase_one.specs.FirstPhase.{typed_text}
-use Rattle.pw_io.specs.Streams.{Appends}
-use Rattle.pw_cmean.specs.Worlds.{ProgramModule}
+use Rattle.pw_cmean.specs.Worlds.{Program, ProgramModule}
 use Rattle.pw_cmean.specs.Acts as acts
 use Rattle.pw_cmean.specs.SourceRun.{Run, source_run}
 use Rattle.pw_interp_calls.specs.Frames.{frame_among}
-use Rattle.pw_interp.specs.Programs.{program_of}
+use Rattle.pw_interp.specs.Ends.{view_end}
+use Rattle.pw_interp.specs.declared.ends.CEnd.{CEnd}
 use Rattle.pw_interp.specs.declared.ends.InterpFault.{InterpFault}
-use Rattle.pw_interp.specs.declared.ends.InterpFault.TheVariants as fault
+use Rattle.pw_interp.specs.declared.ends.InterpFault.TheVariants as interp
 use Rattle.pw_image.specs.declared.image.Image.{Image}
+use Rattle.pw_image.specs.Image.{Contents, IsImageFile}
 use Rattle.pw_link.specs.Linking.{linked}
 use Rattle.pw_store_modules.specs.Modules.{Source, modules_of}
 use Rattle.pw_top_answer.specs.declared.answer.Answer.{Answer}
-use Rattle.pw_top_answer.specs.declared.answer.Answer.TheVariants.{Done, Ended, Usage, Refused, RefusedSource, Cpp, LinkRefused, StackStop, Spent, Halted, ReadFault, WriteFault, StoreFault, NoMemory, BadFile, BadScript, NoFrames, Undefined}
+use Rattle.pw_top_answer.specs.declared.answer.Answer.TheVariants.{Ended, Refused, LinkRefused, StackStop, Spent, ReadFault, WriteFault, StoreFault, NoMemory, Undefined}
 use Rattle.pw_top_answer.specs.Effects.{Effect, answers_alone}
+use Rattle.pw_top_answer.specs.Outcomes.{Answers, LeavesInput, PutsOut}
+use Rattle.pw_commands.specs.Outcome.{IsFound}
 use Rattle.pw_build_objects.specs.Programs.{Parts}
 use Rattle.pw_build_files.specs.FromBuild.BuildFault.{BuildFault}
 use Rattle.pw_build_files.specs.FromBuild.Builds.{Builds}
@@ -30,7 +33,6 @@ use Rattle.pw_build_files.specs.Building.{kept_objects}
 use Rattle.pw_build_files.specs.Outcomes.{fault_answer}
 use Rattle.pw_build_opts.specs.declared.opts.RunOpts.{RunOpts}
 use Rattle.pw_top_answer.specs.declared.answer.Reply.{Reply}
-use Rattle.pw_commands_interp.specs.declared.programs.Program.{Program}
 
 -- ---- the program and its run
 
@@ -84,30 +86,56 @@ IsInterpAnswer NoMemory = Unit {0}
 IsInterpAnswer (Undefined operation name token) = Unit {0}
 IsInterpAnswer _ = ⊥
 
--- The run came to its end, or none began. Where it was given up, nothing is said of what it wrote and read.
-abbrev pub IsWholeRun : Answer → Type 0
-IsWholeRun ReadFault = ⊥
-IsWholeRun WriteFault = ⊥
-IsWholeRun StoreFault = ⊥
-IsWholeRun NoMemory = ⊥
-IsWholeRun _ = Unit {0}
+-- those of a run
+abbrev pub IsRunAnswer : Answer → Type 0
+IsRunAnswer (Ended status) = Unit {0}
+IsRunAnswer StackStop = Unit {0}
+IsRunAnswer Spent = Unit {0}
+IsRunAnswer ReadFault = Unit {0}
+IsRunAnswer WriteFault = Unit {0}
+IsRunAnswer NoMemory = Unit {0}
+IsRunAnswer (Undefined operation name token) = Unit {0}
+IsRunAnswer _ = ⊥
 
 -- why a run was given up, as the answer
 abbrev pub given_up : InterpFault → Answer
-given_up fault.ReadFault = ReadFault
-given_up fault.WriteFault = WriteFault
-given_up fault.NoMemory = NoMemory
+given_up interp.ReadFault = ReadFault
+given_up interp.WriteFault = WriteFault
+given_up interp.NoMemory = NoMemory
 
--- a run was answered so, and left that of its input and output
-pub record RanAs (run : Run) (bytes : List ℕ) (taken : Option (List ℕ)) (answer : Answer) (rest' taken' : Option (List ℕ)) : Type 0 where
-  pub answers : answer ≡ end_answer run.end
-  pub left : rest' ≡ Some (drop run.read bytes)
-  pub took : Appends taken taken' run.out
+-- what a run came to, as the answer
+abbrev pub answer_of : Result CEnd InterpFault → Answer
+answer_of (Ok end) = end_answer (view_end end)
+answer_of (Err fault) = given_up fault
 
--- What the run of a program answers, reads and writes, of a source that tells its bytes; of a run that was given up nothing.
-abbrev pub RunsAs : Program → RunOpts → Option (List ℕ) → Option (List ℕ) → Answer → Option (List ℕ) → Option (List ℕ) → Type 0
-RunsAs program opts rest taken answer rest' taken' =
-    IsWholeRun answer → IfSome rest (λ bytes. RanAs (source_run (program_of program.modules.items) (frame_among program.frames.items) opts.build.stack bytes opts.budget) bytes taken answer rest' taken')
+-- A run was answered so, and left that of its input and output.
+pub record RanAs (run : Run) (bytes : List ℕ) (answer : Answer) (rest' taken taken' : Option (List ℕ)) : Type 0 where
+  pub answers : Answers (end_answer run.end) answer
+  pub output : PutsOut run.out answer taken taken'
+  pub rest : LeavesInput (drop run.read bytes) bytes answer rest'
+
+-- the same of a program's run, of a source that tells its bytes
+abbrev pub RunsAs : Program → (List ℕ → ℕ) → RunOpts → Option (List ℕ) → Answer → Option (List ℕ) → Option (List ℕ) → Option (List ℕ) → Type 0
+RunsAs program frame_of opts rest answer rest' taken taken' =
+    IfSome rest (λ bytes. RanAs (source_run program frame_of opts.build.stack bytes opts.budget) bytes answer rest' taken taken')
+
+-- the same of modules that were linked to an image
+abbrev pub RunsLinked : List Source → List ℕ → RunOpts → Option (List ℕ) → Answer → Option (List ℕ) → Option (List ℕ) → Option (List ℕ) → Type 0
+RunsLinked sources image opts rest answer rest' taken taken' =
+    (c : Contents Image) (modules : List ProgramModule) → IsImageFile image c → AreTyped sources modules
+    → RunsAs (record { modules = modules }) (frame_among (frames_of c.value)) opts rest answer rest' taken taken'
+
+-- a fact, but where memory ran out
+abbrev pub UnlessMemory : Answer → Type 0 → Type 0
+UnlessMemory NoMemory P = Unit {0}
+UnlessMemory _ P = P
+
+-- The command answered, put out and left of its input what it comes to over a store's files.
+pub record Did (files : Files) (opts : RunOpts) (input : List ℕ) (answer : Answer) (rest' taken taken' : Option (List ℕ)) : Type 0 where
+  pub answers : (effect : Effect) → InterpEffect files opts input effect → Answers effect.answer answer
+  pub output : (effect : Effect) → InterpEffect files opts input effect → PutsOut effect.output answer taken taken'
+  pub rest : (effect : Effect) → InterpEffect files opts input effect → LeavesInput effect.rest input answer rest'
+  pub found : IsFound (InterpEffect files opts input) answer
 
 -- ---- the line
 
@@ -121,9 +149,14 @@ abbrev pub run_line : List Source → Answer → Option ℕ
 run_line sources (Undefined operation name token) = token_line sources name token
 run_line sources _ = None
 
+-- the answer to a run whose line is that of a token
+abbrev pub TellsToken : Answer → Type 0
+TellsToken (Undefined operation name token) = Unit {0}
+TellsToken _ = ⊥
+
 -- the answer with its line, or want of memory for that
 abbrev pub RepliesTo : List Source → Answer → Reply → Type 0
-RepliesTo sources answer reply = ((reply.answer ≡ answer) × (reply.line ≡ run_line sources answer)) ⊎ (reply.answer ≡ NoMemory)
+RepliesTo sources answer reply = ((reply.answer ≡ answer) × (reply.line ≡ run_line sources answer)) ⊎ ((reply.answer ≡ NoMemory) × TellsToken answer)
 
 -- the line that an answer tells: on which a module is refused, or on which an undefined operation is met
 abbrev pub told_line : List Source → Answer → Option ℕ

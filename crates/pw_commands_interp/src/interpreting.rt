@@ -1,24 +1,21 @@
 //! The command `interp`.
 
-ghost use Rattle.std.specs.Prelude.{◌≡◌, ◌≤◌, ◌<◌, IfSome, List, ℕ, map};
+ghost use Rattle.std.specs.Prelude.{◌≡◌, ◌≤◌, ◌<◌, IfSome, List, map};
 ghost use Rattle.pw_io.specs.Files.{Keeps};
-ghost use Rattle.pw_image.specs.declared.image.Image.{Image};
-ghost use Rattle.pw_image.specs.Image.{Contents, IsImageFile};
 ghost use Rattle.pw_cmean.specs.Worlds.{ProgramModule};
-ghost use Rattle.pw_cmean.specs.SourceRun.{source_run};
+ghost use Rattle.pw_interp.specs.Programs.{program_of};
 ghost use Rattle.pw_interp_calls.specs.Frames.{frame_among};
 ghost use Rattle.pw_db.specs.Limits.{colour_limit};
 ghost use Rattle.pw_store_modules.specs.Modules.{modules_of};
 ghost use Rattle.pw_store_modules.specs.Views.{source};
-ghost use Rattle.pw_top_answer.specs.Effects.{Effect};
-ghost use Rattle.pw_top_answer.specs.Outcomes.{Answers, InputCount, IsLineDue, LeavesInput, LeavesStreams, OutputCount, PutsOut, StoreCount};
-ghost use Rattle.pw_commands.specs.Outcome.{IsFound};
+ghost use Rattle.pw_top_answer.specs.Outcomes.{InputCount, IsLineDue, LeavesStreams, OutputCount, StoreCount};
 ghost use Rattle.pw_build_files.specs.Outcomes.{AreOpts, HoldsImage};
-ghost use Rattle.pw_commands_interp.specs.Interpreting.{AreTyped, InterpEffect, IsInterpAnswer, IsWholeRun, RepliesTo, RunsAs, frames_of, run_effect, told_line};
+ghost use Rattle.pw_commands_interp.specs.Interpreting.{AreTyped, Did, IsInterpAnswer, IsRunAnswer, RunsAs, RunsLinked, UnlessMemory, told_line};
 
-use crate::answers::{answer_of_end, answer_of_fault, line_of_end};
+use crate::answers::{answer_of, with_line};
 use crate::programs::{Program, program_of};
-use pw_build_files::{answer_of, modules_to_build, program_of as link_program};
+use pw_build_files::build_laws::modules_have_one_build;
+use pw_build_files::{answer_of as refusal_of, modules_to_build, program_of as link_program};
 use pw_build_objects::Steps;
 use pw_build_opts::RunOpts;
 use pw_interp::interpret;
@@ -37,12 +34,12 @@ fn run_program<I: Source, O: Sink>(
     input: &mut I,
     out: &mut O,
 ) -> Answer
-    ensures runs { RunsAs program.now opts.now (I.rest input.old) (O.taken out.old) result (I.rest input.new) (O.taken out.new) }
-    ensures answer { IsInterpAnswer result }
+    ensures runs { RunsAs (program_of program.now.modules.items) (frame_among program.now.frames.items) opts.now (I.rest input.old) result (I.rest input.new) (O.taken out.old) (O.taken out.new) }
+    ensures answer { IsRunAnswer result }
     ensures read { InputCount (I.faults input.old) (I.faults input.new) result }
     ensures write { OutputCount (O.faults out.old) (O.faults out.new) result }
 {
-    match interpret(
+    let ran = interpret(
         alloc,
         &program.modules,
         &program.frames,
@@ -50,10 +47,8 @@ fn run_program<I: Source, O: Sink>(
         opts.budget,
         input,
         out,
-    ) {
-        Ok(end) => answer_of_end(end),
-        Err(fault) => answer_of_fault(fault),
-    }
+    );
+    answer_of(ran)
 }
 
 /// Runs the program of modules that were linked to an image.
@@ -66,32 +61,15 @@ fn run_linked<I: Source, O: Sink>(
     out: &mut O,
 ) -> Answer
     requires { HoldsImage image.now }
-    ensures answers { IfSome (I.rest input.old) (λ rest. (c : Contents Image) (typed : List ProgramModule) → IsImageFile image.now c → AreTyped (map source modules.now) typed
-        → Answers (run_effect (source_run (record { modules = typed }) (frame_among (frames_of c.value)) opts.now.build.stack rest opts.now.budget) rest).answer result) }
-    ensures output { IfSome (I.rest input.old) (λ rest. (c : Contents Image) (typed : List ProgramModule) → IsImageFile image.now c → AreTyped (map source modules.now) typed → IsWholeRun result
-        → PutsOut (run_effect (source_run (record { modules = typed }) (frame_among (frames_of c.value)) opts.now.build.stack rest opts.now.budget) rest).output result (O.taken out.old) (O.taken out.new)) }
-    ensures rest { IfSome (I.rest input.old) (λ rest. (c : Contents Image) (typed : List ProgramModule) → IsImageFile image.now c → AreTyped (map source modules.now) typed → IsWholeRun result
-        → LeavesInput (run_effect (source_run (record { modules = typed }) (frame_among (frames_of c.value)) opts.now.build.stack rest opts.now.budget) rest).rest rest result (I.rest input.new)) }
-    ensures answer { IsInterpAnswer result }
+    ensures runs { RunsLinked (map source modules.now) image.now opts.now (I.rest input.old) result (I.rest input.new) (O.taken out.old) (O.taken out.new) }
+    ensures typed { UnlessMemory result ((typed : List ProgramModule) × AreTyped (map source modules.now) typed) }
+    ensures answer { IsRunAnswer result }
     ensures read { InputCount (I.faults input.old) (I.faults input.new) result }
     ensures write { OutputCount (O.faults out.old) (O.faults out.new) result }
 {
     match program_of(alloc, modules, image) {
         Ok(program) => run_program(alloc, &program, opts, input, out),
         Err(AllocError) => Answer::NoMemory,
-    }
-}
-
-/// The answer to a run with its line.
-fn with_line(alloc: Global, modules: &[Module], answer: Answer) -> Reply
-    ensures { RepliesTo (map source modules.now) answer result }
-{
-    match line_of_end(alloc, modules, &answer) {
-        Ok(line) => Reply { answer, line },
-        Err(AllocError) => Reply {
-            answer: Answer::NoMemory,
-            line: None,
-        },
     }
 }
 
@@ -109,10 +87,7 @@ fn interpret_counted<S: Store, L: Ledger, I: Source, O: Sink>(
     requires name { blank.name ≡ L.name }
     requires parts { blank.parts ≡ L.parts }
     requires some { 0 < blank.parts }
-    ensures answers { IfSome (S.told store.old) (λ told. map source modules.now ≡ modules_of told.files → IfSome (I.rest input.old) (λ rest. (effect : Effect) → InterpEffect told.files opts.now rest effect → Answers effect.answer result.answer)) }
-    ensures output { IfSome (S.told store.old) (λ told. map source modules.now ≡ modules_of told.files → IfSome (I.rest input.old) (λ rest. (effect : Effect) → InterpEffect told.files opts.now rest effect → IsWholeRun result.answer → PutsOut effect.output result.answer (O.taken out.old) (O.taken out.new))) }
-    ensures rest { IfSome (S.told store.old) (λ told. map source modules.now ≡ modules_of told.files → IfSome (I.rest input.old) (λ rest. (effect : Effect) → InterpEffect told.files opts.now rest effect → IsWholeRun result.answer → LeavesInput effect.rest rest result.answer (I.rest input.new))) }
-    ensures found { IfSome (S.told store.old) (λ told. map source modules.now ≡ modules_of told.files → IfSome (I.rest input.old) (λ rest. IsWholeRun result.answer → IsFound (InterpEffect told.files opts.now rest) result.answer)) }
+    ensures did { IfSome (S.told store.old) (λ told. map source modules.now ≡ modules_of told.files → IfSome (I.rest input.old) (λ rest. Did told.files opts.now rest result.answer (I.rest input.new) (O.taken out.old) (O.taken out.new))) }
     ensures line { IsLineDue (told_line (map source modules.now) result.answer) result.answer result.line }
     ensures same { Keeps (S.told store.old) (S.told store.new) }
     ensures answer { IsInterpAnswer result.answer }
@@ -121,6 +96,7 @@ fn interpret_counted<S: Store, L: Ledger, I: Source, O: Sink>(
     ensures write { OutputCount (O.faults out.old) (O.faults out.new) result.answer }
     ensures streams { LeavesStreams result.answer (I.rest input.old) (I.rest input.new) (O.taken out.old) (O.taken out.new) }
 {
+    modules_have_one_build();
     let mut steps: Steps<L> = Steps::new(blank);
     match link_program(alloc, store, modules, &opts.build, &mut steps) {
         Ok(linked) => {
@@ -130,7 +106,7 @@ fn interpret_counted<S: Store, L: Ledger, I: Source, O: Sink>(
         }
         Err(unbuilt) => Reply {
             line: unbuilt.line,
-            answer: answer_of(unbuilt.fault),
+            answer: refusal_of(unbuilt.fault),
         },
     }
 }
@@ -142,7 +118,8 @@ fn interpret_counted<S: Store, L: Ledger, I: Source, O: Sink>(
 /// The answer is how the run ended: `Ended`, `StackStop`, `Spent` where it did not end within the bound, or `Undefined` at the first
 /// operation that has no meaning in C, with the module and the token that met it, and the token's line. `Refused` for the first
 /// module that is refused, with the line, and `LinkRefused` where the modules are refused together; then nothing is read or put
-/// out. A fault of the store, the input or the output, or want of memory, gives the run up.
+/// out. At a fault of the store, the input or the output, or for want of memory, the run is given up: what was put out is a front of
+/// the program's output, and what was read a front of what it reads.
 pub fn interpret_modules<S: Store, I: Source, O: Sink>(
     alloc: Global,
     store: &mut S,
@@ -151,10 +128,7 @@ pub fn interpret_modules<S: Store, I: Source, O: Sink>(
     out: &mut O,
 ) -> Reply
     requires { AreOpts opts.now.build }
-    ensures answers { IfSome (S.told store.old) (λ told. IfSome (I.rest input.old) (λ rest. (effect : Effect) → InterpEffect told.files opts.now rest effect → Answers effect.answer result.answer)) }
-    ensures output { IfSome (S.told store.old) (λ told. IfSome (I.rest input.old) (λ rest. (effect : Effect) → InterpEffect told.files opts.now rest effect → IsWholeRun result.answer → PutsOut effect.output result.answer (O.taken out.old) (O.taken out.new))) }
-    ensures rest { IfSome (S.told store.old) (λ told. IfSome (I.rest input.old) (λ rest. (effect : Effect) → InterpEffect told.files opts.now rest effect → IsWholeRun result.answer → LeavesInput effect.rest rest result.answer (I.rest input.new))) }
-    ensures found { IfSome (S.told store.old) (λ told. IfSome (I.rest input.old) (λ rest. IsWholeRun result.answer → IsFound (InterpEffect told.files opts.now rest) result.answer)) }
+    ensures did { IfSome (S.told store.old) (λ told. IfSome (I.rest input.old) (λ rest. Did told.files opts.now rest result.answer (I.rest input.new) (O.taken out.old) (O.taken out.new))) }
     ensures line { IfSome (S.told store.old) (λ told. IsLineDue (told_line (modules_of told.files) result.answer) result.answer result.line) }
     ensures same { Keeps (S.told store.old) (S.told store.new) }
     ensures answer { IsInterpAnswer result.answer }
@@ -163,6 +137,7 @@ pub fn interpret_modules<S: Store, I: Source, O: Sink>(
     ensures write { OutputCount (O.faults out.old) (O.faults out.new) result.answer }
     ensures streams { LeavesStreams result.answer (I.rest input.old) (I.rest input.new) (O.taken out.old) (O.taken out.new) }
 {
+    modules_have_one_build();
     match modules_to_build(alloc, store) {
         Ok(modules) => interpret_counted::<S, Brand, I, O>(
             alloc,
@@ -175,7 +150,7 @@ pub fn interpret_modules<S: Store, I: Source, O: Sink>(
         ),
         Err(unbuilt) => Reply {
             line: unbuilt.line,
-            answer: answer_of(unbuilt.fault),
+            answer: refusal_of(unbuilt.fault),
         },
     }
 }

@@ -1,6 +1,7 @@
 -- What a run of a program is seen as.
-use Rattle.std.proofs.Common.{ℕ, ◌+◌, ◌≡◌, sym, ap, refl, subst, ◌∙◌, Bool, true, false, List, [], ◌∷◌, drop, Option, Result, Ok, Err, Some, None, arith}
-use Rattle.std.specs.Prelude.{find, cond}
+use Rattle.std.proofs.Common.{ℕ, ◌+◌, ◌≡◌, sym, ap, refl, subst, ◌∙◌, Bool, true, false, List, [], ◌∷◌, ◌++◌, append-nil, take, drop, Option, Result, Ok, Err, Some, None, arith}
+use Rattle.std.specs.Prelude.{IfOk, find, cond}
+use Rattle.std.proofs.lemmas.List.{take-append-drop}
 use Rattle.std.specs.Str.{bytes_eq}
 use Rattle.pw_value.specs.Objects.{Object}
 use Rattle.pw_value.specs.ProgramNames.{start_name, main_name}
@@ -8,9 +9,11 @@ use Rattle.pw_cmean.specs.Worlds.{World, Program, Callable, start_objects, funct
 use Rattle.pw_cmean.specs.Acts as acts
 use Rattle.pw_cmean.specs.Acts.{Act, State, Outcome, Gives, Ends, Wrong, give, need, stop, go_on, wrong, ◌>>=◌}
 use Rattle.pw_cmean.specs.Evaluation.{call}
+use Rattle.pw_cmean.specs.Lasting.{IsLater, state_behind}
+use Rattle.pw_interp_lasting.specs.Going.{GoesOnFrom}
 use Rattle.pw_cmean.specs.SourceRun.{Run, seen, finish, start_state, calls, run_main}
 use Rattle.pw_io.specs.Streams.{Appends}
-use Rattle.pw_interp_state.specs.Shown.{Shown, Streams, shown}
+use Rattle.pw_interp_state.specs.Shown.{Shown, Streams, shown, streams}
 use Rattle.pw_interp_state.specs.Runs.{Shows}
 use Rattle.pw_interp_world.specs.declared.program.LibraryFunction.{LibraryFunction}
 use Rattle.pw_interp_world.specs.declared.program.LibraryFunction.TheVariants as L
@@ -25,8 +28,8 @@ use Rattle.pw_interp_calls.specs.Answers.{Stops}
 use Rattle.pw_interp.specs.declared.ends.CEnd.{CEnd}
 use Rattle.pw_interp.specs.declared.ends.InterpFault.{InterpFault}
 use Rattle.pw_interp.specs.Ends.{ending_of, view_end}
-use Rattle.pw_interp.specs.Streaming.{EndsOver, RunsOver, Stopped, StopsOver, unread}
-use Rattle.pw_interp.proofs.StreamLaws.{carried_first, if_some}
+use Rattle.pw_interp.specs.Streaming.{EndsOver, GivenUp, Interprets, LeftBy, RunsOver, StandsStill, Stopped, StopsOver, unread}
+use Rattle.pw_interp.proofs.StreamLaws.{behind_more, carried_first, front_read, if_some, nothing_appended}
 
 -- ---- main
 
@@ -61,15 +64,19 @@ module _ (world : World) (bound : ℕ) where
 
 -- ---- how runs end
 
+-- a run goes on from the streams of its state
+later_from : (s t : State) (st : Streams) → streams s ≡ st → IsLater s t → GoesOnFrom st t
+later_from s t st is p = subst (λ x. GoesOnFrom x t) is (record { written = p.written; taken = p.taken })
+
 -- what ended so without a byte
 pub stops_over : {world : World} {act : Act (Unit {0})} {before behind : Shown} (rest taken : Option (List ℕ)) (why : Stop) (r : Result Ending InterpFault) → r ≡ ending_of why → Stops world act before why behind
-    → RunsOver world act before rest taken r behind rest taken
-stops_over {world = world} {act = act} {before = before} {behind = behind} rest taken why r is stops =
+    → ((s : State) → IsLater s (state_behind (act s))) → RunsOver world act before rest taken r behind rest taken
+stops_over {world = world} {act = act} {before = before} {behind = behind} rest taken why r is stops later =
     subst (λ x. RunsOver world act before rest taken x behind rest taken) (sym is) (by why stops)
   where
     by : (x : Stop) → Stops world act before x behind → RunsOver world act before rest taken (ending_of x) behind rest taken
     by (S.Ended ending) run = if_some rest (λ bytes told s e. record { streams = unread bytes; carried = carried_first bytes taken rest told; shows = run.comes (unread bytes) s e })
-    by S.NoMemory run = if_some rest (λ bytes told s e. tt)
+    by S.NoMemory run = if_some rest (λ bytes told s e. record { streams = unread bytes; carried = carried_first bytes taken rest told; later = later_from s _ (unread bytes) (ap {A = Shown × Streams} (λ x. x.1) e) (later s) })
 
 pub over_named : {world : World} {act other : Act (Unit {0})} {before behind : Shown} (rest taken rest' taken' : Option (List ℕ)) (r : Result Ending InterpFault) → ((s : State) → act s ≡ other s)
     → RunsOver world other before rest taken r behind rest' taken' → RunsOver world act before rest taken r behind rest' taken'
@@ -101,6 +108,72 @@ ends_over {o = o} {now = now} ending end bytes taken rest' taken' same s =
       left = s.carried.left ∙ ap Some s.carried.read ∙ ap (λ (r : Run). Some (drop r.read bytes)) (sym is);
       took = subst (λ (r : Run). Appends taken taken' r.out) (sym is) s.carried.took;
     }
+
+-- ---- runs that are given up
+
+seen_out : (o : Outcome (Unit {0})) → (seen o).out ≡ (state_behind o).out
+seen_out (Gives d t) = refl
+seen_out (Ends ending t) = refl
+
+seen_read : (o : Outcome (Unit {0})) → (seen o).read ≡ (state_behind o).read
+seen_read (Gives d t) = refl
+seen_read (Ends ending t) = refl
+
+pub still_given_up : (o : Outcome (Unit {0})) (bytes : List ℕ) (taken rest' taken' : Option (List ℕ)) → StandsStill o bytes taken rest' taken' → GivenUp (seen o) bytes taken rest' taken'
+still_given_up o bytes taken rest' taken' g =
+    let st = g.streams in
+    let t = state_behind o in
+    let all = g.later.taken in
+    record {
+      output = st.out;
+      more = g.later.written.0;
+      written = seen_out o ∙ g.later.written.1;
+      took = g.carried.took;
+      front = take st.read bytes;
+      left = st.rest;
+      rest_is = g.carried.left;
+      read = front_read bytes st g.carried.read;
+      unread = all.0;
+      behind = all.1 ∙ ap (λ (x : List ℕ). all.0 ++ x) (behind_more bytes all.0 t.rest st t.read g.carried.read all.1 all.2 ∙ ap (λ (n : ℕ). drop n bytes) (sym (seen_read o)));
+    }
+
+-- where a run ended, but its end was not told
+ended_given_up : {world : World} (o : Outcome (Unit {0})) (now : Shown) (ending : Ending) (bytes : List ℕ) (taken rest' taken' : Option (List ℕ)) → StopsOver ending now world o bytes taken rest' taken' → GivenUp (seen o) bytes taken rest' taken'
+ended_given_up o now ending bytes taken rest' taken' s =
+    let st = s.streams in
+    let is = seen_is o (view_ending ending) now st s.shows in
+    record {
+      output = st.out;
+      more = [];
+      written = ap (λ (r : Run). r.out) is ∙ sym (append-nil st.out);
+      took = s.carried.took;
+      front = take st.read bytes;
+      left = st.rest;
+      rest_is = s.carried.left;
+      read = front_read bytes st s.carried.read;
+      unread = [];
+      behind = s.carried.read ∙ ap (λ (r : Run). drop r.read bytes) (sym is);
+    }
+
+pub owned_over : {world : World} {o : Outcome (Unit {0})} {now : Shown} (ending : Ending) (r : Result CEnd InterpFault) (bytes : List ℕ) (taken rest' taken' : Option (List ℕ)) → IfOk r (λ end. view_end end ≡ view_ending ending)
+    → StopsOver ending now world o bytes taken rest' taken' → LeftBy (seen o) bytes taken r rest' taken'
+owned_over ending (Ok end) bytes taken rest' taken' same s = ends_over ending end bytes taken rest' taken' same s
+owned_over {o = o} {now = now} ending (Err fault) bytes taken rest' taken' same s = ended_given_up o now ending bytes taken rest' taken' s
+
+-- a run that has not begun
+pub not_begun : (run : List ℕ → Run) (rest taken : Option (List ℕ)) (fault : InterpFault) → Interprets run rest taken (Err fault) rest taken
+not_begun run rest taken fault = if_some rest (λ bytes told. record {
+  output = [];
+  more = (run bytes).out;
+  written = refl;
+  took = nothing_appended taken;
+  front = [];
+  left = bytes;
+  rest_is = told;
+  read = refl;
+  unread = take (run bytes).read bytes;
+  behind = sym (take-append-drop (run bytes).read bytes);
+})
 
 -- ---- the start
 

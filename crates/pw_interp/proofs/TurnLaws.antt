@@ -1,9 +1,11 @@
 -- What a turn of a run leaves.
 use Rattle.std.proofs.Common.{ℕ, ◌≡◌, List, [], ◌∷◌, Option, Some, None, Result, Ok, Err, refl, subst}
 use Rattle.std.specs.Prelude.{IfErr}
-use Rattle.pw_io.specs.Streams.{TakesNext, Appends}
+use Rattle.pw_io.specs.declared.Failed.{Failed}
+use Rattle.pw_io.specs.Streams.{TakesNext, Appends, AppendsPart}
 use Rattle.pw_cmean.specs.Worlds.{World, Body}
 use Rattle.pw_cmean.specs.Acts.{Outcome}
+use Rattle.pw_cmean.specs.Lasting.{state_behind}
 use Rattle.pw_interp_state.specs.Shown.{Shown, Streams}
 use Rattle.pw_interp_state.specs.Runs.{Shows}
 use Rattle.pw_interp_calls.specs.declared.ending.Ending.{Ending}
@@ -15,11 +17,12 @@ use Rattle.pw_interp_machine.specs.declared.machine.Machine.{Machine}
 use Rattle.pw_interp_machine.specs.Standing.{Stands}
 use Rattle.pw_interp_machine.specs.Stepping.{EndsSo, Steps}
 use Rattle.pw_interp_machine.specs.Streaming.{IsRead, with_byte}
+use Rattle.pw_interp_lasting.specs.Going.{GoesOnFrom}
 use Rattle.pw_interp.specs.declared.ends.InterpFault.{InterpFault}
 use Rattle.pw_interp.specs.declared.ends.InterpFault.TheVariants.{NoMemory}
 use Rattle.pw_interp.specs.Ends.{ending_of}
-use Rattle.pw_interp.specs.Streaming.{GoesOver, StopsOver, Turns}
-use Rattle.pw_interp.proofs.StreamLaws.{byte_carried, put_carried}
+use Rattle.pw_interp.specs.Streaming.{GoesOver, StandsStill, StopsOver, Turns}
+use Rattle.pw_interp.proofs.StreamLaws.{byte_carried, failed_read_carried, failed_write_carried, put_carried}
 
 -- a stop that tells how the run ended
 pub ended_shows : {world : World} {end : Outcome (Unit {0})} {now : Shown × Streams} (stop : Stop) (ending : Ending) → ending_of stop ≡ Ok ending → EndsSo world end stop now → Shows world end (Err (view_ending ending)) now
@@ -69,3 +72,24 @@ pub write_goes : (main : Body) (old new : Machine) (now : Shown) (rest taken tak
     → Turns main old now rest taken (Ok None) new now rest taken'
 write_goes main old new now rest taken taken' byte put sent world end bytes first at =
     record { streams = with_byte byte at.streams; carried = put_carried bytes first at.streams rest taken taken' byte at.carried put; stands = sent world at.streams end at.stands }
+
+-- ---- turns that give the run up
+
+-- the law of what runs leave
+abbrev pub MachinesGoOn : Type 0
+MachinesGoOn = (main : Body) (world : World) (machine : Machine) (now : Shown × Streams) (end : Outcome (Unit {0})) → Stands main world machine now end → GoesOnFrom now.1 (state_behind end)
+
+pub still : MachinesGoOn → (main : Body) (m : Machine) (now : Shown) (world : World) (end : Outcome (Unit {0})) (bytes : List ℕ) (taken rest' taken' : Option (List ℕ)) → GoesOver main m now world end bytes taken rest' taken'
+    → StandsStill end bytes taken rest' taken'
+still law main m now world end bytes taken rest' taken' at = record { streams = at.streams; carried = at.carried; later = law main world m (now, at.streams) end at.stands }
+
+pub step_gives_up : MachinesGoOn → (main : Body) (old new : Machine) (before behind : Shown) (rest taken : Option (List ℕ)) (fault : InterpFault) → Turns main old before rest taken (Err fault) new behind rest taken
+step_gives_up law main old new before behind rest taken fault world end bytes first at = still law main old before world end bytes first rest taken at
+
+pub read_gives_up : MachinesGoOn → (main : Body) (old new : Machine) (now : Shown) (rest rest' taken : Option (List ℕ)) (fault : InterpFault) (why : Failed) → TakesNext rest rest' (Err why) → Turns main old now rest taken (Err fault) new now rest' taken
+read_gives_up law main old new now rest rest' taken fault why next world end bytes first at =
+    record { streams = at.streams; carried = failed_read_carried bytes first at.streams rest rest' taken why at.carried next; later = law main world old (now, at.streams) end at.stands }
+
+pub write_gives_up : MachinesGoOn → (main : Body) (old new : Machine) (now : Shown) (rest taken taken' : Option (List ℕ)) (fault : InterpFault) (byte : ℕ) → AppendsPart taken taken' (byte ∷ []) → Turns main old now rest taken (Err fault) new now rest taken'
+write_gives_up law main old new now rest taken taken' fault byte put world end bytes first at =
+    record { streams = at.streams; carried = failed_write_carried bytes first at.streams rest taken taken' byte at.carried put; later = law main world old (now, at.streams) end at.stands }

@@ -17,6 +17,7 @@ ghost use Rattle.pw_interp.specs.Streaming.{Interprets, ReadCount, RunsOver, Wri
 use crate::ends::{CEnd, InterpFault, ending_of, owned};
 use crate::turns::run;
 use pw_interp_calls::{Ending, World};
+use pw_interp_lasting::runs_go_on;
 use pw_interp_machine::start;
 use pw_interp_start::start_objects;
 use pw_interp_state::State;
@@ -53,6 +54,7 @@ fn call_main<'a, I: Source, O: Sink>(
     ensures read { ReadCount (I.faults input.old) (I.faults input.new) result }
     ensures write { WriteCount (O.faults out.old) (O.faults out.new) result }
 {
+    runs_go_on();
     match start(alloc, world, state, bound, home, f) {
         Ok(machine) => run(alloc, machine, state, Body::Defined(home, f), input, out),
         Err(stop) => ending_of(stop),
@@ -97,7 +99,7 @@ fn run_world<'a, I: Source, O: Sink>(
     input: &mut I,
     out: &mut O,
 ) -> Result<CEnd, InterpFault>
-    ensures over { IfOk result (λ end. Interprets (λ bytes. runs.seen (runs.run_main (view_world world.now) bound (runs.start_state (view_world world.now).program bytes))) (I.rest input.old) (O.taken out.old) end (I.rest input.new) (O.taken out.new)) }
+    ensures over { Interprets (λ bytes. runs.seen (runs.run_main (view_world world.now) bound (runs.start_state (view_world world.now).program bytes))) (I.rest input.old) (O.taken out.old) result (I.rest input.new) (O.taken out.new) }
     ensures read { ReadCount (I.faults input.old) (I.faults input.new) result }
     ensures write { WriteCount (O.faults out.old) (O.faults out.new) result }
 {
@@ -116,7 +118,7 @@ fn run_named<'a, I: Source, O: Sink>(
     input: &mut I,
     out: &mut O,
 ) -> Result<CEnd, InterpFault>
-    ensures over { IfOk result (λ end. Interprets (λ bytes. runs.source_run (view_program names.now.parts.now) (frame_among frames.now) stack bytes bound) (I.rest input.old) (O.taken out.old) end (I.rest input.new) (O.taken out.new)) }
+    ensures over { Interprets (λ bytes. runs.source_run (view_program names.now.parts.now) (frame_among frames.now) stack bytes bound) (I.rest input.old) (O.taken out.old) result (I.rest input.new) (O.taken out.new) }
     ensures read { ReadCount (I.faults input.old) (I.faults input.new) result }
     ensures write { WriteCount (O.faults out.old) (O.faults out.new) result }
 {
@@ -134,7 +136,7 @@ fn run_owned<'a, I: Source, O: Sink>(
     input: &mut I,
     out: &mut O,
 ) -> Result<CEnd, InterpFault>
-    ensures over { IfOk result (λ end. Interprets (λ bytes. runs.source_run (view_program names.entry.parts.now) (frame_among frames.now) stack bytes bound) (I.rest input.old) (O.taken out.old) end (I.rest input.new) (O.taken out.new)) }
+    ensures over { Interprets (λ bytes. runs.source_run (view_program names.entry.parts.now) (frame_among frames.now) stack bytes bound) (I.rest input.old) (O.taken out.old) result (I.rest input.new) (O.taken out.new) }
     ensures read { ReadCount (I.faults input.old) (I.faults input.new) result }
     ensures write { WriteCount (O.faults out.old) (O.faults out.new) result }
 {
@@ -155,7 +157,7 @@ fn run_listed<'a, I: Source, O: Sink>(
 ) -> Result<CEnd, InterpFault>
     requires functions { view_callables callables.now ≡ worlds.functions_of (view_program parts.now) }
     requires objects { globals.now ≡ worlds.global_names (view_program parts.now) }
-    ensures over { IfOk result (λ end. Interprets (λ bytes. runs.source_run (view_program parts.now) (frame_among frames.now) stack bytes bound) (I.rest input.old) (O.taken out.old) end (I.rest input.new) (O.taken out.new)) }
+    ensures over { Interprets (λ bytes. runs.source_run (view_program parts.now) (frame_among frames.now) stack bytes bound) (I.rest input.old) (O.taken out.old) result (I.rest input.new) (O.taken out.new) }
     ensures read { ReadCount (I.faults input.old) (I.faults input.new) result }
     ensures write { WriteCount (O.faults out.old) (O.faults out.new) result }
 {
@@ -177,7 +179,7 @@ pub fn interpret_parts<'a, I: Source, O: Sink>(
     input: &mut I,
     out: &mut O,
 ) -> Result<CEnd, InterpFault>
-    ensures over { IfOk result (λ end. Interprets (λ bytes. runs.source_run (view_program parts.now) (frame_among frames.now) stack bytes bound) (I.rest input.old) (O.taken out.old) end (I.rest input.new) (O.taken out.new)) }
+    ensures over { Interprets (λ bytes. runs.source_run (view_program parts.now) (frame_among frames.now) stack bytes bound) (I.rest input.old) (O.taken out.old) result (I.rest input.new) (O.taken out.new) }
     ensures read { ReadCount (I.faults input.old) (I.faults input.new) result }
     ensures write { WriteCount (O.faults out.old) (O.faults out.new) result }
 {
@@ -213,7 +215,8 @@ fn parts_of<'a>(
 ///
 /// `ReadFault` and `WriteFault` where the input or the output had a fault in this call. `NoMemory` where there is no memory, after
 /// 2^64 steps, and where no accepted program comes: at a layout that 32 bits cannot tell, a function whose type is volatile, or
-/// what the meaning has no word for. After an error what was read and written stays so.
+/// what the meaning has no word for. After an error what was written is a front of the program's output, and what was read a
+/// front of what it reads.
 pub fn interpret<I: Source, O: Sink>(
     alloc: Global,
     modules: &[(Name, TModule)],
@@ -223,7 +226,7 @@ pub fn interpret<I: Source, O: Sink>(
     input: &mut I,
     out: &mut O,
 ) -> Result<CEnd, InterpFault>
-    ensures over { IfOk result (λ end. Interprets (λ bytes. runs.source_run (program_of modules.now) (frame_among frames.now) stack bytes bound) (I.rest input.old) (O.taken out.old) end (I.rest input.new) (O.taken out.new)) }
+    ensures over { Interprets (λ bytes. runs.source_run (program_of modules.now) (frame_among frames.now) stack bytes bound) (I.rest input.old) (O.taken out.old) result (I.rest input.new) (O.taken out.new) }
     ensures read { ReadCount (I.faults input.old) (I.faults input.new) result }
     ensures write { WriteCount (O.faults out.old) (O.faults out.new) result }
 {

@@ -10,6 +10,7 @@ ghost use Rattle.pw_interp.specs.Streaming.{GoesOver, ReadCount, Stopped, Turns,
 
 use crate::ends::{InterpFault, ending_of};
 use pw_interp_calls::Ending;
+use pw_interp_lasting::runs_go_on;
 use pw_interp_machine::{Machine, receive, sent, step, transfer_of};
 use pw_interp_state::State;
 use pw_interp_todo::{Control, Transfer};
@@ -29,6 +30,7 @@ fn take_step<'a>(
     ensures read { (before : ℕ) → ReadCount before before result }
     ensures write { (before : ℕ) → WriteCount before before result }
 {
+    runs_go_on();
     match step(alloc, machine, state, main) {
         Ok(()) => Ok(None),
         Err(stop) => {
@@ -48,6 +50,7 @@ fn read_byte<'a, I: Source>(
     ensures read { ReadCount (I.faults input.old) (I.faults input.new) result }
     ensures write { (before : ℕ) → WriteCount before before result }
 {
+    runs_go_on();
     match input.next() {
         Ok(byte) => {
             receive(machine, byte);
@@ -68,6 +71,7 @@ fn write_byte<'a, O: Sink>(
     ensures read { (before : ℕ) → ReadCount before before result }
     ensures write { WriteCount (O.faults out.old) (O.faults out.new) result }
 {
+    runs_go_on();
     match out.put(&[byte]) {
         Ok(()) => {
             sent(machine, byte);
@@ -130,6 +134,7 @@ pub(crate) fn run<'a, I: Source, O: Sink>(
     ensures read { ReadCount (I.faults input.old) (I.faults input.new) result }
     ensures write { WriteCount (O.faults out.old) (O.faults out.new) result }
 {
+    runs_go_on();
     let mut machine = machine;
     for _ in 0..u64::MAX {
         let ended = turn(alloc, &mut machine, state, main, input, out)?;

@@ -1,15 +1,15 @@
 -- What a machine has left to do only writes behind what was written and reads on.
-use Rattle.std.proofs.Common.{ℕ, zero, suc, ◌+◌, ◌≡◌, refl, sym, ap, subst, ◌∙◌, arith, List, [], ◌∷◌, ◌++◌, length, Option}
+use Rattle.std.proofs.Common.{ℕ, zero, suc, ◌≡◌, refl, sym, ap, subst, List, [], ◌∷◌, Option}
 use Rattle.pw_value.specs.declared.value.Value.{Value}
 use Rattle.pw_typed.specs.Views.{view_exprs}
-use Rattle.pw_cmean.specs.Worlds.{World, Body}
+use Rattle.pw_cmean.specs.Worlds.{World, Body, Callable}
 use Rattle.pw_cmean.specs.Acts.{Act, State, Outcome, Gives, Ends, Returned, ◌>>=◌, ◌>>◌, give, wrong, end_object}
 use Rattle.pw_cmean.specs.Lasting.{IsLater, state_behind}
-use Rattle.pw_cmean.specs.Evaluation.{Env}
+use Rattle.pw_cmean.specs.Evaluation.{Env, call}
 use Rattle.pw_cmean.specs.Execution.{Flow}
-use Rattle.pw_cmean.specs.SourceRun.{finish, run_main}
-use Rattle.pw_cmean.proofs.ActLaws.{used-r}
-use Rattle.pw_cmean.proofs.TreeLaws.{finish-r, result_of-r, run_main-r}
+use Rattle.pw_cmean.specs.SourceRun.{calls, finish}
+use Rattle.pw_cmean.proofs.ActLaws.{call-r, used-r}
+use Rattle.pw_cmean.proofs.TreeLaws.{finish-r, result_of-r}
 use Rattle.pw_interp_state.specs.Shown.{Shown, Streams}
 use Rattle.pw_interp_calls.specs.Views.{view_env}
 use Rattle.pw_interp_todo.specs.declared.todo.Control.{Control}
@@ -23,11 +23,12 @@ use Rattle.pw_interp_todo.specs.Resuming.{Rest, Told, Gave, Flowed, Listed, on_v
 use Rattle.pw_interp_todo.specs.Transfers.{transfer_act}
 use Rattle.pw_interp_machine.specs.declared.machine.Call.{Call}
 use Rattle.pw_interp_machine.specs.declared.machine.Machine.{Machine}
+use Rattle.pw_interp_machine.specs.Orders.{then_finished}
 use Rattle.pw_interp_machine.specs.Standing.{Stands}
 use Rattle.pw_interp_machine.specs.Waiting.{Active, leave, ended, goes_on, callers_act}
 use Rattle.pw_interp_lasting.specs.Going.{GoesOnFrom}
 use Rattle.pw_interp_lasting.proofs.Acts.{AreLasting, L, as_before, end_lasts, give_l, lasting, of_one, then_l, wrong_l}
-use Rattle.pw_interp_lasting.proofs.Expressions.{asked_l, behind_l, call_l, values_l}
+use Rattle.pw_interp_lasting.proofs.Expressions.{asked_l, behind_l, call_l, calls_l, values_l}
 use Rattle.pw_interp_lasting.proofs.Statements.{doing_l, remainder_l, use_l}
 
 -- ---- what is told
@@ -127,5 +128,8 @@ stands_later main world m now end at =
     subst (λ (o : Outcome (Unit {0})). GoesOnFrom now.1 (state_behind o)) (sym here.comes)
     (later_shown here.state _ now.1 (sym (ap {A = Shown × Streams} (λ x. x.1) here.shows)) (lasts.0 here.state))
 
-pub run_later : (world : World) (bound : ℕ) (s : State) → IsLater s (state_behind (run_main world bound s))
-run_later world bound s = (run_main-r AreLasting lasting world bound bound (omega arith)).0 s
+pub run_later : (world : World) (bound : ℕ) (f : Callable) (args : List Value) (main : Body) (s : State) → IsLater s (state_behind (then_finished (call world (calls world bound) f args) main s))
+run_later world bound f args main s =
+    let lasts : L (then_finished (call world (calls world bound) f args) main) =
+    then_l (call-r AreLasting lasting world _ _ f args (calls_l world bound)) (λ r. finish-r AreLasting lasting main r) in
+    lasts.0 s

@@ -14,7 +14,7 @@ use Rattle.pw_commands.specs.Outcome.{IsFound}
 use Rattle.pw_commands.specs.Running.{run_effect}
 use Rattle.pw_commands.specs.Showing.{DatabaseEffect, ListEffect}
 use Rattle.pw_commands_cpp.specs.Command.{CppEffect}
-use Rattle.pw_commands_interp.specs.Interpreting.{InterpEffect, IsWholeRun}
+use Rattle.pw_commands_interp.specs.Interpreting.{InterpEffect}
 use Rattle.pw_commands_phases.specs.First.{PhaseOneEffect}
 use Rattle.pw_commands_phases.specs.Second.{PhaseTwoEffect}
 use Rattle.pw_law_session.specs.FromSession.FromBuildFiles.Driving.{BuildEffect}
@@ -39,21 +39,12 @@ pub record DoesSession (opts : RunOpts) (answer : Answer) (told : Told) (told' :
   pub obeys : ObeysSession opts told input answer told' taken taken'
   pub rest : LeavesScript input answer input'
 
--- What a run by the meaning of C answered, put out and left of its input; nothing is put. Of a run that was given up nothing is said
--- of what it wrote and read.
-pub record DoesInterp (opts : RunOpts) (answer : Answer) (told : Told) (told' : Option Told) (input : List ℕ) (input' taken taken' : Option (List ℕ)) : Type 0 where
-  pub answers : (effect : Effect) → InterpEffect told.files opts input effect → Answers effect.answer answer
-  pub puts : told' ≡ Some told
-  pub output : IsWholeRun answer → (effect : Effect) → InterpEffect told.files opts input effect → PutsOut effect.output answer taken taken'
-  pub rest : IsWholeRun answer → (effect : Effect) → InterpEffect told.files opts input effect → LeavesInput effect.rest input answer input'
-  pub found : IsWholeRun answer → IsFound (InterpEffect told.files opts input) answer
-
 -- What a command, or words that say none, did.
 abbrev pub DoesAs : Option Command → Answer → Told → Option Told → List ℕ → Option (List ℕ) → Option (List ℕ) → Option (List ℕ) → Type 0
 DoesAs None answer told told' input input' taken taken' = Does (λ effect. effect ≡ answers_alone Usage input) answer told told' input input' taken taken'
 DoesAs (Some (Go opts)) answer told told' input input' taken taken' = Does (GoEffect told.files opts input) answer told told' input input' taken taken'
 DoesAs (Some (Where k opts)) answer told told' input input' taken taken' = Does (WhereEffect told.files opts k input) answer told told' input input' taken taken'
-DoesAs (Some (Interp opts)) answer told told' input input' taken taken' = DoesInterp opts answer told told' input input' taken taken'
+DoesAs (Some (Interp opts)) answer told told' input input' taken taken' = Does (InterpEffect told.files opts input) answer told told' input input' taken taken'
 DoesAs (Some (Build opts)) answer told told' input input' taken taken' = Does (BuildEffect told.files opts input) answer told told' input input' taken taken'
 DoesAs (Some (Session opts)) answer told told' input input' taken taken' = DoesSession opts answer told told' input input' taken taken'
 DoesAs (Some (Bench number opts)) answer told told' input input' taken taken' = Does (BenchEffect number opts input) answer told told' input input' taken taken'

@@ -1,5 +1,7 @@
-use Rattle.std.proofs.Common.{◌≡◌, sym, subst}
+use Rattle.std.proofs.Common.{◌≡◌, sym, subst, []}
 use Rattle.std.specs.Prelude.{IfErr}
+use Rattle.pw_interp_world.specs.declared.program.Body.TheVariants as B
+use Rattle.pw_interp_calls.specs.Functions.{callable_of}
 use Rattle.pw_interp_calls.specs.WorldViews.{view_world}
 use Rattle.pw_interp.specs.declared.ends.InterpFault.TheVariants.{NoMemory}
 use Rattle.pw_interp.specs.Streaming.{unread}
@@ -17,6 +19,7 @@ returns-in-Ok-clause-over g c =
 
 pub returns-in-Err-clause-over : goal.returns-in-Err-clause-over
 returns-in-Err-clause-over g c = stops_over (g.I.Source.rest c.args.input.now) (g.O.Sink.taken c.args.out.now) c.in-Err.stop c.ending_of.result c.ending_of.ensures c.in-Err.ensures.stopped
+    (λ s. c.runs_go_on.ensures.starts (view_world c.args.world.now) c.args.bound (callable_of (B.Defined c.args.home c.args.f)) [] (callable_of (B.Defined c.args.home c.args.f)).body s)
 
 pub returns-in-Err-clause-read : goal.returns-in-Err-clause-read
 returns-in-Err-clause-read g c =

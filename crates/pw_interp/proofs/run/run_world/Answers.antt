@@ -1,24 +1,28 @@
 use Rattle.std.proofs.Common.{sym, ap, subst}
 use Rattle.std.proofs.lemmas.Option.{IfSome_then}
-use Rattle.std.proofs.lemmas.Result.{IfOk-weaker}
 use Rattle.pw_cmean.specs.SourceRun.{start_state}
 use Rattle.pw_interp_state.specs.Shown.{Shown, Streams}
 use Rattle.pw_interp_calls.specs.WorldViews.{view_world}
 use Rattle.pw_interp.specs.Streaming.{ReadCount, WriteCount, unread}
-use Rattle.pw_interp.proofs.RunLaws.{ends_over}
+use Rattle.pw_interp.proofs.RunLaws.{not_begun, owned_over, still_given_up}
 use Rattle.pw_interp.proofs.StreamLaws.{no_read_fault, no_write_fault}
 use Rattle.pw_interp.proofs.run.run_world.Goals as goal
 
+pub returns-in_err-state-clause-over : goal.returns-in_err-state-clause-over
+returns-in_err-state-clause-over g c = not_begun _ (g.I.Source.rest c.args.input.now) (g.O.Sink.taken c.args.out.now) _
+
+pub returns-in_err-ending-clause-over : goal.returns-in_err-ending-clause-over
+returns-in_err-ending-clause-over g c =
+    let program = (view_world c.args.world.now).program in
+    IfSome_then (g.I.Source.rest c.args.input.now) c.in_err-ending.ensures.over (λ bytes still.
+    still_given_up _ bytes (g.O.Sink.taken c.args.out.now) _ _ (still (start_state program bytes) (ap {B = Shown × Streams} (λ x. (x, unread bytes)) (sym c.in_ok-state.ensures))))
+
 pub returns-clause-over : goal.returns-clause-over
 returns-clause-over g c =
-    let rest = g.I.Source.rest c.args.input.now in
-    let taken = g.O.Sink.taken c.args.out.now in
     let program = (view_world c.args.world.now).program in
-    IfOk-weaker c.owned.result _ _ (λ end named.
-    IfSome_then rest c.in_ok-ending.ensures.over (λ bytes ended.
-    ends_over c.in_ok-ending.ending end bytes taken _ _ named
-    (ended (start_state program bytes) (ap {B = Shown × Streams} (λ x. (x, unread bytes)) (sym c.in_ok-state.ensures)))))
-    c.owned.ensures.end
+    IfSome_then (g.I.Source.rest c.args.input.now) c.in_ok-ending.ensures.over (λ bytes ended.
+    owned_over c.in_ok-ending.ending c.owned.result bytes (g.O.Sink.taken c.args.out.now) _ _ c.owned.ensures.end
+    (ended (start_state program bytes) (ap {B = Shown × Streams} (λ x. (x, unread bytes)) (sym c.in_ok-state.ensures))))
 
 pub returns-clause-read : goal.returns-clause-read
 returns-clause-read g c =

@@ -1,5 +1,8 @@
 use Rattle.std.proofs.Common.{Ok, refl, ◌∙◌}
+use Rattle.pw_interp_calls.specs.Functions.{callable_of}
+use Rattle.pw_interp_state.specs.Shown.{view_state}
 use Rattle.pw_interp.proofs.StreamLaws.{read_since, write_since}
+use Rattle.pw_interp.proofs.TurnLaws.{still}
 use Rattle.pw_interp.proofs.turns.run.Goals as goal
 
 pub loop-init : goal.loop-init
@@ -28,3 +31,10 @@ returns-in-Some-clause-read g c = c.in_ok-ended.ensures.read ∙ c.loop.invarian
 
 pub returns-in-Some-clause-write : goal.returns-in-Some-clause-write
 returns-in-Some-clause-write g c = c.in_ok-ended.ensures.write ∙ c.loop.invariant.write
+
+pub returns-in_err-ended-clause-stops : goal.returns-in_err-ended-clause-stops
+returns-in_err-ended-clause-stops g c world end bytes taken at = c.in_err-ended.ensures.turns world end bytes taken (c.loop.invariant.goes world end bytes taken at)
+
+pub returns-clause-stops : goal.returns-clause-stops
+returns-clause-stops g c world end bytes taken at =
+    still c.runs_go_on.ensures.machines (callable_of c.args.main).body c.loop.machine (view_state c.loop.state) world end bytes taken _ _ (c.loop.invariant.goes world end bytes taken at)

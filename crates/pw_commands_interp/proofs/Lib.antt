@@ -1,0 +1,4 @@
+mod RunLemmas
+mod BuildLemmas
+mod LineLemmas
+mod TypedLemmas
