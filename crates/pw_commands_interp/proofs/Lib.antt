@@ -2,3 +2,4 @@ mod RunLemmas
 mod BuildLemmas
 mod LineLemmas
 mod TypedLemmas
+mod FrameLemmas

@@ -1,5 +1,5 @@
 -- Modules have one list of typed trees.
-use Rattle.std.proofs.Common.{◌≡◌, ℕ, List, [], ◌∷◌, ◌++◌, Result, Ok, Err, refl, sym, ap, subst, ◌∙◌, map}
+use Rattle.std.proofs.Common.{◌≡◌, ℕ, List, [], ◌∷◌, ◌++◌, Result, Ok, refl, sym, ap, subst, ◌∙◌, append_assoc, append-nil}
 use Rattle.pw_types.specs.TypedTrees.{ModuleValue}
 use Rattle.pw_front_end.specs.declared.refusal.Refusal.{Refusal}
 use Rattle.pw_phase_one.specs.FirstPhase.{typed_text}
@@ -24,9 +24,18 @@ same_typed (s ∷ sources) (x ∷ a) [] h k = absurd k
 same_typed (s ∷ sources) (x ∷ a) (y ∷ b) h k =
     ap (λ (m : ProgramModule). m ∷ a) (same_module s x y h.0 h.1 k.0 k.1) ∙ ap (λ (ms : List ProgramModule). y ∷ ms) (same_typed sources a b h.2 k.2)
 
--- with one more
-pub typed_more : (sources : List Source) (modules : List ProgramModule) (s : Source) (m : ProgramModule) → AreTyped sources modules → AreTyped (s ∷ []) (m ∷ []) → AreTyped (sources ++ s ∷ []) (modules ++ m ∷ [])
-typed_more [] [] s m h k = k
-typed_more [] (x ∷ modules) s m h k = absurd h
-typed_more (t ∷ sources) [] s m h k = absurd h
-typed_more (t ∷ sources) (x ∷ modules) s m h k = (h.0, h.1, typed_more sources modules s m h.2 k)
+-- One more typed tree stands before those of the modules that are left.
+pub typed_step : (all left left' : List Source) (s : Source) (typed typed' : List ProgramModule) (m : ProgramModule)
+    → ((ms : List ProgramModule) → AreTyped left ms → AreTyped all (typed ++ ms)) → left ≡ s ∷ left' → typed' ≡ typed ++ m ∷ [] → AreTyped (s ∷ []) (m ∷ [])
+    → (ms : List ProgramModule) → AreTyped left' ms → AreTyped all (typed' ++ ms)
+typed_step all left left' s typed typed' m so next more one = λ ms h.
+    subst (λ (ts : List ProgramModule). AreTyped all (ts ++ ms)) (sym more)
+    (subst (AreTyped all) (sym (append_assoc typed (m ∷ []) ms)) (so (m ∷ ms) (subst (λ (ss : List Source). AreTyped ss (m ∷ ms)) (sym next) (one.0, one.1, h))))
+
+-- With none left they are all.
+pub typed_all : (all left : List Source) (typed : List ProgramModule) → ((ms : List ProgramModule) → AreTyped left ms → AreTyped all (typed ++ ms)) → left ≡ [] → AreTyped all typed
+typed_all all left typed so none = subst (AreTyped all) (append-nil typed) (so [] (subst (λ (ss : List Source). AreTyped ss []) (sym none) tt))
+
+-- the typed trees of no module yet
+pub typed_none : (all left : List Source) (typed : List ProgramModule) → left ≡ all → typed ≡ [] → (ms : List ProgramModule) → AreTyped left ms → AreTyped all (typed ++ ms)
+typed_none all left typed first none = λ ms h. subst (λ (ts : List ProgramModule). AreTyped all (ts ++ ms)) (sym none) (subst (λ (ss : List Source). AreTyped ss ms) first h)
