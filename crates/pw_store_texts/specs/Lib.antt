@@ -1,4 +1,3 @@
 pub mod Headers
+pub mod Names
 pub mod Outputs
-pub mod Sources
-pub mod Views

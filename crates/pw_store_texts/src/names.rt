@@ -2,7 +2,7 @@
 
 ghost use Rattle.std.specs.Prelude.{◌≡◌, IfOk, true};
 ghost use Rattle.pw_store_modules.specs.Modules.{is_module_name};
-ghost use Rattle.pw_store_texts.specs.Sources as spec;
+ghost use Rattle.pw_store_texts.specs.Names as spec;
 
 use pw_cpp::is_header;
 use pw_store_modules::{is_module_file, is_module_name, module_file};
