@@ -68,7 +68,7 @@ left_of input n rest' (answer.Undefined operation name token) t h =
 left_of input n rest' _ t h = absurd t
 
 -- what the command leaves of its input is a rest of it
-effect_ends : (files : Files) (opts : RunOpts) (input : List ℕ) (comes : Result Parts BuildFault) (e : Effect) → InterpOver files opts input comes e → (more : List ℕ) × (input ≡ more ++ e.rest)
+pub effect_ends : (files : Files) (opts : RunOpts) (input : List ℕ) (comes : Result Parts BuildFault) (e : Effect) → InterpOver files opts input comes e → (more : List ℕ) × (input ≡ more ++ e.rest)
 effect_ends files opts input (Ok parts) e h =
     let n = (run_of opts input parts h.0).read in
     (take n input, subst (λ (x : Effect). input ≡ take n input ++ x.rest) (sym h.2) (sym (take-append-drop n input)))

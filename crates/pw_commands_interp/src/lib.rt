@@ -3,6 +3,7 @@
 
 mod answers;
 mod interpreting;
+pub mod laws;
 mod programs;
 
 pub use interpreting::interpret_modules;

@@ -3,7 +3,6 @@ use Rattle.std.specs.Prelude.{ℕ, Bool, true, false, List, [], ◌∷◌, Optio
 use Rattle.pw_io.specs.Files.{Files, Told}
 use Rattle.pw_store_modules.specs.FileNames.{database_name, image_name}
 use Rattle.pw_top_answer.specs.declared.answer.Answer.{Answer}
-use Rattle.pw_top_answer.specs.declared.answer.Answer.TheVariants.{Undefined}
 use Rattle.pw_top_answer.specs.Outcomes.{IsNoRefusal}
 use Rattle.pw_store_modules.specs.Modules.{modules_of}
 use Rattle.pw_law_session.specs.FromSession.FromBuild.Phases as phases
@@ -21,7 +20,7 @@ use Rattle.pw_law_session.specs.Full.{SessionBuildsInFull}
 use Rattle.pw_top.specs.Rest.{LeavesRest}
 use Rattle.pw_top.specs.Whole.{BenchesFull, ComesInFull, IfMade, ReportsFull, RunsFull}
 use Rattle.pw_commands_cpp.specs.Command.{cpp_puts}
-use Rattle.pw_commands_interp.specs.Interpreting.{token_line}
+use Rattle.pw_commands_interp.specs.Interpreting.{told_line}
 use Rattle.pw_commands_phases.specs.First.{phase_line, phase_one_puts}
 use Rattle.pw_commands_phases.specs.Second.{phase_two_puts}
 use Rattle.pw_top_words.specs.declared.commands.Command.{Command}
@@ -129,17 +128,12 @@ abbrev pub EndsScript : Option Command → Option (List ℕ) → Answer → Type
 EndsScript (Some (Session opts)) script answer = IfSome script (λ bytes. EndsAs bytes answer)
 EndsScript _ script answer = Unit {0}
 
--- the line on which a module is refused, of which an undefined operation is told by its token
-abbrev pub line_of : Option Command → Files → Option ℕ
-line_of (Some (Go opts)) files = phases.refused_line (modules_of files)
-line_of (Some (Where k opts)) files = phases.refused_line (modules_of files)
-line_of (Some (Interp opts)) files = phases.refused_line (modules_of files)
-line_of (Some (Build opts)) files = phases.refused_line (modules_of files)
-line_of (Some (Bench number opts)) files = phases.refused_line (modules_of (bench_files number))
-line_of (Some (PhaseOne name)) files = phase_line files name
-line_of _ files = None
-
--- the line that the answer of a command tells
-abbrev pub line_due : Option Command → Files → Answer → Option ℕ
-line_due command files (Undefined operation name token) = token_line (modules_of files) name token
-line_due command files _ = line_of command files
+-- the line on which a module is refused; of `interp` also that on which an operation stands that has no meaning
+abbrev pub line_of : Option Command → Files → Answer → Option ℕ
+line_of (Some (Go opts)) files answer = phases.refused_line (modules_of files)
+line_of (Some (Where k opts)) files answer = phases.refused_line (modules_of files)
+line_of (Some (Interp opts)) files answer = told_line (modules_of files) answer
+line_of (Some (Build opts)) files answer = phases.refused_line (modules_of files)
+line_of (Some (Bench number opts)) files answer = phases.refused_line (modules_of (bench_files number))
+line_of (Some (PhaseOne name)) files answer = phase_line files name
+line_of _ files answer = None

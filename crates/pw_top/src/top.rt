@@ -6,7 +6,7 @@ ghost use Rattle.pw_top_answer.specs.Answers.{line_text};
 ghost use Rattle.pw_top_answer.specs.Outcomes.{InputCount, LeavesStreams, OutputCount, StoreCount, Tells, TellsSome};
 ghost use Rattle.pw_law_session.specs.FromSession.FromBuildFiles.Genuine.{KeepsGenuine};
 ghost use Rattle.pw_top.specs.Answers.{HoldsNoWantOfMemory, IsNoUsage};
-ghost use Rattle.pw_top.specs.Commands.{BuildsFirst, BuildsWhole, EndsScript, IsComplete, IsNoSession, KeepsTheRest, OnlyReads, is_builder, is_phase, is_reader, line_due};
+ghost use Rattle.pw_top.specs.Commands.{BuildsFirst, BuildsWhole, EndsScript, IsComplete, IsNoSession, KeepsTheRest, OnlyReads, is_builder, is_phase, is_reader, line_of};
 ghost use Rattle.pw_top.specs.Does.{DoesAs};
 ghost use Rattle.pw_top.specs.Obeying.{CarriesOut, outside_of};
 ghost use Rattle.pw_top_words.specs.CommandLine.{command_of};
@@ -15,6 +15,7 @@ ghost use Rattle.pw_top_words.specs.Limits.{IsWithin};
 use pw_commands::{analyse_modules, link_modules, list_image, run_image, show_database};
 use pw_commands_cpp::preprocess_module;
 use pw_commands_interp::interpret_modules;
+use pw_commands_interp::laws::runs_leave_a_rest;
 use pw_commands_phases::{compile_flow, compile_text};
 use pw_commands_where::laws::looks_leave_an_end;
 use pw_commands_where::show_call;
@@ -162,6 +163,7 @@ fn obey_words<S: Store, I: Source, O: Sink>(
 {
     commands_are_within();
     looks_leave_an_end();
+    runs_leave_a_rest();
     runs_leave_an_end();
     match command(alloc, words) {
         Ok(command) => obey(alloc, &command, store, input, out),
@@ -226,7 +228,7 @@ pub fn pawc_top<S: Store, I: Source, O: Sink, E: Sink>(
     ensures output_faults { OutputCount (O.faults out.old) (O.faults out.new) result }
 
     // the line
-    ensures line { IfSome (S.told store.old) (λ told. Tells (line_text (line_due (command_of (map string_bytes words.now)) told.files result) result) (E.taken err.old) (E.taken err.new) (E.faults err.old) (E.faults err.new)) }
+    ensures line { IfSome (S.told store.old) (λ told. Tells (line_text (line_of (command_of (map string_bytes words.now)) told.files result) result) (E.taken err.old) (E.taken err.new) (E.faults err.old) (E.faults err.new)) }
     ensures some_line { TellsSome result (E.taken err.old) (E.taken err.new) (E.faults err.old) (E.faults err.new) }
 {
     a_store_is_built_exactly_where_it_can_be();
@@ -234,6 +236,7 @@ pub fn pawc_top<S: Store, I: Source, O: Sink, E: Sink>(
     builds_are_full();
     commands_are_within();
     looks_leave_an_end();
+    runs_leave_a_rest();
     runs_leave_an_end();
     sessions_build_in_full();
     let reply = obey_words(alloc, words, store, input, out);
