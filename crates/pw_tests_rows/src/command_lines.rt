@@ -21,6 +21,7 @@ fn word_of(command: &Command) -> &'static str {
         Command::Db => "db",
         Command::Bench { .. } => "bench",
         Command::Where { .. } => "where",
+        Command::Interp(_) => "interp",
     }
 }
 
@@ -47,7 +48,7 @@ fn run_numbers(number: Option<u64>, opts: &RunOpts) -> [Option<u64>; 4] {
 /// The number of a command, its colours, its stack and its steps, as far as it has them.
 fn numbers_of(command: &Command) -> [Option<u64>; 4] {
     match command {
-        Command::Go(opts) | Command::Session(opts) => run_numbers(None, opts),
+        Command::Go(opts) | Command::Session(opts) | Command::Interp(opts) => run_numbers(None, opts),
         Command::Bench { number, opts } => run_numbers(Some(u64::from(*number)), opts),
         Command::Where { call, opts } => run_numbers(Some(*call), opts),
         Command::Build(opts) => [
@@ -66,7 +67,9 @@ fn numbers_of(command: &Command) -> [Option<u64>; 4] {
 /// The switch for optimised flow graphs, where a command has it.
 fn switch_of(command: &Command) -> &'static str {
     let optimise = match command {
-        Command::Go(opts) | Command::Session(opts) => opts.build.optimise,
+        Command::Go(opts) | Command::Session(opts) | Command::Interp(opts) => {
+            opts.build.optimise
+        }
         Command::Bench { opts, .. } | Command::Where { opts, .. } => opts.build.optimise,
         Command::Build(opts) => opts.optimise,
         Command::PhaseOne { optimise, .. } => *optimise,

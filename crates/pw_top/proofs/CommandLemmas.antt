@@ -11,7 +11,7 @@ use Rattle.pw_summary.specs.declared.summary.Summary.{Summary}
 use Rattle.pw_image.specs.declared.image.Image.{Image}
 use Rattle.pw_machine.specs.Core.{Core}
 use Rattle.pw_top_answer.specs.declared.answer.Answer.{Answer}
-use Rattle.pw_top_answer.specs.declared.answer.Answer.TheVariants.{Usage, Refused, RefusedSource, Cpp, LinkRefused, ReadFault, WriteFault, StoreFault, NoMemory, BadFile}
+use Rattle.pw_top_answer.specs.declared.answer.Answer.TheVariants.{Usage, Refused, RefusedSource, Cpp, LinkRefused, ReadFault, WriteFault, StoreFault, NoMemory, BadFile, Undefined}
 use Rattle.pw_top_answer.specs.Effects.{Effect, NamedFile, PutsFiles, answers_alone, prints}
 use Rattle.pw_top_answer.specs.Outcomes.{Answers, InputCount, IsLineDue, LeavesInput, LeavesStreams, OutputCount, PutsOut}
 use Rattle.pw_go.specs.Ends.{EndsIn}
@@ -23,6 +23,8 @@ use Rattle.pw_law_session.specs.FromSession.FromBuildFiles.Outcomes.{AnswersOutc
 use Rattle.pw_law_session.specs.FromSession.FromBuildFiles.Driving.{BuildEffect, IsBuildAnswer, built_effect}
 use Rattle.pw_go.specs.Going.{GoEffect, HasBuilt, IfMade, IsGoAnswer}
 use Rattle.pw_commands_where.specs.Showing.{IsWhereAnswer, WhereEffect}
+use Rattle.pw_commands_interp.specs.Interpreting.{Did, InterpEffect, InterpOver, IsInterpAnswer}
+use Rattle.pw_build_objects.specs.Programs.{Parts}
 use Rattle.pw_commands.specs.Analysing.{AnalyseEffect, AnalyseOver, summaries_of}
 use Rattle.pw_commands.specs.Linking.{LinkEffect, LinkOver, objects_of}
 use Rattle.pw_commands.specs.Needed.{needed, needed_bytes}
@@ -31,7 +33,7 @@ use Rattle.pw_commands.specs.Running.{IsRunOrStop, core_in, run_effect, runs}
 use Rattle.pw_commands.specs.Showing.{DatabaseEffect, IsShowAnswer, ListEffect, ListOver, Shows, database_text, image_in, printed}
 use Rattle.pw_law_session.specs.FromSession.Bench.{BenchEffect}
 use Rattle.pw_top_words.specs.declared.commands.Command.{Command}
-use Rattle.pw_top_words.specs.declared.commands.Command.TheVariants.{Go, Build as BuildAll, Session, PhaseOne, Analyse, PhaseTwo, Link, Run, List as ListImage, Db, Bench, Where, Preprocess}
+use Rattle.pw_top_words.specs.declared.commands.Command.TheVariants.{Go, Build as BuildAll, Session, PhaseOne, Analyse, PhaseTwo, Link, Run, List as ListImage, Db, Bench, Where, Preprocess, Interp}
 use Rattle.pw_commands_cpp.specs.Command.{CppEffect, CppOver, IsCppAnswer, effect_of, needed_source}
 use Rattle.pw_commands_phases.specs.First.{EffectOfPhase, PhaseOneEffect, PhaseOneOver}
 use Rattle.pw_commands_phases.specs.Made.{IsPhaseAnswer}
@@ -46,6 +48,7 @@ abbrev pub Comes : Option Command → Files → List ℕ → (Effect → Type 0)
 Comes None files input = λ effect. effect ≡ answers_alone Usage input
 Comes (Some (Go opts)) files input = GoEffect files opts input
 Comes (Some (Where k opts)) files input = WhereEffect files opts k input
+Comes (Some (Interp opts)) files input = InterpEffect files opts input
 Comes (Some (BuildAll opts)) files input = BuildEffect files opts input
 Comes (Some (Session opts)) files input = λ effect. ⊥
 Comes (Some (Bench number opts)) files input = BenchEffect number opts input
@@ -264,6 +267,28 @@ where_does None new old rest taken taken' opts k answer h out left = tt
 where_does (Some t) new None rest taken taken' opts k answer h out left = tt
 where_does (Some t) new (Some input) rest taken taken' opts k answer h out left = record { answers = λ e d. h.answers e d; puts = λ e d. h.puts e d; output = out; rest = left; found = h.found }
 
+-- a run by the meaning of C puts no file
+interp_over_puts : (files : Files) (opts : RunOpts) (input : List ℕ) (comes : Result Parts BuildFault) (e : Effect) → InterpOver files opts input comes e → e.puts ≡ []
+interp_over_puts files opts input (Ok parts) e h = ap (λ (x : Effect). x.puts) h.2
+interp_over_puts files opts input (Err fault) e h = ap (λ (x : Effect). x.puts) h
+
+pub interp_does : (told new : Option Told) (old rest taken taken' : Option (List ℕ)) (opts : RunOpts) (answer : Answer) → Keeps told new
+    → IfSome told (λ t. IfSome old (λ input. Did t.files opts input answer rest taken taken'))
+    → IfSome told (λ t. IfSome old (λ input. Does (InterpEffect t.files opts input) answer t new input rest taken taken'))
+interp_does None new old rest taken taken' opts answer same h = tt
+interp_does (Some t) new None rest taken taken' opts answer same h = tt
+interp_does (Some t) new (Some input) rest taken taken' opts answer same h = record {
+  answers = λ e d. h.answers e d;
+  puts = λ e d. subst (λ (fs : List NamedFile). PutsFiles fs answer t new) (sym (interp_over_puts t.files opts input d.0 e d.2)) (nothing_put answer t new same);
+  output = λ e d. h.output e d;
+  rest = λ e d. h.rest e d;
+  found = h.found;
+}
+
+pub interp_no_usage : (answer : Answer) → IsInterpAnswer answer → IsNoUsage answer
+interp_no_usage Usage h = h
+interp_no_usage _ h = tt
+
 pub where_no_usage : (answer : Answer) → IsWhereAnswer answer → IsNoUsage answer
 where_no_usage Usage h = h
 where_no_usage _ h = tt
@@ -275,6 +300,7 @@ pub record Ends : Type 0 where
   pub run : (files : Files) (budget : ℕ) (input : List ℕ) → EndsIn input (run_effect files budget input).rest
   pub go : (files : Files) (opts : RunOpts) (input : List ℕ) (e : Effect) → GoEffect files opts input e → EndsIn input e.rest
   pub looks : (files : Files) (opts : RunOpts) (k : ℕ) (input : List ℕ) (e : Effect) → WhereEffect files opts k input e → EndsIn input e.rest
+  pub interprets : (files : Files) (opts : RunOpts) (input : List ℕ) (e : Effect) → InterpEffect files opts input e → EndsIn input e.rest
 
 ends_itself : (input : List ℕ) → EndsIn input input
 ends_itself input = ([], refl)
@@ -286,6 +312,7 @@ pub comes_ends : Ends → (command : Option Command) (files : Files) (input : Li
 comes_ends ends None files input e h = left_all input e (ap (λ (x : Effect). x.rest) h)
 comes_ends ends (Some (Go opts)) files input e h = ends.go files opts input e h
 comes_ends ends (Some (Where k opts)) files input e h = ends.looks files opts k input e h
+comes_ends ends (Some (Interp opts)) files input e h = ends.interprets files opts input e h
 comes_ends ends (Some (BuildAll opts)) files input e h = left_all input e (comes_rest files opts input e h)
 comes_ends ends (Some (Session opts)) files input e h = absurd h
 comes_ends ends (Some (Bench number opts)) files input e h = left_all input e (bench_prints number opts input e h).rest
@@ -373,6 +400,7 @@ no_command command answer e = absurd (none_and_some (Some command) command e ref
 first_line : (answer : Answer) → IsLineDue None answer None
 first_line (Refused name refusal) = refl
 first_line (RefusedSource name refusal) = refl
+first_line (Undefined operation home token) = refl
 first_line _ = tt
 
 -- an answer of a command that refuses no module

@@ -20,10 +20,11 @@ use Rattle.pw_law_session.specs.Full.{SessionBuildsInFull}
 use Rattle.pw_top.specs.Rest.{LeavesRest}
 use Rattle.pw_top.specs.Whole.{BenchesFull, ComesInFull, IfMade, ReportsFull, RunsFull}
 use Rattle.pw_commands_cpp.specs.Command.{cpp_puts}
+use Rattle.pw_commands_interp.specs.Interpreting.{told_line}
 use Rattle.pw_commands_phases.specs.First.{phase_line, phase_one_puts}
 use Rattle.pw_commands_phases.specs.Second.{phase_two_puts}
 use Rattle.pw_top_words.specs.declared.commands.Command.{Command}
-use Rattle.pw_top_words.specs.declared.commands.Command.TheVariants.{Go, Build, Session, PhaseOne, Analyse, PhaseTwo, Link, Run, List as ListImage, Db, Bench, Where, Preprocess}
+use Rattle.pw_top_words.specs.declared.commands.Command.TheVariants.{Go, Build, Session, PhaseOne, Analyse, PhaseTwo, Link, Run, List as ListImage, Db, Bench, Where, Preprocess, Interp}
 
 -- the command is a phase of separate compiling, the analysis or the link
 abbrev pub is_phase : Command → Bool
@@ -48,6 +49,7 @@ is_builder (Build opts) = true
 is_builder (Session opts) = true
 is_builder (Bench number opts) = true
 is_builder (Where k opts) = true
+is_builder (Interp opts) = true
 is_builder _ = false
 
 -- the command puts no file
@@ -126,11 +128,12 @@ abbrev pub EndsScript : Option Command → Option (List ℕ) → Answer → Type
 EndsScript (Some (Session opts)) script answer = IfSome script (λ bytes. EndsAs bytes answer)
 EndsScript _ script answer = Unit {0}
 
--- the line on which a module is refused
-abbrev pub line_of : Option Command → Files → Option ℕ
-line_of (Some (Go opts)) files = phases.refused_line (modules_of files)
-line_of (Some (Where k opts)) files = phases.refused_line (modules_of files)
-line_of (Some (Build opts)) files = phases.refused_line (modules_of files)
-line_of (Some (Bench number opts)) files = phases.refused_line (modules_of (bench_files number))
-line_of (Some (PhaseOne name optimise)) files = phase_line files name
-line_of _ files = None
+-- the line on which a module is refused; of `interp` also that on which an operation stands that has no meaning
+abbrev pub line_of : Option Command → Files → Answer → Option ℕ
+line_of (Some (Go opts)) files answer = phases.refused_line (modules_of files)
+line_of (Some (Where k opts)) files answer = phases.refused_line (modules_of files)
+line_of (Some (Interp opts)) files answer = told_line (modules_of files) answer
+line_of (Some (Build opts)) files answer = phases.refused_line (modules_of files)
+line_of (Some (Bench number opts)) files answer = phases.refused_line (modules_of (bench_files number))
+line_of (Some (PhaseOne name optimise)) files answer = phase_line files name
+line_of _ files answer = None

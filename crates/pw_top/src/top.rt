@@ -14,6 +14,8 @@ ghost use Rattle.pw_top_words.specs.Limits.{IsWithin};
 
 use pw_commands::{analyse_modules, link_modules, list_image, run_image, show_database};
 use pw_commands_cpp::preprocess_module;
+use pw_commands_interp::interpret_modules;
+use pw_commands_interp::laws::runs_leave_a_rest;
 use pw_commands_phases::{compile_flow, compile_text};
 use pw_commands_where::laws::looks_leave_an_end;
 use pw_commands_where::show_call;
@@ -112,6 +114,7 @@ fn obey_builder<S: Store, I: Source, O: Sink>(
         },
         Command::Bench { number, opts } => bench(alloc, *number, opts, out),
         Command::Where { call, opts } => show_call(alloc, store, opts, *call, input, out),
+        Command::Interp(opts) => interpret_modules(alloc, store, opts, input, out),
         _ => unreachable!(),
     }
 }
@@ -141,7 +144,8 @@ fn obey<S: Store, I: Source, O: Sink>(
         | Command::Build(_)
         | Command::Session(_)
         | Command::Bench { .. }
-        | Command::Where { .. } => obey_builder(alloc, command, store, input, out),
+        | Command::Where { .. }
+        | Command::Interp(_) => obey_builder(alloc, command, store, input, out),
     }
 }
 
@@ -159,6 +163,7 @@ fn obey_words<S: Store, I: Source, O: Sink>(
 {
     commands_are_within();
     looks_leave_an_end();
+    runs_leave_a_rest();
     runs_leave_an_end();
     match command(alloc, words) {
         Ok(command) => obey(alloc, &command, store, input, out),
@@ -223,7 +228,7 @@ pub fn pawc_top<S: Store, I: Source, O: Sink, E: Sink>(
     ensures output_faults { OutputCount (O.faults out.old) (O.faults out.new) result }
 
     // the line
-    ensures line { IfSome (S.told store.old) (λ told. Tells (line_text (line_of (command_of (map string_bytes words.now)) told.files) result) (E.taken err.old) (E.taken err.new) (E.faults err.old) (E.faults err.new)) }
+    ensures line { IfSome (S.told store.old) (λ told. Tells (line_text (line_of (command_of (map string_bytes words.now)) told.files result) result) (E.taken err.old) (E.taken err.new) (E.faults err.old) (E.faults err.new)) }
     ensures some_line { TellsSome result (E.taken err.old) (E.taken err.new) (E.faults err.old) (E.faults err.new) }
 {
     a_store_is_built_exactly_where_it_can_be();
@@ -231,6 +236,7 @@ pub fn pawc_top<S: Store, I: Source, O: Sink, E: Sink>(
     builds_are_full();
     commands_are_within();
     looks_leave_an_end();
+    runs_leave_a_rest();
     runs_leave_an_end();
     sessions_build_in_full();
     let reply = obey_words(alloc, words, store, input, out);

@@ -7,8 +7,8 @@ use Rattle.pw_value.specs.Limits.{stack_least, stack_limit}
 use Rattle.pw_store_modules.specs.Modules.{is_module_name}
 use Rattle.pw_build_opts.specs.declared.opts.RunOpts.{RunOpts}
 use Rattle.pw_top_words.specs.declared.commands.Command.{Command}
-use Rattle.pw_top_words.specs.declared.commands.Command.TheVariants.{Go, Build, Session, PhaseOne, Analyse, PhaseTwo, Link, Run, List as ListImage, Db, Bench, Where, Preprocess}
-use Rattle.pw_top_words.specs.CommandLine.{Text, Part, is_numeral, number_in, number_or, value_of, colours, stack, steps, colours_in, stack_in, steps_in, module_named, module_in, plain_word, parts_of, seed_in, call_in, call_limit, built_with, run_with, is_switched, unswitched, with_build, with_run, go_of, build_of, session_of, analyse_of, link_of, run_of, bench_of, where_of, command_by_name, command_of, usual_stack}
+use Rattle.pw_top_words.specs.declared.commands.Command.TheVariants.{Go, Build, Session, PhaseOne, Analyse, PhaseTwo, Link, Run, List as ListImage, Db, Bench, Where, Preprocess, Interp}
+use Rattle.pw_top_words.specs.CommandLine.{Text, Part, is_numeral, number_in, number_or, value_of, colours, stack, steps, colours_in, stack_in, steps_in, module_named, module_in, plain_word, parts_of, seed_in, call_in, call_limit, built_with, run_with, is_switched, unswitched, with_build, with_run, go_of, build_of, session_of, analyse_of, link_of, run_of, bench_of, where_of, interp_of, command_by_name, command_of, usual_stack}
 use Rattle.pw_top_words.specs.Limits.{IsStack, IsWithin}
 use Rattle.pw_db.specs.Limits.{colour_limit}
 
@@ -134,6 +134,9 @@ where_within o words =
     parts_within (parts_of (colours ∷ stack ∷ steps ∷ []) 1 words) (λ parts. option_and_then (λ k. with_run (Where k) o parts) (call_in parts))
     (λ parts. called o (call_in parts) parts (call_is_in (plain_word parts)))
 
+interp_within : (o : Bool) (words : List Text) → Within (interp_of o words)
+interp_within o words = parts_within (parts_of (colours ∷ stack ∷ steps ∷ []) 0 words) (with_run Interp o) (λ parts. run_options_within Interp o parts (λ c s n o h k. (h, k)))
+
 -- the numbers of a build
 built : (o : Bool) (c : ℕ) (given : Option ℕ) → c ≤ colour_limit → IsIn stack_least stack_limit given → Within (option_map (λ s. Build (built_with c s o)) given)
 built o c None h k = none_within
@@ -176,7 +179,8 @@ name_within name o others words =
     (if_within (bytes_eq name (codes "db")) _ _ (listed_within (parts_of [] 0 words) Db tt)
     (if_within (bytes_eq name (codes "bench")) _ _ (bench_within o others)
     (if_within (bytes_eq name (codes "where")) _ _ (where_within o others)
-    none_within))))))))))))
+    (if_within (bytes_eq name (codes "interp")) _ _ (interp_within o others)
+    none_within)))))))))))))
 
 pub words_within : (words : List Text) → Within (command_of words)
 words_within [] = none_within

@@ -11,7 +11,7 @@ use Rattle.pw_build_opts.specs.declared.opts.RunOpts.{RunOpts}
 use Rattle.pw_top_words.specs.declared.fault.WordsFault.{WordsFault}
 use Rattle.pw_top_words.specs.declared.fault.WordsFault.TheVariants.{Usage, NoMemory}
 use Rattle.pw_top_words.specs.declared.commands.Command.{Command}
-use Rattle.pw_top_words.specs.declared.commands.Command.TheVariants.{Go, Build, Session, PhaseOne, Analyse, PhaseTwo, Link, Run, List as ListImage, Db, Bench, Where, Preprocess}
+use Rattle.pw_top_words.specs.declared.commands.Command.TheVariants.{Go, Build, Session, PhaseOne, Analyse, PhaseTwo, Link, Run, List as ListImage, Db, Bench, Where, Preprocess, Interp}
 use Rattle.pw_db.specs.Limits.{colour_limit}
 
 abbrev pub Text : Type 0
@@ -267,6 +267,9 @@ abbrev pub where_of : Bool → List Text → Option Command
 where_of o words =
     option_and_then (λ parts. option_and_then (λ k. with_run (Where k) o parts) (call_in parts)) (parts_of (colours ∷ stack ∷ steps ∷ []) 1 words)
 
+abbrev pub interp_of : Bool → List Text → Option Command
+interp_of o words = option_and_then (with_run Interp o) (parts_of (colours ∷ stack ∷ steps ∷ []) 0 words)
+
 -- the command of a name, and what the words behind it say: all of them, or those without a switch and whether it was there
 unfoldable pub command_by_name : Text → Bool → List Text → List Text → Option Command
 command_by_name name o others words =
@@ -283,6 +286,7 @@ command_by_name name o others words =
     if bytes_eq name (codes "db") then db_of words else
     if bytes_eq name (codes "bench") then bench_of o others else
     if bytes_eq name (codes "where") then where_of o others else
+    if bytes_eq name (codes "interp") then interp_of o others else
     None
 
 -- the command that words say

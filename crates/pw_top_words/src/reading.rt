@@ -2,7 +2,7 @@
 
 ghost use Rattle.std.specs.Prelude.{◌≡◌, ◌≢◌, ◌≤◌, ℕ, List, None, Err, IfErr, IfOk, drop, map, string_bytes, codes, option_map, option_and_then, Option};
 ghost use Rattle.clap.specs.Matches.{first_value, found_of};
-ghost use Rattle.pw_top_words.specs.CommandLine.{Part, Reads, is_switched, unswitched, colours_in, command_of, go_of, command_by_name, module_in, number_or, parts_of, seed_in, stack_in, steps_in, with_build, with_run, build_of, session_of, bench_of, phase_one_of, phase_two_of, analyse_of, link_of, run_of, list_of, db_of, where_of, call_in, call_limit, digits_limit, usual_stack, steps_limit, seed_limit, usual_steps, preprocess_of};
+ghost use Rattle.pw_top_words.specs.CommandLine.{Part, Reads, is_switched, unswitched, colours_in, command_of, go_of, command_by_name, module_in, number_or, parts_of, seed_in, stack_in, steps_in, with_build, with_run, build_of, session_of, bench_of, phase_one_of, phase_two_of, analyse_of, link_of, run_of, list_of, db_of, where_of, call_in, call_limit, digits_limit, usual_stack, steps_limit, seed_limit, usual_steps, preprocess_of, interp_of};
 ghost use Rattle.pw_top_words.specs.Reading.{IsMatchOf};
 
 use crate::commands::Command;
@@ -300,6 +300,20 @@ fn show_call(alloc: Global, words: &[String], optimise: bool) -> Result<Command,
     })
 }
 
+fn interp(alloc: Global, words: &[String], optimise: bool) -> Result<Command, WordsFault>
+    ensures { Reads (interp_of optimise (drop 1 (map string_bytes words.now))) result }
+{
+    let matches = read_parts(alloc, words, &BUILD_AND_RUN, false)?;
+    Ok(Command::Interp(RunOpts {
+        build: Opts {
+            colours: colours(&matches)?,
+            stack: stack(&matches)?,
+            optimise,
+        },
+        budget: steps(&matches)?,
+    }))
+}
+
 /// The command of a name, by the words, of which the first is the name, and by the words without the switch.
 #[tactic(auto, unfolding(crate::specs::CommandLine::command_by_name))]
 fn command_named(
@@ -325,6 +339,7 @@ fn command_named(
         "db" => db(alloc, words),
         "bench" => bench(alloc, others, optimise),
         "where" => show_call(alloc, others, optimise),
+        "interp" => interp(alloc, others, optimise),
         _ => Err(WordsFault::Usage),
     }
 }
