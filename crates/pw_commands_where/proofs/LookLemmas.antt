@@ -381,12 +381,12 @@ found_file bytes c objects known k budget input _ file are h = (h.0, (c, known, 
 looks_so : Laws → (bytes : List ℕ) (c : Contents Image) (objects : List Object) (known : List FrameInfo) (k budget : ℕ) (input : List ℕ) (left taken taken' : Option (List ℕ)) (look : Look) (a : Answer) → IsImageFile bytes c → AreFrames objects known
     → AllByRecursion IsFrame known → 0 < k → TellsLook look a → PutsLook look a taken taken' → LooksAs c.value objects known k budget input look left → LooksAtFile bytes objects k budget input a left taken taken'
 looks_so laws bytes c objects known k budget input left taken taken' look a file are lawful first tells out at =
-    let as : (e : Effect) → FileEffect bytes objects k budget input [] e → LookedAs input look left e =
+    let alike : (e : Effect) → FileEffect bytes objects k budget input [] e → LookedAs input look left e =
     λ e h. looked_by laws c.value objects known k budget input look left [] e at (file_comes laws bytes c objects known k budget input [] e file are h) in
     record {
-      answers = λ e h. look_answers input look a left e tells (as e h);
-      output = λ e h. look_output input look a left taken taken' e tells out (as e h);
-      rest = λ e h. look_rest input look a left e tells (look_ends h.0.value objects h.1 k budget input [] e h.4) (as e h);
+      answers = λ e h. look_answers input look a left e tells (alike e h);
+      output = λ e h. look_output input look a left taken taken' e tells out (alike e h);
+      rest = λ e h. look_rest input look a left e tells (look_ends h.0.value objects h.1 k budget input [] e h.4) (alike e h);
       found = found_file bytes c objects known k budget input a file are (look_found laws c.value objects known k budget input lawful first look a left tells at);
     }
 
