@@ -18,7 +18,7 @@ use Rattle.pw_debug_frames.specs.Frames.{AreFrames}
 use Rattle.pw_where.specs.declared.looking.Look.{Look}
 use Rattle.pw_where.specs.declared.looking.Look.TheVariants.{Lines, LostAt, StoppedAs}
 use Rattle.pw_where.specs.Calls.{IsCall, Passes, PassesTo, StopsBefore, call_at, calls_in, is_at, one_if}
-use Rattle.pw_where.specs.Looks.{EndsBefore, LeavesUnlooked, LookCount, LooksAs, Shows, ShowsAt, entries_in, start_over}
+use Rattle.pw_where.specs.Looks.{EndsBefore, LeavesUnlooked, LookCount, LooksAs, LooksUnwritten, Shows, ShowsAt, entries_in, start_over}
 use Rattle.pw_top_answer.specs.declared.answer.Answer.{Answer}
 use Rattle.pw_top_answer.specs.declared.answer.Answer.TheVariants as answer
 use Rattle.pw_top_answer.specs.Effects.{Effect, NamedFile}
@@ -479,3 +479,6 @@ stop_writes how.WriteFault a count other is = absurd (other refl)
 
 pub unwritten : (look : Look) (stop : Stop) → look ≢ StoppedAs how.WriteFault → look ≡ StoppedAs stop → stop ≢ how.WriteFault
 unwritten look stop none is e = none (is ∙ ap (λ (s : Stop). StoppedAs s) e)
+
+pub not_written : {E : Type 0} → (look : Look) → LooksUnwritten {E} (Ok look) → look ≢ StoppedAs how.WriteFault
+not_written {E} look h e = let other : how.WriteFault ≢ how.WriteFault = subst (λ (l : Look). LooksUnwritten {E} (Ok l)) e h in other refl

@@ -1,5 +1,8 @@
-use Rattle.pw_commands_where.proofs.LookLemmas.{Laws, look_is, look_reads, looks_told, looks_unlooked}
+use Rattle.pw_commands_where.proofs.LookLemmas.{Laws, look_is, look_reads, looks_told, looks_unlooked, not_written}
 use Rattle.pw_commands_where.proofs.showing.show_known.Goals as goal
+
+pub told-requires : goal.told-requires
+told-requires g c = not_written c.in-Ok.look c.in-Ok.ensures.unwritten
 
 pub returns-in-Ok-clause-looks : goal.returns-in-Ok-clause-looks
 returns-in-Ok-clause-looks g c =
