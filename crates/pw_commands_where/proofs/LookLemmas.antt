@@ -480,5 +480,5 @@ stop_writes how.WriteFault a count other is = absurd (other refl)
 pub unwritten : (look : Look) (stop : Stop) → look ≢ StoppedAs how.WriteFault → look ≡ StoppedAs stop → stop ≢ how.WriteFault
 unwritten look stop none is e = none (is ∙ ap (λ (s : Stop). StoppedAs s) e)
 
-pub not_written : {E : Type 0} → (look : Look) → LooksUnwritten {E} (Ok look) → look ≢ StoppedAs how.WriteFault
-not_written {E} look h e = let other : how.WriteFault ≢ how.WriteFault = subst (λ (l : Look). LooksUnwritten {E} (Ok l)) e h in other refl
+pub not_written : {E : Type 0} → (look : Look) → LooksUnwritten {E = E} (Ok look) → look ≢ StoppedAs how.WriteFault
+not_written {E = E} look h e = let other : how.WriteFault ≢ how.WriteFault = subst (λ (l : Look). LooksUnwritten {E = E} (Ok l)) e h in other refl
