@@ -1,3 +1,5 @@
 pub mod Headers
 pub mod Names
 pub mod Outputs
+pub mod Seen
+pub mod Views

@@ -39,7 +39,7 @@ fn add_header<S: Store>(
 
 /// The headers among the files of a store that have these names, in their order, each text up to one byte more than a text may have. The
 /// store stays as it is.
-fn headers_among<S: Store>(
+pub fn headers_among<S: Store>(
     alloc: Global,
     store: &mut S,
     names: &[String],
