@@ -167,7 +167,7 @@ module _ (m : Map) (core : Core) (input : List ℕ) where
       let found = has.1 in
       let here = Called call.function (globals_in m c call.callers) (kept c) in
       let same : found.event ≡ here = one_call_of m (start_state core input) k has.0 step found.event here (run_call has.0 k found.event found.call) (noted_call k step c call) in
-      let event : Called f found.alike.globals found.alike.registers ≡ here = sym found.alike.is ∙ same in
+      let event : Called f found.alike.globals found.alike.registers ≡ Called call.function (globals_in m c call.callers) (kept c) = sym found.alike.is ∙ same in
       let function : call.function ≡ f = cc in
       let globals : found.alike.globals ≡ globals_in m c call.callers = cc in
       record { call = call; function = function; globals = subst (AllInMachine q m.named objects) globals found.alike.stands }
