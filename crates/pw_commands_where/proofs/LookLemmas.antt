@@ -458,15 +458,15 @@ print_reads before now answer.WriteFault h e = e
 print_reads before now answer.NoMemory h e = e
 print_reads before now _ h e = absurd h
 
-pub look_reads : {E : Type 0} → (before now : ℕ) (look : Look) (a : Answer) → TellsLook look a → LookCount {E = E} before now (Ok look) → InputCount before now a
-look_reads before now (Lines text) a h count = print_reads before now a h count
-look_reads before now (LostAt address) a h count = subst (InputCount before now) (sym h) count
-look_reads before now (StoppedAs (how.Ended status)) a h count = subst (InputCount before now) (sym h) count
-look_reads before now (StoppedAs how.StackStop) a h count = subst (InputCount before now) (sym h) count
-look_reads before now (StoppedAs how.Spent) a h count = subst (InputCount before now) (sym h) count
-look_reads before now (StoppedAs (how.Halted halt at)) a h count = subst (InputCount before now) (sym h) count
-look_reads before now (StoppedAs how.ReadFault) a h count = subst (InputCount before now) (sym h) count
-look_reads before now (StoppedAs how.WriteFault) a h count = subst (InputCount before now) (sym h) count
+pub look_reads : (E : Type 0) (before now : ℕ) (look : Look) (a : Answer) → TellsLook look a → LookCount {E = E} before now (Ok look) → InputCount before now a
+look_reads E before now (Lines text) a h count = print_reads before now a h count
+look_reads E before now (LostAt address) a h count = subst (InputCount before now) (sym h) count
+look_reads E before now (StoppedAs (how.Ended status)) a h count = subst (InputCount before now) (sym h) count
+look_reads E before now (StoppedAs how.StackStop) a h count = subst (InputCount before now) (sym h) count
+look_reads E before now (StoppedAs how.Spent) a h count = subst (InputCount before now) (sym h) count
+look_reads E before now (StoppedAs (how.Halted halt at)) a h count = subst (InputCount before now) (sym h) count
+look_reads E before now (StoppedAs how.ReadFault) a h count = subst (InputCount before now) (sym h) count
+look_reads E before now (StoppedAs how.WriteFault) a h count = subst (InputCount before now) (sym h) count
 
 -- a run without a fault of the output leaves its count
 pub stop_writes : (stop : Stop) (a : Answer) (count : ℕ) → stop ≢ how.WriteFault → a ≡ stop_answer stop → OutputCount count count a
@@ -480,5 +480,5 @@ stop_writes how.WriteFault a count other is = absurd (other refl)
 pub unwritten : (look : Look) (stop : Stop) → look ≢ StoppedAs how.WriteFault → look ≡ StoppedAs stop → stop ≢ how.WriteFault
 unwritten look stop none is e = none (is ∙ ap (λ (s : Stop). StoppedAs s) e)
 
-pub not_written : {E : Type 0} → (look : Look) → LooksUnwritten {E = E} (Ok look) → look ≢ StoppedAs how.WriteFault
-not_written {E = E} look h e = let other : how.WriteFault ≢ how.WriteFault = subst (λ (l : Look). LooksUnwritten {E = E} (Ok l)) e h in other refl
+pub not_written : (E : Type 0) (look : Look) → LooksUnwritten {E = E} (Ok look) → look ≢ StoppedAs how.WriteFault
+not_written E look h e = let other : how.WriteFault ≢ how.WriteFault = subst (λ (l : Look). LooksUnwritten {E = E} (Ok l)) e h in other refl
