@@ -40,7 +40,9 @@ fn find_most(alloc: Global, f: &Outline) -> Result<u32, NoMemory>
     requires { IsOutline f.now }
     ensures { IfOk result (λ n. min enough n ≡ min enough (most_short f.now (points f.now))) }
 {
-    let limit = u32::from(NEED_LIMIT) + u32::from(LAST_TEMPORARY - LAST_REGISTER);
+    let saved = u32::from(NEED_LIMIT);
+    let changed = u32::from(LAST_TEMPORARY - LAST_REGISTER);
+    let limit = saved + changed;
     let liveness = find_liveness(alloc, f)?;
     let mut counting = Counting::new(alloc, liveness.makers.len())?;
     for t in 0..f.temps() {

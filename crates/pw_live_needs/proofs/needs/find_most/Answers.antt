@@ -22,7 +22,10 @@ returns-then-reached-ge-limit c =
     let temps = c.temps-t-end.ensures in
     let lt = c.loop-t-test.true in
     let most = reached_most f (c.loop-t.t + 1) c.count_temp-reached.result c.count_temp-reached.new.counting c.count_temp-reached.ensures.counted (omega (arith, lt, temps)) c.count_temp-reached.ensures.reached in
-    omega (arith, most)
+    let saved = c.from-saved.ensures in
+    let changed = c.from-changed.ensures in
+    let high = c.if-reached-ge-limit.true in
+    omega (arith, most, saved, changed, high)
 
 pub returns : goal.returns
 returns c =
