@@ -11,7 +11,7 @@ use Rattle.pw_cmean.specs.Worlds.{ProgramModule}
 use Rattle.pw_cmean.specs.SourceRun.{Run, source_run}
 use Rattle.pw_interp_calls.specs.Frames.{frame_among}
 use Rattle.pw_store_modules.specs.declared.modules.Module.{Module}
-use Rattle.pw_store_modules.specs.Modules.{Source, modules_of, names_of_modules}
+use Rattle.pw_store_modules.specs.Modules.{Source, modules_of}
 use Rattle.pw_store_modules.specs.Views.{source}
 use Rattle.pw_top_answer.specs.declared.answer.Answer.{Answer}
 use Rattle.pw_top_answer.specs.declared.answer.Answer.TheVariants as answer

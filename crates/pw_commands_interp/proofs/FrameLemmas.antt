@@ -9,7 +9,7 @@ use Rattle.pw_commands_interp.specs.Interpreting.{frames_of}
 
 -- of an entry the name and the frame
 abbrev pub frame_in : List ℕ × ℕ × ℕ → List ℕ × ℕ
-frame_in f = (f.0, f.1.1)
+frame_in f = (f.0, f.2)
 
 of_entries : (fs : List Function) → map frame_in (map function_entry fs) ≡ map (λ (f : Function). (f.name, f.frame)) fs
 of_entries [] = refl

@@ -1,4 +1,4 @@
-use Rattle.std.proofs.Common.{map, refl}
+use Rattle.std.proofs.Common.{map}
 use Rattle.pw_store_modules.specs.Views.{source}
 use Rattle.pw_commands_interp.proofs.BuildLemmas.{refused_did, run_did}
 use Rattle.pw_commands_interp.proofs.LineLemmas.{fault_proper, fault_reads, fault_streams, fault_writes, line_of_fault, line_of_reply, reply_proper, reply_read, reply_store, reply_streams, reply_write}
