@@ -19,7 +19,7 @@ use Rattle.pw_interp.specs.declared.ends.InterpFault.TheVariants as interp
 use Rattle.pw_image.specs.declared.image.Image.{Image}
 use Rattle.pw_image.specs.Image.{Contents, IsImageFile}
 use Rattle.pw_link.specs.Linking.{linked}
-use Rattle.pw_store_modules.specs.Modules.{Source, modules_of}
+use Rattle.pw_store_modules.specs.Modules.{Source, module_map, modules_of}
 use Rattle.pw_top_answer.specs.declared.answer.Answer.{Answer}
 use Rattle.pw_top_answer.specs.declared.answer.Answer.TheVariants.{Ended, Refused, LinkRefused, StackStop, Spent, ReadFault, WriteFault, StoreFault, NoMemory, Undefined}
 use Rattle.pw_top_answer.specs.Effects.{Effect, answers_alone}
@@ -27,7 +27,7 @@ use Rattle.pw_top_answer.specs.Outcomes.{Answers, LeavesInput, PutsOut}
 use Rattle.pw_commands.specs.Outcome.{IsFound}
 use Rattle.pw_build_objects.specs.Programs.{Parts}
 use Rattle.pw_build_files.specs.FromBuild.BuildFault.{BuildFault}
-use Rattle.pw_build_files.specs.FromBuild.Builds.{Builds}
+use Rattle.pw_build_files.specs.FromBuild.Builds.{Builds, FullBuild}
 use Rattle.pw_build_files.specs.FromBuild.Phases.{refused_line}
 use Rattle.pw_build_files.specs.Building.{kept_objects}
 use Rattle.pw_build_files.specs.Outcomes.{fault_answer}
@@ -69,6 +69,11 @@ InterpOver files opts input (Err fault) effect = effect ≡ answers_alone (fault
 abbrev pub InterpEffect : Files → RunOpts → List ℕ → Effect → Type 0
 InterpEffect files opts input effect =
     (comes : Result Parts BuildFault) × Builds (modules_of files) (kept_objects files) opts.build comes × InterpOver files opts input comes effect
+
+-- The same over the full build, in which nothing is kept.
+abbrev pub InterpsInFull : Files → RunOpts → List ℕ → Effect → Type 0
+InterpsInFull files opts input effect =
+    (comes : Result Parts BuildFault) × FullBuild (module_map files) opts.build comes × InterpOver files opts input comes effect
 
 -- ---- what is answered
 
