@@ -42,6 +42,10 @@ AreTyped [] [] = Unit {0}
 AreTyped (source ∷ sources) (m ∷ ms) = (m.name ≡ source.0) × (typed_text source.1 ≡ Ok m.tree) × AreTyped sources ms
 AreTyped sources ms = ⊥
 
+-- of a function in a map its full name and its frame
+abbrev pub frame_in : List ℕ × ℕ × ℕ → List ℕ × ℕ
+frame_in f = (f.0, f.2)
+
 -- the frames of an image's functions, by their full names
 abbrev pub frames_of : Image → List (List ℕ × ℕ)
 frames_of v = map (λ f. (f.name, f.frame)) v.functions
