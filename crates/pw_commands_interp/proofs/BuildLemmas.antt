@@ -11,7 +11,7 @@ use Rattle.pw_cmean.specs.Worlds.{ProgramModule}
 use Rattle.pw_cmean.specs.SourceRun.{Run, source_run}
 use Rattle.pw_interp_calls.specs.Frames.{frame_among}
 use Rattle.pw_store_modules.specs.declared.modules.Module.{Module}
-use Rattle.pw_store_modules.specs.Modules.{Source, modules_of, names_of_modules}
+use Rattle.pw_store_modules.specs.Modules.{Source, modules_of}
 use Rattle.pw_store_modules.specs.Views.{source}
 use Rattle.pw_top_answer.specs.declared.answer.Answer.{Answer}
 use Rattle.pw_top_answer.specs.declared.answer.Answer.TheVariants as answer
@@ -24,6 +24,7 @@ use Rattle.pw_build_objects.specs.Programs.{Parts}
 use Rattle.pw_build_files.specs.FromBuild.BuildFault.{BuildFault}
 use Rattle.pw_build_files.specs.FromBuild.BuildFault.TheVariants as build
 use Rattle.pw_build_files.specs.FromBuild.Builds.{Builds, BuildsBy, first_phases}
+use Rattle.pw_build_files.specs.FromBuild.Full.{built_anew}
 use Rattle.pw_build_files.specs.Building.{kept_object, kept_objects}
 use Rattle.pw_build_files.specs.Programs.{AnswersFault, BuildsFiles, FaultBuilds}
 use Rattle.pw_build_files.specs.Outcomes.{fault_answer}
@@ -73,6 +74,11 @@ effect_ends files opts input (Ok parts) e h =
     let n = (run_of opts input parts h.0).read in
     (take n input, subst (λ (x : Effect). input ≡ take n input ++ x.rest) (sym h.2) (sym (take-append-drop n input)))
 effect_ends files opts input (Err fault) e h = ([], sym (ap (λ (x : Effect). x.rest) h))
+
+-- which objects were made anew is nothing to the run
+pub over_anew : (files : Files) (opts : RunOpts) (input : List ℕ) (comes : Result Parts BuildFault) (e : Effect) → InterpOver files opts input comes e → InterpOver files opts input (built_anew comes) e
+over_anew files opts input (Ok parts) e h = h
+over_anew files opts input (Err fault) e h = h
 
 module _ (one : OneBuild) (files : Files) (opts : RunOpts) (few : opts.build.colours ≤ colour_limit) (input : List ℕ) where
   -- ---- modules that were linked

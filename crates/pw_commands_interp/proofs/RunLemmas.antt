@@ -8,10 +8,10 @@ use Rattle.pw_interp.specs.declared.ends.CEnd.{CEnd}
 use Rattle.pw_interp.specs.declared.ends.CEnd.TheVariants as E
 use Rattle.pw_interp.specs.declared.ends.InterpFault.{InterpFault}
 use Rattle.pw_interp.specs.declared.ends.InterpFault.TheVariants as interp
-use Rattle.pw_interp.specs.Streaming.{EndsOver, GivenUp, LeftBy, ReadCount, WriteCount}
+use Rattle.pw_interp.specs.Streaming.{GivenUp, LeftBy, ReadCount, WriteCount}
 use Rattle.pw_top_answer.specs.declared.answer.Answer.{Answer}
 use Rattle.pw_top_answer.specs.declared.answer.Answer.TheVariants as answer
-use Rattle.pw_top_answer.specs.Outcomes.{InputCount, LeavesInput, LeavesStreams, OutputCount, PutsOut, StoreCount, WasReadInPart}
+use Rattle.pw_top_answer.specs.Outcomes.{InputCount, LeavesStreams, OutputCount, StoreCount, WasReadInPart}
 use Rattle.pw_commands_interp.specs.Interpreting.{IsInterpAnswer, IsRunAnswer, RanAs, UnlessMemory, answer_of, end_answer}
 
 pub appends_none : (taken : Option (List ℕ)) → Appends taken taken []

@@ -19,7 +19,7 @@ use Rattle.pw_interp.specs.declared.ends.InterpFault.TheVariants as interp
 use Rattle.pw_image.specs.declared.image.Image.{Image}
 use Rattle.pw_image.specs.Image.{Contents, IsImageFile}
 use Rattle.pw_link.specs.Linking.{linked}
-use Rattle.pw_store_modules.specs.Modules.{Source, modules_of}
+use Rattle.pw_store_modules.specs.Modules.{Source, module_map, modules_of}
 use Rattle.pw_top_answer.specs.declared.answer.Answer.{Answer}
 use Rattle.pw_top_answer.specs.declared.answer.Answer.TheVariants.{Ended, Refused, LinkRefused, StackStop, Spent, ReadFault, WriteFault, StoreFault, NoMemory, Undefined}
 use Rattle.pw_top_answer.specs.Effects.{Effect, answers_alone}
@@ -27,7 +27,7 @@ use Rattle.pw_top_answer.specs.Outcomes.{Answers, LeavesInput, PutsOut}
 use Rattle.pw_commands.specs.Outcome.{IsFound}
 use Rattle.pw_build_objects.specs.Programs.{Parts}
 use Rattle.pw_build_files.specs.FromBuild.BuildFault.{BuildFault}
-use Rattle.pw_build_files.specs.FromBuild.Builds.{Builds}
+use Rattle.pw_build_files.specs.FromBuild.Builds.{Builds, FullBuild}
 use Rattle.pw_build_files.specs.FromBuild.Phases.{refused_line}
 use Rattle.pw_build_files.specs.Building.{kept_objects}
 use Rattle.pw_build_files.specs.Outcomes.{fault_answer}
@@ -41,6 +41,10 @@ abbrev pub AreTyped : List Source → List ProgramModule → Type 0
 AreTyped [] [] = Unit {0}
 AreTyped (source ∷ sources) (m ∷ ms) = (m.name ≡ source.0) × (typed_text source.1 ≡ Ok m.tree) × AreTyped sources ms
 AreTyped sources ms = ⊥
+
+-- of a function in a map its full name and its frame
+abbrev pub frame_in : List ℕ × ℕ × ℕ → List ℕ × ℕ
+frame_in f = (f.0, f.2)
 
 -- the frames of an image's functions, by their full names
 abbrev pub frames_of : Image → List (List ℕ × ℕ)
@@ -69,6 +73,11 @@ InterpOver files opts input (Err fault) effect = effect ≡ answers_alone (fault
 abbrev pub InterpEffect : Files → RunOpts → List ℕ → Effect → Type 0
 InterpEffect files opts input effect =
     (comes : Result Parts BuildFault) × Builds (modules_of files) (kept_objects files) opts.build comes × InterpOver files opts input comes effect
+
+-- The same over the full build, in which nothing is kept.
+abbrev pub InterpsInFull : Files → RunOpts → List ℕ → Effect → Type 0
+InterpsInFull files opts input effect =
+    (comes : Result Parts BuildFault) × FullBuild (module_map files) opts.build comes × InterpOver files opts input comes effect
 
 -- ---- what is answered
 

@@ -6,10 +6,10 @@ ghost use Rattle.pw_image.specs.Image.{Contents, IsImageFile};
 ghost use Rattle.pw_store_modules.specs.Views.{source};
 ghost use Rattle.pw_interp.specs.Programs.{module_of};
 ghost use Rattle.pw_build_files.specs.Outcomes.{HoldsImage};
-ghost use Rattle.pw_commands_interp.specs.Interpreting.{AreTyped, frames_of};
+ghost use Rattle.pw_commands_interp.specs.Interpreting.{AreTyped, frame_in, frames_of};
 
 use pw_front_end::FrontEndFault;
-use pw_image::{LoadError, read_map};
+use pw_image::{LoadError, Map, read_map};
 use pw_phase_one::phase_typed;
 use pw_store_modules::Module;
 use pw_typed::TModule;
@@ -44,18 +44,25 @@ fn typed_modules(alloc: Global, modules: &[Module]) -> Result<Vec<(Name, TModule
     Ok(typed)
 }
 
+/// The frames of the functions in a map, by their full names.
+fn frames_of_map(alloc: Global, found: Map) -> Result<Vec<(Name, u32)>, AllocError>
+    ensures { IfOk result (λ frames. frames.items ≡ map frame_in found.functions) }
+{
+    found
+        .functions
+        .into_vec()
+        .into_iter()
+        .map(|f| (f.0, f.2))
+        .collect(alloc)
+}
+
 /// The frames of an image's functions, by their full names.
 fn frames_in(alloc: Global, image: &[u8]) -> Result<Vec<(Name, u32)>, AllocError>
     requires { HoldsImage image.now }
     ensures { IfOk result (λ frames. (c : Contents Image) → IsImageFile image.now c → frames.items ≡ frames_of c.value) }
 {
     match read_map(alloc, image) {
-        Ok(map) => map
-            .functions
-            .into_vec()
-            .into_iter()
-            .map(|f| (f.0, f.2))
-            .collect(alloc),
+        Ok(found) => frames_of_map(alloc, found),
         Err(LoadError::NoMemory) => Err(AllocError),
         Err(LoadError::LoadFault { .. }) => unreachable!(),
     }

@@ -21,7 +21,7 @@ use Rattle.pw_interp_lasting.specs.Going.{GoesOnFrom}
 use Rattle.pw_interp.specs.declared.ends.InterpFault.{InterpFault}
 use Rattle.pw_interp.specs.declared.ends.InterpFault.TheVariants.{NoMemory}
 use Rattle.pw_interp.specs.Ends.{ending_of}
-use Rattle.pw_interp.specs.Streaming.{GoesOver, StandsStill, StopsOver, Turns}
+use Rattle.pw_interp.specs.Streaming.{GoesOver, StandsStill, Turns}
 use Rattle.pw_interp.proofs.StreamLaws.{byte_carried, failed_read_carried, failed_write_carried, put_carried}
 
 -- a stop that tells how the run ended

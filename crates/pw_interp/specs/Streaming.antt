@@ -3,7 +3,6 @@ use Rattle.std.specs.Prelude.{ℕ, ◌≡◌, List, [], ◌++◌, drop, Option, 
 use Rattle.pw_io.specs.Faults.{Rose}
 use Rattle.pw_io.specs.Streams.{Appends}
 use Rattle.pw_cmean.specs.Worlds.{World, Body}
-use Rattle.pw_cmean.specs.Acts as acts
 use Rattle.pw_cmean.specs.Acts.{Act, Outcome, State}
 use Rattle.pw_cmean.specs.Lasting.{state_behind}
 use Rattle.pw_cmean.specs.SourceRun.{Run}

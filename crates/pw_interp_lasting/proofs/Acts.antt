@@ -1,7 +1,7 @@
 -- Acts that only write behind what was written and read on.
-use Rattle.std.proofs.Common.{ℕ, ◌+◌, ◌≡◌, refl, sym, ◌∙◌, arith, Bool, List, [], ◌∷◌, ◌++◌, append-nil}
+use Rattle.std.proofs.Common.{ℕ, ◌≡◌, refl, sym, ◌∙◌, arith, Bool, List, [], ◌∷◌, append-nil}
 use Rattle.pw_value.specs.Objects.{Object}
-use Rattle.pw_cmean.specs.Acts.{Act, State, Ending, Outcome, Gives, Ends, Wrong, give, stop, wrong, go_on, ◌>>=◌, branch, look, make, end_object, write, next_byte, get_char, put_char, called, returned, during, with_object}
+use Rattle.pw_cmean.specs.Acts.{Act, State, Ending, Outcome, Gives, Ends, Wrong, give, stop, wrong, go_on, ◌>>=◌, look, make, end_object, write, next_byte, get_char, put_char, called, returned, during, with_object}
 use Rattle.pw_cmean.specs.Lasting.{state_behind, IsLater}
 use Rattle.pw_cmean.proofs.ActLaws.{Laws}
 use Rattle.pw_cmean.proofs.Keeping.{later-trans}

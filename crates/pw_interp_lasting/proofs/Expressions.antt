@@ -1,9 +1,8 @@
 -- What is left of expressions only writes behind what was written and reads on.
-use Rattle.std.proofs.Common.{ℕ, Bool, List, Option, arith}
+use Rattle.std.proofs.Common.{ℕ, List, Option, arith}
 use Rattle.pw_value.specs.declared.value.Value.{Value}
 use Rattle.pw_types.specs.TypedTrees.{Expression, Expressions, Node, Unary, Binary, Logic, Cond, Comma, Assign, Compound, Step, Cast, Member, Deref, CallValue}
 use Rattle.pw_cmean.specs.Worlds.{World}
-use Rattle.pw_cmean.specs.Acts.{Act, ◌>>=◌}
 use Rattle.pw_cmean.specs.Evaluation.{Env, Calls, values_of}
 use Rattle.pw_cmean.specs.SourceRun.{calls}
 use Rattle.pw_cmean.proofs.ActLaws.{AreRelated, branch-r, need-r, truth-r, unary-r, advance-r, binary-r, put-r, used-r, value_at-r, cast-r, old_value-r, update-r, step-r, call-r, call_value-r}

@@ -3,7 +3,7 @@ use Rattle.std.proofs.Common.{ℕ, zero, suc, ◌≡◌, refl, sym, ap, subst, L
 use Rattle.pw_value.specs.declared.value.Value.{Value}
 use Rattle.pw_typed.specs.Views.{view_exprs}
 use Rattle.pw_cmean.specs.Worlds.{World, Body, Callable}
-use Rattle.pw_cmean.specs.Acts.{Act, State, Outcome, Gives, Ends, Returned, ◌>>=◌, ◌>>◌, give, wrong, end_object}
+use Rattle.pw_cmean.specs.Acts.{Act, State, Outcome, Returned}
 use Rattle.pw_cmean.specs.Lasting.{IsLater, state_behind}
 use Rattle.pw_cmean.specs.Evaluation.{Env, call}
 use Rattle.pw_cmean.specs.Execution.{Flow}

@@ -1,13 +1,12 @@
 -- What is left of statements only writes behind what was written and reads on.
-use Rattle.std.proofs.Common.{ℕ, zero, suc, ◌-◌, ◌+◌, Bool, false, true, List, [], ◌∷◌, ◌++◌, drop, Option}
+use Rattle.std.proofs.Common.{ℕ, ◌-◌, ◌+◌, Bool, false, true, List, [], ◌∷◌, drop, Option}
 use Rattle.pw_value.specs.declared.value.Value.{Value}
 use Rattle.pw_typed.specs.Views.{view_stmt}
 use Rattle.pw_types.specs.TypedTrees.{Statement, Block, If, While, Do, For, Switch, Label, Arms, NoArm, Arm, Otherwise, Statements, Initialiser, Value as ByValue, Bytes as ByBytes, token_of}
-use Rattle.pw_types.specs.Labels.{labels_among, labels_of_arms, labels_behind}
-use Rattle.pw_cmean.specs.Acts.{Act, Bound, ◌>>=◌, ◌>>◌, give}
-use Rattle.pw_cmean.specs.Evaluation.{Env, Calls, used}
-use Rattle.pw_cmean.specs.Execution.{Entry, Front, At_label, Flow, Normal, label_for, after_switch, items, arms, behind_arms, meaning}
-use Rattle.pw_cmean.specs.SourceRun.{calls}
+use Rattle.pw_types.specs.Labels.{labels_among}
+use Rattle.pw_cmean.specs.Acts.{Bound}
+use Rattle.pw_cmean.specs.Evaluation.{Env, Calls}
+use Rattle.pw_cmean.specs.Execution.{Entry, Front, At_label, Flow, Normal, label_for, items}
 use Rattle.pw_cmean.proofs.ActLaws.{AreRelated, branch-r, used-r}
 use Rattle.pw_cmean.proofs.TreeLaws.{Parts, condition-r, for_condition-r, drop_value-r, always-r, go_forward-r, caught-r, taking_up-r, after_body-r, turn-r, loop-r, after_switch-r, switch_to-r, with_locals-r, set_local-r, initialise_all-r, meaning-r, items-r, arms-r, behind_arms-r}
 use Rattle.pw_interp_todo.specs.declared.statements.Done.{Done}
@@ -23,7 +22,6 @@ use Rattle.pw_interp_todo.specs.Flows.{view_entry}
 use Rattle.pw_interp_todo.specs.Going.{members_behind, arm_behind, done_act, remainder_act, arm_or_rest, arm_tested, switched, initialised, purpose_act, use_act}
 use Rattle.pw_interp_todo.specs.Loops.{ahead_of, body_of, behind_of, loop_act, top_act, turn_or_leave, top_or_leave, body_behind}
 use Rattle.pw_interp_todo.specs.Members.{first_in, count_in, initialisers_in, members_in, members_from, arms_in, arms_from, otherwise_in, taken_in}
-use Rattle.pw_interp_todo.specs.Operands.{tested}
 use Rattle.pw_interp_todo.specs.Parts.{met_arms, once_of, taking_act, again_act, inside, part_act, doing_act}
 use Rattle.pw_interp_lasting.proofs.Acts.{AreLasting, L, lasting, give_l, stop_l, then_l}
 use Rattle.pw_interp_lasting.proofs.Expressions.{CallsLast, calls_l, tested_l}

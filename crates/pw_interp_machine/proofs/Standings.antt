@@ -28,8 +28,8 @@ use Rattle.pw_interp_todo.proofs.Resumes.{resume_last}
 use Rattle.pw_interp_machine.specs.declared.machine.Call.{Call}
 use Rattle.pw_interp_machine.specs.declared.machine.Machine.{Machine}
 use Rattle.pw_interp_machine.specs.Waiting.{Active, leave, ended, goes_on, callers_act}
-use Rattle.pw_interp_machine.specs.Standing.{IsCall, AreCalls, InCall, StandsAt, Stands}
-use Rattle.pw_interp_machine.specs.Stepping.{StepsCall, EndsSo, Starts, Steps, StepsAt, body_first}
+use Rattle.pw_interp_machine.specs.Standing.{IsCall, AreCalls, InCall, StandsAt}
+use Rattle.pw_interp_machine.specs.Stepping.{StepsCall, EndsSo, Starts, StepsAt, body_first}
 use Rattle.pw_interp_machine.proofs.Callers.{callers_last, calls_last, last_of}
 
 -- ---- what code answers that does the first steps of an act

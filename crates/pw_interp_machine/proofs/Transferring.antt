@@ -1,5 +1,5 @@
 -- A byte that is read or written between two steps.
-use Rattle.std.proofs.Common.{ℕ, ◌+◌, ◌≡◌, refl, sym, ap, subst, ◌∙◌, Option, Some, None, List, [], ◌∷◌, ◌++◌}
+use Rattle.std.proofs.Common.{ℕ, ◌+◌, ◌≡◌, sym, ap, ◌∙◌, Option, Some, None, List, [], ◌∷◌, ◌++◌}
 use Rattle.pw_value.specs.declared.value.Value.{Value}
 use Rattle.pw_value.specs.declared.value.Value.TheVariants as V
 use Rattle.pw_cmean.specs.Worlds.{World, Body}
@@ -9,11 +9,11 @@ use Rattle.pw_interp_state.specs.Shown.{Shown, Streams, all_shown}
 use Rattle.pw_interp_calls.specs.Views.{view_env}
 use Rattle.pw_interp_todo.specs.declared.todo.Control.TheVariants as C
 use Rattle.pw_interp_todo.specs.declared.todo.Transfer.TheVariants as T
-use Rattle.pw_interp_todo.specs.Resuming.{Rest, Gave, resume, control_act}
+use Rattle.pw_interp_todo.specs.Resuming.{Gave, resume, control_act}
 use Rattle.pw_interp_todo.specs.Transfers.{transfer_act}
 use Rattle.pw_interp_machine.specs.declared.machine.Machine.{Machine}
 use Rattle.pw_interp_machine.specs.Waiting.{ended, callers_act}
-use Rattle.pw_interp_machine.specs.Standing.{StandsAt, Stands}
+use Rattle.pw_interp_machine.specs.Standing.{Stands}
 use Rattle.pw_interp_machine.specs.Streaming.{word_read, IsRead, with_byte}
 
 -- what a read gives, by what is left of the input

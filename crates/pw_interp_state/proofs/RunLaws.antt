@@ -1,5 +1,5 @@
 -- What acts come to, from what their parts come to.
-use Rattle.std.proofs.Common.{ℕ, ◌+◌, ◌≡◌, refl, sym, ap, subst, ◌∙◌, Bool, true, false, List, [], ◌∷◌, ◌++◌, Result, Ok, Err, length}
+use Rattle.std.proofs.Common.{ℕ, ◌+◌, ◌≡◌, refl, sym, ap, subst, ◌∙◌, Bool, true, false, List, Result, Ok, Err, length}
 use Rattle.std.specs.Prelude.{nat_lt}
 use Rattle.pw_value.specs.declared.value.Byte.{Byte}
 use Rattle.pw_value.specs.Objects.{Object, ended, written, with_object as with_new_object}

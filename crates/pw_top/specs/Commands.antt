@@ -18,7 +18,7 @@ use Rattle.pw_go.specs.Going.{HasBuilt}
 use Rattle.pw_law_session.specs.FromBuildLaws.Complete.{CanBeBuilt}
 use Rattle.pw_law_session.specs.Full.{SessionBuildsInFull}
 use Rattle.pw_top.specs.Rest.{LeavesRest}
-use Rattle.pw_top.specs.Whole.{BenchesFull, ComesInFull, IfMade, ReportsFull, RunsFull}
+use Rattle.pw_top.specs.Whole.{BenchesFull, ComesInFull, IfMade, InterpretsFull, ReportsFull, RunsFull}
 use Rattle.pw_commands_cpp.specs.Command.{cpp_puts}
 use Rattle.pw_commands_interp.specs.Interpreting.{told_line}
 use Rattle.pw_commands_phases.specs.First.{phase_line, phase_one_puts}
@@ -112,13 +112,14 @@ IsComplete (Some (Build opts)) files answer = BuildsWhereItCan files opts answer
 IsComplete _ files answer = Unit {0}
 
 -- Where the kept objects were genuine, `build` and `go` come to the report and to the run of the full build's image, or to its
--- refusal, and leave its database and its image; and each build of a session, whatever ended it, is the full build of the
--- modules as they were then. `bench` builds in full whatever the store keeps.
+-- refusal, and leave its database and its image, and `interp` to the run with the frames of that image; and each build of a session,
+-- whatever ended it, is the full build of the modules as they were then. `bench` builds in full whatever the store keeps.
 abbrev pub BuildsWhole : Option Command → Answer → Told → Option Told → (input : List ℕ) → (input' taken taken' : Option (List ℕ)) → Type 0
 BuildsWhole (Some (Build opts)) answer told new input input' taken taken' =
     KeepsGenuine told.files → IfMade answer (ComesInFull opts told new (λ full. ReportsFull full answer taken taken'))
 BuildsWhole (Some (Go opts)) answer told new input input' taken taken' =
     KeepsGenuine told.files → IfMade answer (ComesInFull opts.build told new (λ full. RunsFull opts.budget input full answer input' taken taken'))
+BuildsWhole (Some (Interp opts)) answer told new input input' taken taken' = KeepsGenuine told.files → IfMade answer (InterpretsFull told.files opts input answer input' taken taken')
 BuildsWhole (Some (Session opts)) answer told new input input' taken taken' = KeepsGenuine told.files → SessionBuildsInFull opts told input
 BuildsWhole (Some (Bench number opts)) answer told new input input' taken taken' = IfMade answer (BenchesFull number opts input answer taken taken')
 BuildsWhole _ answer told new input input' taken taken' = Unit {0}

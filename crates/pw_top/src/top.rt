@@ -15,7 +15,7 @@ ghost use Rattle.pw_top_words.specs.Limits.{IsWithin};
 use pw_commands::{analyse_modules, link_modules, list_image, run_image, show_database};
 use pw_commands_cpp::preprocess_module;
 use pw_commands_interp::interpret_modules;
-use pw_commands_interp::laws::runs_leave_a_rest;
+use pw_commands_interp::laws::{genuine_objects_run_as_the_full_build, runs_leave_a_rest};
 use pw_commands_phases::{compile_flow, compile_text};
 use pw_commands_where::laws::looks_leave_an_end;
 use pw_commands_where::show_call;
@@ -235,6 +235,7 @@ pub fn pawc_top<S: Store, I: Source, O: Sink, E: Sink>(
     bench_builds_in_full();
     builds_are_full();
     commands_are_within();
+    genuine_objects_run_as_the_full_build();
     looks_leave_an_end();
     runs_leave_a_rest();
     runs_leave_an_end();

@@ -1,4 +1,4 @@
-use Rattle.std.proofs.Common.{map, refl}
+use Rattle.std.proofs.Common.{map}
 use Rattle.pw_store_modules.specs.Views.{source}
 use Rattle.pw_commands_interp.proofs.BuildLemmas.{refused_did, run_did}
 use Rattle.pw_commands_interp.proofs.LineLemmas.{fault_proper, fault_reads, fault_streams, fault_writes, line_of_fault, line_of_reply, reply_proper, reply_read, reply_store, reply_streams, reply_write}
@@ -7,7 +7,7 @@ use Rattle.pw_commands_interp.proofs.interpreting.interpret_counted.Goals as goa
 pub returns-in-Ok-clause-did : goal.returns-in-Ok-clause-did
 returns-in-Ok-clause-did g c =
     run_did c.modules_have_one_build.ensures.answer c.args.opts.now c.requires.colours c.args.modules.now c.as_slice-image.result.now (g.S.Store.told c.args.store.now) (g.I.Source.rest c.args.input.now) _ (g.O.Sink.taken c.args.out.now) _
-    c.in-Ok.linked.files c.in-Ok.linked.objects.items c.run_linked-answer.result c.with_line.result c.as_slice-image.ensures c.in-Ok.ensures.files c.run_linked-answer.ensures.typed c.run_linked-answer.ensures.runs c.with_line.ensures
+    c.in-Ok.linked.files c.in-Ok.linked.objects.items c.run_linked-answer.result c.with_line.result c.as_slice-image.ensures.value c.in-Ok.ensures.files c.run_linked-answer.ensures.typed c.run_linked-answer.ensures.runs c.with_line.ensures
 
 pub returns-in-Ok-clause-line : goal.returns-in-Ok-clause-line
 returns-in-Ok-clause-line g c = line_of_reply (map source c.args.modules.now) c.run_linked-answer.result c.with_line.result c.run_linked-answer.ensures.answer c.with_line.ensures

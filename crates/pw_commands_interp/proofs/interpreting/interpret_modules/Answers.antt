@@ -1,5 +1,3 @@
-use Rattle.std.proofs.Common.{List, map, refl}
-use Rattle.pw_store_modules.specs.Views.{source}
 use Rattle.pw_commands_interp.proofs.BuildLemmas.{read_did, unread_did}
 use Rattle.pw_commands_interp.proofs.LineLemmas.{fault_proper, fault_reads, fault_streams, fault_writes, line_read, line_unread}
 use Rattle.pw_commands_interp.proofs.interpreting.interpret_modules.Goals as goal

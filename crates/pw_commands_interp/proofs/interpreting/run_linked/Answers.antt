@@ -1,4 +1,4 @@
-use Rattle.std.proofs.Common.{ℕ, List, map, subst, sym}
+use Rattle.std.proofs.Common.{ℕ, List, map, subst}
 use Rattle.pw_cmean.specs.Worlds.{ProgramModule}
 use Rattle.pw_interp_calls.specs.Frames.{frame_among}
 use Rattle.pw_interp.specs.Programs.{module_of}

@@ -1,4 +1,4 @@
-use Rattle.std.proofs.Common.{Option, List, sym, subst}
+use Rattle.std.proofs.Common.{sym, subst}
 use Rattle.std.proofs.lemmas.Option.{IfSome_then}
 use Rattle.pw_cmean.specs.SourceRun.{source_run}
 use Rattle.pw_interp_calls.specs.Frames.{frame_among}

@@ -8,7 +8,7 @@ use Rattle.pw_commands_interp.proofs.TypedLemmas.{typed_all, typed_none, typed_s
 use Rattle.pw_commands_interp.proofs.programs.typed_modules.Goals as goal
 
 pub loop-which-init : goal.loop-which-init
-loop-which-init c = typed_none (map source c.args.modules.now) _ _ refl (ap (map module_of) c.new-typed.ensures)
+loop-which-init c = typed_none (map source c.args.modules.now) _ _ refl (ap (map module_of) c.new-typed.ensures.items)
 
 pub loop-which-preserved : goal.loop-which-preserved
 loop-which-preserved c =

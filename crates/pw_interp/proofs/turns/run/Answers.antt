@@ -1,4 +1,4 @@
-use Rattle.std.proofs.Common.{Ok, refl, ◌∙◌}
+use Rattle.std.proofs.Common.{refl, ◌∙◌}
 use Rattle.pw_interp_calls.specs.Functions.{callable_of}
 use Rattle.pw_interp_state.specs.Shown.{view_state}
 use Rattle.pw_interp.proofs.StreamLaws.{read_since, write_since}

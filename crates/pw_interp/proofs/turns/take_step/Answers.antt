@@ -1,4 +1,4 @@
-use Rattle.std.proofs.Common.{Ok, refl, sym, subst, ◌∙◌}
+use Rattle.std.proofs.Common.{refl, sym, subst, ◌∙◌}
 use Rattle.std.specs.Prelude.{IfErr}
 use Rattle.pw_interp_state.specs.Shown.{view_state}
 use Rattle.pw_interp.specs.declared.ends.InterpFault.TheVariants.{NoMemory}

@@ -57,7 +57,7 @@ returns-clause-some_line g c = (c.obey_words-reply.result.line, c.tell.ensures.l
 
 pub returns-clause-builds_whole : goal.returns-clause-builds_whole
 returns-clause-builds_whole g c =
-    builds_whole c.builds_are_full.ensures c.sessions_build_in_full.ensures c.bench_builds_in_full.ensures (command_of (map string_bytes c.args.words.now)) (g.S.Store.told c.args.store.now) _ (g.I.Source.rest c.args.input.now) _ (g.O.Sink.taken c.args.out.now) _ c.tell.result
+    builds_whole c.builds_are_full.ensures c.genuine_objects_run_as_the_full_build.ensures c.sessions_build_in_full.ensures c.bench_builds_in_full.ensures (command_of (map string_bytes c.args.words.now)) (g.S.Store.told c.args.store.now) _ (g.I.Source.rest c.args.input.now) _ (g.O.Sink.taken c.args.out.now) _ c.tell.result
     (are_within (command_of (map string_bytes c.args.words.now)) (c.commands_are_within.ensures (map string_bytes c.args.words.now)))
     (returns-clause-does g c)
 
