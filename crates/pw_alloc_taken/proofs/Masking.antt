@@ -4,7 +4,7 @@ use Rattle.std.specs.Prelude.{slice_index, Contains, ◌↔◌}
 use Rattle.std.proofs.lemmas.Bool.{cases_eq}
 use Rattle.std.proofs.lemmas.List.{take_all, get_or-set_same, get_or-set_other}
 use Rattle.pw_live_spans.specs.Spans.{IsIn, Covers}
-use Rattle.pw_live_held.proofs.Spanning.{first_more, first_none}
+use Rattle.pw_live_spans.proofs.Steps.{first_more, first_none}
 use Rattle.pw_alloc_masks.specs.Masks.{HasRegister}
 use Rattle.pw_alloc_masks.specs.Sets.{HasWithin}
 use Rattle.pw_alloc_masks.specs.declared.sets.PointSets.{PointSets}

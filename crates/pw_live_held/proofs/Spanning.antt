@@ -1,29 +1,9 @@
 -- Points of spans, one behind the other.
-use Rattle.std.proofs.Common.{◌≡◌, ◌⊎◌, ℕ, ◌+◌, ◌<◌, ◌≤◌, true, false, List, [], ◌∷◌, ◌++◌, length, get_or, take, refl, sym, ap, subst, ◌∙◌, arith, inl, inr}
+use Rattle.std.proofs.Common.{◌≡◌, ℕ, ◌+◌, ◌<◌, ◌≤◌, true, false, List, length, get_or, take, refl, sym, subst}
 use Rattle.std.specs.Prelude.{Contains, ◌↔◌}
-use Rattle.std.proofs.lemmas.List.{take_more, take_all, get_or_default}
-use Rattle.std.proofs.lemmas.List.Elements.{Contains-append_left, Contains-push, Contains-push_cases}
+use Rattle.std.proofs.lemmas.List.{take_all}
 use Rattle.pw_live_spans.specs.Spans.{IsIn, Covers}
-
--- ---- a prefix that is one longer
-
-pub first_more : {X : Type 0} (xs : List X) (k : ℕ) (x y : X) → k < length xs → get_or xs k x ≡ x → Contains (take (k + 1) xs) y ↔ (Contains (take k xs) y ⊎ (y ≡ x))
-first_more {X} xs k x y lt is =
-    let whole : take (k + 1) xs ≡ take k xs ++ x ∷ [] = take_more xs k x lt ∙ ap (λ (z : X). take k xs ++ z ∷ []) is in (
-      λ h. elim (Contains-push_cases (take k xs) x y (subst (λ (zs : List X). Contains zs y) whole h)) [ inl c ↦ inl c | inr e ↦ inr (sym e) ],
-      λ h. subst (λ (zs : List X). Contains zs y) (sym whole) (elim h [
-        | inl c ↦ Contains-append_left (take k xs) (x ∷ []) y c
-        | inr e ↦ subst (λ (z : X). Contains (take k xs ++ x ∷ []) z) (sym e) (Contains-push (take k xs) x)
-      ]),
-    )
-
-pub first_none : {X : Type 0} (xs : List X) (y : X) → ¬ Contains (take 0 xs) y
-first_none [] y c = let lt : c.0 < 0 = c.1 in omega (arith, lt)
-first_none (x ∷ xs) y c = let lt : c.0 < 0 = c.1 in omega (arith, lt)
-
--- what is read there is there, whatever is read past the end
-pub read_again : {X : Type 0} (xs : List X) (k : ℕ) (d : X) → k < length xs → get_or xs k (get_or xs k d) ≡ get_or xs k d
-read_again xs k d lt = get_or_default xs k (get_or xs k d) d lt
+use Rattle.pw_live_spans.proofs.Steps.{first_more}
 
 -- ---- a point of a kind
 

@@ -6,7 +6,7 @@ use Rattle.std.proofs.lemmas.Bool.{cases_eq, cases_lt, ne_eqb, eq-eqb, eqb-true}
 use Rattle.std.proofs.lemmas.List.{take_more, take_all, drop_all, get_or-set_same, get_or-set_other}
 use Rattle.std.proofs.lemmas.List.Sums.{sum_by_push}
 use Rattle.pw_live_spans.specs.Spans.{IsIn, Covers}
-use Rattle.pw_live_held.proofs.Spanning.{first_more, first_none}
+use Rattle.pw_live_spans.proofs.Steps.{first_more, first_none}
 use Rattle.pw_flow.specs.Outline.{Outline}
 use Rattle.pw_live.specs.Points.{Point, points}
 use Rattle.pw_live_needs.specs.Needs.{is_short, short_at, most_short}

@@ -2,7 +2,7 @@ use Rattle.std.proofs.Common.{ℕ, List, get_or, subst}
 use Rattle.std.specs.Prelude.{◌↔◌}
 use Rattle.std.proofs.lemmas.List.{take_all}
 use Rattle.std.proofs.lemmas.List.Elements.{Contains-get_or}
-use Rattle.pw_live_held.proofs.Spanning.{read_again}
+use Rattle.pw_live_spans.proofs.Steps.{item_at}
 use Rattle.pw_alloc_masks.specs.Masks.{HasRegister}
 use Rattle.pw_alloc_masks.proofs.Joining.{zero_mask}
 use Rattle.pw_alloc_taken.specs.Masks.{IsMadeBeside}
@@ -22,7 +22,7 @@ pub loop-place-preserved : goal.loop-place-preserved
 loop-place-preserved c =
     let spans = c.args.spans.now in
     let place = c.loop-place.place in
-    beside_more c.args.made.now spans place (get_or spans place (0, 0)) (HasRegister c.both-more.result) (HasRegister c.loop-place.beside) (HasRegister c.within-within.result) c.loop-place-test.true (read_again spans place (0, 0) c.loop-place-test.true)
+    beside_more c.args.made.now spans place (get_or spans place (0, 0)) (HasRegister c.both-more.result) (HasRegister c.loop-place.beside) (HasRegister c.within-within.result) c.loop-place-test.true (item_at spans place (0, 0) c.loop-place-test.true)
     c.within-within.ensures c.both-more.ensures c.loop-place.invariant
 
 pub returns : goal.returns

@@ -1,5 +1,5 @@
 use Rattle.std.proofs.Common.{◌<◌, ◌∙◌, ℕ, get_or, arith, refl, sym, subst}
-use Rattle.pw_live_held.proofs.Spanning.{read_again}
+use Rattle.pw_live_spans.proofs.Steps.{item_at}
 use Rattle.pw_alloc_masks.specs.Sets.{HasAt}
 use Rattle.pw_alloc_taken.proofs.Masking.{put_none, put_more, put_all}
 use Rattle.pw_alloc_taken.proofs.occupied.put_behind.Goals as goal
@@ -17,7 +17,7 @@ loop-place-preserved c =
     record {
       sets = c.put.ensures.sets;
       points = c.put.ensures.points ∙ c.loop-place.invariant.points;
-      each = put_more ds place (get_or ds place 0) c.args.r (HasAt c.put.new.self) (HasAt c.loop-place.made) (HasAt c.args.made.now) c.loop-place-test.true (read_again ds place 0 c.loop-place-test.true) c.put.ensures.each c.loop-place.invariant.each;
+      each = put_more ds place (get_or ds place 0) c.args.r (HasAt c.put.new.self) (HasAt c.loop-place.made) (HasAt c.args.made.now) c.loop-place-test.true (item_at ds place 0 c.loop-place-test.true) c.put.ensures.each c.loop-place.invariant.each;
     }
 
 pub returns-clause-each : goal.returns-clause-each

@@ -3,7 +3,8 @@ use Rattle.std.proofs.lemmas.Bool.{both_ways}
 use Rattle.std.proofs.lemmas.List.Elements.{Contains-get_or}
 use Rattle.pw_live.specs.Points.{points}
 use Rattle.pw_live_held.specs.Makers.{calls, IsOverCall}
-use Rattle.pw_live_held.proofs.Spanning.{first_none, found_in, none_in, none_so_far, read_again}
+use Rattle.pw_live_spans.proofs.Steps.{first_none, item_at}
+use Rattle.pw_live_held.proofs.Spanning.{found_in, none_in, none_so_far}
 use Rattle.pw_live_held.proofs.held.is_held_over.Goals as goal
 
 pub loop-place-init : goal.loop-place-init
@@ -21,7 +22,7 @@ pub loop-place-preserved : goal.loop-place-preserved
 loop-place-preserved c =
     let spans = c.args.spans.now in
     let place = c.loop-place.place in
-    none_so_far (IsOverCall c.args.makers.now (map calls (points c.args.f.now)) c.args.t) spans place (get_or spans place (0, 0)) c.loop-place-test.true (read_again spans place (0, 0) c.loop-place-test.true)
+    none_so_far (IsOverCall c.args.makers.now (map calls (points c.args.f.now)) c.args.t) spans place (get_or spans place (0, 0)) c.loop-place-test.true (item_at spans place (0, 0) c.loop-place-test.true)
     (λ is. both_ways c.is_held_within.result c.if-is_held_within.false (c.is_held_within.ensures.1 is)) c.loop-place.invariant
 
 pub returns : goal.returns
