@@ -1,8 +1,8 @@
 -- What `cpp` answered and put, by the one output of the source.
 use Rattle.std.proofs.Common.{◌≡◌, ◌≢◌, ℕ, List, [], ◌∷◌, Option, Some, None, Result, Ok, Err, refl, sym, ap, ◌∙◌, subst}
-use Rattle.std.specs.Prelude.{IfSome, Vec}
+use Rattle.std.specs.Prelude.{IfSome}
+use Rattle.std.specs.Global.{Vec}
 use Rattle.std.specs.Option.{option_map}
-use Rattle.std.specs.declared.alloc.Global.{Global}
 use Rattle.std.specs.FinMap as finite
 use Rattle.pw_cpp.specs.Answers.{PreprocessesFile}
 use Rattle.pw_cpp.specs.declared.fault.CppFault.{CppFault}
@@ -54,7 +54,7 @@ source-gone (Some t) file own name e o h =
 
 -- ---- the output
 
-pub output-put : (first : Option Told) (headers : Texts) (name text : List ℕ) (output : Vec ℕ Global) → IfSome first (λ t. headers ≡ headers_of t.files) → ComesBy headers name text (Ok output.items)
+pub output-put : (first : Option Told) (headers : Texts) (name text : List ℕ) (output : Vec ℕ) → IfSome first (λ t. headers ≡ headers_of t.files) → ComesBy headers name text (Ok output.items)
     → IfSome first (λ t. ComesToOutput (headers_of t.files) name (Ok text) (Ok output))
 output-put None headers name text output e h = tt
 output-put (Some t) headers name text output e h = let P : Texts → Type 0 = λ x. ComesBy x name text (Ok output.items) in subst P e h
@@ -92,7 +92,7 @@ source-stops None name answer h = tt
 source-stops (Some t) name answer h = stops_over (headers_of t.files) name answer (needed_source t.files name) h
 
 -- it was read, and the store tells what it told
-pub source-goes : (first now : Option Told) (name text : List ℕ) (result : Result (Vec ℕ Global) Answer) → Keeps first now → IfSome first (λ t. needed_source t.files name ≡ Ok text)
+pub source-goes : (first now : Option Told) (name text : List ℕ) (result : Result (Vec ℕ) Answer) → Keeps first now → IfSome first (λ t. needed_source t.files name ≡ Ok text)
     → IfSome now (λ t. ComesToOutput (headers_of t.files) name (Ok text) result) → IfSome first (λ t. ComesToOutput (headers_of t.files) name (needed_source t.files name) result)
 source-goes None now name text result same e h = tt
 source-goes (Some t) now name text result same e h =

@@ -1,5 +1,6 @@
 -- Steps of the command `cpp`.
-use Rattle.std.specs.Prelude.{◌≡◌, ◌≢◌, ℕ, List, Result, Ok, Err, Vec}
+use Rattle.std.specs.Prelude.{◌≡◌, ◌≢◌, ℕ, List, Result, Ok, Err}
+use Rattle.std.specs.Global.{Vec}
 use Rattle.pw_cpp_directives.specs.declared.fault.CppKind.{CppKind}
 use Rattle.pw_cpp_directives.specs.declared.fault.CppKind.TheVariants as kind
 use Rattle.pw_cpp_sources.specs.Sources.{Texts}

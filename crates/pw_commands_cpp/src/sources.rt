@@ -1,7 +1,7 @@
 //! The command `cpp`.
 
-ghost use Rattle.std.specs.Prelude.{◌≡◌, ◌∷◌, [], ℕ, List, Ok, true, IfErr, IfSome};
-ghost use Rattle.pw_commands.specs.Needed.{Needs};
+ghost use Rattle.std.specs.Prelude.{◌≡◌, ◌∷◌, [], ℕ, List, None, Ok, true, IfErr, IfSome};
+ghost use Rattle.pw_commands.specs.Needed.{IsBadFile, Needs};
 ghost use Rattle.pw_commands.specs.Others.{KeepsOthers};
 ghost use Rattle.pw_commands.specs.Outcome.{IsFileStop, IsPutAnswer, Obeys, StopCount};
 ghost use Rattle.pw_commands_cpp.specs.Command.{CppEffect, IsCppAnswer, cpp_puts, needed_source};
@@ -10,17 +10,30 @@ ghost use Rattle.pw_io.specs.Files.{Keeps};
 ghost use Rattle.pw_store_modules.specs.FileNames.{text_name};
 ghost use Rattle.pw_store_modules.specs.Modules.{is_module_name};
 ghost use Rattle.pw_store_texts.specs.Headers.{headers_of};
+ghost use Rattle.pw_store_texts.specs.Names.{source_name};
 ghost use Rattle.pw_top_answer.specs.Effects.{PutsFiles};
 ghost use Rattle.pw_top_answer.specs.Outcomes.{StoreCount};
 
 use pw_commands::put_file;
-use pw_io::Store;
+use pw_io::{Store, StoreError};
 use pw_law_cpp::one_output;
 use pw_store_modules::{TEXT_ENDING, module_file};
 use pw_store_texts::{SOURCE_ENDING, TEXT_READ, preprocess_source, read_headers, source_name};
 use pw_top_answer::Answer;
 use pw_value::Name;
 use std::alloc::{AllocError, Global};
+
+/// The answer where a module's C source is absent.
+fn absent(alloc: Global, name: &Name) -> Answer
+    requires { is_module_name name.now ≡ true }
+    ensures bad { IsBadFile (source_name name.now) None result }
+    ensures stop { IsFileStop result }
+{
+    match source_name(alloc, name) {
+        Ok(file) => Answer::BadFile(file, None),
+        Err(AllocError) => Answer::NoMemory,
+    }
+}
 
 /// The text of a module's C source, or that it is absent.
 fn source_of<S: Store>(alloc: Global, store: &mut S, name: &Name) -> Result<Vec<u8>, Answer>
@@ -31,9 +44,11 @@ fn source_of<S: Store>(alloc: Global, store: &mut S, name: &Name) -> Result<Vec<
     ensures stop { IfErr result IsFileStop }
 {
     let file = module_file(alloc, name, SOURCE_ENDING)?;
-    match store.get(alloc, file.as_str(), TEXT_READ)? {
-        Some(text) => Ok(text),
-        None => Err(Answer::BadFile(source_name(alloc, name)?, None)),
+    match store.get(alloc, file.as_str(), TEXT_READ) {
+        Ok(Some(text)) => Ok(text),
+        Ok(None) => Err(absent(alloc, name)),
+        Err(StoreError::Failed) => Err(Answer::StoreFault),
+        Err(StoreError::NoMemory) => Err(Answer::NoMemory),
     }
 }
 

@@ -83,10 +83,10 @@ not_passed laws image objects frames k budget input a left p at passing = laws.a
 -- ---- what a look has to do with what the command comes to
 
 -- it answers, puts out and leaves what the command does
-pub record Agrees (told : Answer) (output : List ℕ) (left : Option (List ℕ)) (e : Effect) : Type 0 where
-  pub answer : e.answer ≡ told
-  pub output : e.output ≡ output
-  pub rest : left ≡ Some e.rest
+pub record Agrees (told : Answer) (lines : List ℕ) (left : Option (List ℕ)) (e : Effect) : Type 0 where
+  pub answered : e.answer ≡ told
+  pub put_out : e.output ≡ lines
+  pub leaves : left ≡ Some e.rest
 
 -- the input had a fault: so much of it was read, and no more than the command reads
 pub record ReadShort (input : List ℕ) (left : Option (List ℕ)) (e : Effect) : Type 0 where
@@ -115,7 +115,7 @@ module _ (laws : Laws) (image : Image) (objects : List Object) (frames : List Fr
   lines_by text left puts e at (shows lines rest other) =
       let same : Ok text ≡ Ok lines = same_lines laws image objects frames k budget input (Ok text) (Ok lines) left (Some rest) at other in
       let is : text ≡ lines = cc in
-      record { answer = refl; output = sym is; rest = same_rest laws image objects frames k budget input (Ok text) (Ok lines) left rest at other }
+      record { answered = refl; put_out = sym is; leaves = same_rest laws image objects frames k budget input (Ok text) (Ok lines) left rest at other }
   lines_by text left puts e at (loses address rest other) =
       let same : Ok text ≡ Err address = same_lines laws image objects frames k budget input (Ok text) (Err address) left (Some rest) at other in
       absurd cc
@@ -128,7 +128,7 @@ module _ (laws : Laws) (image : Image) (objects : List Object) (frames : List Fr
   lost_by address left puts e at (loses found rest other) =
       let same : Err address ≡ Err found = same_lines laws image objects frames k budget input (Err address) (Err found) left (Some rest) at other in
       let is : address ≡ found = cc in
-      record { answer = ap (λ (n : ℕ). answer.NoFrames n) (sym is); output = refl; rest = same_rest laws image objects frames k budget input (Err address) (Err found) left rest at other }
+      record { answered = ap (λ (n : ℕ). answer.NoFrames n) (sym is); put_out = refl; leaves = same_rest laws image objects frames k budget input (Err address) (Err found) left rest at other }
   lost_by address left puts e at (passes p passing) = absurd (not_passed laws image objects frames k budget input (Err address) left p at passing)
 
   -- the run passed without the call
@@ -137,7 +137,7 @@ module _ (laws : Laws) (image : Image) (objects : List Object) (frames : List Fr
   passed_by q left puts e passed is (loses address rest other) = absurd (not_passed laws image objects frames k budget input (Err address) (Some rest) q other passed)
   passed_by q left puts e passed is (passes p passing) =
       let same : q ≡ p = sym passed.comes ∙ passing.comes in
-      record { answer = ap run_answer (sym same); output = refl; rest = is ∙ ap (λ (x : Progress). Some (run_rest x)) same }
+      record { answered = ap run_answer (sym same); put_out = refl; leaves = is ∙ ap (λ (x : Progress). Some (run_rest x)) same }
 
   -- a fault of the input comes before the call
   fault_call : (n : ℕ) (last : State) → PassesTo (entries_in image objects) (start_over image input) k budget n last → (m : ℕ) (s : State) → IsCall (entries_in image objects) (start_over image input) k m s → Ends last.rest s.rest
@@ -252,12 +252,12 @@ print_answers answer.NoMemory h = tt
 print_answers _ h = absurd h
 
 look_answers : (input : List ℕ) (look : Look) (a : Answer) (left : Option (List ℕ)) (e : Effect) → TellsLook look a → LookedAs input look left e → Answers e.answer a
-look_answers input (Lines text) a left e tells h = subst (λ (w : Answer). Answers w a) (sym h.answer) (print_answers a tells)
-look_answers input (LostAt address) a left e tells h = subst (Answers e.answer) (sym tells) h.answer
-look_answers input (StoppedAs (how.Ended status)) a left e tells h = subst (Answers e.answer) (sym tells) h.answer
-look_answers input (StoppedAs how.StackStop) a left e tells h = subst (Answers e.answer) (sym tells) h.answer
-look_answers input (StoppedAs how.Spent) a left e tells h = subst (Answers e.answer) (sym tells) h.answer
-look_answers input (StoppedAs (how.Halted halt at)) a left e tells h = subst (Answers e.answer) (sym tells) h.answer
+look_answers input (Lines text) a left e tells h = subst (λ (w : Answer). Answers w a) (sym h.answered) (print_answers a tells)
+look_answers input (LostAt address) a left e tells h = subst (Answers e.answer) (sym tells) h.answered
+look_answers input (StoppedAs (how.Ended status)) a left e tells h = subst (Answers e.answer) (sym tells) h.answered
+look_answers input (StoppedAs how.StackStop) a left e tells h = subst (Answers e.answer) (sym tells) h.answered
+look_answers input (StoppedAs how.Spent) a left e tells h = subst (Answers e.answer) (sym tells) h.answered
+look_answers input (StoppedAs (how.Halted halt at)) a left e tells h = subst (Answers e.answer) (sym tells) h.answered
 look_answers input (StoppedAs how.ReadFault) a left e tells h = subst (Answers e.answer) (sym tells) tt
 look_answers input (StoppedAs how.WriteFault) a left e tells h = subst (Answers e.answer) (sym tells) tt
 
@@ -280,39 +280,39 @@ fault_out wanted a taken taken' whole same =
     subst (λ (o : Option (List ℕ)). PutsOut wanted a taken o) (sym same) (record { output = []; more = wanted; taken = appends_none taken; front = refl; whole = whole })
 
 look_output : (input : List ℕ) (look : Look) (a : Answer) (left taken taken' : Option (List ℕ)) (e : Effect) → TellsLook look a → PutsLook look a taken taken' → LookedAs input look left e → PutsOut e.output a taken taken'
-look_output input (Lines text) a left taken taken' e tells out h = subst (λ (w : List ℕ). PutsOut w a taken taken') (sym h.output) out
-look_output input (LostAt address) a left taken taken' e tells out h = none_wanted e.output a taken taken' h.output out
-look_output input (StoppedAs (how.Ended status)) a left taken taken' e tells out h = none_wanted e.output a taken taken' h.output out
-look_output input (StoppedAs how.StackStop) a left taken taken' e tells out h = none_wanted e.output a taken taken' h.output out
-look_output input (StoppedAs how.Spent) a left taken taken' e tells out h = none_wanted e.output a taken taken' h.output out
-look_output input (StoppedAs (how.Halted halt at)) a left taken taken' e tells out h = none_wanted e.output a taken taken' h.output out
+look_output input (Lines text) a left taken taken' e tells out h = subst (λ (w : List ℕ). PutsOut w a taken taken') (sym h.put_out) out
+look_output input (LostAt address) a left taken taken' e tells out h = none_wanted e.output a taken taken' h.put_out out
+look_output input (StoppedAs (how.Ended status)) a left taken taken' e tells out h = none_wanted e.output a taken taken' h.put_out out
+look_output input (StoppedAs how.StackStop) a left taken taken' e tells out h = none_wanted e.output a taken taken' h.put_out out
+look_output input (StoppedAs how.Spent) a left taken taken' e tells out h = none_wanted e.output a taken taken' h.put_out out
+look_output input (StoppedAs (how.Halted halt at)) a left taken taken' e tells out h = none_wanted e.output a taken taken' h.put_out out
 look_output input (StoppedAs how.ReadFault) a left taken taken' e tells out h = fault_out e.output a taken taken' (subst (λ (x : Answer). IsWhole x e.output) (sym tells) tt) out
-look_output input (StoppedAs how.WriteFault) a left taken taken' e tells out h = none_wanted e.output a taken taken' h.output out
+look_output input (StoppedAs how.WriteFault) a left taken taken' e tells out h = none_wanted e.output a taken taken' h.put_out out
 
 -- ---- the input
 
 in_part : (input wanted : List ℕ) (left : Option (List ℕ)) → Ends input wanted → left ≡ Some wanted → WasReadInPart wanted input left
 in_part input wanted left ends e = let P : Option (List ℕ) → Type 0 = λ o. WasReadInPart wanted input o in subst P (sym e) (ends.0, [], (ends.1, refl))
 
-leaves : (a : Answer) (input wanted : List ℕ) (left : Option (List ℕ)) → Ends input wanted → left ≡ Some wanted → LeavesInput wanted input a left
-leaves answer.ReadFault input wanted left ends e = in_part input wanted left ends e
-leaves answer.WriteFault input wanted left ends e = in_part input wanted left ends e
-leaves answer.StoreFault input wanted left ends e = in_part input wanted left ends e
-leaves answer.NoMemory input wanted left ends e = in_part input wanted left ends e
-leaves _ input wanted left ends e = e
+leaves_so : (a : Answer) (input wanted : List ℕ) (left : Option (List ℕ)) → Ends input wanted → left ≡ Some wanted → LeavesInput wanted input a left
+leaves_so answer.ReadFault input wanted left ends e = in_part input wanted left ends e
+leaves_so answer.WriteFault input wanted left ends e = in_part input wanted left ends e
+leaves_so answer.StoreFault input wanted left ends e = in_part input wanted left ends e
+leaves_so answer.NoMemory input wanted left ends e = in_part input wanted left ends e
+leaves_so _ input wanted left ends e = e
 
 read_short : (input : List ℕ) (left : Option (List ℕ)) (e : Effect) → ReadShort input left e → WasReadInPart e.rest input left
 read_short input left e h = let P : Option (List ℕ) → Type 0 = λ o. WasReadInPart e.rest input o in subst P (sym h.rest) (h.read.0, h.more.0, (h.read.1, h.more.1))
 
 look_rest : (input : List ℕ) (look : Look) (a : Answer) (left : Option (List ℕ)) (e : Effect) → TellsLook look a → Ends input e.rest → LookedAs input look left e → LeavesInput e.rest input a left
-look_rest input (Lines text) a left e tells ends h = leaves a input e.rest left ends h.rest
-look_rest input (LostAt address) a left e tells ends h = leaves a input e.rest left ends h.rest
-look_rest input (StoppedAs (how.Ended status)) a left e tells ends h = leaves a input e.rest left ends h.rest
-look_rest input (StoppedAs how.StackStop) a left e tells ends h = leaves a input e.rest left ends h.rest
-look_rest input (StoppedAs how.Spent) a left e tells ends h = leaves a input e.rest left ends h.rest
-look_rest input (StoppedAs (how.Halted halt at)) a left e tells ends h = leaves a input e.rest left ends h.rest
+look_rest input (Lines text) a left e tells ends h = leaves_so a input e.rest left ends h.leaves
+look_rest input (LostAt address) a left e tells ends h = leaves_so a input e.rest left ends h.leaves
+look_rest input (StoppedAs (how.Ended status)) a left e tells ends h = leaves_so a input e.rest left ends h.leaves
+look_rest input (StoppedAs how.StackStop) a left e tells ends h = leaves_so a input e.rest left ends h.leaves
+look_rest input (StoppedAs how.Spent) a left e tells ends h = leaves_so a input e.rest left ends h.leaves
+look_rest input (StoppedAs (how.Halted halt at)) a left e tells ends h = leaves_so a input e.rest left ends h.leaves
 look_rest input (StoppedAs how.ReadFault) a left e tells ends h = subst (λ (x : Answer). LeavesInput e.rest input x left) (sym tells) (read_short input left e h)
-look_rest input (StoppedAs how.WriteFault) a left e tells ends h = leaves a input e.rest left ends h.rest
+look_rest input (StoppedAs how.WriteFault) a left e tells ends h = leaves_so a input e.rest left ends h.leaves
 
 -- ---- what was found
 
@@ -458,15 +458,15 @@ print_reads before now answer.WriteFault h e = e
 print_reads before now answer.NoMemory h e = e
 print_reads before now _ h e = absurd h
 
-pub look_reads : (before now : ℕ) (look : Look) (a : Answer) → TellsLook look a → LookCount {E = Unit {0}} before now (Ok look) → InputCount before now a
-look_reads before now (Lines text) a h count = print_reads before now a h count
-look_reads before now (LostAt address) a h count = subst (InputCount before now) (sym h) count
-look_reads before now (StoppedAs (how.Ended status)) a h count = subst (InputCount before now) (sym h) count
-look_reads before now (StoppedAs how.StackStop) a h count = subst (InputCount before now) (sym h) count
-look_reads before now (StoppedAs how.Spent) a h count = subst (InputCount before now) (sym h) count
-look_reads before now (StoppedAs (how.Halted halt at)) a h count = subst (InputCount before now) (sym h) count
-look_reads before now (StoppedAs how.ReadFault) a h count = subst (InputCount before now) (sym h) count
-look_reads before now (StoppedAs how.WriteFault) a h count = subst (InputCount before now) (sym h) count
+pub look_reads : (E : Type 0) (before now : ℕ) (look : Look) (a : Answer) → TellsLook look a → LookCount {E = E} before now (Ok look) → InputCount before now a
+look_reads E before now (Lines text) a h count = print_reads before now a h count
+look_reads E before now (LostAt address) a h count = subst (InputCount before now) (sym h) count
+look_reads E before now (StoppedAs (how.Ended status)) a h count = subst (InputCount before now) (sym h) count
+look_reads E before now (StoppedAs how.StackStop) a h count = subst (InputCount before now) (sym h) count
+look_reads E before now (StoppedAs how.Spent) a h count = subst (InputCount before now) (sym h) count
+look_reads E before now (StoppedAs (how.Halted halt at)) a h count = subst (InputCount before now) (sym h) count
+look_reads E before now (StoppedAs how.ReadFault) a h count = subst (InputCount before now) (sym h) count
+look_reads E before now (StoppedAs how.WriteFault) a h count = subst (InputCount before now) (sym h) count
 
 -- a run without a fault of the output leaves its count
 pub stop_writes : (stop : Stop) (a : Answer) (count : ℕ) → stop ≢ how.WriteFault → a ≡ stop_answer stop → OutputCount count count a
@@ -480,5 +480,5 @@ stop_writes how.WriteFault a count other is = absurd (other refl)
 pub unwritten : (look : Look) (stop : Stop) → look ≢ StoppedAs how.WriteFault → look ≡ StoppedAs stop → stop ≢ how.WriteFault
 unwritten look stop none is e = none (is ∙ ap (λ (s : Stop). StoppedAs s) e)
 
-pub not_written : {E : Type 0} → (look : Look) → LooksUnwritten {E = E} (Ok look) → look ≢ StoppedAs how.WriteFault
-not_written {E = E} look h e = let other : how.WriteFault ≢ how.WriteFault = subst (λ (l : Look). LooksUnwritten {E = E} (Ok l)) e h in other refl
+pub not_written : (E : Type 0) (look : Look) → LooksUnwritten {E = E} (Ok look) → look ≢ StoppedAs how.WriteFault
+not_written E look h e = let other : how.WriteFault ≢ how.WriteFault = subst (λ (l : Look). LooksUnwritten {E = E} (Ok l)) e h in other refl

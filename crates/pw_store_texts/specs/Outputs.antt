@@ -1,5 +1,6 @@
 -- What the preprocessor makes of a module's C source.
-use Rattle.std.specs.Prelude.{ℕ, List, [], ◌∷◌, ◌++◌, Result, Ok, Err, Vec}
+use Rattle.std.specs.Prelude.{ℕ, List, [], ◌∷◌, ◌++◌, Result, Ok, Err}
+use Rattle.std.specs.Global.{Vec}
 use Rattle.pw_cpp.specs.Answers.{PreprocessesFile}
 use Rattle.pw_cpp.specs.declared.fault.CppFault.{CppFault}
 use Rattle.pw_cpp_directives.specs.declared.fault.CppKind.{CppKind}

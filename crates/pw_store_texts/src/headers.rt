@@ -33,8 +33,10 @@ fn add_header<S: Store>(
         return Ok(());
     };
     let name = Name::lawful(alloc, file.as_bytes())?;
-    headers.push((name, text))?;
-    Ok(())
+    match headers.push((name, text)) {
+        Ok(()) => Ok(()),
+        Err(_) => Err(StoreError::NoMemory),
+    }
 }
 
 /// The headers among the files of a store that have these names, in their order, each text up to one byte more than a text may have. The

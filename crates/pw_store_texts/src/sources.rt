@@ -50,8 +50,10 @@ fn add_source<S: Store>(
         return Ok(());
     };
     let name = Name::lawful(alloc, stem(file))?;
-    sources.push(Source { name, text })?;
-    Ok(())
+    match sources.push(Source { name, text }) {
+        Ok(()) => Ok(()),
+        Err(_) => Err(StoreError::NoMemory),
+    }
 }
 
 /// The C sources among the files of a store that have these names, in their order, each text up to one byte more than a text may have.

@@ -2,10 +2,10 @@
 use Rattle.std.specs.Prelude.{Bool, ℕ, List, [], ◌++◌, codes, false, true, Option, Some, None}
 use Rattle.std.specs.Fmt.{decimal}
 use Rattle.pw_cmean.specs.Undefined.{text_of}
-use Rattle.pw_cpp.specs.declared.fault.CppKind.{CppKind}
-use Rattle.pw_cpp.specs.declared.fault.CppKind.TheVariants as cpp
-use Rattle.pw_cpp.specs.declared.fault.CppWhich.{CppWhich}
-use Rattle.pw_cpp.specs.declared.fault.CppWhich.TheVariants as limit
+use Rattle.pw_cpp_directives.specs.declared.fault.CppKind.{CppKind}
+use Rattle.pw_cpp_directives.specs.declared.fault.CppKind.TheVariants as cpp
+use Rattle.pw_cpp_directives.specs.declared.fault.CppWhich.{CppWhich}
+use Rattle.pw_cpp_directives.specs.declared.fault.CppWhich.TheVariants as limit
 use Rattle.pw_machine.specs.declared.ends.Halt.{Halt}
 use Rattle.pw_machine.specs.declared.ends.Halt.TheVariants.{Illegal, Unaligned, OutOfMemoryRange, TextWrite, BadBranch, BadBreak}
 use Rattle.pw_token.specs.declared.token.Feature.{Feature}

@@ -1,8 +1,9 @@
+use Rattle.std.specs.declared.alloc.AllocError.{AllocError}
 use Rattle.pw_commands_where.proofs.LookLemmas.{Laws, look_is, look_reads, looks_told, looks_unlooked, not_written}
 use Rattle.pw_commands_where.proofs.showing.show_known.Goals as goal
 
 pub told-requires : goal.told-requires
-told-requires g c = not_written c.in-Ok.look c.in-Ok.ensures.unwritten
+told-requires g c = not_written AllocError c.in-Ok.look c.in-Ok.ensures.unwritten
 
 pub returns-in-Ok-clause-looks : goal.returns-in-Ok-clause-looks
 returns-in-Ok-clause-looks g c =
@@ -19,7 +20,7 @@ returns-in-Ok-clause-looks g c =
     c.in-Ok.look c.told.result c.requires.image c.requires.known c.requires.lawful c.requires.first c.told.ensures.tells c.told.ensures.output c.in-Ok.ensures.look
 
 pub returns-in-Ok-clause-read : goal.returns-in-Ok-clause-read
-returns-in-Ok-clause-read g c = look_reads _ _ c.in-Ok.look c.told.result c.told.ensures.tells c.in-Ok.ensures.read
+returns-in-Ok-clause-read g c = look_reads AllocError _ _ c.in-Ok.look c.told.result c.told.ensures.tells c.in-Ok.ensures.read
 
 pub returns-in-Ok-clause-answer : goal.returns-in-Ok-clause-answer
 returns-in-Ok-clause-answer g c = look_is c.in-Ok.look c.told.result c.told.ensures.tells

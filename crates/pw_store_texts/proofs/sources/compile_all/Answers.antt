@@ -1,5 +1,5 @@
 use Rattle.std.proofs.Common.{◌≡◌, ℕ, List, [], ◌∷◌, ◌++◌, map, ap, arith, subst, ◌∙◌}
-use Rattle.std.specs.Prelude.{Vec}
+use Rattle.std.specs.Global.{Vec}
 use Rattle.std.proofs.lemmas.List.{map-append}
 use Rattle.pw_cpp_sources.specs.Sources.{texts_of}
 use Rattle.pw_store_modules.proofs.ModuleLemmas.{mapped_rest}
