@@ -2,7 +2,7 @@
 use Rattle.std.proofs.Common.{◌≡◌, ℕ, List, [], ◌∷◌, ◌++◌, Result, Ok, refl, sym, ap, subst, ◌∙◌, append_assoc, append-nil}
 use Rattle.pw_types.specs.TypedTrees.{ModuleValue}
 use Rattle.pw_front_end.specs.declared.refusal.Refusal.{Refusal}
-use Rattle.pw_phase_one.specs.FirstPhase.{typed_text}
+use Rattle.pw_build_files.specs.FromBuild.FirstPhase.{typed_text}
 use Rattle.pw_cmean.specs.Worlds.{ProgramModule}
 use Rattle.pw_store_modules.specs.Modules.{Source}
 use Rattle.pw_commands_interp.specs.Interpreting.{AreTyped}

@@ -7,7 +7,7 @@ use Rattle.pw_io.specs.Files.{Files}
 use Rattle.pw_token.specs.Places.{line_at}
 use Rattle.pw_front_end.specs.Fronts.{HoldsNoWant}
 use Rattle.pw_front_end.specs.Places.{token_place}
-use Rattle.pw_phase_one.specs.FirstPhase.{typed_text}
+use Rattle.pw_build_files.specs.FromBuild.FirstPhase.{typed_text}
 use Rattle.pw_cmean.specs.Worlds.{Program, ProgramModule}
 use Rattle.pw_cmean.specs.Acts as acts
 use Rattle.pw_cmean.specs.SourceRun.{Run, source_run}

@@ -8,9 +8,9 @@ ghost use Rattle.pw_interp.specs.Programs.{module_of};
 ghost use Rattle.pw_build_files.specs.Outcomes.{HoldsImage};
 ghost use Rattle.pw_commands_interp.specs.Interpreting.{AreTyped, frame_in, frames_of};
 
+use pw_build_files::phase_typed;
 use pw_front_end::FrontEndFault;
 use pw_image::{LoadError, Map, read_map};
-use pw_phase_one::phase_typed;
 use pw_store_modules::Module;
 use pw_typed::TModule;
 use pw_value::Name;

@@ -50,8 +50,8 @@ library_names L.ExitRun = refl
 pub no_library_main : {A : Type 0} (program : Program) (g : LibraryFunction) → Some (callable_of (B.Library g)) ≡ function_named program main_name → A
 no_library_main program g is =
     let named : bytes_eq (callable_of (B.Library g)).name main_name ≡ true = found_fits (λ f. bytes_eq f.name main_name) (functions_of program) (callable_of (B.Library g)) (sym is) in
-    let no : true ≡ false = sym named ∙ library_names g in
-    cc no
+    let apart : true ≡ false = sym named ∙ library_names g in
+    cc apart
 
 module _ (world : World) (bound : ℕ) where
   pub main_there : (f : Callable) → function_named world.program main_name ≡ Some f → (s : State) → run_main world bound s ≡ (call world (calls world bound) f [] >>= finish f.body) s
