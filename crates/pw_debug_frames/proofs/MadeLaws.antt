@@ -1,5 +1,5 @@
--- What is known of the functions of an object that the second phase made.
-use Rattle.std.proofs.Common.{◌≡◌, ◌≢◌, ◌⊎◌, ℕ, ◌<◌, Bool, true, false, List, [], ◌∷◌, length, map, refl, sym, ap, subst, ◌∙◌, arith, inl, inr}
+-- What is known of the functions of objects, and of one that the second phase made.
+use Rattle.std.proofs.Common.{◌≡◌, ◌≢◌, ◌⊎◌, ℕ, ◌<◌, Bool, true, false, List, [], ◌∷◌, ◌++◌, length, map, refl, sym, ap, subst, ◌∙◌, arith, inl, inr}
 use Rattle.std.specs.Prelude.{All, Contains, nat_lt, ◌||◌}
 use Rattle.std.specs.List.{AllByRecursion}
 use Rattle.std.proofs.lemmas.List.Elements.{All-from_recursion}
@@ -18,7 +18,7 @@ use Rattle.pw_webflow.specs.Direction.{directed}
 use Rattle.pw_alloc_temps.specs.Temporaries.{allocated}
 use Rattle.pw_phase_two.specs.Phases.{AreDirectivesOf, IsObjectOf, all_compiled, compiled}
 use Rattle.pw_debug.specs.declared.info.FrameInfo.{FrameInfo}
-use Rattle.pw_debug_frames.specs.Frames.{AreFramesOf, frame_info, frames_in, known_as, made_as}
+use Rattle.pw_debug_frames.specs.Frames.{AreFrames, AreFramesOf, frame_info, frames_in, known_as, made_as, next_object, no_object}
 
 abbrev pub Listed : Type 0
 Listed = List (List ℕ × Directives)
@@ -70,6 +70,16 @@ stored_gives ds s can stored = All-from_recursion (HasDirectives s) ds (each_by 
   lacks = not_stored ds s f (says_something f) can stored h refl;
 }))
 
+-- ---- the frames of objects
+
+abbrev Inside : List Object → List FrameInfo → Type 0
+Inside [] frames = frames ≡ []
+Inside (o ∷ os) frames = (own : List FrameInfo) × (behind : List FrameInfo) × AreFramesOf o own × AreFrames os behind × (frames ≡ own ++ behind)
+
+inside : (os : List Object) (frames : List FrameInfo) → AreFrames os frames → Inside os frames
+inside os frames no_object = refl
+inside os frames (next_object o rest own behind are more) = (own, behind, are, more, refl)
+
 -- ---- the frames
 
 module _ (one_module : (bytes : List ℕ) (m n : FlowModule) → IsFlowFile bytes m → IsFlowFile bytes n → m ≡ n)
@@ -84,6 +94,22 @@ module _ (one_module : (bytes : List ℕ) (m n : FlowModule) → IsFlowFile byte
       let names = known.in_payload.of_module.functions ∙ ap (λ (m : FlowModule). map (λ f. f.name) m.functions) flows ∙ sym of_module.functions in
       let directives : known.directives ≡ ds = one_list known.stored known.payload.1.contents.lawful.functions known.directives ds known.in_payload.each all names in
       known.frames_are ∙ ap (λ (m : FlowModule). frames_in m.functions known.directives) flows ∙ ap (frames_in flow.functions) directives
+
+  one_frames : (o : Object) (a b : List FrameInfo) → AreFramesOf o a → AreFramesOf o b → a ≡ b
+  one_frames o a b one other =
+      let flows : one.flow ≡ other.flow = one_module o.flow one.flow other.flow one.flow_file other.flow_file in
+      let databases : other.stored ≡ one.stored = one_database o.directives other.stored one.stored other.payload one.payload in
+      let all = subst (λ (s : Listed). All (HasDirectives s) other.directives) databases other.in_payload.each in
+      let names = one.in_payload.of_module.functions ∙ ap (λ (m : FlowModule). map (λ f. f.name) m.functions) flows ∙ sym other.in_payload.of_module.functions in
+      let directives : one.directives ≡ other.directives = one_list one.stored one.payload.1.contents.lawful.functions one.directives other.directives one.in_payload.each all names in
+      one.frames_are ∙ ap (λ (m : FlowModule). frames_in m.functions one.directives) flows ∙ ap (frames_in other.flow.functions) directives ∙ sym other.frames_are
+
+  pub one_program : (os : List Object) (a b : List FrameInfo) → AreFrames os a → AreFrames os b → a ≡ b
+  one_program [] a b one other = inside [] a one ∙ sym (inside [] b other)
+  one_program (o ∷ os) a b one other =
+      let p = inside (o ∷ os) a one in
+      let q = inside (o ∷ os) b other in
+      p.4 ∙ ap (λ (own : List FrameInfo). own ++ p.1) (one_frames o p.0 q.0 p.2 q.2) ∙ ap (λ (behind : List FrameInfo). q.0 ++ behind) (one_program os p.1 q.1 p.3 q.3) ∙ sym q.4
 
 -- ---- their names
 

@@ -7,7 +7,7 @@ use Rattle.pw_value.specs.Limits.{stack_least, stack_limit}
 use Rattle.pw_store_modules.specs.Modules.{is_module_name}
 use Rattle.pw_build_opts.specs.declared.opts.RunOpts.{RunOpts}
 use Rattle.pw_top_words.specs.declared.commands.Command.{Command}
-use Rattle.pw_top_words.specs.declared.commands.Command.TheVariants.{Go, Build, Session, PhaseOne, Analyse, PhaseTwo, Link, Run, List as ListImage, Db, Bench, Where}
+use Rattle.pw_top_words.specs.declared.commands.Command.TheVariants.{Go, Build, Session, PhaseOne, Analyse, PhaseTwo, Link, Run, List as ListImage, Db, Bench, Where, Preprocess}
 use Rattle.pw_top_words.specs.CommandLine.{Text, Part, is_numeral, number_in, number_or, value_of, colours, stack, steps, colours_in, stack_in, steps_in, module_named, module_in, plain_word, parts_of, seed_in, call_in, call_limit, built_with, run_with, with_build, with_run, go_of, build_of, session_of, analyse_of, link_of, run_of, bench_of, where_of, command_by_name, command_of, usual_stack}
 use Rattle.pw_top_words.specs.Limits.{IsStack, IsWithin}
 use Rattle.pw_db.specs.Limits.{colour_limit}
@@ -165,6 +165,7 @@ name_within name words =
     if_within (bytes_eq name (codes "go")) _ _ (go_within words)
     (if_within (bytes_eq name (codes "build")) _ _ (build_within words)
     (if_within (bytes_eq name (codes "session")) _ _ (session_within words)
+    (if_within (bytes_eq name (codes "cpp")) _ _ (phase_within Preprocess words (λ n h. h))
     (if_within (bytes_eq name (codes "phase1")) _ _ (phase_within PhaseOne words (λ n h. h))
     (if_within (bytes_eq name (codes "analyse")) _ _ (analyse_within words)
     (if_within (bytes_eq name (codes "phase2")) _ _ (phase_within PhaseTwo words (λ n h. h))
@@ -174,7 +175,7 @@ name_within name words =
     (if_within (bytes_eq name (codes "db")) _ _ (listed_within (parts_of [] 0 words) Db tt)
     (if_within (bytes_eq name (codes "bench")) _ _ (bench_within words)
     (if_within (bytes_eq name (codes "where")) _ _ (where_within words)
-    none_within)))))))))))
+    none_within))))))))))))
 
 pub words_within : (words : List Text) → Within (command_of words)
 words_within [] = none_within
