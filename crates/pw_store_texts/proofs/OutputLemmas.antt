@@ -36,7 +36,7 @@ pub source-preprocessed : (headers files : List (List ℕ × Vec ℕ)) (own file
     → AnswersCpp (files_with (texts_of headers) name text.items) (source_name name) result
 source-preprocessed headers files own file name text result e o s h =
     let are : texts_of files ≡ files_with (texts_of headers) name text.items =
-        ap texts_of e ∙ map-append (λ f. (f.0, f.1.items)) headers ((own, text) ∷ []) ∙ ap (λ n. texts_of headers ++ (n, text.items) ∷ []) (o ∙ s) in
+    ap texts_of e ∙ map-append (λ f. (f.0, f.1.items)) headers ((own, text) ∷ []) ∙ ap (λ n. texts_of headers ++ (n, text.items) ∷ []) (o ∙ s) in
     let P : Texts → List ℕ → Type 0 = λ texts n. IsThere texts n → AnswersCpp texts n result in
     subst (λ texts. P texts (source_name name)) are (subst (P (texts_of files)) s h) (there 4 (texts_of headers) (source_name name) text.items)
 

@@ -99,10 +99,7 @@ fn compile_all(
 
 /// What comes of the C sources of a store among its headers, in the byte order of the sources' files: the names are listed, then the
 /// sources are read, then the headers, each up to one byte more than a text may have. The store stays as it is.
-pub fn compile_sources<S: Store>(
-    alloc: Global,
-    store: &mut S,
-) -> Result<Vec<Compiled>, StoreError>
+pub fn compile_sources<S: Store>(alloc: Global, store: &mut S) -> Result<Vec<Compiled>, StoreError>
     ensures comes { IfSome (S.told store.old) (λ told. IfOk result (λ all. StoreComes told.files (map outcome all.items))) }
     ensures same { Keeps (S.told store.old) (S.told store.new) }
     ensures cause { HasStoreCause (S.faults store.old) (S.faults store.new) result }
