@@ -10,22 +10,22 @@ pub show_built-requires-clause-image : goal.show_built-requires-clause-image
 show_built-requires-clause-image g c = rw c.deref.ensures.value c.in-Ok.ensures.image
 
 pub show_built-requires-clause-objects : goal.show_built-requires-clause-objects
-show_built-requires-clause-objects g c = rw c.deref-2.ensures.value c.in-Ok.ensures.were_made
+show_built-requires-clause-objects g c = rw c.deref-in-Ok.ensures.value c.in-Ok.ensures.were_made
 
 pub returns-in-Ok-clause-obeys : goal.returns-in-Ok-clause-obeys
 returns-in-Ok-clause-obeys g c =
     look_obeys (g.S.Store.told c.args.store.now) _ (g.I.Source.rest c.args.input.now) _ _ _ c.args.opts.now c.args.call c.in-Ok.report c.show_built.result c.show_built.ensures.answer c.in-Ok.ensures.obeys
-    (rw (c.deref.ensures.value, c.deref-2.ensures.value) at c.show_built.ensures.looks)
+    (rw (c.deref.ensures.value, c.deref-in-Ok.ensures.value) at c.show_built.ensures.looks)
 
 pub returns-in-Ok-clause-output : goal.returns-in-Ok-clause-output
 returns-in-Ok-clause-output g c =
     look_output_is (g.S.Store.told c.args.store.now) _ (g.I.Source.rest c.args.input.now) _ _ _ c.args.opts.now c.args.call c.in-Ok.report c.show_built.result c.in-Ok.ensures.obeys
-    (rw (c.deref.ensures.value, c.deref-2.ensures.value) at c.show_built.ensures.looks)
+    (rw (c.deref.ensures.value, c.deref-in-Ok.ensures.value) at c.show_built.ensures.looks)
 
 pub returns-in-Ok-clause-rest : goal.returns-in-Ok-clause-rest
 returns-in-Ok-clause-rest g c =
     look_rest_is (g.S.Store.told c.args.store.now) _ (g.I.Source.rest c.args.input.now) _ _ _ c.args.opts.now c.args.call c.in-Ok.report c.show_built.result c.in-Ok.ensures.obeys
-    (rw (c.deref.ensures.value, c.deref-2.ensures.value) at c.show_built.ensures.looks)
+    (rw (c.deref.ensures.value, c.deref-in-Ok.ensures.value) at c.show_built.ensures.looks)
 
 pub returns-in-Ok-clause-built : goal.returns-in-Ok-clause-built
 returns-in-Ok-clause-built g c = look_built_so (g.S.Store.told c.args.store.now) _ c.args.opts.now.build c.in-Ok.report c.show_built.result c.show_built.ensures.answer c.in-Ok.ensures.obeys
