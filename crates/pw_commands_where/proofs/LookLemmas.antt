@@ -482,7 +482,3 @@ unwritten look stop none is e = none (is ∙ ap (λ (s : Stop). StoppedAs s) e)
 
 pub not_written : (E : Type 0) (look : Look) → LooksUnwritten {E = E} (Ok look) → look ≢ StoppedAs how.WriteFault
 not_written E look h e = let other : how.WriteFault ≢ how.WriteFault = subst (λ (l : Look). LooksUnwritten {E = E} (Ok l)) e h in other refl
-
--- lines are put out as they are
-pub puts_lines : (look : Look) (text : _) (a : Answer) (taken taken' : Option (List ℕ)) → look ≡ Lines text → PutsOut text.items a taken taken' → PutsLook look a taken taken'
-puts_lines look text a taken taken' is h = subst (λ (l : Look). PutsLook l a taken taken') (sym is) h

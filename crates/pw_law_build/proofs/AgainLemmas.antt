@@ -101,6 +101,7 @@ edit_comes laws told opts parts outcome files builds o fits edit =
         image_names = o.image_names;
         image_file = o.image_file;
         puts = sym (ap (λ (fs : List NamedFile). fs ++ if_changed files image_name outcome.image) db ∙ img);
+        linked_objects = o.linked_objects;
       },
     )
 

@@ -31,7 +31,7 @@ pub record KeepsObjects (old new : Files) (parts : Parts) : Type 0 where
 
 -- the same program, of which nothing is made anew and nothing is put
 abbrev pub unchanged : Outcome → Outcome
-unchanged outcome = record { modules = outcome.modules; rebuilt = []; image = outcome.image; puts = [] }
+unchanged outcome = record { modules = outcome.modules; rebuilt = []; image = outcome.image; puts = []; linked_objects = outcome.linked_objects }
 
 -- ---- what an edit leaves
 

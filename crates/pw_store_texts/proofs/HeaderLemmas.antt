@@ -13,7 +13,7 @@ use Rattle.pw_store_texts.specs.Headers.{header_in}
 use Rattle.pw_store_texts.specs.Names.{is_source_file, source_ending}
 use Rattle.pw_store_texts.specs.Seen.{source_in}
 use Rattle.pw_store_texts.specs.Views.{named_text}
-use Rattle.pw_store_texts.specs.declared.sources.Source.{Source}
+use Rattle.pw_store_texts.specs.declared.source.Source.{Source}
 use Rattle.pw_store_texts.proofs.Picking.{nothing-more, picked-found, picked-gone, picked-none}
 
 abbrev Gone : Option (List ℕ) → Type 0

@@ -1,13 +1,14 @@
 -- A source that stands behind headers is one of the files.
-use Rattle.std.proofs.Common.{◌≡◌, ℕ, ◌+◌, Bool, true, false, if◌then◌else◌, List, [], ◌∷◌, ◌++◌, length, map, Option, Some, None, Result, refl, ap, ◌∙◌, subst, bytes_eq}
+use Rattle.std.proofs.Common.{◌≡◌, ℕ, ◌+◌, Bool, true, false, if◌then◌else◌, List, [], ◌∷◌, ◌++◌, length, map, Option, Some, None, Result, Err, ⊎_elim, refl, sym, ap, ◌∙◌, ◌≢◌, subst, bytes_eq}
 use Rattle.std.specs.Global.{Vec}
 use Rattle.std.proofs.lemmas.List.{map-append}
 use Rattle.std.proofs.lemmas.Slice.Eq.{bytes_eq-Decides}
-use Rattle.pw_cpp.specs.Answers.{AnswersCpp}
+use Rattle.pw_cpp.specs.Answers.{AnswersCpp, PreprocessesFile}
 use Rattle.pw_cpp.specs.declared.fault.CppFault.{CppFault}
+use Rattle.pw_cpp_directives.specs.declared.fault.CppKind.TheVariants as kind
 use Rattle.pw_cpp_sources.specs.Sources.{File, IsThere, Texts, file_named, spans_behind, texts_of}
 use Rattle.pw_store_texts.specs.Names.{source_name}
-use Rattle.pw_store_texts.specs.Outputs.{files_with}
+use Rattle.pw_store_texts.specs.Outputs.{ComesBy, files_with}
 
 -- a file is chosen, or one of the rest
 abbrev IsChosen : Bool → File → Option File → Type 0
@@ -35,6 +36,17 @@ pub source-preprocessed : (headers files : List (List ℕ × Vec ℕ)) (own file
     → AnswersCpp (files_with (texts_of headers) name text.items) (source_name name) result
 source-preprocessed headers files own file name text result e o s h =
     let are : texts_of files ≡ files_with (texts_of headers) name text.items =
-        ap texts_of e ∙ map-append (λ f. (f.0, f.1.items)) headers ((own, text) ∷ []) ∙ ap (λ n. texts_of headers ++ (n, text.items) ∷ []) (o ∙ s) in
+    ap texts_of e ∙ map-append (λ f. (f.0, f.1.items)) headers ((own, text) ∷ []) ∙ ap (λ n. texts_of headers ++ (n, text.items) ∷ []) (o ∙ s) in
     let P : Texts → List ℕ → Type 0 = λ texts n. IsThere texts n → AnswersCpp texts n result in
     subst (λ texts. P texts (source_name name)) are (subst (P (texts_of files)) s h) (there 4 (texts_of headers) (source_name name) text.items)
+
+-- a fault of the text, which is none for want of memory
+pub source-faulted : (headers files : List (List ℕ × Vec ℕ)) (own file name : List ℕ) (text : Vec ℕ) (fault found : CppFault)
+    → files ≡ headers ++ (own, text) ∷ [] → own ≡ file → file ≡ source_name name
+    → (IsThere (texts_of files) file → AnswersCpp (texts_of files) file (Err fault)) → found ≡ fault → found.kind ≢ kind.NoMemory
+    → ComesBy (texts_of headers) name text.items (Err (found.kind, found.file, found.line))
+source-faulted headers files own file name text fault found e o s h same proper =
+    let P : CppFault → Type 0 = λ f. AnswersCpp (files_with (texts_of headers) name text.items) (source_name name) (Err f) in
+    ⊎_elim {C = PreprocessesFile (files_with (texts_of headers) name text.items) (source_name name) (Err (found.kind, found.file, found.line))}
+    (λ k. absurd (proper k)) (λ c. c)
+    (subst P (sym same) (source-preprocessed headers files own file name text (Err fault) e o s h))

@@ -5,6 +5,7 @@ mod headers;
 mod laws;
 mod names;
 mod outputs;
+mod source;
 mod sources;
 
 pub use headers::{TEXT_READ, read_headers};

@@ -1,10 +1,9 @@
 //! The C sources of a store, and what comes of each.
 
-ghost use Rattle.std.specs.Prelude.{◌≡◌, ◌++◌, IfErr, IfOk, IfSome, OnOk, map, option_to_list, string_bytes, true};
+ghost use Rattle.std.specs.Prelude.{◌≡◌, ◌++◌, IfErr, IfOk, IfSome, OnOk, map, option_to_list, string_bytes};
 ghost use Rattle.pw_cpp_sources.specs.Sources.{texts_of};
 ghost use Rattle.pw_io.specs.Faults.{HasStoreCause};
 ghost use Rattle.pw_io.specs.Files.{Keeps};
-ghost use Rattle.pw_store_modules.specs.Modules.{is_module_name};
 ghost use Rattle.pw_store_texts.specs.Outputs.{ComesBy, output_of};
 ghost use Rattle.pw_store_texts.specs.Seen.{AllCome, StoreComes, outcome, source_in, sources_among};
 ghost use Rattle.pw_store_texts.specs.Views.{named_text};
@@ -12,18 +11,11 @@ ghost use Rattle.pw_store_texts.specs.Views.{named_text};
 use crate::headers::{TEXT_READ, headers_among};
 use crate::names::{is_source_file, stem};
 use crate::outputs::preprocess_source;
+use crate::source::Source;
 use pw_cpp::CppFault;
 use pw_io::{Store, StoreError};
 use pw_value::Name;
 use std::alloc::{AllocError, Global};
-
-/// A C source: its module's name, and its text as far as it is read.
-#[derive(Drop)]
-pub struct Source {
-    pub name: Name,
-    pub text: Vec<u8>,
-    ghost named: { is_module_name name ≡ true },
-}
 
 /// What comes of a module's C source: the text that is compiled, or the preprocessor's first fault, which is never want of memory.
 #[derive(Drop)]
@@ -107,10 +99,7 @@ fn compile_all(
 
 /// What comes of the C sources of a store among its headers, in the byte order of the sources' files: the names are listed, then the
 /// sources are read, then the headers, each up to one byte more than a text may have. The store stays as it is.
-pub fn compile_sources<S: Store>(
-    alloc: Global,
-    store: &mut S,
-) -> Result<Vec<Compiled>, StoreError>
+pub fn compile_sources<S: Store>(alloc: Global, store: &mut S) -> Result<Vec<Compiled>, StoreError>
     ensures comes { IfSome (S.told store.old) (λ told. IfOk result (λ all. StoreComes told.files (map outcome all.items))) }
     ensures same { Keeps (S.told store.old) (S.told store.new) }
     ensures cause { HasStoreCause (S.faults store.old) (S.faults store.new) result }

@@ -1,9 +1,12 @@
-use Rattle.pw_commands_where.proofs.LookLemmas.{puts_lines, stop_writes, unwritten}
+use Rattle.std.proofs.Common.{subst, sym}
+use Rattle.pw_where.specs.declared.looking.Look.{Look}
+use Rattle.pw_commands_where.specs.Steps.{PutsLook}
+use Rattle.pw_commands_where.proofs.LookLemmas.{stop_writes, unwritten}
 use Rattle.pw_commands_where.proofs.showing.told.Goals as goal
 
 pub returns-in-Lines-clause-output : goal.returns-in-Lines-clause-output
 returns-in-Lines-clause-output g c =
-    puts_lines c.args.look c.in-Lines.lines c.print.result (g.O.Sink.taken c.args.out.now) (g.O.Sink.taken c.print.new.out) c.in-Lines.is (rw c.deref.ensures.value at c.print.ensures.output)
+    subst (λ (l : Look). PutsLook l c.print.result (g.O.Sink.taken c.args.out.now) (g.O.Sink.taken c.print.new.out)) (sym c.in-Lines.is) (rw c.deref.ensures.value at c.print.ensures.output)
 
 pub returns-in-StoppedAs-clause-write : goal.returns-in-StoppedAs-clause-write
 returns-in-StoppedAs-clause-write g c = stop_writes c.in-StoppedAs.stop c.answer_of_stop.result _ (unwritten c.args.look c.in-StoppedAs.stop c.requires c.in-StoppedAs.is) c.answer_of_stop.ensures
