@@ -67,9 +67,7 @@ fn numbers_of(command: &Command) -> [Option<u64>; 4] {
 /// The switch for optimised flow graphs, where a command has it.
 fn switch_of(command: &Command) -> &'static str {
     let optimise = match command {
-        Command::Go(opts) | Command::Session(opts) | Command::Interp(opts) => {
-            opts.build.optimise
-        }
+        Command::Go(opts) | Command::Session(opts) | Command::Interp(opts) => opts.build.optimise,
         Command::Bench { opts, .. } | Command::Where { opts, .. } => opts.build.optimise,
         Command::Build(opts) => opts.optimise,
         Command::PhaseOne { optimise, .. } => *optimise,
