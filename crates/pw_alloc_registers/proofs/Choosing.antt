@@ -1,5 +1,5 @@
 -- The first register that a temporary may have and that is not taken, by sets of registers.
-use Rattle.std.proofs.Common.{◌≡◌, ◌⊎◌, ℕ, suc, ◌+◌, ◌-◌, ◌<◌, ◌≤◌, ◌||◌, not, Bool, true, false, cond, List, [], ◌∷◌, ◌++◌, refl, sym, ap, ◌∙◌, arith, inl, inr}
+use Rattle.std.proofs.Common.{◌≡◌, ◌⊎◌, ℕ, suc, ◌+◌, ◌-◌, ◌<◌, ◌≤◌, ◌&&◌, ◌||◌, not, Bool, true, false, cond, List, [], ◌∷◌, ◌++◌, refl, sym, ap, ◌∙◌, arith, inl, inr}
 use Rattle.std.specs.Prelude.{Option, None, Some, filter, ◌↔◌}
 use Rattle.std.specs.Cmp.{both_ways}
 use Rattle.std.specs.Option.{option_or}
@@ -7,7 +7,7 @@ use Rattle.std.specs.Int.{bit_at}
 use Rattle.std.specs.List.{find, range_with_len}
 use Rattle.std.proofs.lemmas.Bool.{eqb-true, eq-eqb, or_cases, or_left, or_right}
 use Rattle.std.proofs.lemmas.List.Folds.{find-append}
-use Rattle.pw_alloc_taken.specs.Masks.{in_mask, HasRegister}
+use Rattle.pw_alloc_masks.specs.Masks.{in_mask, HasRegister}
 
 pub in_joined : (webs taken away r : ℕ) (barred full : Bool) → in_mask webs r ≡ barred → (HasRegister taken r ↔ (full ≡ true))
     → (HasRegister away r ↔ (HasRegister webs r ⊎ HasRegister taken r)) → in_mask away r ≡ (barred || full)
@@ -32,6 +32,19 @@ pub find_left : (away barred taken : ℕ → Bool) (xs : List ℕ) → ((r : ℕ
 find_left away barred taken [] all = refl
 find_left away barred taken (x ∷ xs) all =
     find_step taken x (filter (λ r. not (barred r)) xs) (find (λ r. not (away r)) xs) (away x) (barred x) (taken x) (all x) refl (find_left away barred taken xs all)
+
+-- what is in one list and passes
+among_step : (p : ℕ → Bool) (x : ℕ) (left : List ℕ) (o : Option ℕ) (a b : Bool) → a ≡ (b && p x) → o ≡ find p left → cond a (Some x) o ≡ find p (cond b (x ∷ left) left)
+among_step p x left o a true e h = ap (λ (c : Bool). cond c (Some x) o) e ∙ ap (λ (k : Option ℕ). cond (p x) (Some x) k) h
+among_step p x left o a false e h = ap (λ (c : Bool). cond c (Some x) o) e ∙ h
+
+pub find_among : (test inside p : ℕ → Bool) (xs : List ℕ) → ((r : ℕ) → test r ≡ (inside r && p r)) → find test xs ≡ find p (filter inside xs)
+find_among test inside p [] all = refl
+find_among test inside p (x ∷ xs) all = among_step p x (filter inside xs) (find test xs) (test x) (inside x) (all x) (find_among test inside p xs all)
+
+-- in neither of two sets, where one is told by a list
+pub in_neither : (cluster away joined r : ℕ) (shared : Bool) → in_mask cluster r ≡ shared → (HasRegister joined r ↔ (HasRegister cluster r ⊎ HasRegister away r)) → in_mask joined r ≡ (shared || in_mask away r)
+in_neither cluster away joined r shared is both = in_joined cluster away joined r shared (in_mask away r) is (λ h. eq-eqb (bit_at away r) 1 h, λ e. eqb-true (bit_at away r) 1 e) both
 
 -- ---- registers one behind the other
 

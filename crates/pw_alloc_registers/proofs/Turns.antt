@@ -45,14 +45,14 @@ ordered_below f xs k t is lt at =
 
 -- ---- one more has its turn
 
-given_step : (f : Outline) (ws xs : List ℕ) (t : ℕ) (gs : List (ℕ × ℕ))
-    → given_to f ws (xs ++ t ∷ []) gs ≡ with_register t (find (λ r. not (is_taken f (given_to f ws xs gs) t r)) (allowed f ws t)) (given_to f ws xs gs)
-given_step f ws [] t gs = refl
-given_step f ws (x ∷ xs) t gs = given_step f ws xs t (with_register x (find (λ r. not (is_taken f gs x r)) (allowed f ws x)) gs)
+given_step : (f : Outline) (ws cs xs : List ℕ) (t : ℕ) (gs : List (ℕ × ℕ))
+    → given_to f ws cs (xs ++ t ∷ []) gs ≡ with_register t (find (λ r. not (is_taken f (given_to f ws cs xs gs) t r)) (allowed f ws cs t)) (given_to f ws cs xs gs)
+given_step f ws cs [] t gs = refl
+given_step f ws cs (x ∷ xs) t gs = given_step f ws cs xs t (with_register x (find (λ r. not (is_taken f gs x r)) (allowed f ws cs x)) gs)
 
-pub next_turn : (f : Outline) (ws xs : List ℕ) (k t : ℕ) → k < length xs → get_or xs k t ≡ t
-    → given_to f ws (take (k + 1) xs) [] ≡ with_register t (find (λ r. not (is_taken f (given_to f ws (take k xs) []) t r)) (allowed f ws t)) (given_to f ws (take k xs) [])
-next_turn f ws xs k t lt is = ap (λ (ts : List ℕ). given_to f ws ts []) (take_more xs k t lt ∙ ap (λ (x : ℕ). take k xs ++ x ∷ []) is) ∙ given_step f ws (take k xs) t []
+pub next_turn : (f : Outline) (ws cs xs : List ℕ) (k t : ℕ) → k < length xs → get_or xs k t ≡ t
+    → given_to f ws cs (take (k + 1) xs) [] ≡ with_register t (find (λ r. not (is_taken f (given_to f ws cs (take k xs) []) t r)) (allowed f ws cs t)) (given_to f ws cs (take k xs) [])
+next_turn f ws cs xs k t lt is = ap (λ (ts : List ℕ). given_to f ws cs ts []) (take_more xs k t lt ∙ ap (λ (x : ℕ). take k xs ++ x ∷ []) is) ∙ given_step f ws cs (take k xs) t []
 
 -- ---- none has its turn twice
 
@@ -60,21 +60,21 @@ none_put : (u : ℕ) (o : Option ℕ) (gs : List (ℕ × ℕ)) (t : ℕ) → u �
 none_put u None gs t other none = none
 none_put u (Some r) gs t other none = ap (λ (b : Bool). if b then Some r else register_of gs t) (ne_eqb u t other) ∙ none
 
-none_given : (f : Outline) (ws ts : List ℕ) (gs : List (ℕ × ℕ)) (t : ℕ) → AllByRecursion (λ u. u ≢ t) ts → register_of gs t ≡ None → register_of (given_to f ws ts gs) t ≡ None
-none_given f ws [] gs t others none = none
-none_given f ws (u ∷ rest) gs t others none =
-    let o = find (λ r. not (is_taken f gs u r)) (allowed f ws u) in
-    none_given f ws rest (with_register u o gs) t others.1 (none_put u o gs t others.0 none)
+none_given : (f : Outline) (ws cs ts : List ℕ) (gs : List (ℕ × ℕ)) (t : ℕ) → AllByRecursion (λ u. u ≢ t) ts → register_of gs t ≡ None → register_of (given_to f ws cs ts gs) t ≡ None
+none_given f ws cs [] gs t others none = none
+none_given f ws cs (u ∷ rest) gs t others none =
+    let o = find (λ r. not (is_taken f gs u r)) (allowed f ws cs u) in
+    none_given f ws cs rest (with_register u o gs) t others.1 (none_put u o gs t others.0 none)
 
 before_apart : (xs : List ℕ) (k d : ℕ) → EachTwo (λ a b. a ≢ b) xs → k < length xs → AllByRecursion (λ u. u ≢ get_or xs k d) (take k xs)
 before_apart [] k d two lt = absurd (omega (arith, lt))
 before_apart (x ∷ xs) zero d two lt = tt
 before_apart (x ∷ xs) (suc k) d two lt = (All-from_recursion (λ y. x ≢ y) xs two.0 k d (omega (arith, lt)), before_apart xs k d two.1 (omega (arith, lt)))
 
-pub none_yet : (f : Outline) (ws : List ℕ) (k t : ℕ) → k < length (by_weight f 0 f.temps) → get_or (by_weight f 0 f.temps) k t ≡ t → register_of (given_to f ws (take k (by_weight f 0 f.temps)) []) t ≡ None
-none_yet f ws k t lt is =
+pub none_yet : (f : Outline) (ws cs : List ℕ) (k t : ℕ) → k < length (by_weight f 0 f.temps) → get_or (by_weight f 0 f.temps) k t ≡ t → register_of (given_to f ws cs (take k (by_weight f 0 f.temps)) []) t ≡ None
+none_yet f ws cs k t lt is =
     let xs = by_weight f 0 f.temps in
-    none_given f ws (take k xs) [] t (subst (λ (x : ℕ). AllByRecursion (λ u. u ≢ x) (take k xs)) is (before_apart xs k t (once_ordered f 0 f.temps) lt)) refl
+    none_given f ws cs (take k xs) [] t (subst (λ (x : ℕ). AllByRecursion (λ u. u ≢ x) (take k xs)) is (before_apart xs k t (once_ordered f 0 f.temps) lt)) refl
 
 -- ---- at the end
 
@@ -89,6 +89,6 @@ same_from gs (x ∷ xs) t (suc more) long all =
     (λ k lt. let s : t + suc k ≡ suc t + k = omega arith in all (suc k) (omega (arith, lt)) ∙ ap (λ (n : ℕ). Some (register_of gs n)) s) in
     ap (λ (y : Option ℕ). y ∷ xs) first ∙ ap (λ (ys : List (Option ℕ)). register_of gs t ∷ ys) rest
 
-pub all_registers : (f : Outline) (ws : List ℕ) (xs : List (Option ℕ)) → length xs ≡ f.temps → ((t : ℕ) → t < f.temps → slice_get xs t ≡ Some (register_of (given f ws) t)) → xs ≡ registers f ws
-all_registers f ws xs long all =
-    same_from (given f ws) xs 0 f.temps long (λ k lt. let z : 0 + k ≡ k = omega arith in all k lt ∙ ap (λ (n : ℕ). Some (register_of (given f ws) n)) (sym z))
+pub all_registers : (f : Outline) (ws cs : List ℕ) (xs : List (Option ℕ)) → length xs ≡ f.temps → ((t : ℕ) → t < f.temps → slice_get xs t ≡ Some (register_of (given f ws cs) t)) → xs ≡ registers f ws cs
+all_registers f ws cs xs long all =
+    same_from (given f ws cs) xs 0 f.temps long (λ k lt. let z : 0 + k ≡ k = omega arith in all k lt ∙ ap (λ (n : ℕ). Some (register_of (given f ws cs) n)) (sym z))

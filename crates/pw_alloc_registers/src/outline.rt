@@ -1,92 +1,20 @@
 //! The outline of a directed function.
 
-ghost use Rattle.std.specs.Prelude.{◌≡◌, ◌∷◌, [], map, IfOk};
-ghost use Rattle.pw_flow.specs.Uses.{op_uses, op_defines, op_calls, end_uses, successors};
-ghost use Rattle.pw_webflow.specs.WebOutline.{uses, defines, calls, web_act, web_stretch, web_outline};
+ghost use Rattle.std.specs.Prelude.{◌≡◌, map, IfOk};
+ghost use Rattle.pw_webflow.specs.WebOutline.{web_act, web_stretch, web_outline};
 
-use pw_flow::{End, Op};
 use pw_items::Items;
 use pw_live_fronts::{Act, Outline, Stretch};
+use pw_live_outline::{act_of, end_uses, numbers, successors};
 use pw_webflow::{WebBlock, WebFn, WebOp};
 use std::alloc::{AllocError as NoMemory, Global};
-
-/// The same numbers, as items.
-fn numbers(alloc: Global, numbers: &[u32]) -> Result<Items<u32>, NoMemory>
-    ensures { IfOk result (λ v. v ≡ numbers.now) }
-{
-    Ok(Items::from_vec(Vec::from_slice(alloc, numbers)?))
-}
-
-/// A number, and numbers behind it.
-fn numbers_behind(alloc: Global, first: u32, rest: &[u32]) -> Result<Items<u32>, NoMemory>
-    ensures { IfOk result (λ v. v ≡ first ∷ rest.now) }
-{
-    let mut all = Vec::with_capacity(alloc, rest.len())?;
-    all.push(first)?;
-    for &n in rest {
-        all.push(n)?;
-    }
-    Ok(Items::from_vec(all))
-}
-
-/// The temporaries that an operation of a flow graph reads.
-fn op_uses(alloc: Global, op: &Op) -> Result<Items<u32>, NoMemory>
-    ensures { IfOk result (λ v. v ≡ op_uses op.now) }
-{
-    match op {
-        Op::Const(_, _)
-        | Op::AddrGlobal(_, _, _)
-        | Op::AddrSlot(_, _)
-        | Op::AddrFn(_, _)
-        | Op::LoadG(_, _, _) => Ok(Items::new(alloc)),
-        Op::Copy(_, a) | Op::Un(_, _, a) | Op::Ext(_, _, a) | Op::Load(_, _, a) => {
-            numbers(alloc, &[*a])
-        }
-        Op::StoreG(_, a, _) => numbers(alloc, &[*a]),
-        Op::Bin(_, _, a, b) | Op::Store(_, a, b) | Op::Move(a, b, _, _) => {
-            numbers(alloc, &[*a, *b])
-        }
-        Op::Call(_, _, args) => numbers(alloc, args.as_slice()),
-        Op::CallInd(_, a, _, args) => numbers_behind(alloc, *a, args.as_slice()),
-    }
-}
-
-/// The temporary that an operation of a flow graph writes.
-fn op_defines(op: &Op) -> Option<u32>
-    ensures { result ≡ op_defines op.now }
-{
-    match op {
-        Op::Const(t, _)
-        | Op::Copy(t, _)
-        | Op::Un(_, t, _)
-        | Op::Bin(_, t, _, _)
-        | Op::Ext(_, t, _)
-        | Op::AddrGlobal(t, _, _)
-        | Op::AddrSlot(t, _)
-        | Op::AddrFn(t, _)
-        | Op::LoadG(t, _, _)
-        | Op::Load(_, t, _) => Some(*t),
-        Op::StoreG(_, _, _) | Op::Store(_, _, _) | Op::Move(_, _, _, _) => None,
-        Op::Call(t, _, _) | Op::CallInd(t, _, _, _) => *t,
-    }
-}
-
-/// Whether an operation of a flow graph calls.
-fn op_calls(op: &Op) -> bool
-    ensures { result ≡ op_calls op.now }
-{
-    match op {
-        Op::Call(_, _, _) | Op::CallInd(_, _, _, _) => true,
-        _ => false,
-    }
-}
 
 /// What an operation reads and writes, and whether it calls.
 fn act(alloc: Global, op: &WebOp) -> Result<Act, NoMemory>
     ensures { IfOk result (λ a. a ≡ web_act op.now) }
 {
     match op {
-        WebOp::Flow(op) => Ok(Act::new(op_defines(op), op_uses(alloc, op)?, op_calls(op))),
+        WebOp::Flow(op) => act_of(alloc, op),
         WebOp::Read(t, _) => Ok(Act::new(Some(*t), Items::new(alloc), false)),
         WebOp::Write(_, a) => Ok(Act::new(None, numbers(alloc, &[*a])?, false)),
     }
@@ -100,27 +28,6 @@ fn acts(alloc: Global, ops: &[WebOp]) -> Result<Items<Act>, NoMemory>
         acts.push(act(alloc, op)?)?;
     }
     Ok(acts)
-}
-
-/// The temporaries that the end of a block reads.
-fn end_uses(alloc: Global, end: End) -> Result<Items<u32>, NoMemory>
-    ensures { IfOk result (λ v. v ≡ end_uses end) }
-{
-    match end {
-        End::Jump(_) | End::Return(None) => Ok(Items::new(alloc)),
-        End::Branch(a, _, _) | End::Return(Some(a)) => numbers(alloc, &[a]),
-    }
-}
-
-/// The blocks at which it may go on.
-fn successors(alloc: Global, end: End) -> Result<Items<u32>, NoMemory>
-    ensures { IfOk result (λ v. v ≡ successors end) }
-{
-    match end {
-        End::Jump(b) => numbers(alloc, &[b]),
-        End::Branch(_, b, c) => numbers(alloc, &[b, c]),
-        End::Return(_) => Ok(Items::new(alloc)),
-    }
 }
 
 fn stretch(alloc: Global, block: &WebBlock) -> Result<Stretch, NoMemory>

@@ -10,7 +10,8 @@ use Rattle.pw_fix.proofs.Places.{All-at, set_cases}
 use Rattle.pw_flow.specs.Outline.{Act, Stretch, Outline}
 use Rattle.pw_live.specs.Points.{Point, points_behind, points_in, points}
 use Rattle.pw_live_fronts.specs.Blocks.{IsAct, IsStretch, IsOutline}
-use Rattle.pw_alloc_taken.specs.Makers.{maker, AreBelow, AreDefinitions}
+use Rattle.pw_live_held.specs.Makers.{maker}
+use Rattle.pw_alloc_taken.specs.Makers.{AreBelow, AreDefinitions}
 
 -- ---- points behind definitions
 

@@ -10,9 +10,11 @@ use Rattle.pw_files.proofs.Standing.{Has, has_by, contains_by}
 use Rattle.pw_flow.specs.Outline.{Outline}
 use Rattle.pw_live_spans.specs.Spans.{Covers}
 use Rattle.pw_live_spans.specs.LivePoints.{LivesFrom}
-use Rattle.pw_alloc_taken.specs.Masks.{HasRegister, AreRegisters}
+use Rattle.pw_alloc_masks.specs.Masks.{HasRegister}
+use Rattle.pw_alloc_masks.specs.Sets.{HasAt}
+use Rattle.pw_alloc_masks.proofs.Joining.{zero_mask}
 use Rattle.pw_alloc_temps.specs.Registers.{register_of}
-use Rattle.pw_alloc_taken.specs.Knowing.{AreGiven}
+use Rattle.pw_alloc_taken.specs.Knowing.{IsMade, AreGiven}
 use Rattle.pw_alloc_taken.specs.declared.given.Given.{Given}
 
 -- ---- what is looked up in a list with one more
@@ -38,6 +40,7 @@ module _ (f : Outline) (gs : List (ℕ × ℕ)) (old new : Given) (t r : ℕ) (s
     (lives : (q : ℕ) → Covers spans q ↔ LivesFrom f 0 t q)
     (registers : new.registers.items ≡ set old.registers.items t (Some r))
     (occupied : (p k : ℕ) → HasRegister (slice_index new.occupied.items p) k ↔ (HasRegister (slice_index old.occupied.items p) k ⊎ (Covers spans p × (k ≡ r))))
+    (made : (p k : ℕ) → HasAt new.made p k ↔ (HasAt old.made p k ⊎ (IsMade f p t × (k ≡ r))))
     (params : (k : ℕ) → HasRegister new.params k ↔ (HasRegister old.params k ⊎ ((t < f.params) × (k ≡ r))))
     (has : AreGiven f gs old) where
   abbrev all : List (ℕ × ℕ)
@@ -56,15 +59,6 @@ module _ (f : Outline) (gs : List (ℕ × ℕ)) (old new : Given) (t r : ℕ) (s
   once_more : (u k : ℕ) → Has (u, k) all → register_of all u ≡ Some k
   once_more u k (inl e) = subst (λ (g : ℕ × ℕ). register_of all g.0 ≡ Some g.1) e (own gs t r)
   once_more u k (inr h) = stays u k (has.once u k (contains_by (u, k) gs h))
-
-  within_more : (u k : ℕ) → register_of all u ≡ Some k → u < f.temps
-  within_more u k e = elim (looked gs t r u k e) [ inl h ↦ let same = h.0 in omega (arith, temp, same) | inr h ↦ has.within u k h.1 ]
-
-  below_more : (u k : ℕ) → slice_get new.registers.items u ≡ Some (Some k) → u < f.temps
-  below_more u k e = elim (set_cases old.registers.items t u (Some r) (Some k) (ap (λ (rs : List (Option ℕ)). slice_get rs u) (sym registers) ∙ e)) [
-    | inl h ↦ let same = h.0 in omega (arith, temp, same)
-    | inr h ↦ has.below u k h.1
-  ]
 
   reads_more : (u : ℕ) → u < f.temps → slice_get new.registers.items u ≡ Some (register_of all u)
   reads_more u lt = ap (λ (rs : List (Option ℕ)). slice_get rs u) registers ∙ elim (cases_eq u t) [
@@ -86,6 +80,18 @@ module _ (f : Outline) (gs : List (ℕ × ℕ)) (old new : Given) (t r : ℕ) (s
     ]),
   )
 
+  made_more : (p k : ℕ) → HasAt new.made p k ↔ ((u : ℕ) × (register_of all u ≡ Some k) × IsMade f p u)
+  made_more p k = (
+    λ h. elim ((made p k).0 h) [
+      | inl o ↦ let u = (has.made p k).0 o in (u.0, stays u.0 k u.1, u.2)
+      | inr c ↦ (t, is_now k c.1, c.0)
+    ],
+    λ h. (made p k).1 (elim (looked gs t r h.0 k h.1) [
+      | inl s ↦ inr (subst (IsMade f p) s.0 h.2, s.1)
+      | inr s ↦ inl ((has.made p k).1 (h.0, s.1, h.2))
+    ]),
+  )
+
   params_more : (k : ℕ) → HasRegister new.params k ↔ ((u : ℕ) × (u < f.params) × (register_of all u ≡ Some k))
   params_more k = (
     λ h. elim ((params k).0 h) [
@@ -101,10 +107,9 @@ module _ (f : Outline) (gs : List (ℕ × ℕ)) (old new : Given) (t r : ℕ) (s
   pub given_more : AreGiven f all new
   given_more = record {
     once = λ u k c. once_more u k (has_by (u, k) all c);
-    within = within_more;
-    below = below_more;
     registers = reads_more;
     occupied = occupied_more;
+    made = made_more;
     params = params_more;
   }
 
@@ -112,11 +117,6 @@ module _ (f : Outline) (gs : List (ℕ × ℕ)) (old new : Given) (t r : ℕ) (s
 
 abbrev pub nothing : Option ℕ
 nothing = None
-
-nones : (n u : ℕ) (x : Option ℕ) → slice_get (replicate n None) u ≡ Some x → (u < n) × (x ≡ None)
-nones zero u x e = absurd cc
-nones (suc n) zero x e = (omega arith, sym (same_Some None x e))
-nones (suc n) (suc u) x e = let h = nones n u x e in (let lt = h.0 in omega (arith, lt), h.1)
 
 none_at : (n u : ℕ) → u < n → slice_get (replicate n None) u ≡ Some nothing
 none_at zero u lt = absurd (omega (arith, lt))
@@ -128,27 +128,14 @@ zeros zero p = refl
 zeros (suc n) zero = refl
 zeros (suc n) (suc p) = zeros n p
 
-empty : (mask k : ℕ) → mask ≡ 0 → ¬ HasRegister mask k
-empty mask k is h = let zero_bit : bit_at mask k ≡ 0 = ap (λ (m : ℕ). bit_at m k) is ∙ bit_at-zero k in let clash : 1 ≡ 0 = sym h ∙ zero_bit in omega (arith, clash)
-
-pub given_none : (f : Outline) (v : Given) (points : ℕ) → v.registers.items ≡ replicate f.temps None → v.occupied.items ≡ replicate points 0 → v.params ≡ 0 → AreGiven f [] v
-given_none f v points registers occupied params = record {
+pub given_none : (f : Outline) (v : Given) (points : ℕ) → v.registers.items ≡ replicate f.temps None → v.occupied.items ≡ replicate points 0 → v.params ≡ 0 → ((p k : ℕ) → ¬ HasAt v.made p k) → AreGiven f [] v
+given_none f v points registers occupied params made = record {
   once = λ u k c. absurd (let lt : c.0 < 0 = c.1 in omega (arith, lt));
-  within = λ u k e. absurd cc;
-  below = λ u k e. (nones f.temps u (Some k) (ap (λ (rs : List (Option ℕ)). slice_get rs u) (sym registers) ∙ e)).0;
   registers = λ u lt. ap (λ (rs : List (Option ℕ)). slice_get rs u) registers ∙ none_at f.temps u lt;
   occupied = λ p k. (
-    λ h. absurd (empty (slice_index v.occupied.items p) k (ap (λ (ms : List ℕ). slice_index ms p) occupied ∙ zeros points p) h),
+    λ h. absurd (zero_mask k (subst (λ (m : ℕ). HasRegister m k) (ap (λ (ms : List ℕ). slice_index ms p) occupied ∙ zeros points p) h)),
     λ h. absurd (let clash = h.1 in cc),
   );
-  params = λ k. (λ h. absurd (empty v.params k params h), λ h. absurd (let clash = h.2 in cc));
+  made = λ p k. (λ h. absurd (made p k h), λ h. absurd (let clash = h.1 in cc));
+  params = λ k. (λ h. absurd (zero_mask k (subst (λ (m : ℕ). HasRegister m k) params h)), λ h. absurd (let clash = h.2 in cc));
 }
-
-pub registers_none : (registers : List (Option ℕ)) (n : ℕ) → registers ≡ replicate n None → AreRegisters registers
-registers_none registers n is t r e = absurd (let clash = (nones n t (Some r) (ap (λ (rs : List (Option ℕ)). slice_get rs t) (sym is) ∙ e)).1 in cc)
-
-pub registers_with : (registers : List (Option ℕ)) (t r : ℕ) → r < 32 → AreRegisters registers → AreRegisters (set registers t (Some r))
-registers_with registers t r lt low u k e = elim (set_cases registers t u (Some r) (Some k) e) [
-  | inl h ↦ let same : k ≡ r = same_Some k r h.1 in omega (arith, same, lt)
-  | inr h ↦ low u k h.1
-]

@@ -4,6 +4,4 @@ mod Takers
 mod Giving
 mod Masking
 mod Defining
-mod Pointing
-mod Calling
 mod Knowledge

@@ -9,13 +9,15 @@ use Rattle.pw_live.specs.Liveness.{is_live_in}
 use Rattle.pw_live.specs.Points.{Point, points, lives}
 use Rattle.pw_live.specs.Interference.{written_beside, starts_beside, interfere}
 use Rattle.pw_live_spans.specs.LivePoints.{LivesFrom}
-use Rattle.pw_alloc_taken.specs.Masks.{HasRegister, IsMadeBeside, IsOccupiedBehind}
+use Rattle.pw_alloc_masks.specs.Masks.{HasRegister}
+use Rattle.pw_alloc_taken.specs.Masks.{IsMadeBeside, IsOccupiedBehind}
 use Rattle.pw_alloc_temps.specs.Registers.{is_taken, register_of}
 use Rattle.pw_alloc_taken.specs.Knowing.{AreFacts, AreGiven}
 use Rattle.pw_alloc_taken.specs.declared.facts.Facts.{Facts}
 use Rattle.pw_alloc_taken.specs.declared.given.Given.{Given}
 use Rattle.pw_alloc_taken.proofs.Looking.{has_register}
-use Rattle.pw_alloc_taken.proofs.Besides.{and_both, beside_at, at_beside, starts, Meets, interferes, interfering}
+use Rattle.pw_live_held.proofs.Holding.{and_both}
+use Rattle.pw_alloc_taken.proofs.Besides.{beside_at, at_beside, starts, Meets, interferes, interfering}
 
 -- ---- the definition, by what each has
 
@@ -46,26 +48,17 @@ module _ (f : Outline) (gs : List (ℕ × ℕ)) (given : Given) (facts : Facts) 
     (there : (t q : ℕ) → LivesFrom f 0 t q → (p : Point) × (slice_get (points f) q ≡ Some p))
     (first : (t : ℕ) → LivesFrom f 0 t 0 ↔ (is_live_in f t 0 ≡ true))
     (known : AreFacts f facts) (has : AreGiven f gs given) where
-  -- the register that the code has for a temporary
-  reads : (u : ℕ) → register_of gs u ≡ Some r → slice_get given.registers.items u ≡ Some (Some r)
-  reads u e = has.registers u (has.within u r e) ∙ ap Some e
-
-  read : (u : ℕ) → slice_get given.registers.items u ≡ Some (Some r) → register_of gs u ≡ Some r
-  read u e = same_Some (register_of gs u) (Some r) (sym (has.registers u (has.below u r e)) ∙ e)
-
   -- ---- of temporaries that are written where it is live
 
-  pub made_are : (spans : List (ℕ × ℕ)) → slice_get facts.spans.lists.items t ≡ Some spans
-      → IsMadeBeside facts.makers.items given.registers.items spans r ↔ ((u : ℕ) × (register_of gs u ≡ Some r) × (written_beside f u t ≡ true))
+  pub made_are : (spans : List (ℕ × ℕ)) → slice_get facts.liveness.spans.lists.items t ≡ Some spans
+      → IsMadeBeside given.made spans r ↔ ((u : ℕ) × (register_of gs u ≡ Some r) × (written_beside f u t ≡ true))
   made_are spans at = (
     λ h.
-        let p = h.0 in
-        let m = h.2 in
-        let live = (known.spans.each t p spans at).0 h.1 in
-        (m.0, read m.0 m.2, at_beside f lives_at there m.0 t p (ap (λ (ms : List (Option ℕ)). slice_get ms p) (sym known.makers) ∙ m.1) live),
+        let m = (has.made h.0 r).0 h.2 in
+        (m.0, m.1, at_beside f lives_at there m.0 t h.0 m.2 ((known.liveness.spans.each t h.0 spans at).0 h.1)),
     λ h.
         let b = beside_at f lives_at there h.0 t h.2 in
-        (b.0, (known.spans.each t b.0 spans at).1 b.2, (h.0, ap (λ (ms : List (Option ℕ)). slice_get ms b.0) known.makers ∙ b.1, reads h.0 h.1)),
+        (b.0, (known.liveness.spans.each t b.0 spans at).1 b.2, (has.made b.0 r).1 (h.0, h.1, b.1)),
   )
 
   -- ---- of temporaries that are live where it is written
@@ -77,10 +70,10 @@ module _ (f : Outline) (gs : List (ℕ × ℕ)) (given : Given) (facts : Facts) 
         let p = h.0 in
         let made = (known.definitions t p row at).0 h.1 in
         let o = (has.occupied p r).0 h.2 in
-        (o.0, o.1, at_beside f lives_at there t o.0 p (ap (λ (ms : List (Option ℕ)). slice_get ms p) (sym known.makers) ∙ made) o.2),
+        (o.0, o.1, at_beside f lives_at there t o.0 p made o.2),
     λ h.
         let b = beside_at f lives_at there t h.0 h.2 in
-        (b.0, (known.definitions t b.0 row at).1 (ap (λ (ms : List (Option ℕ)). slice_get ms b.0) known.makers ∙ b.1), (has.occupied b.0 r).1 (h.0, h.1, b.2)),
+        (b.0, (known.definitions t b.0 row at).1 b.1, (has.occupied b.0 r).1 (h.0, h.1, b.2)),
   )
 
   -- ---- at the start

@@ -1,28 +1,19 @@
 //! What is known of a function's temporaries before they get registers.
 
-ghost use Rattle.std.specs.Prelude.{◌≡◌, ◌+◌, ◌≤◌, ◌<◌, ◌↔◌, not, ℕ, [], List, Some, length, slice_get, vec_len, All, Contains, IsTrue, IfOk, OnOk};
+ghost use Rattle.std.specs.Prelude.{◌≡◌, ◌+◌, ◌<◌, ◌↔◌, ℕ, [], List, Some, length, slice_get, vec_len, All, Contains, IfOk, OnOk};
 ghost use Rattle.pw_live_fronts.specs.Blocks.{IsOutline};
-ghost use Rattle.pw_live.specs.Liveness.{is_that};
-ghost use Rattle.pw_live.specs.Interference.{is_held};
-ghost use Rattle.pw_live_spans.specs.Spans.{Covers};
-ghost use Rattle.pw_alloc_taken.specs.Makers.{AreBelow, AreDefinitions, IsOverCall};
+ghost use Rattle.pw_alloc_taken.specs.Makers.{AreBelow, AreDefinitions};
 ghost use Rattle.pw_alloc_taken.specs.Knowing.{AreFacts};
 
-use crate::points::{find_calls, find_makers};
 use pw_items::Items;
-use pw_live_fronts::{Outline, find_fronts};
-use pw_live_spans::laws::points_stand_by_number;
-use pw_live_spans::{Spans, find_spans};
+use pw_live_fronts::Outline;
+use pw_live_held::{Liveness, find_liveness};
 use std::alloc::{AllocError as NoMemory, Global};
 
 /// Where temporaries are live and where they are written.
 #[derive(Drop)]
 pub struct Facts {
-    pub spans: Spans,
-    /// Of each point the temporary that the operation directly before it writes.
-    pub makers: Vec<Option<u32>>,
-    /// Of each point whether the operation directly before it calls.
-    pub calls: Vec<bool>,
+    pub liveness: Liveness,
     /// Of each temporary the points directly behind its definitions.
     pub definitions: Vec<Items<usize>>,
 }
@@ -78,73 +69,10 @@ pub fn find_facts(alloc: Global, f: &Outline) -> Result<Facts, NoMemory>
     requires { IsOutline f.now }
     ensures { IfOk result (AreFacts f.now) }
 {
-    let makers = find_makers(alloc, f)?;
-    let calls = find_calls(alloc, f)?;
-    let definitions = definitions(alloc, &makers, f.temps())?;
-    let fronts = find_fronts(alloc, f)?;
-    let spans = find_spans(alloc, &fronts, f)?;
+    let liveness = find_liveness(alloc, f)?;
+    let definitions = definitions(alloc, &liveness.makers, f.temps())?;
     Ok(Facts {
-        spans,
-        makers,
-        calls,
+        liveness,
         definitions,
     })
-}
-
-/// Whether another temporary is written, or none.
-fn is_other(maker: Option<u32>, t: u32) -> bool
-    ensures { result ≡ not (is_that maker t) }
-{
-    match maker {
-        Some(u) => u != t,
-        None => true,
-    }
-}
-
-/// Whether a point stands behind a call that does not write the temporary.
-fn is_over_call(makers: &[Option<u32>], calls: &[bool], t: u32, p: usize) -> bool
-    requires point { p < length makers.now }
-    requires calls { length calls.now ≡ length makers.now }
-    ensures { IsTrue result ↔ IsOverCall makers.now calls.now t p }
-{
-    let call = calls[p];
-    if call { is_other(makers[p], t) } else { false }
-}
-
-/// Whether one of the points of a span stands behind a call that does not write the temporary.
-fn is_held_within(span: (usize, usize), makers: &[Option<u32>], calls: &[bool], t: u32) -> bool
-    requires points { (p : ℕ) → span.0 ≤ p → p < span.1 → p < length makers.now }
-    requires calls { length calls.now ≡ length makers.now }
-    ensures { IsTrue result ↔ ((p : ℕ) × (span.0 ≤ p) × (p < span.1) × IsOverCall makers.now calls.now t p) }
-{
-    for p in span.0..span.1 {
-        if is_over_call(makers, calls, t, p) {
-            return true;
-        }
-    }
-    false
-}
-
-/// The same of one of the points of spans.
-fn is_held_over(spans: &[(usize, usize)], makers: &[Option<u32>], calls: &[bool], t: u32) -> bool
-    requires points { (p : ℕ) → Covers spans.now p → p < length makers.now }
-    requires calls { length calls.now ≡ length makers.now }
-    ensures { IsTrue result ↔ ((p : ℕ) × Covers spans.now p × IsOverCall makers.now calls.now t p) }
-{
-    for place in 0..spans.len() {
-        if is_held_within(spans[place], makers, calls, t) {
-            return true;
-        }
-    }
-    false
-}
-
-/// Whether a temporary is held over a call.
-pub fn is_held(facts: &Facts, f: &Outline, t: u32) -> bool
-    requires facts { AreFacts f.now facts.now }
-    requires temp { t < f.now.temps }
-    ensures { result ≡ is_held f.now t }
-{
-    points_stand_by_number();
-    is_held_over(facts.spans.of(t), &facts.makers, &facts.calls, t)
 }

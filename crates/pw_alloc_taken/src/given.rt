@@ -1,16 +1,15 @@
 //! What temporaries have been given: one after the other each gets a register that no other one has which interferes.
 
 ghost use Rattle.std.specs.Prelude.{◌≡◌, ◌⊎◌, ◌<◌, ◌↔◌, ℕ, [], List, None, Some, true, length, slice_index, IsTrue, IfOk};
-ghost use Rattle.pw_live_fronts.specs.Blocks.{IsOutline};
 ghost use Rattle.pw_live.specs.Points.{points};
 ghost use Rattle.pw_live_spans.specs.Spans.{IsIn, Covers};
-ghost use Rattle.pw_alloc_taken.specs.Masks.{HasRegister};
+ghost use Rattle.pw_alloc_masks.specs.Masks.{HasRegister};
 ghost use Rattle.pw_alloc_taken.specs.Knowing.{AreFacts, AreSized, AreGiven};
 ghost use Rattle.pw_alloc_temps.specs.Registers.{is_taken, with_register, register_of};
 
 use crate::facts::Facts;
-use crate::masks::{both, with_register};
-use crate::occupied::{made_beside, occupied_behind, occupy, taken_at_start};
+use crate::occupied::{made_beside, occupied_behind, occupy, put_behind, taken_at_start};
+use pw_alloc_masks::{PointSets, both, with_register};
 use pw_live_fronts::Outline;
 use pw_live_spans::laws::points_stand_by_number;
 use std::alloc::{AllocError as NoMemory, Global};
@@ -22,6 +21,8 @@ pub struct Given {
     pub registers: Vec<Option<u8>>,
     /// Of each point the registers of the temporaries that are live there.
     pub occupied: Vec<u32>,
+    /// Of each point the register of the temporary that is written directly before it.
+    pub made: PointSets,
     /// The registers of parameters.
     pub params: u32,
 }
@@ -35,9 +36,11 @@ impl Given {
     {
         let registers = vec![in alloc; None; f.temps() as usize]?;
         let occupied = vec![in alloc; 0; count]?;
+        let made = PointSets::new(alloc, count)?;
         Ok(Given {
             registers,
             occupied,
+            made,
             params: 0,
         })
     }
@@ -74,15 +77,14 @@ fn at_start(occupied: &[u32]) -> u32
 
 /// The registers that a temporary may not have, since one that interferes has them.
 pub fn taken(given: &Given, facts: &Facts, f: &Outline, t: u32) -> u32
-    requires outline { IsOutline f.now }
     requires facts { AreFacts f.now facts.now }
     requires sized { AreSized f.now given.now }
     requires temp { t < f.now.temps }
     ensures { (gs : List (ℕ × ℕ)) → AreGiven f.now gs given.now → register_of gs t ≡ None → (r : ℕ) → HasRegister result r ↔ (is_taken f.now gs t r ≡ true) }
 {
     points_stand_by_number();
-    let spans = facts.spans.of(t);
-    let beside = made_beside(spans, &facts.makers, &given.registers);
+    let spans = facts.liveness.spans.of(t);
+    let beside = made_beside(&given.made, spans);
     let row = facts.definitions[t as usize].as_slice();
     let behind = occupied_behind(row, &given.occupied);
     let start = at_start(&given.occupied);
@@ -117,5 +119,6 @@ pub fn give(given: &mut Given, facts: &Facts, f: &Outline, t: u32, r: u8)
     let params = with_param(given.params, t < f.params(), r);
     given.params = params;
     given.registers[t as usize] = Some(r);
-    occupy(&mut given.occupied, facts.spans.of(t), r);
+    put_behind(&mut given.made, facts.definitions[t as usize].as_slice(), r);
+    occupy(&mut given.occupied, facts.liveness.spans.of(t), r);
 }

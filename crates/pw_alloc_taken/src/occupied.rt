@@ -1,73 +1,40 @@
 //! Registers that are taken where a temporary is live and where it is written.
 
-ghost use Rattle.std.specs.Prelude.{◌≡◌, ◌⊎◌, ◌≤◌, ◌<◌, ◌↔◌, ℕ, true, Some, length, slice_get, slice_index, All, IfSome};
+ghost use Rattle.std.specs.Prelude.{◌≡◌, ◌⊎◌, ◌≤◌, ◌<◌, ◌↔◌, ℕ, true, length, slice_index, All, Contains};
 ghost use Rattle.pw_live_spans.specs.Spans.{Covers};
-ghost use Rattle.pw_alloc_taken.specs.Masks.{HasRegister, AreRegisters, IsOfMaker, IsMadeWithin, IsMadeBeside, IsOccupiedBehind};
-ghost use Rattle.pw_alloc_taken.specs.Makers.{AreBelow};
+ghost use Rattle.pw_alloc_masks.specs.Masks.{HasRegister};
+ghost use Rattle.pw_alloc_masks.specs.Sets.{AreSets, HasAt};
+ghost use Rattle.pw_alloc_taken.specs.Masks.{IsMadeBeside, IsOccupiedBehind};
 
-use crate::masks::{both, with_register};
-
-/// A set with the register of a temporary, if it has got one.
-fn with_register_of(mask: u32, registers: &[Option<u8>], t: usize) -> u32
-    requires temp { t < length registers.now }
-    requires registers { AreRegisters registers.now }
-    ensures { (k : ℕ) → HasRegister result k ↔ (HasRegister mask k ⊎ (slice_get registers.now t ≡ Some (Some k))) }
-{
-    match registers[t] {
-        Some(r) => with_register(mask, r),
-        None => mask,
-    }
-}
-
-/// A set with the register of the temporary that is written, if one is and has got one.
-fn with_maker(mask: u32, maker: Option<u32>, registers: &[Option<u8>]) -> u32
-    requires maker { IfSome maker (λ t. t < length registers.now) }
-    requires registers { AreRegisters registers.now }
-    ensures { (k : ℕ) → HasRegister result k ↔ (HasRegister mask k ⊎ IsOfMaker registers.now maker k) }
-{
-    match maker {
-        Some(t) => with_register_of(mask, registers, t as usize),
-        None => mask,
-    }
-}
-
-/// A set with the registers of the temporaries that are written before the points of a span.
-fn with_span(
-    mask: u32,
-    span: (usize, usize),
-    makers: &[Option<u32>],
-    registers: &[Option<u8>],
-) -> u32
-    requires points { (p : ℕ) → span.0 ≤ p → p < span.1 → p < length makers.now }
-    requires makers { AreBelow (length registers.now) makers.now }
-    requires registers { AreRegisters registers.now }
-    ensures { (k : ℕ) → HasRegister result k ↔ (HasRegister mask k ⊎ IsMadeWithin makers.now registers.now span.0 span.1 k) }
-{
-    let mut joined = mask;
-    for p in span.0..span.1 {
-        let more = with_maker(joined, makers[p], registers);
-        joined = more;
-    }
-    joined
-}
+use pw_alloc_masks::{PointSets, both, with_register};
 
 /// The registers of the temporaries that are written before the points of spans.
-pub(crate) fn made_beside(
-    spans: &[(usize, usize)],
-    makers: &[Option<u32>],
-    registers: &[Option<u8>],
-) -> u32
-    requires points { (p : ℕ) → Covers spans.now p → p < length makers.now }
-    requires makers { AreBelow (length registers.now) makers.now }
-    requires registers { AreRegisters registers.now }
-    ensures { (k : ℕ) → HasRegister result k ↔ IsMadeBeside makers.now registers.now spans.now k }
+pub(crate) fn made_beside(made: &PointSets, spans: &[(usize, usize)]) -> u32
+    requires sets { AreSets made.now }
+    requires points { (p : ℕ) → Covers spans.now p → p < made.now.points }
+    ensures { (k : ℕ) → HasRegister result k ↔ IsMadeBeside made.now spans.now k }
 {
     let mut beside = 0;
     for place in 0..spans.len() {
-        let more = with_span(beside, spans[place], makers, registers);
+        let within = made.within(spans[place]);
+        let more = both(beside, within);
         beside = more;
     }
     beside
+}
+
+/// Puts a register into the sets of points.
+pub(crate) fn put_behind(made: &mut PointSets, definitions: &[usize], r: u8)
+    requires sets { AreSets made.old }
+    requires points { All (λ p. p < made.old.points) definitions.now }
+    requires register { r < 32 }
+    ensures sets { AreSets made.new }
+    ensures points { made.new.points ≡ made.old.points }
+    ensures each { (q k : ℕ) → HasAt made.new q k ↔ (HasAt made.old q k ⊎ (Contains definitions.now q × (k ≡ r))) }
+{
+    for place in 0..definitions.len() {
+        made.put(definitions[place], r);
+    }
 }
 
 /// What is occupied at points.

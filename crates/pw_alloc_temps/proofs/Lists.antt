@@ -1,9 +1,9 @@
 -- What stands in parts of lists.
-use Rattle.std.proofs.Common.{◌≡◌, ◌⊎◌, ℕ, zero, suc, ◌+◌, ◌<◌, ◌≤◌, ◌==◌, Bool, true, false, cond, List, [], ◌∷◌, refl, sym, ap, ◌∙◌, arith, inl, inr}
-use Rattle.std.specs.Prelude.{Some, slice_get, filter}
+use Rattle.std.proofs.Common.{◌≡◌, ◌⊎◌, ℕ, zero, suc, ◌+◌, ◌<◌, ◌≤◌, ◌==◌, not, Bool, true, false, cond, List, [], ◌∷◌, refl, sym, ap, ◌∙◌, arith, inl, inr}
+use Rattle.std.specs.Prelude.{Some, slice_get, filter, Contains}
 use Rattle.std.specs.List.{AllByRecursion, list_any, range_with_len}
-use Rattle.std.proofs.lemmas.Bool.{cases_eq, or_cases, or_left, or_right, eq-eqb}
-use Rattle.pw_files.proofs.Standing.{Has}
+use Rattle.std.proofs.lemmas.Bool.{cases_eq, or_cases, or_left, or_right, eq-eqb, eqb-true}
+use Rattle.pw_files.proofs.Standing.{Has, contains_by}
 use Rattle.pw_db.specs.Database.{EachTwo}
 
 -- ---- where something stands
@@ -21,6 +21,20 @@ pub listed : (n : ℕ) (ns : List ℕ) → Has n ns → list_any (λ m. m == n) 
 listed n [] h = absurd h
 listed n (m ∷ ns) (inl e) = or_left (m == n) (list_any (λ k. k == n) ns) (eq-eqb m n e)
 listed n (m ∷ ns) (inr h) = or_right (m == n) (list_any (λ k. k == n) ns) (listed n ns h)
+
+pub has_listed : (n : ℕ) (ns : List ℕ) → list_any (λ m. m == n) ns ≡ true → Has n ns
+has_listed n [] e = absurd cc
+has_listed n (m ∷ ns) e = elim (or_cases (m == n) (list_any (λ k. k == n) ns) e) [
+  | inl h ↦ inl (eqb-true m n h)
+  | inr h ↦ inr (has_listed n ns h)
+]
+
+pub not_listed : (n : ℕ) (ns : List ℕ) → ¬ Contains ns n → not (list_any (λ m. m == n) ns) ≡ true
+not_listed n ns out = by_test (list_any (λ m. m == n) ns) refl
+  where
+    by_test : (b : Bool) → list_any (λ m. m == n) ns ≡ b → not b ≡ true
+    by_test true e = absurd (out (contains_by n ns (has_listed n ns e)))
+    by_test false e = refl
 
 pub some_passes : {X : Type 0} (p : X → Bool) (x : X) (xs : List X) → Has x xs → p x ≡ true → list_any p xs ≡ true
 some_passes p x [] h e = absurd h

@@ -76,27 +76,27 @@ avoids f (g ∷ rest) t r e =
     )
 
 -- one that is in each place where it may stand
-abbrev MayHave : Outline → List ℕ → ℕ × ℕ → Type 0
-MayHave f webs g = Has g.1 (allowed f webs g.0)
+abbrev MayHave : Outline → List ℕ → List ℕ → ℕ × ℕ → Type 0
+MayHave f webs cluster g = Has g.1 (allowed f webs cluster g.0)
 
-record IsGiven (f : Outline) (webs : List ℕ) (gs : List (ℕ × ℕ)) : Type 0 where
+record IsGiven (f : Outline) (webs cluster : List ℕ) (gs : List (ℕ × ℕ)) : Type 0 where
   apart : Apart f gs
-  may : AllByRecursion (MayHave f webs) gs
+  may : AllByRecursion (MayHave f webs cluster) gs
 
-one_more : (f : Outline) (webs : List ℕ) (t : ℕ) (gs : List (ℕ × ℕ)) (o : Option ℕ) → find (λ r. not (is_taken f gs t r)) (allowed f webs t) ≡ o → IsGiven f webs gs → IsGiven f webs (with_register t o gs)
-one_more f webs t gs None e h = h
-one_more f webs t gs (Some r) e h =
-    let k = found (λ r. not (is_taken f gs t r)) (allowed f webs t) r e in
+one_more : (f : Outline) (webs cluster : List ℕ) (t : ℕ) (gs : List (ℕ × ℕ)) (o : Option ℕ) → find (λ r. not (is_taken f gs t r)) (allowed f webs cluster t) ≡ o → IsGiven f webs cluster gs → IsGiven f webs cluster (with_register t o gs)
+one_more f webs cluster t gs None e h = h
+one_more f webs cluster t gs (Some r) e h =
+    let k = found (λ r. not (is_taken f gs t r)) (allowed f webs cluster t) r e in
     record { apart = (avoids f gs t r (not_passes (is_taken f gs t r) k.passes), h.apart); may = (k.there, h.may) }
 
-all_given : (f : Outline) (webs ts : List ℕ) (gs : List (ℕ × ℕ)) → IsGiven f webs gs → IsGiven f webs (given_to f webs ts gs)
-all_given f webs [] gs h = h
-all_given f webs (t ∷ rest) gs h =
-    let o = find (λ r. not (is_taken f gs t r)) (allowed f webs t) in
-    all_given f webs rest (with_register t o gs) (one_more f webs t gs o refl h)
+all_given : (f : Outline) (webs cluster ts : List ℕ) (gs : List (ℕ × ℕ)) → IsGiven f webs cluster gs → IsGiven f webs cluster (given_to f webs cluster ts gs)
+all_given f webs cluster [] gs h = h
+all_given f webs cluster (t ∷ rest) gs h =
+    let o = find (λ r. not (is_taken f gs t r)) (allowed f webs cluster t) in
+    all_given f webs cluster rest (with_register t o gs) (one_more f webs cluster t gs o refl h)
 
-is_given : (f : Outline) (webs : List ℕ) → IsGiven f webs (given f webs)
-is_given f webs = all_given f webs (by_weight f 0 f.temps) [] (record { apart = tt; may = tt })
+is_given : (f : Outline) (webs cluster : List ℕ) → IsGiven f webs cluster (given f webs cluster)
+is_given f webs cluster = all_given f webs cluster (by_weight f 0 f.temps) [] (record { apart = tt; may = tt })
 
 two_apart : (f : Outline) (gs : List (ℕ × ℕ)) (a b r : ℕ) → Apart f gs → Has (a, r) gs → Has (b, r) gs → interfere f a b ≡ false
 two_apart f [] a b r apart one two = absurd one
@@ -131,16 +131,16 @@ long : (gs : List (ℕ × ℕ)) (t more : ℕ) → length (registers_from gs t m
 long gs t zero = refl
 long gs t (suc more) = ap suc (long gs (suc t) more)
 
-pub each_has_one : (f : Outline) (webs : List ℕ) → length (registers f webs) ≡ f.temps
-each_has_one f webs = long (given f webs) 0 f.temps
+pub each_has_one : (f : Outline) (webs cluster : List ℕ) → length (registers f webs cluster) ≡ f.temps
+each_has_one f webs cluster = long (given f webs cluster) 0 f.temps
 
-given_at : (f : Outline) (webs : List ℕ) (t r : ℕ) → slice_get (registers f webs) t ≡ Some (Some r) → Has (t, r) (given f webs)
-given_at f webs t r e =
+given_at : (f : Outline) (webs cluster : List ℕ) (t r : ℕ) → slice_get (registers f webs cluster) t ≡ Some (Some r) → Has (t, r) (given f webs cluster)
+given_at f webs cluster t r e =
     let z : 0 + t ≡ t = omega arith in
-    has_register (given f webs) t r (ap (register_of (given f webs)) (sym z) ∙ at_number (given f webs) 0 f.temps t (Some r) e)
+    has_register (given f webs cluster) t r (ap (register_of (given f webs cluster)) (sym z) ∙ at_number (given f webs cluster) 0 f.temps t (Some r) e)
 
-pub registers_apart : (f : Outline) (webs : List ℕ) (a b r : ℕ) → slice_get (registers f webs) a ≡ Some (Some r) → slice_get (registers f webs) b ≡ Some (Some r) → interfere f a b ≡ false
-registers_apart f webs a b r one two = two_apart f (given f webs) a b r (is_given f webs).apart (given_at f webs a r one) (given_at f webs b r two)
+pub registers_apart : (f : Outline) (webs cluster : List ℕ) (a b r : ℕ) → slice_get (registers f webs cluster) a ≡ Some (Some r) → slice_get (registers f webs cluster) b ≡ Some (Some r) → interfere f a b ≡ false
+registers_apart f webs cluster a b r one two = two_apart f (given f webs cluster) a b r (is_given f webs cluster).apart (given_at f webs cluster a r one) (given_at f webs cluster b r two)
 
-pub registers_allowed : (f : Outline) (webs : List ℕ) (t r : ℕ) → slice_get (registers f webs) t ≡ Some (Some r) → Contains (allowed f webs t) r
-registers_allowed f webs t r e = contains_by r (allowed f webs t) (has_each (MayHave f webs) (given f webs) (t, r) (is_given f webs).may (given_at f webs t r e))
+pub registers_allowed : (f : Outline) (webs cluster : List ℕ) (t r : ℕ) → slice_get (registers f webs cluster) t ≡ Some (Some r) → Contains (allowed f webs cluster t) r
+registers_allowed f webs cluster t r e = contains_by r (allowed f webs cluster t) (has_each (MayHave f webs cluster) (given f webs cluster) (t, r) (is_given f webs cluster).may (given_at f webs cluster t r e))

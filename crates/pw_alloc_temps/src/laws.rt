@@ -12,9 +12,9 @@ ghost use Rattle.pw_alloc_temps.specs.Temporaries.{allocated};
 /// What temporaries are given: of each one it is told whether it has a register; two that have one register do not
 /// interfere; and each register is one that the temporary may have.
 pub fn registers_keep_apart()
-    ensures count { (f : Outline) → (webs : List ℕ) → length (registers f webs) ≡ f.temps }
-    ensures apart { (f : Outline) → (webs : List ℕ) → (a b r : ℕ) → slice_get (registers f webs) a ≡ Some (Some r) → slice_get (registers f webs) b ≡ Some (Some r) → interfere f a b ≡ false }
-    ensures allowed { (f : Outline) → (webs : List ℕ) → (t r : ℕ) → slice_get (registers f webs) t ≡ Some (Some r) → Contains (allowed f webs t) r }
+    ensures count { (f : Outline) → (webs cluster : List ℕ) → length (registers f webs cluster) ≡ f.temps }
+    ensures apart { (f : Outline) → (webs cluster : List ℕ) → (a b r : ℕ) → slice_get (registers f webs cluster) a ≡ Some (Some r) → slice_get (registers f webs cluster) b ≡ Some (Some r) → interfere f a b ≡ false }
+    ensures allowed { (f : Outline) → (webs cluster : List ℕ) → (t r : ℕ) → slice_get (registers f webs cluster) t ≡ Some (Some r) → Contains (allowed f webs cluster t) r }
 {}
 
 /// What allocation gives a lawful function is lawful: a place for each temporary, each a word of the frame or a register that no

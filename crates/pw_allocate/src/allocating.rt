@@ -23,7 +23,7 @@ fn locate(alloc: Global, f: WebFn) -> Result<Located, AllocError>
     registers_keep_apart();
     let registers = find_registers(alloc, &f)?;
     let head = head_size(&f);
-    let saved = saved(alloc, f.directives.webs.as_slice(), &registers)?;
+    let saved = saved(alloc, &f.directives, &registers)?;
     let kept = saved.len() as u32;
     let (places, count) = places(alloc, head, kept, &registers)?;
     let begin = slots_begin(head, kept, count);

@@ -1,14 +1,13 @@
 //! The registers that a function saves.
 
-ghost use Rattle.std.specs.Prelude.{◌≡◌, ◌||◌, ◌++◌, ◌≤◌, ◌+◌, ◌-◌, IfOk, OnOk};
-ghost use Rattle.std.specs.List.{list_any};
+ghost use Rattle.std.specs.Prelude.{◌≡◌, ◌&&◌, not, ◌++◌, ◌≤◌, ◌+◌, ◌-◌, IfOk, OnOk};
 ghost use Rattle.pw_db.specs.Limits.{first_register, last_register, register_count};
-ghost use Rattle.pw_alloc.specs.Allocation.{is_entered};
-ghost use Rattle.pw_live.specs.Liveness.{is_that};
-ghost use Rattle.pw_allocate.specs.Saving.{is_changed, changed_from};
+ghost use Rattle.pw_live.specs.Liveness.{has, is_that};
+ghost use Rattle.pw_alloc_temps.specs.Temporaries.{is_given, is_saved};
+ghost use Rattle.pw_allocate.specs.Saving.{saved_from};
 
 use pw_alloc::is_entered;
-use pw_db::{FIRST_REGISTER, LAST_REGISTER, Role, Web};
+use pw_db::{Directives, FIRST_REGISTER, LAST_REGISTER};
 use pw_items::Items;
 use std::alloc::{AllocError, Global};
 
@@ -24,7 +23,7 @@ fn is_that(given: Option<u8>, r: u8) -> bool
 
 /// Whether some temporary has a register.
 fn is_given(registers: &[Option<u8>], r: u8) -> bool
-    ensures { result ≡ list_any (λ o. is_that o r) registers.now }
+    ensures { result ≡ is_given registers.now r }
 {
     for &given in registers {
         if is_that(given, r) {
@@ -34,40 +33,65 @@ fn is_given(registers: &[Option<u8>], r: u8) -> bool
     false
 }
 
-/// Whether a function changes a register: it enters a web of it, or a temporary has it.
-fn is_changed(webs: &[(Web, Role)], registers: &[Option<u8>], r: u8) -> bool
-    ensures { result ≡ is_changed webs.now registers.now r }
+/// Whether a register is one of some.
+fn is_among(registers: &[u8], r: u8) -> bool
+    ensures { result ≡ has r registers.now }
 {
-    is_entered(webs, r) || is_given(registers, r)
+    for &register in registers {
+        if register == r {
+            return true;
+        }
+    }
+    false
 }
 
-/// The register behind the others, where the function changes it.
-fn put_changed(
+/// Whether a temporary has a register that the function is not free to use.
+fn is_own(directives: &Directives, registers: &[Option<u8>], r: u8) -> bool
+    ensures { result ≡ (not (has r directives.now.free) && is_given registers.now r) }
+{
+    if is_among(directives.free.as_slice(), r) {
+        false
+    } else {
+        is_given(registers, r)
+    }
+}
+
+/// Whether a function saves a register: it enters a web of it, saves it for others, or a temporary has it which it is not free
+/// to use.
+fn is_saved(directives: &Directives, registers: &[Option<u8>], r: u8) -> bool
+    ensures { result ≡ is_saved directives.now registers.now r }
+{
+    is_entered(directives.webs.as_slice(), r)
+        || (is_among(directives.saves.as_slice(), r) || is_own(directives, registers, r))
+}
+
+/// The register behind the others, where the function saves it.
+fn put_saved(
     saved: &mut Items<u8>,
-    webs: &[(Web, Role)],
+    directives: &Directives,
     registers: &[Option<u8>],
     r: u8,
 ) -> Result<(), AllocError>
     requires { r ≤ last_register }
-    ensures { OnOk result (saved.new ++ changed_from webs.now registers.now (r + 1) (last_register + 1 - (r + 1)) ≡ saved.old ++ changed_from webs.now registers.now r (last_register + 1 - r)) }
+    ensures { OnOk result (saved.new ++ saved_from directives.now registers.now (r + 1) (last_register + 1 - (r + 1)) ≡ saved.old ++ saved_from directives.now registers.now r (last_register + 1 - r)) }
 {
-    if is_changed(webs, registers, r) {
+    if is_saved(directives, registers, r) {
         saved.push(r)?;
     }
     Ok(())
 }
 
-/// The registers that a function saves: of those that a callee keeps, those of the webs that it enters and of its temporaries.
+/// The registers that a function saves, of those that a callee keeps.
 pub(crate) fn saved(
     alloc: Global,
-    webs: &[(Web, Role)],
+    directives: &Directives,
     registers: &[Option<u8>],
 ) -> Result<Items<u8>, AllocError>
-    ensures { IfOk result (λ saved. saved ≡ changed_from webs.now registers.now first_register register_count) }
+    ensures { IfOk result (λ saved. saved ≡ saved_from directives.now registers.now first_register register_count) }
 {
     let mut saved = Items::new(alloc);
     for r in FIRST_REGISTER..LAST_REGISTER + 1 {
-        put_changed(&mut saved, webs, registers, r)?;
+        put_saved(&mut saved, directives, registers, r)?;
     }
     Ok(saved)
 }

@@ -42,14 +42,14 @@ pub one_build : OneAnswer → (sources : List Source) (kept : List (Option Objec
 one_build one sources kept opts a b few x y = one_by one (first_phases sources) kept opts a b few x y
 
 abbrev pub OneCount : Type 0
-OneCount = (flows : List FlowModule) (kept : List (Option Object)) (colours made other : ℕ) → colours ≤ colour_limit → MakesAnew flows kept colours made → MakesAnew flows kept colours other → made ≡ other
+OneCount = (flows : List FlowModule) (kept : List (Option Object)) (opts : Opts) (made other : ℕ) → opts.colours ≤ colour_limit → MakesAnew flows kept opts made → MakesAnew flows kept opts other → made ≡ other
 
-counted_by : OneCount → (flows : Result (List FlowModule) BuildFault) (kept : List (Option Object)) (colours made other : ℕ) → colours ≤ colour_limit → MakesBy flows kept colours made → MakesBy flows kept colours other → made ≡ other
-counted_by one (Err fault) kept colours made other few x y = x ∙ sym y
-counted_by one (Ok flows) kept colours made other few x y = one flows kept colours made other few x y
+counted_by : OneCount → (flows : Result (List FlowModule) BuildFault) (kept : List (Option Object)) (opts : Opts) (made other : ℕ) → opts.colours ≤ colour_limit → MakesBy flows kept opts made → MakesBy flows kept opts other → made ≡ other
+counted_by one (Err fault) kept opts made other few x y = x ∙ sym y
+counted_by one (Ok flows) kept opts made other few x y = one flows kept opts made other few x y
 
-pub one_count : OneCount → (sources : List Source) (kept : List (Option Object)) (colours made other : ℕ) → colours ≤ colour_limit → BuildsAnew sources kept colours made → BuildsAnew sources kept colours other → made ≡ other
-one_count one sources kept colours made other few x y = counted_by one (first_phases sources) kept colours made other few x y
+pub one_count : OneCount → (sources : List Source) (kept : List (Option Object)) (opts : Opts) (made other : ℕ) → opts.colours ≤ colour_limit → BuildsAnew sources kept opts made → BuildsAnew sources kept opts other → made ≡ other
+one_count one sources kept opts made other few x y = counted_by one (first_phases sources) kept opts made other few x y
 
 abbrev pub ChangeNothing : Type 0
 ChangeNothing = (flows : List FlowModule) (kept : List (Option Object)) (opts : Opts) (a : Result Parts LinkFault) → AllByRecursion IsGenuineIfKept kept → Completes flows kept opts a → Completes flows [] opts (anew a)

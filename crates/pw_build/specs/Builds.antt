@@ -60,19 +60,19 @@ abbrev pub BuildsBy : Result (List FlowModule) BuildFault → List (Option Objec
 BuildsBy (Err fault) kept opts answer = answer ≡ Err fault
 BuildsBy (Ok flows) kept opts answer = CompletesAs flows kept opts answer
 
--- Modules in the byte order of their names, and what was kept of each, at its place, come to this answer for so many
--- registers and such a stack: a limit that is passed; or the first module that is refused; or a rule of linking that is
+-- Modules in the byte order of their names, and what was kept of each, at its place, come to this answer under
+-- these options: a limit that is passed; or the first module that is refused; or a rule of linking that is
 -- broken; or the parts of the program.
 abbrev pub Builds : List Source → List (Option Object) → Opts → Result Parts BuildFault → Type 0
 Builds sources kept opts answer = BuildsBy (first_phases sources) kept opts answer
 
 -- how many objects the same build makes anew: none where a limit is passed or a module is refused
-abbrev pub MakesBy : Result (List FlowModule) BuildFault → List (Option Object) → ℕ → ℕ → Type 0
-MakesBy (Err fault) kept colours made = made ≡ 0
-MakesBy (Ok flows) kept colours made = MakesAnew flows kept colours made
+abbrev pub MakesBy : Result (List FlowModule) BuildFault → List (Option Object) → Opts → ℕ → Type 0
+MakesBy (Err fault) kept opts made = made ≡ 0
+MakesBy (Ok flows) kept opts made = MakesAnew flows kept opts made
 
-abbrev pub BuildsAnew : List Source → List (Option Object) → ℕ → ℕ → Type 0
-BuildsAnew sources kept colours made = MakesBy (first_phases sources) kept colours made
+abbrev pub BuildsAnew : List Source → List (Option Object) → Opts → ℕ → Type 0
+BuildsAnew sources kept opts made = MakesBy (first_phases sources) kept opts made
 
 -- the build of texts where nothing was kept
 abbrev pub FullBuild : Texts → Opts → Result Parts BuildFault → Type 0

@@ -17,7 +17,7 @@ use pw_build_objects::laws::{flow_graphs_have_one_answer, genuine_objects_change
 /// Modules and what was kept of them come to one answer, and so many objects of theirs are made anew.
 pub fn modules_have_one_build()
     ensures answer { (sources : List Source) (kept : List (Option Object)) (opts : Opts) (a b : Result Parts BuildFault) → opts.colours ≤ colour_limit → Builds sources kept opts a → Builds sources kept opts b → a ≡ b }
-    ensures count { (sources : List Source) (kept : List (Option Object)) (colours made other : ℕ) → colours ≤ colour_limit → BuildsAnew sources kept colours made → BuildsAnew sources kept colours other → made ≡ other }
+    ensures count { (sources : List Source) (kept : List (Option Object)) (opts : Opts) (made other : ℕ) → opts.colours ≤ colour_limit → BuildsAnew sources kept opts made → BuildsAnew sources kept opts other → made ≡ other }
 {
     flow_graphs_have_one_answer();
 }

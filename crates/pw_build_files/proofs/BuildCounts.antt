@@ -23,12 +23,12 @@ use Rattle.pw_build_files.specs.Outcomes.{CountsFound, IsOfStore}
 use Rattle.pw_build_files.proofs.FileLemmas.{kept_are}
 
 -- the modules are those of the store
-late_told : (files : Files) (opts : Opts) (ms : List Module) (fault : BuildFault) (before now : ℕ) → map source ms ≡ modules_of files → IsCounted (map source ms) (map (λ m. kept_object files m.name) ms) opts.colours fault before now → CountsFound files opts fault before now
+late_told : (files : Files) (opts : Opts) (ms : List Module) (fault : BuildFault) (before now : ℕ) → map source ms ≡ modules_of files → IsCounted (map source ms) (map (λ m. kept_object files m.name) ms) opts fault before now → CountsFound files opts fault before now
 late_told files opts ms fault before now sources h =
-    subst (λ (s : List Source). IsCounted s (kept_objects files) opts.colours fault before now) sources
-    (subst (λ (k : List (Option Object)). IsCounted (map source ms) k opts.colours fault before now) (kept_are ms files sources) h)
+    subst (λ (s : List Source). IsCounted s (kept_objects files) opts fault before now) sources
+    (subst (λ (k : List (Option Object)). IsCounted (map source ms) k opts fault before now) (kept_are ms files sources) h)
 
-pub counted_late : (opts : Opts) (first : Option Told) (ms : List Module) (fault : BuildFault) (before now : ℕ) → IfSome first (λ told. IsCounted (map source ms) (map (λ m. kept_object told.files m.name) ms) opts.colours fault before now)
+pub counted_late : (opts : Opts) (first : Option Told) (ms : List Module) (fault : BuildFault) (before now : ℕ) → IfSome first (λ told. IsCounted (map source ms) (map (λ m. kept_object told.files m.name) ms) opts fault before now)
     → IfSome first (λ told. map source ms ≡ modules_of told.files → CountsFound told.files opts fault before now)
 counted_late opts None ms fault before now h = tt
 counted_late opts (Some told) ms fault before now h = λ sources. late_told told.files opts ms fault before now sources h
@@ -37,8 +37,8 @@ counted_late opts (Some told) ms fault before now h = λ sources. late_told told
 early_told : (files : Files) (opts : Opts) (fault : BuildFault) (n : ℕ) → AnswersFault (first_phases (modules_of files)) fault → CountsFound files opts fault n n
 early_told files opts build.StoreFault n h = tt
 early_told files opts build.NoMemory n h = tt
-early_told files opts (build.Refused name refusal) n h = (0, subst (λ (r : Result (List FlowModule) BuildFault). MakesBy r (kept_objects files) opts.colours 0) (sym h) refl, omega arith)
-early_told files opts (build.LinkRefused fault) n h = (0, subst (λ (r : Result (List FlowModule) BuildFault). MakesBy r (kept_objects files) opts.colours 0) (sym h) refl, omega arith)
+early_told files opts (build.Refused name refusal) n h = (0, subst (λ (r : Result (List FlowModule) BuildFault). MakesBy r (kept_objects files) opts 0) (sym h) refl, omega arith)
+early_told files opts (build.LinkRefused fault) n h = (0, subst (λ (r : Result (List FlowModule) BuildFault). MakesBy r (kept_objects files) opts 0) (sym h) refl, omega arith)
 
 pub counted_early : (opts : Opts) (first : Option Told) (fault : BuildFault) (n : ℕ) → IfSome first (λ told. AnswersFault (first_phases (modules_of told.files)) fault) → IfSome first (λ told. CountsFound told.files opts fault n n)
 counted_early opts None fault n h = tt

@@ -6,7 +6,7 @@ use Rattle.std.specs.FinMap as finite
 use Rattle.pw_io.specs.Files.{Files, Told, Keeps}
 use Rattle.pw_io.specs.declared.StoreError.{StoreError}
 use Rattle.pw_io.specs.declared.StoreError.TheVariants as store
-use Rattle.pw_db.specs.Database.{IsDatabaseFile}
+use Rattle.pw_db_file.specs.Spelling.{IsNewFile}
 use Rattle.pw_object.specs.declared.object.Object.{Object}
 use Rattle.pw_image.specs.Image.{IsImageFile}
 use Rattle.pw_link.specs.Linking.{linked}
@@ -69,7 +69,7 @@ comes_told files opts ms made p objects count sources builds fits few cmp =
             (subst (λ fs. AreObjectFiles (anew (map (λ s. s.0) (map source ms))) (map file_view fs)) (sym cmp.objects) m.objects);
         object_bytes = subst (λ fs. HoldBytes (map file_view fs)) (sym cmp.objects) fits;
         database = p.database.items;
-        database_file = subst (λ (b : List ℕ). IsDatabaseFile b parts.database) (sym cmp.database) m.database;
+        database_file = subst (λ (b : List ℕ). IsNewFile b parts.database) (sym cmp.database) m.database;
         image_names = m.image_names;
         image_file = subst (λ (b : List ℕ). IsImageFile b (record { names = m.image_names; value = linked parts.objects opts.stack })) (sym cmp.image) m.image;
         linked_objects = builds.3;

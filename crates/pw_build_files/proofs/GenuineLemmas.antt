@@ -183,7 +183,7 @@ no_parts parts fault e = cc
 
 pub parts_genuine : (names : List (List ℕ)) (flows : Result (List FlowModule) BuildFault) (kept : List (Option Object)) (opts : Opts) (parts : Parts) → BuildsBy flows kept opts (Ok parts) → AllByRecursion (λ m. IsGenuine m.1) (made_anew names parts.objects parts.fresh)
 parts_genuine names (Err fault) kept opts parts h = absurd (no_parts parts fault h)
-parts_genuine names (Ok flows) kept opts parts h = made_genuine parts.database names flows kept parts.objects parts.fresh h.0.objects
+parts_genuine names (Ok flows) kept opts parts h = made_genuine parts.database names h.0.forms kept parts.objects parts.fresh h.0.objects
 
 good_told : (files : Files) (sources : List Source) (kept : List (Option Object)) (opts : Opts) (made : ProgramFiles) (p : Prepared) (objects : List Object) (count : ℕ) → BuildsFiles sources kept opts made objects → HoldBytes (map file_view made.fresh.files.items) → IsCompared files count made p → AllByRecursion IsOwnFile (changed_files p)
 good_told files sources kept opts made p objects count builds fits cmp =

@@ -11,7 +11,7 @@ use Rattle.pw_value.specs.Limits.{module_limit, texts_limit}
 use Rattle.pw_value.specs.declared.fault.LinkFault.{LinkFault}
 use Rattle.pw_value.specs.declared.fault.LinkFault.TheVariants.{TooMany}
 use Rattle.pw_value.specs.declared.fault.What.TheVariants.{Modules, TextBytes}
-use Rattle.pw_db.specs.Database.{IsDatabaseFile}
+use Rattle.pw_db_file.specs.Spelling.{IsNewFile}
 use Rattle.pw_object.specs.declared.object.Object.{Object}
 use Rattle.pw_image.specs.declared.image.Image.{Image}
 use Rattle.pw_image.specs.Image.{IsImageFile}
@@ -21,7 +21,7 @@ use Rattle.pw_store_modules.specs.Modules.{Source}
 use Rattle.pw_store_modules.specs.Views.{source}
 use Rattle.pw_flow.specs.declared.flow.FlowModule.{FlowModule}
 use Rattle.pw_build_objects.specs.declared.making.Built.{Built}
-use Rattle.pw_build_objects.specs.Programs.{AreObjectsFrom, Completes, DirectivesList, Parts, kept_behind}
+use Rattle.pw_build_objects.specs.Programs.{AreForms, AreObjectsFrom, Completes, DirectivesList, Parts, kept_behind}
 use Rattle.pw_build_objects.specs.declared.remade.Made.{Made}
 use Rattle.pw_build_objects.specs.Choosing.{marks_of, objects_of, parts_of}
 use Rattle.pw_build_objects.specs.Counting.{CountsUpTo}
@@ -69,6 +69,8 @@ few_modules ms flows e = subst (λ (n : ℕ). n ≤ module_limit) (length-map ms
 
 -- ---- as many objects as modules
 
+-- as many objects as modules
+
 ok_flows : (a b : List FlowModule) → ◌≡◌ {A = Result (List FlowModule) BuildFault} (Ok a) (Ok b) → a ≡ b
 ok_flows a b e = cc
 
@@ -93,12 +95,17 @@ objects_long db (f ∷ fs) kept [] bs h = absurd h
 objects_long db (f ∷ fs) kept (o ∷ os) [] h = absurd h
 objects_long db (f ∷ fs) kept (o ∷ os) (b ∷ bs) h = let l = objects_long db fs (kept_behind kept) os bs h.1 in (ap suc l.0, ap suc l.1)
 
+-- there are as many forms as modules
+abbrev pub FormsAreAsMany : Type 0
+FormsAreAsMany = (optimise : Bool) (flows forms : List FlowModule) → AreForms optimise flows forms → length forms ≡ length flows
+
 -- as many objects as modules
-pub as_many : (ms : List Module) (flows : List FlowModule) (kept : List (Option Object)) (opts : Opts) (built : Built) → first_phases (map source ms) ≡ Ok flows → Completes flows kept opts (Ok (parts_of built)) → AreAsMany ms built
-as_many ms flows kept opts built phases h =
-    let l = objects_long built.database.functions flows kept (objects_of built.made.items) (marks_of built.made.items) h.0.objects in
+pub as_many : FormsAreAsMany → (ms : List Module) (flows : List FlowModule) (kept : List (Option Object)) (opts : Opts) (built : Built) → first_phases (map source ms) ≡ Ok flows → Completes flows kept opts (Ok (parts_of built)) → AreAsMany ms built
+as_many count ms flows kept opts built phases h =
+    let l = objects_long built.database.functions h.0.forms kept (objects_of built.made.items) (marks_of built.made.items) h.0.objects in
+    let f = count opts.optimise flows h.0.forms h.0.of_flows in
     let k : length flows ≡ length ms = flows_long (map source ms) flows (within_flows (limit_passed (map source ms)) (flows_of (map source ms)) flows phases) ∙ length-map ms source in
-    sym (length-map built.made.items (λ (one : Made). one.object)) ∙ l.0 ∙ k
+    sym (length-map built.made.items (λ (one : Made). one.object)) ∙ l.0 ∙ f ∙ k
 
 one_more : (n : ℕ) → 1 + n ≡ suc n
 one_more n = omega arith
@@ -130,7 +137,7 @@ counted_names ms built names before now many e counted =
 -- ---- the files of a program
 
 made_files : (ms : List Module) (opts : Opts) (kept : List (Option Object)) (built : Built) (made : ProgramFiles) (linked_objects : List Object) → Builds (map source ms) kept opts (Ok (parts_of built)) → made.fresh.names.items ≡ map (λ m. m.0) (made_anew (map (λ m. m.name) ms) (objects_of built.made.items) (marks_of built.made.items))
-    → AreObjectFiles (made_anew (map (λ m. m.name) ms) (objects_of built.made.items) (marks_of built.made.items)) (map file_view made.fresh.files.items) → IsDatabaseFile made.database.items built.database.functions
+    → AreObjectFiles (made_anew (map (λ m. m.name) ms) (objects_of built.made.items) (marks_of built.made.items)) (map file_view made.fresh.files.items) → IsNewFile made.database.items built.database.functions
     → ((names : List (List ℕ)) × IsImageFile made.image.items (record { names = names; value = built.image })) → built.image ≡ linked (objects_of built.made.items) opts.stack → linked_objects ≡ objects_of built.made.items → BuildsFiles (map source ms) kept opts made linked_objects
 made_files ms opts kept built made linked_objects builds names objects database image is_linked are =
     let same : map (λ m. m.name) ms ≡ map (λ s. s.0) (map source ms) = sym (names_by ms) in
@@ -149,7 +156,7 @@ made_files ms opts kept built made linked_objects builds names objects database 
 
 pub made_of_program : (ms : List Module) (opts : Opts) (kept : Told → List (Option Object)) (first : Option Told) (built : Built) (made : ProgramFiles) (linked_objects : List Object) → IfSome first (λ told. Builds (map source ms) (kept told) opts (Ok (parts_of built)))
     → made.fresh.names.items ≡ map (λ m. m.0) (made_anew (map (λ m. m.name) ms) (objects_of built.made.items) (marks_of built.made.items))
-    → AreObjectFiles (made_anew (map (λ m. m.name) ms) (objects_of built.made.items) (marks_of built.made.items)) (map file_view made.fresh.files.items) → IsDatabaseFile made.database.items built.database.functions
+    → AreObjectFiles (made_anew (map (λ m. m.name) ms) (objects_of built.made.items) (marks_of built.made.items)) (map file_view made.fresh.files.items) → IsNewFile made.database.items built.database.functions
     → ((names : List (List ℕ)) × IsImageFile made.image.items (record { names = names; value = built.image })) → built.image ≡ linked (objects_of built.made.items) opts.stack → linked_objects ≡ objects_of built.made.items → IfSome first (λ told. BuildsFiles (map source ms) (kept told) opts made linked_objects)
 made_of_program ms opts kept None built made linked_objects builds names objects database image is_linked are = tt
 made_of_program ms opts kept (Some told) built made linked_objects builds names objects database image is_linked are = made_files ms opts (kept told) built made linked_objects builds names objects database image is_linked are

@@ -2,7 +2,7 @@
 use Rattle.std.specs.Prelude.{◌≡◌, ℕ, if◌then◌else◌, List, [], ◌∷◌, ◌++◌, length, map, Option, Result, Ok, Err}
 use Rattle.std.specs.FinMap as finite
 use Rattle.pw_io.specs.Files.{Files}
-use Rattle.pw_db.specs.Database.{IsDatabaseFile}
+use Rattle.pw_db_file.specs.Spelling.{IsNewFile}
 use Rattle.pw_object.specs.declared.object.Object.{Object}
 use Rattle.pw_image.specs.Image.{IsImageFile}
 use Rattle.pw_link.specs.Linking.{linked}
@@ -45,7 +45,7 @@ pub record IsOutcome (files : Files) (stack : ℕ) (parts : Parts) (outcome : Ou
   pub object_files : AreObjectFiles (made_anew (names_of_modules files) parts.objects parts.fresh) objects
   pub object_bytes : HoldBytes objects
   pub database : List ℕ
-  pub database_file : IsDatabaseFile database parts.database
+  pub database_file : IsNewFile database parts.database
   pub image_names : List (List ℕ)
   pub image_file : IsImageFile outcome.image (record { names = image_names; value = linked parts.objects stack })
   pub linked_objects : outcome.linked_objects ≡ parts.objects

@@ -61,7 +61,7 @@ FaultFound files opts fault = BuildOutcome files opts (Err fault)
 
 -- what is counted where this fault is answered
 abbrev pub CountsFound : Files → Opts → BuildFault → ℕ → ℕ → Type 0
-CountsFound files opts fault before now = IsCounted (modules_of files) (kept_objects files) opts.colours fault before now
+CountsFound files opts fault before now = IsCounted (modules_of files) (kept_objects files) opts fault before now
 
 abbrev pub IsBuildFound : Files → Opts → Result Report Unbuilt → Type 0
 IsBuildFound files opts (Ok report) = (outcome : Outcome) × BuildOutcome files opts (Ok outcome) × Reports outcome report

@@ -5,7 +5,7 @@ use Rattle.pw_top_answer.specs.declared.answer.Answer.TheVariants as answer
 use Rattle.pw_top_answer.specs.Outcomes.{StoreCount}
 use Rattle.pw_value.specs.declared.fault.LinkFault.TheVariants as link
 use Rattle.pw_front_end.specs.Fronts.{HoldsNoWant}
-use Rattle.pw_db.specs.Database.{IsDatabaseFile}
+use Rattle.pw_db_file.specs.Spelling.{IsNewFile}
 use Rattle.pw_image.specs.declared.image.Image.{Image}
 use Rattle.pw_image.specs.Image.{Contents, IsImageFile}
 use Rattle.pw_link.specs.Linking.{linked}
@@ -67,10 +67,10 @@ CountsAtMost (Ok flows) before now = CountsUpTo (length flows) before now
 
 -- Where a fault is answered: as many objects as the build makes anew of these modules and these kept objects. A fault of
 -- the store and want of memory may come before all of them are made.
-abbrev pub IsCounted : List Source → List (Option Object) → ℕ → BuildFault → ℕ → ℕ → Type 0
-IsCounted sources kept colours build.StoreFault before now = Unit {0}
-IsCounted sources kept colours build.NoMemory before now = Unit {0}
-IsCounted sources kept colours fault before now = (made : ℕ) × BuildsAnew sources kept colours made × (now ≡ before + made)
+abbrev pub IsCounted : List Source → List (Option Object) → Opts → BuildFault → ℕ → ℕ → Type 0
+IsCounted sources kept opts build.StoreFault before now = Unit {0}
+IsCounted sources kept opts build.NoMemory before now = Unit {0}
+IsCounted sources kept opts fault before now = (made : ℕ) × BuildsAnew sources kept opts made × (now ≡ before + made)
 
 -- ---- files
 
@@ -86,7 +86,7 @@ AreAsMany modules built = length built.made.items ≡ length modules
 pub record AreFilesOf (names : List (List ℕ)) (stack : ℕ) (parts : Parts) (made : ProgramFiles) : Type 0 where
   pub rebuilt : made.fresh.names.items ≡ map (λ m. m.0) (made_anew names parts.objects parts.fresh)
   pub objects : AreObjectFiles (made_anew names parts.objects parts.fresh) (map file_view made.fresh.files.items)
-  pub database : IsDatabaseFile made.database.items parts.database
+  pub database : IsNewFile made.database.items parts.database
   pub image_names : List (List ℕ)
   pub image : IsImageFile made.image.items (record { names = image_names; value = linked parts.objects stack })
 

@@ -18,7 +18,7 @@ ghost use Rattle.pw_build_opts.specs.declared.opts.Opts.{Opts};
 
 use pw_build::laws as build_laws;
 use pw_build::laws::modules_have_one_build;
-use pw_db::laws::databases_and_files_are_one_to_one;
+use pw_db_file::laws::databases_and_files_are_one_to_one;
 use pw_image::laws::images_and_files_are_one_to_one;
 use pw_io::laws::{names, other_files};
 use pw_object::laws::objects_and_files_are_one_to_one;

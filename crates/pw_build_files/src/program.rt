@@ -21,6 +21,7 @@ ghost use Rattle.pw_build_files.specs.Programs.{AreAsMany, BuildsFiles, CountsAt
 ghost use Rattle.pw_db.specs.Limits.{colour_limit};
 
 use pw_build::{BuildFault, Unbuilt, first_phases, no_refusal_is_want_of_memory};
+use pw_build_objects::laws::forms_keep_what_modules_have;
 use pw_build_objects::{Built, Made, Steps, complete};
 use pw_build_opts::Opts;
 use pw_io::Store;
@@ -66,13 +67,14 @@ fn built_of<S: Store, L: Ledger>(
     ensures were_made { IfOk result (λ built. AllByRecursion WasMade (objects_of built.made.items)) }
     ensures lawful_image { IfOk result (λ built. IsImage built.image) }
     ensures counted { IfOk result (λ built. steps.new ≡ steps.old + count_by (λ fresh. fresh) (marks_of built.made.items)) }
-    ensures counted_fault { IfSome (S.told store.old) (λ told. IfErr result (λ unbuilt. IsCounted (map source modules.now) (map (λ m. kept_object told.files m.name) modules.now) opts.now.colours unbuilt.fault steps.old steps.new)) }
+    ensures counted_fault { IfSome (S.told store.old) (λ told. IfErr result (λ unbuilt. IsCounted (map source modules.now) (map (λ m. kept_object told.files m.name) modules.now) opts.now unbuilt.fault steps.old steps.new)) }
     ensures bound { CountsAtMost (first_phases (map source modules.now)) steps.old steps.new }
     ensures proper { IfErr result (λ unbuilt. IsNoWant unbuilt.fault) }
     ensures same { Keeps (S.told store.old) (S.told store.new) }
     ensures count { FaultCount (S.faults store.old) (S.faults store.new) result }
 {
     no_refusal_is_want_of_memory();
+    forms_keep_what_modules_have();
     let flows = first_phases(alloc, modules)?;
     let kept = read_kept(alloc, store, modules)?;
     match complete(alloc, flows, kept, opts, steps) {
@@ -120,7 +122,7 @@ pub fn program_of<S: Store, L: Ledger>(
     ensures line { IfErr result (λ unbuilt. IsLine (refused_line (map source modules.now)) unbuilt.fault unbuilt.line) }
     ensures few { OnOk result (length modules.now ≤ module_limit) }
     ensures counted { IfOk result (λ linked. steps.new ≡ steps.old + length linked.files.fresh.names.items) }
-    ensures counted_fault { IfSome (S.told store.old) (λ told. IfErr result (λ unbuilt. IsCounted (map source modules.now) (map (λ m. kept_object told.files m.name) modules.now) opts.now.colours unbuilt.fault steps.old steps.new)) }
+    ensures counted_fault { IfSome (S.told store.old) (λ told. IfErr result (λ unbuilt. IsCounted (map source modules.now) (map (λ m. kept_object told.files m.name) modules.now) opts.now unbuilt.fault steps.old steps.new)) }
     ensures bound { CountsAtMost (first_phases (map source modules.now)) steps.old steps.new }
     ensures most { CountsUpTo module_limit steps.old steps.new }
     ensures proper { IfErr result (λ unbuilt. IsNoWant unbuilt.fault) }

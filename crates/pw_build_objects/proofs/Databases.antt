@@ -24,7 +24,7 @@ use Rattle.pw_webs.specs.declared.web.RawWeb.{RawWeb}
 use Rattle.pw_colour.specs.Colours.{numbered, global_of, web_of, has_number, webs_of, IsDatabaseOf}
 use Rattle.pw_object.specs.declared.object.Object.{Object}
 use Rattle.pw_phase_two.specs.Phases.{IsObjectOf}
-use Rattle.pw_build_objects.specs.Programs.{DirectivesList, AreSummariesOf, HasDatabase, IsObjectFrom, IsModuleFrom, AreObjectsFrom, AreParts, Parts}
+use Rattle.pw_build_objects.specs.Programs.{DirectivesList, AreSummariesOf, HasDatabase, IsObjectFrom, IsModuleFrom, AreObjectsFrom, Parts}
 use Rattle.pw_law_shown.specs.Alike.{globals_of, IsObjectIn, AreObjectsIn}
 use Rattle.pw_law_shown.proofs.Twice.{at_has}
 use Rattle.pw_law_shown.proofs.Modules.{globals_forth}
@@ -122,5 +122,6 @@ module _ (flows : List FlowModule) (colours : ℕ) (database : DirectivesList) (
   objects_in (m ∷ ms) (o ∷ os) [] h = absurd h
   objects_in (m ∷ ms) (o ∷ os) (b ∷ bs) h = (object_in m o b h.0, objects_in ms os bs h.1)
 
-pub parts_in : (flows : List FlowModule) (colours : ℕ) (parts : Parts) → AreParts flows [] colours parts → AreObjectsIn flows flows parts.objects
-parts_in flows colours parts are = objects_in flows colours parts.database are.lawful are.database flows parts.objects parts.fresh are.objects
+pub parts_in : (forms : List FlowModule) (colours : ℕ) (parts : Parts) → AllByRecursion IsValid forms → HasDatabase forms colours parts.database → AreObjectsFrom parts.database forms [] parts.objects parts.fresh
+    → AreObjectsIn forms forms parts.objects
+parts_in forms colours parts valid has are = objects_in forms colours parts.database valid has forms parts.objects parts.fresh are

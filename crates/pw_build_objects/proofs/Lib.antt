@@ -4,5 +4,7 @@ pub mod GenuineLaws
 pub mod MadeLemmas
 pub mod CountLemmas
 pub mod Databases
+pub mod FormLaws
+pub mod PreparedParts
 pub mod RoomLaws
 pub mod WereMade

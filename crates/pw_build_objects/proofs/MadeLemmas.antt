@@ -2,7 +2,8 @@
 use Rattle.std.proofs.Common.{◌≡◌, ℕ, true, false, List, Option, Some, None, sym, ◌∙◌, subst, ap}
 use Rattle.pw_flow.specs.declared.flow.FlowModule.{FlowModule}
 use Rattle.pw_flowfile.specs.FlowFile.{IsFlowFile}
-use Rattle.pw_db.specs.Database.{IsPayload, IsStored}
+use Rattle.pw_db.specs.Database.{IsStored}
+use Rattle.pw_db_file.specs.Spelling.{IsPayload}
 use Rattle.pw_object.specs.declared.object.Object.{Object}
 use Rattle.pw_phase_two.specs.declared.origin.Origin.{Origin}
 use Rattle.pw_phase_two.specs.Origins.{IsOriginOf}

@@ -1,4 +1,5 @@
 pub mod Programs
 pub mod Kept
 pub mod Choosing
+pub mod Preparing
 pub mod Counting

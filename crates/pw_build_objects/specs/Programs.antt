@@ -1,4 +1,4 @@
--- From the flow graphs of modules to their program. What was kept of a module stands at its place in a list, which may
+-- From the flow graphs of modules to their program, which is made of them or of their optimised forms. What was kept of a module stands at its place in a list, which may
 -- end early: a kept object stays where it was made of the same flow graph under the same directives.
 use Rattle.std.specs.Prelude.{◌≡◌, ℕ, ◌⊎◌, Bool, true, false, List, [], ◌∷◌, Option, Some, None, Result, Ok, Err}
 use Rattle.std.specs.List.{AllByRecursion}
@@ -6,6 +6,7 @@ use Rattle.pw_value.specs.declared.fault.LinkFault.{LinkFault}
 use Rattle.pw_flow.specs.declared.flow.FlowModule.{FlowModule}
 use Rattle.pw_flow.specs.ValidFlow.{IsValid}
 use Rattle.pw_flowfile.specs.FlowFile.{IsFlowFile}
+use Rattle.pw_law_opt.specs.Laws.{AreOptimisedModules}
 use Rattle.pw_summary.specs.declared.summary.Summary.{Summary}
 pub use Rattle.pw_law_shown.specs.Alike.{AreSummariesOf, DeclaresMain}
 use Rattle.pw_graph.specs.Program as graph
@@ -20,7 +21,20 @@ use Rattle.pw_build_opts.specs.declared.opts.Opts.{Opts}
 abbrev pub DirectivesList : Type 0
 DirectivesList = List (List ℕ × Directives)
 
--- ---- the database
+-- ---- the flow graphs of which a program is made
+
+-- The forms of modules: their optimised flow graphs, if they are to be optimised, else their own.
+abbrev pub AreForms : Bool → List FlowModule → List FlowModule → Type 0
+AreForms false flows forms = forms ≡ flows
+AreForms true flows forms = AreOptimisedModules flows forms
+
+-- ---- rules of linking, and the database
+
+-- the modules keep the rules of linking
+pub record KeepRules (flows : List FlowModule) : Type 0 where
+  pub summaries : List Summary
+  pub of_flows : AreSummariesOf flows summaries
+  pub linked : graph.AreLinked summaries
 
 -- the modules keep the rules of linking, and this is their database for so many registers
 pub record HasDatabase (flows : List FlowModule) (colours : ℕ) (db : DirectivesList) : Type 0 where
@@ -90,15 +104,20 @@ pub record Parts : Type 0 where
   pub objects : List Object
   pub fresh : List Bool
 
-pub record AreParts (flows : List FlowModule) (kept : List (Option Object)) (colours : ℕ) (parts : Parts) : Type 0 where
+-- The parts of lawful modules that keep the rules of linking, by their own flow graphs: the database of their forms, and the
+-- objects of these.
+pub record AreParts (flows : List FlowModule) (kept : List (Option Object)) (opts : Opts) (parts : Parts) : Type 0 where
   pub lawful : AllByRecursion IsValid flows
-  pub database : HasDatabase flows colours parts.database
-  pub objects : AreObjectsFrom parts.database flows kept parts.objects parts.fresh
+  pub rules : KeepRules flows
+  pub forms : List FlowModule
+  pub of_flows : AreForms opts.optimise flows forms
+  pub database : HasDatabase forms opts.colours parts.database
+  pub objects : AreObjectsFrom parts.database forms kept parts.objects parts.fresh
 
--- The one answer to flow graphs and kept objects, for so many registers and such a stack: the parts of a program that can
--- be linked; or why there is none, by the modules' summaries or else by their objects.
+-- The one answer to flow graphs and kept objects, for so many registers and such a stack, with optimisation or without: the
+-- parts of a program that can be linked; or why there is none, by the modules' summaries or else by their objects.
 abbrev pub Completes : List FlowModule → List (Option Object) → Opts → Result Parts LinkFault → Type 0
-Completes flows kept opts (Ok parts) = AreParts flows kept opts.colours parts × AreLinked parts.objects opts.stack
+Completes flows kept opts (Ok parts) = AreParts flows kept opts parts × AreLinked parts.objects opts.stack
 Completes flows kept opts (Err fault) =
     (AllByRecursion IsValid flows × BreakRule flows fault)
-    ⊎ ((parts : Parts) × AreParts flows kept opts.colours parts × IsRefusal parts.objects opts.stack fault)
+    ⊎ ((parts : Parts) × AreParts flows kept opts parts × IsRefusal parts.objects opts.stack fault)

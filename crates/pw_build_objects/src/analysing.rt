@@ -7,13 +7,14 @@ ghost use Rattle.pw_summary.specs.Summary.{IsSummary};
 ghost use Rattle.pw_db.specs.Database.{IsDatabase};
 ghost use Rattle.pw_colour.specs.Colours.{IsDatabaseOf};
 ghost use Rattle.pw_graph.specs.Program.{AreLinked, AreRefused};
-ghost use Rattle.pw_build_objects.specs.Programs.{AreSummariesOf, BreakRule, HasDatabase};
+ghost use Rattle.pw_build_objects.specs.Programs.{AreSummariesOf, BreakRule, HasDatabase, KeepRules};
 ghost use Rattle.pw_db.specs.Limits.{colour_limit};
 
 use pw_colour::analyse;
 use pw_colour::laws::databases_are_lawful;
 use pw_db::Database;
 use pw_flow::FlowModule;
+use pw_graph::build_graph;
 use pw_summarise::summarise;
 use pw_summary::Summary;
 use pw_value::LinkFault;
@@ -45,6 +46,18 @@ fn database_of(alloc: Global, summaries: &[Summary], colours: u8) -> Result<Data
 {
     databases_are_lawful();
     analyse(alloc, summaries, colours)
+}
+
+/// Looks whether modules keep the rules of linking, or which of them they break.
+#[tactic(auto, using(crate::proofs::LoopLemmas::breaks_rule))]
+pub fn look_at_rules(alloc: Global, flows: &[FlowModule]) -> Result<(), LinkFault>
+    requires { AllByRecursion IsValid flows.now }
+    ensures keep { OnOk result (KeepRules flows.now) }
+    ensures refused { IfErr result (λ fault. (fault ≡ LinkFault.NoMemory) ⊎ BreakRule flows.now fault) }
+{
+    let summaries = summaries_of(alloc, flows)?;
+    build_graph(alloc, &summaries)?;
+    Ok(())
 }
 
 /// What the analyser made of modules, and the summaries by which it did.

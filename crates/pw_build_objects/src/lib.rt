@@ -3,6 +3,7 @@
 #![tactic(auto)]
 
 mod analysing;
+mod forms;
 pub mod laws;
 mod making;
 mod objects;

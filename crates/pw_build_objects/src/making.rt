@@ -15,8 +15,8 @@ ghost use Rattle.pw_build_objects.specs.Choosing.{marks_of, objects_of, parts_of
 ghost use Rattle.pw_build_objects.specs.Counting.{CountsAnew, CountsUpTo};
 ghost use Rattle.pw_db.specs.Limits.{colour_limit};
 
-use crate::analysing::analyse_flows;
-use crate::laws::objects_are_refused_for_room_alone;
+use crate::forms::prepare;
+use crate::laws::{forms_keep_what_modules_have, objects_are_refused_for_room_alone};
 use crate::objects::all_objects;
 use crate::remade::Made;
 use crate::steps::Steps;
@@ -104,8 +104,8 @@ fn linked(
     })
 }
 
-/// The program of modules with these flow graphs, each of which declares the `main` that it defines, for so many registers and
-/// such a stack; or which rule of linking they break. What was kept of a module stands at its place in `kept`, which may end
+/// The program of modules with these flow graphs, each of which declares the `main` that it defines, under these options: for so
+/// many registers and such a stack, of the flow graphs or of their optimised forms; or which rule of linking they break. What was kept of a module stands at its place in `kept`, which may end
 /// early: a kept object stays where it was made of the same flow graph under the same directives. `steps` counts the objects
 /// that are made anew, also where they are refused then.
 pub fn complete<L: Ledger>(
@@ -127,14 +127,16 @@ pub fn complete<L: Ledger>(
     ensures were_made { IfOk result (λ built. AllByRecursion WasMade (objects_of built.made.items)) }
     ensures lawful_image { IfOk result (λ built. IsImage built.image) }
     ensures counted { IfOk result (λ built. steps.new ≡ steps.old + count_by (λ fresh. fresh) (marks_of built.made.items)) }
-    ensures counted_fault { IfErr result (λ fault. (fault ≡ LinkFault.NoMemory) ⊎ CountsAnew flows.items kept.items opts.now.colours steps.old steps.new) }
+    ensures counted_fault { IfErr result (λ fault. (fault ≡ LinkFault.NoMemory) ⊎ CountsAnew flows.items kept.items opts.now steps.old steps.new) }
     ensures bound { CountsUpTo (length flows.items) steps.old steps.new }
 {
+    forms_keep_what_modules_have();
     objects_are_refused_for_room_alone();
-    let analysed = analyse_flows(alloc, &flows, opts.colours)?;
+    let prepared = prepare(alloc, flows, opts)?;
+    let analysed = prepared.analysed;
     let made = all_objects(
         alloc,
-        flows,
+        prepared.forms,
         analysed.summaries,
         kept,
         &analysed.database,

@@ -12,7 +12,7 @@ ghost use Rattle.pw_build_objects.specs.Choosing.{HasOrigin, IsKept};
 
 use crate::steps::Steps;
 use pw_db::Directives;
-use pw_db::laws::one_list_is_stored;
+use pw_db_file::laws::one_list_is_stored;
 use pw_flow::FlowModule;
 use pw_flowfile::laws::flow_graphs_and_files_are_one_to_one;
 use pw_object::Object;

@@ -1,19 +1,11 @@
 -- The last registers.
 use Rattle.std.proofs.Common.{◌≡◌, ◌⊎◌, ℕ, zero, suc, ◌+◌, ◌-◌, ◌≤◌, ◌<◌, ◌==◌, Bool, true, false, if◌then◌else◌, List, [], refl, arith, inl, inr}
-use Rattle.std.specs.Prelude.{Contains, min}
+use Rattle.std.specs.Prelude.{Contains}
 use Rattle.std.specs.List.{range_with_len}
 use Rattle.pw_files.proofs.Standing.{Has, has_by}
 use Rattle.pw_db.specs.Limits.{first_register, last_register, colour_limit}
-use Rattle.pw_flow.specs.Outline.{Outline}
-use Rattle.pw_live.specs.Points.{points}
-use Rattle.pw_clusters.specs.Needs.{need, need_limit, most_short, changed_count}
+use Rattle.pw_summary.specs.Summary.{need_limit}
 use Rattle.pw_clusters.specs.Saving.{last_registers, saves_by, free_by}
-
-pub few : (f : Outline) → need f ≤ need_limit
-few f = least need_limit (most_short f (points f) - changed_count)
-  where
-    least : (a b : ℕ) → min a b ≤ a
-    least a b = omega arith
 
 within : (a n r : ℕ) → Has r (range_with_len a n) → (a ≤ r) × (r < a + n)
 within a zero r h = absurd h

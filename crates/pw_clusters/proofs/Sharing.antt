@@ -9,7 +9,7 @@ use Rattle.pw_summary.specs.declared.summary.Summary.{Summary}
 use Rattle.pw_graph.specs.declared.graph.CallGraph.{CallGraph}
 use Rattle.pw_graph.specs.Program.{IsGraphOf}
 use Rattle.pw_clusters.specs.Clusters.{AreRoots}
-use Rattle.pw_clusters.specs.Needs.{need_limit}
+use Rattle.pw_summary.specs.Summary.{need_limit}
 use Rattle.pw_clusters.specs.Saving.{greatest_need, last_registers, saves_by, free_by, need_in, saves_at, free_at}
 use Rattle.pw_clusters.specs.Sharing.{Shares, IsSavedAbove}
 use Rattle.pw_clusters.proofs.Registers.{above_webs, kept}
@@ -65,7 +65,7 @@ most : (b : Bool) (n k m : ℕ) → n ≤ m → k ≤ m → max (if b then n els
 most true n k m one other = omega (arith, one, other)
 most false n k m one other = omega (arith, other)
 
-bounded : (m r f : ℕ) (roots needs : List ℕ) → AllByRecursion (λ n. n ≤ m) needs → greatest_need r f roots needs ≤ m
+pub bounded : (m r f : ℕ) (roots needs : List ℕ) → AllByRecursion (λ n. n ≤ m) needs → greatest_need r f roots needs ≤ m
 bounded m r f [] needs all = omega arith
 bounded m r f (root ∷ roots) [] all = bounded m r (suc f) roots [] tt
 bounded m r f (root ∷ roots) (n ∷ needs) all = most ((root == r) && not (f == r)) n (greatest_need r (suc f) roots needs) m all.0 (bounded m r (suc f) roots needs all.1)

@@ -1,5 +1,5 @@
-pub mod Needs
 pub mod Clusters
 pub mod Saving
 pub mod Sharing
 pub mod Naming
+pub mod ByName

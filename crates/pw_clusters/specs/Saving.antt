@@ -1,10 +1,8 @@
 -- The registers that a root saves for its cluster: the last of those that a callee keeps, as many as the member needs that
 -- needs most. The members are free to use them; every other function neither saves nor has free any.
-use Rattle.std.specs.Prelude.{ℕ, suc, ◌≡◌, Some, slice_get, ◌+◌, ◌-◌, ◌==◌, ◌&&◌, ◌||◌, not, if◌then◌else◌, max, nat_lt, Bool, List, [], ◌∷◌, length, slice_index}
+use Rattle.std.specs.Prelude.{ℕ, suc, ◌≡◌, Some, slice_get, ◌+◌, ◌-◌, ◌==◌, ◌&&◌, not, if◌then◌else◌, max, List, [], ◌∷◌, slice_index}
 use Rattle.std.specs.List.{range_with_len}
 use Rattle.pw_db.specs.Limits.{last_register}
-use Rattle.pw_db.specs.Database.{has_web}
-use Rattle.pw_db.specs.declared.database.Directives.{Directives}
 use Rattle.pw_clusters.specs.Clusters.{IsMember}
 
 -- the greatest need among the members of the cluster of a root, where functions stand from a place on, each with its root and
@@ -41,7 +39,3 @@ saves_at roots needs f = saves_by f (slice_index roots f) (need_in roots needs (
 
 abbrev pub free_at : List ℕ → List ℕ → ℕ → List ℕ
 free_at roots needs f = free_by f (slice_index roots f) (need_in roots needs (slice_index roots f))
-
--- whether a database lists the function: its directives hold a web or a free register, or it saves registers for others
-abbrev pub says_something : List ℕ × Directives → List ℕ → Bool
-says_something f saves = has_web f || (nat_lt 0 (length f.1.free) || nat_lt 0 (length saves))

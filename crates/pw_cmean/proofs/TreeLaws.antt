@@ -13,7 +13,7 @@ use Rattle.pw_cmean.proofs.ActLaws.{Laws, bind-r, branch-r, wrong-r, undefined-r
 
 module _ (R : (A : Type 0) → Act A → Act A → Type 0) (laws : Laws R) where
   -- the result of an operand, which must be there
-  operand-r : (a : Site) {m m' : Act (Option Value)} → R (Option Value) m m' → R Value (m >>= used a) (m' >>= used a)
+  pub operand-r : (a : Site) {m m' : Act (Option Value)} → R (Option Value) m m' → R Value (m >>= used a) (m' >>= used a)
   operand-r a p = bind-r R laws p λ o. used-r R laws a o
 
   mutual
@@ -86,25 +86,25 @@ module _ (R : (A : Type 0) → Act A → Act A → Type 0) (laws : Laws R) where
   unfolding value_of
   value-r a cs cs' e h = operand-r _ (answer-r a cs cs' e h)
 
-  condition-r : (a : Expression) (cs cs' : Calls) (e : Env) → AreRelated R laws cs cs' → R Bool (condition a cs e) (condition a cs' e)
+  pub condition-r : (a : Expression) (cs cs' : Calls) (e : Env) → AreRelated R laws cs cs' → R Bool (condition a cs e) (condition a cs' e)
   unfolding condition
   condition-r a cs cs' e h = bind-r R laws (value-r a cs cs' e h) λ v. truth-r R laws _ v
 
-  for_condition-r : (o : Option Expression) (cs cs' : Calls) (e : Env) → AreRelated R laws cs cs' → R Bool (for_condition o cs e) (for_condition o cs' e)
+  pub for_condition-r : (o : Option Expression) (cs cs' : Calls) (e : Env) → AreRelated R laws cs cs' → R Bool (for_condition o cs e) (for_condition o cs' e)
   unfolding for_condition
   for_condition-r None cs cs' e h = laws.gives Bool true
   for_condition-r (Some a) cs cs' e h = condition-r a cs cs' e h
 
-  drop_value-r : (o : Option Expression) (cs cs' : Calls) (e : Env) → AreRelated R laws cs cs' → R (Unit {0}) (drop_value o cs e) (drop_value o cs' e)
+  pub drop_value-r : (o : Option Expression) (cs cs' : Calls) (e : Env) → AreRelated R laws cs cs' → R (Unit {0}) (drop_value o cs e) (drop_value o cs' e)
   unfolding drop_value
   drop_value-r None cs cs' e h = laws.gives (Unit {0}) tt
   drop_value-r (Some a) cs cs' e h = bind-r R laws (answer-r a cs cs' e h) λ o. laws.gives (Unit {0}) tt
 
-  always-r : (cs cs' : Calls) → R Bool (always cs) (always cs')
+  pub always-r : (cs cs' : Calls) → R Bool (always cs) (always cs')
   unfolding always
   always-r cs cs' = laws.gives Bool true
 
-  go_forward-r : (labels : List ℕ) {later later' : Entry → Act Flow} {next next' : Act Flow} (flow : Flow)
+  pub go_forward-r : (labels : List ℕ) {later later' : Entry → Act Flow} {next next' : Act Flow} (flow : Flow)
       → ((at : Entry) → R Flow (later at) (later' at)) → R Flow next next'
       → R Flow (go_forward labels later next flow) (go_forward labels later' next' flow)
   unfolding go_forward
@@ -114,7 +114,7 @@ module _ (R : (A : Type 0) → Act A → Act A → Type 0) (laws : Laws R) where
   go_forward-r labels (Returns v) p q = laws.gives Flow _
   go_forward-r labels (Goes l) p q = branch-r R laws _ (p _) (laws.gives Flow _)
 
-  caught-r : (labels : List ℕ) {again again' : ℕ → Act Flow} (flow : Flow) → ((l : ℕ) → R Flow (again l) (again' l))
+  pub caught-r : (labels : List ℕ) {again again' : ℕ → Act Flow} (flow : Flow) → ((l : ℕ) → R Flow (again l) (again' l))
       → R Flow (caught labels again flow) (caught labels again' flow)
   unfolding caught
   caught-r labels Normal p = laws.gives Flow _
@@ -123,7 +123,7 @@ module _ (R : (A : Type 0) → Act A → Act A → Type 0) (laws : Laws R) where
   caught-r labels (Returns v) p = laws.gives Flow _
   caught-r labels (Goes l) p = branch-r R laws _ (p l) (laws.gives Flow _)
 
-  taking_up-r : (labels : List ℕ) (run : Entry → Calls → Act Flow) (at : Entry) (cs cs' : Calls) → AreRelated R laws cs cs'
+  pub taking_up-r : (labels : List ℕ) (run : Entry → Calls → Act Flow) (at : Entry) (cs cs' : Calls) → AreRelated R laws cs cs'
       → ((at : Entry) (cs cs' : Calls) → AreRelated R laws cs cs' → R Flow (run at cs) (run at cs'))
       → R Flow (taking_up labels run at cs) (taking_up labels run at cs')
   unfolding taking_up
@@ -134,7 +134,7 @@ module _ (R : (A : Type 0) → Act A → Act A → Type 0) (laws : Laws R) where
   taking_up-r labels run at (c ∷ cs) (c' ∷ cs') h p =
       bind-r R laws (p at (c ∷ cs) (c' ∷ cs') h) λ f. caught-r labels f λ l. taking_up-r labels run (At_label l) cs cs' h.1 p
 
-  after_body-r : {again again' : Act Flow} (flow : Flow) → R Flow again again' → R Flow (after_body again flow) (after_body again' flow)
+  pub after_body-r : {again again' : Act Flow} (flow : Flow) → R Flow again again' → R Flow (after_body again flow) (after_body again' flow)
   unfolding after_body
   after_body-r Normal p = p
   after_body-r Continues p = p
@@ -143,19 +143,19 @@ module _ (R : (A : Type 0) → Act A → Act A → Type 0) (laws : Laws R) where
   after_body-r (Goes l) p = laws.gives Flow _
 
   -- the parts of a loop, in related lists of calls
-  record Parts (ahead : Calls → Act Bool) (body : Entry → Calls → Act Flow) (behind : Calls → Act Bool) : Type 0 where
-    test : (cs cs' : Calls) → AreRelated R laws cs cs' → R Bool (ahead cs) (ahead cs')
-    middle : (at : Entry) (cs cs' : Calls) → AreRelated R laws cs cs' → R Flow (body at cs) (body at cs')
-    last : (cs cs' : Calls) → AreRelated R laws cs cs' → R Bool (behind cs) (behind cs')
+  pub record Parts (ahead : Calls → Act Bool) (body : Entry → Calls → Act Flow) (behind : Calls → Act Bool) : Type 0 where
+    pub test : (cs cs' : Calls) → AreRelated R laws cs cs' → R Bool (ahead cs) (ahead cs')
+    pub middle : (at : Entry) (cs cs' : Calls) → AreRelated R laws cs cs' → R Flow (body at cs) (body at cs')
+    pub last : (cs cs' : Calls) → AreRelated R laws cs cs' → R Bool (behind cs) (behind cs')
 
-  turn-r : (ahead : Calls → Act Bool) (body : Entry → Calls → Act Flow) (behind : Calls → Act Bool) → Parts ahead body behind
+  pub turn-r : (ahead : Calls → Act Bool) (body : Entry → Calls → Act Flow) (behind : Calls → Act Bool) → Parts ahead body behind
       → (at : Entry) (cs cs' : Calls) → AreRelated R laws cs cs' → {top top' : Act Flow} → R Flow top top'
       → R Flow (turn body behind at cs top) (turn body behind at cs' top')
   unfolding turn
   turn-r ahead body behind p at cs cs' h q =
       bind-r R laws (p.middle at cs cs' h) λ f. after_body-r f (bind-r R laws (p.last cs cs' h) λ more. branch-r R laws more q (laws.gives Flow Normal))
 
-  loop-r : (ahead : Calls → Act Bool) (body : Entry → Calls → Act Flow) (behind : Calls → Act Bool) → Parts ahead body behind
+  pub loop-r : (ahead : Calls → Act Bool) (body : Entry → Calls → Act Flow) (behind : Calls → Act Bool) → Parts ahead body behind
       → (cs cs' : Calls) → AreRelated R laws cs cs' → R Flow (loop ahead body behind cs) (loop ahead body behind cs')
   unfolding loop
   loop-r ahead body behind p [] [] h =
@@ -168,7 +168,7 @@ module _ (R : (A : Type 0) → Act A → Act A → Type 0) (laws : Laws R) where
       bind-r R laws (p.test (c ∷ cs) (c' ∷ cs') h) λ more.
       branch-r R laws more (turn-r ahead body behind p Front (c ∷ cs) (c' ∷ cs') h (loop-r ahead body behind p cs cs' h.1)) (laws.gives Flow Normal)
 
-  meet_loop-r : (ahead : Calls → Act Bool) (body : Entry → Calls → Act Flow) (behind : Calls → Act Bool) → Parts ahead body behind
+  pub meet_loop-r : (ahead : Calls → Act Bool) (body : Entry → Calls → Act Flow) (behind : Calls → Act Bool) → Parts ahead body behind
       → (at : Entry) (cs cs' : Calls) → AreRelated R laws cs cs' → R Flow (meet_loop ahead body behind at cs) (meet_loop ahead body behind at cs')
   unfolding meet_loop
   meet_loop-r ahead body behind p Front cs cs' h = loop-r ahead body behind p cs cs' h
@@ -179,17 +179,17 @@ module _ (R : (A : Type 0) → Act A → Act A → Type 0) (laws : Laws R) where
   meet_loop-r ahead body behind p (At_label l) (c ∷ cs) (c' ∷ cs') h =
       turn-r ahead body behind p (At_label l) (c ∷ cs) (c' ∷ cs') h (loop-r ahead body behind p cs cs' h.1)
 
-  after_switch-r : (flow : Flow) → R Flow (after_switch flow) (after_switch flow)
+  pub after_switch-r : (flow : Flow) → R Flow (after_switch flow) (after_switch flow)
   unfolding after_switch
   after_switch-r Breaks = laws.gives Flow _
   after_switch-r flow = laws.gives Flow _
 
-  switch_to-r : (o : Option ℕ) {body body' : ℕ → Act Flow} → ((l : ℕ) → R Flow (body l) (body' l)) → R Flow (switch_to o body) (switch_to o body')
+  pub switch_to-r : (o : Option ℕ) {body body' : ℕ → Act Flow} → ((l : ℕ) → R Flow (body l) (body' l)) → R Flow (switch_to o body) (switch_to o body')
   unfolding switch_to
   switch_to-r None p = laws.gives Flow _
   switch_to-r (Some l) p = bind-r R laws (p l) λ f. after_switch-r f
 
-  with_locals-r : {A : Type 0} (count first : ℕ) {act act' : Env → Act A} (e : Env) → ((e : Env) → R A (act e) (act' e))
+  pub with_locals-r : {A : Type 0} (count first : ℕ) {act act' : Env → Act A} (e : Env) → ((e : Env) → R A (act e) (act' e))
       → R A (with_locals count first act e) (with_locals count first act' e)
   unfolding with_locals
   with_locals-r zero first e p = p e
@@ -197,18 +197,18 @@ module _ (R : (A : Type 0) → Act A → Act A → Type 0) (laws : Laws R) where
       bind-r R laws (need-r R laws _) λ l. bind-r R laws (need-r R laws _) λ layout.
       laws.withs A _ _ _ _ λ n. with_locals-r count (suc first) _ p
 
-  set_local-r : (a : Site) (k : ℕ) (v : Value) (e : Env) → R (Unit {0}) (set_local a k v e) (set_local a k v e)
+  pub set_local-r : (a : Site) (k : ℕ) (v : Value) (e : Env) → R (Unit {0}) (set_local a k v e) (set_local a k v e)
   unfolding set_local
   set_local-r a k v e = bind-r R laws (need-r R laws _) λ l. bind-r R laws (local_place-r R laws e k) λ p. put-r R laws _ a _ _ p v
 
-  initialise-r : (i : Initialiser) (cs cs' : Calls) (e : Env) → AreRelated R laws cs cs' → R (Unit {0}) (initialise i cs e) (initialise i cs' e)
+  pub initialise-r : (i : Initialiser) (cs cs' : Calls) (e : Env) → AreRelated R laws cs cs' → R (Unit {0}) (initialise i cs e) (initialise i cs' e)
   unfolding initialise
   initialise-r (ByValue k a) cs cs' e h = bind-r R laws (value-r a cs cs' e h) λ v. set_local-r _ k v e
   initialise-r (ByBytes k hidden parts) cs cs' e h =
       bind-r R laws (symbol_place-r R laws e _) λ source. bind-r R laws (local_place-r R laws e k) λ p.
       within-r R laws source λ from i. within-r R laws p λ to j. bind-r R laws (laws.looks _ _) λ bytes. laws.writes to j bytes
 
-  initialise_all-r : (is : List Initialiser) (at : Entry) (cs cs' : Calls) (e : Env) → AreRelated R laws cs cs'
+  pub initialise_all-r : (is : List Initialiser) (at : Entry) (cs cs' : Calls) (e : Env) → AreRelated R laws cs cs'
       → R (Unit {0}) (initialise_all is at cs e) (initialise_all is at cs' e)
   unfolding initialise_all
   initialise_all-r [] at cs cs' e h = laws.gives (Unit {0}) tt
@@ -289,12 +289,12 @@ module _ (R : (A : Type 0) → Act A → Act A → Type 0) (laws : Laws R) where
 
   -- ---- calls
 
-  set_parameters-r : (a : Site) (k : ℕ) (vs : List Value) (e : Env) → R (Unit {0}) (set_parameters a k vs e) (set_parameters a k vs e)
+  pub set_parameters-r : (a : Site) (k : ℕ) (vs : List Value) (e : Env) → R (Unit {0}) (set_parameters a k vs e) (set_parameters a k vs e)
   unfolding set_parameters
   set_parameters-r a k [] e = laws.gives (Unit {0}) tt
   set_parameters-r a k (v ∷ vs) e = bind-r R laws (set_local-r a k v e) λ u. set_parameters-r a (suc k) vs e
 
-  result_of-r : (f : Flow) → R (Option Value) (result_of f) (result_of f)
+  pub result_of-r : (f : Flow) → R (Option Value) (result_of f) (result_of f)
   unfolding result_of
   result_of-r Normal = laws.gives (Option Value) _
   result_of-r (Returns v) = laws.gives (Option Value) _
@@ -323,7 +323,7 @@ module _ (R : (A : Type 0) → Act A → Act A → Type 0) (laws : Laws R) where
 
   -- ---- a run
 
-  finish-r : (b : Body) (o : Option Value) → R (Unit {0}) (finish b o) (finish b o)
+  pub finish-r : (b : Body) (o : Option Value) → R (Unit {0}) (finish b o) (finish b o)
   unfolding finish
   finish-r b (Some (V.Num n)) = laws.stops (Unit {0}) _
   finish-r (Defined home f) None = undefined-r R laws (Unit {0}) _ _

@@ -1,3 +1,2 @@
 pub mod Colours
 pub mod Giving
-pub mod Naming

@@ -8,7 +8,7 @@ use Rattle.pw_link_rules.specs.declared.interface.Interface.{Interface}
 use Rattle.pw_link_rules.specs.Linking.{Links, Refusal}
 use Rattle.pw_summary.specs.declared.summary.Summary.{Summary}
 use Rattle.pw_db.specs.declared.database.Directives.{Directives}
-use Rattle.pw_db.specs.Database.{IsDatabaseFile}
+use Rattle.pw_db_file.specs.Spelling.{IsNewFile}
 use Rattle.pw_graph.specs.Program.{AreLinked, AreRefused, interface_of}
 use Rattle.pw_colour.specs.Colours.{IsDatabaseOf}
 use Rattle.pw_store_modules.specs.FileNames.{database_name}
@@ -24,14 +24,14 @@ use Rattle.pw_commands.proofs.ObeysLemmas.{obeys_fault, obeys_no_memory, obeys_o
 -- the laws on which it stands: one database, one file, one answer
 pub record Laws : Type 0 where
   pub database : (ss : List Summary) (colours : ℕ) (d e : List (List ℕ × Directives)) → IsDatabaseOf ss colours d → IsDatabaseOf ss colours e → d ≡ e
-  pub file : (bytes others : List ℕ) (fs : List (List ℕ × Directives)) → IsDatabaseFile bytes fs → IsDatabaseFile others fs → bytes ≡ others
+  pub file : (bytes others : List ℕ) (fs : List (List ℕ × Directives)) → IsNewFile bytes fs → IsNewFile others fs → bytes ≡ others
   pub not_both : (modules : List Interface) (fault : LinkFault) → Links modules → ¬ Refusal modules fault
   pub one_fault : (modules : List Interface) (fault other : LinkFault) → Refusal modules fault → Refusal modules other → fault ≡ other
 
 one_file : Laws → (ss : List Summary) (colours : ℕ) (bytes others : List ℕ) → IsDatabaseFileOf ss colours bytes → IsDatabaseFileOf ss colours others → bytes ≡ others
 one_file laws ss colours bytes others a b =
     let same : b.0 ≡ a.0 = laws.database ss colours b.0 a.0 b.1 a.1 in
-    laws.file bytes others a.0 a.2 (subst (IsDatabaseFile others) same b.2)
+    laws.file bytes others a.0 a.2 (subst (IsNewFile others) same b.2)
 
 analysed_alone : Laws → (ss : List Summary) (colours : ℕ) (input bytes : List ℕ) → AreLinked ss → IsDatabaseFileOf ss colours bytes → (e : Effect) → EffectOfSummaries ss colours input e → e ≡ puts_files ((database_name, bytes) ∷ []) input
 analysed_alone laws ss colours input bytes linked file e c =

@@ -5,9 +5,9 @@ use Rattle.pw_io.specs.Files.{Files}
 use Rattle.pw_value.specs.declared.fault.LinkFault.{LinkFault}
 use Rattle.pw_files.specs.Contents.{value_of}
 use Rattle.pw_summary.specs.declared.summary.Summary.{Summary}
-use Rattle.pw_summary.specs.Reading.{summary_file_at}
+use Rattle.pw_summary_file.specs.Reading.{summary_file_at}
 use Rattle.pw_db.specs.declared.database.Directives.{Directives}
-use Rattle.pw_db.specs.Database.{IsDatabaseFile}
+use Rattle.pw_db_file.specs.Spelling.{IsNewFile}
 use Rattle.pw_graph.specs.Program.{AreLinked, AreRefused}
 use Rattle.pw_colour.specs.Colours.{IsDatabaseOf}
 use Rattle.pw_store_modules.specs.FileNames.{database_name, summary_ending}
@@ -26,7 +26,7 @@ summaries_of files = of_names summary_at summary_ending files (few_names files)
 
 -- the file of the database of summaries
 abbrev pub IsDatabaseFileOf : List Summary → ℕ → List ℕ → Type 0
-IsDatabaseFileOf summaries colours bytes = (db : List (List ℕ × Directives)) × IsDatabaseOf summaries colours db × IsDatabaseFile bytes db
+IsDatabaseFileOf summaries colours bytes = (db : List (List ℕ × Directives)) × IsDatabaseOf summaries colours db × IsNewFile bytes db
 
 -- summaries come to their database, which is put, or to the refusal that is due
 abbrev pub EffectOfSummaries : List Summary → ℕ → List ℕ → Effect → Type 0

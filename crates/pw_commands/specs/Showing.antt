@@ -6,7 +6,7 @@ use Rattle.pw_files.specs.Contents.{value_of}
 use Rattle.pw_image.specs.declared.image.Image.{Image}
 use Rattle.pw_image.specs.Reading.{image_at}
 use Rattle.pw_db.specs.declared.database.Directives.{Directives}
-use Rattle.pw_db.specs.Reading.{database_file_at}
+use Rattle.pw_db_file.specs.Reading.{database_file_at, functions_in}
 use Rattle.pw_store_modules.specs.FileNames.{database_name, image_name}
 use Rattle.pw_list.specs.Listing.{IsListing}
 use Rattle.pw_list.specs.DatabaseText.{text_of}
@@ -31,7 +31,7 @@ ListEffect files input effect = ListOver (image_in files) input effect
 
 -- the database that stands in `prog.db`
 abbrev pub database_at : List ℕ → Result (List (List ℕ × Directives)) ℕ
-database_at bytes = value_of (database_file_at bytes)
+database_at bytes = functions_in (value_of (database_file_at bytes))
 
 abbrev pub texted : Result (List (List ℕ × Directives)) Answer → Result (List ℕ) Answer
 texted (Ok functions) = Ok (text_of functions)

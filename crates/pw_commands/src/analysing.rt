@@ -14,7 +14,8 @@ use crate::kept::kept_of_modules;
 use crate::linking::put_file;
 use pw_colour::analyse;
 use pw_colour::laws::{databases_are_lawful, databases_are_one};
-use pw_db::laws::databases_and_files_are_one_to_one;
+use pw_db_file::laws::databases_and_files_are_one_to_one;
+use pw_db_file::write_functions;
 use pw_io::Store;
 use pw_link_rules::laws::modules_have_one_answer;
 use pw_store_modules::{DATABASE_NAME, SUMMARY_ENDING};
@@ -32,7 +33,7 @@ fn database_file(alloc: Global, summaries: &[Summary], colours: u8) -> Result<Ve
 {
     databases_are_lawful();
     match analyse(alloc, summaries, colours) {
-        Ok(db) => match pw_db::write(alloc, &db) {
+        Ok(db) => match write_functions(alloc, db.functions.as_slice()) {
             Ok(bytes) => Ok(bytes),
             Err(_none) => Err(Answer::NoMemory),
         },

@@ -55,7 +55,7 @@ impl Kept for Summary {
     ghost lawful = { IsSummary };
 
     fn read(alloc: Global, bytes: &[u8]) -> Result<Summary, FileError> {
-        pw_summary::read(alloc, bytes)
+        pw_summary_file::read(alloc, bytes)
     }
 }
 

@@ -43,7 +43,7 @@ fn texted<S: Store>(alloc: Global, store: &mut S) -> Result<Vec<u8>, Answer>
 {
     match read_needed(alloc, store, DATABASE_NAME) {
         Err(answer) => Err(answer),
-        Ok(bytes) => match pw_db::read(alloc, &bytes) {
+        Ok(bytes) => match pw_db_file::read(alloc, &bytes) {
             Ok(db) => match db_text(alloc, &db) {
                 Ok(text) => Ok(text),
                 Err(_none) => Err(Answer::NoMemory),
@@ -71,7 +71,7 @@ pub fn list_image<S: Store, O: Sink>(alloc: Global, store: &mut S, out: &mut O) 
     }
 }
 
-/// Prints the database in `prog.db` as text: a line for each web.
+/// Prints the database in `prog.db` as text: a line for each web, and lines for the registers that functions share.
 ///
 /// The answer is `Done` where all was printed; or `BadFile` where `prog.db` is absent or refused, and then nothing was.
 pub fn show_database<S: Store, O: Sink>(alloc: Global, store: &mut S, out: &mut O) -> Answer

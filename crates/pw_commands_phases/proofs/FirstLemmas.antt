@@ -1,5 +1,5 @@
 -- What `phase1` answered and put, by the one flow graph of the text.
-use Rattle.std.proofs.Common.{◌≡◌, ℕ, List, Option, Some, None, Result, Ok, Err, refl, sym, ap, ◌∙◌, subst}
+use Rattle.std.proofs.Common.{◌≡◌, ℕ, Bool, true, false, List, Option, Some, None, Result, Ok, Err, refl, sym, ap, ◌∙◌, subst}
 use Rattle.std.specs.Prelude.{IfOk, IfSome, Vec}
 use Rattle.std.specs.declared.alloc.Global.{Global}
 use Rattle.pw_io.specs.Files.{Told, Keeps}
@@ -9,23 +9,25 @@ use Rattle.pw_front_end.specs.declared.refusal.Refusal.{Refusal}
 use Rattle.pw_flow.specs.declared.flow.FlowModule.{FlowModule}
 use Rattle.pw_flow.specs.ValidFlow.{IsValid}
 use Rattle.pw_flowfile.specs.FlowFile.{IsFlowFile}
+use Rattle.pw_opt_rules.specs.Optimised.{IsOptimisedModule}
 use Rattle.pw_summary.specs.declared.summary.Summary.{Summary}
-use Rattle.pw_summary.specs.Summary.{IsSummaryFile}
+use Rattle.pw_summary_file.specs.Spelling.{IsSummaryFile}
 use Rattle.pw_summarise.specs.Summarises.{Summarises}
 use Rattle.pw_phase_one.specs.FirstPhase.{Phase, compiled}
 use Rattle.pw_store_modules.specs.FileNames.{text_name}
 use Rattle.pw_top_answer.specs.declared.answer.Answer.{Answer}
-use Rattle.pw_top_answer.specs.declared.answer.Answer.TheVariants.{Done, Refused, RefusedSource, StoreFault, NoMemory, BadFile}
+use Rattle.pw_top_answer.specs.declared.answer.Answer.TheVariants.{Done, Refused, RefusedSource, StoreFault, NoMemory, BadFile, Undefined}
 use Rattle.pw_top_answer.specs.Effects.{Effect, PutsFiles, answers_alone, puts_files}
 use Rattle.pw_top_answer.specs.Outcomes.{Answers, IsLineDue, StoreCount}
 use Rattle.pw_commands.specs.Needed.{StopsAs, needed_bytes}
 use Rattle.pw_commands.specs.Outcome.{IsFileStop, IsPutAnswer, Obeys}
 use Rattle.pw_commands.proofs.ObeysLemmas.{obeys_fault, obeys_no_memory, obeys_one, put_answers, puts_none}
-use Rattle.pw_commands_phases.specs.First.{AreBytesOf, EffectOfPhase, IsSumOf, PhaseOneEffect, PhaseOneOver, line_in, line_over, phase_line, two_files}
+use Rattle.pw_commands_phases.specs.First.{AreBytesOf, AreFormBytes, EffectOfPhase, IsForm, IsSumOf, PhaseOneEffect, PhaseOneOver, line_in, line_over, phase_line, two_files}
 use Rattle.pw_commands_phases.specs.Made.{AnswersPhase, AreOfPhase, IsPhaseAnswer, IsTextStop, RefusesPhase, TellsReply, line_of}
 
--- the laws on which it stands: one file of a flow graph, one summary, one file of it
+-- the laws on which it stands: one optimised form, one file of a flow graph, one summary, one file of it
 pub record Laws : Type 0 where
+  pub form : (m n p : FlowModule) → IsOptimisedModule m n → IsOptimisedModule m p → n ≡ p
   pub flow_file : (bytes others : List ℕ) (m : FlowModule) → IsFlowFile bytes m → IsFlowFile others m → bytes ≡ others
   pub summary : (m : FlowModule) (s t : Summary) → IsValid m → Summarises m s → Summarises m t → s ≡ t
   pub summary_file : (bytes others : List ℕ) (s : Summary) → IsSummaryFile bytes s → IsSummaryFile others s → bytes ≡ others
@@ -35,22 +37,28 @@ one_sum laws flow sum sum' lawful a b =
     let same : b.summary ≡ a.summary = laws.summary flow b.summary a.summary lawful b.summarises a.summarises in
     laws.summary_file sum' sum a.summary (subst (IsSummaryFile sum') same b.file) a.file
 
-made_alone : Laws → (name : List ℕ) (flow : FlowModule) (input bytes sum : List ℕ) → AreBytesOf flow bytes sum → (e : Effect) → EffectOfPhase name (Ok flow) input e → e ≡ puts_files (two_files name bytes sum) input
-made_alone laws name flow input bytes sum are e (bytes', sum', are', is) =
-    is ∙ ap (λ (b : List ℕ). puts_files (two_files name b sum') input) (laws.flow_file bytes' bytes flow are'.flow_file are.flow_file)
-    ∙ ap (λ (s : List ℕ). puts_files (two_files name bytes s) input) (one_sum laws flow sum sum' are.lawful are.sum_file are'.sum_file)
+one_form : Laws → (o : Bool) (flow form other : FlowModule) → IsForm o flow form → IsForm o flow other → form ≡ other
+one_form laws false flow form other e f = e ∙ sym f
+one_form laws true flow form other is also_is = laws.form flow form other is also_is
 
-phase_made : Laws → (name : List ℕ) (phase : Phase) (bytes sum : List ℕ) (answer : Answer) (told : Told) (new : Option Told) (input : List ℕ) → AreOfPhase phase bytes sum → IsPutAnswer answer
-    → PutsFiles (two_files name bytes sum) answer told new → Obeys (EffectOfPhase name phase input) answer told new
-phase_made laws name (Ok flow) bytes sum answer told new input are h puts =
-    obeys_one (EffectOfPhase name (Ok flow) input) (puts_files (two_files name bytes sum) input) answer told new (bytes, sum, are, refl) (made_alone laws name flow input bytes sum are) (put_answers answer h) puts
-phase_made laws name (Err refusal) bytes sum answer told new input are h puts = absurd are
+made_alone : Laws → (name : List ℕ) (o : Bool) (flow : FlowModule) (input bytes sum : List ℕ) → AreFormBytes o flow bytes sum → (e : Effect) → EffectOfPhase name o (Ok flow) input e → e ≡ puts_files (two_files name bytes sum) input
+made_alone laws name o flow input bytes sum are e (bytes', sum', are', is) =
+    let a = are.bytes_of in
+    let b : AreBytesOf are.form bytes' sum' = subst (λ (m : FlowModule). AreBytesOf m bytes' sum') (one_form laws o flow are'.form are.form are'.of_flow are.of_flow) are'.bytes_of in
+    is ∙ ap (λ (bs : List ℕ). puts_files (two_files name bs sum') input) (laws.flow_file bytes' bytes are.form b.flow_file a.flow_file)
+    ∙ ap (λ (s : List ℕ). puts_files (two_files name bytes s) input) (one_sum laws are.form sum sum' a.lawful a.sum_file b.sum_file)
+
+phase_made : Laws → (name : List ℕ) (o : Bool) (phase : Phase) (bytes sum : List ℕ) (answer : Answer) (told : Told) (new : Option Told) (input : List ℕ) → AreOfPhase o phase bytes sum → IsPutAnswer answer
+    → PutsFiles (two_files name bytes sum) answer told new → Obeys (EffectOfPhase name o phase input) answer told new
+phase_made laws name o (Ok flow) bytes sum answer told new input are h puts =
+    obeys_one (EffectOfPhase name o (Ok flow) input) (puts_files (two_files name bytes sum) input) answer told new (bytes, sum, are, refl) (made_alone laws name o flow input bytes sum are) (put_answers answer h) puts
+phase_made laws name o (Err refusal) bytes sum answer told new input are h puts = absurd are
 
 -- the files were put, as far as the store put them
-pub obeys_made : Laws → (first new : Option Told) (name text bytes sum : List ℕ) (answer : Answer) → AreOfPhase (compiled name text) bytes sum → IsPutAnswer answer
-    → IfSome first (λ t. PutsFiles (two_files name bytes sum) answer t new) → IfSome first (λ t. (input : List ℕ) → Obeys (EffectOfPhase name (compiled name text) input) answer t new)
-obeys_made laws None new name text bytes sum answer are h puts = tt
-obeys_made laws (Some told) new name text bytes sum answer are h puts = λ input. phase_made laws name (compiled name text) bytes sum answer told new input are h puts
+pub obeys_made : Laws → (first new : Option Told) (name : List ℕ) (o : Bool) (text bytes sum : List ℕ) (answer : Answer) → AreOfPhase o (compiled name text) bytes sum → IsPutAnswer answer
+    → IfSome first (λ t. PutsFiles (two_files name bytes sum) answer t new) → IfSome first (λ t. (input : List ℕ) → Obeys (EffectOfPhase name o (compiled name text) input) answer t new)
+obeys_made laws None new name o text bytes sum answer are h puts = tt
+obeys_made laws (Some told) new name o text bytes sum answer are h puts = λ input. phase_made laws name o (compiled name text) bytes sum answer told new input are h puts
 
 -- ---- a reply in place of files
 
@@ -72,20 +80,20 @@ pub replies : (name text : List ℕ) (phase : Phase) (answer told : Answer) (lin
 replies name text phase answer NoMemory line h t = tt
 replies name text phase answer _ line h t = refused_reply name text phase _ line (subst (AnswersPhase name phase) (sym t.0) h) (t.1 ∙ sym (ap (line_of text) t.0))
 
-phase_replied : (name text : List ℕ) (phase : Phase) (answer : Answer) (line : Option ℕ) (told : Told) (input : List ℕ) → RepliesPhase name text phase answer line → Obeys (EffectOfPhase name phase input) answer told (Some told)
-phase_replied name text (Ok flow) answer line told input h = absurd h
-phase_replied name text (Err refusal) answer line told input h =
-    subst (λ (a : Answer). Obeys (EffectOfPhase name (Err refusal) input) a told (Some told)) (sym h.0)
-    (obeys_one (EffectOfPhase name (Err refusal) input) (answers_alone (Refused name refusal) input) (Refused name refusal) told (Some told) refl (λ x d. d) refl refl)
+phase_replied : (name : List ℕ) (o : Bool) (text : List ℕ) (phase : Phase) (answer : Answer) (line : Option ℕ) (told : Told) (input : List ℕ) → RepliesPhase name text phase answer line → Obeys (EffectOfPhase name o phase input) answer told (Some told)
+phase_replied name o text (Ok flow) answer line told input h = absurd h
+phase_replied name o text (Err refusal) answer line told input h =
+    subst (λ (a : Answer). Obeys (EffectOfPhase name o (Err refusal) input) a told (Some told)) (sym h.0)
+    (obeys_one (EffectOfPhase name o (Err refusal) input) (answers_alone (Refused name refusal) input) (Refused name refusal) told (Some told) refl (λ x d. d) refl refl)
 
-so_replied : (name text : List ℕ) (phase : Phase) (answer : Answer) (line : Option ℕ) (told : Told) (input : List ℕ) → Replies name text phase answer line → Obeys (EffectOfPhase name phase input) answer told (Some told)
-so_replied name text phase NoMemory line told input h = obeys_no_memory (EffectOfPhase name phase input) told (Some told) refl
-so_replied name text phase _ line told input h = phase_replied name text phase _ line told input h
+so_replied : (name : List ℕ) (o : Bool) (text : List ℕ) (phase : Phase) (answer : Answer) (line : Option ℕ) (told : Told) (input : List ℕ) → Replies name text phase answer line → Obeys (EffectOfPhase name o phase input) answer told (Some told)
+so_replied name o text phase NoMemory line told input h = obeys_no_memory (EffectOfPhase name o phase input) told (Some told) refl
+so_replied name o text phase _ line told input h = phase_replied name o text phase _ line told input h
 
-pub obeys_replied : (first : Option Told) (name text : List ℕ) (answer : Answer) (line : Option ℕ) → Replies name text (compiled name text) answer line
-    → IfSome first (λ t. (input : List ℕ) → Obeys (EffectOfPhase name (compiled name text) input) answer t first)
-obeys_replied None name text answer line h = tt
-obeys_replied (Some told) name text answer line h = λ input. so_replied name text (compiled name text) answer line told input h
+pub obeys_replied : (first : Option Told) (name : List ℕ) (o : Bool) (text : List ℕ) (answer : Answer) (line : Option ℕ) → Replies name text (compiled name text) answer line
+    → IfSome first (λ t. (input : List ℕ) → Obeys (EffectOfPhase name o (compiled name text) input) answer t first)
+obeys_replied None name o text answer line h = tt
+obeys_replied (Some told) name o text answer line h = λ input. so_replied name o text (compiled name text) answer line told input h
 
 -- its kind
 phase_kind : (name text : List ℕ) (phase : Phase) (answer : Answer) (line : Option ℕ) → ((refusal : Refusal) → phase ≡ Err refusal → HoldsNoWant refusal) → RepliesPhase name text phase answer line → IsTextStop answer
@@ -118,9 +126,14 @@ no_source : (name text : List ℕ) (phase : Phase) (own : List ℕ) (refusal : R
 no_source name text (Ok flow) own refusal line h = h
 no_source name text (Err other) own refusal line h = let e : RefusedSource own refusal ≡ Refused name other = h.0 in cc
 
+no_operation : (name text : List ℕ) (phase : Phase) (operation : _) (home : List ℕ) (token : ℕ) (line : Option ℕ) → RepliesPhase name text phase (Undefined operation home token) line → ⊥
+no_operation name text (Ok flow) operation home token line h = h
+no_operation name text (Err other) operation home token line h = let e : Undefined operation home token ≡ Refused name other = h.0 in cc
+
 pub reply_due : (name text : List ℕ) (phase : Phase) (answer : Answer) (line : Option ℕ) → Replies name text phase answer line → IsLineDue (line_in text phase) answer line
 reply_due name text phase (Refused own refusal) line h = phase_due name text phase (Refused own refusal) line h
 reply_due name text phase (RefusedSource own refusal) line h = absurd (no_source name text phase own refusal line h)
+reply_due name text phase (Undefined operation home token) line h = absurd (no_operation name text phase operation home token line h)
 reply_due name text phase _ line h = tt
 
 -- ---- answers that name no module
@@ -128,6 +141,7 @@ reply_due name text phase _ line h = tt
 pub put_line : (due : Option ℕ) (answer : Answer) (line : Option ℕ) → IsPutAnswer answer → IsLineDue due answer line
 put_line due (Refused own refusal) line h = absurd h
 put_line due (RefusedSource own refusal) line h = absurd h
+put_line due (Undefined operation home token) line h = absurd h
 put_line due _ line h = tt
 
 pub put_is_phase : (answer : Answer) → IsPutAnswer answer → IsPhaseAnswer answer
@@ -145,6 +159,7 @@ file_stop_is _ h = absurd h
 stop_line : (due : Option ℕ) (answer : Answer) (line : Option ℕ) → IsFileStop answer → IsLineDue due answer line
 stop_line due (Refused own refusal) line h = absurd h
 stop_line due (RefusedSource own refusal) line h = absurd h
+stop_line due (Undefined operation home token) line h = absurd h
 stop_line due _ line h = tt
 
 pub file_stop_line : (first : Option Told) (name : List ℕ) (answer : Answer) (line : Option ℕ) → IsFileStop answer → IfSome first (λ t. IsLineDue (phase_line t.files name) answer line)
@@ -159,31 +174,31 @@ stop_answers NoMemory h = tt
 stop_answers (BadFile name at) h = refl
 stop_answers _ h = absurd h
 
-stopped_by : (name : List ℕ) (wanted : Result (List ℕ) Answer) (answer : Answer) (told : Told) (new : Option Told) (input : List ℕ) → IsFileStop answer → wanted ≡ Err answer → new ≡ Some told
-    → Obeys (PhaseOneOver name wanted input) answer told new
-stopped_by name wanted answer told new input k h e =
-    subst (λ (w : Result (List ℕ) Answer). Obeys (PhaseOneOver name w input) answer told new) (sym h)
-    (obeys_one (PhaseOneOver name (Err answer) input) (answers_alone answer input) answer told new refl (λ x d. d) (stop_answers answer k) (puts_none answer told new e))
+stopped_by : (name : List ℕ) (o : Bool) (wanted : Result (List ℕ) Answer) (answer : Answer) (told : Told) (new : Option Told) (input : List ℕ) → IsFileStop answer → wanted ≡ Err answer → new ≡ Some told
+    → Obeys (PhaseOneOver name o wanted input) answer told new
+stopped_by name o wanted answer told new input k h e =
+    subst (λ (w : Result (List ℕ) Answer). Obeys (PhaseOneOver name o w input) answer told new) (sym h)
+    (obeys_one (PhaseOneOver name o (Err answer) input) (answers_alone answer input) answer told new refl (λ x d. d) (stop_answers answer k) (puts_none answer told new e))
 
-over_stopped : (name : List ℕ) (wanted : Result (List ℕ) Answer) (answer : Answer) (told : Told) (new : Option Told) (input : List ℕ) → IsFileStop answer → StopsAs answer wanted → new ≡ Some told
-    → Obeys (PhaseOneOver name wanted input) answer told new
-over_stopped name wanted StoreFault told new input k h e = obeys_fault (PhaseOneOver name wanted input) told new e
-over_stopped name wanted NoMemory told new input k h e = obeys_no_memory (PhaseOneOver name wanted input) told new e
-over_stopped name wanted _ told new input k h e = stopped_by name wanted _ told new input k h e
+over_stopped : (name : List ℕ) (o : Bool) (wanted : Result (List ℕ) Answer) (answer : Answer) (told : Told) (new : Option Told) (input : List ℕ) → IsFileStop answer → StopsAs answer wanted → new ≡ Some told
+    → Obeys (PhaseOneOver name o wanted input) answer told new
+over_stopped name o wanted StoreFault told new input k h e = obeys_fault (PhaseOneOver name o wanted input) told new e
+over_stopped name o wanted NoMemory told new input k h e = obeys_no_memory (PhaseOneOver name o wanted input) told new e
+over_stopped name o wanted _ told new input k h e = stopped_by name o wanted _ told new input k h e
 
 -- the text is absent, or was not read
-pub obeys_stopped : (first new : Option Told) (name : List ℕ) (answer : Answer) → IfSome first (λ t. StopsAs answer (needed_bytes t.files (text_name name))) → Keeps first new → IsFileStop answer
-    → IfSome first (λ t. (input : List ℕ) → Obeys (PhaseOneEffect t.files name input) answer t new)
-obeys_stopped None new name answer h same k = tt
-obeys_stopped (Some told) new name answer h same k = λ input. over_stopped name (needed_bytes told.files (text_name name)) answer told new input k h same
+pub obeys_stopped : (first new : Option Told) (name : List ℕ) (o : Bool) (answer : Answer) → IfSome first (λ t. StopsAs answer (needed_bytes t.files (text_name name))) → Keeps first new → IsFileStop answer
+    → IfSome first (λ t. (input : List ℕ) → Obeys (PhaseOneEffect t.files name o input) answer t new)
+obeys_stopped None new name o answer h same k = tt
+obeys_stopped (Some told) new name o answer h same k = λ input. over_stopped name o (needed_bytes told.files (text_name name)) answer told new input k h same
 
 -- it was read
-pub obeys_text : (first now new : Option Told) (name text : List ℕ) (answer : Answer) → IfSome first (λ t. needed_bytes t.files (text_name name) ≡ Ok text) → Keeps first now
-    → IfSome now (λ t. (input : List ℕ) → Obeys (EffectOfPhase name (compiled name text) input) answer t new) → IfSome first (λ t. (input : List ℕ) → Obeys (PhaseOneEffect t.files name input) answer t new)
-obeys_text None now new name text answer e same h = tt
-obeys_text (Some told) now new name text answer e same h =
-    let P : Option Told → Type 0 = λ o. IfSome o (λ t. (input : List ℕ) → Obeys (EffectOfPhase name (compiled name text) input) answer t new) in
-    λ input. subst (λ (w : Result (List ℕ) Answer). Obeys (PhaseOneOver name w input) answer told new) (sym e) (subst P same h input)
+pub obeys_text : (first now new : Option Told) (name : List ℕ) (o : Bool) (text : List ℕ) (answer : Answer) → IfSome first (λ t. needed_bytes t.files (text_name name) ≡ Ok text) → Keeps first now
+    → IfSome now (λ t. (input : List ℕ) → Obeys (EffectOfPhase name o (compiled name text) input) answer t new) → IfSome first (λ t. (input : List ℕ) → Obeys (PhaseOneEffect t.files name o input) answer t new)
+obeys_text None now new name o text answer e same h = tt
+obeys_text (Some told) now new name o text answer e same h =
+    let P : Option Told → Type 0 = λ held. IfSome held (λ t. (input : List ℕ) → Obeys (EffectOfPhase name o (compiled name text) input) answer t new) in
+    λ input. subst (λ (w : Result (List ℕ) Answer). Obeys (PhaseOneOver name o w input) answer told new) (sym e) (subst P same h input)
 
 pub text_line : (first : Option Told) (name text : List ℕ) (answer : Answer) (line : Option ℕ) → IfSome first (λ t. needed_bytes t.files (text_name name) ≡ Ok text) → IsLineDue (line_in text (compiled name text)) answer line
     → IfSome first (λ t. IsLineDue (phase_line t.files name) answer line)

@@ -1,14 +1,15 @@
 -- What `phase1` comes to: the flow graph of a module's text and its summary.
-use Rattle.std.specs.Prelude.{◌≡◌, ℕ, List, [], ◌∷◌, Option, Some, None, Result, Ok, Err}
+use Rattle.std.specs.Prelude.{◌≡◌, ℕ, Bool, true, false, List, [], ◌∷◌, Option, Some, None, Result, Ok, Err}
 use Rattle.pw_io.specs.Files.{Files}
 use Rattle.pw_front_end.specs.Places.{refusal_line}
 use Rattle.pw_flow.specs.declared.flow.FlowModule.{FlowModule}
 use Rattle.pw_flow.specs.ValidFlow.{IsValid}
 use Rattle.pw_flowfile.specs.FlowFile.{IsFlowFile}
 use Rattle.pw_summary.specs.declared.summary.Summary.{Summary}
-use Rattle.pw_summary.specs.Summary.{IsSummaryFile}
+use Rattle.pw_summary_file.specs.Spelling.{IsSummaryFile}
 use Rattle.pw_summarise.specs.Summarises.{Summarises}
 use Rattle.pw_phase_one.specs.FirstPhase.{Phase, compiled}
+use Rattle.pw_opt_rules.specs.Optimised.{IsOptimisedModule}
 use Rattle.pw_store_modules.specs.FileNames.{text_name, flow_name, summary_name}
 use Rattle.pw_top_answer.specs.declared.answer.Answer.{Answer}
 use Rattle.pw_top_answer.specs.declared.answer.Answer.TheVariants.{Refused}
@@ -35,18 +36,30 @@ two_files name bytes sum = (flow_name name, bytes) ∷ (summary_name name, sum) 
 abbrev pub phase_one_puts : List ℕ → List (List ℕ)
 phase_one_puts name = flow_name name ∷ summary_name name ∷ []
 
+-- the flow graph that is written: the module's own, or its optimised one
+abbrev pub IsForm : Bool → FlowModule → FlowModule → Type 0
+IsForm false flow form = form ≡ flow
+IsForm true flow form = IsOptimisedModule flow form
+
+-- the bytes of the two files of a module's flow graph
+pub record AreFormBytes (optimise : Bool) (flow : FlowModule) (bytes sum : List ℕ) : Type 0 where
+  pub form : FlowModule
+  pub of_flow : IsForm optimise flow form
+  pub bytes_of : AreBytesOf form bytes sum
+
 -- a flow graph comes to its two files, which are put; a refusal is told
-abbrev pub EffectOfPhase : List ℕ → Phase → List ℕ → Effect → Type 0
-EffectOfPhase name (Err refusal) input effect = effect ≡ answers_alone (Refused name refusal) input
-EffectOfPhase name (Ok flow) input effect = (bytes : List ℕ) × (sum : List ℕ) × AreBytesOf flow bytes sum × (effect ≡ puts_files (two_files name bytes sum) input)
+abbrev pub EffectOfPhase : List ℕ → Bool → Phase → List ℕ → Effect → Type 0
+EffectOfPhase name optimise (Err refusal) input effect = effect ≡ answers_alone (Refused name refusal) input
+EffectOfPhase name optimise (Ok flow) input effect =
+    (bytes : List ℕ) × (sum : List ℕ) × AreFormBytes optimise flow bytes sum × (effect ≡ puts_files (two_files name bytes sum) input)
 
-abbrev pub PhaseOneOver : List ℕ → Result (List ℕ) Answer → List ℕ → Effect → Type 0
-PhaseOneOver name (Err answer) input effect = effect ≡ answers_alone answer input
-PhaseOneOver name (Ok text) input effect = EffectOfPhase name (compiled name text) input effect
+abbrev pub PhaseOneOver : List ℕ → Bool → Result (List ℕ) Answer → List ℕ → Effect → Type 0
+PhaseOneOver name optimise (Err answer) input effect = effect ≡ answers_alone answer input
+PhaseOneOver name optimise (Ok text) input effect = EffectOfPhase name optimise (compiled name text) input effect
 
--- `phase1 NAME` over a store's files
-abbrev pub PhaseOneEffect : Files → List ℕ → List ℕ → Effect → Type 0
-PhaseOneEffect files name input effect = PhaseOneOver name (needed_bytes files (text_name name)) input effect
+-- `phase1 NAME` over a store's files, with `-O` or without
+abbrev pub PhaseOneEffect : Files → List ℕ → Bool → List ℕ → Effect → Type 0
+PhaseOneEffect files name optimise input effect = PhaseOneOver name optimise (needed_bytes files (text_name name)) input effect
 
 -- ---- the line on which the module is refused, where it is
 

@@ -1,5 +1,5 @@
 -- Inside the commands: what is made of what was read, or the reply in its place.
-use Rattle.std.specs.Prelude.{◌≡◌, ℕ, List, Option, Some, None, Result, Ok, Err, Vec}
+use Rattle.std.specs.Prelude.{◌≡◌, ℕ, Bool, List, Option, Some, None, Result, Ok, Err, Vec}
 use Rattle.std.specs.declared.alloc.Global.{Global}
 use Rattle.pw_front_end.specs.Fronts.{HoldsNoWant}
 use Rattle.pw_front_end.specs.Places.{refusal_line}
@@ -11,7 +11,7 @@ use Rattle.pw_phase_one.specs.FirstPhase.{Phase}
 use Rattle.pw_top_answer.specs.declared.answer.Answer.{Answer}
 use Rattle.pw_top_answer.specs.declared.answer.Answer.TheVariants.{Done, Refused, StoreFault, NoMemory, BadFile}
 use Rattle.pw_commands_phases.specs.declared.texts.MadeFiles.{MadeFiles}
-use Rattle.pw_commands_phases.specs.First.{AreBytesOf}
+use Rattle.pw_commands_phases.specs.First.{AreFormBytes}
 use Rattle.pw_commands_phases.specs.Second.{IsFileOfFlow}
 
 -- the answers of `phase1`; a refusal is none for want of memory
@@ -32,9 +32,9 @@ IsTextStop _ = ⊥
 -- ---- the first phase
 
 -- the files of what the phase answers
-abbrev pub AreOfPhase : Phase → List ℕ → List ℕ → Type 0
-AreOfPhase (Ok flow) bytes sum = AreBytesOf flow bytes sum
-AreOfPhase (Err refusal) bytes sum = ⊥
+abbrev pub AreOfPhase : Bool → Phase → List ℕ → List ℕ → Type 0
+AreOfPhase optimise (Ok flow) bytes sum = AreFormBytes optimise flow bytes sum
+AreOfPhase optimise (Err refusal) bytes sum = ⊥
 
 -- the refusal that the phase answers
 abbrev pub RefusesPhase : List ℕ → Phase → Answer → Type 0
@@ -47,9 +47,9 @@ AnswersPhase name phase NoMemory = Unit {0}
 AnswersPhase name phase answer = RefusesPhase name phase answer
 
 -- the files that are made of what the phase answers, or the answer in their place
-abbrev pub MakesOfPhase : List ℕ → Phase → Result MadeFiles Answer → Type 0
-MakesOfPhase name phase (Ok made) = AreOfPhase phase made.flow.items made.sum.items
-MakesOfPhase name phase (Err answer) = AnswersPhase name phase answer
+abbrev pub MakesOfPhase : List ℕ → Bool → Phase → Result MadeFiles Answer → Type 0
+MakesOfPhase name optimise phase (Ok made) = AreOfPhase optimise phase made.flow.items made.sum.items
+MakesOfPhase name optimise phase (Err answer) = AnswersPhase name phase answer
 
 -- how a refusal or want of memory of the phase is told
 abbrev pub TellsError : List ℕ → FrontEndFault → Answer → Type 0

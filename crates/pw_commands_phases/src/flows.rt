@@ -57,7 +57,7 @@ fn needed_database<S: Store>(alloc: Global, store: &mut S) -> Result<Database, A
     ensures stop { IfErr result IsFileStop }
 {
     let bytes = read_needed(alloc, store, DATABASE_NAME)?;
-    match pw_db::read(alloc, &bytes) {
+    match pw_db_file::read(alloc, &bytes) {
         Ok(db) => Ok(db),
         Err(error) => Err(refused(Name::within(alloc, DATABASE_NAME.as_bytes())?, error)),
     }

@@ -8,7 +8,7 @@ ghost use Rattle.pw_store_modules.specs.Modules.{is_module_name};
 ghost use Rattle.pw_phase_one.specs.FirstPhase.{compiled};
 ghost use Rattle.pw_commands.specs.Others.{KeepsOthers};
 ghost use Rattle.pw_commands.specs.Outcome.{IsPutAnswer, Obeys};
-ghost use Rattle.pw_commands_phases.specs.First.{AreBytesOf, EffectOfPhase, IsSumOf, PhaseOneEffect, line_in, phase_line, phase_one_puts, two_files};
+ghost use Rattle.pw_commands_phases.specs.First.{AreBytesOf, AreFormBytes, EffectOfPhase, IsForm, IsSumOf, PhaseOneEffect, line_in, phase_line, phase_one_puts, two_files};
 ghost use Rattle.pw_commands_phases.specs.Made.{IsPhaseAnswer, MakesOfPhase, TellsError, TellsReply, line_of};
 
 use crate::files::{module_bytes, put_bytes};
@@ -16,12 +16,14 @@ use pw_flow::FlowModule;
 use pw_flowfile::laws::flow_graphs_and_files_are_one_to_one;
 use pw_front_end::{FrontEndFault, refusal_line};
 use pw_io::Store;
+use pw_law_opt::laws::optimisation_keeps_lawful;
+use pw_opt::optimised_forms_are_one;
 use pw_phase_one::laws::no_refusal_is_want_of_memory;
 use pw_phase_one::{PhaseError, phase_one};
 use pw_store_modules::{FLOW_ENDING, SUMMARY_ENDING, TEXT_ENDING};
 use pw_summarise::laws::a_module_has_one_summary;
 use pw_summarise::summarise;
-use pw_summary::laws::summaries_and_files_are_one_to_one;
+use pw_summary_file::laws::summaries_and_files_are_one_to_one;
 use pw_top_answer::{Answer, Reply};
 use pw_value::Name;
 use std::alloc::{AllocError, Global};
@@ -39,7 +41,7 @@ fn sum_file(alloc: Global, flow: &FlowModule) -> Result<Vec<u8>, AllocError>
     ensures { IfOk result (λ sum. IsSumOf flow.now sum.items) }
 {
     let summary = summarise(alloc, flow)?;
-    pw_summary::write(alloc, &summary)
+    pw_summary_file::write(alloc, &summary)
 }
 
 /// The bytes of the file of a flow graph, and of the file of its summary.
@@ -52,6 +54,30 @@ fn files_of(alloc: Global, flow: &FlowModule) -> Result<MadeFiles, AllocError>
     Ok(MadeFiles { flow: bytes, sum })
 }
 
+/// The flow graph that is written: the optimised one, or itself.
+fn form_of(alloc: Global, flow: FlowModule, optimise: bool) -> Result<FlowModule, AllocError>
+    requires { IsValid flow }
+    ensures form { IfOk result (λ form. IsForm optimise flow form) }
+    ensures lawful { IfOk result (λ form. IsValid form) }
+{
+    optimisation_keeps_lawful();
+    if optimise {
+        let optimised = pw_opt::optimise(alloc, &flow)?;
+        Ok(optimised)
+    } else {
+        Ok(flow)
+    }
+}
+
+/// The bytes of the two files of a flow graph, optimised or not.
+fn form_files(alloc: Global, flow: FlowModule, optimise: bool) -> Result<MadeFiles, AllocError>
+    requires { IsValid flow }
+    ensures { IfOk result (λ made. AreFormBytes optimise flow made.flow.items made.sum.items) }
+{
+    let form = form_of(alloc, flow, optimise)?;
+    files_of(alloc, &form)
+}
+
 /// How an error of the first phase is told of the module of this name.
 fn told_error(own: Name, error: PhaseError) -> Answer
     ensures { TellsError own error result }
@@ -62,24 +88,29 @@ fn told_error(own: Name, error: PhaseError) -> Answer
     }
 }
 
-/// The two files of a flow graph.
-fn made_of_flow(alloc: Global, flow: &FlowModule) -> Result<MadeFiles, Answer>
-    requires { IsValid flow.now }
-    ensures made { IfOk result (λ made. AreBytesOf flow.now made.flow.items made.sum.items) }
+/// The two files of a flow graph, optimised or not.
+fn made_of_flow(alloc: Global, flow: FlowModule, optimise: bool) -> Result<MadeFiles, Answer>
+    requires { IsValid flow }
+    ensures made { IfOk result (λ made. AreFormBytes optimise flow made.flow.items made.sum.items) }
     ensures none { IfErr result (λ answer. answer ≡ Answer.NoMemory) }
 {
-    match files_of(alloc, flow) {
+    match form_files(alloc, flow, optimise) {
         Ok(made) => Ok(made),
         Err(AllocError) => Err(Answer::NoMemory),
     }
 }
 
 /// The two files of a module's text, or the answer in their place.
-fn made_of_text(alloc: Global, name: &Name, text: &[u8]) -> Result<MadeFiles, Answer>
-    ensures { MakesOfPhase name.now (compiled name.now text.now) result }
+fn made_of_text(
+    alloc: Global,
+    name: &Name,
+    text: &[u8],
+    optimise: bool,
+) -> Result<MadeFiles, Answer>
+    ensures { MakesOfPhase name.now optimise (compiled name.now text.now) result }
 {
     match phase_one(alloc, name, text) {
-        Ok(flow) => made_of_flow(alloc, &flow),
+        Ok(flow) => made_of_flow(alloc, flow, optimise),
         Err(error) => Err(told_error(name.copy(alloc)?, error)),
     }
 }
@@ -121,9 +152,15 @@ fn put_made<S: Store>(alloc: Global, store: &mut S, name: &Name, made: &MadeFile
 }
 
 /// Compiles a module's text that was read.
-fn compile_bytes<S: Store>(alloc: Global, store: &mut S, name: &Name, text: &[u8]) -> Reply
+fn compile_bytes<S: Store>(
+    alloc: Global,
+    store: &mut S,
+    name: &Name,
+    text: &[u8],
+    optimise: bool,
+) -> Reply
     requires { is_module_name name.now ≡ true }
-    ensures obeys { IfSome (S.told store.old) (λ told. (input : List ℕ) → Obeys (EffectOfPhase name.now (compiled name.now text.now) input) result.answer told (S.told store.new)) }
+    ensures obeys { IfSome (S.told store.old) (λ told. (input : List ℕ) → Obeys (EffectOfPhase name.now optimise (compiled name.now text.now) input) result.answer told (S.told store.new)) }
     ensures others { KeepsOthers (phase_one_puts name.now) result.answer (S.told store.old) (S.told store.new) }
     ensures line { IsLineDue (line_in text.now (compiled name.now text.now)) result.answer result.line }
     ensures answer { IsPhaseAnswer result.answer }
@@ -132,8 +169,9 @@ fn compile_bytes<S: Store>(alloc: Global, store: &mut S, name: &Name, text: &[u8
     flow_graphs_and_files_are_one_to_one();
     summaries_and_files_are_one_to_one();
     a_module_has_one_summary();
+    optimised_forms_are_one();
     no_refusal_is_want_of_memory();
-    match made_of_text(alloc, name, text) {
+    match made_of_text(alloc, name, text, optimise) {
         Ok(made) => Reply {
             answer: put_made(alloc, store, name, &made),
             line: None,
@@ -144,18 +182,24 @@ fn compile_bytes<S: Store>(alloc: Global, store: &mut S, name: &Name, text: &[u8
 
 /// Compiles the text of a module into its flow graph and summary.
 ///
-/// The text is read from `NAME.i`; `NAME.flow` is put, and then `NAME.sum`. The answer is `Done` where both were put;
+/// The flow graph is optimised first, if that is asked for, and the summary is that of the optimised one. The text is read from
+/// `NAME.i`; `NAME.flow` is put, and then `NAME.sum`. The answer is `Done` where both were put;
 /// `Refused` where the text is refused, with the line; `BadFile` where the text is absent; nothing is put then.
-pub fn compile_text<S: Store>(alloc: Global, store: &mut S, name: &Name) -> Reply
+pub fn compile_text<S: Store>(
+    alloc: Global,
+    store: &mut S,
+    name: &Name,
+    optimise: bool,
+) -> Reply
     requires { is_module_name name.now ≡ true }
-    ensures obeys { IfSome (S.told store.old) (λ told. (input : List ℕ) → Obeys (PhaseOneEffect told.files name.now input) result.answer told (S.told store.new)) }
+    ensures obeys { IfSome (S.told store.old) (λ told. (input : List ℕ) → Obeys (PhaseOneEffect told.files name.now optimise input) result.answer told (S.told store.new)) }
     ensures others { KeepsOthers (phase_one_puts name.now) result.answer (S.told store.old) (S.told store.new) }
     ensures line { IfSome (S.told store.old) (λ told. IsLineDue (phase_line told.files name.now) result.answer result.line) }
     ensures answer { IsPhaseAnswer result.answer }
     ensures count { StoreCount (S.faults store.old) (S.faults store.new) result.answer }
 {
     match module_bytes(alloc, store, name, TEXT_ENDING) {
-        Ok(text) => compile_bytes(alloc, store, name, &text),
+        Ok(text) => compile_bytes(alloc, store, name, &text, optimise),
         Err(answer) => Reply { answer, line: None },
     }
 }

@@ -162,6 +162,7 @@ pub look_line : (due : Files → Option ℕ) (told : Option Told) (a : Answer) �
 look_line due None a k = tt
 look_line due (Some t) (answer.Refused name refusal) k = absurd k
 look_line due (Some t) (answer.RefusedSource name refusal) k = absurd k
+look_line due (Some t) (answer.Undefined operation home token) k = absurd k
 look_line due (Some t) _ k = tt
 
 pub look_is_where : (a : Answer) → IsLookAnswer a → IsWhereAnswer a
@@ -172,6 +173,7 @@ look_is_where (answer.Cpp fault) k = absurd k
 look_is_where (answer.LinkRefused fault) k = absurd k
 look_is_where (answer.BadFile name at) k = absurd k
 look_is_where (answer.BadScript at) k = absurd k
+look_is_where (answer.Undefined operation home token) k = absurd k
 look_is_where _ k = tt
 
 pub look_stores : (before now : ℕ) (a : Answer) → IsLookAnswer a → now ≡ before → StoreCount before now a

@@ -1,9 +1,4 @@
-pub mod EachTwoLaws
-pub mod WebLaws
-pub mod SeenLaws
-pub mod DatabaseLaws
-pub mod DatabaseFaults
-pub mod WritingLemmas
+pub mod Keeping
 pub mod ChoosingLaws
 pub mod StoringLaws
 pub mod DirectiveLaws

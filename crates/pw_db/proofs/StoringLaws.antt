@@ -1,7 +1,6 @@
 -- What is put into a database is a database, and one list of functions comes to one.
-use Rattle.std.proofs.Common.{◌≡◌, ◌≢◌, ◌⊎◌, ℕ, Bool, true, false, cond, List, [], ◌∷◌, map, All, Result, Ok, Err, refl, sym, ap, subst, ◌∙◌, inl, inr}
-use Rattle.std.specs.Prelude.{Option, Some, None, IfOk, IsTrue, filter}
-use Rattle.std.specs.Global.{Vec}
+use Rattle.std.proofs.Common.{◌≡◌, ◌≢◌, ◌⊎◌, ℕ, Bool, true, false, cond, List, [], ◌∷◌, map, All, refl, sym, ap, subst, ◌∙◌, inl, inr}
+use Rattle.std.specs.Prelude.{Option, Some, None, IsTrue, filter}
 use Rattle.std.specs.List.{AllByRecursion, IsDistinct}
 use Rattle.std.specs.List.Sorted.{IsPermutation, IsSortedBy}
 use Rattle.std.specs.Str.{bytes_eq}
@@ -13,8 +12,7 @@ use Rattle.std.proofs.lemmas.List.Elements.{recursion_from_All}
 use Rattle.pw_files.proofs.ByteOrder.{differ, sorted_rises, behind, less_differs, one_rising}
 use Rattle.pw_db.specs.declared.database.Web.{Web}
 use Rattle.pw_db.specs.declared.database.Directives.{Directives}
-use Rattle.pw_db.specs.Database.{EachTwo, Agree, webs_of, all_webs, IsDirectives, IsDatabase, CanBeStored, IsStored, HasDirectives, empty, has_web, IsPayload}
-use Rattle.pw_db.proofs.DatabaseLaws.{one_payload}
+use Rattle.pw_db.specs.Database.{EachTwo, Agree, webs_of, all_webs, IsDirectives, IsDatabase, CanBeStored, IsStored, HasDirectives, empty, says_something}
 
 -- ---- webs of functions
 
@@ -79,17 +77,17 @@ distinct (f ∷ fs) two = (all_differ f fs two.0, distinct fs two.1)
 
 -- ---- what is stored
 
-pub is_stored : {R : Type 0} (view : R → List ℕ × Directives) (fs : List (List ℕ × Directives)) (chosen sorted : List R) → CanBeStored fs → map view chosen ≡ filter has_web fs → IsPermutation chosen sorted
+pub is_stored : {R : Type 0} (view : R → List ℕ × Directives) (fs : List (List ℕ × Directives)) (chosen sorted : List R) → CanBeStored fs → map view chosen ≡ filter says_something fs → IsPermutation chosen sorted
     → IsSortedBy (λ a b. is_lt (slice_cmp nat_cmp (view a).0 (view b).0)) sorted → IsStored fs (map view sorted) × IsDatabase (map view sorted)
 is_stored view fs chosen sorted can same moved up =
-    let source = filter has_web fs in
-    let rises = sorted_rises view (λ f. f.0) source chosen sorted same (distinct source (two_filter has_web (λ f g. f.0 ≢ g.0) fs can.distinct)) moved up in
-    let from : (f : List ℕ × Directives) → Has f (map view sorted) → Has f fs × IsTrue (has_web f) = λ f h. passes has_web f fs (has_by f source ((rises.1 f).0 (contains_by f (map view sorted) h))) in (
+    let source = filter says_something fs in
+    let rises = sorted_rises view (λ f. f.0) source chosen sorted same (distinct source (two_filter says_something (λ f g. f.0 ≢ g.0) fs can.distinct)) moved up in
+    let from : (f : List ℕ × Directives) → Has f (map view sorted) → Has f fs × IsTrue (says_something f) = λ f h. passes says_something f fs (has_by f source ((rises.1 f).0 (contains_by f (map view sorted) h))) in (
       record {
         order = rises.0;
         of = λ f. (
           λ h. let p = from f (has_by f (map view sorted) h) in (contains_by f fs p.0, p.1),
-          λ h. (rises.1 f).1 (contains_by f source (kept has_web f fs h.1 (has_by f fs h.0))),
+          λ h. (rises.1 f).1 (contains_by f source (kept says_something f fs h.1 (has_by f fs h.0))),
         );
       },
       record {
@@ -99,17 +97,10 @@ is_stored view fs chosen sorted can same moved up =
       },
     )
 
-pub stored_payload : {E : Type 0} (fs stored : List (List ℕ × Directives)) (r : Result (Vec ℕ) E) → IsStored fs stored → IfOk r (λ v. IsPayload v.items stored) → IfOk r (λ v. (gs : List (List ℕ × Directives)) × IsStored fs gs × IsPayload v.items gs)
-stored_payload fs stored (Ok v) is made = (stored, is, made)
-stored_payload fs stored (Err e) is made = tt
-
 -- ---- the functions to store are determined by the list
 
 pub one_stored : (fs s t : List (List ℕ × Directives)) → IsStored fs s → IsStored fs t → s ≡ t
 one_stored fs s t one two = one_rising (λ f. f.0) s t one.order two.order (λ f. (λ h. (two.of f).1 ((one.of f).0 h), λ h. (one.of f).1 ((two.of f).0 h)))
-
-pub one_stored_payload : (fs s t : List (List ℕ × Directives)) (bytes others : List ℕ) → IsStored fs s → IsStored fs t → IsPayload bytes s → IsPayload others t → bytes ≡ others
-one_stored_payload fs s t bytes others one two written again = one_payload bytes others t (subst (IsPayload bytes) (one_stored fs s t one two) written) again
 
 -- ---- a database can be stored again
 
@@ -133,7 +124,7 @@ there_or_empty : (fs : List (List ℕ × Directives)) (f : List ℕ × Directive
 there_or_empty fs f has = given fs f has (stands_or_not f.0 (map (λ g. g.0) fs))
 
 none_lawful : IsDirectives empty
-none_lawful = record { each = tt; numbers = tt; globals = tt; registers = tt; free = refl }
+none_lawful = record { each = tt; numbers = tt; globals = tt; registers = tt; free = tt; saves = tt; apart = tt }
 
 directives_lawful : (fs : List (List ℕ × Directives)) (f : List ℕ × Directives) → IsDatabase fs → Has f fs ⊎ (f.1 ≡ empty) → IsDirectives f.1
 directives_lawful fs f is (inl h) = has_each (λ g. IsDirectives g.1) fs f is.directives h

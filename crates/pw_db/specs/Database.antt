@@ -1,17 +1,12 @@
--- The database of directives, as functions each with its directives: which globals each keeps in which
--- registers. Its file, and the payload alone, are one spelling of it.
-use Rattle.std.specs.Prelude.{Bool, ℕ, ◌≡◌, ◌≢◌, ◌<◌, ◌≤◌, List, [], ◌∷◌, length, map, All, Contains, ◌↔◌, IsTrue, nat_lt}
+-- The database of directives, as functions each with its directives: which globals each keeps in which registers, and which
+-- registers it shares with others.
+use Rattle.std.specs.Prelude.{Bool, ℕ, suc, ◌≡◌, ◌≢◌, ◌<◌, ◌≤◌, ◌||◌, List, [], ◌∷◌, length, map, Contains, ◌↔◌, IsTrue, nat_lt}
 use Rattle.std.specs.List.{flat_map, AllByRecursion}
-use Rattle.pw_fields.specs.Fields.{u8, u32, flag, parts, FitsU32}
-use Rattle.pw_fields.specs.FieldNames.{name_table, name_index}
-use Rattle.pw_files.specs.Rising.{IsRising, counted}
-use Rattle.pw_files.specs.Kinds.{scalar}
-use Rattle.pw_files.specs.Contents.{Contents, IsContents, IsFileWith, IsContentsOf}
+use Rattle.pw_files.specs.Rising.{IsRising}
 use Rattle.pw_db.specs.Limits.{first_register, last_register}
 use Rattle.pw_db.specs.declared.database.Web.{Web}
-use Rattle.pw_db.specs.declared.database.Role.{Role}
-use Rattle.pw_db.specs.declared.database.Role.TheVariants.{Entry, Member}
 use Rattle.pw_db.specs.declared.database.Directives.{Directives}
+use Rattle.pw_db.specs.declared.database.Database.{Database}
 
 -- ---- the rules
 
@@ -28,13 +23,21 @@ pub record IsWeb (w : Web) : Type 0 where
 abbrev pub webs_of : Directives → List Web
 webs_of d = map (λ w. w.0) d.webs
 
--- the numbers of a function's webs rise, and no two have one global or one register
+-- registers that a callee keeps, which rise, the first of them none below this one
+abbrev pub AreKeptFrom : ℕ → List ℕ → Type 0
+AreKeptFrom least [] = Unit {0}
+AreKeptFrom least (r ∷ rs) = (least ≤ r) × (r ≤ last_register) × AreKeptFrom (suc r) rs
+
+-- The numbers of a function's webs rise, and no two have one global or one register. The registers that it is free to use
+-- and those that it saves for others are some that a callee keeps, each once, rising, and no register is both.
 pub record IsDirectives (d : Directives) : Type 0 where
   pub each : AllByRecursion IsWeb (webs_of d)
   pub numbers : EachTwo (λ a b. a.id < b.id) (webs_of d)
   pub globals : EachTwo (λ a b. a.global ≢ b.global) (webs_of d)
   pub registers : EachTwo (λ a b. a.reg ≢ b.reg) (webs_of d)
-  pub free : d.free ≡ []
+  pub free : AreKeptFrom first_register d.free
+  pub saves : AreKeptFrom first_register d.saves
+  pub apart : AllByRecursion (λ r. ¬ Contains d.free r) d.saves
 
 -- the webs of all functions, in order
 abbrev pub all_webs : List (List ℕ × Directives) → List Web
@@ -51,68 +54,42 @@ pub record IsDatabase (fs : List (List ℕ × Directives)) : Type 0 where
   pub directives : AllByRecursion (λ f. IsDirectives f.1) fs
   pub agree : EachTwo Agree (all_webs fs)
 
--- ---- the spelling
-
--- 0 for an entry, 1 for a member
-abbrev pub role_code : Role → ℕ
-role_code Entry = 0
-role_code Member = 1
-
-abbrev pub web : List (List ℕ) → Web × Role → List ℕ
-web names w = parts (u32 w.0.id ∷ name_index names w.0.global ∷ scalar w.0.kind ∷ u8 w.0.reg ∷ flag w.0.writes ∷ u8 (role_code w.1) ∷ [])
-
-abbrev pub function : List (List ℕ) → List ℕ × Directives → List ℕ
-function names f = parts (name_index names f.0 ∷ counted (web names) f.1.webs ∷ counted u8 f.1.free ∷ [])
-
--- the names that a database uses, in the order of their use
-abbrev pub names_of_function : List ℕ × Directives → List (List ℕ)
-names_of_function f = f.0 ∷ map (λ w. w.global) (webs_of f.1)
-
-abbrev pub names_of : List (List ℕ × Directives) → List (List ℕ)
-names_of fs = flat_map names_of_function fs
-
--- the names that a function uses stand in a table
-pub record IsNamedBy (names : List (List ℕ)) (f : List ℕ × Directives) : Type 0 where
-  pub name : Contains names f.0
-  pub globals : All (λ w. Contains names w.0.global) f.1.webs
-
--- counts and numbers that a file can hold
-pub record FitsFunction (f : List ℕ × Directives) : Type 0 where
-  pub count : FitsU32 (length f.1.webs)
-  pub numbers : AllByRecursion (λ w. FitsU32 w.id) (webs_of f.1)
-
-pub record FitsDatabase (fs : List (List ℕ × Directives)) : Type 0 where
-  pub count : FitsU32 (length fs)
-  pub each : AllByRecursion FitsFunction fs
-
-abbrev pub spelling : Contents (List (List ℕ × Directives)) → List ℕ
-spelling c = parts (name_table c.names ∷ counted (function c.names) c.value ∷ [])
+-- ---- the kind and the versions of its file
 
 -- PAWD
 abbrev pub kind : ℕ
 kind = 0x50415744
 
--- the version of the form of a database's file
+-- the versions: in the first no function shares registers with others
+abbrev pub first_version : ℕ
+first_version = 1
+
 abbrev pub database_version : ℕ
-database_version = 1
+database_version = 2
 
--- a lawful database that its fields can hold, with the table of its names
-abbrev pub IsDatabaseContents : Contents (List (List ℕ × Directives)) → Type 0
-IsDatabaseContents = IsContents IsDatabase FitsDatabase names_of
+-- it shares no registers with others
+pub record IsUnshared (d : Directives) : Type 0 where
+  pub free : d.free ≡ []
+  pub saves : d.saves ≡ []
 
--- the bytes are the file of the database
-abbrev pub IsDatabaseFile : List ℕ → List (List ℕ × Directives) → Type 0
-IsDatabaseFile = IsFileWith kind database_version database_version (λ version. spelling) (λ version. IsDatabaseContents)
+pub record IsVersioned (db : Database) : Type 0 where
+  pub not_below : first_version ≤ db.version
+  pub not_above : db.version ≤ database_version
+  pub functions : IsDatabase db.functions
+  pub unshared : db.version ≡ first_version → AllByRecursion (λ f. IsUnshared f.1) db.functions
 
--- the bytes are the payload of the database, alone
-abbrev pub IsPayload : List ℕ → List (List ℕ × Directives) → Type 0
-IsPayload = IsContentsOf spelling IsDatabaseContents
+-- functions as a database of a version, and of the last one
+abbrev pub of_version : ℕ → List (List ℕ × Directives) → Database
+of_version version fs = record { version = version; functions = fs }
+
+abbrev pub newest : List (List ℕ × Directives) → Database
+newest fs = of_version database_version fs
 
 -- ---- what is put into a database
 
--- directives that hold a web
-abbrev pub has_web : List ℕ × Directives → Bool
-has_web f = nat_lt 0 (length f.1.webs)
+-- directives that hold a web, a register that is free to use, or one to save for others
+abbrev pub says_something : List ℕ × Directives → Bool
+says_something f = nat_lt 0 (length f.1.webs) || (nat_lt 0 (length f.1.free) || nat_lt 0 (length f.1.saves))
 
 -- no name stands twice, and the directives are those of a database
 pub record CanBeStored (fs : List (List ℕ × Directives)) : Type 0 where
@@ -120,14 +97,14 @@ pub record CanBeStored (fs : List (List ℕ × Directives)) : Type 0 where
   pub directives : AllByRecursion (λ f. IsDirectives f.1) fs
   pub agree : EachTwo Agree (all_webs fs)
 
--- the functions whose directives hold a web, in byte order of their names
+-- the functions whose directives say something, in byte order of their names
 pub record IsStored (fs stored : List (List ℕ × Directives)) : Type 0 where
   pub order : IsRising (map (λ f. f.0) stored)
-  pub of : (f : List ℕ × Directives) → Contains stored f ↔ (Contains fs f × IsTrue (has_web f))
+  pub of : (f : List ℕ × Directives) → Contains stored f ↔ (Contains fs f × IsTrue (says_something f))
 
 -- the directives of a function, which are empty where the database lacks it
 abbrev pub empty : Directives
-empty = record { webs = []; free = [] }
+empty = record { webs = []; free = []; saves = [] }
 
 -- a function's directives in a database
 pub record HasDirectives (fs : List (List ℕ × Directives)) (f : List ℕ × Directives) : Type 0 where

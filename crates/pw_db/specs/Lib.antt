@@ -1,4 +1,2 @@
 pub mod Database
 pub mod Limits
-pub mod Reading
-pub mod Seen

@@ -35,14 +35,22 @@ fn copy_webs(alloc: Global, webs: &[(Web, Role)]) -> Result<Items<(Web, Role)>, 
     Ok(copies)
 }
 
+/// The same registers again.
+fn copy_registers(alloc: Global, registers: &[u8]) -> Result<Items<u8>, AllocError>
+    ensures { IfOk result (λ v. v ≡ registers.now) }
+{
+    Ok(Items::from_vec(Vec::from_slice(alloc, registers)?))
+}
+
 impl Directives {
-    /// No webs, and no free registers.
+    /// No webs, and no registers that are free to use or to be saved.
     pub fn none(alloc: Global) -> Directives
         ensures { result ≡ empty }
     {
         Directives {
             webs: Items::new(alloc),
             free: Items::new(alloc),
+            saves: Items::new(alloc),
         }
     }
 
@@ -52,7 +60,8 @@ impl Directives {
     {
         Ok(Directives {
             webs: copy_webs(alloc, self.webs.as_slice())?,
-            free: Items::from_vec(Vec::from_slice(alloc, self.free.as_slice())?),
+            free: copy_registers(alloc, self.free.as_slice())?,
+            saves: copy_registers(alloc, self.saves.as_slice())?,
         })
     }
 }

@@ -1,6 +1,6 @@
 -- Directives under which functions may keep globals in registers across calls: from the graph of calls and from the
 -- directives alone.
-use Rattle.std.specs.Prelude.{ℕ, ◌≡◌, ◌≢◌, ◌⊎◌, true, List, [], Contains}
+use Rattle.std.specs.Prelude.{ℕ, ◌≡◌, ◌≢◌, ◌⊎◌, true, List, Contains}
 use Rattle.pw_value.specs.ProgramNames.{start_name}
 use Rattle.pw_db.specs.declared.database.Web.{Web}
 use Rattle.pw_db.specs.declared.database.Role.{Role}
@@ -26,10 +26,6 @@ pub data Needs (g : Graph) (d : List (List ℕ × Directives)) (f v : List ℕ) 
 
 -- ---- registers that a root saves for the functions below it
 
--- the registers that directives tell a function to save for the functions below it; they tell none yet
-abbrev pub saves_of : Directives → List ℕ
-saves_of directives = []
-
 -- a function is free to use the register without saving it
 pub record IsFree (d : List (List ℕ × Directives)) (f : List ℕ) (r : ℕ) : Type 0 where
   pub directives : Directives
@@ -40,7 +36,7 @@ pub record IsFree (d : List (List ℕ × Directives)) (f : List ℕ) (r : ℕ) :
 pub record IsSaver (d : List (List ℕ × Directives)) (f : List ℕ) (r : ℕ) : Type 0 where
   pub directives : Directives
   pub there : Contains d (f, directives)
-  pub register : Contains (saves_of directives) r
+  pub register : Contains directives.saves r
 
 -- a function keeps nothing in the register over a call
 pub record LeavesAlone (d : List (List ℕ × Directives)) (f : List ℕ) (r : ℕ) : Type 0 where

@@ -8,7 +8,8 @@ ghost use Rattle.pw_phase_two.specs.Phases.{AreDirectivesOf, IsObjectOf};
 ghost use Rattle.pw_debug.specs.declared.info.FrameInfo.{FrameInfo};
 ghost use Rattle.pw_debug_frames.specs.Frames.{AreFrames, AreFramesOf, frames_in, known_as, made_as};
 
-use pw_db::laws::{databases_and_payloads_are_one_to_one, directives_are_one};
+use pw_db::laws::directives_are_one;
+use pw_db_file::laws::databases_and_payloads_are_one_to_one;
 use pw_flowfile::laws::flow_graphs_and_files_are_one_to_one;
 
 /// What is known of the functions of an object that the second phase made of a flow graph and directives is that of these,

@@ -126,6 +126,7 @@ pub run_line : (due : Files → Option ℕ) (told : Option Told) (a : Answer) �
 run_line due None a k = tt
 run_line due (Some t) (answer.Refused name refusal) k = absurd k
 run_line due (Some t) (answer.RefusedSource name refusal) k = absurd k
+run_line due (Some t) (answer.Undefined operation home token) k = absurd k
 run_line due (Some t) _ k = tt
 
 pub run_is : (a : Answer) → IsRunAnswer a → IsGoAnswer a
@@ -138,6 +139,7 @@ run_is (answer.LinkRefused fault) k = absurd k
 run_is (answer.BadFile name at) k = absurd k
 run_is (answer.BadScript at) k = absurd k
 run_is (answer.NoFrames address) k = absurd k
+run_is (answer.Undefined operation home token) k = absurd k
 run_is _ k = tt
 
 pub run_stores : (before now : ℕ) (a : Answer) → IsRunAnswer a → now ≡ before → StoreCount before now a

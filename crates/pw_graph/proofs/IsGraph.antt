@@ -100,13 +100,13 @@ taken_among ss taken table name on =
     let p = has_flat_back (λ s. map (λ f. f.0) s.taken) name ss (has_by name (all_taken ss) c) in
     record { summary = p.0; stands = contains_by p.0 ss p.1; taken = contains_by name (map (λ f. f.0) p.0.taken) p.2 }
 
-among_escaped : (ss : List Summary) (escaped : List (List ℕ)) → IsTableOf escaped (all_escaped ss) → (name : List ℕ) → IsEscaped ss name → is_among escaped name ≡ true
+pub among_escaped : (ss : List Summary) (escaped : List (List ℕ)) → IsTableOf escaped (all_escaped ss) → (name : List ℕ) → IsEscaped ss name → is_among escaped name ≡ true
 among_escaped ss escaped table name t =
     let all = has_flat (λ s. s.escaped) t.summary name ss (has_by t.summary ss t.stands) (has_by name t.summary.escaped t.escaped) in
     let c = (table.of name).1 (contains_by name (all_escaped ss) all) in
     contains_among escaped name c.0 c.1 c.2
 
-escaped_among : (ss : List Summary) (escaped : List (List ℕ)) → IsTableOf escaped (all_escaped ss) → (name : List ℕ) → is_among escaped name ≡ true → IsEscaped ss name
+pub escaped_among : (ss : List Summary) (escaped : List (List ℕ)) → IsTableOf escaped (all_escaped ss) → (name : List ℕ) → is_among escaped name ≡ true → IsEscaped ss name
 escaped_among ss escaped table name on =
     let c = (table.of name).0 (among_contains escaped name on) in
     let p = has_flat_back (λ s. s.escaped) name ss (has_by name (all_escaped ss) c) in

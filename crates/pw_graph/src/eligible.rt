@@ -21,7 +21,7 @@ pub(crate) struct Scalar<'a> {
 }
 
 /// The functions whose address a module takes.
-pub(crate) fn taken_names(alloc: Global, summaries: &[Summary]) -> Result<Vec<Name>, AllocError>
+pub fn taken_names(alloc: Global, summaries: &[Summary]) -> Result<Vec<Name>, AllocError>
     ensures { IfOk result (λ v. IsTableOf v.items (all_taken summaries.now)) }
 {
     let mut names = Vec::new(alloc);
@@ -32,7 +32,7 @@ pub(crate) fn taken_names(alloc: Global, summaries: &[Summary]) -> Result<Vec<Na
 }
 
 /// The globals whose address a module takes.
-pub(crate) fn escaped_names(alloc: Global, summaries: &[Summary]) -> Result<Vec<Name>, AllocError>
+pub fn escaped_names(alloc: Global, summaries: &[Summary]) -> Result<Vec<Name>, AllocError>
     ensures { IfOk result (λ v. IsTableOf v.items (all_escaped summaries.now)) }
 {
     let mut names = Vec::new(alloc);
@@ -43,7 +43,7 @@ pub(crate) fn escaped_names(alloc: Global, summaries: &[Summary]) -> Result<Vec<
 }
 
 /// Whether a name is one of these.
-pub(crate) fn is_among(names: &[Name], name: &Name) -> bool
+pub fn is_among(names: &[Name], name: &Name) -> bool
     requires { IsRisingFrom [] names.now }
     ensures { result ≡ among names.now name.now }
 {

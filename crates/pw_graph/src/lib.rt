@@ -13,4 +13,5 @@ mod views;
 
 pub use building::build_graph;
 pub use calls::numbers;
+pub use eligible::{escaped_names, is_among, taken_names};
 pub use graph::{CallGraph, RefSets};

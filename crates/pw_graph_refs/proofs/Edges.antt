@@ -69,7 +69,7 @@ join : (g : CallGraph) {a b c : ℕ} → Path g a b → Path g b c → Path g a 
 join g (call a b calls) path = on a b _ calls path
 join g (on a b c calls rest) path = on a b _ calls (join g rest path)
 
-walk_path : (g : CallGraph) {a b : ℕ} → Walk (calls_of g) a b → Path g a b
+pub walk_path : (g : CallGraph) {a b : ℕ} → Walk (calls_of g) a b → Path g a b
 walk_path g (edge a b e) = call a b (edge_calls g a b e)
 walk_path g (further a b c walk e) = join g (walk_path g walk) (call b c (edge_calls g b c e))
 
@@ -77,7 +77,7 @@ before : (edges : List (ℕ × ℕ)) {a b c : ℕ} → HasEdge edges a b → Wal
 before edges e (edge b c d) = further _ b c (edge _ b e) d
 before edges e (further b d c walk f) = further _ d c (before edges e walk) f
 
-path_walk : (g : CallGraph) {a b : ℕ} → Path g a b → Walk (calls_of g) a b
+pub path_walk : (g : CallGraph) {a b : ℕ} → Path g a b → Walk (calls_of g) a b
 path_walk g (call a b calls) = edge a b (calls_edge g a b calls)
 path_walk g (on a b c calls path) = before (calls_of g) (calls_edge g a b calls) (path_walk g path)
 

@@ -107,7 +107,7 @@ module _ (own : BitRows) (edges : List (ℕ × ℕ)) (nodes : ℕ) (values : Lis
         λ c. (is n v).1 (deliver c.walk v c.has),
       )
 
-walk_within : (nodes : ℕ) (edges : List (ℕ × ℕ)) → AreWithin nodes edges → {m n : ℕ} → Walk edges m n → m < nodes
+pub walk_within : (nodes : ℕ) (edges : List (ℕ × ℕ)) → AreWithin nodes edges → {m n : ℕ} → Walk edges m n → m < nodes
 walk_within nodes edges within (edge m n e) = (All-contains (λ e. (e.0 < nodes) × (e.1 < nodes)) edges (m, n) within e).0
 walk_within nodes edges within (further m n k walk e) = walk_within nodes edges within walk
 

@@ -1,3 +1,4 @@
 pub mod Flowing
 pub mod Edges
 pub mod Marks
+pub mod OwnFlows

@@ -106,7 +106,7 @@ fn add_calls(edges: &mut Vec<(usize, usize)>, from: usize, row: &[u32]) -> Resul
 }
 
 /// All calls.
-fn calls_of(alloc: Global, graph: &CallGraph) -> Result<Vec<(usize, usize)>, NoMemory>
+pub(crate) fn calls_of(alloc: Global, graph: &CallGraph) -> Result<Vec<(usize, usize)>, NoMemory>
     ensures { IfOk result (λ v. v.items ≡ edges_from 0 graph.now.calls) }
 {
     let rows = graph.calls.as_slice();
@@ -154,7 +154,11 @@ fn deliver(table: &mut BitRows, edges: &[(usize, usize)], values: &[BitRow])
 }
 
 /// Of each node the globals of the nodes from which a path leads to it.
-fn flown(alloc: Global, own: &BitRows, edges: Vec<(usize, usize)>) -> Result<BitRows, NoMemory>
+pub(crate) fn flown(
+    alloc: Global,
+    own: &BitRows,
+    edges: Vec<(usize, usize)>,
+) -> Result<BitRows, NoMemory>
     requires { AreWithin (vec_len own.now.rows) edges.items }
     ensures count { IfOk result (λ table. vec_len table.rows ≡ vec_len own.now.rows) }
     ensures length { IfOk result (λ table. table.len ≡ own.now.len) }

@@ -2,6 +2,8 @@
 //! and through its callees.
 #![tactic(auto)]
 
+mod cycles;
 mod flows;
 
+pub use cycles::in_cycles;
 pub use flows::{join, ref_sets};

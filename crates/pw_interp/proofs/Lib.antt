@@ -1,1 +1,3 @@
 mod RunLaws
+mod StreamLaws
+mod TurnLaws

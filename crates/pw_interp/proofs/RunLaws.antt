@@ -1,63 +1,57 @@
 -- What a run of a program is seen as.
-use Rattle.std.proofs.Common.{ℕ, ◌+◌, ◌≡◌, sym, ap, subst, ◌∙◌, List, [], drop, Result, Ok, Err, Some, None, arith}
-use Rattle.std.specs.Prelude.{IfErr}
+use Rattle.std.proofs.Common.{ℕ, ◌+◌, ◌≡◌, sym, ap, refl, subst, ◌∙◌, Bool, true, false, List, [], ◌∷◌, ◌++◌, append-nil, take, drop, Option, Result, Ok, Err, Some, None, arith}
+use Rattle.std.specs.Prelude.{IfOk, find, cond}
+use Rattle.std.proofs.lemmas.List.{take-append-drop}
+use Rattle.std.specs.Str.{bytes_eq}
 use Rattle.pw_value.specs.Objects.{Object}
 use Rattle.pw_value.specs.ProgramNames.{start_name, main_name}
-use Rattle.pw_cmean.specs.Worlds.{World, Callable, Body, start_objects, function_named}
+use Rattle.pw_cmean.specs.Worlds.{World, Program, Callable, start_objects, function_named, functions_of}
 use Rattle.pw_cmean.specs.Acts as acts
-use Rattle.pw_cmean.specs.Acts.{Act, State, Outcome, Gives, Ends, Wrong, give, need, stop, go_on, wrong, undefined, ◌>>=◌}
+use Rattle.pw_cmean.specs.Acts.{Act, State, Outcome, Gives, Ends, Wrong, give, need, stop, go_on, wrong, ◌>>=◌}
 use Rattle.pw_cmean.specs.Evaluation.{call}
+use Rattle.pw_cmean.specs.Lasting.{IsLater, state_behind}
+use Rattle.pw_interp_lasting.specs.Going.{GoesOnFrom}
 use Rattle.pw_cmean.specs.SourceRun.{Run, seen, finish, start_state, calls, run_main}
-use Rattle.pw_interp_state.specs.Shown.{Shown, shown}
+use Rattle.pw_io.specs.Streams.{Appends}
+use Rattle.pw_interp_state.specs.Shown.{Shown, Streams, shown, streams}
 use Rattle.pw_interp_state.specs.Runs.{Shows}
+use Rattle.pw_interp_world.specs.declared.program.LibraryFunction.{LibraryFunction}
+use Rattle.pw_interp_world.specs.declared.program.LibraryFunction.TheVariants as L
+use Rattle.pw_interp_world.specs.declared.program.Body.TheVariants as B
+use Rattle.pw_interp_calls.specs.declared.ending.Ending.{Ending}
+use Rattle.pw_interp_calls.specs.declared.ending.Ending.TheVariants as E
 use Rattle.pw_interp_calls.specs.declared.ending.Stop.{Stop}
 use Rattle.pw_interp_calls.specs.declared.ending.Stop.TheVariants as S
 use Rattle.pw_interp_calls.specs.Endings.{view_ending}
-use Rattle.pw_interp_calls.specs.Answers.{Answers, Stops}
-use Rattle.pw_interp_machine.specs.declared.machine.Machine.{Machine}
-use Rattle.pw_interp_machine.specs.Stepping.{EndsSo, Starts}
-use Rattle.pw_interp.specs.Ends.{end_of}
+use Rattle.pw_interp_calls.specs.Functions.{callable_of}
+use Rattle.pw_interp_calls.specs.Answers.{Stops}
+use Rattle.pw_interp.specs.declared.ends.CEnd.{CEnd}
+use Rattle.pw_interp.specs.declared.ends.InterpFault.{InterpFault}
+use Rattle.pw_interp.specs.Ends.{ending_of, view_end}
+use Rattle.pw_interp.specs.Streaming.{EndsOver, GivenUp, Interprets, LeftBy, RunsOver, StandsStill, Stopped, StopsOver, unread}
+use Rattle.pw_interp.proofs.StreamLaws.{behind_more, carried_first, front_read, if_some, nothing_appended}
 
-pub run_seen : {world : World} {act : Act (Unit {0})} {w u : Shown} {r : Result (Unit {0}) Stop} (s : State) (end : acts.Ending)
-    → Answers (λ d. tt) world act w r u → w ≡ shown world s → end_of r ≡ Some end → record { end = end; out = u.out; read = u.read } ≡ seen (act s)
-run_seen {world = world} {act = act} {w = w} {u = u} {r = r} s end a start told = by r a told
+-- ---- main
+
+found_fits : {X : Type 0} (p : X → Bool) (xs : List X) (x : X) → find p xs ≡ Some x → p x ≡ true
+found_fits p [] x is = cc is
+found_fits p (y ∷ ys) x is = by (p y) refl is
   where
-    given : (y : Outcome (Unit {0})) → Shows world y (Ok tt) u → acts.Exit 0 ≡ end → record { end = end; out = u.out; read = u.read } ≡ seen y
-    given (Gives d t) (is, at) e = ap (λ x. record { end = x; out = u.out; read = u.read }) (sym e) ∙ ap {B = Run} (λ v. record { end = acts.Exit 0; out = v.out; read = v.read }) (sym at)
-    given (Ends ending t) (is, at) e = cc is
+    by : (b : Bool) → p y ≡ b → cond b (Some y) (find p ys) ≡ Some x → p x ≡ true
+    by true e is = let same : y ≡ x = cc is in ap p (sym same) ∙ e
+    by false e is = found_fits p ys x is
 
-    ended : (ending : acts.Ending) (y : Outcome (Unit {0})) → Shows world y (Err ending) u → ending ≡ end → record { end = end; out = u.out; read = u.read } ≡ seen y
-    ended ending (Gives d t) (is, at) e = cc is
-    ended ending (Ends other t) (is, at) e =
-        let same : other ≡ end = cc (is, e) in
-        ap (λ x. record { end = x; out = u.out; read = u.read }) (sym same) ∙ ap {B = Run} (λ v. record { end = other; out = v.out; read = v.read }) (sym at)
+-- no function of the library is called main
+library_names : (g : LibraryFunction) → bytes_eq (callable_of (B.Library g)).name main_name ≡ false
+library_names L.GetChar = refl
+library_names L.PutChar = refl
+library_names L.ExitRun = refl
 
-    by : (x : Result (Unit {0}) Stop) → Answers (λ d. tt) world act w x u → end_of x ≡ Some end → record { end = end; out = u.out; read = u.read } ≡ seen (act s)
-    by (Ok d) o e = let is : acts.Exit 0 ≡ end = cc e in given (act s) (o.given.comes s (sym start)) is
-    by (Err (S.Ended ending)) o e = let is : view_ending ending ≡ end = cc e in ended (view_ending ending) (act s) (o.stopped.comes s (sym start)) is
-    by (Err S.NoMemory) o e = cc e
-
--- what the machine answers
-pub starts_stop : {main : Body} {world : World} {act : Act (Unit {0})} {w u : Shown} {r : Result Machine Stop} {q : Result (Unit {0}) Stop} (stop : Stop)
-    → Starts main world act w r u → r ≡ Err stop → q ≡ Err stop → Answers (λ d. tt) world act w q u
-starts_stop {world = world} {act = act} {w = w} {u = u} stop s is answer =
-    subst (λ x. Answers (λ d. tt) world act w x u) (sym answer) (record { given = tt; stopped = subst (λ x. IfErr x (λ y. Stops world act w y u)) is s.stopped })
-
-pub ends_always : {world : World} {act : Act (Unit {0})} {w u : Shown} (stop : Stop) → ((s : State) → shown world s ≡ w → EndsSo world (act s) stop u) → Answers {B = Unit {0}} (λ d. tt) world act w (Err stop) u
-ends_always (S.Ended ending) so = record { given = tt; stopped = record { comes = so } }
-ends_always S.NoMemory so = record { given = tt; stopped = tt }
-
--- ---- the start
-
-pub start_shows : (world : World) (objects : List Object) (used : ℕ) (input out : List ℕ) → objects ≡ start_objects world.program → used ≡ world.frame_of start_name → out ≡ []
-    → record { objects = objects; used = used; rest = drop 0 input; read = 0; out = out } ≡ shown world (start_state world.program input)
-start_shows world objects used input out a b c =
-    let more : used ≡ world.frame_of start_name + 0 = b ∙ omega arith in
-    ap {B = Shown} (λ x. record { objects = x; used = used; rest = input; read = 0; out = out }) a
-    ∙ ap {B = Shown} (λ x. record { objects = start_objects world.program; used = x; rest = input; read = 0; out = out }) more
-    ∙ ap {B = Shown} (λ x. record { objects = start_objects world.program; used = world.frame_of start_name + 0; rest = input; read = 0; out = x }) c
-
--- ---- the call of main
+pub no_library_main : {A : Type 0} (program : Program) (g : LibraryFunction) → Some (callable_of (B.Library g)) ≡ function_named program main_name → A
+no_library_main program g is =
+    let named : bytes_eq (callable_of (B.Library g)).name main_name ≡ true = found_fits (λ f. bytes_eq f.name main_name) (functions_of program) (callable_of (B.Library g)) (sym is) in
+    let apart : true ≡ false = sym named ∙ library_names g in
+    cc apart
 
 module _ (world : World) (bound : ℕ) where
   pub main_there : (f : Callable) → function_named world.program main_name ≡ Some f → (s : State) → run_main world bound s ≡ (call world (calls world bound) f [] >>= finish f.body) s
@@ -67,3 +61,124 @@ module _ (world : World) (bound : ℕ) where
   pub no_main : function_named world.program main_name ≡ None → (s : State) → run_main world bound s ≡ stop Wrong s
   unfolding run_main need wrong stop ◌>>=◌ go_on
   no_main is s = ap (λ o. (need o >>= λ main. call world (calls world bound) main [] >>= finish main.body) s) is
+
+-- ---- how runs end
+
+-- a run goes on from the streams of its state
+later_from : (s t : State) (st : Streams) → streams s ≡ st → IsLater s t → GoesOnFrom st t
+later_from s t st is p = subst (λ x. GoesOnFrom x t) is (record { written = p.written; taken = p.taken })
+
+-- what ended so without a byte
+pub stops_over : {world : World} {act : Act (Unit {0})} {before behind : Shown} (rest taken : Option (List ℕ)) (why : Stop) (r : Result Ending InterpFault) → r ≡ ending_of why → Stops world act before why behind
+    → ((s : State) → IsLater s (state_behind (act s))) → RunsOver world act before rest taken r behind rest taken
+stops_over {world = world} {act = act} {before = before} {behind = behind} rest taken why r is stops later =
+    subst (λ x. RunsOver world act before rest taken x behind rest taken) (sym is) (by why stops)
+  where
+    by : (x : Stop) → Stops world act before x behind → RunsOver world act before rest taken (ending_of x) behind rest taken
+    by (S.Ended ending) run = if_some rest (λ bytes told s e. record { streams = unread bytes; carried = carried_first bytes taken rest told; shows = run.comes (unread bytes) s e })
+    by S.NoMemory run = if_some rest (λ bytes told s e. record { streams = unread bytes; carried = carried_first bytes taken rest told; later = later_from s _ (unread bytes) (ap {A = Shown × Streams} (λ x. x.1) e) (later s) })
+
+pub over_named : {world : World} {act other : Act (Unit {0})} {before behind : Shown} (rest taken rest' taken' : Option (List ℕ)) (r : Result Ending InterpFault) → ((s : State) → act s ≡ other s)
+    → RunsOver world other before rest taken r behind rest' taken' → RunsOver world act before rest taken r behind rest' taken'
+over_named {world = world} {act = act} {other = other} {before = before} {behind = behind} rest taken rest' taken' r same over = by rest over
+  where
+    by : (o : Option (List ℕ)) → RunsOver world other before o taken r behind rest' taken' → RunsOver world act before o taken r behind rest' taken'
+    by None over = tt
+    by (Some bytes) over = λ s e. subst (λ o. Stopped r behind world o bytes taken rest' taken') (sym (same s)) (over s e)
+
+-- a run without main
+pub over_wrong : {world : World} {before : Shown} (rest taken : Option (List ℕ)) → RunsOver world (stop Wrong) before rest taken (Ok E.Wrong) before rest taken
+unfolding stop
+over_wrong rest taken = if_some rest (λ bytes told s e. record { streams = unread bytes; carried = carried_first bytes taken rest told; shows = (refl, e) })
+
+-- what is seen of a run that ended so
+seen_is : {world : World} (o : Outcome (Unit {0})) (ending : acts.Ending) (now : Shown) (st : Streams) → Shows world o (Err ending) (now, st) → seen o ≡ record { end = ending; out = st.out; read = st.read }
+seen_is (Gives d t) ending now st (is, at) = cc is
+seen_is (Ends other t) ending now st (is, at) =
+    let same : other ≡ ending = cc is in
+    ap (λ x. record { end = x; out = t.out; read = t.read }) same ∙ ap {A = Shown × Streams} {B = Run} (λ v. record { end = ending; out = v.1.out; read = v.1.read }) at
+
+pub ends_over : {world : World} {o : Outcome (Unit {0})} {now : Shown} (ending : Ending) (end : CEnd) (bytes : List ℕ) (taken rest' taken' : Option (List ℕ)) → view_end end ≡ view_ending ending
+    → StopsOver ending now world o bytes taken rest' taken' → EndsOver (seen o) bytes taken end rest' taken'
+ends_over {o = o} {now = now} ending end bytes taken rest' taken' same s =
+    let st = s.streams in
+    let is = seen_is o (view_ending ending) now st s.shows in
+    record {
+      ends = ap (λ (r : Run). r.end) is ∙ sym same;
+      left = s.carried.left ∙ ap Some s.carried.read ∙ ap (λ (r : Run). Some (drop r.read bytes)) (sym is);
+      took = subst (λ (r : Run). Appends taken taken' r.out) (sym is) s.carried.took;
+    }
+
+-- ---- runs that are given up
+
+seen_out : (o : Outcome (Unit {0})) → (seen o).out ≡ (state_behind o).out
+seen_out (Gives d t) = refl
+seen_out (Ends ending t) = refl
+
+seen_read : (o : Outcome (Unit {0})) → (seen o).read ≡ (state_behind o).read
+seen_read (Gives d t) = refl
+seen_read (Ends ending t) = refl
+
+pub still_given_up : (o : Outcome (Unit {0})) (bytes : List ℕ) (taken rest' taken' : Option (List ℕ)) → StandsStill o bytes taken rest' taken' → GivenUp (seen o) bytes taken rest' taken'
+still_given_up o bytes taken rest' taken' g =
+    let st = g.streams in
+    let t = state_behind o in
+    let all = g.later.taken in
+    record {
+      output = st.out;
+      more = g.later.written.0;
+      written = seen_out o ∙ g.later.written.1;
+      took = g.carried.took;
+      front = take st.read bytes;
+      left = st.rest;
+      rest_is = g.carried.left;
+      read = front_read bytes st g.carried.read;
+      unread = all.0;
+      behind = all.1 ∙ ap (λ (x : List ℕ). all.0 ++ x) (behind_more bytes all.0 t.rest st t.read g.carried.read all.1 all.2 ∙ ap (λ (n : ℕ). drop n bytes) (sym (seen_read o)));
+    }
+
+-- where a run ended, but its end was not told
+ended_given_up : {world : World} (o : Outcome (Unit {0})) (now : Shown) (ending : Ending) (bytes : List ℕ) (taken rest' taken' : Option (List ℕ)) → StopsOver ending now world o bytes taken rest' taken' → GivenUp (seen o) bytes taken rest' taken'
+ended_given_up o now ending bytes taken rest' taken' s =
+    let st = s.streams in
+    let is = seen_is o (view_ending ending) now st s.shows in
+    record {
+      output = st.out;
+      more = [];
+      written = ap (λ (r : Run). r.out) is ∙ sym (append-nil st.out);
+      took = s.carried.took;
+      front = take st.read bytes;
+      left = st.rest;
+      rest_is = s.carried.left;
+      read = front_read bytes st s.carried.read;
+      unread = [];
+      behind = s.carried.read ∙ ap (λ (r : Run). drop r.read bytes) (sym is);
+    }
+
+pub owned_over : {world : World} {o : Outcome (Unit {0})} {now : Shown} (ending : Ending) (r : Result CEnd InterpFault) (bytes : List ℕ) (taken rest' taken' : Option (List ℕ)) → IfOk r (λ end. view_end end ≡ view_ending ending)
+    → StopsOver ending now world o bytes taken rest' taken' → LeftBy (seen o) bytes taken r rest' taken'
+owned_over ending (Ok end) bytes taken rest' taken' same s = ends_over ending end bytes taken rest' taken' same s
+owned_over {o = o} {now = now} ending (Err fault) bytes taken rest' taken' same s = ended_given_up o now ending bytes taken rest' taken' s
+
+-- a run that has not begun
+pub not_begun : (run : List ℕ → Run) (rest taken : Option (List ℕ)) (fault : InterpFault) → Interprets run rest taken (Err fault) rest taken
+not_begun run rest taken fault = if_some rest (λ bytes told. record {
+  output = [];
+  more = (run bytes).out;
+  written = refl;
+  took = nothing_appended taken;
+  front = [];
+  left = bytes;
+  rest_is = told;
+  read = refl;
+  unread = take (run bytes).read bytes;
+  behind = sym (take-append-drop (run bytes).read bytes);
+})
+
+-- ---- the start
+
+pub start_shows : (world : World) (objects : List Object) (used : ℕ) (bytes : List ℕ) → objects ≡ start_objects world.program → used ≡ world.frame_of start_name
+    → record { objects = objects; used = used } ≡ shown world (start_state world.program bytes)
+start_shows world objects used bytes a b =
+    let more : used ≡ world.frame_of start_name + 0 = b ∙ omega arith in
+    ap {B = Shown} (λ x. record { objects = x; used = used }) a ∙ ap {B = Shown} (λ x. record { objects = start_objects world.program; used = x }) more

@@ -1,5 +1,5 @@
 -- Results of operands, lvalues and conversions as functions of the objects; and a step in a type.
-use Rattle.std.specs.Prelude.{ℕ, Bool, true, false, Option, Some, None, Result, Ok, Err, List, [], ◌∷◌}
+use Rattle.std.specs.Prelude.{ℕ, Option, Some, None, Result, Ok, Err, List}
 use Rattle.pw_value.specs.declared.value.Value.{Value}
 use Rattle.pw_value.specs.declared.value.Value.TheVariants as V
 use Rattle.pw_value.specs.Objects.{Object}
@@ -68,15 +68,6 @@ step_in e token op ty working place = do
   v ← convert (site e token) working old
   new ← update e token ty working place (step_operator op) (Int K.Int) v (V.Num 1)
   give (step_result op old new)
-
--- the only argument of a call, where it is a number
-abbrev pub only_number : List Value → Option ℕ
-only_number (V.Num n ∷ []) = Some n
-only_number _ = None
-
-abbrev pub are_none : List Value → Bool
-are_none [] = true
-are_none (v ∷ rest) = false
 
 -- the kind in which a step of an integer works
 abbrev pub working_kind : CType → Option IntKind

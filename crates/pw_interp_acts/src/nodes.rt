@@ -45,7 +45,7 @@ pub fn settle<'a, T>(env: &Env<'a>, token: usize, answer: Result<T, Fault>) -> R
 }
 
 /// Whether a scalar is unlike 0.
-pub fn truth<'a>(env: &Env<'a>, state: &State<'a>, token: usize, v: Value) -> Result<bool, Stop<'a>>
+pub fn truth<'a>(env: &Env<'a>, state: &State, token: usize, v: Value) -> Result<bool, Stop<'a>>
     ensures answers { Answers (λ x. x) (view_env env.now).world (operators.truth (site (view_env env.now) token) v) (view_state state.now) result (view_state state.now) }
     ensures no_memory { IfErr result (λ stop. stop ≢ Stop.NoMemory) }
 {
@@ -55,7 +55,7 @@ pub fn truth<'a>(env: &Env<'a>, state: &State<'a>, token: usize, v: Value) -> Re
 /// A unary operator, whose result has the type.
 pub fn unary<'a>(
     env: &Env<'a>,
-    state: &State<'a>,
+    state: &State,
     token: usize,
     op: UnaryOperator,
     ty: &CType,
@@ -72,7 +72,7 @@ pub fn unary<'a>(
 /// 2^32 - 1 bytes or more.
 pub fn binary<'a>(
     env: &Env<'a>,
-    state: &State<'a>,
+    state: &State,
     token: usize,
     op: BinaryOperator,
     types: (&CType, &CType),
@@ -100,7 +100,7 @@ pub fn convert<'a>(env: &Env<'a>, token: usize, ty: &CType, v: Value) -> Result<
 /// A pointer so many bytes on, as to the member of a structure.
 pub fn advance<'a>(
     env: &Env<'a>,
-    state: &State<'a>,
+    state: &State,
     token: usize,
     p: Value,
     offset: u32,
@@ -115,7 +115,7 @@ pub fn advance<'a>(
 /// Reads a scalar of a type at a place.
 pub fn load<'a>(
     env: &Env<'a>,
-    state: &State<'a>,
+    state: &State,
     token: usize,
     ty: &CType,
     place: Value,
@@ -130,7 +130,7 @@ pub fn load<'a>(
 /// The value of an lvalue of a type at a place.
 pub fn fetch<'a>(
     env: &Env<'a>,
-    state: &State<'a>,
+    state: &State,
     token: usize,
     ty: &CType,
     place: Value,
@@ -146,7 +146,7 @@ pub fn fetch<'a>(
 pub fn put<'a>(
     alloc: Global,
     env: &Env<'a>,
-    state: &mut State<'a>,
+    state: &mut State,
     purpose: Purpose,
     token: usize,
     ty: &CType,

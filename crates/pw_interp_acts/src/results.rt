@@ -51,7 +51,7 @@ fn value_by(objects: &Objects, category: Category, place: Value) -> Result<Optio
 /// The value of an lvalue of a type at a place; what a pointer to void points to has none (ISO C90 6.2.2.1, 6.2.2.2).
 pub fn value_at<'a>(
     env: &Env<'a>,
-    state: &State<'a>,
+    state: &State,
     token: usize,
     ty: &QType,
     place: Value,

@@ -29,7 +29,7 @@ pub fn assigned(ty: &CType, place: Value, v: Value) -> Value
 /// The old value of an lvalue of a type, in the type in which an operator works.
 pub fn old_value<'a>(
     env: &Env<'a>,
-    state: &State<'a>,
+    state: &State,
     token: usize,
     ty: &CType,
     working: &CType,
@@ -46,7 +46,7 @@ pub fn old_value<'a>(
 pub fn update<'a>(
     alloc: Global,
     env: &Env<'a>,
-    state: &mut State<'a>,
+    state: &mut State,
     token: usize,
     ty: &CType,
     place: Value,
@@ -85,7 +85,7 @@ fn step_result(op: StepOperator, old: Value, new: Value) -> Value
 fn step_in<'a>(
     alloc: Global,
     env: &Env<'a>,
-    state: &mut State<'a>,
+    state: &mut State,
     token: usize,
     op: StepOperator,
     ty: &CType,
@@ -118,7 +118,7 @@ fn working_kind(ty: &CType) -> Option<IntKind>
 pub fn step<'a>(
     alloc: Global,
     env: &Env<'a>,
-    state: &mut State<'a>,
+    state: &mut State,
     token: usize,
     op: StepOperator,
     ty: &CType,

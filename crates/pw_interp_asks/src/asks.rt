@@ -57,7 +57,7 @@ fn place_first<'a>(e: &'a TExpr) -> Option<Asked<'a>>
 fn leaf<'a>(
     alloc: Global,
     env: &Env<'a>,
-    state: &State<'a>,
+    state: &State,
     e: &TExpr,
 ) -> Result<Option<Value>, Stop<'a>>
     requires { is_leaf (view_form e.now.form) ≡ true }
@@ -97,7 +97,7 @@ fn lone_place<'a>(alloc: Global, env: &Env<'a>, e: &TExpr) -> Result<Value, Stop
 fn leaf_value<'a>(
     alloc: Global,
     env: &Env<'a>,
-    state: &State<'a>,
+    state: &State,
     e: &TExpr,
 ) -> Result<Next<'a>, Stop<'a>>
     requires { is_leaf (view_form e.now.form) ≡ true }
@@ -112,7 +112,7 @@ fn leaf_value<'a>(
 fn answer_alone<'a>(
     alloc: Global,
     env: &Env<'a>,
-    state: &State<'a>,
+    state: &State,
     e: &'a TExpr,
 ) -> Result<Next<'a>, Stop<'a>>
     requires { spec.answer_first (view_form e.now.form) ≡ None }
@@ -132,7 +132,7 @@ fn answer_alone<'a>(
 fn place_alone<'a>(
     alloc: Global,
     env: &Env<'a>,
-    state: &State<'a>,
+    state: &State,
     e: &TExpr,
 ) -> Result<Next<'a>, Stop<'a>>
     requires { spec.place_first (view_form e.now.form) ≡ None }
@@ -146,7 +146,7 @@ fn place_alone<'a>(
 fn ask_answer<'a>(
     alloc: Global,
     env: &Env<'a>,
-    state: &State<'a>,
+    state: &State,
     e: &'a TExpr,
 ) -> Result<Next<'a>, Stop<'a>>
     ensures { StepsExpression (view_env env.now) (answered (view_expr e.now)) (view_state state.now) result (view_state state.now) }
@@ -161,7 +161,7 @@ fn ask_answer<'a>(
 fn ask_place<'a>(
     alloc: Global,
     env: &Env<'a>,
-    state: &State<'a>,
+    state: &State,
     e: &'a TExpr,
 ) -> Result<Next<'a>, Stop<'a>>
     ensures { StepsExpression (view_env env.now) (placed (view_expr e.now)) (view_state state.now) result (view_state state.now) }
@@ -176,7 +176,7 @@ fn ask_place<'a>(
 pub fn ask<'a>(
     alloc: Global,
     env: &Env<'a>,
-    state: &State<'a>,
+    state: &State,
     asked: Asked<'a>,
 ) -> Result<Next<'a>, Stop<'a>>
     ensures { StepsExpression (view_env env.now) (asked_act asked.entry) (view_state state.now) result (view_state state.now) }

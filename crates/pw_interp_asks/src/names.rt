@@ -53,7 +53,7 @@ pub fn function_place<'a>(alloc: Global, env: &Env<'a>, symbol: &Symbol) -> Resu
 pub fn string<'a>(
     alloc: Global,
     env: &Env<'a>,
-    state: &State<'a>,
+    state: &State,
     token: usize,
     ty: &QType,
     number: u32,
@@ -67,7 +67,7 @@ pub fn string<'a>(
 /// The value of a local.
 pub fn local<'a>(
     env: &Env<'a>,
-    state: &State<'a>,
+    state: &State,
     token: usize,
     ty: &QType,
     local: u32,
@@ -83,7 +83,7 @@ pub fn local<'a>(
 pub fn global<'a>(
     alloc: Global,
     env: &Env<'a>,
-    state: &State<'a>,
+    state: &State,
     token: usize,
     ty: &QType,
     symbol: &Symbol,
@@ -98,7 +98,7 @@ pub fn global<'a>(
 pub fn function<'a>(
     alloc: Global,
     env: &Env<'a>,
-    state: &State<'a>,
+    state: &State,
     token: usize,
     ty: &QType,
     symbol: &Symbol,

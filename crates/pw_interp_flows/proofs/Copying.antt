@@ -7,7 +7,7 @@ use Rattle.pw_value.specs.Objects.{Object, object_at, written}
 use Rattle.pw_cmean.specs.Worlds.{World}
 use Rattle.pw_cmean.specs.Acts.{Act, wrong, look, write, go_on, ◌>>=◌}
 use Rattle.pw_cmean.specs.Access.{within}
-use Rattle.pw_interp_state.specs.Shown.{Shown}
+use Rattle.pw_interp_state.specs.Shown.{Shown, Streams}
 use Rattle.pw_interp_calls.specs.declared.ending.Ending.TheVariants as E
 use Rattle.pw_interp_calls.specs.declared.ending.Stop.TheVariants as S
 use Rattle.pw_interp_calls.specs.Answers.{Answers}
@@ -53,7 +53,7 @@ module _ {world : World} {w : Shown} (source place : Value) where
   unfolding copying look write ◌>>=◌ go_on
   copied from i to j e there =
       same (within_some source from i _ e ∙ within_some place to j _ there)
-      (record { given = record { comes = λ s at. (refl, ap {A = Shown} (λ v. record v { objects = written to j (object_at v.objects from).bytes v.objects }) at) }; stopped = tt })
+      (record { given = record { comes = λ st s at. (refl, ap {A = Shown × Streams} (λ v. (record v.0 { objects = written to j (object_at v.0.objects from).bytes v.0.objects }, v.1)) at) }; stopped = tt })
 
   pub no_ends : ends (object_of source) (object_of place) ≡ None → Answers {B = Unit {0}} (λ d. tt) world (copying source place) w (Err (S.Ended E.Wrong)) w
   no_ends e = by (object_of source) (object_of place) refl refl e

@@ -106,7 +106,7 @@ fn statement<'a>(s: &'a TStmt, at: Entry) -> Going<'a>
 pub fn begin<'a>(
     alloc: Global,
     env: &Env<'a>,
-    state: &mut State<'a>,
+    state: &mut State,
     what: Doing<'a>,
 ) -> Result<Going<'a>, Stop<'a>>
     requires { has_objects what.part ≡ true }

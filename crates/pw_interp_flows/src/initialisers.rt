@@ -62,7 +62,7 @@ fn copy_bytes(
 fn copy_all<'a>(
     alloc: Global,
     env: &Env<'a>,
-    state: &mut State<'a>,
+    state: &mut State,
     source: Value,
     place: Value,
 ) -> Result<(), Stop<'a>>
@@ -81,7 +81,7 @@ fn copy_all<'a>(
 fn initialise_bytes<'a>(
     alloc: Global,
     env: &Env<'a>,
-    state: &mut State<'a>,
+    state: &mut State,
     local: u32,
     hidden: u32,
 ) -> Result<(), Stop<'a>>
@@ -97,7 +97,7 @@ fn initialise_bytes<'a>(
 fn initialised<'a>(
     alloc: Global,
     env: &Env<'a>,
-    state: &mut State<'a>,
+    state: &mut State,
     s: &'a TStmt,
     i: usize,
     rest: usize,
@@ -142,7 +142,7 @@ fn list<'a>(s: &'a TStmt, at: Entry) -> Going<'a>
 pub fn initialisers<'a>(
     alloc: Global,
     env: &Env<'a>,
-    state: &mut State<'a>,
+    state: &mut State,
     s: &'a TStmt,
     i: usize,
     at: Entry,

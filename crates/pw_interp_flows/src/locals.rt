@@ -16,7 +16,7 @@ use std::alloc::Global;
 pub fn set_local<'a>(
     alloc: Global,
     env: &Env<'a>,
-    state: &mut State<'a>,
+    state: &mut State,
     token: usize,
     local: u32,
     value: Value,

@@ -61,7 +61,7 @@ fn arm_or_rest<'a>(s: &'a TStmt, arm: &'a Arm, rest: usize, met: bool) -> Going<
 /// The condition of the arm of a place gave this.
 fn use_in_arm<'a>(
     env: &Env<'a>,
-    state: &State<'a>,
+    state: &State,
     s: &'a TStmt,
     i: usize,
     given: Option<Value>,
@@ -102,7 +102,7 @@ fn top_or_leave<'a>(s: &'a TStmt, more: bool) -> Going<'a>
 /// The condition at the top of a loop gave this.
 fn use_ahead<'a>(
     env: &Env<'a>,
-    state: &State<'a>,
+    state: &State,
     token: usize,
     s: &'a TStmt,
     given: Option<Value>,
@@ -116,7 +116,7 @@ fn use_ahead<'a>(
 /// The condition behind the body of a loop gave this.
 fn use_behind<'a>(
     env: &Env<'a>,
-    state: &State<'a>,
+    state: &State,
     token: usize,
     s: &'a TStmt,
     given: Option<Value>,
@@ -208,7 +208,7 @@ fn switched<'a>(s: &'a TStmt, value: Value) -> Going<'a>
 /// The value of a switch.
 fn use_in_switch<'a>(
     env: &Env<'a>,
-    state: &State<'a>,
+    state: &State,
     token: usize,
     s: &'a TStmt,
     given: Option<Value>,
@@ -222,7 +222,7 @@ fn use_in_switch<'a>(
 /// The value of a `return`.
 fn use_in_return<'a>(
     env: &Env<'a>,
-    state: &State<'a>,
+    state: &State,
     token: usize,
     given: Option<Value>,
 ) -> Result<Going<'a>, Stop<'a>>
@@ -236,7 +236,7 @@ fn use_in_return<'a>(
 fn initialise_with<'a>(
     alloc: Global,
     env: &Env<'a>,
-    state: &mut State<'a>,
+    state: &mut State,
     s: &'a TStmt,
     rest: usize,
     first: &'a Initialiser,
@@ -260,7 +260,7 @@ fn initialise_with<'a>(
 fn use_in_local<'a>(
     alloc: Global,
     env: &Env<'a>,
-    state: &mut State<'a>,
+    state: &mut State,
     s: &'a TStmt,
     i: usize,
     given: Option<Value>,
@@ -277,7 +277,7 @@ fn use_in_local<'a>(
 pub fn use_value<'a>(
     alloc: Global,
     env: &Env<'a>,
-    state: &mut State<'a>,
+    state: &mut State,
     what: Use<'a>,
     given: Option<Value>,
 ) -> Result<Going<'a>, Stop<'a>>

@@ -8,7 +8,7 @@ use Rattle.pw_types.specs.TypedTrees.{LocalValue}
 use Rattle.pw_types.specs.declared.record.Layout.{Layout}
 use Rattle.pw_types.specs.Layouts.{layout_of}
 use Rattle.pw_interp_state.specs.Views.{fresh}
-use Rattle.pw_interp_state.specs.Shown.{Shown, shown}
+use Rattle.pw_interp_state.specs.Shown.{Shown, Streams, all_shown}
 use Rattle.pw_interp_state.specs.Runs.{Runs}
 use Rattle.pw_interp_state.proofs.RunLaws.{given, stopped, ends, object_shows, goes_on as runs_on}
 use Rattle.pw_cmean.specs.Worlds.{World}
@@ -33,9 +33,9 @@ during_is {A = A} {B = B} name act next s = by (act (called name s))
     by (Ends ending t) = refl
 
 -- what shows in a function that is called
-pub called_shows : (world : World) (name : List ℕ) (s : State) (w : Shown) → shown world s ≡ w → shown world (called name s) ≡ record w { used = world.frame_of name + w.used }
+pub called_shows : (world : World) (name : List ℕ) (s : State) (w : Shown) (st : Streams) → all_shown world s ≡ (w, st) → all_shown world (called name s) ≡ (record w { used = world.frame_of name + w.used }, st)
 unfolding called
-called_shows world name s w e = ap {A = Shown} (λ x. record x { used = world.frame_of name + x.used }) e
+called_shows world name s w st e = ap {A = Shown × Streams} (λ x. (record x.0 { used = world.frame_of name + x.0.used }, x.1)) e
 
 -- ---- objects of locals
 
@@ -47,10 +47,10 @@ object_leads : {A : Type 0} {world : World} {w : Shown} (size : ℕ) (writable :
     → Leads world (with_object size writable act) w (act (length w.objects) >>= λ a. end_object (length w.objects) >> give a) (record w { objects = with_new_object (fresh size writable) w.objects })
 unfolding with_object make ◌>>=◌ go_on
 object_leads {world = world} {w = w} size writable act = record {
-  leads = λ s e.
-      let count : length s.objects ≡ length w.objects = ap (λ x. length x.objects) e in
+  leads = λ st s e.
+      let count : length s.objects ≡ length w.objects = ap {A = Shown × Streams} (λ x. length x.0.objects) e in
       let t : State = record s { objects = with_new_object (fresh size writable) s.objects } in
-      (t, ap {A = Shown} (λ x. record x { objects = with_new_object (fresh size writable) x.objects }) e, ap (λ n. go_on (act n t) (λ a. end_object n >> give a)) count);
+      (t, ap {A = Shown × Streams} (λ x. (record x.0 { objects = with_new_object (fresh size writable) x.0.objects }, x.1)) e, ap (λ n. go_on (act n t) (λ a. end_object n >> give a)) count);
 }
 
 -- what is behind an act whose result is given on

@@ -3,9 +3,11 @@ mod CallLaws
 mod Callers
 mod Entering
 mod Finishing
+mod LibraryLaws
 mod Making
 mod Opening
 mod Pushing
 mod Rooms
 mod Standings
 mod Staying
+mod Transferring

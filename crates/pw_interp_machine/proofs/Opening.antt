@@ -8,7 +8,7 @@ use Rattle.pw_types.specs.TypedTrees.{Statement, FunctionValue, LocalValue}
 use Rattle.pw_types.specs.declared.record.Layout.{Layout}
 use Rattle.pw_types.specs.Layouts.{layout_of}
 use Rattle.pw_interp_state.specs.Views.{fresh}
-use Rattle.pw_interp_state.specs.Shown.{Shown, shown}
+use Rattle.pw_interp_state.specs.Shown.{Shown, Streams, all_shown}
 use Rattle.pw_interp_state.specs.Runs.{Runs}
 use Rattle.pw_interp_state.proofs.RunLaws.{ends, stopped, active_shows, room_shows, full_shows, goes_on as runs_on}
 use Rattle.pw_cmean.specs.Worlds.{World, ProgramModule, Callable, callable, full_name}
@@ -233,17 +233,17 @@ module _ (world : World) (n m : ℕ) (home : ProgramModule) (f : FunctionValue) 
 
   pub begins_so : {w v : Shown} (call : Call) → nat_lt world.stack (world.frame_of name + w.used) ≡ false
       → Opened world its_body f.body w.used (record w { used = world.frame_of name + w.used }) call v
-      → (next : Option Value → Act (Unit {0})) (s : State) → shown world s ≡ w → InCall world call (body_first f.body call) next v ((bounded_call (calls world n) (callable home f) args >>= next) s)
-  begins_so {w = w} call room o next s e =
+      → (next : Option Value → Act (Unit {0})) (st : Streams) (s : State) → all_shown world s ≡ (w, st) → InCall world call (body_first f.body call) next (v, st) ((bounded_call (calls world n) (callable home f) args >>= next) s)
+  begins_so {w = w} call room o next st s e =
       let first = in_front next (further (named begins_by) (behind_given (λ _. during name its_body) (room_shows world name w room))) in
-      let one = first.leads s e in
+      let one = first.leads st s e in
       let t = one.0 in
       let a : Active = record { name = name; before = t.active } in
-      let two = (o.leads a next).leads (called name t) (called_shows world name t w one.1) in
+      let two = (o.leads a next).leads st (called name t) (called_shows world name t w st one.1) in
       record {
         active = a;
         state = two.0;
-        is_call = record { room = ap (λ x. x.used) one.1 ∙ sym o.room; stands = o.stands };
+        is_call = record { room = ap {A = Shown × Streams} (λ x. x.0.used) one.1 ∙ sym o.room; stands = o.stands };
         shows = two.1;
         comes = one.2 ∙ during_is name its_body next t ∙ two.2;
       }

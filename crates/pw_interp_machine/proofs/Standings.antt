@@ -9,9 +9,9 @@ use Rattle.pw_cmean.specs.Acts.{Act, Outcome, State, Returned, stop, wrong, go_o
 use Rattle.pw_cmean.specs.Evaluation.{Env}
 use Rattle.pw_cmean.specs.Execution as execution
 use Rattle.pw_cmean.specs.SourceRun.{finish}
-use Rattle.pw_interp_state.specs.Shown.{Shown, shown}
+use Rattle.pw_interp_state.specs.Shown.{Shown, Streams, all_shown}
 use Rattle.pw_interp_state.specs.Runs.{Shows, Runs}
-use Rattle.pw_interp_state.proofs.RunLaws.{ends, stopped, goes_on as runs_on}
+use Rattle.pw_interp_state.proofs.RunLaws.{ends, stopped}
 use Rattle.pw_interp_calls.specs.declared.ending.Ending.{Ending}
 use Rattle.pw_interp_calls.specs.declared.ending.Ending.TheVariants as E
 use Rattle.pw_interp_calls.specs.declared.ending.Stop.{Stop}
@@ -23,14 +23,13 @@ use Rattle.pw_interp_todo.specs.declared.todo.Control.TheVariants as C
 use Rattle.pw_interp_todo.specs.declared.todo.Todo.{Todo}
 use Rattle.pw_interp_todo.specs.Leading.{Leads, Continues}
 use Rattle.pw_interp_todo.specs.Resuming.{Rest, Told, Gave, Flowed, after, resume, on_value, control_act}
-use Rattle.pw_interp_calls.proofs.AnswerLaws.{given_by}
 use Rattle.pw_interp_todo.proofs.LeadLaws.{behind_given, named}
 use Rattle.pw_interp_todo.proofs.Resumes.{resume_last}
 use Rattle.pw_interp_machine.specs.declared.machine.Call.{Call}
 use Rattle.pw_interp_machine.specs.declared.machine.Machine.{Machine}
 use Rattle.pw_interp_machine.specs.Waiting.{Active, leave, ended, goes_on, callers_act}
-use Rattle.pw_interp_machine.specs.Standing.{IsCall, AreCalls, InCall, StandsAt, Stands}
-use Rattle.pw_interp_machine.specs.Stepping.{StepsCall, EndsSo, Starts, Steps, StepsAt, body_first}
+use Rattle.pw_interp_machine.specs.Standing.{IsCall, AreCalls, InCall, StandsAt}
+use Rattle.pw_interp_machine.specs.Stepping.{StepsCall, EndsSo, Starts, StepsAt, body_first}
 use Rattle.pw_interp_machine.proofs.Callers.{callers_last, calls_last, last_of}
 
 -- ---- what code answers that does the first steps of an act
@@ -70,10 +69,10 @@ ends_continue {A = A} {left = left} {world = world} {w = w} {ending = ending} {s
 module _ {main : Body} {world : World} {call : Call} {callers : List Call} where
   -- what the act leads to
   stands_further : {act rest_act : Rest → Act (Unit {0})} {before behind : Shown} {end : Outcome (Unit {0})} → ((rest : Rest) → Leads world (act rest) before (rest_act rest) behind)
-      → StandsAt main world call callers act before end → StandsAt main world call callers rest_act behind end
-  stands_further leads at =
+      → (st : Streams) → StandsAt main world call callers act (before, st) end → StandsAt main world call callers rest_act (behind, st) end
+  stands_further leads st at =
       let here = at.in_call in
-      let there = (leads (resume call.todo.items (ended here.active (callers_act callers at.waiting (finish main))))).leads here.state here.shows in
+      let there = (leads (resume call.todo.items (ended here.active (callers_act callers at.waiting (finish main))))).leads st here.state here.shows in
       record {
         waiting = at.waiting;
         are_calls = at.are_calls;
@@ -85,21 +84,21 @@ module _ {main : Body} {world : World} {call : Call} {callers : List Call} where
   steps_further {act = act} {rest_act = rest_act} {before = before} {between = between} {behind = behind} {r = r} {new = new} leads s = by r s
     where
       by : (x : Result (Unit {0}) Stop) → StepsAt main world call callers rest_act between x new behind → StepsAt main world call callers act before x new behind
-      by (Ok d) o = record { goes = λ end at. o.goes end (stands_further leads at); stopped = tt }
-      by (Err why) o = record { goes = tt; stopped = λ end at. o.stopped end (stands_further leads at) }
+      by (Ok d) o = record { goes = λ st end at. o.goes st end (stands_further leads st at); stopped = tt }
+      by (Err why) o = record { goes = tt; stopped = λ st end at. o.stopped st end (stands_further leads st at) }
 
   -- where the act ends the run, behind which is what the call has left to do
   pub steps_stopped : {act : Rest → Act (Unit {0})} {before behind : Shown} {r : Result (Unit {0}) Stop} {new : Machine} (why : Stop) → r ≡ Err why
       → ((rest : Rest) → Stops world (act (resume call.todo.items rest)) before why behind) → StepsAt main world call callers act before r new behind
   steps_stopped {act = act} {before = before} {behind = behind} {new = new} why is stops =
-      subst (λ x. StepsAt main world call callers act before x new behind) (sym is) (record { goes = tt; stopped = λ end at. by why stops end at })
+      subst (λ x. StepsAt main world call callers act before x new behind) (sym is) (record { goes = tt; stopped = λ st end at. by why stops st end at })
     where
-      by : (x : Stop) → ((rest : Rest) → Stops world (act (resume call.todo.items rest)) before x behind) → (end : Outcome (Unit {0})) → StandsAt main world call callers act before end → EndsSo world end x behind
-      by (S.Ended ending) run end at =
+      by : (x : Stop) → ((rest : Rest) → Stops world (act (resume call.todo.items rest)) before x behind) → (st : Streams) (end : Outcome (Unit {0})) → StandsAt main world call callers act (before, st) end → EndsSo world end x (behind, st)
+      by (S.Ended ending) run st end at =
           let here = at.in_call in
-          subst (λ o. Shows world o (Err (view_ending ending)) behind) (sym here.comes)
-          ((run (ended here.active (callers_act callers at.waiting (finish main)))).comes here.state here.shows)
-      by S.NoMemory run end at = tt
+          subst (λ o. Shows world o (Err (view_ending ending)) (behind, st)) (sym here.comes)
+          ((run (ended here.active (callers_act callers at.waiting (finish main)))).comes st here.state here.shows)
+      by S.NoMemory run st end at = tt
 
   -- whatever is behind it
   pub steps_stop : {act : Rest → Act (Unit {0})} {before behind : Shown} {r : Result (Unit {0}) Stop} {new : Machine} (why : Stop) → r ≡ Err why
@@ -108,7 +107,7 @@ module _ {main : Body} {world : World} {call : Call} {callers : List Call} where
 
   pub steps_no_memory : {act : Rest → Act (Unit {0})} {before behind : Shown} {r : Result (Unit {0}) Stop} {new : Machine} → r ≡ Err S.NoMemory → StepsAt main world call callers act before r new behind
   steps_no_memory {act = act} {before = before} {behind = behind} {new = new} e =
-      subst (λ x. StepsAt main world call callers act before x new behind) (sym e) (record { goes = tt; stopped = λ end at. tt })
+      subst (λ x. StepsAt main world call callers act before x new behind) (sym e) (record { goes = tt; stopped = λ st end at. tt })
 
 -- an act by another name
 pub steps_named : {main : Body} {world : World} {call : Call} {callers : List Call} {act other : Rest → Act (Unit {0})} {before behind : Shown} {r : Result (Unit {0}) Stop} {new : Machine}
@@ -120,9 +119,9 @@ steps_named same s = steps_further (λ rest. named (same rest)) s
 pub steps_in : {main : Body} {old : Call} {act : Rest → Act (Unit {0})} {before behind : Shown} (m : Machine)
     → StepsCall old act before (Ok m.control) m.call behind → StepsAt main (view_env old.env).world old m.callers.items act before (Ok tt) m behind
 steps_in {main = main} {old = old} m s = record {
-  goes = λ end at.
+  goes = λ st end at.
       let here = at.in_call in
-      let there = (s.steps (ended here.active (callers_act m.callers.items at.waiting (finish main)))).goes.leads here.state here.shows in
+      let there = (s.steps (ended here.active (callers_act m.callers.items at.waiting (finish main)))).goes.leads st here.state here.shows in
       record {
         waiting = at.waiting;
         are_calls = at.are_calls;
@@ -145,8 +144,8 @@ steps_out why s is = steps_stopped why is (λ rest. (s.steps rest).stopped)
 
 module _ {main : Body} {world : World} {callers : List Call} {before : Shown} (old new : Call) (act other : Rest → Act (Unit {0}))
     (same : (rest : Rest) → act (resume old.todo.items rest) ≡ other (resume new.todo.items rest)) (room : new.before ≡ old.before) (stands : (view_env new.env).world ≡ (view_env old.env).world) where
-  stands_reached : {end : Outcome (Unit {0})} → StandsAt main world old callers act before end → StandsAt main world new callers other before end
-  stands_reached at =
+  stands_reached : (st : Streams) {end : Outcome (Unit {0})} → StandsAt main world old callers act (before, st) end → StandsAt main world new callers other (before, st) end
+  stands_reached st at =
       let here = at.in_call in
       record {
         waiting = at.waiting;
@@ -164,8 +163,8 @@ module _ {main : Body} {world : World} {callers : List Call} {before : Shown} (o
   steps_reached {behind = behind} {r = r} {m = m} s = by r s
     where
       by : (x : Result (Unit {0}) Stop) → StepsAt main world new callers other before x m behind → StepsAt main world old callers act before x m behind
-      by (Ok d) o = record { goes = λ end at. o.goes end (stands_reached at); stopped = tt }
-      by (Err why) o = record { goes = tt; stopped = λ end at. o.stopped end (stands_reached at) }
+      by (Ok d) o = record { goes = λ st end at. o.goes st end (stands_reached st at); stopped = tt }
+      by (Err why) o = record { goes = tt; stopped = λ st end at. o.stopped st end (stands_reached st at) }
 
 -- the last of the list
 pub popped_is : (todo : List Todo) (first : Todo) (items : List Todo) (e : Env) (n : ℕ) (told : Told) → items ≡ todo ++ first ∷ [] → (rest : Rest) → resume items rest e n told ≡ after first (resume todo rest) e n told
@@ -177,27 +176,27 @@ pub steps_unleft : {main : Body} {world : World} {callers : List Call} {before :
 unfolding ended on_value wrong stop
 steps_unleft {main = main} {world = world} {callers = callers} {before = before} call e n flow empty = record {
   goes = tt;
-  stopped = λ end at.
+  stopped = λ st end at.
       let here = at.in_call in
       let rest = ended here.active (callers_act callers at.waiting (finish main)) in
-      subst (λ o. Shows world o (Err (view_ending E.Wrong)) before) (sym (here.comes ∙ ap (λ todo. resume todo rest e n (Flowed flow) here.state) empty)) (refl, here.shows);
+      subst (λ o. Shows world o (Err (view_ending E.Wrong)) (before, st)) (sym (here.comes ∙ ap (λ todo. resume todo rest e n (Flowed flow) here.state) empty)) (refl, here.shows);
 }
 
 -- ---- a call that begins
 
 pub steps_enter : {main : Body} {world : World} {before behind : Shown} (old : Call) (callers : List Call) (act : Act (Option Value)) (body : Statement) (m : Machine)
-    → ((next : Option Value → Act (Unit {0})) (s : State) → shown world s ≡ before → InCall world m.call (body_first body m.call) next behind ((act >>= next) s))
+    → ((next : Option Value → Act (Unit {0})) (st : Streams) (s : State) → all_shown world s ≡ (before, st) → InCall world m.call (body_first body m.call) next (behind, st) ((act >>= next) s))
     → m.callers.items ≡ callers ++ old ∷ [] → ((rest : Rest) (s : State) → body_first body m.call rest s ≡ control_act m.control (view_env m.call.env) m.call.bound rest s)
     → StepsAt main world old callers (λ rest. act >>= λ r. rest (view_env old.env) old.bound (Gave r)) before (Ok tt) m behind
 unfolding goes_on
 steps_enter {main = main} {world = world} {behind = behind} old callers act body m begun pushed same = record {
-  goes = λ end at.
+  goes = λ st end at.
       let here = at.in_call in
       let last = here.active in
       let next = goes_on old last (callers_act callers at.waiting (finish main)) in
-      let there = begun next here.state here.shows in
+      let there = begun next st here.state here.shows in
       let all = at.waiting ++ last ∷ [] in
-      let run : InCall world m.call (control_act m.control (view_env m.call.env) m.call.bound) next behind end = record {
+      let run : InCall world m.call (control_act m.control (view_env m.call.env) m.call.bound) next (behind, st) end = record {
         active = there.active;
         state = there.state;
         is_call = there.is_call;
@@ -207,7 +206,7 @@ steps_enter {main = main} {world = world} {behind = behind} old callers act body
       record {
         waiting = all;
         are_calls = subst (λ cs. AreCalls world cs all) (sym pushed) (calls_last world callers at.waiting old last at.are_calls here.is_call);
-        in_call = subst (λ x. InCall world m.call (control_act m.control (view_env m.call.env) m.call.bound) x behind end)
+        in_call = subst (λ x. InCall world m.call (control_act m.control (view_env m.call.env) m.call.bound) x (behind, st) end)
             (sym (ap (λ cs. callers_act cs all (finish main)) pushed ∙ callers_last world callers at.waiting old last (finish main) at.are_calls)) run;
       };
   stopped = tt;
@@ -223,10 +222,10 @@ ended_is : (old : Call) (e : Env) (n : ℕ) (v : Option Value) → old.todo.item
 unfolding ended on_value leave left_now ◌>>=◌ go_on
 ended_is old e n v empty a next s = ap (λ todo. resume todo (ended a next) e n (Gave v) s) empty
 
-ended_shows : {world : World} {before : Shown} (old : Call) (a : Active) (s : State) → IsCall world old a → shown world s ≡ before → shown world (left_now a s) ≡ record before { used = old.before }
+ended_shows : {world : World} {before : Shown} (st : Streams) (old : Call) (a : Active) (s : State) → IsCall world old a → all_shown world s ≡ (before, st) → all_shown world (left_now a s) ≡ (record before { used = old.before }, st)
 unfolding left_now
-ended_shows {world = world} {before = before} old a s is shows =
-    ap {A = Shown} (λ x. record x { used = depth world a.before }) shows ∙ ap {B = Shown} (λ room. record before { used = room }) is.room
+ended_shows {world = world} {before = before} st old a s is shows =
+    ap {A = Shown × Streams} (λ x. (record x.0 { used = depth world a.before }, x.1)) shows ∙ ap {B = Shown × Streams} (λ room. (record before { used = room }, st)) is.room
 
 module _ {main : Body} {world : World} {before : Shown} (old : Call) (e : Env) (n : ℕ) (v : Option Value) (empty : old.todo.items ≡ []) where
   -- to its caller
@@ -234,7 +233,7 @@ module _ {main : Body} {world : World} {before : Shown} (old : Call) (e : Env) (
       → StepsAt main world old callers (λ rest. rest e n (Gave v)) before (Ok tt) m (record before { used = old.before })
   unfolding goes_on control_act
   steps_return callers m popped control = record {
-    goes = λ end at.
+    goes = λ st end at.
         let here = at.in_call in
         let l = last_of world m.callers.items m.call at.waiting (subst (λ cs. AreCalls world cs at.waiting) popped at.are_calls) in
         let base = callers_act m.callers.items l.others (finish main) in
@@ -247,7 +246,7 @@ module _ {main : Body} {world : World} {before : Shown} (old : Call) (e : Env) (
             active = l.last;
             state = t;
             is_call = l.is;
-            shows = ended_shows old here.active here.state here.is_call here.shows;
+            shows = ended_shows st old here.active here.state here.is_call here.shows;
             comes =
                 here.comes ∙ ended_is old e n v empty here.active (callers_act callers at.waiting (finish main)) here.state ∙ ap (λ next. next v t) next_is
                 ∙ ap (λ c. control_act c (view_env m.call.env) m.call.bound (resume m.call.todo.items (ended l.last base)) t) (sym control);
@@ -262,14 +261,14 @@ module _ {main : Body} {world : World} {before : Shown} (old : Call) (e : Env) (
   unfolding stop
   steps_finish callers m ending none is = record {
     goes = tt;
-    stopped = λ end at.
+    stopped = λ st end at.
         let here = at.in_call in
         let t = left_now here.active here.state in
-        subst (λ o. Shows world o (Err (view_ending ending)) (record before { used = old.before }))
+        subst (λ o. Shows world o (Err (view_ending ending)) (record before { used = old.before }, st))
         (sym (
         here.comes ∙ ended_is old e n v empty here.active (callers_act callers at.waiting (finish main)) here.state
         ∙ ap (λ cs. callers_act cs at.waiting (finish main) v t) none ∙ ap (λ act. act t) is))
-        (refl, ended_shows old here.active here.state here.is_call here.shows);
+        (refl, ended_shows st old here.active here.state here.is_call here.shows);
   }
 
 -- ---- a machine that starts
@@ -280,12 +279,12 @@ starts_stopped {main = main} {world = world} {act = act} {before = before} {behi
 -- the machine of a call that begins, which has no callers
 pub starts_at : {main : Body} {world : World} (act : Act (Option Value)) {before behind : Shown} (m : Machine) (body : Statement) → m.callers.items ≡ []
     → ((rest : Rest) (s : State) → body_first body m.call rest s ≡ control_act m.control (view_env m.call.env) m.call.bound rest s)
-    → ((next : Option Value → Act (Unit {0})) (s : State) → shown world s ≡ before → InCall world m.call (body_first body m.call) next behind ((act >>= next) s))
+    → ((next : Option Value → Act (Unit {0})) (st : Streams) (s : State) → all_shown world s ≡ (before, st) → InCall world m.call (body_first body m.call) next (behind, st) ((act >>= next) s))
     → Starts main world (act >>= finish main) before (Ok m) behind
 starts_at {main = main} {world = world} act {behind = behind} m body none same begun = record {
-  starts = λ s e.
-      let there = begun (finish main) s e in
-      let run : InCall world m.call (control_act m.control (view_env m.call.env) m.call.bound) (finish main) behind ((act >>= finish main) s) = record {
+  starts = λ st s e.
+      let there = begun (finish main) st s e in
+      let run : InCall world m.call (control_act m.control (view_env m.call.env) m.call.bound) (finish main) (behind, st) ((act >>= finish main) s) = record {
         active = there.active;
         state = there.state;
         is_call = there.is_call;
@@ -295,38 +294,14 @@ starts_at {main = main} {world = world} act {behind = behind} m body none same b
       record {
         waiting = [];
         are_calls = subst (λ cs. AreCalls world cs []) (sym none) (tt {0});
-        in_call = subst (λ x. InCall world m.call (control_act m.control (view_env m.call.env) m.call.bound) x behind ((act >>= finish main) s))
+        in_call = subst (λ x. InCall world m.call (control_act m.control (view_env m.call.env) m.call.bound) x (behind, st) ((act >>= finish main) s))
             (sym (ap (λ cs. callers_act cs [] (finish main)) none)) run;
       };
   stopped = tt;
 }
-
--- a step of the machine that stands in this world
-pub run_goes : {main : Body} {world : World} (old : Machine) {new : Machine} {before behind : Shown} {r : Result (Unit {0}) Stop} {end : Outcome (Unit {0})}
-    → Steps main (view_env old.call.env).world old before r new behind → r ≡ Ok tt → Stands main world old before end → Stands main world new behind end
-run_goes {main = main} {world = world} old {new = new} {before = before} {behind = behind} {r = r} {end = end} s is at =
-    let there : Steps main world old before (Ok tt) new behind =
-    subst (λ x. Steps main world old before x new behind) is (subst (λ w. Steps main w old before r new behind) at.in_call.is_call.stands s) in
-    there.goes end at
-
-pub run_ends : {main : Body} {world : World} (old : Machine) {new : Machine} {before behind : Shown} {r : Result (Unit {0}) Stop} {end : Outcome (Unit {0})} (why : Stop)
-    → Steps main (view_env old.call.env).world old before r new behind → r ≡ Err why → Stands main world old before end → EndsSo world end why behind
-run_ends {main = main} {world = world} old {new = new} {before = before} {behind = behind} {r = r} {end = end} why s is at =
-    let there : Steps main world old before (Err why) new behind =
-    subst (λ x. Steps main world old before x new behind) is (subst (λ w. Steps main w old before r new behind) at.in_call.is_call.stands s) in
-    there.stopped end at
 
 pub starts_named : {main : Body} {world : World} {act other : Act (Unit {0})} {before behind : Shown} {r : Result Machine Stop} → act ≡ other → Starts main world other before r behind → Starts main world act before r behind
 starts_named {main = main} {world = world} {before = before} {behind = behind} {r = r} same s = subst (λ a. Starts main world a before r behind) (sym same) s
 
 pub answer_stops : {A C : Type 0} {seen : C → A} {world : World} {act : Act A} {stop : Stop} {w u : Shown} {r : Result C Stop} → Answers seen world act w r u → r ≡ Err stop → Stops world act w stop u
 answer_stops {world = world} {act = act} {w = w} {u = u} a is = subst (λ x. IfErr x (λ s. Stops world act w s u)) is a.stopped
-
--- a run whose main gave this at once
-pub finished_so : {world : World} {act : Act (Option Value)} {before behind : Shown} {r : Result (Option Value) Stop} (main : Body) (v : Option Value) (ending : Ending)
-    → Answers (λ x. x) world act before r behind → r ≡ Ok v → finish main v ≡ stop (view_ending ending) → Starts main world (act >>= finish main) before (Err (S.Ended ending)) behind
-finished_so {world = world} {act = act} {before = before} {behind = behind} main v ending a is ends_as = record {
-  starts = tt;
-  stopped = runs_on world act (finish main) before behind behind v (Err (view_ending ending)) (given_by a is)
-      (subst (λ x. Runs world x behind (Err (view_ending ending)) behind) (sym ends_as) (stopped world (view_ending ending) behind));
-}

@@ -9,7 +9,7 @@ use Rattle.pw_cmean.specs.Worlds.{World}
 use Rattle.pw_cmean.specs.Acts.{Act, State, Wrong, stop, wrong, end_object, ◌>>=◌, ◌>>◌}
 use Rattle.pw_cmean.specs.Evaluation.{Env, values_of}
 use Rattle.pw_cmean.specs.SourceRun.{calls}
-use Rattle.pw_interp_state.specs.Shown.{Shown}
+use Rattle.pw_interp_state.specs.Shown.{Shown, Streams}
 use Rattle.pw_interp_state.specs.Runs.{Runs}
 use Rattle.pw_interp_state.proofs.RunLaws.{given, stopped, goes_on}
 use Rattle.pw_interp_calls.specs.declared.ending.Ending.TheVariants as E
@@ -53,7 +53,7 @@ left_stops {left = left} {world = world} {act = act} {w = w} {u = u} stop is s =
 
 pub end_shows : (world : World) (number : ℕ) (w : Shown) → Runs world (end_object number) w (Ok tt) (record w { objects = ended number w.objects })
 unfolding end_object
-end_shows world number w = record { comes = λ s e. (refl, ap {A = Shown} (λ x. record x { objects = ended number x.objects }) e) }
+end_shows world number w = record { comes = λ st s e. (refl, ap {A = Shown × Streams} (λ x. (record x.0 { objects = ended number x.0.objects }, x.1)) e) }
 
 pub ends_show : (world : World) (count number : ℕ) (w : Shown) → Runs world (end_objects count number) w (Ok tt) (record w { objects = all_ended count number w.objects })
 unfolding end_objects

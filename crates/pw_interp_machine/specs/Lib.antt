@@ -1,7 +1,9 @@
 pub mod Bodies
 pub mod Ends
+pub mod Library
 pub mod Locals
 pub mod Orders
 pub mod Waiting
 pub mod Standing
 pub mod Stepping
+pub mod Streaming

@@ -6,7 +6,7 @@ use Rattle.pw_cmean.specs.Worlds.{World, Body}
 use Rattle.pw_cmean.specs.Acts.{Act, State, Outcome, ◌>>=◌, ◌>>◌}
 use Rattle.pw_cmean.specs.Execution.{Front, meaning}
 use Rattle.pw_cmean.specs.SourceRun.{calls}
-use Rattle.pw_interp_state.specs.Shown.{Shown, shown}
+use Rattle.pw_interp_state.specs.Shown.{Shown, Streams, all_shown}
 use Rattle.pw_interp_state.specs.Runs.{Shows}
 use Rattle.pw_interp_calls.specs.declared.ending.Stop.{Stop}
 use Rattle.pw_interp_calls.specs.declared.ending.Stop.TheVariants as S
@@ -49,20 +49,21 @@ pub record Opens (world : World) (act : Act (Option Value)) (body : Statement) (
 
 -- What a call of a function comes to, whoever waits for its result, comes from its body in this call.
 pub record Begins (world : World) (act : Act (Option Value)) (body : Statement) (before : Shown) (result : Result Call Stop) (behind : Shown) : Type 0 where
-  pub begun : IfOk result (λ call. (next : Option Value → Act (Unit {0})) (s : State) → shown world s ≡ before → InCall world call (body_first body call) next behind ((act >>= next) s))
+  pub begun : IfOk result (λ call. (next : Option Value → Act (Unit {0})) (st : Streams) (s : State) → all_shown world s ≡ (before, st) → InCall world call (body_first body call) next (behind, st) ((act >>= next) s))
   pub stopped : IfErr result (λ stop. Stops world act before stop behind)
 
 -- ---- a step of the machine
 
 -- The run ends so; of want of memory nothing is said.
-abbrev pub EndsSo : World → Outcome (Unit {0}) → Stop → Shown → Type 0
+abbrev pub EndsSo : World → Outcome (Unit {0}) → Stop → Shown × Streams → Type 0
 EndsSo world end (S.Ended ending) behind = Shows world end (Err (view_ending ending)) behind
 EndsSo world end S.NoMemory behind = Unit {0}
 
--- What the run comes to by an act in a call with its callers it comes to from where the machine stands, or it has ended.
+-- What the run comes to by an act in a call with its callers it comes to from where the machine stands, or it has ended; nothing
+-- is read or written.
 pub record StepsAt (main : Body) (world : World) (call : Call) (callers : List Call) (act : Rest → Act (Unit {0})) (before : Shown) (result : Result (Unit {0}) Stop) (new : Machine) (behind : Shown) : Type 0 where
-  pub goes : IfOk result (λ done. (end : Outcome (Unit {0})) → StandsAt main world call callers act before end → Stands main world new behind end)
-  pub stopped : IfErr result (λ stop. (end : Outcome (Unit {0})) → StandsAt main world call callers act before end → EndsSo world end stop behind)
+  pub goes : IfOk result (λ done. (st : Streams) (end : Outcome (Unit {0})) → StandsAt main world call callers act (before, st) end → Stands main world new (behind, st) end)
+  pub stopped : IfErr result (λ stop. (st : Streams) (end : Outcome (Unit {0})) → StandsAt main world call callers act (before, st) end → EndsSo world end stop (behind, st))
 
 -- From where the machine stood.
 abbrev pub Steps : Body → World → Machine → Shown → Result (Unit {0}) Stop → Machine → Shown → Type 0
@@ -72,5 +73,5 @@ Steps main world old = StepsAt main world old.call old.callers.items (control_ac
 
 -- What a run comes to by an act it comes to from where the machine stands, or it has ended.
 pub record Starts (main : Body) (world : World) (act : Act (Unit {0})) (before : Shown) (result : Result Machine Stop) (behind : Shown) : Type 0 where
-  pub starts : IfOk result (λ m. (s : State) → shown world s ≡ before → Stands main world m behind (act s))
+  pub starts : IfOk result (λ m. (st : Streams) (s : State) → all_shown world s ≡ (before, st) → Stands main world m (behind, st) (act s))
   pub stopped : IfErr result (λ stop. Stops world act before stop behind)

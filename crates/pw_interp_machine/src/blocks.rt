@@ -119,7 +119,7 @@ fn note_local<'a>(
 fn open_one<'a>(
     alloc: Global,
     call: &mut Call<'a>,
-    state: &mut State<'a>,
+    state: &mut State,
     of: &'a TStmt,
     made: u32,
     local: usize,
@@ -151,7 +151,7 @@ fn open_one<'a>(
 pub fn open_block<'a>(
     alloc: Global,
     call: &mut Call<'a>,
-    state: &mut State<'a>,
+    state: &mut State,
     of: &'a TStmt,
     made: u32,
     at: Entry,

@@ -8,23 +8,21 @@ ghost use Rattle.pw_types.specs.Views.{view_type};
 ghost use Rattle.pw_cmean.specs.Acts as acts;
 ghost use Rattle.pw_cmean.specs.Evaluation as meaning;
 ghost use Rattle.pw_cmean.specs.SourceRun as runs;
-ghost use Rattle.pw_interp_calls.specs.Answers.{Answers};
 ghost use Rattle.pw_interp_calls.specs.Endings.{told_stop};
 ghost use Rattle.pw_interp_calls.specs.Functions.{callable_of};
 ghost use Rattle.pw_interp_calls.specs.Views.{view_env};
 ghost use Rattle.pw_interp_calls.specs.WorldViews.{view_world};
-ghost use Rattle.pw_interp_state.specs.Shown.{Shown, view_state};
+ghost use Rattle.pw_interp_state.specs.Shown.{Shown};
 ghost use Rattle.pw_interp_todo.specs.Leading.{Continues};
 ghost use Rattle.pw_interp_todo.specs.Operands.{call_behind};
 
 use pw_cmean::Undef;
-use pw_interp_acts::{function_of, library_call, take_room};
+use pw_interp_acts::function_of;
 use pw_interp_calls::{Ending, Env, Stop, World};
-use pw_interp_state::State;
 use pw_interp_todo::Callee;
 use pw_interp_world::{Body, LibraryFunction, plain_shape};
 use pw_types::CType;
-use pw_value::program_names::{EXIT, EXIT_SHAPE, GETCHAR, GETCHAR_SHAPE, PUTCHAR, PUTCHAR_SHAPE};
+use pw_value::program_names::{EXIT_SHAPE, GETCHAR_SHAPE, PUTCHAR_SHAPE};
 use pw_value::{Pointer, Shape, Value};
 use std::alloc::{AllocError, Global};
 
@@ -136,28 +134,4 @@ pub fn callee_of<'a>(alloc: Global, env: &Env<'a>, callee: Callee<'a>) -> Result
         Callee::Named(symbol) => function_of(alloc, env, symbol),
         Callee::Through(token, ty, p) => called_through(alloc, env, token, ty, p),
     }
-}
-
-/// The full name of a function of the library.
-fn library_name(function: LibraryFunction) -> &'static [u8]
-    ensures { result.now ≡ (callable_of (Body.Library function)).name }
-{
-    match function {
-        LibraryFunction::ExitRun => EXIT,
-        LibraryFunction::GetChar => GETCHAR,
-        LibraryFunction::PutChar => PUTCHAR,
-    }
-}
-
-/// A call of a function of the library, which costs no bound and returns at once.
-pub fn call_library<'a>(
-    world: &'a World<'a>,
-    state: &mut State<'a>,
-    function: LibraryFunction,
-    args: &[Value],
-) -> Result<Option<Value>, Stop<'a>>
-    ensures { (n : ℕ) → Answers (λ v. v) (view_world world.now) (meaning.call (view_world world.now) (runs.calls (view_world world.now) n) (callable_of (Body.Library function)) args.now) (view_state state.old) result (view_state state.new) }
-{
-    take_room(world, state, library_name(function))?;
-    library_call(world, state, function, args)
 }

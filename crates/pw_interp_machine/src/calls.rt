@@ -18,12 +18,13 @@ ghost use Rattle.pw_interp_machine.specs.Orders.{then_gave};
 
 use crate::arguments::take_arguments;
 use crate::blocks::make_locals;
-use crate::callees::{call_library, callee_of};
+use crate::callees::callee_of;
+use crate::library::call_library;
 use crate::machine::{Call, Machine};
 use crate::parameters::{outermost, set_parameters};
 use crate::pushes::lower;
 use crate::results::finish;
-use crate::settling::{given, settle};
+use crate::settling::{settle, transferred};
 use pw_interp_calls::{Ending, Env, Stop, World};
 use pw_interp_state::{State, has_room};
 use pw_interp_todo::{Callee, Control, Doing, Entry, Part, Todo};
@@ -63,7 +64,7 @@ fn begun<'a>(
 fn open_call<'a>(
     alloc: Global,
     outer: Env<'a>,
-    state: &mut State<'a>,
+    state: &mut State,
     bound: u64,
     before: u32,
     f: &'a TFunction,
@@ -87,7 +88,7 @@ fn open_call<'a>(
 fn open_framed<'a>(
     alloc: Global,
     outer: Env<'a>,
-    state: &mut State<'a>,
+    state: &mut State,
     bound: u64,
     used: u32,
     f: &'a TFunction,
@@ -105,7 +106,7 @@ fn open_framed<'a>(
 fn begin_call<'a>(
     alloc: Global,
     world: &'a World<'a>,
-    state: &mut State<'a>,
+    state: &mut State,
     bound: u64,
     home: Module<'a>,
     f: &'a TFunction,
@@ -129,7 +130,7 @@ fn begin_call<'a>(
 pub fn begin_bounded<'a>(
     alloc: Global,
     world: &'a World<'a>,
-    state: &mut State<'a>,
+    state: &mut State,
     bound: u64,
     home: Module<'a>,
     f: &'a TFunction,
@@ -168,7 +169,7 @@ fn enter<'a>(
 fn call_function<'a>(
     alloc: Global,
     machine: &mut Machine<'a>,
-    state: &mut State<'a>,
+    state: &mut State,
     function: Body<'a>,
     args: &[Value],
 ) -> Result<(), Stop<'a>>
@@ -180,7 +181,7 @@ fn call_function<'a>(
     match function {
         Body::Library(function) => {
             let answer = call_library(world, state, function, args);
-            settle(machine, given(answer))
+            settle(machine, transferred(answer))
         }
         Body::Defined(home, f) => {
             let begun = begin_bounded(alloc, world, state, machine.call.bound, home, f, args);
@@ -193,7 +194,7 @@ fn call_function<'a>(
 fn call_with<'a>(
     alloc: Global,
     machine: &mut Machine<'a>,
-    state: &mut State<'a>,
+    state: &mut State,
     callee: Callee<'a>,
     args: &[Value],
 ) -> Result<(), Stop<'a>>
@@ -209,7 +210,7 @@ fn call_with<'a>(
 pub fn call_listed<'a>(
     alloc: Global,
     machine: &mut Machine<'a>,
-    state: &mut State<'a>,
+    state: &mut State,
 ) -> Result<(), Stop<'a>>
     ensures { (main : worlds.Body) → StepsAt main (view_env machine.old.call.env).world machine.old.call machine.old.callers.items
         (λ rest. rest (view_env machine.old.call.env) machine.old.call.bound (spec.Listed [])) (view_state state.old) result machine.new (view_state state.new) }
@@ -221,7 +222,7 @@ pub fn call_listed<'a>(
 /// A call whose function has nothing left to do: its result goes to its caller, or ends the run.
 pub fn give_back<'a>(
     machine: &mut Machine<'a>,
-    state: &mut State<'a>,
+    state: &mut State,
     main: Body<'a>,
     given: Option<Value>,
 ) -> Result<(), Stop<'a>>

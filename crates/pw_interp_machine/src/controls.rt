@@ -38,7 +38,7 @@ use std::alloc::Global;
 pub fn ask_step<'a>(
     alloc: Global,
     call: &mut Call<'a>,
-    state: &State<'a>,
+    state: &State,
     asked: Asked<'a>,
 ) -> Result<Control<'a>, Stop<'a>>
     ensures { StepsCall call.old (λ rest. then_gave (asked_act asked.entry (view_env call.old.env) call.old.bound) rest (view_env call.old.env) call.old.bound) (view_state state.now) result call.new (view_state state.now) }
@@ -62,7 +62,7 @@ fn locals_of(part: Part) -> Option<u32>
 fn begin_step<'a>(
     alloc: Global,
     call: &mut Call<'a>,
-    state: &mut State<'a>,
+    state: &mut State,
     what: Doing<'a>,
     bound: u64,
 ) -> Result<Control<'a>, Stop<'a>>
@@ -77,7 +77,7 @@ fn begin_step<'a>(
 pub fn do_step<'a>(
     alloc: Global,
     call: &mut Call<'a>,
-    state: &mut State<'a>,
+    state: &mut State,
     what: Doing<'a>,
     bound: u64,
 ) -> Result<Control<'a>, Stop<'a>>
@@ -93,7 +93,7 @@ pub fn do_step<'a>(
 fn operand_step<'a>(
     alloc: Global,
     call: &mut Call<'a>,
-    state: &mut State<'a>,
+    state: &mut State,
     operand: Operand<'a>,
     given: Option<Value>,
 ) -> Result<Control<'a>, Stop<'a>>
@@ -122,7 +122,7 @@ fn argument_step<'a>(
 fn value_step<'a>(
     alloc: Global,
     call: &mut Call<'a>,
-    state: &mut State<'a>,
+    state: &mut State,
     what: Use<'a>,
     bound: u64,
     given: Option<Value>,
@@ -163,7 +163,7 @@ fn result_of<'a>(flow: Flow) -> Result<Option<Value>, Stop<'a>>
 pub fn gave_step<'a>(
     alloc: Global,
     call: &mut Call<'a>,
-    state: &mut State<'a>,
+    state: &mut State,
     first: Todo<'a>,
     given: Option<Value>,
 ) -> Result<Control<'a>, Stop<'a>>
@@ -195,7 +195,7 @@ pub fn gave_step<'a>(
 /// A part of a statement left something, which the last of the list takes.
 pub fn flowed_step<'a>(
     call: &mut Call<'a>,
-    state: &mut State<'a>,
+    state: &mut State,
     first: Todo<'a>,
     flow: Flow,
 ) -> Result<Control<'a>, Stop<'a>>

@@ -7,6 +7,7 @@ mod blocks;
 mod callees;
 mod calls;
 mod controls;
+mod library;
 mod machine;
 mod parameters;
 mod pushes;
@@ -14,7 +15,9 @@ mod results;
 mod runs;
 mod settling;
 mod steps;
+mod streams;
 
 pub use machine::{Call, Machine};
-pub use runs::{run, start};
+pub use runs::start;
 pub use steps::step;
+pub use streams::{receive, sent, transfer_of};

@@ -43,7 +43,7 @@ pub fn outermost<'a>(
 pub fn set_parameters<'a>(
     alloc: Global,
     env: &Env<'a>,
-    state: &mut State<'a>,
+    state: &mut State,
     token: usize,
     args: &[Value],
 ) -> Result<(), Stop<'a>>

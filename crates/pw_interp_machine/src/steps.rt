@@ -1,5 +1,6 @@
 //! One step of a run.
 
+ghost use Rattle.std.specs.Prelude.{◌≡◌, true};
 ghost use Rattle.pw_interp_calls.specs.Functions.{callable_of};
 ghost use Rattle.pw_interp_calls.specs.Views.{view_env};
 ghost use Rattle.pw_interp_state.specs.Shown.{view_state};
@@ -7,6 +8,7 @@ ghost use Rattle.pw_cmean.specs.Worlds as worlds;
 ghost use Rattle.pw_interp_todo.specs.Flows.{view_flow};
 ghost use Rattle.pw_interp_todo.specs.Resuming as spec;
 ghost use Rattle.pw_interp_machine.specs.Stepping.{Steps, StepsAt};
+ghost use Rattle.pw_interp_machine.specs.Streaming.{is_inside};
 
 use crate::calls::{call_listed, give_back};
 use crate::controls::{arguments_step, ask_step, do_step, flowed_step, gave_step};
@@ -23,7 +25,7 @@ use std::alloc::Global;
 fn take_value<'a>(
     alloc: Global,
     machine: &mut Machine<'a>,
-    state: &mut State<'a>,
+    state: &mut State,
     main: Body<'a>,
     given: Option<Value>,
 ) -> Result<(), Stop<'a>>
@@ -42,7 +44,7 @@ fn take_value<'a>(
 /// A part of a statement left something: the last that the call has left to do takes it.
 fn take_flow<'a>(
     machine: &mut Machine<'a>,
-    state: &mut State<'a>,
+    state: &mut State,
     flow: Flow,
 ) -> Result<(), Stop<'a>>
     ensures { (main : worlds.Body) → StepsAt main (view_env machine.old.call.env).world machine.old.call machine.old.callers.items
@@ -57,13 +59,14 @@ fn take_flow<'a>(
     }
 }
 
-/// One step of a run of a program with this main function.
+/// One step of a run of a program with this main function, where nothing is to be read or written first.
 pub fn step<'a>(
     alloc: Global,
     machine: &mut Machine<'a>,
-    state: &mut State<'a>,
+    state: &mut State,
     main: Body<'a>,
 ) -> Result<(), Stop<'a>>
+    requires { is_inside machine.old.control ≡ true }
     ensures { Steps (callable_of main.entry).body (view_env machine.old.call.env).world machine.old (view_state state.old) result machine.new (view_state state.new) }
 {
     match machine.control {
@@ -82,5 +85,6 @@ pub fn step<'a>(
         Control::Gave(given) => take_value(alloc, machine, state, main, given),
         Control::Flowed(flow) => take_flow(machine, state, flow),
         Control::Listed => call_listed(alloc, machine, state),
+        Control::Outside(_) => unreachable!(),
     }
 }

@@ -28,7 +28,7 @@ use std::alloc::Global;
 /// A unary operator.
 fn unary<'a>(
     env: &Env<'a>,
-    state: &State<'a>,
+    state: &State,
     token: usize,
     ty: &QType,
     op: UnaryOperator,
@@ -68,7 +68,7 @@ fn decides(op: LogicOperator, holds: bool) -> bool
 /// `&&` or `||`, whose second operand comes where the first does not decide.
 fn logic<'a>(
     env: &Env<'a>,
-    state: &State<'a>,
+    state: &State,
     e: &'a TExpr,
     op: LogicOperator,
     b: &'a TExpr,
@@ -87,7 +87,7 @@ fn logic<'a>(
 /// `?:`, of which one operand is evaluated.
 fn cond<'a>(
     env: &Env<'a>,
-    state: &State<'a>,
+    state: &State,
     token: usize,
     ty: &QType,
     a: &'a TExpr,
@@ -121,7 +121,7 @@ fn assign<'a>(
 /// An operator with `=`, which works in a type. The old value is read before the right operand is evaluated.
 fn compound<'a>(
     env: &Env<'a>,
-    state: &State<'a>,
+    state: &State,
     e: &'a TExpr,
     working: &CType,
     a: &'a TExpr,
@@ -140,7 +140,7 @@ fn compound<'a>(
 fn step<'a>(
     alloc: Global,
     env: &Env<'a>,
-    state: &mut State<'a>,
+    state: &mut State,
     token: usize,
     ty: &QType,
     op: StepOperator,
@@ -170,7 +170,7 @@ fn cast<'a>(
 /// A member, behind the place of the whole.
 fn member<'a>(
     env: &Env<'a>,
-    state: &State<'a>,
+    state: &State,
     token: usize,
     ty: &QType,
     offset: u32,
@@ -187,7 +187,7 @@ fn member<'a>(
 /// What a pointer points to, behind the pointer.
 fn through<'a>(
     env: &Env<'a>,
-    state: &State<'a>,
+    state: &State,
     token: usize,
     ty: &QType,
     given: Option<Value>,
@@ -218,7 +218,7 @@ fn call_value<'a>(
 #[tactic(auto, unfolding(pw_typed::specs::Views::view_form), using(pw_typed::proofs::Rows::call_view, pw_typed::proofs::Rows::call_value_view))]
 fn on_values<'a>(
     env: &Env<'a>,
-    state: &State<'a>,
+    state: &State,
     e: &'a TExpr,
     given: Option<Value>,
 ) -> Result<Next<'a>, Stop<'a>>
@@ -244,7 +244,7 @@ fn on_values<'a>(
 fn at_place<'a>(
     alloc: Global,
     env: &Env<'a>,
-    state: &mut State<'a>,
+    state: &mut State,
     e: &'a TExpr,
     given: Option<Value>,
 ) -> Result<Next<'a>, Stop<'a>>
@@ -301,7 +301,7 @@ fn nothing<'a>() -> Result<Next<'a>, Stop<'a>>
 pub fn answer_behind<'a>(
     alloc: Global,
     env: &Env<'a>,
-    state: &mut State<'a>,
+    state: &mut State,
     e: &'a TExpr,
     given: Option<Value>,
 ) -> Result<Next<'a>, Stop<'a>>

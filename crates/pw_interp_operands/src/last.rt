@@ -61,7 +61,7 @@ fn compound_in<'a>(e: &'a TExpr) -> Option<(BinaryOperator, &'a CType, &'a CType
 /// A binary operator, behind its right operand.
 pub fn right<'a>(
     env: &Env<'a>,
-    state: &State<'a>,
+    state: &State,
     e: &TExpr,
     left: Value,
     given: Option<Value>,
@@ -78,7 +78,7 @@ pub fn right<'a>(
 /// `&&` or `||`, behind its second operand.
 pub fn second<'a>(
     env: &Env<'a>,
-    state: &State<'a>,
+    state: &State,
     e: &TExpr,
     given: Option<Value>,
 ) -> Result<Next<'a>, Stop<'a>>
@@ -92,7 +92,7 @@ pub fn second<'a>(
 pub fn assign<'a>(
     alloc: Global,
     env: &Env<'a>,
-    state: &mut State<'a>,
+    state: &mut State,
     e: &TExpr,
     place: Value,
     given: Option<Value>,
@@ -110,7 +110,7 @@ pub fn assign<'a>(
 pub fn store<'a>(
     alloc: Global,
     env: &Env<'a>,
-    state: &mut State<'a>,
+    state: &mut State,
     e: &TExpr,
     place: Value,
     given: Option<Value>,
@@ -128,7 +128,7 @@ pub fn store<'a>(
 pub fn compound<'a>(
     alloc: Global,
     env: &Env<'a>,
-    state: &mut State<'a>,
+    state: &mut State,
     e: &TExpr,
     place: Value,
     old: Value,

@@ -18,7 +18,7 @@ use std::alloc::Global;
 pub fn behind<'a>(
     alloc: Global,
     env: &Env<'a>,
-    state: &mut State<'a>,
+    state: &mut State,
     operand: Operand<'a>,
     given: Option<Value>,
 ) -> Result<Next<'a>, Stop<'a>>

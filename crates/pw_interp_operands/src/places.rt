@@ -23,7 +23,7 @@ use pw_value::Value;
 /// A member, behind the place of the whole.
 fn member<'a>(
     env: &Env<'a>,
-    state: &State<'a>,
+    state: &State,
     token: usize,
     offset: u32,
     given: Option<Value>,
@@ -46,7 +46,7 @@ fn through<'a>(env: &Env<'a>, token: usize, given: Option<Value>) -> Result<Next
 /// `?:`, of which one operand's place is found.
 fn cond<'a>(
     env: &Env<'a>,
-    state: &State<'a>,
+    state: &State,
     token: usize,
     a: &'a TExpr,
     b: &'a TExpr,
@@ -103,7 +103,7 @@ fn nothing<'a>() -> Result<Next<'a>, Stop<'a>>
 #[tactic(auto, unfolding(pw_typed::specs::Views::view_form), using(pw_typed::proofs::Rows::call_view, pw_typed::proofs::Rows::call_value_view))]
 fn by_form<'a>(
     env: &Env<'a>,
-    state: &State<'a>,
+    state: &State,
     e: &'a TExpr,
     given: Option<Value>,
 ) -> Result<Next<'a>, Stop<'a>>
@@ -124,7 +124,7 @@ fn by_form<'a>(
 /// What is left of an lvalue whose place is asked, behind what was evaluated first for it.
 pub fn place_behind<'a>(
     env: &Env<'a>,
-    state: &State<'a>,
+    state: &State,
     e: &'a TExpr,
     given: Option<Value>,
 ) -> Result<Next<'a>, Stop<'a>>

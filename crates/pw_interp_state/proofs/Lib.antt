@@ -4,5 +4,4 @@ pub mod FindingLemmas
 pub mod MoveLemmas
 pub mod AccessLaws
 pub mod OperatorLaws
-pub mod InputLemmas
 pub mod RunLaws

@@ -5,16 +5,16 @@ use Rattle.pw_cmean.specs.Worlds.{World}
 use Rattle.pw_cmean.specs.Acts.{Act, State, Ending, Outcome, Gives, Ends, Site}
 use Rattle.pw_interp_state.specs.declared.fault.Fault.{Fault}
 use Rattle.pw_interp_state.specs.Answers.{ending_of}
-use Rattle.pw_interp_state.specs.Shown.{Shown, shown}
+use Rattle.pw_interp_state.specs.Shown.{Shown, Streams, all_shown}
 
--- an outcome gives the value, or ends so, and its state shows this
-abbrev pub Shows : {A : Type 0} → World → Outcome A → Result A Ending → Shown → Type 0
-Shows world (Gives a s) result behind = (Ok a ≡ result) × (shown world s ≡ behind)
-Shows world (Ends ending s) result behind = (Err ending ≡ result) × (shown world s ≡ behind)
+-- an outcome gives the value, or ends so, and its state shows this, with such input and output
+abbrev pub Shows : {A : Type 0} → World → Outcome A → Result A Ending → Shown × Streams → Type 0
+Shows world (Gives a s) result behind = (Ok a ≡ result) × (all_shown world s ≡ behind)
+Shows world (Ends ending s) result behind = (Err ending ≡ result) × (all_shown world s ≡ behind)
 
--- from each state that shows the one, the act comes to the result in a state that shows the other
+-- From each state that shows the one, the act comes to the result in a state that shows the other; it neither reads nor writes.
 pub record Runs {A : Type 0} (world : World) (act : Act A) (before : Shown) (result : Result A Ending) (behind : Shown) : Type 0 where
-  pub comes : (s : State) → shown world s ≡ before → Shows world (act s) result behind
+  pub comes : (st : Streams) (s : State) → all_shown world s ≡ (before, st) → Shows world (act s) result (behind, st)
 
 -- an answer at a node
 abbrev pub at_node : {A : Type 0} → Site → Result A Fault → Result A Ending

@@ -1,5 +1,4 @@
-//! What changes in a run of a C program: its objects, the operators, conversions and accesses on them, input,
-//! output and room.
+//! What changes in a run of a C program: its objects, the operators, conversions and accesses on them, and room.
 #![tactic(auto)]
 
 pub mod access;
@@ -25,5 +24,5 @@ pub use moves::Move;
 pub use objects::Objects;
 pub use operators::{binary, convert, truth, unary};
 pub use pointers::advance;
-pub use state::{State, get_char, has_room, put_char};
+pub use state::{State, has_room};
 pub use writes::{copy, put, store};

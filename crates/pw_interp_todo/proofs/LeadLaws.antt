@@ -3,7 +3,7 @@ use Rattle.std.proofs.Common.{◌≡◌, refl, sym, ap, subst, ◌∙◌, Bool, 
 use Rattle.std.specs.Prelude.{IfErr, option_map}
 use Rattle.pw_cmean.specs.Worlds.{World}
 use Rattle.pw_cmean.specs.Acts.{Act, State, Ending, Outcome, Gives, Ends, give, go_on, ◌>>=◌, branch, need, wrong}
-use Rattle.pw_interp_state.specs.Shown.{Shown, shown}
+use Rattle.pw_interp_state.specs.Shown.{Shown, Streams, all_shown}
 use Rattle.pw_interp_state.specs.Runs.{Shows, Runs}
 use Rattle.pw_interp_state.proofs.RunLaws.{ends}
 use Rattle.pw_interp_calls.specs.declared.ending.Ending.TheVariants as E
@@ -18,19 +18,19 @@ use Rattle.pw_interp_todo.specs.Needs.{needed}
 -- ---- what leads to what
 
 pub stays : {A : Type 0} {world : World} {act : Act A} {w : Shown} → Leads world act w act w
-stays = record { leads = λ s e. (s, e, refl) }
+stays = record { leads = λ st s e. (s, e, refl) }
 
 pub further : {A : Type 0} {world : World} {act middle rest : Act A} {w u v : Shown} → Leads world act w middle u → Leads world middle u rest v → Leads world act w rest v
 further one two = record {
-  leads = λ s e.
-      let a = one.leads s e in
-      let b = two.leads a.0 a.1 in
+  leads = λ st s e.
+      let a = one.leads st s e in
+      let b = two.leads st a.0 a.1 in
       (b.0, b.1, a.2 ∙ b.2);
 }
 
 -- an act that is the same from each state
 pub same_lead : {A : Type 0} {world : World} {act other : Act A} {w : Shown} → ((s : State) → act s ≡ other s) → Leads world act w other w
-same_lead same = record { leads = λ s e. (s, e, same s) }
+same_lead same = record { leads = λ st s e. (s, e, same s) }
 
 -- an act by another name
 pub named : {A : Type 0} {world : World} {act other : Act A} {w : Shown} → act ≡ other → Leads world act w other w
@@ -39,27 +39,27 @@ named {world = world} {act = act} {w = w} e = subst (λ x. Leads world act w x w
 -- behind what the first gave
 pub behind_given : {A B : Type 0} {world : World} {first : Act A} {a : A} {w u : Shown} (next : A → Act B) → Runs world first w (Ok a) u → Leads world (first >>= next) w (next a) u
 unfolding ◌>>=◌ go_on
-behind_given {A = A} {world = world} {first = first} {a = a} {w = w} {u = u} next run = record { leads = λ s e. by (first s) (run.comes s e) }
+behind_given {A = A} {world = world} {first = first} {a = a} {w = w} {u = u} next run = record { leads = λ st s e. by st (first s) (run.comes st s e) }
   where
-    by : (o : Outcome A) → Shows world o (Ok a) u → (t : State) × (shown world t ≡ u) × (go_on o next ≡ next a t)
-    by (Gives b t) (is, at) = let same : b ≡ a = cc is in (t, at, ap (λ x. next x t) same)
-    by (Ends ending t) (is, at) = cc is
+    by : (st : Streams) (o : Outcome A) → Shows world o (Ok a) (u, st) → (t : State) × (all_shown world t ≡ (u, st)) × (go_on o next ≡ next a t)
+    by st (Gives b t) (is, at) = let same : b ≡ a = cc is in (t, at, ap (λ x. next x t) same)
+    by st (Ends ending t) (is, at) = cc is
 
 -- with what follows both
 pub in_front : {A B : Type 0} {world : World} {act rest : Act A} {w u : Shown} (next : A → Act B) → Leads world act w rest u → Leads world (act >>= next) w (rest >>= next) u
 unfolding ◌>>=◌
 in_front next one = record {
-  leads = λ s e.
-      let a = one.leads s e in
+  leads = λ st s e.
+      let a = one.leads st s e in
       (a.0, a.1, ap (λ o. go_on o next) a.2);
 }
 
 -- what a run of the rest comes to the whole comes to
 pub runs_so : {A : Type 0} {world : World} {act rest : Act A} {w u v : Shown} {r : Result A Ending} → Leads world act w rest u → Runs world rest u r v → Runs world act w r v
 runs_so {world = world} {v = v} {r = r} one run = record {
-  comes = λ s e.
-      let a = one.leads s e in
-      subst (λ o. Shows world o r v) (sym a.2) (run.comes a.0 a.1);
+  comes = λ st s e.
+      let a = one.leads st s e in
+      subst (λ o. Shows world o r (v, st)) (sym a.2) (run.comes st a.0 a.1);
 }
 
 -- ---- what code answers
@@ -107,11 +107,11 @@ pub last_gives : {A C D : Type 0} {seen : C → A} {left : D → Act A} {world :
     → Answers seen world act w one u → one ≡ Ok made → r ≡ Ok d → left d ≡ give (seen made) → Continues left world act w r u
 unfolding give
 last_gives {A = A} {seen = seen} {left = left} {world = world} {act = act} {made = made} {w = w} {u = u} d a e is gives =
-    left_so d is (subst (λ x. Leads world act w x u) (sym gives) (record { leads = λ s f. by (act s) ((given_by a e).comes s f) }))
+    left_so d is (subst (λ x. Leads world act w x u) (sym gives) (record { leads = λ st s f. by st (act s) ((given_by a e).comes st s f) }))
   where
-    by : (o : Outcome A) → Shows world o (Ok (seen made)) u → (t : State) × (shown world t ≡ u) × (o ≡ give (seen made) t)
-    by (Gives b t) (is, at) = let same : b ≡ seen made = cc is in (t, at, ap (λ x. Gives x t) same)
-    by (Ends ending t) (is, at) = cc is
+    by : (st : Streams) (o : Outcome A) → Shows world o (Ok (seen made)) (u, st) → (t : State) × (all_shown world t ≡ (u, st)) × (o ≡ give (seen made) t)
+    by st (Gives b t) (is, at) = let same : b ≡ seen made = cc is in (t, at, ap (λ x. Gives x t) same)
+    by st (Ends ending t) (is, at) = cc is
 
 pub last_stops : {A C D : Type 0} {seen : C → A} {left : D → Act A} {world : World} {act : Act A} {stop : Stop} {w u : Shown} {one : Result C Stop} {r : Result D Stop}
     → Answers seen world act w one u → one ≡ Err stop → r ≡ Err stop → Continues left world act w r u

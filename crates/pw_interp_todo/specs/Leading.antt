@@ -2,13 +2,14 @@
 use Rattle.std.specs.Prelude.{◌≡◌, Result, IfOk, IfErr}
 use Rattle.pw_cmean.specs.Worlds.{World}
 use Rattle.pw_cmean.specs.Acts.{Act, State}
-use Rattle.pw_interp_state.specs.Shown.{Shown, shown}
+use Rattle.pw_interp_state.specs.Shown.{Shown, Streams, all_shown}
 use Rattle.pw_interp_calls.specs.declared.ending.Stop.{Stop}
 use Rattle.pw_interp_calls.specs.Answers.{Stops}
 
--- from each state that shows the start, the whole comes to what the rest comes to from a state that shows this
+-- From each state that shows the start, the whole comes to what the rest comes to from a state that shows this, with nothing
+-- read or written between them.
 pub record Leads {A : Type 0} (world : World) (whole : Act A) (start : Shown) (rest : Act A) (now : Shown) : Type 0 where
-  pub leads : (s : State) → shown world s ≡ start → (t : State) × (shown world t ≡ now) × (whole s ≡ rest t)
+  pub leads : (st : Streams) (s : State) → all_shown world s ≡ (start, st) → (t : State) × (all_shown world t ≡ (now, st)) × (whole s ≡ rest t)
 
 -- What code answers that does the first steps of an act: what is left of it, or how it ends the run; want of memory,
 -- which no act knows, says nothing.

@@ -5,6 +5,7 @@ pub mod Members
 pub mod Loops
 pub mod Parts
 pub mod Going
+pub mod Transfers
 pub mod Resuming
 pub mod Leading
 pub mod Needs

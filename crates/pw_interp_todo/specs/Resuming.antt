@@ -15,6 +15,7 @@ use Rattle.pw_interp_todo.specs.Flows.{view_flow}
 use Rattle.pw_interp_todo.specs.Operands.{behind, call_behind}
 use Rattle.pw_interp_todo.specs.Parts.{doing_act}
 use Rattle.pw_interp_todo.specs.Going.{remainder_act, use_act}
+use Rattle.pw_interp_todo.specs.Transfers.{transfer_act}
 
 -- what was done has given this: a result, what comes of a statement, or the values of a call's arguments
 pub data Told : Type 0 where
@@ -78,3 +79,4 @@ control_act (C.Arguments args token) e n rest = values_of (view_exprs args.now) 
 control_act (C.Gave given) e n rest = rest e n (Gave given)
 control_act (C.Flowed flow) e n rest = rest e n (Flowed (view_flow flow))
 control_act C.Listed e n rest = rest e n (Listed [])
+control_act (C.Outside transfer) e n rest = transfer_act transfer >>= λ r. rest e n (Gave r)

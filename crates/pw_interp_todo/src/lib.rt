@@ -12,4 +12,4 @@ pub use asked::{Asked, Callee, Next, Operand};
 pub use flow::{Entry, Flow};
 pub use needs::{need, tested};
 pub use statements::{Doing, Done, Going, Part, Purpose, Remainder, Turn, Use};
-pub use todo::{Control, Todo};
+pub use todo::{Control, Todo, Transfer};

@@ -25,7 +25,7 @@ pub fn need<'a, T>(value: Option<T>) -> Result<T, Stop<'a>>
 /// Whether an operand or a condition that gave this result is unlike 0, at the node of the token.
 pub fn tested<'a>(
     env: &Env<'a>,
-    state: &State<'a>,
+    state: &State,
     token: usize,
     given: Option<Value>,
 ) -> Result<bool, Stop<'a>>

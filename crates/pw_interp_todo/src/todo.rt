@@ -43,8 +43,16 @@ pub enum Todo<'a> {
     },
 }
 
+/// What a function of the library does with the input and output of a run: it reads a byte, of which the result is the byte,
+/// or -1 at the end of the input (ISO C90 7.9.7.6); or it writes this byte, which is the result (7.9.7.9).
+#[derive(Clone, Copy)]
+pub enum Transfer {
+    Read,
+    Write(u8),
+}
+
 /// What is done now: what is asked; a part of a statement, behind which the run goes on with a bound; the arguments of a
-/// call that are left; or what was done has given this.
+/// call that are left; what was done has given this; or a byte is read or written, which gives a result.
 #[derive(Clone, Copy)]
 pub enum Control<'a> {
     Ask(Asked<'a>),
@@ -54,4 +62,5 @@ pub enum Control<'a> {
     Flowed(Flow),
     /// All arguments of a call have their values.
     Listed,
+    Outside(Transfer),
 }

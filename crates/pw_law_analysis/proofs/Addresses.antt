@@ -1,4 +1,4 @@
--- What an accepted program's summaries say of the addresses that its modules take.
+-- What a program's summaries say of the addresses that its modules take.
 use Rattle.std.proofs.Common.{◌≡◌, ◌⊎◌, ℕ, ◌+◌, List, [], ◌∷◌, map, refl, sym, ap, subst, ◌∙◌, inl, inr}
 use Rattle.std.specs.Prelude.{Option, Some, None, unwrap_or}
 use Rattle.std.specs.List.{flat_map}
@@ -29,6 +29,7 @@ use Rattle.pw_run_languages.specs.LawfulPrograms as web
 use Rattle.pw_run_languages.specs.LawfulPrograms.{ops_of, taken_names, NamesRightly, IsGlobalName}
 use Rattle.pw_law_source.specs.Lowering.{flow_program, IsAccepted}
 use Rattle.pw_law_analysis.specs.SummaryGraphs.{AllSummarise}
+use Rattle.pw_law_analysis.specs.SummaryLaws.{HaveShapes}
 use Rattle.pw_law_analysis.proofs.Taking.{TakesRightly, AllRight, functions_good}
 use Rattle.pw_law_analysis.proofs.Lists.{across}
 use Rattle.pw_law_analysis.proofs.Declared.{IsSaid, IsShaped, shaped}
@@ -247,16 +248,26 @@ module _ (p : Program) (frame_of : List ℕ → ℕ) (stack : ℕ) (accepted : I
             op_said q m.name m.tree o.0 name right named function o.2
       ]
 
-  -- the functions whose address a module takes are taken by the summaries
-  pub function_taken : (ss : List Summary) → AllSummarise (flow_program p frame_of stack).modules ss → (name : List ℕ) → Has name (names_of (flow_program p frame_of stack)) → Has name (taken_names (flow_program p frame_of stack)) → IsTaken ss name
-  function_taken ss all name function taken =
+  -- the functions whose address a module takes have shapes there
+  pub have_shapes : HaveShapes (flow_program p frame_of stack)
+  have_shapes n name within address function =
       let q = flow_program p frame_of stack in
-      let n = taken_of_module q name taken in
-      let m = has_map_back (λ (m : ProgramModule). lowered m.name m.tree) n.0 p.modules n.1 in
-      let h : Has name (in_module addressed (lowered m.0.name m.0.tree)) = subst (λ (n : FlowModule). Has name (in_module addressed n)) (sym m.2) n.2 in
-      let valid = has_each IsValid q.modules n.0 accepted.program.modules n.1 in
-      let ordinary = has_each IsOrdinary (named_in n.0) name valid.parts.ordinary (address_named n.0 name n.2) in
-      let global : IsGlobalName q name → ⊥ = λ g. across (names_of q) (map (λ (v : FlowGlobal). v.name) (globals_of q)) accepted.program.names name function (has_by name (map (λ (v : FlowGlobal). v.name) (globals_of q)) g) in
-      let s = address_said m.0 name m.1 h global in
-      let shape = shaped p frame_of stack accepted m.0 m.1 s.0 s.2 (subst (λ (n : List ℕ). Has n (names_of q)) (sym s.1) function) (λ e. ordinary (sym s.1 ∙ e)) in
-      shaped_is_taken q.modules ss all (lowered m.0.name m.0.tree) name (subst (λ (n : FlowModule). Has n q.modules) (sym m.2) n.1) h (subst (λ (n : List ℕ). IsShaped (lowered m.0.name m.0.tree) n) s.1 shape)
+      let there = has_by n q.modules within in
+      let m = has_map_back (λ (m : ProgramModule). lowered m.name m.tree) n p.modules there in
+      let taken = has_by name (in_module addressed n) address in
+      let own : Has name (in_module addressed (lowered m.0.name m.0.tree)) = subst (λ (n : FlowModule). Has name (in_module addressed n)) (sym m.2) taken in
+      let named = has_by name (names_of q) function in
+      let valid = has_each IsValid q.modules n accepted.program.modules there in
+      let ordinary = has_each IsOrdinary (named_in n) name valid.parts.ordinary (address_named n name taken) in
+      let global : IsGlobalName q name → ⊥ = λ g. across (names_of q) (map (λ (v : FlowGlobal). v.name) (globals_of q)) accepted.program.names name named (has_by name (map (λ (v : FlowGlobal). v.name) (globals_of q)) g) in
+      let s = address_said m.0 name m.1 own global in
+      let shape = shaped p frame_of stack accepted m.0 m.1 s.0 s.2 (subst (λ (n : List ℕ). Has n (names_of q)) (sym s.1) named) (λ e. ordinary (sym s.1 ∙ e)) in
+      subst (λ (f : FlowModule). IsShaped f name) m.2 (subst (λ (n : List ℕ). IsShaped (lowered m.0.name m.0.tree) n) s.1 shape)
+
+-- ---- and are taken by the summaries
+
+pub function_taken : (q : FlowProgram) → HaveShapes q → (ss : List Summary) → AllSummarise q.modules ss → (name : List ℕ) → Has name (names_of q) → Has name (taken_names q) → IsTaken ss name
+function_taken q shapes ss all name function taken =
+    let n = taken_of_module q name taken in
+    let shape = shapes n.0 name (contains_by n.0 q.modules n.1) (contains_by name (in_module addressed n.0) n.2) (contains_by name (names_of q) function) in
+    shaped_is_taken q.modules ss all n.0 name n.1 n.2 shape

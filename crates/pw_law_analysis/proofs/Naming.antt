@@ -13,7 +13,7 @@ use Rattle.pw_graph.specs.CallGraph.{Calls, Weighs, References, Writes}
 use Rattle.pw_graph.specs.Program.{IsGraphOf}
 use Rattle.pw_db_sound.specs.CallGraphs.{Node}
 use Rattle.pw_db_sound.specs.CallGraphs as Named
-use Rattle.pw_colour.specs.Naming.{CallsByName, IsByName, IsNamed}
+use Rattle.pw_clusters.specs.ByName.{CallsByName, IsByName, IsNamed}
 use Rattle.pw_law_analysis.specs.SummaryGraphs.{name_at, global_at, node_at, nodes_from, named_graph}
 
 -- one name, where a test says so

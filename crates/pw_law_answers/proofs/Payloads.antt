@@ -1,6 +1,6 @@
 -- The directives of a module in the database of its program have a payload.
 use Rattle.std.proofs.Common.{◌≡◌, ◌⊎◌, ℕ, zero, suc, ◌+◌, ◌^◌, ◌<◌, ◌≤◌, Bool, true, false, List, [], ◌∷◌, ◌++◌, length, map, refl, sym, ap, subst, ◌∙◌, arith, inl, inr, length-append}
-use Rattle.std.specs.Prelude.{Contains, Option, Some, None, slice_index_or, nat_lt, cond, if◌then◌else◌}
+use Rattle.std.specs.Prelude.{Contains, Option, Some, None, slice_index_or, cond, if◌then◌else◌}
 use Rattle.std.specs.List.{flat_map, filter}
 use Rattle.std.proofs.lemmas.List.{length-map}
 use Rattle.std.proofs.lemmas.List.Concat.{flat_map-cons}
@@ -15,7 +15,9 @@ use Rattle.pw_flow.specs.FlowGraph.{global_names, function_names}
 use Rattle.pw_flow.specs.ValidFlow.{AreDistinct, IsValid}
 use Rattle.pw_flow.specs.declared.flow.FlowModule.{FlowModule}
 use Rattle.pw_flow.proofs.Once.{distinct_right}
-use Rattle.pw_db.specs.Database.{EachTwo, IsDirectives, Agree, IsDatabase, HasDirectives, IsStored, FitsFunction, FitsDatabase, IsDatabaseContents, all_webs, webs_of as webs_in, has_web, names_of, names_of_function, empty, spelling}
+use Rattle.pw_db.specs.Database.{EachTwo, IsDirectives, Agree, IsDatabase, HasDirectives, IsStored, all_webs, webs_of as webs_in, says_something, empty, database_version, newest}
+use Rattle.pw_db_file.specs.Spelling.{FitsFunction, FitsDatabase, IsDatabaseContents, names_of, names_of_function, spelling}
+use Rattle.pw_db_file.proofs.WritingLemmas.{newest_lawful}
 use Rattle.pw_db.specs.declared.database.Directives.{Directives}
 use Rattle.pw_db.specs.declared.database.Role.{Role}
 use Rattle.pw_db.specs.declared.database.Role.TheVariants.{Entry, Member}
@@ -45,16 +47,16 @@ in_entry true x d f (inr h) = absurd h
 in_entry false x d f h = absurd h
 
 -- where the directives of a function come from
-record Source (g : CallGraph) (ws : List (ℕ × RawWeb × ℕ)) (fs : List (List ℕ)) (f : List ℕ × Directives) : Type 0 where
+record Source (g : CallGraph) (roots : List ℕ) (ws : List (ℕ × RawWeb × ℕ)) (fs : List (List ℕ)) (f : List ℕ × Directives) : Type 0 where
   place : ℕ
   name : Has f.0 fs
-  is : directives_of g ws place ≡ f.1
+  is : directives_of g roots ws place ≡ f.1
 
-source_of : (g : CallGraph) (ws : List (ℕ × RawWeb × ℕ)) (n : ℕ) (fs : List (List ℕ)) (f : List ℕ × Directives) → Has f (entries_from g ws n fs) → Source g ws fs f
-source_of g ws n [] f h = absurd h
-source_of g ws n (x ∷ fs) f h = elim (has_split f (entry_of g ws n x) (entries_from g ws (suc n) fs) h) [
-  | inl k ↦ let e = in_entry (nat_lt 0 (length (webs_of g ws n))) x (directives_of g ws n) f k in record { place = n; name = inl e.0; is = e.1 }
-  | inr k ↦ let s = source_of g ws (suc n) fs f k in record { place = s.place; name = inr s.name; is = s.is }
+source_of : (g : CallGraph) (roots : List ℕ) (ws : List (ℕ × RawWeb × ℕ)) (n : ℕ) (fs : List (List ℕ)) (f : List ℕ × Directives) → Has f (entries_from g roots ws n fs) → Source g roots ws fs f
+source_of g roots ws n [] f h = absurd h
+source_of g roots ws n (x ∷ fs) f h = elim (has_split f (entry_of g roots ws n x) (entries_from g roots ws (suc n) fs) h) [
+  | inl k ↦ let e = in_entry (says_something (x, directives_of g roots ws n)) x (directives_of g roots ws n) f k in record { place = n; name = inl e.0; is = e.1 }
+  | inr k ↦ let s = source_of g roots ws (suc n) fs f k in record { place = s.place; name = inr s.name; is = s.is }
 ]
 
 one_at_most : {X : Type 0} (b : Bool) (x : X) → length (if b then (x ∷ []) else []) ≤ 1
@@ -96,7 +98,7 @@ stands_at [] k d lt = absurd (omega (arith, lt))
 stands_at (x ∷ xs) zero d lt = inl refl
 stands_at (x ∷ xs) (suc k) d lt = inr (stands_at xs k d (omega (arith, lt)))
 
-module _ (g : CallGraph) (ps : List (RawWeb × Option ℕ)) (few : length ps < 2 ^ 32) (raw : (w : RawWeb) (o : Option ℕ) → Has (w, o) ps → w.global < length g.globals) where
+module _ (g : CallGraph) (roots : List ℕ) (ps : List (RawWeb × Option ℕ)) (few : length ps < 2 ^ 32) (raw : (w : RawWeb) (o : Option ℕ) → Has (w, o) ps → w.global < length g.globals) where
   abbrev all : List (ℕ × RawWeb × ℕ)
   all = numbered 0 ps
 
@@ -108,14 +110,14 @@ module _ (g : CallGraph) (ps : List (RawWeb × Option ℕ)) (few : length ps < 2
     there : Has number all
     is : web_of g number ≡ w
 
-  from : (place : ℕ) (w : Web) → Has w (webs_in (directives_of g all place)) → From w
+  from : (place : ℕ) (w : Web) → Has w (webs_in (directives_of g roots all place)) → From w
   from place w h =
       let p = has_map_back (λ (x : Web × Role). x.0) w (webs_of g all place) h in
       let q = has_flat_back (part place) p.0 all p.1 in
       let e = in_if (has_number q.0.1.members place) _ p.0 q.2 in
       record { number = q.0; there = q.1; is = ap (λ (x : Web × Role). x.0) e ∙ p.2 }
 
-  small_at : (place : ℕ) (name : List ℕ) → Has name g.functions → IsSmall g (name, directives_of g all place)
+  small_at : (place : ℕ) (name : List ℕ) → Has name g.functions → IsSmall g (name, directives_of g roots all place)
   small_at place name there = record {
     function = there;
     few = (let le = few_parts (part place) all (λ w. one_at_most (has_number w.1.members place) _) in let n = few_numbered 0 ps in omega (arith, le, n, few));
@@ -132,9 +134,9 @@ module _ (g : CallGraph) (ps : List (RawWeb × Option ℕ)) (few : length ps < 2
         subst (λ (n : List ℕ). Has n (map (λ v. v.0) g.globals)) (ap (λ (v : Web). v.global) x.is) at;
   }
 
-  pub entries_small : (f : List ℕ × Directives) → Has f (entries_from g all 0 g.functions) → IsSmall g f
+  pub entries_small : (f : List ℕ × Directives) → Has f (entries_from g roots all 0 g.functions) → IsSmall g f
   entries_small f h =
-      let s = source_of g all 0 g.functions f h in
+      let s = source_of g roots all 0 g.functions f h in
       subst (λ (d : Directives). IsSmall g (f.0, d)) s.is (small_at s.place f.0 s.name)
 
 -- ---- lists of names without repeats
@@ -164,7 +166,7 @@ no_more (x ∷ xs) ys all sub =
     let less = one_less x ys h in
     omega (arith, rest, less)
 
--- ---- functions that hold a web
+-- ---- functions whose directives say something
 
 kept_if : {X : Type 0} (b : Bool) (x y : X) (ys : List X) → Has y (cond b (x ∷ ys) ys) → ((x ≡ y) × (b ≡ true)) ⊎ Has y ys
 kept_if true x y ys (inl e) = inl (e, refl)
@@ -217,23 +219,23 @@ all_agree (x ∷ xs) f = (each_by (Agree x) xs (λ y h. f x y (inl refl) (inr h)
 module _ (g : CallGraph) (graph : IsGraph g) (named : (n : List ℕ) → Has n (g.functions ++ map (λ v. v.0) g.globals) → IsNameLength (length n))
     (db : List (List ℕ × Directives)) (small : (f : List ℕ × Directives) → Has f db → IsSmall g f)
     (flow : FlowModule) (valid : IsValid flow) (few : length flow.functions < 2 ^ 32) (ds : List (List ℕ × Directives)) (are : AreDirectivesIn db flow ds) where
-  names_differ : AreDistinct (map (λ (f : List ℕ × Directives). f.0) ds) → (x y : List ℕ × Directives) → Has x (filter has_web ds) → Has y (filter has_web ds) → x.0 ≡ y.0 → x ≡ y
-  names_differ distinct x y h k e = one_item (λ (f : List ℕ × Directives). f.0) ds distinct x y (kept_back has_web ds x h).0 (kept_back has_web ds y k).0 e
+  names_differ : AreDistinct (map (λ (f : List ℕ × Directives). f.0) ds) → (x y : List ℕ × Directives) → Has x (filter says_something ds) → Has y (filter says_something ds) → x.0 ≡ y.0 → x ≡ y
+  names_differ distinct x y h k e = one_item (λ (f : List ℕ × Directives). f.0) ds distinct x y (kept_back says_something ds x h).0 (kept_back says_something ds y k).0 e
 
-  no_web : (d : Directives) → d ≡ empty → nat_lt 0 (length d.webs) ≡ true → ⊥
-  no_web d e on = let off : nat_lt 0 (length d.webs) ≡ false = ap (λ (x : Directives). nat_lt 0 (length x.webs)) e in cc
+  says_nothing : (f : List ℕ × Directives) → f.1 ≡ empty → says_something f ≡ true → ⊥
+  says_nothing f e on = let off : says_something f ≡ false = ap (λ (x : Directives). says_something (f.0, x)) e in cc
 
-  -- a function that holds a web stands in the database
-  in_database : (f : List ℕ × Directives) → Has f ds → has_web f ≡ true → IsSmall g f
+  -- a function whose directives say something stands in the database
+  in_database : (f : List ℕ × Directives) → Has f ds → says_something f ≡ true → IsSmall g f
   in_database f h on =
       let has = has_each (HasDirectives db) ds f (recursion_from_All (HasDirectives db) ds are.each) h in
       elim (stands_or_not f.0 (map (λ (x : List ℕ × Directives). x.0) db)) [
         | inl there ↦ small f (has_by f db (has.found (contains_by f.0 (map (λ (x : List ℕ × Directives). x.0) db) there)))
-        | inr lacks ↦ absurd (no_web f.1 (has.lacks (λ c. lacks (has_by f.0 (map (λ (x : List ℕ × Directives). x.0) db) c))) on)
+        | inr lacks ↦ absurd (says_nothing f (has.lacks (λ c. lacks (has_by f.0 (map (λ (x : List ℕ × Directives). x.0) db) c))) on)
       ]
 
   abbrev Stored : List (List ℕ × Directives) → Type 0
-  Stored stored = (f : List ℕ × Directives) → Has f stored → Has f ds × (has_web f ≡ true)
+  Stored stored = (f : List ℕ × Directives) → Has f stored → Has f ds × (says_something f ≡ true)
 
   used_there : (stored : List (List ℕ × Directives)) → Stored stored → (n : List ℕ) → Has n (names_of stored) → Has n (g.functions ++ map (λ v. v.0) g.globals)
   used_there stored from n h =
@@ -282,21 +284,24 @@ module _ (g : CallGraph) (graph : IsGraph g) (named : (n : List ℕ) → Has n (
 
   payload_with : (stored : List (List ℕ × Directives)) (names : List (List ℕ)) → IsStored ds stored → Stored stored → length stored ≤ length ds → IsTableOf names (names_of stored) → (bytes : List ℕ) × IsPayloadOf bytes ds
   payload_with stored names is from le table =
-      let contents : IsDatabaseContents (record { names = names; value = stored }) = record {
-        lawful = database_of stored is from;
-        fits = fits_of stored le from;
-        name_count = few_names names (rising_apart names (table_rises names table.rising)) (λ n h. used_there stored from n (has_by n (names_of stored) ((table.of n).0 (contains_by n names h))));
-        names = table;
+      let contents : IsDatabaseContents database_version (record { names = names; value = newest stored }) = record {
+        version_is = refl;
+        contents = record {
+          lawful = newest_lawful stored (database_of stored is from);
+          fits = fits_of stored le from;
+          name_count = few_names names (rising_apart names (table_rises names table.rising)) (λ n h. used_there stored from n (has_by n (names_of stored) ((table.of n).0 (contains_by n names h))));
+          names = table;
+        };
       } in
-      (spelling (record { names = names; value = stored }), (stored, is, (names, contents, refl)))
+      (spelling database_version (record { names = names; value = newest stored }), (stored, is, (names, contents, refl)))
 
-  stored_is : (stored : List (List ℕ × Directives)) → ((x : List ℕ × Directives) → Contains stored x → Contains (filter has_web ds) x) → Stored stored
-  stored_is stored of f h = kept_back has_web ds f (has_by f (filter has_web ds) (of f (contains_by f stored h)))
+  stored_is : (stored : List (List ℕ × Directives)) → ((x : List ℕ × Directives) → Contains stored x → Contains (filter says_something ds) x) → Stored stored
+  stored_is stored of f h = kept_back says_something ds f (has_by f (filter says_something ds) (of f (contains_by f stored h)))
 
   pub payload_exists : (bytes : List ℕ) × IsPayloadOf bytes ds
   payload_exists =
       let distinct : AreDistinct (map (λ (f : List ℕ × Directives). f.0) ds) = subst AreDistinct (sym are.of_module.functions) (distinct_right (global_names flow) (function_names flow) valid.names.distinct.defined) in
-      let o = ordered (λ (f : List ℕ × Directives). f.0) (filter has_web ds) (names_differ distinct) in
+      let o = ordered (λ (f : List ℕ × Directives). f.0) (filter says_something ds) (names_differ distinct) in
       let from = stored_is o.0 (λ x. (o.1.of x).0) in
       let table = table_exists (names_of o.0) (λ n h. named n (used_there o.0 from n h)) in
       payload_with o.0 table.0
@@ -304,6 +309,6 @@ module _ (g : CallGraph) (graph : IsGraph g) (named : (n : List ℕ) → Has n (
         order = o.1.rising;
         of = λ f. (
           λ h. let k = from f (has_by f o.0 h) in (contains_by f ds k.0, k.1),
-          λ h. (o.1.of f).1 (contains_by f (filter has_web ds) (kept_there has_web ds f (has_by f ds h.0) h.1)),
+          λ h. (o.1.of f).1 (contains_by f (filter says_something ds) (kept_there says_something ds f (has_by f ds h.0) h.1)),
         );
-      }) from (let le = o.2 in let fewer = few_kept has_web ds in omega (arith, le, fewer)) table.1
+      }) from (let le = o.2 in let fewer = few_kept says_something ds in omega (arith, le, fewer)) table.1

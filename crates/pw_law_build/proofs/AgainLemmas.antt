@@ -22,7 +22,7 @@ use Rattle.pw_build_files.specs.Building.{BuildOutcome, IsOutcome, Outcome, if_c
 use Rattle.pw_law_build.specs.Whole.{HoldsFile}
 use Rattle.pw_law_build.specs.Kept.{FitObjects, KeepsFlows, KeepsObjects, unchanged}
 use Rattle.pw_law_build.proofs.WholeLemmas.{both_stand}
-use Rattle.pw_law_build.proofs.KeptLemmas.{Laws, completed, keeps_objects}
+use Rattle.pw_law_build.proofs.KeptLemmas.{FormsAreAsMany, Laws, completed, keeps_objects}
 use Rattle.pw_build_opts.specs.declared.opts.Opts.{Opts}
 
 -- ---- the objects stay
@@ -49,8 +49,8 @@ builds_on : (sources others : List Source) (kept : List (Option Object)) (opts :
 builds_on sources others kept opts parts same h =
     let c = completed (first_phases sources) kept opts parts h in
     let p = c.completes.0 in
-    let again : AreParts c.flows (map (λ o. Some o) parts.objects) opts.colours (stayed parts) =
-    record { lawful = p.lawful; database = p.database; objects = objects_stay parts.database c.flows kept parts.objects parts.fresh p.objects } in
+    let again : AreParts c.flows (map (λ o. Some o) parts.objects) opts (stayed parts) =
+    record { lawful = p.lawful; rules = p.rules; forms = p.forms; of_flows = p.of_flows; database = p.database; objects = objects_stay parts.database p.forms kept parts.objects parts.fresh p.objects } in
     subst (λ (r : Result (List FlowModule) BuildFault). BuildsBy r (map (λ o. Some o) parts.objects) opts (Ok (stayed parts))) (sym (same ∙ c.are)) (again, c.completes.1)
 
 -- the same objects are kept under the names of modules
@@ -73,11 +73,11 @@ same_there files name bytes stands = ap (λ (k : Option (List ℕ)). is_same k b
 none_put : (files : Files) (name bytes : List ℕ) → is_same (finite.get files name) bytes ≡ true → if_changed files name bytes ≡ []
 none_put files name bytes e = ap (λ (same : Bool). cond {A = List NamedFile} same [] ((name, bytes) ∷ [])) e
 
-pub edit_comes : Laws → (told : Told) (opts : Opts) (parts : Parts) (outcome : Outcome) (files : Files) → Builds (modules_of told.files) (kept_objects told.files) opts (Ok parts) → IsOutcome told.files opts.stack parts outcome → FitObjects parts.objects
+pub edit_comes : Laws → FormsAreAsMany → (told : Told) (opts : Opts) (parts : Parts) (outcome : Outcome) (files : Files) → Builds (modules_of told.files) (kept_objects told.files) opts (Ok parts) → IsOutcome told.files opts.stack parts outcome → FitObjects parts.objects
     → KeepsFlows (after_puts told outcome.puts).files files → BuildOutcome files opts (Ok (unchanged outcome))
-edit_comes laws told opts parts outcome files builds o fits edit =
+edit_comes laws count told opts parts outcome files builds o fits edit =
     let left : Files = (after_puts told outcome.puts).files in
-    let keeps : KeepsObjects told.files left parts = keeps_objects laws told opts parts outcome builds o in
+    let keeps : KeepsObjects told.files left parts = keeps_objects laws count told opts parts outcome builds o in
     let names : names_of_modules files ≡ names_of_modules told.files = edit.names ∙ ap (λ (ss : List Source). map (λ s. s.0) ss) keeps.modules in
     let phases : first_phases (modules_of files) ≡ first_phases (modules_of told.files) = edit.phases ∙ ap (λ (ss : List Source). first_phases ss) keeps.modules in
     let kept : kept_objects files ≡ map (λ x. Some x) parts.objects =

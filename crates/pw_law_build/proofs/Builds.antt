@@ -52,7 +52,7 @@ module _ (declares : (name text : List ℕ) (flow : FlowModule) → compiled nam
 
 module _ (not_both : (modules : List Interface) (fault : LinkFault) → Links modules → ¬ Refusal modules fault)
     (shown_alike : (flows : List FlowModule) (ss : List Summary) (fault : LinkFault) → AllByRecursion IsValid flows → AreSummariesOf flows ss → Refusal (map shown flows) fault ↔ AreRefused ss fault)
-    (room_alone : (flows : List FlowModule) (opts : Opts) (parts : Parts) (fault : LinkFault) → AllByRecursion DeclaresMain flows → AreParts flows [] opts.colours parts → IsRefusal parts.objects opts.stack fault → size_fault parts.objects opts.stack ≡ Some fault) where
+    (room_alone : (flows : List FlowModule) (opts : Opts) (parts : Parts) (fault : LinkFault) → AllByRecursion DeclaresMain flows → AreParts flows [] opts parts → IsRefusal parts.objects opts.stack fault → size_fault parts.objects opts.stack ≡ Some fault) where
   refused_for_room : (flows : List FlowModule) (opts : Opts) (fault : LinkFault) → AllByRecursion DeclaresMain flows → Links (map shown flows) → HasRoom flows opts → Completes flows [] opts (Err fault) → ⊥
   refused_for_room flows opts fault declares together room (inl h) =
       not_both (map shown flows) fault together ((shown_alike flows h.1.summaries fault h.0 h.1.of_flows).1 h.1.refused)

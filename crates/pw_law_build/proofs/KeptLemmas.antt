@@ -25,7 +25,7 @@ use Rattle.pw_object.proofs.ObjectLaws.{only_by}
 use Rattle.pw_store_modules.specs.FileNames.{database_name, image_name, text_ending, object_ending, text_name, object_name}
 use Rattle.pw_store_modules.specs.Modules.{HoldsModule, Source, module_map, modules_of, names_of_modules, text_read}
 use Rattle.pw_top_answer.specs.Effects.{NamedFile, after_puts}
-use Rattle.pw_build_objects.specs.Programs.{AreObjectsFrom, Completes, DirectivesList, Parts}
+use Rattle.pw_build_objects.specs.Programs.{AreForms, AreObjectsFrom, Completes, DirectivesList, Parts}
 use Rattle.pw_build_files.specs.FromBuild.BuildFault.{BuildFault}
 use Rattle.pw_build_files.specs.FromBuild.FirstPhase.{Phase, compiled}
 use Rattle.pw_build_files.specs.FromBuild.Builds.{Builds, BuildsBy, before_others, first_phases, flows_of, limit_passed, within}
@@ -42,6 +42,10 @@ pub record Laws : Type 0 where
   pub front : (most : ℕ) (bytes : List ℕ) → length bytes ≤ most → prefix_of most bytes ≡ bytes
   pub modules : (files : Files) (name text : List ℕ) → (finite.get (module_map files) name ≡ Some text) ↔ HoldsModule files name text
   pub rising : (files : Files) → IsStrictlySortedBy (slice_cmp nat_cmp) (finite.keys (module_map files))
+
+-- there are as many forms as modules
+abbrev pub FormsAreAsMany : Type 0
+FormsAreAsMany = (optimise : Bool) (flows forms : List FlowModule) → AreForms optimise flows forms → length forms ≡ length flows
 
 -- ---- names
 
@@ -265,18 +269,19 @@ modules_same laws old new same =
 
 -- ---- both
 
-pub keeps_objects : Laws → (told : Told) (opts : Opts) (parts : Parts) (outcome : Outcome) → Builds (modules_of told.files) (kept_objects told.files) opts (Ok parts) → IsOutcome told.files opts.stack parts outcome → KeepsObjects told.files (after_puts told outcome.puts).files parts
-keeps_objects laws told opts parts outcome builds o =
+pub keeps_objects : Laws → FormsAreAsMany → (told : Told) (opts : Opts) (parts : Parts) (outcome : Outcome) → Builds (modules_of told.files) (kept_objects told.files) opts (Ok parts) → IsOutcome told.files opts.stack parts outcome → KeepsObjects told.files (after_puts told outcome.puts).files parts
+keeps_objects laws count told opts parts outcome builds o =
     let new : Files = (after_puts told outcome.puts).files in
     let names : List (List ℕ) = names_of_modules told.files in
     let c = completed (first_phases (modules_of told.files)) (kept_objects told.files) opts parts builds in
     let modules : modules_of new ≡ modules_of told.files = modules_same laws told.files new (text_same laws.files told opts.stack parts outcome o) in
-    let long : length c.flows ≡ length names = phases_long (modules_of told.files) (limit_passed (modules_of told.files)) c.flows c.are ∙ sym (length-map (modules_of told.files) (λ s. s.0)) in
+    let long : length c.completes.0.forms ≡ length names =
+    count opts.optimise c.flows c.completes.0.forms c.completes.0.of_flows ∙ phases_long (modules_of told.files) (limit_passed (modules_of told.files)) c.flows c.are ∙ sym (length-map (modules_of told.files) (λ s. s.0)) in
     let stand : Stand told.files new names parts.objects parts.fresh =
     stand_behind told.files (after_puts told o.objects).files new names parts.objects parts.fresh
     (λ n. behind_objects laws.files told opts.stack parts outcome o (object_name n) (no_database n) (no_image n))
     (stand_put laws.files told names parts.objects parts.fresh o.objects (rising_apart names (laws.rising told.files)) o.object_files) in
     record {
       modules = modules;
-      objects = λ fits. ap (λ (ss : List Source). map (kept_object new) (map (λ s. s.0) ss)) modules ∙ kept_all laws parts.database told.files new c.flows names parts.objects parts.fresh long c.completes.0.objects fits stand;
+      objects = λ fits. ap (λ (ss : List Source). map (kept_object new) (map (λ s. s.0) ss)) modules ∙ kept_all laws parts.database told.files new c.completes.0.forms names parts.objects parts.fresh long c.completes.0.objects fits stand;
     }

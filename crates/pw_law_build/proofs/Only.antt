@@ -29,7 +29,7 @@ use Rattle.pw_build_opts.specs.declared.opts.Opts.{Opts}
 pub record Laws : Type 0 where
   pub declares : (sources : List Source) (flows : List FlowModule) → first_phases sources ≡ Ok flows → AllByRecursion DeclaresMain flows
   pub linked : (flows : List FlowModule) (ss : List Summary) → AllByRecursion IsValid flows → AreSummariesOf flows ss → Links (map shown flows) ↔ AreLinked ss
-  pub links : (flows : List FlowModule) (colours : ℕ) (parts : Parts) → AllByRecursion DeclaresMain flows → AreParts flows [] colours parts → Links (map interface parts.objects)
+  pub links : (flows : List FlowModule) (opts : Opts) (parts : Parts) → AllByRecursion DeclaresMain flows → AreParts flows [] opts parts → Links (map interface parts.objects)
   pub one : (flows : List FlowModule) (kept : List (Option Object)) (opts : Opts) (a b : Result Parts LinkFault) → opts.colours ≤ colour_limit → Completes flows kept opts a → Completes flows kept opts b → a ≡ b
   pub nothing_changed : (flows : List FlowModule) (kept : List (Option Object)) (opts : Opts) (a : Result Parts LinkFault) → AllByRecursion IsGenuineIfKept kept → Completes flows kept opts a → Completes flows [] opts (anew a)
 
@@ -43,11 +43,11 @@ no_parts parts fault e = cc
 
 module _ (laws : Laws) where
   -- Where flow graphs come to parts that are linked, there is room for all parts that they come to.
-  room_by : (flows : List FlowModule) (opts : Opts) (parts other : Parts) → opts.colours ≤ colour_limit → AllByRecursion DeclaresMain flows → Completes flows [] opts (Ok parts) → AreParts flows [] opts.colours other
+  room_by : (flows : List FlowModule) (opts : Opts) (parts other : Parts) → opts.colours ≤ colour_limit → AllByRecursion DeclaresMain flows → Completes flows [] opts (Ok parts) → AreParts flows [] opts other
       → (size : Option LinkFault) → size_fault other.objects opts.stack ≡ size → size ≡ None
   room_by flows opts parts other few declares done are None e = refl
   room_by flows opts parts other few declares done are (Some fault) e =
-      let refusal : IsRefusal other.objects opts.stack fault = too_large (laws.links flows opts.colours other declares are) e in
+      let refusal : IsRefusal other.objects opts.stack fault = too_large (laws.links flows opts other declares are) e in
       absurd (no_refusal parts fault (laws.one flows [] opts (Ok parts) (Err fault) few done (inr (other, are, refusal))))
 
   by_phases : (sources : List Source) (kept : List (Option Object)) (opts : Opts) (parts : Parts) → opts.colours ≤ colour_limit → AllByRecursion IsGenuineIfKept kept
@@ -56,10 +56,10 @@ module _ (laws : Laws) where
   by_phases sources kept opts parts few genuine (Ok flows) is h =
       let done : Completes flows kept opts (Ok parts) = h in
       let declares = laws.declares sources flows is in
-      let db = done.0.database in
+      let rules = done.0.rules in
       let full : Completes flows [] opts (Ok (all_fresh parts)) = laws.nothing_changed flows kept opts (Ok parts) genuine done in
       record {
-        accepted = record { flows = flows; one_by_one = is; together = (laws.linked flows db.summaries done.0.lawful db.of_flows).1 db.linked };
+        accepted = record { flows = flows; one_by_one = is; together = (laws.linked flows rules.summaries done.0.lawful rules.of_flows).1 rules.linked };
         room = λ other are. room_by flows opts (all_fresh parts) other few declares full are (size_fault other.objects opts.stack) refl;
       }
 

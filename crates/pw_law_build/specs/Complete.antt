@@ -17,9 +17,9 @@ pub record AreAccepted (sources : List Source) : Type 0 where
   pub one_by_one : first_phases sources ≡ Ok flows
   pub together : Links (map shown flows)
 
--- Text and memory are large enough for what the modules are made into, for so many registers and such a stack.
+-- Text and memory are large enough for what the modules are made into under these options.
 abbrev pub HasRoom : List FlowModule → Opts → Type 0
-HasRoom flows opts = (parts : Parts) → AreParts flows [] opts.colours parts → size_fault parts.objects opts.stack ≡ None
+HasRoom flows opts = (parts : Parts) → AreParts flows [] opts parts → size_fault parts.objects opts.stack ≡ None
 
 -- accepted modules that have room
 pub record CanBeBuilt (sources : List Source) (opts : Opts) : Type 0 where

@@ -2,7 +2,7 @@
 use Rattle.std.specs.Prelude.{◌≡◌, ℕ, List, Some, Ok}
 use Rattle.std.specs.FinMap as finite
 use Rattle.pw_io.specs.Files.{Files}
-use Rattle.pw_db.specs.Database.{IsDatabaseFile}
+use Rattle.pw_db_file.specs.Spelling.{IsNewFile}
 use Rattle.pw_store_modules.specs.FileNames.{database_name, image_name}
 use Rattle.pw_build_objects.specs.Programs.{Parts}
 use Rattle.pw_store_modules.specs.Modules.{Texts, modules_of}
@@ -18,7 +18,7 @@ HoldsFile files name bytes = finite.get files name ≡ Some bytes
 -- the database and the image of a program's parts stand in their files
 pub record HoldsProgram (parts : Parts) (stack : ℕ) (files : Files) : Type 0 where
   pub database : List ℕ
-  pub database_file : IsDatabaseFile database parts.database
+  pub database_file : IsNewFile database parts.database
   pub database_stands : HoldsFile files database_name database
   pub image : List ℕ
   pub image_file : IsImageOf parts.objects stack image

@@ -16,6 +16,7 @@ ghost use Rattle.pw_law_build.specs.Whole.{HoldsBuild, HoldsFullBuild};
 ghost use Rattle.pw_build_opts.specs.declared.opts.Opts.{Opts};
 
 use pw_build_files::genuine_objects_give_the_full_build;
+use pw_build_objects::laws::forms_keep_what_modules_have;
 use pw_io::laws::{front, other_files};
 use pw_store_modules::modules_are_exact;
 
@@ -41,6 +42,7 @@ pub fn a_build_leaves_the_whole_program()
 pub fn a_build_keeps_its_objects()
     ensures { (told : Told) (opts : Opts) (parts : Parts) (outcome : Outcome) → Builds (modules_of told.files) (kept_objects told.files) opts (Ok parts) → IsOutcome told.files opts.stack parts outcome → KeepsObjects told.files (after_puts told outcome.puts).files parts }
 {
+    forms_keep_what_modules_have();
     front();
     modules_are_exact();
     other_files();
@@ -52,6 +54,7 @@ pub fn a_build_keeps_its_objects()
 pub fn an_edit_that_keeps_flows_makes_nothing()
     ensures { (told : Told) (opts : Opts) (parts : Parts) (outcome : Outcome) (files : Files) → Builds (modules_of told.files) (kept_objects told.files) opts (Ok parts) → IsOutcome told.files opts.stack parts outcome → FitObjects parts.objects → KeepsFlows (after_puts told outcome.puts).files files → BuildOutcome files opts (Ok (unchanged outcome)) }
 {
+    forms_keep_what_modules_have();
     front();
     modules_are_exact();
     other_files();

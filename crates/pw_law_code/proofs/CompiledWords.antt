@@ -162,7 +162,7 @@ chosen false x y h k = k
 
 -- the directives of each function are lawful
 pub are_directives : (d : List (List ℕ × Directives)) → AllByRecursion (λ f. IsDirectives f.1) d → (name : List ℕ) → IsDirectives (directives_of d name)
-are_directives [] all name = record { each = tt; numbers = tt; globals = tt; registers = tt; free = refl }
+are_directives [] all name = record { each = tt; numbers = tt; globals = tt; registers = tt; free = tt; saves = tt; apart = tt }
 are_directives (g ∷ rest) all name = chosen (bytes_eq g.0 name) g.1 (directives_of rest name) all.0 (are_directives rest all.1 name)
 
 compiled_fit : (d : List (List ℕ × Directives)) → AllByRecursion (λ f. IsDirectives f.1) d → (fs : List FlowFn) (ls : List Located)

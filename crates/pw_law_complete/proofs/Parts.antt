@@ -5,18 +5,36 @@ use Rattle.std.specs.List.{AllByRecursion}
 use Rattle.pw_flow.specs.ValidFlow.{IsValid}
 use Rattle.pw_flow.specs.declared.flow.FlowModule.{FlowModule}
 use Rattle.pw_flowfile.specs.FlowFile.{IsFlowFile}
+use Rattle.pw_opt_rules.specs.Optimised.{IsOptimisedModule}
+use Rattle.pw_law_opt.specs.Laws.{AreOptimisedModules, none, also}
 use Rattle.pw_summary.specs.declared.summary.Summary.{Summary}
 use Rattle.pw_summary.specs.Summary.{IsSummary}
 use Rattle.pw_summarise.specs.Summarises.{Summarises}
-use Rattle.pw_db.specs.Database.{IsPayload, IsStored}
+use Rattle.pw_db.specs.Database.{IsStored}
+use Rattle.pw_db_file.specs.Spelling.{IsPayload}
 use Rattle.pw_db.specs.Limits.{colour_limit}
 use Rattle.pw_graph.specs.Program.{AreLinked}
 use Rattle.pw_object.specs.declared.object.Object.{Object}
 use Rattle.pw_phase_two.specs.Phases.{AreDirectivesIn, IsObjectOf, IsPayloadOf}
 use Rattle.pw_colour.specs.Colours.{IsDatabaseOf}
-use Rattle.pw_build_objects.specs.Programs.{DirectivesList, AreSummariesOf, Stays, IsObjectFrom, IsModuleFrom, AreObjectsFrom, AreParts, Parts, first_kept, kept_behind}
+use Rattle.pw_build_objects.specs.Programs.{AreForms, DirectivesList, KeepRules, AreSummariesOf, Stays, IsObjectFrom, IsModuleFrom, AreObjectsFrom, AreParts, Parts, first_kept, kept_behind}
+use Rattle.pw_build_opts.specs.declared.opts.Opts.{Opts}
 use Rattle.pw_law_answers.specs.Held.{HasFile, HasNames}
+use Rattle.pw_law_complete.specs.Forms.{HaveFiles}
 use Rattle.pw_law_answers.proofs.Telling.{Told, told_bytes, told_both, told_same}
+
+-- ---- forms
+
+all_optimised : ((m : FlowModule) → (n : FlowModule) × IsOptimisedModule m n) → (ms : List FlowModule) → (ns : List FlowModule) × AreOptimisedModules ms ns
+all_optimised each [] = ([], none)
+all_optimised each (m ∷ ms) =
+    let n = each m in
+    let rest = all_optimised each ms in
+    (n.0 ∷ rest.0, also m n.0 ms rest.0 n.1 rest.1)
+
+pub forms_exist : ((m : FlowModule) → (n : FlowModule) × IsOptimisedModule m n) → (optimise : Bool) (flows : List FlowModule) → (forms : List FlowModule) × AreForms optimise flows forms
+forms_exist each false flows = (flows, refl)
+forms_exist each true flows = all_optimised each flows
 
 -- ---- summaries
 
@@ -82,15 +100,36 @@ module _ (one : FilesAreOne) (db : DirectivesList) (have : HaveObjects db) where
 
 -- the laws on which it stands
 pub record Laws : Type 0 where
+  pub forms : (optimise : Bool) (flows : List FlowModule) → (forms : List FlowModule) × AreForms optimise flows forms
+  pub summaries : (flows : List FlowModule) → AllByRecursion IsValid flows → (ss : List Summary) × AreSummariesOf flows ss × AllByRecursion IsSummary ss
+  pub lawful : (optimise : Bool) (flows forms : List FlowModule) → AreForms optimise flows forms → AllByRecursion IsValid flows → AllByRecursion IsValid forms
+  pub rules : (optimise : Bool) (flows forms : List FlowModule) (ss : List Summary) → AreForms optimise flows forms → AllByRecursion IsValid flows → KeepRules flows → AreSummariesOf forms ss → AreLinked ss
   pub names : (m : FlowModule) (s : Summary) → HasFile m → Summarises m s → HasNames s
   pub database : (ss : List Summary) (colours : ℕ) → AllByRecursion IsSummary ss → AllByRecursion HasNames ss → AreLinked ss → (db : DirectivesList) × IsDatabaseOf ss colours db
   pub objects : (ss : List Summary) (colours : ℕ) (db : DirectivesList) → colours ≤ colour_limit → AllByRecursion IsSummary ss → AllByRecursion HasNames ss → AreLinked ss → IsDatabaseOf ss colours db → HaveObjects db
   pub one : FilesAreOne
 
-pub parts_exist : Laws → (flows : List FlowModule) (ss : List Summary) (kept : List (Option Object)) (colours : ℕ) → colours ≤ colour_limit → AllByRecursion IsValid flows → AllByRecursion HasFile flows → AreSummariesOf flows ss → AllByRecursion IsSummary ss → AreLinked ss
-    → (parts : Parts) × AreParts flows kept colours parts
-parts_exist laws flows ss kept colours few valid files of lawful linked =
-    let names = names_exist laws.names flows ss files of in
-    let db = laws.database ss colours lawful names linked in
-    let os = objects_exist laws.one db.0 (laws.objects ss colours db.0 few lawful names linked db.1) flows kept valid files in
-    (record { database = db.0; objects = os.0; fresh = os.1 }, record { lawful = valid; database = record { summaries = ss; of_flows = of; linked = linked; database = db.1 }; objects = os.2 })
+pub parts_exist : Laws → (flows : List FlowModule) (ss : List Summary) (kept : List (Option Object)) (opts : Opts) → opts.colours ≤ colour_limit → AllByRecursion IsValid flows → HaveFiles flows opts → AreSummariesOf flows ss → AllByRecursion IsSummary ss → AreLinked ss
+    → (parts : Parts) × AreParts flows kept opts parts
+parts_exist laws flows ss kept opts few valid files of lawful linked =
+    let found = laws.forms opts.optimise flows in
+    let forms = found.0 in
+    let each = files forms found.1 in
+    let rules : KeepRules flows = record { summaries = ss; of_flows = of; linked = linked } in
+    let fine = laws.lawful opts.optimise flows forms found.1 valid in
+    let own = laws.summaries forms fine in
+    let together = laws.rules opts.optimise flows forms own.0 found.1 valid rules own.1 in
+    let names = names_exist laws.names forms own.0 each own.1 in
+    let db = laws.database own.0 opts.colours own.2 names together in
+    let os = objects_exist laws.one db.0 (laws.objects own.0 opts.colours db.0 few own.2 names together db.1) forms kept fine each in
+    (
+      record { database = db.0; objects = os.0; fresh = os.1 },
+      record {
+        lawful = valid;
+        rules = rules;
+        forms = forms;
+        of_flows = found.1;
+        database = record { summaries = own.0; of_flows = own.1; linked = together; database = db.1 };
+        objects = os.2;
+      },
+    )

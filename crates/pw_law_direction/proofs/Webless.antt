@@ -1,5 +1,5 @@
--- A database that holds no web directs nothing, so that the run under it is the run under the empty one.
-use Rattle.std.proofs.Common.{◌≡◌, ℕ, Bool, true, false, if◌then◌else◌, List, [], ◌∷◌, ◌++◌, map, refl, sym, ap, ap₂, subst}
+-- A database that tells no function anything directs nothing, so that the run under it is the run under the empty one.
+use Rattle.std.proofs.Common.{◌≡◌, ℕ, Bool, true, false, if◌then◌else◌, List, [], ◌∷◌, map, refl, sym, ap, subst}
 use Rattle.std.proofs.Math.Path.{fun_ext}
 use Rattle.std.specs.Prelude.{Contains}
 use Rattle.std.specs.List.{AllByRecursion}
@@ -7,8 +7,8 @@ use Rattle.std.specs.Str.{bytes_eq}
 use Rattle.pw_files.proofs.Standing.{has_each, has_by}
 use Rattle.pw_db.specs.declared.database.Directives.{Directives}
 use Rattle.pw_db.specs.declared.database.Web.{Web}
-use Rattle.pw_db.specs.declared.database.Role.{Role}
-use Rattle.pw_db.specs.Database.{IsDatabase, IsDirectives, webs_of, all_webs, empty}
+use Rattle.pw_db.specs.Database.{empty}
+use Rattle.pw_law_direction.specs.UndirectedLaws.{SaysNothing}
 use Rattle.pw_db_sound.specs.CallGraphs.{Graph}
 use Rattle.pw_db_sound.specs.Sound.{Sound, In}
 use Rattle.pw_flow.specs.declared.flow.FlowFn.{FlowFn}
@@ -20,30 +20,8 @@ use Rattle.pw_run_languages.specs.PlacedRun.{placed_run}
 
 -- ---- the directives of each function are empty
 
-none_left : {X : Type 0} (xs ys : List X) → xs ++ ys ≡ [] → ys ≡ []
-none_left [] ys e = e
-none_left (x ∷ xs) ys e = absurd cc
-
-none_right : {X : Type 0} (xs ys : List X) → xs ++ ys ≡ [] → xs ≡ []
-none_right [] ys e = refl
-none_right (x ∷ xs) ys e = absurd cc
-
-none_mapped : {X Y : Type 0} (f : X → Y) (xs : List X) → map f xs ≡ [] → xs ≡ []
-none_mapped f [] e = refl
-none_mapped f (x ∷ xs) e = absurd cc
-
 abbrev IsEmpty : List ℕ × Directives → Type 0
 IsEmpty f = f.1 ≡ empty
-
-abbrev given : List (Web × Role) → List ℕ → Directives
-given webs free = record { webs = webs; free = free }
-
-each_empty : (d : List (List ℕ × Directives)) → AllByRecursion (λ f. IsDirectives f.1) d → all_webs d ≡ [] → AllByRecursion IsEmpty d
-each_empty [] lawful e = tt
-each_empty (f ∷ d) lawful e =
-    let webs : f.1.webs ≡ [] = none_mapped (λ (w : Web × Role). w.0) f.1.webs (none_right (webs_of f.1) (all_webs d) e) in
-    let own : f.1 ≡ empty = ap₂ given webs lawful.0.free in
-    (own, each_empty d lawful.1 (none_left (webs_of f.1) (all_webs d) e))
 
 chosen : (b : Bool) (own rest : Directives) → own ≡ empty → rest ≡ empty → (if b then own else rest) ≡ empty
 chosen true own rest here later = here
@@ -55,10 +33,9 @@ none_given (g ∷ d) all f = chosen (bytes_eq g.0 f) g.1 (directives_of d f) all
 
 -- ---- the run is that under the empty database
 
-pub same_run : (p : Program) (d : List (List ℕ × Directives)) (input : List ℕ) → IsDatabase d → all_webs d ≡ [] → web_run p [] input ≡ web_run p d input
+pub same_run : (p : Program) (d : List (List ℕ × Directives)) (input : List ℕ) → SaysNothing d → web_run p [] input ≡ web_run p d input
 unfolding web_run
-same_run p d input base e =
-    let all = each_empty d base.directives e in
+same_run p d input all =
     let alike : (f : FlowFn) → directed_by [] f ≡ directed_by d f = λ f. ap (λ (ds : Directives). directed f ds) (sym (none_given d all f.name)) in
     ap (λ (form : FlowFn → WebFn). placed_run (with_functions p (map unplaced (map form (functions_of p)))) input) (fun_ext alike)
 
@@ -70,9 +47,8 @@ nowhere d all w f i =
     let there : Contains [] (w, i.role) = subst (λ (ds : Directives). Contains ds.webs (w, i.role)) none i.has.web in
     has_by (w, i.role) [] there
 
-pub none_unsound : (g : Graph) (d : List (List ℕ × Directives)) → IsDatabase d → all_webs d ≡ [] → Sound g d
-none_unsound g d base e =
-    let all = each_empty d base.directives e in
+pub none_unsound : (g : Graph) (d : List (List ℕ × Directives)) → SaysNothing d → Sound g d
+none_unsound g d all =
     record {
       member_callers = λ w f a has calls. absurd (nowhere d all w f (record { role = _; has = has }));
       entry_callers = λ w f a has calls. absurd (nowhere d all w f (record { role = _; has = has }));
@@ -85,5 +61,7 @@ none_unsound g d base e =
       free = λ f r i.
           let none : i.directives.free ≡ [] = ap (λ (x : Directives). x.free) (has_each IsEmpty d (f, i.directives) all (has_by (f, i.directives) d i.there)) in
           absurd (has_by r [] (subst (λ (rs : List ℕ). Contains rs r) none i.register));
-      saves = λ f r i w has. absurd (has_by r [] i.register);
+      saves = λ f r i w has.
+          let none : i.directives.saves ≡ [] = ap (λ (x : Directives). x.saves) (has_each IsEmpty d (f, i.directives) all (has_by (f, i.directives) d i.there)) in
+          absurd (has_by r [] (subst (λ (rs : List ℕ). Contains rs r) none i.register));
     }

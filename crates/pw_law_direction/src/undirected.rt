@@ -20,12 +20,12 @@ pub fn undirected_runs_keep_theirs()
     nothing_is_sound();
 }
 
-/// A database that holds no web is sound, for whatever program.
+/// A database that tells no function anything is sound, for whatever program.
 pub fn no_webs_are_sound()
     ensures { WeblessIsSound }
 {}
 
-/// Under every database that holds no web the directed run keeps the flow run, as under the empty one.
+/// Under every database that tells no function anything the directed run keeps the flow run, as under the empty one.
 pub fn webless_runs_keep_theirs()
     ensures { WeblessDirectionKeeps }
 {

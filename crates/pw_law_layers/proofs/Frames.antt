@@ -79,7 +79,7 @@ chosen true x y h k = h
 chosen false x y h k = k
 
 are_directives : (d : List (List ℕ × Directives)) → AllByRecursion (λ f. IsDirectives f.1) d → (name : List ℕ) → IsDirectives (directives_of d name)
-are_directives [] all name = record { each = tt; numbers = tt; globals = tt; registers = tt; free = refl }
+are_directives [] all name = record { each = tt; numbers = tt; globals = tt; registers = tt; free = tt; saves = tt; apart = tt }
 are_directives (g ∷ rest) all name = chosen (bytes_eq g.0 name) g.1 (directives_of rest name) all.0 (are_directives rest all.1 name)
 
 pub directed_name : (f : FlowFn) (d : Directives) → (directed f d).name ≡ f.name

@@ -1,18 +1,18 @@
 -- Under sound directives callers answer for the registers of those that they call.
 use Rattle.std.specs.Prelude.{ℕ, ◌≡◌, ◌⊎◌, List, map, Contains}
 use Rattle.std.proofs.Common.{subst, sym, ap, inl, inr, ◌∙◌}
-use Rattle.pw_files.proofs.Standing.{has_by, contains_by, has_map_back}
+use Rattle.pw_files.proofs.Standing.{has_by, contains_by, has_each, has_map_back}
 use Rattle.pw_db.specs.declared.database.Web.{Web}
 use Rattle.pw_db.specs.declared.database.Role.{Role}
 use Rattle.pw_db.specs.declared.database.Role.TheVariants.{Entry, Member}
 use Rattle.pw_db.specs.declared.database.Directives.{Directives}
-use Rattle.pw_db.specs.Database.{IsDatabase}
+use Rattle.pw_db.specs.Database.{IsDirectives, IsDatabase}
 use Rattle.pw_flow.specs.declared.flow.FlowFn.{FlowFn}
 use Rattle.pw_webflow.specs.declared.web.WebFn.{WebFn}
 use Rattle.pw_webflow.specs.Direction.{directed}
 use Rattle.pw_alloc.specs.declared.located.Located.{Located}
 use Rattle.pw_db_sound.specs.CallGraphs.{Node, Graph, Calls}
-use Rattle.pw_db_sound.specs.Sound.{saves_of, IsFree, IsSaver, LeavesAlone, Sound}
+use Rattle.pw_db_sound.specs.Sound.{IsFree, IsSaver, LeavesAlone, Sound}
 use Rattle.pw_db_sound.specs.Sound.{Has as HasRole}
 use Rattle.pw_run_languages.specs.Traces.{MayChange, member, free}
 use Rattle.pw_run_languages.specs.Calls.{Saves}
@@ -22,7 +22,7 @@ use Rattle.pw_run_languages.specs.Direction.{directives_of, directed_by, directe
 use Rattle.pw_run_languages.specs.Serving.{Changes, enters, saves, Serves, AllServe}
 use Rattle.pw_run_languages.proofs.Directives.{one_directives}
 use Rattle.pw_law_layers.specs.Guarding.{SoundDirectivesGuard}
-use Rattle.pw_law_layers.proofs.Frames.{nowhere, served}
+use Rattle.pw_law_layers.proofs.Frames.{served}
 
 -- a function of a name, with places that serve it
 record Placed (p : Program) (d : List (List ℕ × Directives)) (functions : List Located) (name : List ℕ) : Type 0 where
@@ -63,8 +63,15 @@ web_saved p d functions a r w base k has is =
 saver_saved : (p : Program) (d : List (List ℕ × Directives)) (functions : List Located) (a : List ℕ) (r : ℕ) → IsDatabase d → Placed p d functions a → IsSaver d a r → Saves functions a r
 unfolding directed
 saver_saved p d functions a r base k s =
-    let there : Contains (saves_of (directives_of d k.function.name)) r = subst (λ (dirs : Directives). Contains (saves_of dirs) r) (own p d functions a s.directives base k s.there) s.register in
+    let there : Contains (directives_of d k.function.name).saves r = subst (λ (dirs : Directives). Contains dirs.saves r) (own p d functions a s.directives base k s.there) s.register in
     placed_saves p d functions a r k (saves there)
+
+-- a register that a function is free to use it does not save for others
+pub not_saver : (d : List (List ℕ × Directives)) → IsDatabase d → (f : List ℕ) (r : ℕ) (dirs : Directives) → Contains d (f, dirs) → Contains dirs.free r → IsSaver d f r → ⊥
+not_saver d base f r dirs there among s =
+    let same : s.directives ≡ dirs = sym (one_directives d base f s.directives s.there) ∙ one_directives d base f dirs there in
+    let lawful : IsDirectives dirs = has_each (λ (x : List ℕ × Directives). IsDirectives x.1) d (f, dirs) base.directives (has_by (f, dirs) d there) in
+    has_each (λ (q : ℕ). ¬ Contains dirs.free q) dirs.saves r lawful.apart (has_by r dirs.saves (subst (λ (x : Directives). Contains x.saves r) same s.register)) among
 
 by_role : (p : Program) (d : List (List ℕ × Directives)) (functions : List Located) (a : List ℕ) (r : ℕ) (w : Web) (role : Role) → IsDatabase d → Placed p d functions a → HasRole d a w role → w.reg ≡ r
     → MayChange d a r ⊎ Saves functions a r
@@ -76,7 +83,7 @@ guards leave p d functions base sound serve a b r c (member m) =
     let within = sound.member_callers m.web b a m.has c in
     by_role p d functions a r m.web within.role base (caller_placed p d functions a b serve c) within.has m.is
 guards leave p d functions base sound serve a b r c (free dirs there k) =
-    let alone = leave (graph_of p) d a b r sound c (record { directives = dirs; there = there; register = k }) (λ s. nowhere r s.register) in
+    let alone = leave (graph_of p) d a b r sound c (record { directives = dirs; there = there; register = k }) (not_saver d base b r dirs there k) in
     elim alone.moved [
       | inl f ↦ inl (free f.directives f.there f.register)
       | inr s ↦ inr (saver_saved p d functions a r base (caller_placed p d functions a b serve c) s)

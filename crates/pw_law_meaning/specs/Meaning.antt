@@ -21,11 +21,17 @@ use Rattle.pw_law_whole.specs.FromLayers.Whole.{FramesFit}
 use Rattle.pw_law_whole.specs.FromAnalysis.ImageTraffic.{Traffic}
 use Rattle.pw_law_whole.specs.FromAnalysis.ImageRegisters.{CallsKeepRegisters}
 use Rattle.pw_law_whole.specs.FromAnalysis.ImagePlaces.{GlobalsHavePlaces}
-use Rattle.pw_law_whole.specs.Programs.{DirectivesList, IsDatabaseOf, IsProgramOf, Summarise}
+use Rattle.pw_flow.specs.declared.flow.FlowModule.{FlowModule}
+use Rattle.pw_run_languages.specs.Programs as flows
+use Rattle.pw_law_whole.specs.Programs.{AreFormsOf, DirectivesList, IsDatabaseOf, IsProgramOf, Summarise}
 
 -- the runs of the program on an input, by their bound, each call taking the stack that its function takes in the image
 abbrev pub runs_of : Program → Image → ℕ → List ℕ → ℕ → SourceRun
 runs_of p image stack input = source_runs p (frame_in image) stack input
+
+-- the flow graphs as a program, each function taking the stack that it takes in the image
+abbrev pub flows_of : List FlowModule → Image → ℕ → flows.Program
+flows_of forms image stack = record { modules = forms; frame_of = frame_in image; stack = stack }
 
 -- The image means what the texts mean in C.
 pub record Means (texts : Texts) (opts : Opts) (bytes : List ℕ) : Type 0 where
@@ -43,18 +49,21 @@ pub record Means (texts : Texts) (opts : Opts) (bytes : List ℕ) : Type 0 where
       Tells input (run_of budget (start_state (image_start contents.value.memory) input)) (runs_of program contents.value opts.stack input bound)
   -- no function's frame is larger than its declarations say
   pub fit : FramesFit program contents.value
+  -- the flow graphs of which it was made: those of its modules, optimised or not, as the options say
+  pub forms : List FlowModule
+  pub of_program : AreFormsOf opts.optimise program forms
   -- of the globals that have registers in all their webs, only entries of these load and store them
   pub summaries : List Summary
-  pub summarise : Summarise program summaries
+  pub summarise : Summarise forms summaries
   pub traffic : (input : List ℕ) → AreBytes input → IsDefined (runs_of program contents.value opts.stack input) → Traffic summaries opts.colours contents.value input
-  -- the webs that have a register, by function: over each call the registers that a callee keeps stay as they were, but those of
-  -- webs in which the function is a member
+  -- the webs that have a register, and the registers that functions share, by function: over each call the registers that a callee
+  -- keeps stay as they were, but those of webs in which the function is a member, and those that it is free to use
   pub database : DirectivesList
   pub directives : IsDatabaseOf summaries opts.colours database
   pub registers : (input : List ℕ) → AreBytes input → IsDefined (runs_of program contents.value opts.stack input) → CallsKeepRegisters database contents.value input
   -- at each call and return of the program each global has its value in its place: in memory, in the register of a web, or where
   -- that was saved
-  pub places : (input : List ℕ) → AreBytes input → GlobalsHavePlaces program database contents.value opts.stack input
+  pub places : (input : List ℕ) → AreBytes input → GlobalsHavePlaces program (flows_of forms contents.value opts.stack) database contents.value input
 
 -- of what a full build comes to: an image means what the texts mean; of a fault nothing is said
 abbrev pub MeansSo : Texts → Opts → Result (List ℕ) BuildFault → Type 0

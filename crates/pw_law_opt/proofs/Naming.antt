@@ -13,6 +13,7 @@ use Rattle.pw_flow.specs.declared.flow.Block.{Block}
 use Rattle.pw_flow.specs.declared.flow.FlowGlobal.{FlowGlobal}
 use Rattle.pw_flow.specs.declared.flow.FlowFn.{FlowFn}
 use Rattle.pw_flow.specs.declared.flow.FlowModule.{FlowModule}
+use Rattle.pw_flow.specs.Addressed.{addressed}
 use Rattle.pw_flow.specs.FlowGraph.{op_names, names_in_global, names_in_block, names_in_function, named_in}
 use Rattle.pw_flow.specs.ValidFlow.{IsValid, AreDistinct}
 use Rattle.pw_files.specs.Rising.{IsRising}
@@ -22,7 +23,7 @@ use Rattle.pw_opt_rules.specs.Copies.{with_operands}
 use Rattle.pw_opt_rules.specs.Optimised.{IsOptimised, stays, steps, AreOptimised, IsOptimisedModule}
 use Rattle.pw_opt_rules.specs.Optimised as optimised
 use Rattle.pw_law_opt.specs.Sides.{with_modules}
-use Rattle.pw_law_opt.specs.Laws.{AreOptimisedModules, none, also, entry, OptimisationKeepsLawful, OptimisationKeepsPrograms, OptimisationShowsNoMore}
+use Rattle.pw_law_opt.specs.Laws.{AreOptimisedModules, none, also, entry, addresses_in, OptimisationKeepsLawful, OptimisationKeepsPrograms, OptimisationShowsNoMore}
 use Rattle.pw_law_opt.proofs.Lists.{first_there, later_there}
 use Rattle.pw_law_opt.proofs.Modules.{functions_in, globals_stay}
 use Rattle.pw_law_opt.proofs.Lawful.{all_both, all_first, all_second, all_pieces, all_joined}
@@ -108,30 +109,40 @@ names_say_nothing P = record { constants = λ t n. tt; operands = operands }
     operands h (op.Const t n) all = all
     operands h o all = all
 
-blocks_split : (P : List ℕ → Type 0) (bs : List Block) → AllByRecursion (λ (b : Block). AllByRecursion P (names_in_block b)) bs → AllByRecursion (AllOps (λ (o : Op). AllByRecursion P (op_names o))) bs
-blocks_split P [] all = tt
-blocks_split P (b ∷ bs) all = (all_pieces P op_names b.ops all.0, blocks_split P bs all.1)
+-- what all operations of a module have passes, if it passed before
+module _ (P : List ℕ → Type 0) (part : Op → List (List ℕ)) (k : SaysNothingOfOperands (λ (o : Op). AllByRecursion P (part o))) where
+  abbrev part_in : FlowFn → List (List ℕ)
+  part_in f = flat_map (λ (b : Block). flat_map part b.ops) f.blocks
 
-blocks_join : (P : List ℕ → Type 0) (bs : List Block) → AllByRecursion (AllOps (λ (o : Op). AllByRecursion P (op_names o))) bs → AllByRecursion (λ (b : Block). AllByRecursion P (names_in_block b)) bs
-blocks_join P [] all = tt
-blocks_join P (b ∷ bs) all = (all_joined P op_names b.ops all.0, blocks_join P bs all.1)
+  abbrev passes : Op → Type 0
+  passes o = AllByRecursion P (part o)
 
-functions_split : (P : List ℕ → Type 0) (fs : List FlowFn) → AllByRecursion (λ (f : FlowFn). AllByRecursion P (names_in_function f)) fs → AllByRecursion (AllBlocks (λ (o : Op). AllByRecursion P (op_names o))) fs
-functions_split P [] all = tt
-functions_split P (f ∷ fs) all = (blocks_split P f.blocks (all_pieces P names_in_block f.blocks all.0), functions_split P fs all.1)
+  blocks_split : (bs : List Block) → AllByRecursion (λ (b : Block). AllByRecursion P (flat_map part b.ops)) bs → AllByRecursion (AllOps passes) bs
+  blocks_split [] all = tt
+  blocks_split (b ∷ bs) all = (all_pieces P part b.ops all.0, blocks_split bs all.1)
 
-functions_join : (P : List ℕ → Type 0) (fs : List FlowFn) → AllByRecursion (AllBlocks (λ (o : Op). AllByRecursion P (op_names o))) fs → AllByRecursion (λ (f : FlowFn). AllByRecursion P (names_in_function f)) fs
-functions_join P [] all = tt
-functions_join P (f ∷ fs) all = (all_joined P names_in_block f.blocks (blocks_join P f.blocks all.0), functions_join P fs all.1)
+  blocks_join : (bs : List Block) → AllByRecursion (AllOps passes) bs → AllByRecursion (λ (b : Block). AllByRecursion P (flat_map part b.ops)) bs
+  blocks_join [] all = tt
+  blocks_join (b ∷ bs) all = (all_joined P part b.ops all.0, blocks_join bs all.1)
+
+  functions_split : (fs : List FlowFn) → AllByRecursion (λ (f : FlowFn). AllByRecursion P (part_in f)) fs → AllByRecursion (AllBlocks passes) fs
+  functions_split [] all = tt
+  functions_split (f ∷ fs) all = (blocks_split f.blocks (all_pieces P (λ (b : Block). flat_map part b.ops) f.blocks all.0), functions_split fs all.1)
+
+  functions_join : (fs : List FlowFn) → AllByRecursion (AllBlocks passes) fs → AllByRecursion (λ (f : FlowFn). AllByRecursion P (part_in f)) fs
+  functions_join [] all = tt
+  functions_join (f ∷ fs) all = (all_joined P (λ (b : Block). flat_map part b.ops) f.blocks (blocks_join f.blocks all.0), functions_join fs all.1)
+
+  parts_hold : (m n : FlowModule) → IsOptimisedModule m n → AllByRecursion P (flat_map part_in m.functions) → AllByRecursion P (flat_map part_in n.functions)
+  parts_hold m n o all =
+      all_joined P part_in n.functions
+      (functions_join n.functions (functions_hold passes k m m.functions n.functions o.functions (functions_split m.functions (all_pieces P part_in m.functions all))))
 
 module_names : (P : List ℕ → Type 0) (m n : FlowModule) → IsOptimisedModule m n → AllByRecursion P (named_in m) → AllByRecursion P (named_in n)
 module_names P m n o all =
     all_both P (flat_map names_in_global n.globals) (flat_map names_in_function n.functions)
     (subst (λ (gs : List FlowGlobal). AllByRecursion P (flat_map names_in_global gs)) (sym o.globals) (all_first P (flat_map names_in_global m.globals) (flat_map names_in_function m.functions) all))
-    (all_joined P names_in_function n.functions
-    (functions_join P n.functions
-    (functions_hold (λ (o : Op). AllByRecursion P (op_names o)) (names_say_nothing P) m m.functions n.functions o.functions
-    (functions_split P m.functions (all_pieces P names_in_function m.functions (all_second P (flat_map names_in_global m.globals) (flat_map names_in_function m.functions) all))))))
+    (parts_hold P op_names (names_say_nothing P) m n o (all_second P (flat_map names_in_global m.globals) (flat_map names_in_function m.functions) all))
 
 program_names : (P : List ℕ → Type 0) (ms ns : List FlowModule) → AreOptimisedModules ms ns → AllByRecursion P (flat_map named_in ms) → AllByRecursion P (flat_map named_in ns)
 program_names P ms ns none all = tt
@@ -141,6 +152,14 @@ program_names P ms ns (also m n more others o rest) all =
     (all_both P (named_in n) (flat_map named_in others)
     (module_names P m n o (all_first P (named_in m) (flat_map named_in more) parts))
     (program_names P more others rest (all_second P (named_in m) (flat_map named_in more) parts)))
+
+-- addresses that pass, in operations
+addresses_say_nothing : (P : List ℕ → Type 0) → SaysNothingOfOperands (λ (o : Op). AllByRecursion P (addressed o))
+addresses_say_nothing P = record { constants = λ t n. tt; operands = operands }
+  where
+    operands : (h : ℕ → ℕ) (o : Op) → AllByRecursion P (addressed o) → AllByRecursion P (addressed (with_operands h o))
+    operands h (op.Const t n) all = all
+    operands h o all = all
 
 -- ---- operations that name rightly
 
@@ -249,4 +268,8 @@ shows_no_more m n o = record {
   fewer = λ name there.
       each_there (λ (x : List ℕ). Contains (named_in m) x) (named_in n) name
       (module_names (λ (x : List ℕ). Contains (named_in m) x) m n o (all_there (λ (x : List ℕ). Contains (named_in m) x) (named_in m) (λ x c. c))) there;
+  addresses = λ name there.
+      each_there (λ (x : List ℕ). Contains (addresses_in m) x) (addresses_in n) name
+      (parts_hold (λ (x : List ℕ). Contains (addresses_in m) x) addressed (addresses_say_nothing (λ (x : List ℕ). Contains (addresses_in m) x)) m n o
+      (all_there (λ (x : List ℕ). Contains (addresses_in m) x) (addresses_in m) (λ x c. c))) there;
 }

@@ -1,10 +1,11 @@
 -- What optimisation owes.
 use Rattle.std.specs.Prelude.{ℕ, ◌≡◌, List, [], ◌∷◌, map, Contains}
-use Rattle.std.specs.List.{AllByRecursion}
+use Rattle.std.specs.List.{AllByRecursion, flat_map}
 use Rattle.pw_flow.specs.declared.flow.FlowFn.{FlowFn}
 use Rattle.pw_flow.specs.declared.flow.FlowModule.{FlowModule}
 use Rattle.pw_flow.specs.FlowGraph.{named_in}
 use Rattle.pw_flow.specs.FrameRooms.{flow_room}
+use Rattle.pw_flow.specs.Addressed.{addressed}
 use Rattle.pw_flow.specs.ValidFlow.{IsValid}
 use Rattle.pw_run.specs.Runs.{Refines, Same}
 use Rattle.pw_run_languages.specs.Programs.{Program}
@@ -40,10 +41,16 @@ OptimisationKeepsPrograms = (p : Program) (ns : List FlowModule) → IsProgram p
 abbrev pub entry : FlowFn → List ℕ × List ℕ
 entry f = (f.name, f.shape)
 
--- What an optimised module shows to others is what the module shows, but that it may name fewer names.
+-- the names whose address a module's functions take
+abbrev pub addresses_in : FlowModule → List (List ℕ)
+addresses_in m = flat_map (λ f. flat_map (λ b. flat_map addressed b.ops) f.blocks) m.functions
+
+-- What an optimised module shows to others is what the module shows, but that it may name fewer names, and take the addresses
+-- of fewer.
 pub record ShowsNoMore (m n : FlowModule) : Type 0 where
   pub entries : map entry n.functions ≡ map entry m.functions
   pub fewer : (name : List ℕ) → Contains (named_in n) name → Contains (named_in m) name
+  pub addresses : (name : List ℕ) → Contains (addresses_in n) name → Contains (addresses_in m) name
 
 abbrev pub OptimisationShowsNoMore : Type 0
 OptimisationShowsNoMore = (m n : FlowModule) → IsOptimisedModule m n → ShowsNoMore m n

@@ -1,4 +1,4 @@
-//! A law of optimised modules and the rules of linking, without code.
+//! Laws of optimised modules and the rules of linking, without code.
 #![tactic(auto)]
 
 pub mod laws;

@@ -8,7 +8,6 @@ use Rattle.pw_value.specs.declared.value.Value.TheVariants.{Undefined}
 use Rattle.pw_files.proofs.Standing.{has_by}
 use Rattle.pw_db.specs.Limits.{last_register}
 use Rattle.pw_webflow.specs.declared.web.WebBlock.{WebBlock}
-use Rattle.pw_webflow.specs.ValidWebs.{IsWebFn}
 use Rattle.pw_alloc.specs.declared.located.Place.{Place}
 use Rattle.pw_alloc.specs.declared.located.Place.TheVariants.{Slot, Reg}
 use Rattle.pw_alloc.specs.declared.located.Located.{Located}
@@ -20,7 +19,7 @@ use Rattle.pw_run_languages.specs.Serving.{Serves, places}
 use Rattle.pw_law_direction.proofs.Banks.{saved_same, saved_covered, has_or_not}
 use Rattle.pw_law_placed.specs.Twins.{Twin, bare_side, placed_side, bare_value, placed_value}
 use Rattle.pw_law_placed.specs.Alike.{Registers, given_back}
-use Rattle.pw_law_placed.proofs.Lists.{nowhere, first_there, later_there}
+use Rattle.pw_law_placed.proofs.Lists.{first_there, later_there}
 use Rattle.pw_law_placed.proofs.Places.{register_of_place, value_at, place_there}
 
 -- ---- both states
@@ -106,10 +105,10 @@ begun_temps l b to x t = nothing_there l.body.temps t ∙ sym (by_place (slice_g
 pub bare_under : (l : Located) (b : WebBlock) (to : Option ℕ) (x : Twin) (q : ℕ) → given_back (begun l b to x).frame.bare x.registers q ≡ x.registers q
 bare_under l b to x q = saved_same (saved_of l.body) x.registers x.registers q refl
 
-pub placed_under : (l : Located) (b : WebBlock) (to : Option ℕ) (x : Twin) (q : ℕ) → IsWebFn l.body → Serves l.body l → q ≤ last_register
+pub placed_under : (l : Located) (b : WebBlock) (to : Option ℕ) (x : Twin) (q : ℕ) → Serves l.body l → q ≤ last_register → (Contains l.body.directives.free q → ⊥)
     → given_back (begun l b to x).frame.placed (begun l b to x).bank q ≡ x.bank q
-placed_under l b to x q lawful serves high = elim (has_or_not q l.saved) [
+placed_under l b to x q serves high out = elim (has_or_not q l.saved) [
   | inl there ↦ saved_covered l.saved x.bank (without_places l.places x.bank) q there
   | inr lacks ↦ saved_same l.saved x.bank (without_places l.places x.bank) q (uncleared l.places x.bank q (λ c.
-      lacks (has_by q l.saved ((serves.saved q).1 (places c high (λ free. nowhere q (subst (λ (rs : List ℕ). Contains rs q) lawful.directives.free free)))))))
+      lacks (has_by q l.saved ((serves.saved q).1 (places c high out)))))
 ]

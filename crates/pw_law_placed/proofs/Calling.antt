@@ -25,8 +25,8 @@ use Rattle.pw_webflow.proofs.DirectionLaws.{directed_lawful}
 use Rattle.pw_alloc.specs.Allocation.{is_entry, saved_of}
 use Rattle.pw_alloc.specs.declared.located.Located.{Located}
 use Rattle.pw_run.specs.Runs as run
-use Rattle.pw_db_sound.specs.CallGraphs.{Calls}
-use Rattle.pw_db_sound.specs.Sound.{Sound, In}
+use Rattle.pw_db_sound.specs.CallGraphs.{Graph, Calls}
+use Rattle.pw_db_sound.specs.Sound.{Sound, In, IsFree, IsSaver, LeavesAlone}
 use Rattle.pw_db_sound.specs.Sound.{Has as HasRole}
 use Rattle.pw_run_languages.specs.Traces.{Called, Refused}
 use Rattle.pw_run_languages.specs.Programs.{Program, Library, library_at, functions_of}
@@ -35,8 +35,9 @@ use Rattle.pw_run_languages.specs.Direction.{directives_of, directed_by, directe
 use Rattle.pw_run_languages.specs.PlacedRun.{PlacedProgram, Machine, Step, On, Stopped, Astray, entered_webs, without_places, with_parameters, and_then, enters_webs, entered, begins, calls_defined, calls, counted, noted, kept, depth, first_block, globals_now, function_named}
 use Rattle.pw_run_languages.specs.Serving.{Serves}
 use Rattle.pw_law_placed.specs.Twins.{Active, Twin, bare_frame, bare_side, placed_side, bare_program}
-use Rattle.pw_law_placed.specs.Alike.{Registers, name_of, IsPlaced, IsReady, IsCalling, Follows, goes, strays}
+use Rattle.pw_law_placed.specs.Alike.{Registers, name_of, IsPlaced, LeavesIt, IsReady, IsCalling, Follows, goes, strays}
 use Rattle.pw_law_placed.specs.Laws.{IsServed, BothNamed, neither, both}
+use Rattle.pw_law_placed.proofs.Free.{not_saver, free_of, of_free, of_saver}
 use Rattle.pw_law_placed.proofs.Begun.{begun, begun_temps, bare_under, placed_under, uncleared}
 use Rattle.pw_law_placed.proofs.Entering.{Entering, LoadsBoth, all_loaded, unloaded, loads_both}
 use Rattle.pw_law_placed.proofs.Receiving.{Receiving, all_received, received_alike}
@@ -54,7 +55,7 @@ chosen_lawful true own rest here later = here
 chosen_lawful false own rest here later = later
 
 given_lawful : (d : List (List ℕ × Directives)) → AllByRecursion (λ f. IsDirectives f.1) d → (f : List ℕ) → IsDirectives (directives_of d f)
-given_lawful [] all f = record { each = tt; numbers = tt; globals = tt; registers = tt; free = refl }
+given_lawful [] all f = record { each = tt; numbers = tt; globals = tt; registers = tt; free = tt; saves = tt; apart = tt }
 given_lawful (g ∷ d) all f = chosen_lawful (bytes_eq g.0 f) g.1 (directives_of d f) all.0 (given_lawful d all.1 f)
 
 pub record IsOfProgram (p : Program) (d : List (List ℕ × Directives)) (f : WebFn) : Type 0 where
@@ -157,7 +158,7 @@ module _ (p : Program) (d : List (List ℕ × Directives)) (base : IsDatabase d)
         webs = begun_webs l b to x is ready edge;
         temps = begun_temps l b to x;
         bare_under = λ q high. bare_under l b to x q;
-        placed_under = λ q high. placed_under l b to x q of.lawful serves high;
+        placed_under = λ q high out. placed_under l b to x q serves high (λ c. out (free_of p d (begun l b to x).frame q is c));
         before = refl;
         callers = refl;
         log = ready.log;
@@ -186,6 +187,27 @@ module _ (p : Program) (d : List (List ℕ × Directives)) (base : IsDatabase d)
     keeps = e.keeps;
   }
 
+  pub entries_alone : (f : WebFn) → IsOfProgram p d f → (w : Web) → Has w (entered_webs (unplaced f)) → HasRole d f.name w Entry
+  unfolding directed
+  entries_alone f is w h =
+      subst (λ (g : WebFn). HasRole d g.name w Entry) (sym is.body)
+      (entered_role d base is.flow.name w (subst (λ (g : WebFn). Has w (entered_webs (unplaced g))) is.body h))
+
+-- whoever calls a function leaves alone what that one is free to use and does not save
+abbrev pub CallersLeave : Type 0
+CallersLeave = (g : Graph) (d : List (List ℕ × Directives)) (a f : List ℕ) (r : ℕ) → Sound g d → Calls g a f → IsFree d f r → ¬ IsSaver d f r → LeavesAlone d a r
+
+module _ (leaves : CallersLeave) (p : Program) (d : List (List ℕ × Directives)) (base : IsDatabase d) (sound : Sound (graph_of p) d) where
+  -- ---- registers that are free below
+
+  -- what a function is free to use, its caller leaves to it
+  leaves_it : (f : Active) (callee : List ℕ) → IsPlaced p d f → Calls (graph_of p) (name_of f) callee → (r : ℕ) → IsFree d callee r → LeavesIt f.function.body.directives r
+  leaves_it f callee is edge r free =
+      let alone = leaves (graph_of p) d (name_of f) callee r sound edge free (not_saver d base callee r free) in (
+        λ own. let w = register_web p d base sound f r is own in alone.webless w.0 w.1 w.2,
+        elim alone.moved [ inl mine ↦ inl (of_free p d base f r is mine) | inr saver ↦ inr (of_saver p d base f r is saver) ],
+      )
+
   abbrev pub receives : List Value → Machine → Step
   receives args m = On (with_parameters 0 args m)
 
@@ -194,15 +216,9 @@ module _ (p : Program) (d : List (List ℕ × Directives)) (base : IsDatabase d)
   after_loads x l to args s t c edge count (all_loaded y e) =
       let below : List Active = x.frame ∷ x.callers in
       let own : length args ≡ y.frame.function.body.params = count ∙ ap (λ (f : Located). f.body.params) (sym e.function) in
-      let r = all_received p d x.registers x.bank below l to args 0 y (omega (arith, own)) (loaded_receiving x.registers x.bank below l to y e) in
-      goes (record { twin = r.twin; bare = ap On r.bare; placed = ap On r.full; alike = received_alike p d x l to r.twin c edge r.receiving })
+      let r = all_received p d x.registers x.bank below l to args 0 y (omega (arith, own)) (loaded_receiving p d base sound x.registers x.bank below l to y e) in
+      goes (record { twin = r.twin; bare = ap On r.bare; placed = ap On r.full; alike = received_alike p d x l to r.twin c edge (leaves_it x.frame l.body.name c.ready.frame.placed edge) r.receiving })
   after_loads x l to args s t c edge count unloaded = strays refl refl
-
-  pub entries_alone : (f : WebFn) → IsOfProgram p d f → (w : Web) → Has w (entered_webs (unplaced f)) → HasRole d f.name w Entry
-  unfolding directed
-  entries_alone f is w h =
-      subst (λ (g : WebFn). HasRole d g.name w Entry) (sym is.body)
-      (entered_role d base is.flow.name w (subst (λ (g : WebFn). Has w (entered_webs (unplaced g))) is.body h))
 
   pub begins_follow : (ls : List Located) (l : Located) (block : Option WebBlock) (to : Option ℕ) (args : List Value) (x : Twin) → IsOfProgram p d l.body → Serves l.body l → slice_get l.body.blocks 0 ≡ block → IsCalling p d x to
       → Calls (graph_of p) (name_of x.frame) l.body.name → Follows p d (begins (bare_program p d) (unplaced l.body) block to args (bare_side x)) (begins (with_functions p ls) l block to args (placed_side x))
@@ -213,7 +229,7 @@ module _ (p : Program) (d : List (List ℕ × Directives)) (base : IsDatabase d)
     by_count true e =
         after_loads x l to args (enters_webs (bare_program p d) (entered_webs l) (bare_side (begun l b to x))) (enters_webs (with_functions p ls) (entered_webs l) (placed_side (begun l b to x)))
         c edge (eqb-true (length args) l.body.params e)
-        (loads_both p d base sound ls x.registers x.bank (x.frame ∷ x.callers) l to (entered_webs l) (begun l b to x) (entries_alone l.body of) (begun_entering l b to x of serves first c.ready edge))
+        (loads_both p d base sound ls x.registers x.bank (x.frame ∷ x.callers) l to (entered_webs l) (begun l b to x) (entries_alone p d base sound l.body of) (begun_entering p d base sound l b to x of serves first c.ready edge))
     by_count false e = strays refl refl
   begins_follow ls l None to args x of serves first c edge = strays refl refl
 

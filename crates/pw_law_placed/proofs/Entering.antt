@@ -15,7 +15,7 @@ use Rattle.pw_alloc.specs.declared.located.Located.{Located}
 use Rattle.pw_alloc.specs.declared.located.Place.TheVariants.{Reg}
 use Rattle.pw_run.specs.Runs as run
 use Rattle.pw_run.specs.Runs.{Same}
-use Rattle.pw_db_sound.specs.Sound.{Sound}
+use Rattle.pw_db_sound.specs.Sound.{Sound, IsFree}
 use Rattle.pw_db_sound.specs.Sound.{Has as HasRole}
 use Rattle.pw_run_languages.specs.Traces.{Loaded, EventAlike, loaded, KeepRegisters}
 use Rattle.pw_run_languages.specs.Programs.{Program}
@@ -32,7 +32,8 @@ use Rattle.pw_law_placed.proofs.Writing.{with_here}
 use Rattle.pw_law_placed.proofs.Webs.{web_has, web_register, covered_both, covered_same}
 
 -- A function that still has to load some of the webs that it enters, above those that are active. The registers of its other
--- webs hold the same, and so do all its temporaries; and what it would give back is what the registers held at its call.
+-- webs hold the same, and so do all its temporaries; and what it would give back is what the registers held at its call, but
+-- for those that it is free to use.
 pub record Entering (p : Program) (d : List (List ℕ × Directives)) (old old_bank : Registers) (below : List Active) (l : Located) (to : Option ℕ) (left : List Web) (x : Twin) : Type 0 where
   pub placed : IsPlaced p d x.frame
   pub block : WebBlock
@@ -44,7 +45,7 @@ pub record Entering (p : Program) (d : List (List ℕ × Directives)) (old old_b
   pub webs : (r : ℕ) → HasRegister x.frame.function.body.directives r → ((w : Web) → Has w left → w.reg ≡ r → ⊥) → x.registers r ≡ x.bank r
   pub temps : (t : ℕ) → bare_value x.frame t ≡ placed_value x.frame x.bank t
   pub bare_under : (q : ℕ) → q ≤ last_register → given_back x.frame.bare x.registers q ≡ old q
-  pub placed_under : (q : ℕ) → q ≤ last_register → given_back x.frame.placed x.bank q ≡ old_bank q
+  pub placed_under : (q : ℕ) → q ≤ last_register → (IsFree d (name_of x.frame) q → ⊥) → given_back x.frame.placed x.bank q ≡ old_bank q
   pub before : x.frame.placed.before ≡ kept old_bank
   pub callers : x.callers ≡ below
   pub log : run.AreAlike (EventAlike Same Same) x.trace x.notes
@@ -82,7 +83,7 @@ module _ (p : Program) (d : List (List ℕ × Directives)) (base : IsDatabase d)
         temps = λ t. e.temps t ∙ placed_same x.frame x.bank (with_register w.reg v x.bank) t (λ r there. written_other w.reg r v x.bank (λ here.
             (e.placed.serves.registers r (place_there x.frame.function.places t (Reg r) there)).1 (subst (HasRegister x.frame.function.body.directives) (sym here) own)));
         bare_under = λ q high. covered_same x.frame.bare.saved w.reg (with_register w.reg v x.registers) x.registers covered.0 (λ r other. sym (written_other w.reg r v x.registers other)) q ∙ e.bare_under q high;
-        placed_under = λ q high. covered_same x.frame.placed.saved w.reg (with_register w.reg v x.bank) x.bank covered.1 (λ r other. sym (written_other w.reg r v x.bank other)) q ∙ e.placed_under q high;
+        placed_under = λ q high out. covered_same x.frame.placed.saved w.reg (with_register w.reg v x.bank) x.bank covered.1 (λ r other. sym (written_other w.reg r v x.bank other)) q ∙ e.placed_under q high out;
         before = e.before;
         callers = e.callers;
         log = e.log;

@@ -2,6 +2,7 @@ mod Lists
 mod Commands
 mod Standing
 mod Places
+mod Free
 mod Waiting
 mod Writing
 mod Operations

@@ -54,12 +54,12 @@ module _ (p : Program) (d : List (List ℕ × Directives)) (ls : List Located) w
   -- what is needed over a call stands in no register that is kept over none
   scratched_ready : (x : Twin) (to : Option ℕ) → IsCalling p d x to → IsReady p d (scratched x) to
   scratched_ready x to c = record {
-    frame = gets_kept p d x.frame to x.registers x.bank (without_scratch x.registers) (without_scratch x.bank) c.ready.frame c.calls
-        (λ r high. scratch_keeps x.registers r high) (λ r high. scratch_keeps x.bank r high);
+    frame = gets_kept p d (λ r. ⊥) x.frame to x.registers x.bank (without_scratch x.registers) (without_scratch x.bank) c.ready.frame c.calls
+        (λ r none. absurd none) (λ r high. scratch_keeps x.registers r high) (λ r high out. scratch_keeps x.bank r high);
     callers = waiting_same p d x.frame.function.body.name x.frame.result x.callers (given_back x.frame.bare x.registers) (given_back x.frame.placed x.bank)
         (given_back x.frame.bare (without_scratch x.registers)) (given_back x.frame.placed (without_scratch x.bank))
         (λ r high. with_same x.frame.bare.saved (without_scratch x.registers) x.registers r (scratch_keeps x.registers r high))
-        (λ r high. with_same x.frame.placed.saved (without_scratch x.bank) x.bank r (scratch_keeps x.bank r high)) c.ready.callers;
+        (λ r high out. with_same x.frame.placed.saved (without_scratch x.bank) x.bank r (scratch_keeps x.bank r high)) c.ready.callers;
     log = c.ready.log;
     kept = c.ready.kept;
   }

@@ -16,6 +16,7 @@ use Rattle.pw_alloc.specs.declared.located.Located.{Located}
 use Rattle.pw_run.specs.Runs as run
 use Rattle.pw_run.specs.Runs.{Same}
 use Rattle.pw_db_sound.specs.CallGraphs.{Calls}
+use Rattle.pw_db_sound.specs.Sound.{IsFree}
 use Rattle.pw_run_languages.specs.Traces.{EventAlike, KeepRegisters}
 use Rattle.pw_run_languages.specs.Programs.{Program}
 use Rattle.pw_run_languages.specs.LawfulPrograms.{graph_of}
@@ -23,13 +24,14 @@ use Rattle.pw_run_languages.specs.PlacedRun.{Machine, kept, with_parameters}
 use Rattle.pw_run_languages.specs.Serving.{Live, Interfere, by_start, parameters}
 use Rattle.pw_law_direction.proofs.Banks.{kept_at, with_same, written_other}
 use Rattle.pw_law_placed.specs.Twins.{Active, Twin, bare_side, placed_side, bare_value, placed_value}
-use Rattle.pw_law_placed.specs.Alike.{Registers, given_back, name_of, IsPlaced, Runs, AllWait, IsCalling, IsAlike}
+use Rattle.pw_law_placed.specs.Alike.{Registers, given_back, name_of, IsPlaced, LeavesIt, Runs, AllWait, IsCalling, IsAlike}
 use Rattle.pw_law_placed.proofs.Places.{register_of_place, place_there}
 use Rattle.pw_law_placed.proofs.Writing.{puts, bare_puts, placed_puts, own_put, other_put, put_placed, given_same, of_register}
-use Rattle.pw_law_placed.proofs.Waiting.{gets_kept, waiting_same}
+use Rattle.pw_law_placed.proofs.Free.{not_free}
+use Rattle.pw_law_placed.proofs.Waiting.{back_same, gets_kept, waiting_same}
 
 -- Its webs hold the same in both runs, and so do its parameters and what is needed of its first block. What it would give back is
--- what the registers held at its call.
+-- what the registers held at its call, but for those that it is free to use.
 pub record Receiving (p : Program) (d : List (List ℕ × Directives)) (old old_bank : Registers) (below : List Active) (l : Located) (to : Option ℕ) (x : Twin) : Type 0 where
   pub placed : IsPlaced p d x.frame
   pub block : WebBlock
@@ -41,7 +43,7 @@ pub record Receiving (p : Program) (d : List (List ℕ × Directives)) (old old_
   pub webs : (r : ℕ) → HasRegister x.frame.function.body.directives r → x.registers r ≡ x.bank r
   pub temps : (t : ℕ) → (t < x.frame.function.body.params) ⊎ Live x.frame.function.body t block.ops block.end → bare_value x.frame t ≡ placed_value x.frame x.bank t
   pub bare_under : (q : ℕ) → q ≤ last_register → given_back x.frame.bare x.registers q ≡ old q
-  pub placed_under : (q : ℕ) → q ≤ last_register → given_back x.frame.placed x.bank q ≡ old_bank q
+  pub placed_under : (q : ℕ) → q ≤ last_register → (IsFree d (name_of x.frame) q → ⊥) → given_back x.frame.placed x.bank q ≡ old_bank q
   pub before : x.frame.placed.before ≡ kept old_bank
   pub callers : x.callers ≡ below
   pub log : run.AreAlike (EventAlike Same Same) x.trace x.notes
@@ -82,7 +84,7 @@ module _ (p : Program) (d : List (List ℕ × Directives)) (old old_bank : Regis
           | inr other ↦ other_put x t u v (Some r) is other (λ q here h. other_place x t u q e low other needed here h) (e.temps u needed)
         ];
         bare_under = e.bare_under;
-        placed_under = λ q high. given_same p d x.frame t r q v x.bank e.placed there high ∙ e.placed_under q high;
+        placed_under = λ q high out. given_same p d x.frame t r q v x.bank e.placed there high out ∙ e.placed_under q high out;
         before = e.before;
         callers = e.callers;
         log = e.log;
@@ -147,31 +149,34 @@ module _ (p : Program) (d : List (List ℕ × Directives)) (old old_bank : Regis
     temps = λ t lives. e.temps t (inr (subst (λ (ops : List WebOp). Live x.frame.function.body t ops e.block.end) e.ops
         (subst (λ end. Live x.frame.function.body t x.frame.ops end) e.end lives)));
     gives = λ q low high out.
-        ap (λ (vs : List Value). slice_get vs (q - first_register)) e.before ∙ kept_at old_bank q low high ∙ ap Some (sym (e.placed_under q high));
+        ap (λ (vs : List Value). slice_get vs (q - first_register)) e.before ∙ kept_at old_bank q low high ∙ ap Some (sym (e.placed_under q high (not_free p d (name_of x.frame) q out)));
   }
 
 module _ (p : Program) (d : List (List ℕ × Directives)) where
   -- above its caller both states are alike
   pub received_alike : (was : Twin) (l : Located) (to : Option ℕ) (x : Twin) → IsCalling p d was to → Calls (graph_of p) (name_of was.frame) l.body.name
-      → Receiving p d was.registers was.bank (was.frame ∷ was.callers) l to x → IsAlike p d x
+      → ((r : ℕ) → IsFree d l.body.name r → LeavesIt was.frame.function.body.directives r) → Receiving p d was.registers was.bank (was.frame ∷ was.callers) l to x → IsAlike p d x
   unfolding gets_kept
-  received_alike was l to x c edge e = record {
+  received_alike was l to x c edge leaves e = record {
     frame = received_runs p d was.registers was.bank (was.frame ∷ was.callers) l to x e;
     callers = subst (λ (fs : List Active). AllWait p d (name_of x.frame) x.frame.result fs (given_back x.frame.bare x.registers) (given_back x.frame.placed x.bank)) (sym e.callers)
         (subst (λ (o : Option ℕ). AllWait p d (name_of x.frame) o (was.frame ∷ was.callers) (given_back x.frame.bare x.registers) (given_back x.frame.placed x.bank)) (sym e.result) (
           record {
             edge = subst (λ (f : Located). Calls (graph_of p) (name_of was.frame) f.body.name) (sym e.function) edge;
-            gets = gets_kept p d was.frame to was.registers was.bank (given_back x.frame.bare x.registers) (given_back x.frame.placed x.bank) c.ready.frame c.calls e.bare_under e.placed_under;
+            alone = alone;
+            gets = gets_kept p d (IsFree d (name_of x.frame)) was.frame to was.registers was.bank (given_back x.frame.bare x.registers) (given_back x.frame.placed x.bank) c.ready.frame c.calls alone e.bare_under e.placed_under;
             calls = c.calls;
           },
           waiting_same p d (name_of was.frame) was.frame.result was.callers (given_back was.frame.bare was.registers) (given_back was.frame.placed was.bank)
               (given_back was.frame.bare (given_back x.frame.bare x.registers)) (given_back was.frame.placed (given_back x.frame.placed x.bank))
               (λ r high. with_same was.frame.bare.saved (given_back x.frame.bare x.registers) was.registers r (e.bare_under r high))
-              (λ r high. with_same was.frame.placed.saved (given_back x.frame.placed x.bank) was.bank r (e.placed_under r high)) c.ready.callers,
+              (λ r high out. back_same p d (IsFree d (name_of x.frame)) was.frame was.bank (given_back x.frame.placed x.bank) c.ready.frame.placed alone e.placed_under r high out) c.ready.callers,
         ));
     log = e.log;
     kept = e.keeps;
-  }
+  } where
+    alone : (r : ℕ) → IsFree d (name_of x.frame) r → LeavesIt was.frame.function.body.directives r
+    alone r free = leaves r (subst (λ (f : Located). IsFree d f.body.name r) e.function free)
 
   -- above none it is `$start`
   pub started_alike : (old old_bank : Registers) (l : Located) (x : Twin) → l.body.name ≡ start_name → Receiving p d old old_bank [] l None x → IsAlike p d x

@@ -106,9 +106,9 @@ module _ (p : Program) (d : List (List ℕ × Directives)) (ls : List Located) w
       let old = given_back x.frame.bare x.registers in
       let bank = given_back x.frame.placed x.bank in
       record {
-        frame = gets_kept p d g x.frame.result old bank (without_scratch old) (without_scratch bank) wait.0.gets wait.0.calls (λ r high. scratch_keeps old r high) (λ r high. scratch_keeps bank r high);
+        frame = gets_kept p d (λ r. ⊥) g x.frame.result old bank (without_scratch old) (without_scratch bank) wait.0.gets wait.0.calls (λ r none. absurd none) (λ r high. scratch_keeps old r high) (λ r high out. scratch_keeps bank r high);
         callers = waiting_same p d (name_of g) g.result gs (given_back g.bare old) (given_back g.placed bank) (given_back g.bare (without_scratch old)) (given_back g.placed (without_scratch bank))
-            (λ r high. with_same g.bare.saved (without_scratch old) old r (scratch_keeps old r high)) (λ r high. with_same g.placed.saved (without_scratch bank) bank r (scratch_keeps bank r high)) wait.1;
+            (λ r high. with_same g.bare.saved (without_scratch old) old r (scratch_keeps old r high)) (λ r high out. with_same g.placed.saved (without_scratch bank) bank r (scratch_keeps bank r high)) wait.1;
         log = a.log;
         kept = a.kept;
       }

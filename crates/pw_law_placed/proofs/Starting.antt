@@ -112,7 +112,7 @@ module _ (p : Program) (d : List (List ℕ × Directives)) (base : IsDatabase d)
     webs = λ r own left. refl;
     temps = started_temps l b;
     bare_under = λ q high. saved_same (saved_of l.body) nothing nothing q refl;
-    placed_under = λ q high. saved_same l.saved nothing nothing q refl;
+    placed_under = λ q high out. saved_same l.saved nothing nothing q refl;
     before = refl;
     callers = refl;
     log = first_alike;

@@ -29,14 +29,14 @@ use Rattle.pw_law_direction.specs.Values.{FineValue, AreFine}
 use Rattle.pw_law_direction.specs.DirectedLaws.{OperationsCallByTheGraph}
 use Rattle.pw_law_placed.specs.Twins.{Twin, bare_side, placed_side, bare_program, bare_value, placed_value}
 use Rattle.pw_law_placed.specs.Alike.{name_of, IsCalling, IsAlike, Follows}
-use Rattle.pw_law_placed.specs.Laws.{IsServed, StaysInside, HasResult, StaysInFunction, ReturnsFollow, StepsFollow}
+use Rattle.pw_law_placed.specs.Laws.{CallsFollow, IsServed, StaysInside, HasResult, StaysInFunction, ReturnsFollow, StepsFollow}
 use Rattle.pw_law_placed.proofs.Lists.{first_there}
 use Rattle.pw_law_placed.proofs.Commands.{commands_same}
 use Rattle.pw_law_placed.proofs.Operations.{results_stand, commands_follow}
 use Rattle.pw_law_placed.proofs.Blocks.{popped, ready_behind, uses_agree, blocks_follow}
 use Rattle.pw_law_placed.proofs.Webs.{web_register}
 use Rattle.pw_law_placed.proofs.WebSteps.{reads_follow, writes_follow}
-use Rattle.pw_law_placed.proofs.Calling.{entries_alone, calls_follow}
+use Rattle.pw_law_placed.proofs.Calling.{entries_alone}
 use Rattle.pw_law_placed.proofs.Returning.{returns_follow}
 
 -- ---- what an operation enters
@@ -74,7 +74,7 @@ asked graph p d x o ops e a fine is =
 
 -- ---- operations
 
-module _ (graph : OperationsCallByTheGraph) (p : Program) (d : List (List ℕ × Directives)) (ok : IsProgram p) (base : IsDatabase d) (sound : Sound (graph_of p) d) (ls : List Located) (served : IsServed p d ls) where
+module _ (graph : OperationsCallByTheGraph) (called : CallsFollow) (p : Program) (d : List (List ℕ × Directives)) (ok : IsProgram p) (base : IsDatabase d) (sound : Sound (graph_of p) d) (ls : List Located) (served : IsServed p d ls) where
   entered_follows : (x : Twin) (o : Op) (ops : List WebOp) (e : Enters (bare_command p x o)) → IsAlike p d x → AreFine p (bare_side x) → x.frame.ops ≡ Flow o ∷ ops
       → Follows p d (calls (bare_program p d) e.to e.function e.args (bare_side (popped x ops))) (calls (with_functions p ls) e.to e.function e.args (placed_side (popped x ops)))
   unfolding ready_behind
@@ -82,7 +82,7 @@ module _ (graph : OperationsCallByTheGraph) (p : Program) (d : List (List ℕ ×
       let k = asked graph p d x o ops e a fine is in
       let to : op_defines o ≡ e.to = subst (HasResult (op_defines o)) e.is (results_stand p x.frame.base o (bare_value x.frame)) in
       let calling : IsCalling p d (popped x ops) (op_defines o) = record { ready = ready_behind p d x (Flow o) ops a is; calls = k.0 } in
-      calls_follow p d base sound ls e.function e.to e.args (popped x ops) ok served (subst (IsCalling p d (popped x ops)) to calling) k.1
+      called p d ls (popped x ops) e.to e.function e.args ok base sound served (subst (IsCalling p d (popped x ops)) to calling) k.1
 
   -- both runs ask for the same
   flow_follows : (x : Twin) (o : Op) (ops : List WebOp) → IsAlike p d x → AreFine p (bare_side x) → x.frame.ops ≡ Flow o ∷ ops
@@ -131,11 +131,11 @@ abbrev next : PlacedProgram → Machine → List WebOp → Step
 next q m [] = ends q m.frame.end m
 next q m (o ∷ ops) = does q o (record m { frame = record m.frame { ops = ops } })
 
-next_follows : OperationsCallByTheGraph → (p : Program) (d : List (List ℕ × Directives)) (ok : IsProgram p) (base : IsDatabase d) (sound : Sound (graph_of p) d) (ls : List Located) → IsServed p d ls → (x : Twin) (ops : List WebOp)
+next_follows : OperationsCallByTheGraph → CallsFollow → (p : Program) (d : List (List ℕ × Directives)) (ok : IsProgram p) (base : IsDatabase d) (sound : Sound (graph_of p) d) (ls : List Located) → IsServed p d ls → (x : Twin) (ops : List WebOp)
     → IsAlike p d x → AreFine p (bare_side x) → x.frame.ops ≡ ops → Follows p d (next (bare_program p d) (bare_side x) ops) (next (with_functions p ls) (placed_side x) ops)
-next_follows graph p d ok base sound ls served x [] a fine is = end_follows p d base sound ls x x.frame.end a is refl
-next_follows graph p d ok base sound ls served x (o ∷ ops) a fine is = op_follows graph p d ok base sound ls served x o ops a fine is
+next_follows graph called p d ok base sound ls served x [] a fine is = end_follows p d base sound ls x x.frame.end a is refl
+next_follows graph called p d ok base sound ls served x (o ∷ ops) a fine is = op_follows graph called p d ok base sound ls served x o ops a fine is
 
-pub steps_follow : OperationsCallByTheGraph → StepsFollow
+pub steps_follow : OperationsCallByTheGraph → CallsFollow → StepsFollow
 unfolding step
-steps_follow graph p d ls x ok base sound served a fine = next_follows graph p d ok base sound ls served x x.frame.ops a fine refl
+steps_follow graph called p d ls x ok base sound served a fine = next_follows graph called p d ok base sound ls served x x.frame.ops a fine refl

@@ -15,7 +15,7 @@ use Rattle.pw_webflow.specs.declared.web.WebFn.{WebFn}
 use Rattle.pw_webflow.specs.Direction.{directed}
 use Rattle.pw_alloc.specs.Allocation.{is_entry, is_entered, entered_from}
 use Rattle.pw_alloc.specs.declared.located.Place.TheVariants.{Reg}
-use Rattle.pw_db_sound.specs.Sound.{Sound, In}
+use Rattle.pw_db_sound.specs.Sound.{Sound, In, IsSaver}
 use Rattle.pw_db_sound.specs.Sound.{Has as HasRole}
 use Rattle.pw_run_languages.specs.Traces.{MayChange, member}
 use Rattle.pw_run_languages.specs.Programs.{Program}
@@ -28,6 +28,7 @@ use Rattle.pw_law_direction.proofs.Directives.{role_there, web_range}
 use Rattle.pw_law_placed.specs.Twins.{Active}
 use Rattle.pw_law_placed.specs.Alike.{Registers, given_back, name_of, IsPlaced, GivesBack, Gets, AllWait}
 use Rattle.pw_law_placed.proofs.Lists.{differ}
+use Rattle.pw_law_placed.proofs.Free.{saver_of}
 use Rattle.pw_law_placed.proofs.Places.{placed_same, place_there}
 use Rattle.pw_law_placed.proofs.Waiting.{waiting_same}
 
@@ -100,16 +101,16 @@ module _ (p : Program) (d : List (List ℕ × Directives)) (base : IsDatabase d)
         subst (λ (l : List ℕ). Has r l) (sym is.placed) (has_by r f.function.saved placed),
       )
 
-  -- where it enters none, but is in a web of the register, in neither
-  absent_both : (f : Active) (r : ℕ) → IsPlaced p d f → HasRegister f.function.body.directives r → is_entered f.function.body.directives.webs r ≡ false
+  -- where it enters none, but is in a web of the register and saves it for no others, in neither
+  absent_both : (f : Active) (r : ℕ) → IsPlaced p d f → HasRegister f.function.body.directives r → (IsSaver d (name_of f) r → ⊥) → is_entered f.function.body.directives.webs r ≡ false
       → (Has r (map (λ s. s.0) f.bare.saved) → ⊥) × (Has r (map (λ s. s.0) f.placed.saved) → ⊥)
-  absent_both f r is own e = (
+  absent_both f r is own alone e = (
     λ h. differ (is_entered f.function.body.directives.webs r) (from_in f.function.body.directives.webs first_register register_count r (subst (λ (l : List ℕ). Has r l) is.bare h)) e,
     λ h. not_changed ((is.serves.saved r).0 (contains_by r f.function.saved (subst (λ (l : List ℕ). Has r l) is.placed h))),
   ) where
     not_changed : Changes f.function.body f.function r → ⊥
     not_changed (places c high free) = (is.serves.registers r c).1 own
-    not_changed (saves c) = absurd (has_by r [] c)
+    not_changed (saves c) = alone (saver_of p d f r is c)
     not_changed (enters has) =
         differ (is_entered f.function.body.directives.webs r) (subst (λ (q : ℕ). is_entered f.function.body.directives.webs q ≡ true) has.is
         (is_entered_by f.function.body.directives.webs has.web (has_by (has.web, Entry) f.function.body.directives.webs has.there))) e
@@ -145,7 +146,7 @@ module _ (p : Program) (d : List (List ℕ × Directives)) (base : IsDatabase d)
     own = web_register f w is within
 
     by_role : (role : Role) → HasRole d (name_of f) w role → is_entered f.function.body.directives.webs w.reg ≡ false → Absent f w
-    by_role Member has e = (has, absent_both f w.reg is own e)
+    by_role Member has e = (has, absent_both f w.reg is own (λ saver. sound.saves (name_of f) w.reg saver w has refl) e)
     by_role Entry has e = absurd (differ (is_entered f.function.body.directives.webs w.reg) (is_entered_by f.function.body.directives.webs w (web_has f w Entry is has)) e)
 
     by_entry : (b : Bool) → is_entered f.function.body.directives.webs w.reg ≡ b → Covered f w.reg ⊎ Absent f w
@@ -176,7 +177,7 @@ module _ (p : Program) (d : List (List ℕ × Directives)) (base : IsDatabase d)
   webs_wait w f [] x y now after is within one wait = wait
   webs_wait w f (g ∷ gs) x y now after is within one wait = elim (role_in f w is within) [
     | inl covered ↦ waiting_same p d (name_of f) f.result (g ∷ gs) (given_back f.bare x) (given_back f.placed y) (given_back f.bare now) (given_back f.placed after)
-        (λ q high. covered_same f.bare.saved w.reg now x covered.0 one.bare q) (λ q high. covered_same f.placed.saved w.reg after y covered.1 one.placed q) wait
+        (λ q high. covered_same f.bare.saved w.reg now x covered.0 one.bare q) (λ q high out. covered_same f.placed.saved w.reg after y covered.1 one.placed q) wait
     | inr absent ↦
         let inner : In d w (name_of g) = sound.member_callers w (name_of f) (name_of g) absent.0 wait.0.edge in
         let next : OneChanged w.reg (given_back f.bare x) (given_back f.placed y) (given_back f.bare now) (given_back f.placed after) = record {
@@ -186,6 +187,7 @@ module _ (p : Program) (d : List (List ℕ × Directives)) (base : IsDatabase d)
         } in (
           record {
             edge = wait.0.edge;
+            alone = wait.0.alone;
             gets = gets_after g w f.result (given_back f.bare x) (given_back f.placed y) (given_back f.bare now) (given_back f.placed after) inner next wait.0.gets;
             calls = wait.0.calls;
           },

@@ -13,14 +13,15 @@ use Rattle.pw_webflow.specs.ValidWebs.{HasRegister}
 use Rattle.pw_webflow.specs.declared.web.WebOp.{WebOp}
 use Rattle.pw_alloc.specs.declared.located.Place.{Place}
 use Rattle.pw_alloc.specs.declared.located.Place.TheVariants.{Slot, Reg}
+use Rattle.pw_db_sound.specs.Sound.{IsFree}
 use Rattle.pw_run_languages.specs.Programs.{Program}
 use Rattle.pw_run_languages.specs.PlacedRun.{Machine, On, with_register, with_temp}
 use Rattle.pw_run_languages.specs.Serving.{Live, StandsIn, by_operation, places}
 use Rattle.pw_law_direction.proofs.Banks.{with_same, with_covered, written_other}
 use Rattle.pw_law_placed.specs.Twins.{Active, Twin, bare_side, placed_side, bare_value, placed_value}
-use Rattle.pw_law_placed.specs.Alike.{Registers, given_back, IsPlaced, IsInside, Gets, IsReady, IsAlike, goes}
+use Rattle.pw_law_placed.specs.Alike.{Registers, given_back, name_of, IsPlaced, IsInside, Gets, IsReady, IsAlike, goes}
 use Rattle.pw_law_placed.specs.Laws.{ResultsFollow}
-use Rattle.pw_law_placed.proofs.Lists.{nowhere}
+use Rattle.pw_law_placed.proofs.Free.{free_of, not_free}
 use Rattle.pw_law_placed.proofs.Places.{register_of_place, value_at, placed_same, place_there}
 use Rattle.pw_law_placed.proofs.Waiting.{waiting_same}
 
@@ -71,13 +72,13 @@ placed_puts x t v = placed_by x t v (register_of_place (slice_get x.frame.functi
 
 -- ---- a register of a place
 
--- what the function gives back does not depend on the register of one of its temporaries
-pub given_same : (p : Program) (d : List (List ℕ × Directives)) (f : Active) (t r q : ℕ) (v : Value) (bank : Registers) → IsPlaced p d f → slice_get f.function.places t ≡ Some (Reg r) → q ≤ last_register
+-- what the function gives back does not depend on the register of one of its temporaries, but for those that it is free to use
+pub given_same : (p : Program) (d : List (List ℕ × Directives)) (f : Active) (t r q : ℕ) (v : Value) (bank : Registers) → IsPlaced p d f → slice_get f.function.places t ≡ Some (Reg r) → q ≤ last_register → (IsFree d (name_of f) q → ⊥)
     → given_back f.placed (with_register r v bank) q ≡ given_back f.placed bank q
-given_same p d f t r q v bank is e high = elim (cases_eq q r) [
+given_same p d f t r q v bank is e high out = elim (cases_eq q r) [
   | inl same ↦
       let low : r ≤ last_register = omega (arith, high, same) in
-      let saved : Contains f.function.saved r = (is.serves.saved r).1 (places (place_there f.function.places t (Reg r) e) low (λ c. nowhere r (subst (λ (l : List ℕ). Contains l r) is.lawful.directives.free c))) in
+      let saved : Contains f.function.saved r = (is.serves.saved r).1 (places (place_there f.function.places t (Reg r) e) low (λ c. out (subst (IsFree d (name_of f)) (sym same) (free_of p d f r is c)))) in
       let there = has_by r (map (λ (s : ℕ × Value). s.0) f.placed.saved) (subst (λ (l : List ℕ). Contains l r) (sym is.placed) saved) in
       with_covered f.placed.saved (with_register r v bank) bank q (subst (λ (n : ℕ). Has n (map (λ (s : ℕ × Value). s.0) f.placed.saved)) (sym same) there)
   | inr other ↦ with_same f.placed.saved (with_register r v bank) bank q (sym (written_other r q v bank other))
@@ -194,11 +195,11 @@ put_alike p d x t v (Some r) e ready =
         webs = λ q h. ready.frame.webs q h ∙ written_other r q v x.bank (λ same.
             (ready.frame.placed.serves.registers r (place_there x.frame.function.places t (Reg r) there)).1 (subst (HasRegister x.frame.function.body.directives) same h));
         temps = λ u lives. temps_after p d x t u v (Some r) e ready.frame lives;
-        gives = λ q low high out. ready.frame.gives q low high out ∙ ap Some (sym (given_same p d x.frame t r q v x.bank ready.frame.placed there high));
+        gives = λ q low high out. ready.frame.gives q low high out ∙ ap Some (sym (given_same p d x.frame t r q v x.bank ready.frame.placed there high (not_free p d (name_of x.frame) q out)));
       };
       callers = waiting_same p d x.frame.function.body.name x.frame.result x.callers (given_back x.frame.bare x.registers) (given_back x.frame.placed x.bank)
           (given_back x.frame.bare x.registers) (given_back x.frame.placed (with_register r v x.bank))
-          (λ q high. refl) (λ q high. given_same p d x.frame t r q v x.bank ready.frame.placed there high) ready.callers;
+          (λ q high. refl) (λ q high out. given_same p d x.frame t r q v x.bank ready.frame.placed there high out) ready.callers;
       log = ready.log;
       kept = ready.kept;
     }

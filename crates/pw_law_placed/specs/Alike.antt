@@ -1,6 +1,6 @@
 -- When the states of the two runs are alike. What an active function finds in registers is said of these as they are when all
 -- functions called after it have given back what they saved.
-use Rattle.std.specs.Prelude.{ℕ, ◌≡◌, ◌≢◌, ◌-◌, ◌≤◌, true, Option, Some, List, [], ◌∷◌, ◌++◌, length, map, slice_get, Contains}
+use Rattle.std.specs.Prelude.{ℕ, ◌≡◌, ◌≢◌, ◌⊎◌, ◌-◌, ◌≤◌, true, Option, Some, List, [], ◌∷◌, ◌++◌, length, map, slice_get, Contains}
 use Rattle.pw_value.specs.declared.value.Value.{Value}
 use Rattle.pw_value.specs.ProgramNames.{start_name}
 use Rattle.pw_db.specs.Limits.{first_register, last_register}
@@ -14,6 +14,7 @@ use Rattle.pw_alloc.specs.Allocation.{saved_of}
 use Rattle.pw_run.specs.Runs as run
 use Rattle.pw_run.specs.Runs.{Same}
 use Rattle.pw_db_sound.specs.CallGraphs.{Calls}
+use Rattle.pw_db_sound.specs.Sound.{IsFree}
 use Rattle.pw_run_languages.specs.Traces.{EventAlike, MayChange, KeepRegisters}
 use Rattle.pw_run_languages.specs.Programs.{Program, functions_of}
 use Rattle.pw_run_languages.specs.LawfulPrograms.{graph_of}
@@ -87,9 +88,15 @@ pub record Gets (p : Program) (d : List (List ℕ × Directives)) (f : Active) (
   pub temps : (t : ℕ) → Live f.function.body t f.ops f.end → to ≢ Some t → bare_value f t ≡ placed_value f bank t
   pub gives : GivesBack d f bank
 
--- One that waits for the function that it called, by its name, and where the result goes.
+-- Directives leave a register to the functions below: it is of no web, and free or saved for others.
+abbrev pub LeavesIt : Directives → ℕ → Type 0
+LeavesIt d r = (¬ HasRegister d r) × (Contains d.free r ⊎ Contains d.saves r)
+
+-- One that waits for the function that it called, by its name, and where the result goes. What that one is free to use it leaves
+-- to it.
 pub record Waits (p : Program) (d : List (List ℕ × Directives)) (callee : List ℕ) (result : Option ℕ) (f : Active) (registers bank : Registers) : Type 0 where
   pub edge : Calls (graph_of p) (name_of f) callee
+  pub alone : (r : ℕ) → IsFree d callee r → LeavesIt f.function.body.directives r
   pub gets : Gets p d f result registers bank
   pub calls : calls gets.op ≡ true
 

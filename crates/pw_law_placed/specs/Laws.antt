@@ -12,7 +12,7 @@ use Rattle.pw_flow.specs.Uses.{op_uses, op_defines}
 use Rattle.pw_webflow.specs.declared.web.WebFn.{WebFn}
 use Rattle.pw_alloc.specs.declared.located.Located.{Located}
 use Rattle.pw_db_sound.specs.CallGraphs.{Calls}
-use Rattle.pw_db_sound.specs.Sound.{Sound}
+use Rattle.pw_db_sound.specs.Sound.{Sound, IsFree}
 use Rattle.pw_run_languages.specs.Programs.{Program, Library, library_at}
 use Rattle.pw_run_languages.specs.LawfulPrograms.{IsProgram, graph_of}
 use Rattle.pw_run_languages.specs.Commands as command
@@ -44,11 +44,12 @@ GlobalsStandAlike =
     (p q : PlacedProgram) (fs : List Active) (registers bank : Registers) (objects : List Object) → q.flow ≡ p.flow → AllWebsAgree fs registers bank →
     globals_now q bank (map placed_frame fs) objects ≡ globals_now p registers (map bare_frame fs) objects
 
--- what functions that wait find in the placed run depends on the registers that a callee keeps alone
+-- what functions that wait find in the placed run depends on the registers alone that a callee keeps, but for those that the
+-- one that they wait for is free to use
 abbrev pub WaitingRestsOnKept : Type 0
 WaitingRestsOnKept =
     (p : Program) (d : List (List ℕ × Directives)) (callee : List ℕ) (result : Option ℕ) (fs : List Active) (registers bank now after : Registers) →
-    ((r : ℕ) → r ≤ last_register → now r ≡ registers r) → ((r : ℕ) → r ≤ last_register → after r ≡ bank r) →
+    ((r : ℕ) → r ≤ last_register → now r ≡ registers r) → ((r : ℕ) → r ≤ last_register → ¬ IsFree d callee r → after r ≡ bank r) →
     AllWait p d callee result fs registers bank → AllWait p d callee result fs now after
 
 -- ---- temporaries

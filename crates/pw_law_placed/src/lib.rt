@@ -4,6 +4,7 @@
 ghost use Rattle.pw_law_placed.specs.Laws.{BlocksFollow, CallsFollow, CommandsFollow, CommandsHaveResults, CommandsRestOnUses, GlobalsStandAlike, LibraryFollows, ResultsFollow, ReturnsFollow, SameFunctions, StartsFollow, StepsFollow, WaitingRestsOnKept};
 ghost use Rattle.pw_run_languages.specs.PlacementLaws.{PlacesKeepRuns};
 
+use pw_db_sound::callers_leave_free_registers_alone;
 use pw_law_direction::{directed_values_are_fine, operations_call_by_the_graph};
 
 /// What an operation asks for depends on the temporaries that it reads alone.
@@ -16,7 +17,7 @@ pub fn globals_stand_alike()
     ensures { GlobalsStandAlike }
 {}
 
-/// What the functions that wait find in registers depends on those alone that a callee keeps.
+/// What the functions that wait find in registers depends on those alone that a callee keeps and is not free to use.
 pub fn waiting_rests_on_kept()
     ensures { WaitingRestsOnKept }
 {}
@@ -54,7 +55,9 @@ pub fn same_functions()
 /// A call that is one of the graph does the same in both runs, whatever it calls.
 pub fn calls_follow()
     ensures { CallsFollow }
-{}
+{
+    callers_leave_free_registers_alone();
+}
 
 /// So does a return.
 pub fn returns_follow()
@@ -71,6 +74,7 @@ pub fn steps_follow()
     ensures { StepsFollow }
 {
     operations_call_by_the_graph();
+    calls_follow();
 }
 
 /// Where places serve, the placed run does what the directed run does and notes the same; and returns keep the registers.

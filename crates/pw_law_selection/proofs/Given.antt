@@ -45,7 +45,7 @@ either true x y h k = h
 either false x y h k = k
 
 pub directives_lawful : (d : List (List ℕ × Directives)) (f : List ℕ) → AllByRecursion (λ g. IsDirectives g.1) d → IsDirectives (directives_of d f)
-directives_lawful [] f h = record { each = tt; numbers = tt; globals = tt; registers = tt; free = refl }
+directives_lawful [] f h = record { each = tt; numbers = tt; globals = tt; registers = tt; free = tt; saves = tt; apart = tt }
 directives_lawful (g ∷ rest) f h = either (bytes_eq g.0 f) g.1 (directives_of rest f) h.0 (directives_lawful rest f h.1)
 
 -- ---- names of operations

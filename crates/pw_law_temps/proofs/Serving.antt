@@ -1,16 +1,15 @@
 -- The places of temporaries serve.
 use Rattle.std.specs.Prelude.{ℕ, ℤ, pos, option_map, ◌≡◌, ◌≢◌, ◌≤◌, ◌<◌, ◌+◌, ◌-◌, ◌==◌, ◌&&◌, ◌||◌, not, Bool, true, false, if◌then◌else◌, nat_lt, Option, Some, None, List, [], ◌∷◌, ◌++◌, length, map, slice_get, Contains, ◌↔◌}
-use Rattle.std.specs.List.{list_any}
 use Rattle.std.proofs.Common.{arith, subst, sym, ap, refl, inl, inr, ◌∙◌, get_or}
-use Rattle.std.proofs.lemmas.Bool.{cases_lt, cases_order, or_cases, or_left, or_right, and_from, lt-ltb, ne_eqb, eqb-true, eq-eqb}
+use Rattle.std.proofs.lemmas.Bool.{cases_lt, cases_order, or_cases, or_left, or_right, and_from, and_parts, lt-ltb, ne_eqb, eqb-true, eq-eqb}
 use Rattle.std.proofs.lemmas.Option.{same_Some, slice_get-map, slice_get-get_or, slice_get_within, slice_get_past}
 use Rattle.std.proofs.lemmas.List.{map-append}
-use Rattle.pw_files.proofs.Standing.{Has, has_by, contains_by, has_map, has_each}
-use Rattle.pw_db.specs.Limits.{first_register, last_register, last_temporary, register_count, kept_registers}
+use Rattle.pw_files.proofs.Standing.{Has, has_by, contains_by, has_left, has_right, has_map, has_each}
+use Rattle.pw_db.specs.Limits.{first_register, register_count, kept_registers}
 use Rattle.pw_db.specs.declared.database.Web.{Web}
 use Rattle.pw_db.specs.declared.database.Role.{Role}
 use Rattle.pw_db.specs.declared.database.Role.TheVariants.{Entry, Member}
-use Rattle.pw_db.specs.Database.{IsWeb, IsDirectives}
+use Rattle.pw_db.specs.Database.{IsWeb}
 use Rattle.pw_flow.specs.declared.flow.End.{End}
 use Rattle.pw_flow.specs.Uses.{end_uses, successors}
 use Rattle.pw_flow.specs.Outline.{Act, Stretch, Outline}
@@ -26,17 +25,15 @@ use Rattle.pw_alloc.specs.Frames.{head_size, temp_offset, slots_begin, last_reac
 use Rattle.pw_live.specs.Liveness as live
 use Rattle.pw_live.specs.Liveness.{has, is_that, is_live_in}
 use Rattle.pw_live.specs.Interference.{written_beside, starts_beside, overwrites, interfere, is_held}
-use Rattle.pw_alloc_temps.specs.Registers.{of_temporaries, allowed, registers}
-use Rattle.pw_alloc_temps.specs.Temporaries.{registers_in, saved_in, placed, allocated}
+use Rattle.pw_alloc_temps.specs.Registers.{unshared, of_temporaries, registers}
+use Rattle.pw_alloc_temps.specs.Temporaries.{cluster_of, registers_in, is_given, is_saved, saved_in, placed, allocated}
 use Rattle.pw_run_languages.specs.Serving as run
 use Rattle.pw_run_languages.specs.Serving.{StandsIn, Interfere, by_operation, by_start, parameters, IsHeld, IsTempRegister, IsKeptOver, slots_alone, HasWebIn, Changes, places, enters, saves, Serves}
-use Rattle.pw_alloc_temps.proofs.Lists.{some_passes, passing, kept, stays, within, all_within, rises}
+use Rattle.pw_law_temps.specs.Laws.{AreKept}
+use Rattle.pw_alloc_temps.proofs.Lists.{listed, has_listed, not_listed, passing, kept, within, rises}
+use Rattle.pw_alloc_temps.proofs.Lawful.{not_there, may_stand, of_some, stands_saved, temporary_saved}
 use Rattle.pw_alloc_temps.proofs.Places.{each_placed, register_at, register_back, register_there}
-use Rattle.pw_alloc_temps.proofs.Lawful.{of_some}
 use Rattle.pw_law_temps.proofs.Words.{nones, word_at, nones_rise, one_number, alone, counted}
-
-nowhere : {X : Type 0} (x : X) → Contains [] x → ⊥
-nowhere x c = let h : c.0 < 0 = c.1 in omega (arith, h)
 
 -- ---- registers of webs that are entered
 
@@ -101,9 +98,8 @@ module _
     (front : (f : Outline) (t b : ℕ) (s : Stretch) → slice_get f.blocks b ≡ Some s → (is_live_in f t b ≡ true) ↔ live.Live f t s.acts s.uses s.next)
     (written : (f : Outline) (s : Stretch) (before after : List Act) (a : Act) (d t : ℕ) → Contains f.blocks s → s.acts ≡ before ++ a ∷ after → a.defines ≡ Some d → live.Live f t after s.uses s.next → written_beside f d t ≡ true)
     (over : (f : Outline) (s : Stretch) (before after : List Act) (a : Act) (t : ℕ) → Contains f.blocks s → s.acts ≡ before ++ a ∷ after → a.calls ≡ true → a.defines ≢ Some t → live.Live f t after s.uses s.next → is_held f t ≡ true)
-    (each : (f : Outline) (webs : List ℕ) → length (registers f webs) ≡ f.temps)
-    (keep_apart : (f : Outline) (webs : List ℕ) (a b r : ℕ) → slice_get (registers f webs) a ≡ Some (Some r) → slice_get (registers f webs) b ≡ Some (Some r) → interfere f a b ≡ false)
-    (may_have : (f : Outline) (webs : List ℕ) (t r : ℕ) → slice_get (registers f webs) t ≡ Some (Some r) → Contains (allowed f webs t) r) where
+    (each : (f : Outline) (webs cluster : List ℕ) → length (registers f webs cluster) ≡ f.temps)
+    (keep_apart : (f : Outline) (webs cluster : List ℕ) (a b r : ℕ) → slice_get (registers f webs cluster) a ≡ Some (Some r) → slice_get (registers f webs cluster) b ≡ Some (Some r) → interfere f a b ≡ false) where
   -- ---- interference
 
   acts_of : (f : WebFn) (o : WebOp) (after : List WebOp) (end : End) (there : StandsIn f o after end) → map web_act there.block.ops ≡ map web_act there.before ++ web_act o ∷ map web_act after
@@ -143,10 +139,10 @@ module _
 
   module _ (f : WebFn) (head saved : ℕ) where
     count : length (all_in f head saved) ≡ f.temps
-    count = each_placed head saved 0 (registers_in f) ∙ each (web_outline f) (webs_of f)
+    count = each_placed head saved 0 (registers_in f) ∙ each (web_outline f) (webs_of f) (cluster_of f.directives)
 
     reg_at : (t : ℕ) → t < f.temps → slice_get (registers_in f) t ≡ Some (get_or (registers_in f) t None)
-    reg_at t lt = let n : length (registers_in f) ≡ f.temps = each (web_outline f) (webs_of f) in slice_get-get_or (registers_in f) t None (omega (arith, lt, n))
+    reg_at t lt = let n : length (registers_in f) ≡ f.temps = each (web_outline f) (webs_of f) (cluster_of f.directives) in slice_get-get_or (registers_in f) t None (omega (arith, lt, n))
 
     -- ---- what interferes stands apart
 
@@ -176,7 +172,7 @@ module _
     by_kind d t (Some r) (Some q) h here there same =
         let k : Some (Reg q) ≡ Some (Reg r) = sym (register_at head saved 0 (registers_in f) d q there) ∙ sym same ∙ register_at head saved 0 (registers_in f) t r here in
         let one : q ≡ r = cc in
-        let free = keep_apart (web_outline f) (webs_of f) d t r (there ∙ ap (λ n. Some (Some n)) one) here in
+        let free = keep_apart (web_outline f) (webs_of f) (cluster_of f.directives) d t r (there ∙ ap (λ n. Some (Some n)) one) here in
         let meets = meet f d t h in
         cc
 
@@ -192,75 +188,78 @@ module _
 
     -- ---- registers
 
-    module _ (lawful : IsDirectives f.directives) where
-      none_free : (r : ℕ) → ¬ Contains f.directives.free r
-      none_free r c = nowhere r (subst (λ (rs : List ℕ). Contains rs r) lawful.free c)
+    of_place : (r : ℕ) → Contains (all_in f head saved) (Reg r) → IsTempRegister r × (¬ Contains (webs_of f) r)
+    of_place r c =
+        let free = of_some f r (register_back head saved 0 (registers_in f) r (has_by (Reg r) (all_in f head saved) c)) in
+        (record { low = free.bounds.low; high = free.bounds.high }, free.apart)
 
-      of_place : (r : ℕ) → Contains (all_in f head saved) (Reg r) → IsTempRegister r × (¬ Contains (webs_of f) r)
-      of_place r c =
-          let free = of_some f r (register_back head saved 0 (registers_in f) r (has_by (Reg r) (all_in f head saved) c)) in
-          (record { low = free.bounds.low; high = free.bounds.high }, free.apart)
+    held_in : (t r : ℕ) → IsHeld f t → slice_get (registers_in f) t ≡ Some (Some r) → IsKeptOver f (Reg r)
+    held_in t r h e =
+        let is = over (web_outline f) (web_stretch h.there.block) (map web_act h.there.before) (map web_act h.after) (web_act h.op) t
+        (block_of f h.op h.after h.end h.there) (acts_of f h.op h.after h.end h.there) h.call h.other (behind f h.op h.after h.end h.there t h.lives) in
+        let low : Has r (unshared (cluster_of f.directives)) = subst (λ (b : Bool). Has r (of_temporaries (cluster_of f.directives) b)) is (may_stand f t r e).there in
+        let k = kept (λ r. not (has r (cluster_of f.directives))) r kept_registers low in
+        let w = within first_register register_count r k.there in
+        let apart = not_there r (cluster_of f.directives) k.passes in (
+          w.0,
+          omega (arith, w.1),
+          λ c. apart (contains_by r (cluster_of f.directives) (has_left r f.directives.free f.directives.saves (has_by r f.directives.free c))),
+          λ c. apart (contains_by r (cluster_of f.directives) (has_right r f.directives.free f.directives.saves (has_by r f.directives.saves c))),
+        )
 
-      held_in : (t r : ℕ) → IsHeld f t → slice_get (registers_in f) t ≡ Some (Some r) → IsKeptOver f (Reg r)
-      held_in t r h e =
-          let o = web_outline f in
-          let is = over o (web_stretch h.there.block) (map web_act h.there.before) (map web_act h.after) (web_act h.op) t
-          (block_of f h.op h.after h.end h.there) (acts_of f h.op h.after h.end h.there) h.call h.other (behind f h.op h.after h.end h.there t h.lives) in
-          let c = may_have o (webs_of f) t r e in
-          let k = kept (λ r. not (has r (webs_of f))) r (of_temporaries (is_held o t)) (has_by r (allowed o (webs_of f) t) c) in
-          let low = subst (λ (b : Bool). Has r (of_temporaries b)) is k.there in
-          let w = within first_register register_count r low in
-          (w.0, omega (arith, w.1), none_free r, λ c. nowhere r c)
+    held_at : (t : ℕ) (one : Option ℕ) (place : Place) → IsHeld f t → slice_get (registers_in f) t ≡ Some one → slice_get (all_in f head saved) t ≡ Some place → IsKeptOver f place
+    held_at t None place h here e = subst (IsKeptOver f) (same_Some (Slot (temp_offset head saved (0 + nones (registers_in f) t))) place (sym (word_at head saved 0 (registers_in f) t here) ∙ e)) tt
+    held_at t (Some r) place h here e = subst (IsKeptOver f) (same_Some (Reg r) place (sym (register_at head saved 0 (registers_in f) t r here) ∙ e)) (held_in t r h here)
 
-      held_at : (t : ℕ) (one : Option ℕ) (place : Place) → IsHeld f t → slice_get (registers_in f) t ≡ Some one → slice_get (all_in f head saved) t ≡ Some place → IsKeptOver f place
-      held_at t None place h here e = subst (IsKeptOver f) (same_Some (Slot (temp_offset head saved (0 + nones (registers_in f) t))) place (sym (word_at head saved 0 (registers_in f) t here) ∙ e)) tt
-      held_at t (Some r) place h here e = subst (IsKeptOver f) (same_Some (Reg r) place (sym (register_at head saved 0 (registers_in f) t r here) ∙ e)) (held_in t r h here)
+    held : (t : ℕ) (place : Place) → IsHeld f t → slice_get (all_in f head saved) t ≡ Some place → IsKeptOver f place
+    held t place h e =
+        let n : length (all_in f head saved) ≡ f.temps = count in
+        let lt = slice_get_within (all_in f head saved) t place e in
+        held_at t (get_or (registers_in f) t None) place h (reg_at t (omega (arith, n, lt))) e
 
-      held : (t : ℕ) (place : Place) → IsHeld f t → slice_get (all_in f head saved) t ≡ Some place → IsKeptOver f place
-      held t place h e =
-          let n : length (all_in f head saved) ≡ f.temps = count in
-          let lt = slice_get_within (all_in f head saved) t place e in
-          held_at t (get_or (registers_in f) t None) place h (reg_at t (omega (arith, n, lt))) e
+    -- ---- saved registers
 
-      -- ---- saved registers
+    is_placed : (r : ℕ) → is_given (registers_in f) r ≡ true → Has (Some r) (registers_in f)
+    is_placed r e =
+        let p = passing (λ o. is_that o r) (registers_in f) e in
+        subst (λ (o : Option ℕ). Has o (registers_in f)) (that_is p.is r p.passes) p.there
 
-      saved_back : (l : Located) → l.places ≡ (all_in f head saved) → (r : ℕ) → Contains (saved_in f (registers_in f)) r → Changes f l r
-      saved_back l is r c =
-          let webs = f.directives.webs in
-          let k = kept (λ r. is_entered webs r || list_any (λ o. is_that o r) (registers_in f)) r kept_registers (has_by r (saved_in f (registers_in f)) c) in
-          elim (or_cases (is_entered webs r) (list_any (λ o. is_that o r) (registers_in f)) k.passes) [
-            | inl e ↦ let w = entered_by webs r e in enters (record { web = w.web; there = contains_by (w.web, Entry) webs w.there; is = w.is })
-            | inr e ↦
-                let p = passing (λ o. is_that o r) (registers_in f) e in
-                let here : Has (Some r) (registers_in f) = subst (λ (o : Option ℕ). Has o (registers_in f)) (that_is p.is r p.passes) p.there in
+    saved_back : (l : Located) → l.places ≡ all_in f head saved → (r : ℕ) → Contains (saved_in f (registers_in f)) r → Changes f l r
+    saved_back l is r c =
+        let webs = f.directives.webs in
+        let k = kept (is_saved f.directives (registers_in f)) r kept_registers (has_by r (saved_in f (registers_in f)) c) in
+        elim (or_cases (is_entered webs r) (has r f.directives.saves || (not (has r f.directives.free) && is_given (registers_in f) r)) k.passes) [
+          | inl e ↦ let w = entered_by webs r e in enters (record { web = w.web; there = contains_by (w.web, Entry) webs w.there; is = w.is })
+          | inr e ↦ elim (or_cases (has r f.directives.saves) (not (has r f.directives.free) && is_given (registers_in f) r) e) [
+            | inl own ↦ saves (contains_by r f.directives.saves (has_listed r f.directives.saves own))
+            | inr own ↦
+                let both = and_parts (not (has r f.directives.free)) (is_given (registers_in f) r) own in
                 let high = within first_register register_count r k.there in
-                places (subst (λ (ps : List Place). Contains ps (Reg r)) (sym is) (contains_by (Reg r) (all_in f head saved) (register_there head saved 0 (registers_in f) r here))) (omega (arith, high.1)) (none_free r)
+                places (subst (λ (ps : List Place). Contains ps (Reg r)) (sym is) (contains_by (Reg r) (all_in f head saved) (register_there head saved 0 (registers_in f) r (is_placed r both.1)))) (omega (arith, high.1)) (not_there r f.directives.free both.0)
           ]
+        ]
 
-      saved_there : (l : Located) → l.places ≡ (all_in f head saved) → (r : ℕ) → Changes f l r → Contains (saved_in f (registers_in f)) r
-      saved_there l is r (places c high free) =
-          let webs = f.directives.webs in
+    module _ (lawful : AreKept f.directives) where
+      saved_there : (l : Located) → l.places ≡ all_in f head saved → (r : ℕ) → Changes f l r → Contains (saved_in f (registers_in f)) r
+      saved_there l is r (places c high owned) =
           let here = subst (λ (ps : List Place). Contains ps (Reg r)) is c in
-          let low = (of_place r here).0.low in
-          contains_by r (saved_in f (registers_in f))
-          (stays (λ r. is_entered webs r || list_any (λ o. is_that o r) (registers_in f)) r kept_registers (all_within first_register register_count r low (omega (arith, high)))
-          (or_right (is_entered webs r) (list_any (λ o. is_that o r) (registers_in f))
-          (some_passes (λ o. is_that o r) (Some r) (registers_in f) (register_back head saved 0 (registers_in f) r (has_by (Reg r) (all_in f head saved) here)) (eq-eqb r r refl))))
+          temporary_saved f r (register_back head saved 0 (registers_in f) r (has_by (Reg r) (all_in f head saved) here)) (omega (arith, high)) (not_listed r f.directives.free owned)
       saved_there l is r (enters w) =
           let webs = f.directives.webs in
           let there = has_by (w.web, Entry) webs w.there in
-          let web : IsWeb w.web = has_each IsWeb (map (λ w. w.0) webs) w.web lawful.each (has_map (λ (w : Web × Role). w.0) (w.web, Entry) webs there) in
+          let web : IsWeb w.web = has_each IsWeb (map (λ w. w.0) webs) w.web lawful.webs (has_map (λ (w : Web × Role). w.0) (w.web, Entry) webs there) in
           let same : w.web.reg ≡ r = w.is in
-          let low : first_register ≤ r = omega (arith, web.low, same) in
-          let high : r < first_register + register_count = omega (arith, web.high, same) in
-          contains_by r (saved_in f (registers_in f))
-          (stays (λ r. is_entered webs r || list_any (λ o. is_that o r) (registers_in f)) r kept_registers (all_within first_register register_count r low high)
-          (or_left (is_entered webs r) (list_any (λ o. is_that o r) (registers_in f)) (enters_so webs w.web r there same)))
-      saved_there l is r (saves c) = absurd (nowhere r c)
+          stands_saved f r (omega (arith, web.low, same)) (omega (arith, web.high, same))
+          (or_left (is_entered webs r) (has r f.directives.saves || (not (has r f.directives.free) && is_given (registers_in f) r)) (enters_so webs w.web r there same))
+      saved_there l is r (saves c) =
+          let k = lawful.saves r c in
+          stands_saved f r k.0 (omega (arith, k.1))
+          (or_right (is_entered f.directives.webs r) (has r f.directives.saves || (not (has r f.directives.free) && is_given (registers_in f) r))
+          (or_left (has r f.directives.saves) (not (has r f.directives.free) && is_given (registers_in f) r) (listed r f.directives.saves (has_by r f.directives.saves c))))
 
   -- ---- together
 
-  pub serves : (f : WebFn) → IsDirectives f.directives → Serves f (allocated f)
+  pub serves : (f : WebFn) → AreKept f.directives → Serves f (allocated f)
   unfolding allocated
   serves f lawful =
       let head = head_size f in
@@ -270,10 +269,10 @@ module _
         body = refl;
         count = count f head saved;
         apart = apart f head saved;
-        held = held f head saved lawful;
-        registers = of_place f head saved lawful;
-        saved = λ r. (saved_back f head saved lawful (allocated f) refl r, saved_there f head saved lawful (allocated f) refl r);
-        order = rises (λ r. is_entered f.directives.webs r || list_any (λ o. is_that o r) (registers_in f)) first_register register_count;
+        held = held f head saved;
+        registers = of_place f head saved;
+        saved = λ r. (saved_back f head saved (allocated f) refl r, saved_there f head saved lawful (allocated f) refl r);
+        order = rises (is_saved f.directives (registers_in f)) first_register register_count;
         words = alone head saved 0 (registers_in f);
         frame = ap (λ (n : ℕ). last_reach (slots_begin head saved n) f.slots) (counted all);
       }

@@ -122,11 +122,11 @@ trace_counts entries m start s (suc n) are e =
 
 call_by : (m : Map) (c : Core) (n : Noted) (k : ℕ) (b at : Bool) → (not b && at) ≡ true → at ≡ is_source (function_at m c.front)
     → source_calls (cond b (back_at m c n) (called m c (function_at m c.front) (back_at m c n))).log ≡ k
-    → NotesCall m k c (cond b (back_at m c n) (called m c (function_at m c.front) (back_at m c n))).log
+    → NotesCall m k c (cond b (back_at m c n) (called m c (function_at m c.front) (back_at m c n)))
 call_by m c n k true at is e count = absurd cc
 call_by m c n k false at is e count = of_function (function_at m c.front) refl
   where
-    of_function : (f : Option (List ℕ)) → function_at m c.front ≡ f → NotesCall m k c (called m c (function_at m c.front) (back_at m c n)).log
+    of_function : (f : Option (List ℕ)) → function_at m c.front ≡ f → NotesCall m k c (called m c (function_at m c.front) (back_at m c n))
     of_function None at_it = let none : true ≡ false = sym is ∙ e ∙ ap is_source at_it in absurd cc
     of_function (Some f) at_it =
         let of_source : is_of_source f ≡ true = sym (ap is_source at_it) ∙ sym e ∙ is in
@@ -138,6 +138,7 @@ call_by m c n k false at is e count = of_function (function_at m c.front) refl
           callers = left c n.calls;
           before = (back_at m c n).log;
           called = log;
+          active = ap (λ (o : Option (List ℕ)). (called m c o (back_at m c n)).calls) at_it;
           of_source = of_source;
           at_address = at_it;
           count = omega (arith, counted, one);
@@ -149,7 +150,7 @@ arrived_at m (suc n) start s e =
     let before = run_before n start s e in
     (record { calls = (noted m start n).calls; log = accesses_in m before.0.core ++ (noted m start n).log }, noted_next m n start s before.0 before.1 e)
 
-pub call_noted : (entries : List ℕ) (m : Map) (start s : State) (k n : ℕ) → AreEntriesOf entries m → IsCall entries start k n s → NotesCall m k s.core (noted m start n).log
+pub call_noted : (entries : List ℕ) (m : Map) (start s : State) (k n : ℕ) → AreEntriesOf entries m → IsCall entries start k n s → NotesCall m k s.core (noted m start n)
 call_noted entries m start s k n are call =
     let p = arrived_at m n start s call.goes in
     let count = trace_counts entries m start s n are call.goes in
@@ -157,5 +158,5 @@ call_noted entries m start s k n are call =
     let one : one_if (is_at entries s.core) ≡ 1 = ap one_if call.at in
     let whole : source_calls (noted m start n).log ≡ k = omega (arith, count, next, one, call.before) in
     let there : source_calls (arrived m s.core p.0).log ≡ k = ap (λ (x : Noted). source_calls x.log) (sym p.1) ∙ whole in
-    subst (λ (x : Noted). NotesCall m k s.core x.log) (sym p.1)
+    subst (NotesCall m k s.core) (sym p.1)
     (call_by m s.core p.0 k s.core.nullify (list_any (λ a. a == s.core.front) entries) call.at (are s.core.front) there)

@@ -13,7 +13,7 @@ pub fn traces_count_calls()
 {}
 
 /// At the k-th call that the debugger counts, the latest event of the trace is the k-th call of a function of the source, with
-/// where each global object stands directly before the call's first step.
+/// where each global object stands directly before the call's first step; and the call is active from there on.
 pub fn a_call_is_noted()
-    ensures { (entries : List ℕ) (m : Map) (start s : State) (k n : ℕ) → AreEntriesOf entries m → IsCall entries start k n s → NotesCall m k s.core (noted m start n).log }
+    ensures { (entries : List ℕ) (m : Map) (start s : State) (k n : ℕ) → AreEntriesOf entries m → IsCall entries start k n s → NotesCall m k s.core (noted m start n) }
 {}

@@ -1,4 +1,4 @@
--- The objects of a full build: its functions as words, with the places that allocation gives, and what they show.
+-- The objects of a full build: its functions as words, with the places that allocation gives.
 use Rattle.std.proofs.Common.{◌≡◌, ℕ, Bool, true, false, List, [], ◌∷◌, ◌++◌, map, Some, None, refl, sym, ap, ◌∙◌}
 use Rattle.std.specs.Prelude.{All}
 use Rattle.std.specs.List.{flat_map}
@@ -17,7 +17,6 @@ use Rattle.pw_phase_two.specs.Phases.{IsObjectOf, all_compiled}
 use Rattle.pw_build_objects.specs.Programs.{DirectivesList, IsObjectFrom, IsModuleFrom, AreObjectsFrom}
 use Rattle.pw_run_languages.specs.Direction.{directives_of, directed_by}
 use Rattle.pw_run_languages.specs.LinkingLaws.{compiled}
-use Rattle.pw_law_source.specs.Accepting.{Shows, AllShow}
 use Rattle.pw_law_whole.proofs.Directions.{entry_in, entries_are}
 
 -- ---- code
@@ -35,10 +34,6 @@ all_same_code db [] = refl
 all_same_code db (f ∷ fs) =
     ap (λ (x : ObjectFn). x ∷ all_compiled fs (map (entry_in db) fs)) (same_code f (directives_of db f.name))
     ∙ ap (λ (xs : List ObjectFn). compiled (allocated (directed_by db f)) ∷ xs) (all_same_code db fs)
-
-code_names : (db : DirectivesList) (fs : List FlowFn) → map (λ (x : ObjectFn). x.name) (all_compiled fs (map (entry_in db) fs)) ≡ map (λ f. f.name) fs
-code_names db [] = refl
-code_names db (f ∷ fs) = ap (λ (names : List (List ℕ)). f.name ∷ names) (code_names db fs)
 
 code_both : (db : DirectivesList) (fs gs : List FlowFn) → code_under db (fs ++ gs) ≡ code_under db fs ++ code_under db gs
 code_both db [] gs = refl
@@ -63,26 +58,13 @@ module _ (db : DirectivesList)
       entries_are db one flow.functions is.directives is.in_database.each is.in_database.of_module.functions in
       made.functions ∙ ap (λ (d : DirectivesList). all_compiled flow.functions d) ds
 
-  shows : (flow : FlowModule) (o : Object) (fresh : Bool) → IsModuleFrom db flow None o fresh → Shows flow o
-  shows flow o fresh is =
-      let made = made_anew flow is.directives o fresh is.object in
-      record {
-        name = made.of_module;
-        functions = ap (λ (fs : List ObjectFn). map (λ (f : ObjectFn). f.name) fs) (object_code flow o fresh is) ∙ code_names db flow.functions;
-        globals = made.globals;
-        declared = λ d. ((made.declared.of d).1, (made.declared.of d).0);
-        used = λ name. (made.used.of name).1;
-      }
+  object_named : (flow : FlowModule) (o : Object) (fresh : Bool) → IsModuleFrom db flow None o fresh → o.module ≡ flow.name
+  object_named flow o fresh is = (made_anew flow is.directives o fresh is.object).of_module
+
+  object_globals : (flow : FlowModule) (o : Object) (fresh : Bool) → IsModuleFrom db flow None o fresh → o.globals ≡ flow.globals
+  object_globals flow o fresh is = (made_anew flow is.directives o fresh is.object).globals
 
   -- ---- the objects of all modules
-
-  pub all_show : (flows : List FlowModule) (os : List Object) (fresh : List Bool) → AreObjectsFrom db flows [] os fresh → AllShow flows os
-  all_show [] [] [] are = tt
-  all_show [] [] (b ∷ bs) are = absurd are
-  all_show [] (o ∷ os) fresh are = absurd are
-  all_show (flow ∷ flows) [] fresh are = absurd are
-  all_show (flow ∷ flows) (o ∷ os) [] are = absurd are
-  all_show (flow ∷ flows) (o ∷ os) (b ∷ bs) (is, more) = (shows flow o b is, all_show flows os bs more)
 
   pub modules_named : (flows : List FlowModule) (os : List Object) (fresh : List Bool) → AreObjectsFrom db flows [] os fresh → map (λ o. o.module) os ≡ map (λ m. m.name) flows
   modules_named [] [] [] are = refl
@@ -91,7 +73,7 @@ module _ (db : DirectivesList)
   modules_named (flow ∷ flows) [] fresh are = absurd are
   modules_named (flow ∷ flows) (o ∷ os) [] are = absurd are
   modules_named (flow ∷ flows) (o ∷ os) (b ∷ bs) (is, more) =
-      ap (λ (name : List ℕ). name ∷ map (λ (x : Object). x.module) os) (shows flow o b is).name
+      ap (λ (name : List ℕ). name ∷ map (λ (x : Object). x.module) os) (object_named flow o b is)
       ∙ ap (λ (names : List (List ℕ)). flow.name ∷ names) (modules_named flows os bs more)
 
   pub same_globals : (flows : List FlowModule) (os : List Object) (fresh : List Bool) → AreObjectsFrom db flows [] os fresh → flat_map (λ o. o.globals) os ≡ flat_map (λ m. m.globals) flows
@@ -102,7 +84,7 @@ module _ (db : DirectivesList)
   same_globals (flow ∷ flows) (o ∷ os) [] are = absurd are
   same_globals (flow ∷ flows) (o ∷ os) (b ∷ bs) (is, more) =
       flat_map-cons (λ (x : Object). x.globals) o os
-      ∙ ap (λ (gs : List FlowGlobal). gs ++ flat_map (λ (x : Object). x.globals) os) (shows flow o b is).globals
+      ∙ ap (λ (gs : List FlowGlobal). gs ++ flat_map (λ (x : Object). x.globals) os) (object_globals flow o b is)
       ∙ ap (λ (gs : List FlowGlobal). flow.globals ++ gs) (same_globals flows os bs more)
       ∙ sym (flat_map-cons (λ (m : FlowModule). m.globals) flow flows)
 

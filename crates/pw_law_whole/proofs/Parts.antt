@@ -1,8 +1,9 @@
 -- The parts of a full build, as those of an analysed program.
-use Rattle.std.proofs.Common.{◌≡◌, ◌≤◌, ℕ, List, [], ◌∷◌, map, refl, sym, subst, arith}
+use Rattle.std.proofs.Common.{◌≡◌, ◌↔◌, ◌≤◌, ℕ, Bool, List, [], ◌∷◌, map, refl, sym, subst, arith}
 use Rattle.std.specs.Prelude.{All, Ok}
 use Rattle.std.specs.List.{AllByRecursion}
 use Rattle.std.specs.FinMap as finite
+use Rattle.std.proofs.lemmas.List.Elements.{All-from_recursion}
 use Rattle.pw_value.specs.Limits.{stack_least, stack_limit}
 use Rattle.pw_files.specs.Rising.{IsRising}
 use Rattle.pw_files.proofs.Standing.{Has, has_by, has_map, has_each}
@@ -18,7 +19,7 @@ use Rattle.pw_summarise.proofs.LawfulLaws.{lawful}
 use Rattle.pw_colour.specs.Colours.{IsDatabaseOf}
 use Rattle.pw_store_modules.specs.Modules.{Texts}
 use Rattle.pw_build_opts.specs.declared.opts.Opts.{Opts}
-use Rattle.pw_build_objects.specs.Programs.{DirectivesList, AreSummariesOf, Completes, Parts}
+use Rattle.pw_build_objects.specs.Programs.{DirectivesList, AreForms, AreSummariesOf, Completes, KeepRules, Parts}
 use Rattle.pw_law_temps.specs.Laws.{TemporariesServePrograms}
 use Rattle.pw_run_languages.specs.LinkingLaws.{frame_in}
 use Rattle.pw_cmean.specs.Worlds.{Program, ProgramModule}
@@ -26,10 +27,18 @@ use Rattle.pw_law_source.specs.Lowering.{flow_program, AreChecked}
 use Rattle.pw_law_source.specs.Accepting.{HasNoColon, AreNamedPlainly, CheckedIsAccepted, IsWhole}
 use Rattle.pw_law_layers.specs.Whole.{image_of, IsLaidOut, LoweredHaveRooms, LoweredImplements}
 use Rattle.pw_law_analysis.specs.SummaryGraphs.{AllSummarise}
-use Rattle.pw_law_analysis.specs.SummaryLaws.{SummariesSayTheSame}
+use Rattle.pw_law_analysis.specs.SummaryLaws.{AcceptedHaveShapes, SummariesSayTheSame}
 use Rattle.pw_law_whole.specs.Programs.{flow_of, IsProgramOf, HavePlainNames, IsWholeWith, flows_in, functions_under}
+use Rattle.pw_link_interface.specs.Interface.{interface}
+use Rattle.pw_link_rules.specs.declared.interface.Interface.{Interface}
+use Rattle.pw_link_rules.specs.Linking.{Links}
+use Rattle.pw_graph.specs.Program.{AreLinked}
+use Rattle.pw_law_shown.specs.Alike.{DeclaresMain, shown}
+use Rattle.pw_law_opt_links.specs.Less.{AllShowLess}
+use Rattle.pw_law_whole.proofs.Shown.{object_shown, objects_show, objects_less}
+use Rattle.pw_law_whole.proofs.Forms as formed
 use Rattle.pw_law_whole.proofs.Texts.{names_same, all_checked}
-use Rattle.pw_law_whole.proofs.Objects.{all_show, modules_named, same_globals, code_of_all}
+use Rattle.pw_law_whole.proofs.Objects.{modules_named, same_globals, code_of_all}
 
 -- ---- summaries
 
@@ -59,49 +68,74 @@ plain_names texts p plain are m there =
 
 -- ---- together
 
-pub whole_with : LoweredHaveRooms → LoweredImplements → SummariesSayTheSame → TemporariesServePrograms →
-    ((ss : List Summary) (colours : ℕ) (d : DirectivesList) → colours ≤ register_count → IsDatabaseOf ss colours d → IsDatabase d) →
-    ((db : DirectivesList) → IsDatabase db → (gs hs : DirectivesList) → All (HasDirectives db) gs → All (HasDirectives db) hs → map (λ f. f.0) gs ≡ map (λ f. f.0) hs → gs ≡ hs) →
-    CheckedIsAccepted →
-    (texts : Texts) (opts : Opts) (parts : Parts) (p : Program) → Completes (map flow_of p.modules) [] opts (Ok parts) → IsProgramOf texts p →
-    HavePlainNames texts → opts.colours ≤ colour_limit → stack_least ≤ opts.stack → opts.stack ≤ stack_limit → IsWholeWith p parts opts.colours opts.stack
-whole_with rooms implements same serve databases one accepted texts opts parts p (are, linked) of_texts plain few enough room =
+-- the laws on which it stands
+pub record Laws : Type 0 where
+  pub rooms : LoweredHaveRooms
+  pub implement : LoweredImplements
+  pub accepted_shapes : AcceptedHaveShapes
+  pub same : SummariesSayTheSame
+  pub serve : TemporariesServePrograms
+  pub databases : (ss : List Summary) (colours : ℕ) (d : DirectivesList) → colours ≤ register_count → All IsSummary ss → IsDatabaseOf ss colours d → IsDatabase d
+  pub one : (db : DirectivesList) → IsDatabase db → (gs hs : DirectivesList) → All (HasDirectives db) gs → All (HasDirectives db) hs → map (λ f. f.0) gs ≡ map (λ f. f.0) hs → gs ≡ hs
+  pub accepted : CheckedIsAccepted
+  pub alike : (flows : List FlowModule) (ss : List Summary) → AllByRecursion IsValid flows → AreSummariesOf flows ss → Links (map shown flows) ↔ AreLinked ss
+  pub less : (is js : List Interface) → AllShowLess is js → Links is → Links js
+  pub lawful_forms : (o : Bool) (flows forms : List FlowModule) → AreForms o flows forms → AllByRecursion IsValid flows → AllByRecursion IsValid forms
+  pub forms : formed.Laws
+
+-- modules that keep the rules of linking are accepted in the words of C's meaning
+is_whole : Laws → (texts : Texts) (p : Program) (frame_of : List ℕ → ℕ) (stack : ℕ) → AllByRecursion IsValid (map flow_of p.modules) → AllByRecursion DeclaresMain (map flow_of p.modules) → KeepRules (map flow_of p.modules)
+    → IsProgramOf texts p → HavePlainNames texts → stack ≤ stack_limit → AreChecked p → IsWhole p frame_of stack
+is_whole laws texts p frame_of stack valid declares rules of_texts plain room checked =
     let flows = map flow_of p.modules in
+    laws.accepted p frame_of stack (map object_shown flows) checked (plain_names texts p plain of_texts) (rise texts p of_texts) room (objects_show flows declares)
+    (laws.less (map shown flows) (map interface (map object_shown flows)) (objects_less flows declares) ((laws.alike flows rules.summaries valid rules.of_flows).1 rules.linked))
+
+pub whole_with : Laws → (texts : Texts) (opts : Opts) (parts : Parts) (p : Program) → AllByRecursion DeclaresMain (map flow_of p.modules) → Completes (map flow_of p.modules) [] opts (Ok parts) → IsProgramOf texts p →
+    HavePlainNames texts → opts.colours ≤ colour_limit → stack_least ≤ opts.stack → opts.stack ≤ stack_limit → IsWholeWith p parts opts
+whole_with laws texts opts parts p declares (are, linked) of_texts plain few enough room =
+    let frame_of = frame_in (image_of parts.objects opts.stack) in
+    let q = flow_program p frame_of opts.stack in
     let db = parts.database in
+    let ms = are.forms in
     let has = are.database in
-    let lawful_db : IsDatabase db = databases has.summaries opts.colours db (omega (arith, few)) has.database in
-    let single = one db lawful_db in
+    let lawful_summaries = all_lawful ms has.summaries (laws.lawful_forms opts.optimise (map flow_of p.modules) ms are.of_flows are.lawful) has.of_flows in
+    let lawful_db : IsDatabase db = laws.databases has.summaries opts.colours db (omega (arith, few)) (All-from_recursion IsSummary has.summaries lawful_summaries) has.database in
+    let single = laws.one db lawful_db in
     let checked : AreChecked p = λ m there. all_checked (finite.entries texts) p.modules of_texts m (has_by m p.modules there) in
-    let whole : IsWhole p (frame_in (image_of parts.objects opts.stack)) opts.stack =
-    accepted p (frame_in (image_of parts.objects opts.stack)) opts.stack parts.objects checked (plain_names texts p plain of_texts) (rise texts p of_texts) room (all_show db single flows parts.objects parts.fresh are.objects) linked.program in
-    let summarised : AllSummarise flows has.summaries = all_summarise flows has.summaries has.of_flows in
-    let laid : IsLaidOut p (flows_in p parts opts.stack) db (functions_under p parts opts.stack) parts.objects = record {
-      program = whole.accepted.program;
-      rooms = rooms p (frame_in (image_of parts.objects opts.stack)) opts.stack whole.parts whole.accepted;
+    let whole : IsWhole p frame_of opts.stack = is_whole laws texts p frame_of opts.stack are.lawful declares are.rules of_texts plain room checked in
+    let program = formed.program_of_forms laws.forms opts.optimise p q ms are.of_flows whole.accepted.program in
+    let summarised : AllSummarise ms has.summaries = all_summarise ms has.summaries has.of_flows in
+    let laid : IsLaidOut p (flows_in ms parts opts.stack) db (functions_under ms parts opts.stack) parts.objects = record {
+      program = program;
+      rooms = formed.rooms_of_forms laws.forms opts.optimise p q ms are.of_flows (laws.rooms p frame_of opts.stack whole.parts whole.accepted);
       frames = refl;
       database = lawful_db;
-      serve = serve (flow_program p (frame_in (image_of parts.objects opts.stack)) opts.stack) db lawful_db;
+      serve = laws.serve (flows_in ms parts opts.stack) db lawful_db;
       made = record {
-        modules = modules_named db single flows parts.objects parts.fresh are.objects;
-        globals = same_globals db single flows parts.objects parts.fresh are.objects;
-        code = code_of_all db single flows parts.objects parts.fresh are.objects;
+        modules = modules_named db single ms parts.objects parts.fresh are.objects;
+        globals = same_globals db single ms parts.objects parts.fresh are.objects;
+        code = code_of_all db single ms parts.objects parts.fresh are.objects;
       };
     } in
     record {
       checked = checked;
       whole = whole;
+      forms = ms;
+      of_program = are.of_flows;
       laid_out = laid;
       summaries = has.summaries;
       summarise = has.of_flows;
       analysed = λ low. record {
-        implements = implements low p (frame_in (image_of parts.objects opts.stack)) opts.stack checked whole.parts whole.accepted;
+        implements = formed.runs_of_forms laws.forms opts.optimise p q ms are.of_flows (laws.implement low p frame_of opts.stack checked whole.parts whole.accepted);
         frames = laid.frames;
-        names = whole.names;
+        names = formed.names_of_forms laws.forms opts.optimise p q ms are.of_flows whole.names;
         enough = enough;
-        linked = record { each = all_lawful flows has.summaries are.lawful has.of_flows; linked = has.linked };
-        few = omega (arith, few);
+        linked = record { each = lawful_summaries; linked = has.linked };
+        few = few;
         database = has.database;
-        alike = same p (frame_in (image_of parts.objects opts.stack)) opts.stack has.summaries has.database.graph whole.accepted summarised has.database.graph_of;
+        alike = laws.same (flows_in ms parts opts.stack) has.summaries has.database.graph program
+            (formed.shapes_of_forms laws.forms opts.optimise p q ms are.of_flows (laws.accepted_shapes p frame_of opts.stack whole.accepted)) summarised has.database.graph_of;
         serve = laid.serve;
         made = laid.made;
         fits = linked.fits;

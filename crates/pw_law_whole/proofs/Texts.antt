@@ -95,11 +95,8 @@ first_and_more name (Ok flow) (Err fault) flows e = absurd cc
 first_and_more name (Ok flow) (Ok rest) flows e = record { flow = flow; rest = rest; first = refl; more = refl }
 
 module _ (exact : (name text : List ℕ) (answer : Phase) → Compiles name text answer ↔ (answer ≡ compiled name text)) where
-  pub flows_are : (sources : List Source) (ms : List ProgramModule) → AreModulesOf sources ms → flows_of sources ≡ Ok (map flow_of ms)
-  flows_are [] [] are = refl
-  flows_are [] (m ∷ ms) are = absurd are
-  flows_are (source ∷ sources) [] are = absurd are
-  flows_are (source ∷ sources) (m ∷ ms) (is, more) =
+  flow_is : (source : Source) (m : ProgramModule) → IsModuleOf source m → compiled source.0 source.1 ≡ Ok (flow_of m)
+  flow_is source m is =
       let comes : CompilesTo source.0 source.1 (flow_of m) = record {
         tree = is.tree;
         typed = m.tree;
@@ -107,9 +104,22 @@ module _ (exact : (name text : List ℕ) (answer : Phase) → Compiles name text
         checks = is.checks;
         is = ap (λ (name : List ℕ). lowered name m.tree) is.name;
       } in
-      let one : Ok (flow_of m) ≡ compiled source.0 source.1 = (exact source.0 source.1 (Ok (flow_of m))).0 comes in
-      ap (λ (c : Phase). before_others source.0 c (flows_of sources)) (sym one)
+      sym ((exact source.0 source.1 (Ok (flow_of m))).0 comes)
+
+  pub flows_are : (sources : List Source) (ms : List ProgramModule) → AreModulesOf sources ms → flows_of sources ≡ Ok (map flow_of ms)
+  flows_are [] [] are = refl
+  flows_are [] (m ∷ ms) are = absurd are
+  flows_are (source ∷ sources) [] are = absurd are
+  flows_are (source ∷ sources) (m ∷ ms) (is, more) =
+      ap (λ (c : Phase). before_others source.0 c (flows_of sources)) (flow_is source m is)
       ∙ ap (λ (r : Result (List FlowModule) BuildFault). before_others source.0 (Ok (flow_of m)) r) (flows_are sources ms more)
+
+  -- what holds of each flow graph of the first phase holds of those of a program
+  pub flows_each : (P : FlowModule → Type 0) → ((name text : List ℕ) (flow : FlowModule) → compiled name text ≡ Ok flow → P flow) → (sources : List Source) (ms : List ProgramModule) → AreModulesOf sources ms → AllByRecursion P (map flow_of ms)
+  flows_each P each [] [] are = tt
+  flows_each P each [] (m ∷ ms) are = absurd are
+  flows_each P each (source ∷ sources) [] are = absurd are
+  flows_each P each (source ∷ sources) (m ∷ ms) (is, more) = (each source.0 source.1 (flow_of m) (flow_is source m is), flows_each P each sources ms more)
 
   pub modules_from : (sources : List Source) (flows : List FlowModule) → flows_of sources ≡ Ok flows → (ms : List ProgramModule) × AreModulesOf sources ms
   modules_from [] flows e = ([], tt)

@@ -1,5 +1,5 @@
 -- The program of a full build's texts, and its parts as the layers between C and words see them.
-use Rattle.std.specs.Prelude.{◌≡◌, ℕ, List, [], ◌∷◌, map, Ok}
+use Rattle.std.specs.Prelude.{◌≡◌, ℕ, Bool, List, [], ◌∷◌, map, Ok}
 use Rattle.std.specs.List.{AllByRecursion}
 use Rattle.std.specs.FinMap as finite
 use Rattle.pw_front_end.specs.Fronts.{HasTree}
@@ -10,7 +10,8 @@ use Rattle.pw_alloc.specs.declared.located.Located.{Located}
 use Rattle.pw_summary.specs.declared.summary.Summary.{Summary}
 use Rattle.pw_flow.specs.declared.flow.FlowModule.{FlowModule}
 use Rattle.pw_lower.specs.Modules.{lowered}
-use Rattle.pw_build_objects.specs.Programs.{AreSummariesOf, Parts}
+use Rattle.pw_build_objects.specs.Programs.{AreForms, AreSummariesOf, Parts}
+use Rattle.pw_build_opts.specs.declared.opts.Opts.{Opts}
 pub use Rattle.pw_build_objects.specs.Programs.{DirectivesList}
 pub use Rattle.pw_colour.specs.Colours.{IsDatabaseOf}
 use Rattle.pw_run_languages.specs.Programs as flows
@@ -19,7 +20,7 @@ use Rattle.pw_run_languages.specs.LinkingLaws.{frame_in}
 use Rattle.pw_cmean.specs.Worlds.{Program, ProgramModule}
 use Rattle.pw_law_temps.specs.Laws.{allocated_functions}
 use Rattle.pw_law_source.specs.Accepting.{HasNoColon, IsWhole}
-use Rattle.pw_law_source.specs.Lowering.{flow_program, AreChecked, LoweringKeepsRuns}
+use Rattle.pw_law_source.specs.Lowering.{AreChecked, LoweringKeepsRuns}
 use Rattle.pw_law_layers.specs.Whole.{image_of, IsLaidOut}
 use Rattle.pw_law_analysis.specs.OwedLaws.{IsAnalysed, HoldsOver}
 
@@ -50,32 +51,40 @@ HavePlainNames texts = AllByRecursion HasNoColon (finite.keys texts)
 abbrev pub flow_of : ProgramModule → FlowModule
 flow_of m = lowered m.name m.tree
 
--- the summaries of its modules' flow graphs
-abbrev pub Summarise : Program → List Summary → Type 0
-Summarise p summaries = AreSummariesOf (map flow_of p.modules) summaries
+-- the flow graphs of which it is made: those of its modules, optimised or not
+abbrev pub AreFormsOf : Bool → Program → List FlowModule → Type 0
+AreFormsOf optimise p forms = AreForms optimise (map flow_of p.modules) forms
 
--- its lowered flow graphs, with the frames of its image
-abbrev pub flows_in : Program → Parts → ℕ → flows.Program
-flows_in p parts stack = flow_program p (frame_in (image_of parts.objects stack)) stack
+-- their summaries
+abbrev pub Summarise : List FlowModule → List Summary → Type 0
+Summarise forms summaries = AreSummariesOf forms summaries
+
+-- these flow graphs as a program, with the frames of its image
+abbrev pub flows_in : List FlowModule → Parts → ℕ → flows.Program
+flows_in forms parts stack = record { modules = forms; frame_of = frame_in (image_of parts.objects stack); stack = stack }
 
 -- its functions under the directives of the database, each with the places that the second phase gives
-abbrev pub functions_under : Program → Parts → ℕ → List Located
-functions_under p parts stack = allocated_functions (flows_in p parts stack) parts.database
+abbrev pub functions_under : List FlowModule → Parts → ℕ → List Located
+functions_under forms parts stack = allocated_functions (flows_in forms parts stack) parts.database
 
--- The program is checked, and accepted in the words of C's meaning; its flow graphs are laid out with the places that allocation
--- gives; and by the law of lowering they implement it, and the parts are what the analyser, allocation and selection make of them.
-pub record IsWholeWith (p : Program) (parts : Parts) (colours stack : ℕ) : Type 0 where
+-- The program is checked, and accepted in the words of C's meaning; its flow graphs, optimised or not, are laid out with the places
+-- that allocation gives; and by the law of lowering they implement it, and the parts are what the analyser, allocation and selection make of them.
+pub record IsWholeWith (p : Program) (parts : Parts) (opts : Opts) : Type 0 where
   pub checked : AreChecked p
-  pub whole : IsWhole p (frame_in (image_of parts.objects stack)) stack
-  pub laid_out : IsLaidOut p (flows_in p parts stack) parts.database (functions_under p parts stack) parts.objects
+  pub whole : IsWhole p (frame_in (image_of parts.objects opts.stack)) opts.stack
+  pub forms : List FlowModule
+  pub of_program : AreFormsOf opts.optimise p forms
+  pub laid_out : IsLaidOut p (flows_in forms parts opts.stack) parts.database (functions_under forms parts opts.stack) parts.objects
   pub summaries : List Summary
-  pub summarise : Summarise p summaries
-  pub analysed : LoweringKeepsRuns → IsAnalysed p (flows_in p parts stack) summaries colours parts.database (functions_under p parts stack) parts.objects
+  pub summarise : Summarise forms summaries
+  pub analysed : LoweringKeepsRuns → IsAnalysed p (flows_in forms parts opts.stack) summaries opts.colours parts.database (functions_under forms parts opts.stack) parts.objects
 
 -- What holds of a built program and of its image's traffic and registers, on every input, over the summaries of its flow graphs
 -- and the database that they have.
-pub record HoldsWith (p : Program) (parts : Parts) (colours stack : ℕ) : Type 0 where
+pub record HoldsWith (p : Program) (parts : Parts) (opts : Opts) : Type 0 where
+  pub forms : List FlowModule
+  pub of_program : AreFormsOf opts.optimise p forms
   pub summaries : List Summary
-  pub summarise : Summarise p summaries
-  pub database : IsDatabaseOf summaries colours parts.database
-  pub holds : (input : List ℕ) → AreBytes input → HoldsOver p (flows_in p parts stack) summaries colours parts.database (functions_under p parts stack) parts.objects input
+  pub summarise : Summarise forms summaries
+  pub database : IsDatabaseOf summaries opts.colours parts.database
+  pub holds : (input : List ℕ) → AreBytes input → HoldsOver p (flows_in forms parts opts.stack) summaries opts.colours parts.database (functions_under forms parts opts.stack) parts.objects input

@@ -13,15 +13,24 @@ ghost use Rattle.pw_cmean.specs.Worlds.{Program};
 ghost use Rattle.pw_law_layers.specs.Whole.{FramesFit, image_of};
 ghost use Rattle.pw_law_whole.specs.Programs.{HavePlainNames, HoldsWith, IsProgramOf, IsWholeWith};
 
-use pw_build::phase_one_is_exact;
+use pw_build::{flow_graphs_declare_main, phase_one_is_exact};
+use pw_build_objects::laws::forms_keep_what_modules_have;
 use pw_check_rules::checks_is_exact;
 use pw_colour::laws::databases_are_lawful;
 use pw_db::laws::directives_are_one;
 use pw_front_end::front_is_exact;
-use pw_law_analysis::{layers_give_all, summaries_say_the_same};
+use pw_law_analysis::{
+    accepted_programs_have_shapes, layers_give_all, summaries_say_the_same,
+};
 use pw_law_layers::{frames_are_within_rooms, lowered_have_rooms, lowering_implements};
 use pw_law_lowering::{checked_is_accepted, lowering_keeps_runs};
+use pw_law_opt::laws::{
+    optimisation_keeps_programs, optimisation_keeps_rooms, optimisation_keeps_runs,
+    optimisation_shows_no_more,
+};
+use pw_law_opt_links::laws::modules_that_show_less_stay_linked;
 use pw_law_selection::selection_keeps_runs;
+use pw_law_shown::flow_graphs_and_summaries_are_refused_alike;
 use pw_law_temps::laws::temporaries_serve_programs;
 use pw_store_modules::modules_are_exact;
 
@@ -42,21 +51,30 @@ pub fn modules_of_files_have_plain_names()
     modules_are_exact();
 }
 
-/// The parts of a full build are those of its texts' program, which is accepted in the words of C's meaning. By the law of lowering
-/// its flow graphs do what it means; the database is the one that the analyser makes of their summaries; the places that allocation
+/// The parts of a full build are those of its texts' program, which is accepted in the words of C's meaning. By the laws of lowering
+/// and of optimisation the flow graphs of which they are made, optimised or not, do what it means; the database is the one that the analyser makes of their summaries; the places that allocation
 /// gives serve their functions; and the objects are made of these, and fit into the memory.
 pub fn full_builds_are_whole()
     ensures { (texts : Texts) (opts : Opts) (parts : Parts) (p : Program) → FullBuild texts opts (Ok parts) → IsProgramOf texts p →
-        HavePlainNames texts → opts.colours ≤ colour_limit → stack_least ≤ opts.stack → opts.stack ≤ stack_limit → IsWholeWith p parts opts.colours opts.stack }
+        HavePlainNames texts → opts.colours ≤ colour_limit → stack_least ≤ opts.stack → opts.stack ≤ stack_limit → IsWholeWith p parts opts }
 {
     phase_one_is_exact();
+    flow_graphs_declare_main();
     databases_are_lawful();
     directives_are_one();
     temporaries_serve_programs();
     lowered_have_rooms();
     lowering_implements();
+    accepted_programs_have_shapes();
     summaries_say_the_same();
     checked_is_accepted();
+    flow_graphs_and_summaries_are_refused_alike();
+    modules_that_show_less_stay_linked();
+    forms_keep_what_modules_have();
+    optimisation_keeps_runs();
+    optimisation_keeps_rooms();
+    optimisation_keeps_programs();
+    optimisation_shows_no_more();
 }
 
 /// So each frame of the map of its image is at most the room of its function.
@@ -74,7 +92,7 @@ pub fn frames_of_full_builds_fit()
 /// of the summaries of its flow graphs.
 pub fn full_builds_hold()
     ensures { (texts : Texts) (opts : Opts) (parts : Parts) (p : Program) → FullBuild texts opts (Ok parts) → IsProgramOf texts p →
-        HavePlainNames texts → opts.colours ≤ colour_limit → stack_least ≤ opts.stack → opts.stack ≤ stack_limit → HoldsWith p parts opts.colours opts.stack }
+        HavePlainNames texts → opts.colours ≤ colour_limit → stack_least ≤ opts.stack → opts.stack ≤ stack_limit → HoldsWith p parts opts }
 {
     full_builds_are_whole();
     lowering_keeps_runs();

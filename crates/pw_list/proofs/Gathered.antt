@@ -18,7 +18,7 @@ use Rattle.pw_db.specs.declared.database.Role.{Role}
 use Rattle.pw_db.specs.declared.database.Role.TheVariants.{Entry, Member}
 use Rattle.pw_db.specs.declared.database.Directives.{Directives}
 use Rattle.pw_db.specs.Database.{all_webs, webs_of}
-use Rattle.pw_list.specs.DatabaseText.{Webs, with_web, webs_by_number, has_role, uses_of, uses, users, web_line, line_in, text_of}
+use Rattle.pw_list.specs.DatabaseText.{Webs, with_web, webs_by_number, has_role, uses_of, uses, users, web_line, line_in, webs_text}
 use Rattle.std.proofs.lemmas.List.{append-nil, drop-drop, drop-map, length-drop, length-map, map-append, take-map, take_more}
 use Rattle.std.proofs.lemmas.Grind.{flat_map-append}
 use Rattle.std.proofs.lemmas.List.Sums.{prefix_len-le-length}
@@ -293,7 +293,7 @@ gathered (w ∷ ws) es ms rise up also known too =
 
 pub text_is : (fs : List (List ℕ × Directives)) (refs : List (ℕ × Bor Web)) (es ms : Uses) → map entry_view refs ≡ finite.entries (webs_by_number fs)
     → IsByNumber (uses Entry fs) es → IsByNumber (uses Member fs) ms → IsPermutation (uses Entry fs) es → IsPermutation (uses Member fs) ms
-    → lines_from (map (λ e. e.1.now) refs) es ms ≡ text_of fs
+    → lines_from (map (λ e. e.1.now) refs) es ms ≡ webs_text fs
 text_is fs refs es ms webs one two perm other =
     let all : Entries = finite.entries (webs_by_number fs) in
     let sorted : T (is_sorted nat_cmp all) = finite.entries_sorted (webs_by_number fs) in

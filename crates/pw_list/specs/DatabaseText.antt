@@ -1,5 +1,5 @@
--- The text of a database: a line for each web.
-use Rattle.std.specs.Prelude.{ℕ, ◌==◌, Bool, true, false, if◌then◌else◌, List, [], ◌∷◌, ◌++◌, map, filter, codes, fold}
+-- The text of a database: a line for each web, then lines for the registers that functions share with others.
+use Rattle.std.specs.Prelude.{ℕ, ◌==◌, Bool, true, false, if◌then◌else◌, List, [], ◌∷◌, ◌++◌, length, map, filter, codes, fold}
 use Rattle.std.specs.List.{flat_map}
 use Rattle.std.specs.Ordering.{nat_cmp}
 use Rattle.std.specs.FinMap as finite
@@ -62,5 +62,23 @@ abbrev pub line_in : List (List ℕ × Directives) → Web → List ℕ
 line_in functions w = web_line w (users (uses Entry functions) w.id) (users (uses Member functions) w.id)
 
 -- the text of the functions' webs, by their numbers
+abbrev pub webs_text : List (List ℕ × Directives) → List ℕ
+webs_text functions = flat_map (line_in functions) (finite.values (webs_by_number functions))
+
+-- ---- registers that functions share
+
+abbrev pub register_text : ℕ → List ℕ
+register_text r = codes " r" ++ decimal r
+
+-- a line with a function's name, a word and its registers, where it has some
+abbrev pub register_line : List ℕ → List ℕ → List ℕ → List ℕ
+register_line word name registers = if length registers == 0 then [] else name ++ (word ++ (flat_map register_text registers ++ codes "\n"))
+
+-- those that a function saves for others, and those that it is free to use
+abbrev pub shared_lines : List ℕ × Directives → List ℕ
+shared_lines f = register_line (codes " saves") f.0 f.1.saves ++ register_line (codes " free") f.0 f.1.free
+
+-- ---- the text
+
 abbrev pub text_of : List (List ℕ × Directives) → List ℕ
-text_of functions = flat_map (line_in functions) (finite.values (webs_by_number functions))
+text_of functions = webs_text functions ++ flat_map shared_lines functions

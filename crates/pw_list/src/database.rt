@@ -10,6 +10,7 @@ ghost use Rattle.pw_db.specs.declared.database.Role.TheVariants.{Entry, Member};
 ghost use Rattle.pw_list.specs.DatabaseText.{access, text_of, uses, uses_of, web_line, webs_by_number, word_and_name};
 ghost use Rattle.pw_list.specs.Gathering.{IsByNumber, behind, entry_view, prefix_of, is_of, lines_from, use_view, with_entry};
 
+use crate::sharing::push_shared;
 use pw_db::{Database, Directives, Role, Web};
 use pw_value::Name;
 use std::alloc::{AllocError, Global};
@@ -176,7 +177,8 @@ fn push_webs(
 }
 
 /// The text of a database: for each web, by number, a line with its global, its register and whether it is written,
-/// then each function that enters it, and each other member.
+/// then each function that enters it, and each other member; and behind these for each function a line with the registers
+/// that it saves for others, and one with those that it is free to use, each where there are some.
 ///
 /// Functions stand in byte order in each group. Fails only where memory runs out.
 pub fn db_text(alloc: Global, db: &Database) -> Result<Vec<u8>, AllocError>
@@ -191,5 +193,6 @@ pub fn db_text(alloc: Global, db: &Database) -> Result<Vec<u8>, AllocError>
     };
     let mut text = Vec::new(alloc);
     push_webs(alloc, &mut text, webs, &uses)?;
+    push_shared(alloc, &mut text, functions)?;
     Ok(text)
 }

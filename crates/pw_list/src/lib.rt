@@ -5,6 +5,7 @@ mod database;
 pub mod laws;
 mod lines;
 mod programs;
+mod sharing;
 
 pub use database::db_text;
 pub use programs::{image_text, listing};

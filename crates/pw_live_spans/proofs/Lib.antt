@@ -1,5 +1,5 @@
 mod Covering
 mod Walking
-mod Steps
+pub mod Steps
 mod Walks
 mod Numbers

@@ -17,7 +17,7 @@ use Rattle.pw_object.specs.Functions.{IsFunction, function, names_of_function, I
 
 -- the version of object files and of the form of an object's words
 abbrev pub object_version : ℕ
-object_version = 3
+object_version = 4
 
 -- ---- the parts
 

@@ -6,7 +6,7 @@ use pw_items::Items;
 use pw_value::{Name, Shape};
 
 /// The version of object files and of the form of an object's words.
-pub const VERSION: u32 = 3;
+pub const VERSION: u32 = 4;
 
 /// A module as words, with what it was made of.
 #[derive(Drop)]

@@ -15,6 +15,7 @@ use Rattle.pw_flow.specs.Uses.{end_uses, successors}
 use Rattle.pw_flow.specs.Outline.{act_of, stretch_of, outline_of}
 use Rattle.pw_flow.specs.ValidFlow.{IsOp, IsEnd, IsBlock, IsFunction}
 use Rattle.pw_live_fronts.specs.Blocks.{IsAct, IsStretch, IsOutline}
+use Rattle.pw_live_outline.proofs.Lawful.{op_reads, op_writes, end_reads, end_goes}
 use Rattle.pw_opt_rules.specs.declared.flat.Flat.{Flat}
 use Rattle.pw_opt_rules.specs.declared.flat.Flat.TheVariants.{Bottom, One, Many}
 use Rattle.pw_opt_rules.specs.Rows.{known, behind}
@@ -55,38 +56,13 @@ pub record IsSound (f : FlowFn) : Type 0 where
 -- ---- what is lawful is sound
 
 sound_op : (temps slots : ℕ) (o : Op) → IsOp temps slots o → IsSoundOp temps o
-sound_op temps slots (op.Const t n) l = record { defines = l.0; uses = tt }
-sound_op temps slots (op.Copy t a) l = record { defines = l.0; uses = (l.1, tt) }
-sound_op temps slots (op.Un k t a) l = record { defines = l.0; uses = (l.1, tt) }
-sound_op temps slots (op.Bin k t a b) l = record { defines = l.0; uses = (l.1, (l.2, tt)) }
-sound_op temps slots (op.Ext k t a) l = record { defines = l.0; uses = (l.1, tt) }
-sound_op temps slots (op.AddrGlobal t g n) l = record { defines = l.0; uses = tt }
-sound_op temps slots (op.AddrSlot t s) l = record { defines = l.0; uses = tt }
-sound_op temps slots (op.AddrFn t f) l = record { defines = l; uses = tt }
-sound_op temps slots (op.LoadG t g k) l = record { defines = l; uses = tt }
-sound_op temps slots (op.StoreG g a k) l = record { defines = tt; uses = (l, tt) }
-sound_op temps slots (op.Load k t a) l = record { defines = l.0; uses = (l.1, tt) }
-sound_op temps slots (op.Store k a b) l = record { defines = tt; uses = (l.0, (l.1, tt)) }
-sound_op temps slots (op.Move a b size unit) l = record { defines = tt; uses = (l.0, (l.1, tt)) }
-sound_op temps slots (op.Call t f args) l = record { defines = l.0; uses = l.1.below }
-sound_op temps slots (op.CallInd t a shape args) l = record { defines = l.0; uses = (l.1, l.2.below) }
-
-sound_uses : (temps count : ℕ) (e : End) → IsEnd temps count e → AllByRecursion (λ t. t < temps) (end_uses e)
-sound_uses temps count (Jump b) l = tt
-sound_uses temps count (Branch a b c) l = (l.0, tt)
-sound_uses temps count (Return None) l = tt
-sound_uses temps count (Return (Some a)) l = (l, tt)
-
-sound_next : (temps count : ℕ) (e : End) → IsEnd temps count e → AllByRecursion (λ c. c < count) (successors e)
-sound_next temps count (Jump b) l = (l, tt)
-sound_next temps count (Branch a b c) l = (l.1, (l.2, tt))
-sound_next temps count (Return t) l = tt
+sound_op temps slots o l = record { defines = op_writes temps slots o l; uses = op_reads temps slots o l }
 
 sound_block : (temps slots count : ℕ) (b : Block) → IsBlock temps slots count b → IsSoundBlock temps count b
 sound_block temps slots count b l = record {
   ops = all_weaker (IsOp temps slots) (IsSoundOp temps) b.ops (sound_op temps slots) l.ops;
-  uses = sound_uses temps count b.end l.end;
-  next = sound_next temps count b.end l.end;
+  uses = end_reads temps count b.end l.end;
+  next = end_goes temps count b.end l.end;
 }
 
 pub lawful_sound : (f : FlowFn) → IsFunction f → IsSound f

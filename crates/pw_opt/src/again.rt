@@ -5,7 +5,7 @@ ghost use Rattle.std.specs.Prelude.{◌≡◌, IfOk};
 use pw_flow::{Block, FlowFn, FlowGlobal, Item, Op};
 use pw_items::Items;
 use pw_opt_constants::Constants;
-use pw_opt_rewrite::same_numbers;
+use pw_opt_rewrite::numbers;
 use pw_value::{Name, Shape};
 use std::alloc::{AllocError as NoMemory, Global};
 
@@ -128,7 +128,7 @@ pub(crate) fn same_function(
     ensures { IfOk result (λ g. g ≡ f.now) }
 {
     let blocks = same_blocks(alloc, constants, f.blocks.as_slice())?;
-    let slots = same_numbers(alloc, f.slots.as_slice())?;
+    let slots = numbers(alloc, f.slots.as_slice())?;
     Ok(FlowFn {
         name: f.name.copy(alloc)?,
         shape: f.shape.copy(alloc)?,

@@ -4,7 +4,7 @@ ghost use Rattle.std.specs.Prelude.{◌≡◌, [], IfOk};
 ghost use Rattle.pw_opt_rules.specs.Constants.{constant, const_or, jump_or};
 
 use pw_flow::{End, Op};
-use pw_opt_rewrite::{defined, with_originals};
+use pw_opt_rewrite::{op_defines, with_originals};
 use pw_opt_rows::{Rewriting, Row};
 use pw_opt_rules::Flat;
 use pw_opt_words::{of_binary, of_extension, of_unary};
@@ -84,7 +84,7 @@ impl Rewriting for Constants {
     ghost is_about = { λ _ _. true };
 
     fn follow(&self, row: &mut Row, op: &Op) {
-        if let Some(t) = defined(op) {
+        if let Some(t) = op_defines(op) {
             let known = constant_of(row, op);
             row.set(t, known);
         }

@@ -5,7 +5,7 @@ ghost use Rattle.pw_opt_rules.specs.Copies.{copied};
 
 use crate::copiers::Copiers;
 use pw_flow::{End, Op};
-use pw_opt_rewrite::{defined, end_with_originals, with_originals};
+use pw_opt_rewrite::{end_with_originals, op_defines, with_originals};
 use pw_opt_rows::{Rewriting, Row};
 use pw_opt_rules::Flat;
 use std::alloc::{AllocError as NoMemory, Global};
@@ -33,7 +33,7 @@ impl Rewriting for Copiers {
     ghost is_about = { is_noted };
 
     fn follow(&self, row: &mut Row, op: &Op) {
-        if let Some(t) = defined(op) {
+        if let Some(t) = op_defines(op) {
             self.forget(row, t);
             row.set(t, copied_by(op));
         }

@@ -13,7 +13,7 @@ use crate::marks::{live_at_end, step_back};
 use pw_flow::{Block, FlowFn, Op};
 use pw_items::Items;
 use pw_live_fronts::{Act, Fronts, Outline, Stretch, find_fronts};
-use pw_opt_outline::outline_of;
+use pw_live_outline::outline_of;
 use pw_opt_quiet::Quiet;
 use std::alloc::{AllocError as NoMemory, Global};
 

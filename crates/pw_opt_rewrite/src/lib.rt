@@ -5,4 +5,5 @@ mod blocks;
 mod operands;
 
 pub use blocks::rewrite;
-pub use operands::{defined, end_with_originals, original, same_numbers, with_originals};
+pub use operands::{end_with_originals, original, with_originals};
+pub use pw_live_outline::{numbers, op_defines};

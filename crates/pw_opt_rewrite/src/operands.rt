@@ -1,7 +1,6 @@
-//! What operations define, and the same operations on other operands.
+//! Operations on other operands.
 
 ghost use Rattle.std.specs.Prelude.{◌≡◌, map, IfOk};
-ghost use Rattle.pw_flow.specs.Uses.{op_defines};
 ghost use Rattle.pw_flow.specs.declared.flow.Op.TheVariants as op;
 ghost use Rattle.pw_opt_rules.specs.Copies.{original, with_operands, with_end_operand};
 
@@ -11,26 +10,6 @@ use pw_opt_rows::Row;
 use pw_opt_rules::Flat;
 use pw_value::{Kind, Name, Shape};
 use std::alloc::{AllocError as NoMemory, Global};
-
-/// The temporary that an operation writes.
-pub fn defined(op: &Op) -> Option<u32>
-    ensures { result ≡ op_defines op.now }
-{
-    match op {
-        Op::Const(t, _)
-        | Op::Copy(t, _)
-        | Op::Un(_, t, _)
-        | Op::Bin(_, t, _, _)
-        | Op::Ext(_, t, _)
-        | Op::AddrGlobal(t, _, _)
-        | Op::AddrSlot(t, _)
-        | Op::AddrFn(t, _)
-        | Op::LoadG(t, _, _)
-        | Op::Load(_, t, _) => Some(*t),
-        Op::StoreG(_, _, _) | Op::Store(_, _, _) | Op::Move(_, _, _, _) => None,
-        Op::Call(t, _, _) | Op::CallInd(t, _, _, _) => *t,
-    }
-}
 
 /// What stands for an operand: the one temporary that is known of it, or itself.
 pub fn original(row: &Row, a: u32) -> u32
@@ -51,13 +30,6 @@ fn originals(alloc: Global, row: &Row, args: &[u32]) -> Result<Items<u32>, NoMem
         new.push(original(row, a))?;
     }
     Ok(new)
-}
-
-/// The same numbers again.
-pub fn same_numbers(alloc: Global, numbers: &[u32]) -> Result<Items<u32>, NoMemory>
-    ensures { IfOk result (λ v. v ≡ numbers.now) }
-{
-    Ok(Items::from_vec(Vec::from_slice(alloc, numbers)?))
 }
 
 /// A call of a function by its name.

@@ -19,7 +19,7 @@ use Rattle.pw_types.specs.TypedTrees.{ModuleValue}
 use Rattle.pw_flow.specs.ValidFlow.{IsValid}
 use Rattle.pw_flow.specs.declared.flow.FlowModule.{FlowModule}
 use Rattle.pw_lower.specs.Modules.{lowered}
-use Rattle.pw_phase_one.specs.FirstPhase.{Compiles, AnswersPhaseOne, Phase, by_checking, by_front_end, compiled, error_of, told, told_kind}
+use Rattle.pw_phase_one.specs.FirstPhase.{Compiles, AnswersPhaseOne, Phase, by_checking, by_front_end, compiled, error_of, told, told_kind, typed_by, typed_text}
 
 abbrev pub FrontExact : Type 0
 FrontExact = (text : List ℕ) (answer : FrontEnd) → FrontEndAnswers text answer ↔ (answer ≡ front_end_of text)
@@ -91,6 +91,50 @@ passed_by name (Err fault) typed flow e f = absurd (no_fault (Check fault) typed
 
 pub check_passed : (name : List ℕ) (tree : Module) (typed : ModuleValue) (flow : FlowModule) → told (checked tree) ≡ Ok typed → flow ≡ lowered name typed → by_checking name (checked tree) ≡ Ok flow
 check_passed name tree typed flow e f = passed_by name (checked tree) typed flow e f
+
+-- ---- typed trees
+
+pub typed_failed : {V W : Type 0} (view : V → Module) (seen : W → ModuleValue) (text : List ℕ) (error : FrontEndFault) → front.AnswersTree view (front_end_of text) (Err error) → AnswersPhaseOne seen (typed_text text) (Err error)
+unfolding typed_text
+typed_failed view seen text (Refused refusal) h = ap typed_by h
+typed_failed view seen text NoMemory h = tt
+
+pub typed_passed : {W : Type 0} (seen : W → ModuleValue) (text : List ℕ) (tree : Module) (result : Result W FrontEndFault) → front_end_of text ≡ Ok tree → AnswersPhaseOne seen (told (checked tree)) result → AnswersPhaseOne seen (typed_text text) result
+unfolding typed_text
+typed_passed seen text tree result e h = subst (λ (p : Result ModuleValue Refusal). AnswersPhaseOne seen p result) (sym (ap typed_by e)) h
+
+told_only : (found : Result ModuleValue CheckFault) (typed : ModuleValue) → told found ≡ Ok typed → found ≡ Ok typed
+told_only (Ok own) typed e = ap (λ (m : ModuleValue). Ok m) (ok_is own typed e)
+told_only (Err fault) typed e = absurd (no_fault (Check fault) typed e)
+
+typed_has : FrontExact → ChecksExact → (text : List ℕ) (typed : ModuleValue) (found : FrontEnd) → found ≡ front_end_of text → typed_by found ≡ Ok typed → (tree : Module) × HasTree text tree × Checks tree (Ok typed)
+typed_has front checks text typed (Ok tree) is e = (tree, (front text (Ok tree)).1 is, (checks tree (Ok typed)).1 (sym (told_only (checked tree) typed e)))
+typed_has front checks text typed (Err refusal) is e = absurd (no_fault refusal typed e)
+
+pub typed_exact : FrontExact → ChecksExact → (text : List ℕ) (typed : ModuleValue) → (typed_text text ≡ Ok typed) ↔ ((tree : Module) × HasTree text tree × Checks tree (Ok typed))
+unfolding typed_text
+typed_exact front checks text typed =
+    (λ e. typed_has front checks text typed (front_end_of text) refl e, λ h. ap typed_by (sym ((front text (Ok h.0)).0 h.1)) ∙ ap told (sym ((checks h.0 (Ok typed)).0 h.2)))
+
+lowered_by : (name : List ℕ) (found : FrontEnd) (typed : ModuleValue) → typed_by found ≡ Ok typed → by_front_end name found ≡ Ok (lowered name typed)
+lowered_by name (Ok tree) typed e = ap (by_checking name) (told_only (checked tree) typed e)
+lowered_by name (Err refusal) typed e = absurd (no_fault refusal typed e)
+
+pub typed_lowers : (name text : List ℕ) (typed : ModuleValue) → typed_text text ≡ Ok typed → compiled name text ≡ Ok (lowered name typed)
+unfolding compiled typed_text
+typed_lowers name text typed e = lowered_by name (front_end_of text) typed e
+
+told_fault : (name : List ℕ) (found : Result ModuleValue CheckFault) (refusal : Refusal) → told found ≡ Err refusal → by_checking name found ≡ Err refusal
+told_fault name (Ok typed) refusal e = absurd (no_value typed refusal e)
+told_fault name (Err fault) refusal e = ap (λ (r : Refusal). Err r) (err_is (Check fault) refusal e)
+
+refused_by : (name : List ℕ) (found : FrontEnd) (refusal : Refusal) → typed_by found ≡ Err refusal → by_front_end name found ≡ Err refusal
+refused_by name (Ok tree) refusal e = told_fault name (checked tree) refusal e
+refused_by name (Err own) refusal e = ap (λ (r : Refusal). Err r) (err_is own refusal e)
+
+pub typed_refused : (name text : List ℕ) (refusal : Refusal) → typed_text text ≡ Err refusal → compiled name text ≡ Err refusal
+unfolding compiled typed_text
+typed_refused name text refusal e = refused_by name (front_end_of text) refusal e
 
 -- ---- faults of checking
 

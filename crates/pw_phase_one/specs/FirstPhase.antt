@@ -38,6 +38,21 @@ Compiles name text (Ok flow) = CompilesTo name text flow
 Compiles name text (Err (Check fault)) = IsFaulty text fault
 Compiles name text (Err refusal) = FrontEndAnswers text (Err refusal)
 
+-- ---- the typed tree
+
+-- what checking answers, as the first phase tells it
+abbrev pub told : Result ModuleValue CheckFault → Result ModuleValue Refusal
+told (Ok typed) = Ok typed
+told (Err fault) = Err (Check fault)
+
+abbrev pub typed_by : FrontEnd → Result ModuleValue Refusal
+typed_by (Err refusal) = Err refusal
+typed_by (Ok tree) = told (checked tree)
+
+-- the typed tree of a text, or the first refusal
+unfoldable pub typed_text : List ℕ → Result ModuleValue Refusal
+typed_text text = typed_by (front_end_of text)
+
 -- ---- the answer as a function, which the public law `phase_one_is_exact` ties to the relation
 
 abbrev pub by_checking : List ℕ → Result ModuleValue CheckFault → Phase
@@ -58,11 +73,6 @@ abbrev pub AnswersPhaseOne : {V W : Type 0} → (V → W) → Result W Refusal �
 AnswersPhaseOne view wanted (Ok v) = wanted ≡ Ok (view v)
 AnswersPhaseOne view wanted (Err (Refused refusal)) = wanted ≡ Err refusal
 AnswersPhaseOne view wanted (Err NoMemory) = Unit {0}
-
--- what checking answers, as the first phase tells it
-abbrev pub told : Result ModuleValue CheckFault → Result ModuleValue Refusal
-told (Ok typed) = Ok typed
-told (Err fault) = Err (Check fault)
 
 -- a fault of checking, as the first phase tells it
 abbrev pub told_kind : CheckKind → CheckFault → FrontEndFault

@@ -4,4 +4,4 @@
 pub mod laws;
 mod phase;
 
-pub use phase::{PhaseError, phase_one};
+pub use phase::{PhaseError, phase_one, phase_typed};

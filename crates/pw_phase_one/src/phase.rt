@@ -2,7 +2,7 @@
 
 ghost use Rattle.std.specs.Prelude.{◌≡◌, IfOk};
 ghost use Rattle.pw_flow.specs.ValidFlow.{IsValid};
-ghost use Rattle.pw_phase_one.specs.FirstPhase.{AnswersPhaseOne, by_checking, compiled, error_of, told};
+ghost use Rattle.pw_phase_one.specs.FirstPhase.{AnswersPhaseOne, by_checking, compiled, error_of, told, typed_text};
 ghost use Rattle.pw_check_rules.specs.Checks.{checked};
 ghost use Rattle.pw_tree.specs.Views.{view_module};
 ghost use Rattle.pw_typed.specs.Views as typed;
@@ -57,6 +57,20 @@ fn compile(alloc: Global, name: &Name, tree: &Module) -> Result<FlowModule, Phas
             Ok(flow) => Ok(flow),
             Err(_none) => Err(FrontEndFault::NoMemory),
         },
+        Err(error) => Err(error),
+    }
+}
+
+/// The typed tree of a module, by its text, which is tested as [`phase_one`] tests it.
+///
+/// # Errors
+///
+/// As [`phase_one`].
+pub fn phase_typed(alloc: Global, text: &[u8]) -> Result<TModule, PhaseError>
+    ensures { AnswersPhaseOne typed.view_module (typed_text text.now) result }
+{
+    match front(alloc, text) {
+        Ok(tree) => typed_tree(alloc, &tree),
         Err(error) => Err(error),
     }
 }

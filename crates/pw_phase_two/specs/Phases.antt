@@ -6,7 +6,8 @@ use Rattle.pw_flow.specs.declared.flow.FlowModule.{FlowModule}
 use Rattle.pw_flowfile.specs.FlowFile.{IsFlowFile}
 use Rattle.pw_summarise.specs.Summarises.{IsOrdered}
 use Rattle.pw_db.specs.declared.database.Directives.{Directives}
-use Rattle.pw_db.specs.Database.{CanBeStored, HasDirectives, IsStored, IsPayload}
+use Rattle.pw_db.specs.Database.{CanBeStored, HasDirectives, IsStored}
+use Rattle.pw_db_file.specs.Spelling.{IsPayload}
 use Rattle.pw_object.specs.Object.{object_version}
 use Rattle.pw_object.specs.declared.object.Object.{Object}
 use Rattle.pw_object.specs.declared.functions.ObjectFn.{ObjectFn}

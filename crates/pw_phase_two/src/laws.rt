@@ -6,7 +6,7 @@ ghost use Rattle.pw_db.specs.declared.database.Directives.{Directives};
 ghost use Rattle.pw_object.specs.declared.object.Object.{Object};
 ghost use Rattle.pw_phase_two.specs.Phases.{IsObjectOf};
 
-use pw_db::laws::one_list_is_stored;
+use pw_db_file::laws::one_list_is_stored;
 use pw_flowfile::laws::flow_graphs_and_files_are_one_to_one;
 
 /// A module has one object under its directives.

@@ -5,7 +5,8 @@ ghost use Rattle.pw_flow.specs.ValidFlow.{IsValid};
 ghost use Rattle.pw_phase_two.specs.Origins.{IsOriginOf};
 ghost use Rattle.pw_phase_two.specs.Phases.{AreDirectivesOf};
 
-use pw_db::{Directives, payload};
+use pw_db::Directives;
+use pw_db_file::payload;
 use pw_flow::FlowModule;
 use pw_value::Name;
 use std::alloc::{AllocError, Global};

@@ -18,7 +18,6 @@ use Rattle.pw_alloc.specs.declared.located.Place.TheVariants.{Slot, Reg}
 use Rattle.pw_alloc.specs.declared.located.Located.{Located}
 use Rattle.pw_alloc.specs.Allocation.{slots_from}
 use Rattle.pw_alloc.specs.Frames.{head_size, slots_begin, last_reach}
-use Rattle.pw_db_sound.specs.Sound.{saves_of}
 
 -- ---- what is needed
 
@@ -67,7 +66,7 @@ pub record IsTempRegister (r : ℕ) : Type 0 where
 -- A call leaves the place as it is: a word of the frame, or a register that a callee keeps and that neither this function
 -- nor one below it is free to use.
 abbrev pub IsKeptOver : WebFn → Place → Type 0
-IsKeptOver f (Reg r) = (first_register ≤ r) × (r ≤ last_register) × (¬ Contains f.directives.free r) × (¬ Contains (saves_of f.directives) r)
+IsKeptOver f (Reg r) = (first_register ≤ r) × (r ≤ last_register) × (¬ Contains f.directives.free r) × (¬ Contains f.directives.saves r)
 IsKeptOver f (Slot offset) = Unit {0}
 
 -- the places that are words of the frame
@@ -87,7 +86,7 @@ pub record HasWebIn (f : WebFn) (role : Role) (r : ℕ) : Type 0 where
 pub data Changes (f : WebFn) (l : Located) (r : ℕ) : Type 0 where
   places : Contains l.places (Reg r) → r ≤ last_register → ¬ Contains f.directives.free r → Changes f l r
   enters : HasWebIn f Entry r → Changes f l r
-  saves : Contains (saves_of f.directives) r → Changes f l r
+  saves : Contains f.directives.saves r → Changes f l r
 
 pub record Serves (f : WebFn) (l : Located) : Type 0 where
   pub body : l.body ≡ f

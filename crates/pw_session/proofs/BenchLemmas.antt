@@ -14,7 +14,7 @@ use Rattle.pw_machine.specs.Start.{image_start}
 use Rattle.pw_commands.specs.MachineRun.{run_answer}
 use Rattle.pw_store_modules.specs.Modules.{modules_of}
 use Rattle.pw_top_answer.specs.declared.answer.Answer.{Answer}
-use Rattle.pw_top_answer.specs.declared.answer.Answer.TheVariants.{Done, Usage, Refused, RefusedSource, Cpp, LinkRefused, WriteFault, StoreFault, NoMemory, BadFile}
+use Rattle.pw_top_answer.specs.declared.answer.Answer.TheVariants.{Done, Usage, Refused, RefusedSource, Cpp, LinkRefused, WriteFault, StoreFault, NoMemory, BadFile, Undefined}
 use Rattle.pw_top_answer.specs.Effects.{Effect, answers_alone, prints}
 use Rattle.pw_top_answer.specs.Outcomes.{Answers, IsPrintAnswer, LeavesStreams, OutputCount, PutsOut, StoreCount}
 use Rattle.pw_gen.specs.Generator.{generated}
@@ -157,6 +157,7 @@ said_is _ k = absurd k
 pub said_at : (number : ℕ) (answer : Answer) (line : Option ℕ) → IsPrintAnswer answer → IsBenchLine number answer line
 said_at number (Refused name refusal) line k = absurd k
 said_at number (RefusedSource name refusal) line k = absurd k
+said_at number (Undefined operation home token) line k = absurd k
 said_at number _ line k = tt
 
 pub said_streams : (answer : Answer) (input taken taken' : Option (List ℕ)) → IsPrintAnswer answer → LeavesStreams answer input input taken taken'

@@ -3,7 +3,8 @@
 ghost use Rattle.std.specs.Prelude.{◌≡◌, ◌++◌, ◌∷◌, [], ℕ, List, IfOk, OnOk, map, true};
 ghost use Rattle.std.specs.List.{AllByRecursion};
 ghost use Rattle.pw_fields.specs.FieldLaws.{AreBytes};
-ghost use Rattle.pw_db.specs.Database.{IsDatabase, IsDatabaseFile};
+ghost use Rattle.pw_db.specs.Database.{IsDatabase};
+ghost use Rattle.pw_db_file.specs.Spelling.{IsNewFile};
 ghost use Rattle.pw_object.specs.Object.{IsObject, IsObjectFile};
 ghost use Rattle.pw_image.specs.Image.{IsImage, IsImageFile};
 ghost use Rattle.pw_store_modules.specs.FileNames.{object_name};
@@ -14,6 +15,7 @@ ghost use Rattle.pw_store_kept.specs.Files.{AreObjectFiles, HoldBytes, file_view
 use crate::kept::object_name;
 use pw_build_objects::Made;
 use pw_db::Database;
+use pw_db_file::write_functions;
 use pw_files::laws::are_bytes;
 use pw_image::{Image, write_image};
 use pw_object::Object;
@@ -100,11 +102,11 @@ pub fn files_of(
     ensures names { IfOk result (λ files. files.fresh.names.items ≡ map (λ m. m.0) (made_anew (map (λ m. m.name) modules.now) (objects_of made.now) (marks_of made.now))) }
     ensures objects { IfOk result (λ files. AreObjectFiles (made_anew (map (λ m. m.name) modules.now) (objects_of made.now) (marks_of made.now)) (map file_view files.fresh.files.items)) }
     ensures bytes { IfOk result (λ files. HoldBytes (map file_view files.fresh.files.items)) }
-    ensures database { IfOk result (λ files. IsDatabaseFile files.database.items database.now.functions) }
+    ensures database { IfOk result (λ files. IsNewFile files.database.items database.now.functions) }
     ensures image { IfOk result (λ files. (names : List (List ℕ)) × IsImageFile files.image.items (record { names = names; value = image.now })) }
 {
     let fresh = fresh_files(alloc, modules, made)?;
-    let database = pw_db::write(alloc, database)?;
+    let database = write_functions(alloc, database.functions.as_slice())?;
     let image = write_image(alloc, image)?;
     Ok(ProgramFiles {
         fresh,

@@ -1,6 +1,6 @@
 -- The summary of a lawful flow graph is a lawful summary.
 use Rattle.std.proofs.Common.{◌≡◌, ℕ, zero, suc, ◌+◌, ◌<◌, ◌≤◌, Bool, true, false, cond, List, [], ◌∷◌, length, map, refl, sym, ap, subst, ◌∙◌, arith, inl, inr}
-use Rattle.std.specs.Prelude.{Contains, Option, Some, None, min}
+use Rattle.std.specs.Prelude.{Contains, Option, Some, None, min, ◌-◌}
 use Rattle.std.specs.List.{AllByRecursion, flat_map}
 use Rattle.std.specs.Str.{bytes_eq}
 use Rattle.std.proofs.lemmas.Slice.Eq.{bytes_eq-Decides}
@@ -18,7 +18,10 @@ use Rattle.pw_value.specs.ProgramNames.{start_name, main_name, times, KeepsStart
 use Rattle.pw_value.proofs.StartLaws.{stands_by_times}
 use Rattle.pw_summary.specs.declared.summary.Uses.{Uses}
 use Rattle.pw_summary.specs.declared.summary.Summary.{Summary}
-use Rattle.pw_summary.specs.Summary.{IsUses, IsSummary, global_names as names_of_globals, function_names as names_of_functions, weight_bound}
+use Rattle.pw_summary.specs.Summary.{IsUses, IsSummary, global_names as names_of_globals, function_names as names_of_functions, weight_bound, need_limit, summary_version, IsVersioned}
+use Rattle.pw_flow.specs.Outline.{Outline, outline_of}
+use Rattle.pw_live.specs.Points.{points}
+use Rattle.pw_live_needs.specs.Needs.{changed_count, most_short, need}
 use Rattle.pw_summarise.specs.Summarises.{called, referenced, addressed, in_function, in_module, most, reference, function_shape, as_taken, taken_of, global_entry, function_entry, function_entries, IsUsesOf, AreUsesOf, Summarises}
 use Rattle.pw_files.proofs.Standing.{Has, contains_by, has_by, has_each, each_by, has_left, has_right, has_split, has_map_back, has_flat, has_flat_back}
 use Rattle.pw_files.proofs.Views.{seen}
@@ -64,6 +67,9 @@ not_start m valid h = has_each IsOrdinary (named_in m) start_name valid.parts.or
 capped : (n : ℕ) → min most n < weight_bound
 capped n = omega arith
 
+few_needed : (f : Outline) → need f ≤ need_limit
+few_needed f = let n = most_short f (points f) - changed_count in let le : min need_limit n ≤ need_limit = omega arith in le
+
 is_uses : (m : FlowModule) → IsValid m → (f : FlowFn) → Has f m.functions → (u : Uses) → IsUsesOf f u → IsUses u
 is_uses m valid f there u is = record {
   calls = subst IsRising (map-id u.calls) is.calls.rising;
@@ -73,6 +79,7 @@ is_uses m valid f there u is = record {
   weights = each_by (λ (r : List ℕ × ℕ × ℕ). (r.1 < weight_bound) × (r.2 < weight_bound)) u.refs (λ r h.
       let p = has_map_back (reference f) r (in_function referenced f) (has_by r (map (reference f) (in_function referenced f)) ((is.refs.of r).0 (contains_by r u.refs h))) in
       subst (λ (r : List ℕ × ℕ × ℕ). (r.1 < weight_bound) × (r.2 < weight_bound)) p.2 (capped _, capped _));
+  need = let n = is.need in let le = few_needed (outline_of f) in omega (arith, n, le);
 }
 
 all_uses : (m : FlowModule) → IsValid m → (entries : List (List ℕ × List ℕ)) (us : List Uses) → AreUsesOf m.functions entries us → AllByRecursion IsUses us
@@ -154,3 +161,7 @@ lawful m s valid is = record {
   each_uses = as_many m.functions s.functions s.uses is.uses;
   start = keeps_start m s valid is;
 }
+
+-- it is of the last version
+pub versioned : (s : Summary) → s.version ≡ summary_version → IsSummary s → IsVersioned s
+versioned s e is = record { not_below = omega (arith, e); not_above = omega (arith, e); summary = is; needless = λ first. absurd (omega (arith, e, first)) }

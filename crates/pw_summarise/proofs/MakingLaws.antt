@@ -1,18 +1,19 @@
 -- The lists that the code makes are those of a summary.
 use Rattle.std.proofs.Common.{◌≡◌, ℕ, ◌+◌, ◌<◌, Bor, List, [], ◌∷◌, ◌++◌, length, get_or, take, map, refl, sym, ap, subst, ◌∙◌, inl, inr}
-use Rattle.std.specs.Prelude.{Contains}
+use Rattle.std.specs.Prelude.{All, Contains}
 use Rattle.std.specs.List.{AllZip}
 use Rattle.std.proofs.lemmas.List.{take_more}
 use Rattle.pw_fields.specs.FieldNames.{IsTableOf}
 use Rattle.pw_flow.specs.declared.flow.FlowFn.{FlowFn}
 use Rattle.pw_flow.specs.declared.flow.FlowModule.{FlowModule}
 use Rattle.pw_flow.specs.FlowGraph.{named_in, global_names, function_names}
-use Rattle.pw_flow.specs.ValidFlow.{AreDistinct, IsValid}
+use Rattle.pw_flow.specs.ValidFlow.{AreDistinct, IsFunction, IsValid}
+use Rattle.pw_summary.specs.Summary.{summary_version}
 use Rattle.pw_summary.specs.declared.summary.Uses.{Uses}
 use Rattle.pw_summary.specs.declared.summary.Summary.{Summary}
 use Rattle.pw_summarise.specs.Summarises.{IsOrdered, addressed, in_module, taken_of, escaped_of, global_entry, function_entry, function_entries, IsUsesOf, AreUsesOf, Summarises}
-use Rattle.pw_files.proofs.Standing.{Has, contains_by}
-use Rattle.pw_files.proofs.Views.{seen}
+use Rattle.pw_files.proofs.Standing.{Has, contains_by, has_by, has_each, each_by}
+use Rattle.pw_files.proofs.Views.{seen, seen_all}
 use Rattle.pw_summarise.proofs.Orders.{ordered_map}
 use Rattle.pw_summarise.proofs.ShapeLaws.{taken_ordered, escaped_ordered}
 use Rattle.pw_flow.proofs.Once.{distinct_left, distinct_right}
@@ -24,6 +25,12 @@ globals_differ m valid = subst AreDistinct (sym (seen global_entry (λ g. g.0) m
 
 pub functions_differ : (m : FlowModule) → IsValid m → AreDistinct (map (λ f. f.name) m.functions)
 functions_differ m valid = distinct_right (global_names m) (function_names m) valid.names.distinct.defined
+
+-- each of them is lawful, in whatever order they stand
+pub each_lawful : (m : FlowModule) (sorted : List (Bor FlowFn)) → IsValid m → IsOrdered (λ f. f.name) m.functions (map (λ f. f.now) sorted) → All (λ f. IsFunction f.now) sorted
+each_lawful m sorted valid ordered =
+    seen_all (λ (f : Bor FlowFn). f.now) IsFunction sorted
+    (each_by IsFunction (map (λ f. f.now) sorted) (λ f h. has_each IsFunction m.functions f valid.parts.functions (has_by f m.functions ((ordered.of f).0 (contains_by f (map (λ f. f.now) sorted) h)))))
 
 -- ---- functions in order
 
@@ -59,6 +66,7 @@ zip_more {A} {B} R xs ys i x y lt is zip one =
 
 -- what the code has in its lists, for a module
 pub record AreLists (m : FlowModule) (sorted : List (Bor FlowFn)) (addresses : List (List ℕ)) (us : List Uses) (s : Summary) : Type 0 where
+  pub version : s.version ≡ summary_version
   pub of_module : s.module ≡ m.name
   pub globals : IsOrdered (λ g. g.0) (map global_entry m.globals) s.globals
   pub in_order : IsOrdered (λ f. f.name) m.functions (map (λ f. f.now) sorted)
@@ -76,6 +84,7 @@ summarised m sorted addresses us s are =
     let entries = entries_ordered m.functions sorted are.in_order in
     let functions = subst (λ (fs : List (List ℕ × List ℕ)). IsOrdered (λ f. f.0) (function_entries m) fs) (sym are.functions) entries in
     record {
+      version = are.version;
       of_module = are.of_module;
       globals = are.globals;
       functions = functions;

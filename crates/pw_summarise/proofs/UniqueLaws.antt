@@ -26,10 +26,10 @@ one_function (h ∷ fs) all f g (inr k) (inr j) e = one_function fs all.1 f g k 
 
 -- ---- what functions use
 
-uses_with : List (List ℕ) → List (List ℕ) → List (List ℕ × ℕ × ℕ) → Uses
-uses_with calls shapes refs = record { calls = calls; shapes = shapes; refs = refs }
+uses_with : List (List ℕ) → List (List ℕ) → List (List ℕ × ℕ × ℕ) → ℕ → Uses
+uses_with calls shapes refs some = record { calls = calls; shapes = shapes; refs = refs; need = some }
 
-uses_parts : (u : Uses) → uses_with u.calls u.shapes u.refs ≡ u
+uses_parts : (u : Uses) → uses_with u.calls u.shapes u.refs u.need ≡ u
 unfolding uses_with
 uses_parts u = refl
 
@@ -38,7 +38,8 @@ one_uses f u v a b =
     let calls = one_ordered (λ name. name) (in_function called f) u.calls v.calls a.calls b.calls in
     let shapes = one_ordered (λ shape. shape) (in_function called_shape f) u.shapes v.shapes a.shapes b.shapes in
     let refs = one_ordered (λ r. r.0) (map (reference f) (in_function referenced f)) u.refs v.refs a.refs b.refs in
-    let same : uses_with u.calls u.shapes u.refs ≡ uses_with v.calls v.shapes v.refs = cc in
+    let needs : u.need ≡ v.need = a.need ∙ sym b.need in
+    let same : uses_with u.calls u.shapes u.refs u.need ≡ uses_with v.calls v.shapes v.refs v.need = cc in
     sym (uses_parts u) ∙ same ∙ uses_parts v
 
 each_one : (fs : List FlowFn) → AreDistinct (map (λ f. f.name) fs) → (entries : List (List ℕ × List ℕ)) (us vs : List Uses) → AreUsesOf fs entries us → AreUsesOf fs entries vs → us ≡ vs
@@ -55,15 +56,16 @@ each_one fs all (entry ∷ entries) (u ∷ us) (v ∷ vs) a b =
 
 -- ---- the summary
 
-summary_with : List ℕ → List (List ℕ × List ℕ × Option Kind × Bool) → List (List ℕ × List ℕ) → List (List ℕ × List ℕ) → List (List ℕ) → List (List ℕ × List ℕ) → List (List ℕ) → List Uses → Summary
-summary_with name globals functions declared used taken escaped uses = record { «module» = name; globals = globals; functions = functions; declared = declared; used = used; taken = taken; escaped = escaped; uses = uses }
+summary_with : ℕ → List ℕ → List (List ℕ × List ℕ × Option Kind × Bool) → List (List ℕ × List ℕ) → List (List ℕ × List ℕ) → List (List ℕ) → List (List ℕ × List ℕ) → List (List ℕ) → List Uses → Summary
+summary_with version name globals functions declared used taken escaped uses = record { version = version; «module» = name; globals = globals; functions = functions; declared = declared; used = used; taken = taken; escaped = escaped; uses = uses }
 
-summary_parts : (s : Summary) → summary_with s.module s.globals s.functions s.declared s.used s.taken s.escaped s.uses ≡ s
+summary_parts : (s : Summary) → summary_with s.version s.module s.globals s.functions s.declared s.used s.taken s.escaped s.uses ≡ s
 unfolding summary_with
 summary_parts s = refl
 
 pub one_summary : (m : FlowModule) (s t : Summary) → IsValid m → Summarises m s → Summarises m t → s ≡ t
 one_summary m s t valid a b =
+    let version : s.version ≡ t.version = a.version ∙ sym b.version in
     let of_module : s.module ≡ t.module = a.of_module ∙ sym b.of_module in
     let globals = one_ordered (λ g. g.0) (map global_entry m.globals) s.globals t.globals a.globals b.globals in
     let functions = one_ordered (λ f. f.0) (function_entries m) s.functions t.functions a.functions b.functions in
@@ -72,5 +74,5 @@ one_summary m s t valid a b =
     let taken = one_ordered (λ f. f.0) (taken_of (function_entries m) m.declared (in_module addressed m)) s.taken t.taken a.taken b.taken in
     let escaped = one_ordered (λ name. name) (escaped_of (function_entries m) m.declared (in_module addressed m)) s.escaped t.escaped a.escaped b.escaped in
     let uses = each_one m.functions (distinct_right (global_names m) (function_names m) valid.names.distinct.defined) t.functions s.uses t.uses (subst (λ (es : List (List ℕ × List ℕ)). AreUsesOf m.functions es s.uses) functions a.uses) b.uses in
-    let same : summary_with s.module s.globals s.functions s.declared s.used s.taken s.escaped s.uses ≡ summary_with t.module t.globals t.functions t.declared t.used t.taken t.escaped t.uses = cc in
+    let same : summary_with s.version s.module s.globals s.functions s.declared s.used s.taken s.escaped s.uses ≡ summary_with t.version t.module t.globals t.functions t.declared t.used t.taken t.escaped t.uses = cc in
     sym (summary_parts s) ∙ same ∙ summary_parts t

@@ -12,7 +12,9 @@ use Rattle.pw_flow.specs.declared.flow.FlowModule.{FlowModule}
 use Rattle.pw_flow.specs.declared.flow.Op.TheVariants.{LoadG, StoreG, Call, CallInd}
 use Rattle.pw_flow.specs.FlowGraph.{names_in_global, named_in}
 use Rattle.pw_files.specs.Rising.{IsRising}
-use Rattle.pw_summary.specs.Summary.{weight_bound}
+use Rattle.pw_summary.specs.Summary.{weight_bound, summary_version}
+use Rattle.pw_flow.specs.Outline.{outline_of}
+use Rattle.pw_live_needs.specs.Needs.{need}
 use Rattle.pw_summary.specs.declared.summary.Uses.{Uses}
 use Rattle.pw_summary.specs.declared.summary.Summary.{Summary}
 
@@ -127,6 +129,7 @@ pub record IsUsesOf (f : FlowFn) (u : Uses) : Type 0 where
   pub calls : IsOrdered (λ name. name) (in_function called f) u.calls
   pub shapes : IsOrdered (λ shape. shape) (in_function called_shape f) u.shapes
   pub refs : IsOrdered (λ r. r.0) (map (reference f) (in_function referenced f)) u.refs
+  pub need : u.need ≡ need (outline_of f)
 
 -- what functions use, in the order of the functions: each is one of these
 abbrev pub AreUsesOf : List FlowFn → List (List ℕ × List ℕ) → List Uses → Type 0
@@ -136,6 +139,7 @@ AreUsesOf fs (entry ∷ entries) [] = ⊥
 AreUsesOf fs (entry ∷ entries) (u ∷ us) = ((f : FlowFn) × Contains fs f × (function_entry f ≡ entry) × IsUsesOf f u) × AreUsesOf fs entries us
 
 pub record Summarises (m : FlowModule) (s : Summary) : Type 0 where
+  pub version : s.version ≡ summary_version
   pub of_module : s.module ≡ m.name
   pub globals : IsOrdered (λ g. g.0) (map global_entry m.globals) s.globals
   pub functions : IsOrdered (λ f. f.0) (function_entries m) s.functions

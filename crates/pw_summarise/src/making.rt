@@ -1,12 +1,12 @@
 //! The summary of a module.
 
-ghost use Rattle.std.specs.Prelude.{◌≡◌, List, ℕ, map, IfOk};
+ghost use Rattle.std.specs.Prelude.{◌≡◌, List, ℕ, map, All, IfOk};
 ghost use Rattle.std.specs.List.{AllZip};
 ghost use Rattle.pw_fields.specs.FieldNames.{IsTableOf};
 ghost use Rattle.pw_flow.specs.FlowGraph.{named_in};
-ghost use Rattle.pw_flow.specs.ValidFlow.{IsValid};
+ghost use Rattle.pw_flow.specs.ValidFlow.{IsFunction, IsValid};
 ghost use Rattle.pw_files.specs.Rising.{IsRising};
-ghost use Rattle.pw_summary.specs.Summary.{IsSummary};
+ghost use Rattle.pw_summary.specs.Summary.{IsSummary, IsVersioned};
 ghost use Rattle.pw_summarise.specs.Summarises.{IsOrdered, addressed, in_module, taken_of, escaped_of, global_entry, function_entry, IsUsesOf, Summarises};
 
 use crate::lists::{declared_of, function_entries, globals_of, sorted_functions};
@@ -15,7 +15,7 @@ use crate::taken::{escaped, taken};
 use crate::uses::all_uses;
 use pw_flow::{FlowFn, FlowModule};
 use pw_items::Items;
-use pw_summary::{Defined, Summary, Used, summary_of};
+use pw_summary::{Defined, Summary, Used, VERSION, summary_of};
 use pw_value::{Name, Shape};
 use std::alloc::{AllocError, Global};
 
@@ -69,6 +69,7 @@ fn used_of(
 ) -> Result<Used, AllocError>
     requires functions { IsRising (map (λ f. f.0) defined.now.functions) }
     requires declared { IsRising (map (λ e. e.0) defined.now.declared) }
+    requires lawful { All (λ f. IsFunction f.now) sorted.now }
     ensures used { IfOk result (λ u. u.used ≡ used) }
     ensures addresses { IfOk result (λ u. (names : List (List ℕ)) × IsTableOf names (in_module addressed flow.now)
         × (u.taken ≡ taken_of defined.now.functions defined.now.declared names)
@@ -94,11 +95,12 @@ pub fn summarise(alloc: Global, flow: &FlowModule) -> Result<Summary, AllocError
     requires { IsValid flow.now }
     ensures summarises { IfOk result (λ s. Summarises flow.now s) }
     ensures lawful { IfOk result (λ s. IsSummary s) }
+    ensures versioned { IfOk result (λ s. IsVersioned s) }
 {
     let sorted = sorted_functions(alloc, flow.functions.as_slice())?;
     let interface = interface_of(alloc, flow)?;
     let defined = defined_of(alloc, flow, &sorted, interface.declared)?;
     let used = used_of(alloc, flow, &defined, &sorted, interface.used)?;
     let name = flow.name.copy(alloc)?;
-    Ok(summary_of(name, defined, used))
+    Ok(summary_of(VERSION, name, defined, used))
 }

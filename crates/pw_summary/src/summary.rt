@@ -16,12 +16,31 @@ pub struct Uses {
     /// The globals that it reads or writes by name, with their weighted reads and weighted writes, each
     /// at most 4,294,967,295.
     pub refs: Items<(Name, u64, u64)>,
+    /// How many registers it needs beside the two that every call may change, at most `NEED_LIMIT`.
+    pub need: u8,
 }
+
+/// `PAWS`, the first four bytes of a summary file.
+pub const KIND: u32 = 0x5041_5753;
+
+/// The first version of the form of a summary file, in which no function needs registers.
+pub const FIRST: u32 = 1;
+
+/// The last one.
+pub const VERSION: u32 = 2;
+
+/// What a weight is below.
+pub const WEIGHT_BOUND: u64 = 4_294_967_296;
+
+/// What a function's need is at most.
+pub const NEED_LIMIT: u8 = 4;
 
 /// What the program analyser needs to know of a module. Each list but the last is in byte order of the
 /// names, without repeats.
 #[derive(Drop)]
 pub struct Summary {
+    /// The version of the form of its file.
+    pub version: u32,
     pub module: Name,
     /// The globals that it defines: shape, kind where it is a scalar, and whether it is volatile.
     pub globals: Items<(Name, Shape, Option<Kind>, bool)>,
@@ -56,9 +75,9 @@ pub struct Used {
     pub uses: Items<Uses>,
 }
 
-/// The summary of the module of this name.
-pub fn summary_of(name: Name, defined: Defined, used: Used) -> Summary
-    ensures { result ≡ whole_summary name defined used }
+/// The summary of the module of this name, of a version.
+pub fn summary_of(version: u32, name: Name, defined: Defined, used: Used) -> Summary
+    ensures { result ≡ whole_summary version name defined used }
 {
     let Defined {
         globals,
@@ -72,6 +91,7 @@ pub fn summary_of(name: Name, defined: Defined, used: Used) -> Summary
         uses,
     } = used;
     Summary {
+        version,
         module: name,
         globals,
         functions,

@@ -340,6 +340,6 @@ last_stands : DataStands → byte_at (start_memory wrong_words data_items) 4123 
 unfolding start_core
 last_stands stands = stands wrong_value.memory [] [] (record { offset = 0; bytes = 0 ∷ 0 ∷ 0 ∷ 1 ∷ [] }) 3 is_memory refl (lit< tt)
 
-pub wrong_place : Words → DataStands → ¬ GlobalsHavePlaces program [] wrong_value 4096 []
+pub wrong_place : Words → DataStands → ¬ GlobalsHavePlaces program graphs [] wrong_value []
 wrong_place words stands places =
     never (record { call = words 0 (lit< tt) (lit< tt); slot = words 1 (lit< tt) (lit< tt); last = last_stands stands }) (subst (λ (stage : Stage source.Moment). Met Alike stage run) means (places 1))

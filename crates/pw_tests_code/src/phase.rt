@@ -4,7 +4,8 @@ ghost use Rattle.pw_flow.specs.ValidFlow.{IsValid};
 ghost use Rattle.pw_db.specs.Database.{IsDatabase};
 
 use crate::codes::push_object;
-use pw_db::{Database, read_payload};
+use pw_db::{Database, VERSION};
+use pw_db_file::read_payload;
 use pw_flow::FlowModule;
 use pw_object::Object;
 use pw_phase_two::{directives_for, phase_two};
@@ -36,7 +37,14 @@ fn push_under(text: &mut Text, flow: &FlowModule, payload: &[u8])
     requires lawful { IsValid flow.now }
 {
     match read_payload(text.alloc(), payload) {
-        Ok(functions) => push_code(text, flow, &Database { functions }),
+        Ok(functions) => push_code(
+            text,
+            flow,
+            &Database {
+                version: VERSION,
+                functions,
+            },
+        ),
         Err(_) => text.push(b"no files"),
     }
 }

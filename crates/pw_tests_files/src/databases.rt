@@ -1,7 +1,8 @@
 //! Databases and their payloads as text.
 
 use crate::shown::{push_again, push_value, push_word};
-use pw_db::{Directives, Role, Web, of_module, payload, read, read_payload, write};
+use pw_db::{Directives, Role, Web, of_module};
+use pw_db_file::{payload, read, read_payload, write};
 use pw_rows::Text;
 use pw_value::Name;
 
@@ -13,7 +14,16 @@ fn push_web(text: &mut Text, web: &(Web, Role)) {
     push_value(text, &(web.id, web.kind, web.reg, web.writes, enters));
 }
 
-/// Adds functions with their webs.
+/// Adds registers behind what they are, where there are some.
+fn push_registers(text: &mut Text, what: &[u8], registers: &[u8]) {
+    if registers.is_empty() {
+        return;
+    }
+    push_word(text, what);
+    push_value(text, &registers);
+}
+
+/// Adds functions with their webs, and the registers that each shares with others.
 fn push_functions(text: &mut Text, functions: &[(Name, Directives)]) {
     for function in functions {
         text.push(b" |");
@@ -21,6 +31,8 @@ fn push_functions(text: &mut Text, functions: &[(Name, Directives)]) {
         for web in function.1.webs.as_slice() {
             push_web(text, web);
         }
+        push_registers(text, b"free", function.1.free.as_slice());
+        push_registers(text, b"saves", function.1.saves.as_slice());
     }
 }
 
@@ -28,6 +40,7 @@ fn push_functions(text: &mut Text, functions: &[(Name, Directives)]) {
 pub fn push_database(text: &mut Text, bytes: &[u8]) {
     match read(text.alloc(), bytes) {
         Ok(db) => {
+            push_value(text, &db.version);
             push_functions(text, db.functions.as_slice());
             let written = write(text.alloc(), &db);
             push_again(text, written, bytes);

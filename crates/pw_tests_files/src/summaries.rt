@@ -2,7 +2,8 @@
 
 use crate::shown::{push_again, push_names, push_row, push_shaped, push_value, push_word};
 use pw_rows::Text;
-use pw_summary::{Summary, Uses, read, write};
+use pw_summary::{Summary, Uses};
+use pw_summary_file::{read, write};
 use pw_value::{Kind, Name, Shape};
 
 /// Adds objects, each with its name, its shape, its kind and whether it is volatile.
@@ -34,18 +35,20 @@ fn push_refs(text: &mut Text, refs: &[(Name, u64, u64)]) {
     }
 }
 
-/// Adds what functions use: what they call, by name and through shapes, and their objects.
+/// Adds what functions use: what they call, by name and through shapes, their objects, and how many registers they need.
 fn push_uses(text: &mut Text, uses: &[Uses]) {
     for of_one in uses {
         push_names(text, of_one.calls.as_slice());
         push_shapes(text, of_one.shapes.as_slice());
         push_refs(text, of_one.refs.as_slice());
+        push_value(text, &of_one.need);
     }
 }
 
 /// Adds the parts of a summary in their order.
 pub fn push_summary(text: &mut Text, summary: &Summary) {
-    text.push(summary.module.as_bytes());
+    push_value(text, &summary.version);
+    push_word(text, summary.module.as_bytes());
     push_globals(text, summary.globals.as_slice());
     push_shaped(text, summary.functions.as_slice());
     push_shaped(text, summary.declared.as_slice());

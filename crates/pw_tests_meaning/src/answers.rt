@@ -2,11 +2,15 @@
 
 use crate::job::Job;
 use pw_cmean::{Undef, undefined_text};
-use pw_interp::{PlainRun, RunEnd, interpret_plain};
+use pw_interp::{CEnd, InterpFault, interpret_parts};
 use pw_interp_world::Part;
+use pw_io::{Source, SureSink, SureSource};
 use pw_rows::Text;
 use pw_value::Name;
 use std::alloc::AllocError;
+
+/// The room for the output of a run, in bytes.
+const OUTPUT_ROOM: usize = 1 << 16;
 
 /// Adds bytes: those that can be printed themselves, others in hexadecimal behind a `\`.
 fn push_bytes(text: &mut Text, bytes: &[u8]) {
@@ -30,43 +34,82 @@ fn push_undefined(text: &mut Text, operation: Undef, module: &Name, token: usize
     text.display(&token);
 }
 
-/// Adds how a run ended.
-fn push_end(text: &mut Text, end: &RunEnd) {
+/// Adds how a run ended, or why it was given up.
+fn push_end(text: &mut Text, end: &Result<CEnd, InterpFault>) {
     match end {
-        RunEnd::Undefined(operation, module, token) => {
+        Ok(CEnd::Undefined(operation, module, token)) => {
             push_undefined(text, *operation, module, *token);
         }
-        RunEnd::StackFull => text.push(b"stack full"),
-        RunEnd::Exit(status) => {
+        Ok(CEnd::Stack) => text.push(b"stack full"),
+        Ok(CEnd::Ended(status)) => {
             text.push(b"exit ");
             text.display(status);
         }
-        RunEnd::Bound => text.push(b"bound"),
-        RunEnd::Wrong => text.push(b"wrong"),
+        Ok(CEnd::Bound) => text.push(b"bound"),
+        Err(InterpFault::ReadFault) => text.push(b"read fault"),
+        Err(InterpFault::WriteFault) => text.push(b"write fault"),
+        Err(InterpFault::NoMemory) => text.push(b"no memory"),
     }
 }
 
+/// How many of so many bytes a source has still to give.
+fn count_left(input: &mut SureSource, most: usize) -> usize {
+    let mut left = 0_usize;
+    for _ in 0..most {
+        if let Ok(Some(_)) = input.next() {
+            left = left.saturating_add(1);
+        }
+    }
+    left
+}
+
+/// The input and the output of a run.
+#[derive(Drop)]
+struct Streams {
+    input: SureSource,
+    out: SureSink,
+}
+
+/// Those of a program's run, with room for its output.
+fn streams_of(text: &Text, job: &Job) -> Result<Streams, AllocError> {
+    Ok(Streams {
+        input: SureSource::new(text.alloc(), &job.input)?,
+        out: SureSink::new(text.alloc(), OUTPUT_ROOM)?,
+    })
+}
+
 /// Adds a run: how it ended, how many bytes it read, and what it wrote.
-fn push_answer(text: &mut Text, run: &PlainRun) {
-    push_end(text, &run.end);
+fn push_answer(
+    text: &mut Text,
+    job: &Job,
+    end: &Result<CEnd, InterpFault>,
+    streams: &mut Streams,
+) {
+    let most = job.input.len();
+    let left = count_left(&mut streams.input, most);
+    push_end(text, end);
     text.push(b", read ");
-    text.display(&run.read);
+    text.display(&most.saturating_sub(left));
     text.push(b", wrote ");
-    push_bytes(text, &run.out);
+    push_bytes(text, streams.out.bytes());
 }
 
 /// Adds the run of a program, by its modules.
 fn push_run_of(text: &mut Text, job: &Job, parts: &[Part<'_>]) {
-    match interpret_plain(
-        text.alloc(),
-        parts,
-        &job.frames,
-        job.stack,
-        &job.input,
-        job.bound,
-    ) {
-        Ok(run) => push_answer(text, &run),
-        Err(AllocError) => text.push(b"no memory"),
+    match streams_of(text, job) {
+        Ok(mut streams) => {
+            let end = interpret_parts(
+                text.alloc(),
+                parts,
+                &job.frames,
+                job.stack,
+                job.bound,
+                &mut streams.input,
+                &mut streams.out,
+            );
+            push_answer(text, job, &end, &mut streams);
+        }
+        Err(AllocError) => text.cut(),
     }
 }
 

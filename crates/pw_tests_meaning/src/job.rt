@@ -1,6 +1,6 @@
 //! A program that is to be run, as its rows say.
 
-use crate::ones::return_ones;
+use crate::ones::{return_calls, return_ones};
 use pw_check::{CheckKind, check};
 use pw_front_end::{FrontEndFault, front};
 use pw_rows::Text;
@@ -31,6 +31,8 @@ pub struct Job {
     pub input: Vec<u8>,
     /// Where it is not 0, the last function of each module returns the sum of so many ones in place of its body.
     pub ones: u32,
+    /// Where it is not 0, the last function of each module returns so many calls of the first, each the argument of the next.
+    pub calls: u32,
 }
 
 impl Job {
@@ -44,6 +46,7 @@ impl Job {
             bound: 100000,
             input: Vec::new(alloc),
             ones: 0,
+            calls: 0,
         }
     }
 
@@ -62,6 +65,9 @@ impl Job {
     /// The same, whose last function returns ones where that is set.
     fn add_typed(&mut self, text: &mut Text, name: &str, mut tree: TModule) {
         if self.ones > 0 && return_ones(text.alloc(), &mut tree, self.ones).is_err() {
+            text.cut();
+        }
+        if self.calls > 0 && return_calls(text.alloc(), &mut tree, self.calls).is_err() {
             text.cut();
         }
         self.add_checked(text, name, ManuallyDrop::new(tree));
@@ -108,6 +114,7 @@ impl Job {
             "stack" => self.stack = value.parse::<u32>().unwrap_or(0),
             "bound" => self.bound = value.parse::<u64>().unwrap_or(0),
             "ones" => self.ones = value.parse::<u32>().unwrap_or(0),
+            "calls" => self.calls = value.parse::<u32>().unwrap_or(0),
             "input" => self.input = text.spelled(value),
             _ => self.add_frame(text, value),
         }

@@ -7,6 +7,8 @@
 //!   the stack is the greatest that there is, the bound is 100,000, there is no input, and a frame takes no room.
 //! - `=ones N`: in the next program the last function of each module returns `1 + 1 + ..` of so many operands in place of
 //!   its body, as a tree: no text may be so long.
+//! - `=calls N`: in the next program the last function of each module returns `f(f(.. f(0) ..))` of so many calls of the first
+//!   function, as a tree: no text may nest so.
 //! - `:NAME TEXT`: a module of the next program; modules come in byte order of their names.
 //! - `+TEXT`: the last module, which is called `a`; and then the program runs. `!` runs those that came.
 #![tactic(auto)]

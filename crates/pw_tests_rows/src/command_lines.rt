@@ -12,7 +12,7 @@ fn word_of(command: &Command) -> &'static str {
         Command::Build(_) => "build",
         Command::Session(_) => "session",
         Command::Preprocess(_) => "cpp",
-        Command::PhaseOne(_) => "phase1",
+        Command::PhaseOne { .. } => "phase1",
         Command::Analyse { .. } => "analyse",
         Command::PhaseTwo(_) => "phase2",
         Command::Link { .. } => "link",
@@ -21,15 +21,16 @@ fn word_of(command: &Command) -> &'static str {
         Command::Db => "db",
         Command::Bench { .. } => "bench",
         Command::Where { .. } => "where",
+        Command::Interp(_) => "interp",
     }
 }
 
 /// The module of a command, or nothing.
 fn module_of(command: &Command) -> &[u8] {
     match command {
-        Command::Preprocess(name) | Command::PhaseOne(name) | Command::PhaseTwo(name) => {
-            name.as_bytes()
-        }
+        Command::Preprocess(name)
+        | Command::PhaseOne { name, .. }
+        | Command::PhaseTwo(name) => name.as_bytes(),
         _ => &[],
     }
 }
@@ -47,7 +48,7 @@ fn run_numbers(number: Option<u64>, opts: &RunOpts) -> [Option<u64>; 4] {
 /// The number of a command, its colours, its stack and its steps, as far as it has them.
 fn numbers_of(command: &Command) -> [Option<u64>; 4] {
     match command {
-        Command::Go(opts) | Command::Session(opts) => run_numbers(None, opts),
+        Command::Go(opts) | Command::Session(opts) | Command::Interp(opts) => run_numbers(None, opts),
         Command::Bench { number, opts } => run_numbers(Some(u64::from(*number)), opts),
         Command::Where { call, opts } => run_numbers(Some(*call), opts),
         Command::Build(opts) => [
@@ -61,6 +62,18 @@ fn numbers_of(command: &Command) -> [Option<u64>; 4] {
         Command::Run { steps } => [None, None, None, Some(*steps)],
         _ => [None, None, None, None],
     }
+}
+
+/// The switch for optimised flow graphs, where a command has it.
+fn switch_of(command: &Command) -> &'static str {
+    let optimise = match command {
+        Command::Go(opts) | Command::Session(opts) | Command::Interp(opts) => opts.build.optimise,
+        Command::Bench { opts, .. } | Command::Where { opts, .. } => opts.build.optimise,
+        Command::Build(opts) => opts.optimise,
+        Command::PhaseOne { optimise, .. } => *optimise,
+        _ => false,
+    };
+    if optimise { "-O" } else { "" }
 }
 
 /// Adds a blank and a word, where there is one.
@@ -86,6 +99,7 @@ fn push_command(text: &mut Text, command: &Command) {
     push_word(text, word_of(command).as_bytes());
     push_word(text, module_of(command));
     push_numbers(text, &numbers_of(command));
+    push_word(text, switch_of(command).as_bytes());
 }
 
 /// Adds the command that a line says.

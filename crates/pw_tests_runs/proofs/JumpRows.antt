@@ -49,7 +49,7 @@ choosing = function (codes "f") (codes "fii") 1 3
     ∷ block [] (Jump 3) ∷ [])
 
 abbrev chosen : LineFn
-chosen = with_lines (in_words (directed choosing (record { webs = []; free = [] })))
+chosen = with_lines (in_words (directed choosing (record { webs = []; free = []; saves = [] })))
 
 abbrev last_item : Item → List Item → Item
 last_item first [] = first
@@ -159,8 +159,8 @@ objects = whole_object (codes "a") [] [] [] [] [] (map compiled places) ∷ []
 
 all_serve : AllServe (directed_functions jumping []) places
 all_serve = (
-  words_serve start empty nothing_lawful,
-  (words_serve deciding empty nothing_lawful, tt),
+  words_serve start empty nothing_lawful refl,
+  (words_serve deciding empty nothing_lawful refl, tt),
 )
 
 small : size_fault objects 4096 ≡ None

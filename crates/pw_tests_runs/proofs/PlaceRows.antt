@@ -13,7 +13,7 @@ nowhere : {X : Type 0} (x : X) → Contains [] x → ⊥
 nowhere x c = let none : c.0 < 0 = c.1 in omega (arith, none)
 
 abbrev bump_with : List ℕ → WebFn
-bump_with registers = directed bump (record { webs = []; free = registers })
+bump_with registers = directed bump (record { webs = []; free = registers; saves = [] })
 
 abbrev placed : List ℕ → Located
 placed registers = record { body = bump_with registers; places = Reg 15 ∷ []; saved = []; frame = 64 }

@@ -45,7 +45,7 @@ abbrev pub web : ℕ → List ℕ → ℕ → Web
 web id name reg = record { id = id; global = name; kind = W32; reg = reg; writes = true }
 
 abbrev pub only : Web → Role → Directives
-only w role = record { webs = (w, role) ∷ []; free = [] }
+only w role = record { webs = (w, role) ∷ []; free = []; saves = [] }
 
 -- ---- void bump(void) { n = n + 1; }  int main(void) { bump(); bump(); putchar(n + 48); return n; }
 

@@ -11,7 +11,7 @@ use Rattle.pw_db.specs.declared.database.Role.TheVariants.{Entry, Member}
 use Rattle.pw_db.specs.declared.database.Directives.{Directives}
 use Rattle.pw_db.specs.Database.{IsDirectives, IsDatabase}
 use Rattle.pw_db_sound.specs.CallGraphs.{Node, Graph, Calls, Path, call, on, References, SayTheSame, IsMovable, IsInner, RootOf, outer, of_callers}
-use Rattle.pw_db_sound.specs.Sound.{In, Needs, refers, keeps, IsFree, Sound}
+use Rattle.pw_db_sound.specs.Sound.{In, Needs, refers, keeps, IsFree, IsSaver, Sound}
 use Rattle.pw_db_sound.specs.Sound as sound
 use Rattle.pw_webflow.specs.Direction.{directed}
 use Rattle.pw_alloc.specs.declared.located.Located.{Located}
@@ -39,7 +39,7 @@ graph = graph_of bumping
 -- ---- lawful
 
 pub lawful_only : (role : Role) → IsDirectives (only n_web role)
-lawful_only role = record { each = (record { low = omega arith; high = omega arith }, tt); numbers = (tt, tt); globals = (tt, tt); registers = (tt, tt); free = refl }
+lawful_only role = record { each = (record { low = omega arith; high = omega arith }, tt); numbers = (tt, tt); globals = (tt, tt); registers = (tt, tt); free = tt; saves = tt; apart = tt }
 
 pub lawful_database : IsDatabase bump_directives
 lawful_database = record { functions = (tt, (refl, tt)); directives = (lawful_only Member, (lawful_only Entry, tt)); agree = ((λ e. refl, tt), (tt, tt)) }
@@ -206,6 +206,12 @@ none_free f r i =
     let none = has_each (λ (x : List ℕ × Directives). x.1.free ≡ []) bump_directives own (refl, (refl, tt)) (has_by own bump_directives i.there) in
     has_by r [] (subst (λ (rs : List ℕ). Contains rs r) none i.register)
 
+none_saved : (f : List ℕ) (r : ℕ) → IsSaver bump_directives f r → ⊥
+none_saved f r i =
+    let own : List ℕ × Directives = (f, i.directives) in
+    let none = has_each (λ (x : List ℕ × Directives). x.1.saves ≡ []) bump_directives own (refl, (refl, tt)) (has_by own bump_directives i.there) in
+    has_by r [] (subst (λ (rs : List ℕ). Contains rs r) none i.register)
+
 pub sound_database : Sound graph bump_directives
 sound_database = record {
   member_callers = λ w f a has c. member_called w f a (seat w f Member has) c;
@@ -217,7 +223,7 @@ sound_database = record {
   eligible = λ w f i. eligible_so w (seats w f i).0;
   writes = λ w f i written. ap (λ (w : Web). w.writes) (seats w f i).0;
   free = λ f r i. absurd (none_free f r i);
-  saves = λ f r i w has. absurd (has_by r [] i.register);
+  saves = λ f r i w has. absurd (none_saved f r i);
 }
 
 -- ---- roots
@@ -267,12 +273,14 @@ bump_root = of_callers bump_name start_name bump_inner (λ a c. subst (λ (n : L
 
 -- a register that nothing saves above may not be free
 abbrev freed : Directives
-freed = record { webs = []; free = 15 ∷ [] }
+freed = record { webs = []; free = 15 ∷ []; saves = [] }
 
 free_unsound : Sound graph ((bump_name, freed) ∷ []) → ⊥
 free_unsound s =
     let above = s.free bump_name 15 (record { directives = freed; there = (0, omega arith, refl); register = (0, omega arith, refl) }) in
-    has_by 15 [] above.saver.register
+    let own : List ℕ × Directives = (above.root, above.saver.directives) in
+    let none = has_each (λ (x : List ℕ × Directives). x.1.saves ≡ []) ((bump_name, freed) ∷ []) own (refl, tt) (has_by own ((bump_name, freed) ∷ []) above.saver.there) in
+    has_by 15 [] (subst (λ (rs : List ℕ). Contains rs 15) none above.saver.register)
 
 -- ---- what bump may change, main saves
 

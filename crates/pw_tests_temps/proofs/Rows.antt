@@ -1,5 +1,6 @@
--- Rows of allocation: small functions, whose weights, registers and interference are computed by their
--- definitions. What they must be was told by an independent compiler.
+-- Rows of allocation: small functions, whose weights, registers and interference are computed by their definitions. What they
+-- must be was told by an independent compiler. Registers go by those of the function's webs, and those that it shares with its
+-- cluster.
 use Rattle.std.specs.Prelude.{ℕ, ◌≡◌, ◌+◌, ◌-◌, Bool, true, false, Option, Some, None, List, [], ◌∷◌, map}
 use Rattle.std.specs.List.{filter, range_with_len}
 use Rattle.std.proofs.Common.{refl}
@@ -46,7 +47,7 @@ ends_loops_held = refl
 ends_loops_meeting : meeting ends_loops ≡ (1 ∷ 2 ∷ 3 ∷ []) ∷ (2 ∷ 3 ∷ []) ∷ (3 ∷ []) ∷ [] ∷ []
 ends_loops_meeting = refl
 
-ends_loops_registers : registers ends_loops [] ≡ Some 3 ∷ Some 19 ∷ Some 4 ∷ Some 20 ∷ []
+ends_loops_registers : registers ends_loops [] [] ≡ Some 3 ∷ Some 19 ∷ Some 4 ∷ Some 20 ∷ []
 ends_loops_registers = refl
 
 -- ---- held: the result is not
@@ -63,7 +64,7 @@ held_the_result_is_not_held = refl
 held_the_result_is_not_meeting : meeting held_the_result_is_not ≡ (1 ∷ []) ∷ [] ∷ []
 held_the_result_is_not_meeting = refl
 
-held_the_result_is_not_registers : registers held_the_result_is_not [] ≡ Some 3 ∷ Some 19 ∷ []
+held_the_result_is_not_registers : registers held_the_result_is_not [] [] ≡ Some 3 ∷ Some 19 ∷ []
 held_the_result_is_not_registers = refl
 
 -- ---- held: an argument that is dead behind
@@ -80,7 +81,7 @@ held_an_argument_that_is_dead_behind_held = refl
 held_an_argument_that_is_dead_behind_meeting : meeting held_an_argument_that_is_dead_behind ≡ (1 ∷ []) ∷ (2 ∷ []) ∷ [] ∷ [] ∷ []
 held_an_argument_that_is_dead_behind_meeting = refl
 
-held_an_argument_that_is_dead_behind_registers : registers held_an_argument_that_is_dead_behind [] ≡ Some 19 ∷ Some 3 ∷ Some 19 ∷ Some 19 ∷ []
+held_an_argument_that_is_dead_behind_registers : registers held_an_argument_that_is_dead_behind [] [] ≡ Some 19 ∷ Some 3 ∷ Some 19 ∷ Some 19 ∷ []
 held_an_argument_that_is_dead_behind_registers = refl
 
 -- ---- held: over a call through a value
@@ -97,7 +98,7 @@ held_over_a_call_through_a_value_held = refl
 held_over_a_call_through_a_value_meeting : meeting held_over_a_call_through_a_value ≡ (1 ∷ 2 ∷ 3 ∷ []) ∷ (2 ∷ []) ∷ [] ∷ [] ∷ []
 held_over_a_call_through_a_value_meeting = refl
 
-held_over_a_call_through_a_value_registers : registers held_over_a_call_through_a_value [] ≡ Some 3 ∷ Some 4 ∷ Some 19 ∷ Some 19 ∷ []
+held_over_a_call_through_a_value_registers : registers held_over_a_call_through_a_value [] [] ≡ Some 3 ∷ Some 4 ∷ Some 19 ∷ Some 19 ∷ []
 held_over_a_call_through_a_value_registers = refl
 
 -- ---- held: on one way only
@@ -114,7 +115,7 @@ held_on_one_way_only_held = refl
 held_on_one_way_only_meeting : meeting held_on_one_way_only ≡ (1 ∷ []) ∷ [] ∷ []
 held_on_one_way_only_meeting = refl
 
-held_on_one_way_only_registers : registers held_on_one_way_only [] ≡ Some 19 ∷ Some 3 ∷ []
+held_on_one_way_only_registers : registers held_on_one_way_only [] [] ≡ Some 19 ∷ Some 3 ∷ []
 held_on_one_way_only_registers = refl
 
 -- ---- held: round a loop
@@ -131,7 +132,7 @@ held_round_a_loop_held = refl
 held_round_a_loop_meeting : meeting held_round_a_loop ≡ [] ∷ (2 ∷ 3 ∷ []) ∷ (3 ∷ []) ∷ [] ∷ []
 held_round_a_loop_meeting = refl
 
-held_round_a_loop_registers : registers held_round_a_loop [] ≡ Some 19 ∷ Some 3 ∷ Some 4 ∷ Some 19 ∷ []
+held_round_a_loop_registers : registers held_round_a_loop [] [] ≡ Some 19 ∷ Some 3 ∷ Some 4 ∷ Some 19 ∷ []
 held_round_a_loop_registers = refl
 
 -- ---- held: behind a call that defines it later
@@ -148,7 +149,7 @@ held_behind_a_call_that_defines_it_later_held = refl
 held_behind_a_call_that_defines_it_later_meeting : meeting held_behind_a_call_that_defines_it_later ≡ [] ∷ []
 held_behind_a_call_that_defines_it_later_meeting = refl
 
-held_behind_a_call_that_defines_it_later_registers : registers held_behind_a_call_that_defines_it_later [] ≡ Some 19 ∷ []
+held_behind_a_call_that_defines_it_later_registers : registers held_behind_a_call_that_defines_it_later [] [] ≡ Some 19 ∷ []
 held_behind_a_call_that_defines_it_later_registers = refl
 
 -- ---- parameters: 6, the last ones used
@@ -165,7 +166,7 @@ parameters_6_the_last_ones_used_held = refl
 parameters_6_the_last_ones_used_meeting : meeting parameters_6_the_last_ones_used ≡ (1 ∷ 2 ∷ 3 ∷ 4 ∷ 5 ∷ []) ∷ (2 ∷ 3 ∷ 4 ∷ 5 ∷ []) ∷ (3 ∷ 4 ∷ 5 ∷ []) ∷ (4 ∷ 5 ∷ []) ∷ (5 ∷ []) ∷ [] ∷ []
 parameters_6_the_last_ones_used_meeting = refl
 
-parameters_6_the_last_ones_used_registers : registers parameters_6_the_last_ones_used [] ≡ Some 19 ∷ Some 4 ∷ Some 5 ∷ Some 6 ∷ Some 20 ∷ Some 3 ∷ []
+parameters_6_the_last_ones_used_registers : registers parameters_6_the_last_ones_used [] [] ≡ Some 19 ∷ Some 4 ∷ Some 5 ∷ Some 6 ∷ Some 20 ∷ Some 3 ∷ []
 parameters_6_the_last_ones_used_registers = refl
 
 -- ---- parameters: one held
@@ -182,7 +183,7 @@ parameters_one_held_held = refl
 parameters_one_held_meeting : meeting parameters_one_held ≡ (1 ∷ []) ∷ [] ∷ []
 parameters_one_held_meeting = refl
 
-parameters_one_held_registers : registers parameters_one_held [] ≡ Some 3 ∷ Some 19 ∷ []
+parameters_one_held_registers : registers parameters_one_held [] [] ≡ Some 3 ∷ Some 19 ∷ []
 parameters_one_held_registers = refl
 
 -- ---- parameters: beside what is live at the start
@@ -199,7 +200,7 @@ parameters_beside_what_is_live_at_the_start_held = refl
 parameters_beside_what_is_live_at_the_start_meeting : meeting parameters_beside_what_is_live_at_the_start ≡ (1 ∷ 3 ∷ 4 ∷ []) ∷ (3 ∷ 4 ∷ []) ∷ (3 ∷ 4 ∷ []) ∷ [] ∷ [] ∷ []
 parameters_beside_what_is_live_at_the_start_meeting = refl
 
-parameters_beside_what_is_live_at_the_start_registers : registers parameters_beside_what_is_live_at_the_start [] ≡ Some 19 ∷ Some 3 ∷ Some 19 ∷ Some 20 ∷ Some 20 ∷ []
+parameters_beside_what_is_live_at_the_start_registers : registers parameters_beside_what_is_live_at_the_start [] [] ≡ Some 19 ∷ Some 3 ∷ Some 19 ∷ Some 20 ∷ Some 20 ∷ []
 parameters_beside_what_is_live_at_the_start_registers = refl
 
 -- ---- start: live there without parameters
@@ -216,7 +217,7 @@ start_live_there_without_parameters_held = refl
 start_live_there_without_parameters_meeting : meeting start_live_there_without_parameters ≡ [] ∷ [] ∷ []
 start_live_there_without_parameters_meeting = refl
 
-start_live_there_without_parameters_registers : registers start_live_there_without_parameters [] ≡ Some 19 ∷ Some 19 ∷ []
+start_live_there_without_parameters_registers : registers start_live_there_without_parameters [] [] ≡ Some 19 ∷ Some 19 ∷ []
 start_live_there_without_parameters_registers = refl
 
 -- ---- start: block 0 again
@@ -233,7 +234,7 @@ start_block_0_again_held = refl
 start_block_0_again_meeting : meeting start_block_0_again ≡ (1 ∷ 2 ∷ []) ∷ (2 ∷ []) ∷ [] ∷ []
 start_block_0_again_meeting = refl
 
-start_block_0_again_registers : registers start_block_0_again [] ≡ Some 19 ∷ Some 20 ∷ Some 3 ∷ []
+start_block_0_again_registers : registers start_block_0_again [] [] ≡ Some 19 ∷ Some 20 ∷ Some 3 ∷ []
 start_block_0_again_registers = refl
 
 -- ---- interfere: no use at all
@@ -250,7 +251,7 @@ interfere_no_use_at_all_held = refl
 interfere_no_use_at_all_meeting : meeting interfere_no_use_at_all ≡ [] ∷ [] ∷ [] ∷ [] ∷ [] ∷ []
 interfere_no_use_at_all_meeting = refl
 
-interfere_no_use_at_all_registers : registers interfere_no_use_at_all [] ≡ Some 19 ∷ Some 19 ∷ Some 19 ∷ Some 19 ∷ Some 19 ∷ []
+interfere_no_use_at_all_registers : registers interfere_no_use_at_all [] [] ≡ Some 19 ∷ Some 19 ∷ Some 19 ∷ Some 19 ∷ Some 19 ∷ []
 interfere_no_use_at_all_registers = refl
 
 -- ---- interfere: defined from itself
@@ -267,7 +268,7 @@ interfere_defined_from_itself_held = refl
 interfere_defined_from_itself_meeting : meeting interfere_defined_from_itself ≡ [] ∷ []
 interfere_defined_from_itself_meeting = refl
 
-interfere_defined_from_itself_registers : registers interfere_defined_from_itself [] ≡ Some 19 ∷ []
+interfere_defined_from_itself_registers : registers interfere_defined_from_itself [] [] ≡ Some 19 ∷ []
 interfere_defined_from_itself_registers = refl
 
 -- ---- interfere: a copy beside its source
@@ -284,7 +285,7 @@ interfere_a_copy_beside_its_source_held = refl
 interfere_a_copy_beside_its_source_meeting : meeting interfere_a_copy_beside_its_source ≡ (1 ∷ []) ∷ [] ∷ [] ∷ []
 interfere_a_copy_beside_its_source_meeting = refl
 
-interfere_a_copy_beside_its_source_registers : registers interfere_a_copy_beside_its_source [] ≡ Some 19 ∷ Some 20 ∷ Some 19 ∷ []
+interfere_a_copy_beside_its_source_registers : registers interfere_a_copy_beside_its_source [] [] ≡ Some 19 ∷ Some 20 ∷ Some 19 ∷ []
 interfere_a_copy_beside_its_source_registers = refl
 
 -- ---- interfere: the last use of one is the definition of the next
@@ -301,7 +302,7 @@ interfere_the_last_use_of_one_is_the_definition_of_the_next_held = refl
 interfere_the_last_use_of_one_is_the_definition_of_the_next_meeting : meeting interfere_the_last_use_of_one_is_the_definition_of_the_next ≡ [] ∷ [] ∷ [] ∷ [] ∷ []
 interfere_the_last_use_of_one_is_the_definition_of_the_next_meeting = refl
 
-interfere_the_last_use_of_one_is_the_definition_of_the_next_registers : registers interfere_the_last_use_of_one_is_the_definition_of_the_next [] ≡ Some 19 ∷ Some 19 ∷ Some 19 ∷ Some 19 ∷ []
+interfere_the_last_use_of_one_is_the_definition_of_the_next_registers : registers interfere_the_last_use_of_one_is_the_definition_of_the_next [] [] ≡ Some 19 ∷ Some 19 ∷ Some 19 ∷ Some 19 ∷ []
 interfere_the_last_use_of_one_is_the_definition_of_the_next_registers = refl
 
 -- ---- interfere: blocks that nothing reaches
@@ -318,7 +319,7 @@ interfere_blocks_that_nothing_reaches_held = refl
 interfere_blocks_that_nothing_reaches_meeting : meeting interfere_blocks_that_nothing_reaches ≡ (3 ∷ []) ∷ [] ∷ (3 ∷ []) ∷ [] ∷ []
 interfere_blocks_that_nothing_reaches_meeting = refl
 
-interfere_blocks_that_nothing_reaches_registers : registers interfere_blocks_that_nothing_reaches [] ≡ Some 19 ∷ Some 3 ∷ Some 19 ∷ Some 20 ∷ []
+interfere_blocks_that_nothing_reaches_registers : registers interfere_blocks_that_nothing_reaches [] [] ≡ Some 19 ∷ Some 3 ∷ Some 19 ∷ Some 20 ∷ []
 interfere_blocks_that_nothing_reaches_registers = refl
 
 -- ---- interfere: a block that goes to itself
@@ -335,7 +336,7 @@ interfere_a_block_that_goes_to_itself_held = refl
 interfere_a_block_that_goes_to_itself_meeting : meeting interfere_a_block_that_goes_to_itself ≡ (1 ∷ []) ∷ [] ∷ []
 interfere_a_block_that_goes_to_itself_meeting = refl
 
-interfere_a_block_that_goes_to_itself_registers : registers interfere_a_block_that_goes_to_itself [] ≡ Some 19 ∷ Some 20 ∷ []
+interfere_a_block_that_goes_to_itself_registers : registers interfere_a_block_that_goes_to_itself [] [] ≡ Some 19 ∷ Some 20 ∷ []
 interfere_a_block_that_goes_to_itself_registers = refl
 
 -- ---- interfere: two loops into each other
@@ -352,7 +353,7 @@ interfere_two_loops_into_each_other_held = refl
 interfere_two_loops_into_each_other_meeting : meeting interfere_two_loops_into_each_other ≡ (1 ∷ []) ∷ [] ∷ []
 interfere_two_loops_into_each_other_meeting = refl
 
-interfere_two_loops_into_each_other_registers : registers interfere_two_loops_into_each_other [] ≡ Some 19 ∷ Some 20 ∷ []
+interfere_two_loops_into_each_other_registers : registers interfere_two_loops_into_each_other [] [] ≡ Some 19 ∷ Some 20 ∷ []
 interfere_two_loops_into_each_other_registers = refl
 
 -- ---- interfere: for ever
@@ -369,7 +370,7 @@ interfere_for_ever_held = refl
 interfere_for_ever_meeting : meeting interfere_for_ever ≡ [] ∷ []
 interfere_for_ever_meeting = refl
 
-interfere_for_ever_registers : registers interfere_for_ever [] ≡ Some 19 ∷ []
+interfere_for_ever_registers : registers interfere_for_ever [] [] ≡ Some 19 ∷ []
 interfere_for_ever_registers = refl
 
 -- ---- weights: a parameter counts one more
@@ -386,7 +387,7 @@ weights_a_parameter_counts_one_more_held = refl
 weights_a_parameter_counts_one_more_meeting : meeting weights_a_parameter_counts_one_more ≡ (1 ∷ []) ∷ [] ∷ [] ∷ []
 weights_a_parameter_counts_one_more_meeting = refl
 
-weights_a_parameter_counts_one_more_registers : registers weights_a_parameter_counts_one_more [] ≡ Some 19 ∷ Some 20 ∷ Some 19 ∷ []
+weights_a_parameter_counts_one_more_registers : registers weights_a_parameter_counts_one_more [] [] ≡ Some 19 ∷ Some 20 ∷ Some 19 ∷ []
 weights_a_parameter_counts_one_more_registers = refl
 
 -- ---- weights: least number first
@@ -403,7 +404,7 @@ weights_least_number_first_held = refl
 weights_least_number_first_meeting : meeting weights_least_number_first ≡ (1 ∷ 2 ∷ 3 ∷ []) ∷ (2 ∷ 3 ∷ 4 ∷ []) ∷ (3 ∷ 4 ∷ []) ∷ (4 ∷ []) ∷ [] ∷ []
 weights_least_number_first_meeting = refl
 
-weights_least_number_first_registers : registers weights_least_number_first [] ≡ Some 19 ∷ Some 20 ∷ Some 3 ∷ Some 4 ∷ Some 19 ∷ []
+weights_least_number_first_registers : registers weights_least_number_first [] [] ≡ Some 19 ∷ Some 20 ∷ Some 3 ∷ Some 4 ∷ Some 19 ∷ []
 weights_least_number_first_registers = refl
 
 -- ---- webs: 1 beside temps
@@ -420,7 +421,7 @@ webs_1_beside_temps_held = refl
 webs_1_beside_temps_meeting : meeting webs_1_beside_temps ≡ (1 ∷ 2 ∷ 3 ∷ 4 ∷ 5 ∷ []) ∷ (2 ∷ 3 ∷ 4 ∷ 5 ∷ 6 ∷ []) ∷ (3 ∷ 4 ∷ 5 ∷ 6 ∷ []) ∷ (4 ∷ 5 ∷ 6 ∷ []) ∷ (5 ∷ 6 ∷ []) ∷ (6 ∷ []) ∷ (7 ∷ []) ∷ [] ∷ []
 webs_1_beside_temps_meeting = refl
 
-webs_1_beside_temps_registers : registers webs_1_beside_temps (3 ∷ []) ≡ Some 4 ∷ Some 5 ∷ Some 6 ∷ Some 7 ∷ Some 8 ∷ Some 20 ∷ Some 19 ∷ Some 20 ∷ []
+webs_1_beside_temps_registers : registers webs_1_beside_temps (3 ∷ []) [] ≡ Some 4 ∷ Some 5 ∷ Some 6 ∷ Some 7 ∷ Some 8 ∷ Some 20 ∷ Some 19 ∷ Some 20 ∷ []
 webs_1_beside_temps_registers = refl
 
 -- ---- webs: 16 beside temps
@@ -437,7 +438,7 @@ webs_16_beside_temps_held = refl
 webs_16_beside_temps_meeting : meeting webs_16_beside_temps ≡ (1 ∷ 2 ∷ 3 ∷ 4 ∷ 5 ∷ []) ∷ (2 ∷ 3 ∷ 4 ∷ 5 ∷ 6 ∷ []) ∷ (3 ∷ 4 ∷ 5 ∷ 6 ∷ []) ∷ (4 ∷ 5 ∷ 6 ∷ []) ∷ (5 ∷ 6 ∷ []) ∷ (6 ∷ []) ∷ (7 ∷ []) ∷ [] ∷ []
 webs_16_beside_temps_meeting = refl
 
-webs_16_beside_temps_registers : registers webs_16_beside_temps (3 ∷ 4 ∷ 5 ∷ 6 ∷ 7 ∷ 8 ∷ 9 ∷ 10 ∷ 11 ∷ 12 ∷ 13 ∷ 14 ∷ 15 ∷ 16 ∷ 17 ∷ 18 ∷ []) ≡ None ∷ None ∷ None ∷ None ∷ None ∷ Some 20 ∷ Some 19 ∷ Some 20 ∷ []
+webs_16_beside_temps_registers : registers webs_16_beside_temps (3 ∷ 4 ∷ 5 ∷ 6 ∷ 7 ∷ 8 ∷ 9 ∷ 10 ∷ 11 ∷ 12 ∷ 13 ∷ 14 ∷ 15 ∷ 16 ∷ 17 ∷ 18 ∷ []) [] ≡ None ∷ None ∷ None ∷ None ∷ None ∷ Some 20 ∷ Some 19 ∷ Some 20 ∷ []
 webs_16_beside_temps_registers = refl
 
 -- ---- webs: member and entry
@@ -454,5 +455,175 @@ webs_member_and_entry_held = refl
 webs_member_and_entry_meeting : meeting webs_member_and_entry ≡ (1 ∷ 2 ∷ 3 ∷ 4 ∷ []) ∷ (2 ∷ 3 ∷ 4 ∷ 5 ∷ []) ∷ (3 ∷ 4 ∷ 5 ∷ []) ∷ (4 ∷ 5 ∷ []) ∷ (5 ∷ []) ∷ [] ∷ []
 webs_member_and_entry_meeting = refl
 
-webs_member_and_entry_registers : registers webs_member_and_entry (4 ∷ 3 ∷ []) ≡ Some 5 ∷ Some 6 ∷ Some 7 ∷ Some 20 ∷ Some 8 ∷ Some 19 ∷ []
+webs_member_and_entry_registers : registers webs_member_and_entry (4 ∷ 3 ∷ []) [] ≡ Some 5 ∷ Some 6 ∷ Some 7 ∷ Some 20 ∷ Some 8 ∷ Some 19 ∷ []
 webs_member_and_entry_registers = refl
+
+-- ---- spills: free 1 in a leaf
+
+abbrev spills_free_1_in_a_leaf : Outline
+spills_free_1_in_a_leaf = outline 0 7 ((block 0 ((act (Some 0) [] false) ∷ (act (Some 1) [] false) ∷ (act (Some 2) [] false) ∷ (act (Some 3) [] false) ∷ (act (Some 4) [] false) ∷ (act (Some 5) [] false) ∷ (act (Some 6) (0 ∷ []) false) ∷ (act (Some 6) (6 ∷ 1 ∷ []) false) ∷ (act (Some 6) (6 ∷ 2 ∷ []) false) ∷ (act (Some 6) (6 ∷ 3 ∷ []) false) ∷ (act (Some 6) (6 ∷ 4 ∷ []) false) ∷ (act (Some 6) (6 ∷ 5 ∷ []) false) ∷ []) (6 ∷ []) []) ∷ [])
+
+spills_free_1_in_a_leaf_weights : map (weight spills_free_1_in_a_leaf) (temps spills_free_1_in_a_leaf) ≡ 2 ∷ 2 ∷ 2 ∷ 2 ∷ 2 ∷ 2 ∷ 12 ∷ []
+spills_free_1_in_a_leaf_weights = refl
+
+spills_free_1_in_a_leaf_held : held spills_free_1_in_a_leaf ≡ []
+spills_free_1_in_a_leaf_held = refl
+
+spills_free_1_in_a_leaf_meeting : meeting spills_free_1_in_a_leaf ≡ (1 ∷ 2 ∷ 3 ∷ 4 ∷ 5 ∷ []) ∷ (2 ∷ 3 ∷ 4 ∷ 5 ∷ 6 ∷ []) ∷ (3 ∷ 4 ∷ 5 ∷ 6 ∷ []) ∷ (4 ∷ 5 ∷ 6 ∷ []) ∷ (5 ∷ 6 ∷ []) ∷ (6 ∷ []) ∷ [] ∷ []
+spills_free_1_in_a_leaf_meeting = refl
+
+spills_free_1_in_a_leaf_registers : registers spills_free_1_in_a_leaf [] (18 ∷ []) ≡ Some 19 ∷ Some 20 ∷ Some 18 ∷ Some 3 ∷ Some 4 ∷ Some 5 ∷ Some 19 ∷ []
+spills_free_1_in_a_leaf_registers = refl
+
+-- ---- spills: saves 1 in a leaf
+
+abbrev spills_saves_1_in_a_leaf : Outline
+spills_saves_1_in_a_leaf = outline 0 7 ((block 0 ((act (Some 0) [] false) ∷ (act (Some 1) [] false) ∷ (act (Some 2) [] false) ∷ (act (Some 3) [] false) ∷ (act (Some 4) [] false) ∷ (act (Some 5) [] false) ∷ (act (Some 6) (0 ∷ []) false) ∷ (act (Some 6) (6 ∷ 1 ∷ []) false) ∷ (act (Some 6) (6 ∷ 2 ∷ []) false) ∷ (act (Some 6) (6 ∷ 3 ∷ []) false) ∷ (act (Some 6) (6 ∷ 4 ∷ []) false) ∷ (act (Some 6) (6 ∷ 5 ∷ []) false) ∷ []) (6 ∷ []) []) ∷ [])
+
+spills_saves_1_in_a_leaf_weights : map (weight spills_saves_1_in_a_leaf) (temps spills_saves_1_in_a_leaf) ≡ 2 ∷ 2 ∷ 2 ∷ 2 ∷ 2 ∷ 2 ∷ 12 ∷ []
+spills_saves_1_in_a_leaf_weights = refl
+
+spills_saves_1_in_a_leaf_held : held spills_saves_1_in_a_leaf ≡ []
+spills_saves_1_in_a_leaf_held = refl
+
+spills_saves_1_in_a_leaf_meeting : meeting spills_saves_1_in_a_leaf ≡ (1 ∷ 2 ∷ 3 ∷ 4 ∷ 5 ∷ []) ∷ (2 ∷ 3 ∷ 4 ∷ 5 ∷ 6 ∷ []) ∷ (3 ∷ 4 ∷ 5 ∷ 6 ∷ []) ∷ (4 ∷ 5 ∷ 6 ∷ []) ∷ (5 ∷ 6 ∷ []) ∷ (6 ∷ []) ∷ [] ∷ []
+spills_saves_1_in_a_leaf_meeting = refl
+
+spills_saves_1_in_a_leaf_registers : registers spills_saves_1_in_a_leaf [] (18 ∷ []) ≡ Some 19 ∷ Some 20 ∷ Some 18 ∷ Some 3 ∷ Some 4 ∷ Some 5 ∷ Some 19 ∷ []
+spills_saves_1_in_a_leaf_registers = refl
+
+-- ---- spills: free 2 and saves 2 with a call
+
+abbrev spills_free_2_and_saves_2_with_a_call : Outline
+spills_free_2_and_saves_2_with_a_call = outline 0 8 ((block 0 ((act (Some 0) [] false) ∷ (act (Some 1) [] false) ∷ (act (Some 2) [] false) ∷ (act (Some 3) [] false) ∷ (act (Some 4) [] false) ∷ (act (Some 5) [] false) ∷ (act (Some 6) [] true) ∷ (act (Some 7) (0 ∷ []) false) ∷ (act (Some 7) (7 ∷ 1 ∷ []) false) ∷ (act (Some 7) (7 ∷ 2 ∷ []) false) ∷ (act (Some 7) (7 ∷ 3 ∷ []) false) ∷ (act (Some 7) (7 ∷ 4 ∷ []) false) ∷ (act (Some 7) (7 ∷ 5 ∷ []) false) ∷ (act (Some 7) (7 ∷ 6 ∷ []) false) ∷ []) (7 ∷ []) []) ∷ [])
+
+spills_free_2_and_saves_2_with_a_call_weights : map (weight spills_free_2_and_saves_2_with_a_call) (temps spills_free_2_and_saves_2_with_a_call) ≡ 2 ∷ 2 ∷ 2 ∷ 2 ∷ 2 ∷ 2 ∷ 2 ∷ 14 ∷ []
+spills_free_2_and_saves_2_with_a_call_weights = refl
+
+spills_free_2_and_saves_2_with_a_call_held : held spills_free_2_and_saves_2_with_a_call ≡ 0 ∷ 1 ∷ 2 ∷ 3 ∷ 4 ∷ 5 ∷ []
+spills_free_2_and_saves_2_with_a_call_held = refl
+
+spills_free_2_and_saves_2_with_a_call_meeting : meeting spills_free_2_and_saves_2_with_a_call ≡ (1 ∷ 2 ∷ 3 ∷ 4 ∷ 5 ∷ 6 ∷ []) ∷ (2 ∷ 3 ∷ 4 ∷ 5 ∷ 6 ∷ 7 ∷ []) ∷ (3 ∷ 4 ∷ 5 ∷ 6 ∷ 7 ∷ []) ∷ (4 ∷ 5 ∷ 6 ∷ 7 ∷ []) ∷ (5 ∷ 6 ∷ 7 ∷ []) ∷ (6 ∷ 7 ∷ []) ∷ (7 ∷ []) ∷ [] ∷ []
+spills_free_2_and_saves_2_with_a_call_meeting = refl
+
+spills_free_2_and_saves_2_with_a_call_registers : registers spills_free_2_and_saves_2_with_a_call [] (17 ∷ 18 ∷ 15 ∷ 16 ∷ []) ≡ Some 3 ∷ Some 4 ∷ Some 5 ∷ Some 6 ∷ Some 7 ∷ Some 8 ∷ Some 20 ∷ Some 19 ∷ []
+spills_free_2_and_saves_2_with_a_call_registers = refl
+
+-- ---- spills: free 2 and saves 2 between in a leaf
+
+abbrev spills_free_2_and_saves_2_between_in_a_leaf : Outline
+spills_free_2_and_saves_2_between_in_a_leaf = outline 0 7 ((block 0 ((act (Some 0) [] false) ∷ (act (Some 1) [] false) ∷ (act (Some 2) [] false) ∷ (act (Some 3) [] false) ∷ (act (Some 4) [] false) ∷ (act (Some 5) [] false) ∷ (act (Some 6) (0 ∷ []) false) ∷ (act (Some 6) (6 ∷ 1 ∷ []) false) ∷ (act (Some 6) (6 ∷ 2 ∷ []) false) ∷ (act (Some 6) (6 ∷ 3 ∷ []) false) ∷ (act (Some 6) (6 ∷ 4 ∷ []) false) ∷ (act (Some 6) (6 ∷ 5 ∷ []) false) ∷ []) (6 ∷ []) []) ∷ [])
+
+spills_free_2_and_saves_2_between_in_a_leaf_weights : map (weight spills_free_2_and_saves_2_between_in_a_leaf) (temps spills_free_2_and_saves_2_between_in_a_leaf) ≡ 2 ∷ 2 ∷ 2 ∷ 2 ∷ 2 ∷ 2 ∷ 12 ∷ []
+spills_free_2_and_saves_2_between_in_a_leaf_weights = refl
+
+spills_free_2_and_saves_2_between_in_a_leaf_held : held spills_free_2_and_saves_2_between_in_a_leaf ≡ []
+spills_free_2_and_saves_2_between_in_a_leaf_held = refl
+
+spills_free_2_and_saves_2_between_in_a_leaf_meeting : meeting spills_free_2_and_saves_2_between_in_a_leaf ≡ (1 ∷ 2 ∷ 3 ∷ 4 ∷ 5 ∷ []) ∷ (2 ∷ 3 ∷ 4 ∷ 5 ∷ 6 ∷ []) ∷ (3 ∷ 4 ∷ 5 ∷ 6 ∷ []) ∷ (4 ∷ 5 ∷ 6 ∷ []) ∷ (5 ∷ 6 ∷ []) ∷ (6 ∷ []) ∷ [] ∷ []
+spills_free_2_and_saves_2_between_in_a_leaf_meeting = refl
+
+spills_free_2_and_saves_2_between_in_a_leaf_registers : registers spills_free_2_and_saves_2_between_in_a_leaf [] (15 ∷ 17 ∷ 16 ∷ 18 ∷ []) ≡ Some 19 ∷ Some 20 ∷ Some 15 ∷ Some 16 ∷ Some 17 ∷ Some 18 ∷ Some 19 ∷ []
+spills_free_2_and_saves_2_between_in_a_leaf_registers = refl
+
+-- ---- spills: free 16 with a call
+
+abbrev spills_free_16_with_a_call : Outline
+spills_free_16_with_a_call = outline 0 8 ((block 0 ((act (Some 0) [] false) ∷ (act (Some 1) [] false) ∷ (act (Some 2) [] false) ∷ (act (Some 3) [] false) ∷ (act (Some 4) [] false) ∷ (act (Some 5) [] false) ∷ (act (Some 6) [] true) ∷ (act (Some 7) (0 ∷ []) false) ∷ (act (Some 7) (7 ∷ 1 ∷ []) false) ∷ (act (Some 7) (7 ∷ 2 ∷ []) false) ∷ (act (Some 7) (7 ∷ 3 ∷ []) false) ∷ (act (Some 7) (7 ∷ 4 ∷ []) false) ∷ (act (Some 7) (7 ∷ 5 ∷ []) false) ∷ (act (Some 7) (7 ∷ 6 ∷ []) false) ∷ []) (7 ∷ []) []) ∷ [])
+
+spills_free_16_with_a_call_weights : map (weight spills_free_16_with_a_call) (temps spills_free_16_with_a_call) ≡ 2 ∷ 2 ∷ 2 ∷ 2 ∷ 2 ∷ 2 ∷ 2 ∷ 14 ∷ []
+spills_free_16_with_a_call_weights = refl
+
+spills_free_16_with_a_call_held : held spills_free_16_with_a_call ≡ 0 ∷ 1 ∷ 2 ∷ 3 ∷ 4 ∷ 5 ∷ []
+spills_free_16_with_a_call_held = refl
+
+spills_free_16_with_a_call_meeting : meeting spills_free_16_with_a_call ≡ (1 ∷ 2 ∷ 3 ∷ 4 ∷ 5 ∷ 6 ∷ []) ∷ (2 ∷ 3 ∷ 4 ∷ 5 ∷ 6 ∷ 7 ∷ []) ∷ (3 ∷ 4 ∷ 5 ∷ 6 ∷ 7 ∷ []) ∷ (4 ∷ 5 ∷ 6 ∷ 7 ∷ []) ∷ (5 ∷ 6 ∷ 7 ∷ []) ∷ (6 ∷ 7 ∷ []) ∷ (7 ∷ []) ∷ [] ∷ []
+spills_free_16_with_a_call_meeting = refl
+
+spills_free_16_with_a_call_registers : registers spills_free_16_with_a_call [] (3 ∷ 4 ∷ 5 ∷ 6 ∷ 7 ∷ 8 ∷ 9 ∷ 10 ∷ 11 ∷ 12 ∷ 13 ∷ 14 ∷ 15 ∷ 16 ∷ 17 ∷ 18 ∷ []) ≡ None ∷ None ∷ None ∷ None ∷ None ∷ None ∷ Some 20 ∷ Some 19 ∷ []
+spills_free_16_with_a_call_registers = refl
+
+-- ---- spills: held beside the cluster
+
+abbrev spills_held_beside_the_cluster : Outline
+spills_held_beside_the_cluster = outline 0 17 ((block 0 ((act (Some 0) [] false) ∷ (act (Some 1) [] false) ∷ (act (Some 2) [] false) ∷ (act (Some 3) [] false) ∷ (act (Some 4) [] false) ∷ (act (Some 5) [] false) ∷ (act (Some 6) [] false) ∷ (act (Some 7) [] false) ∷ (act (Some 8) [] false) ∷ (act (Some 9) [] false) ∷ (act (Some 10) [] false) ∷ (act (Some 11) [] false) ∷ (act (Some 12) [] false) ∷ (act (Some 13) [] false) ∷ (act (Some 14) [] false) ∷ (act (Some 15) [] true) ∷ (act (Some 16) (0 ∷ []) false) ∷ (act (Some 16) (16 ∷ 1 ∷ []) false) ∷ (act (Some 16) (16 ∷ 2 ∷ []) false) ∷ (act (Some 16) (16 ∷ 3 ∷ []) false) ∷ (act (Some 16) (16 ∷ 4 ∷ []) false) ∷ (act (Some 16) (16 ∷ 5 ∷ []) false) ∷ (act (Some 16) (16 ∷ 6 ∷ []) false) ∷ (act (Some 16) (16 ∷ 7 ∷ []) false) ∷ (act (Some 16) (16 ∷ 8 ∷ []) false) ∷ (act (Some 16) (16 ∷ 9 ∷ []) false) ∷ (act (Some 16) (16 ∷ 10 ∷ []) false) ∷ (act (Some 16) (16 ∷ 11 ∷ []) false) ∷ (act (Some 16) (16 ∷ 12 ∷ []) false) ∷ (act (Some 16) (16 ∷ 13 ∷ []) false) ∷ (act (Some 16) (16 ∷ 14 ∷ []) false) ∷ (act (Some 16) (16 ∷ 15 ∷ []) false) ∷ []) (16 ∷ []) []) ∷ [])
+
+spills_held_beside_the_cluster_weights : map (weight spills_held_beside_the_cluster) (temps spills_held_beside_the_cluster) ≡ 2 ∷ 2 ∷ 2 ∷ 2 ∷ 2 ∷ 2 ∷ 2 ∷ 2 ∷ 2 ∷ 2 ∷ 2 ∷ 2 ∷ 2 ∷ 2 ∷ 2 ∷ 2 ∷ 32 ∷ []
+spills_held_beside_the_cluster_weights = refl
+
+spills_held_beside_the_cluster_held : held spills_held_beside_the_cluster ≡ 0 ∷ 1 ∷ 2 ∷ 3 ∷ 4 ∷ 5 ∷ 6 ∷ 7 ∷ 8 ∷ 9 ∷ 10 ∷ 11 ∷ 12 ∷ 13 ∷ 14 ∷ []
+spills_held_beside_the_cluster_held = refl
+
+spills_held_beside_the_cluster_meeting : meeting spills_held_beside_the_cluster ≡ (1 ∷ 2 ∷ 3 ∷ 4 ∷ 5 ∷ 6 ∷ 7 ∷ 8 ∷ 9 ∷ 10 ∷ 11 ∷ 12 ∷ 13 ∷ 14 ∷ 15 ∷ []) ∷ (2 ∷ 3 ∷ 4 ∷ 5 ∷ 6 ∷ 7 ∷ 8 ∷ 9 ∷ 10 ∷ 11 ∷ 12 ∷ 13 ∷ 14 ∷ 15 ∷ 16 ∷ []) ∷ (3 ∷ 4 ∷ 5 ∷ 6 ∷ 7 ∷ 8 ∷ 9 ∷ 10 ∷ 11 ∷ 12 ∷ 13 ∷ 14 ∷ 15 ∷ 16 ∷ []) ∷ (4 ∷ 5 ∷ 6 ∷ 7 ∷ 8 ∷ 9 ∷ 10 ∷ 11 ∷ 12 ∷ 13 ∷ 14 ∷ 15 ∷ 16 ∷ []) ∷ (5 ∷ 6 ∷ 7 ∷ 8 ∷ 9 ∷ 10 ∷ 11 ∷ 12 ∷ 13 ∷ 14 ∷ 15 ∷ 16 ∷ []) ∷ (6 ∷ 7 ∷ 8 ∷ 9 ∷ 10 ∷ 11 ∷ 12 ∷ 13 ∷ 14 ∷ 15 ∷ 16 ∷ []) ∷ (7 ∷ 8 ∷ 9 ∷ 10 ∷ 11 ∷ 12 ∷ 13 ∷ 14 ∷ 15 ∷ 16 ∷ []) ∷ (8 ∷ 9 ∷ 10 ∷ 11 ∷ 12 ∷ 13 ∷ 14 ∷ 15 ∷ 16 ∷ []) ∷ (9 ∷ 10 ∷ 11 ∷ 12 ∷ 13 ∷ 14 ∷ 15 ∷ 16 ∷ []) ∷ (10 ∷ 11 ∷ 12 ∷ 13 ∷ 14 ∷ 15 ∷ 16 ∷ []) ∷ (11 ∷ 12 ∷ 13 ∷ 14 ∷ 15 ∷ 16 ∷ []) ∷ (12 ∷ 13 ∷ 14 ∷ 15 ∷ 16 ∷ []) ∷ (13 ∷ 14 ∷ 15 ∷ 16 ∷ []) ∷ (14 ∷ 15 ∷ 16 ∷ []) ∷ (15 ∷ 16 ∷ []) ∷ (16 ∷ []) ∷ [] ∷ []
+spills_held_beside_the_cluster_meeting = refl
+
+spills_held_beside_the_cluster_registers : registers spills_held_beside_the_cluster [] (18 ∷ 17 ∷ []) ≡ Some 3 ∷ Some 4 ∷ Some 5 ∷ Some 6 ∷ Some 7 ∷ Some 8 ∷ Some 9 ∷ Some 10 ∷ Some 11 ∷ Some 12 ∷ Some 13 ∷ Some 14 ∷ Some 15 ∷ Some 16 ∷ None ∷ Some 20 ∷ Some 19 ∷ []
+spills_held_beside_the_cluster_registers = refl
+
+-- ---- spills: beside webs
+
+abbrev spills_beside_webs : Outline
+spills_beside_webs = outline 0 7 ((block 0 ((act (Some 0) [] false) ∷ (act (Some 1) [] false) ∷ (act (Some 2) [] false) ∷ (act (Some 3) [] false) ∷ (act (Some 4) [] false) ∷ (act (Some 5) [] false) ∷ (act (Some 6) (0 ∷ []) false) ∷ (act (Some 6) (6 ∷ 1 ∷ []) false) ∷ (act (Some 6) (6 ∷ 2 ∷ []) false) ∷ (act (Some 6) (6 ∷ 3 ∷ []) false) ∷ (act (Some 6) (6 ∷ 4 ∷ []) false) ∷ (act (Some 6) (6 ∷ 5 ∷ []) false) ∷ (act None (6 ∷ []) false) ∷ []) (6 ∷ []) []) ∷ [])
+
+spills_beside_webs_weights : map (weight spills_beside_webs) (temps spills_beside_webs) ≡ 2 ∷ 2 ∷ 2 ∷ 2 ∷ 2 ∷ 2 ∷ 13 ∷ []
+spills_beside_webs_weights = refl
+
+spills_beside_webs_held : held spills_beside_webs ≡ []
+spills_beside_webs_held = refl
+
+spills_beside_webs_meeting : meeting spills_beside_webs ≡ (1 ∷ 2 ∷ 3 ∷ 4 ∷ 5 ∷ []) ∷ (2 ∷ 3 ∷ 4 ∷ 5 ∷ 6 ∷ []) ∷ (3 ∷ 4 ∷ 5 ∷ 6 ∷ []) ∷ (4 ∷ 5 ∷ 6 ∷ []) ∷ (5 ∷ 6 ∷ []) ∷ (6 ∷ []) ∷ [] ∷ []
+spills_beside_webs_meeting = refl
+
+spills_beside_webs_registers : registers spills_beside_webs (3 ∷ 4 ∷ []) (18 ∷ 15 ∷ 16 ∷ []) ≡ Some 19 ∷ Some 20 ∷ Some 15 ∷ Some 16 ∷ Some 18 ∷ Some 5 ∷ Some 19 ∷ []
+spills_beside_webs_registers = refl
+
+-- ---- spills: a web among the free ones
+
+abbrev spills_a_web_among_the_free_ones : Outline
+spills_a_web_among_the_free_ones = outline 0 7 ((block 0 ((act (Some 0) [] false) ∷ (act (Some 1) [] false) ∷ (act (Some 2) [] false) ∷ (act (Some 3) [] false) ∷ (act (Some 4) [] false) ∷ (act (Some 5) [] false) ∷ (act (Some 6) (0 ∷ []) false) ∷ (act (Some 6) (6 ∷ 1 ∷ []) false) ∷ (act (Some 6) (6 ∷ 2 ∷ []) false) ∷ (act (Some 6) (6 ∷ 3 ∷ []) false) ∷ (act (Some 6) (6 ∷ 4 ∷ []) false) ∷ (act (Some 6) (6 ∷ 5 ∷ []) false) ∷ []) (6 ∷ []) []) ∷ [])
+
+spills_a_web_among_the_free_ones_weights : map (weight spills_a_web_among_the_free_ones) (temps spills_a_web_among_the_free_ones) ≡ 2 ∷ 2 ∷ 2 ∷ 2 ∷ 2 ∷ 2 ∷ 12 ∷ []
+spills_a_web_among_the_free_ones_weights = refl
+
+spills_a_web_among_the_free_ones_held : held spills_a_web_among_the_free_ones ≡ []
+spills_a_web_among_the_free_ones_held = refl
+
+spills_a_web_among_the_free_ones_meeting : meeting spills_a_web_among_the_free_ones ≡ (1 ∷ 2 ∷ 3 ∷ 4 ∷ 5 ∷ []) ∷ (2 ∷ 3 ∷ 4 ∷ 5 ∷ 6 ∷ []) ∷ (3 ∷ 4 ∷ 5 ∷ 6 ∷ []) ∷ (4 ∷ 5 ∷ 6 ∷ []) ∷ (5 ∷ 6 ∷ []) ∷ (6 ∷ []) ∷ [] ∷ []
+spills_a_web_among_the_free_ones_meeting = refl
+
+spills_a_web_among_the_free_ones_registers : registers spills_a_web_among_the_free_ones (3 ∷ []) (3 ∷ 18 ∷ []) ≡ Some 19 ∷ Some 20 ∷ Some 18 ∷ Some 4 ∷ Some 5 ∷ Some 6 ∷ Some 19 ∷ []
+spills_a_web_among_the_free_ones_registers = refl
+
+-- ---- spills: by chance
+
+abbrev spills_by_chance : Outline
+spills_by_chance = outline 0 5 ((block 2 ((act (Some 0) [] false) ∷ (act (Some 1) [] false) ∷ (act (Some 2) [] false) ∷ (act (Some 2) [] false) ∷ (act (Some 0) (1 ∷ 2 ∷ []) true) ∷ (act (Some 4) (0 ∷ []) false) ∷ (act (Some 4) (4 ∷ 1 ∷ []) false) ∷ (act (Some 4) (4 ∷ 2 ∷ []) false) ∷ []) (0 ∷ []) (0 ∷ 1 ∷ [])) ∷ (block 0 [] (4 ∷ []) []) ∷ [])
+
+spills_by_chance_weights : map (weight spills_by_chance) (temps spills_by_chance) ≡ 256 ∷ 192 ∷ 256 ∷ 0 ∷ 321 ∷ []
+spills_by_chance_weights = refl
+
+spills_by_chance_held : held spills_by_chance ≡ 1 ∷ 2 ∷ []
+spills_by_chance_held = refl
+
+spills_by_chance_meeting : meeting spills_by_chance ≡ (1 ∷ 2 ∷ 4 ∷ []) ∷ (2 ∷ 4 ∷ []) ∷ (4 ∷ []) ∷ [] ∷ [] ∷ []
+spills_by_chance_meeting = refl
+
+spills_by_chance_registers : registers spills_by_chance (11 ∷ []) (7 ∷ 16 ∷ 6 ∷ 15 ∷ []) ≡ Some 20 ∷ Some 4 ∷ Some 3 ∷ Some 19 ∷ Some 19 ∷ []
+spills_by_chance_registers = refl
+
+-- ---- spills: by chance with one free
+
+abbrev spills_by_chance_with_one_free : Outline
+spills_by_chance_with_one_free = outline 0 8 ((block 2 ((act (Some 0) [] false) ∷ (act (Some 1) [] false) ∷ (act (Some 2) [] false) ∷ (act (Some 3) [] false) ∷ (act (Some 4) [] false) ∷ (act (Some 5) [] false) ∷ (act (Some 5) (1 ∷ 5 ∷ []) true) ∷ (act (Some 0) (1 ∷ 5 ∷ []) false) ∷ (act (Some 5) (5 ∷ 3 ∷ []) false) ∷ (act (Some 3) (1 ∷ 4 ∷ []) false) ∷ (act (Some 2) (3 ∷ 5 ∷ []) false) ∷ (act (Some 7) (0 ∷ []) false) ∷ (act (Some 7) (7 ∷ 1 ∷ []) false) ∷ (act (Some 7) (7 ∷ 2 ∷ []) false) ∷ (act (Some 7) (7 ∷ 3 ∷ []) false) ∷ (act (Some 7) (7 ∷ 4 ∷ []) false) ∷ (act (Some 7) (7 ∷ 5 ∷ []) false) ∷ []) (0 ∷ []) (0 ∷ 1 ∷ [])) ∷ (block 0 [] (7 ∷ []) []) ∷ [])
+
+spills_by_chance_with_one_free_weights : map (weight spills_by_chance_with_one_free) (temps spills_by_chance_with_one_free) ≡ 256 ∷ 320 ∷ 192 ∷ 320 ∷ 192 ∷ 512 ∷ 0 ∷ 705 ∷ []
+spills_by_chance_with_one_free_weights = refl
+
+spills_by_chance_with_one_free_held : held spills_by_chance_with_one_free ≡ 1 ∷ 3 ∷ 4 ∷ []
+spills_by_chance_with_one_free_held = refl
+
+spills_by_chance_with_one_free_meeting : meeting spills_by_chance_with_one_free ≡ (1 ∷ 2 ∷ 3 ∷ 4 ∷ 5 ∷ 7 ∷ []) ∷ (2 ∷ 3 ∷ 4 ∷ 5 ∷ 7 ∷ []) ∷ (3 ∷ 4 ∷ 5 ∷ 7 ∷ []) ∷ (4 ∷ 5 ∷ 7 ∷ []) ∷ (5 ∷ 7 ∷ []) ∷ (7 ∷ []) ∷ [] ∷ [] ∷ []
+spills_by_chance_with_one_free_meeting = refl
+
+spills_by_chance_with_one_free_registers : registers spills_by_chance_with_one_free [] (18 ∷ []) ≡ Some 18 ∷ Some 3 ∷ Some 5 ∷ Some 4 ∷ Some 6 ∷ Some 20 ∷ Some 19 ∷ Some 19 ∷ []
+spills_by_chance_with_one_free_registers = refl

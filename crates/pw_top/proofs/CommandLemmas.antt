@@ -1,5 +1,5 @@
 -- What each command did, by its own clauses.
-use Rattle.std.proofs.Common.{◌≡◌, ℕ, ◌⊎◌, ⊎_elim, List, [], Option, Some, None, Result, Ok, Err, refl, sym, ap, ◌∙◌, subst}
+use Rattle.std.proofs.Common.{◌≡◌, ℕ, Bool, ◌⊎◌, ⊎_elim, List, [], Option, Some, None, Result, Ok, Err, refl, sym, ap, ◌∙◌, subst}
 use Rattle.std.specs.Prelude.{IfSome}
 use Rattle.pw_io.specs.Files.{Files, Told, Keeps}
 use Rattle.pw_object.specs.declared.object.Object.{Object}
@@ -11,7 +11,7 @@ use Rattle.pw_summary.specs.declared.summary.Summary.{Summary}
 use Rattle.pw_image.specs.declared.image.Image.{Image}
 use Rattle.pw_machine.specs.Core.{Core}
 use Rattle.pw_top_answer.specs.declared.answer.Answer.{Answer}
-use Rattle.pw_top_answer.specs.declared.answer.Answer.TheVariants.{Usage, Refused, RefusedSource, Cpp, LinkRefused, ReadFault, WriteFault, StoreFault, NoMemory, BadFile}
+use Rattle.pw_top_answer.specs.declared.answer.Answer.TheVariants.{Usage, Refused, RefusedSource, Cpp, LinkRefused, ReadFault, WriteFault, StoreFault, NoMemory, BadFile, Undefined}
 use Rattle.pw_top_answer.specs.Effects.{Effect, NamedFile, PutsFiles, answers_alone, prints}
 use Rattle.pw_top_answer.specs.Outcomes.{Answers, InputCount, IsLineDue, LeavesInput, LeavesStreams, OutputCount, PutsOut}
 use Rattle.pw_go.specs.Ends.{EndsIn}
@@ -23,6 +23,8 @@ use Rattle.pw_law_session.specs.FromSession.FromBuildFiles.Outcomes.{AnswersOutc
 use Rattle.pw_law_session.specs.FromSession.FromBuildFiles.Driving.{BuildEffect, IsBuildAnswer, built_effect}
 use Rattle.pw_go.specs.Going.{GoEffect, HasBuilt, IfMade, IsGoAnswer}
 use Rattle.pw_commands_where.specs.Showing.{IsWhereAnswer, WhereEffect}
+use Rattle.pw_commands_interp.specs.Interpreting.{Did, InterpEffect, InterpOver, IsInterpAnswer}
+use Rattle.pw_build_objects.specs.Programs.{Parts}
 use Rattle.pw_commands.specs.Analysing.{AnalyseEffect, AnalyseOver, summaries_of}
 use Rattle.pw_commands.specs.Linking.{LinkEffect, LinkOver, objects_of}
 use Rattle.pw_commands.specs.Needed.{needed, needed_bytes}
@@ -31,7 +33,7 @@ use Rattle.pw_commands.specs.Running.{IsRunOrStop, core_in, run_effect, runs}
 use Rattle.pw_commands.specs.Showing.{DatabaseEffect, IsShowAnswer, ListEffect, ListOver, Shows, database_text, image_in, printed}
 use Rattle.pw_law_session.specs.FromSession.Bench.{BenchEffect}
 use Rattle.pw_top_words.specs.declared.commands.Command.{Command}
-use Rattle.pw_top_words.specs.declared.commands.Command.TheVariants.{Go, Build as BuildAll, Session, PhaseOne, Analyse, PhaseTwo, Link, Run, List as ListImage, Db, Bench, Where, Preprocess}
+use Rattle.pw_top_words.specs.declared.commands.Command.TheVariants.{Go, Build as BuildAll, Session, PhaseOne, Analyse, PhaseTwo, Link, Run, List as ListImage, Db, Bench, Where, Preprocess, Interp}
 use Rattle.pw_store_texts.specs.Headers.{headers_of}
 use Rattle.pw_commands_cpp.specs.Command.{CppEffect, CppOver, IsCppAnswer, effect_of, needed_source}
 use Rattle.pw_commands_phases.specs.First.{EffectOfPhase, PhaseOneEffect, PhaseOneOver}
@@ -47,11 +49,12 @@ abbrev pub Comes : Option Command → Files → List ℕ → (Effect → Type 0)
 Comes None files input = λ effect. effect ≡ answers_alone Usage input
 Comes (Some (Go opts)) files input = GoEffect files opts input
 Comes (Some (Where k opts)) files input = WhereEffect files opts k input
+Comes (Some (Interp opts)) files input = InterpEffect files opts input
 Comes (Some (BuildAll opts)) files input = BuildEffect files opts input
 Comes (Some (Session opts)) files input = λ effect. ⊥
 Comes (Some (Bench number opts)) files input = BenchEffect number opts input
 Comes (Some (Preprocess name)) files input = CppEffect files name input
-Comes (Some (PhaseOne name)) files input = PhaseOneEffect files name input
+Comes (Some (PhaseOne name optimise)) files input = PhaseOneEffect files name optimise input
 Comes (Some (Analyse colours)) files input = AnalyseEffect files colours input
 Comes (Some (PhaseTwo name)) files input = PhaseTwoEffect files name input
 Comes (Some (Link stack)) files input = LinkEffect files stack input
@@ -91,13 +94,13 @@ cpp_over_quiet headers name (Ok text) input e h = output_quiet name h.0 input e 
 cpp_quiet : (files : Files) (name input : List ℕ) (e : Effect) → CppEffect files name input e → Quiet input e
 cpp_quiet files name input e h = cpp_over_quiet (headers_of files) name (needed_source files name) input e h
 
-phase_quiet : (name : List ℕ) (phase : Phase) (input : List ℕ) (e : Effect) → EffectOfPhase name phase input e → Quiet input e
-phase_quiet name (Err refusal) input e h = quiet_answer (Refused name refusal) input e h
-phase_quiet name (Ok flow) input e h = subst (Quiet input) (sym h.3) (record { output = refl; rest = refl })
+phase_quiet : (name : List ℕ) (o : Bool) (phase : Phase) (input : List ℕ) (e : Effect) → EffectOfPhase name o phase input e → Quiet input e
+phase_quiet name o (Err refusal) input e h = quiet_answer (Refused name refusal) input e h
+phase_quiet name o (Ok flow) input e h = subst (Quiet input) (sym h.3) (record { output = refl; rest = refl })
 
-phase_one_quiet : (name : List ℕ) (text : Result (List ℕ) Answer) (input : List ℕ) (e : Effect) → PhaseOneOver name text input e → Quiet input e
-phase_one_quiet name (Err answer) input e h = quiet_answer answer input e h
-phase_one_quiet name (Ok text) input e h = phase_quiet name (compiled name text) input e h
+phase_one_quiet : (name : List ℕ) (o : Bool) (text : Result (List ℕ) Answer) (input : List ℕ) (e : Effect) → PhaseOneOver name o text input e → Quiet input e
+phase_one_quiet name o (Err answer) input e h = quiet_answer answer input e h
+phase_one_quiet name o (Ok text) input e h = phase_quiet name o (compiled name text) input e h
 
 phase_two_quiet : (name : List ℕ) (flow : Result FlowModule Answer) (db : Result (List (List ℕ × Directives)) Answer) (input : List ℕ) (e : Effect) → PhaseTwoOver name flow db input e → Quiet input e
 phase_two_quiet name (Err answer) db input e h = quiet_answer answer input e h
@@ -110,10 +113,10 @@ store_does comes None new rest taken answer quiet h = tt
 store_does comes (Some t) new None taken answer quiet h = tt
 store_does comes (Some t) new (Some input) taken answer quiet h = quiet_does (comes t.files input) answer t new input taken (quiet t.files input) (h input)
 
-pub phase_one_does : (told new : Option Told) (rest taken : Option (List ℕ)) (name : List ℕ) (answer : Answer) → IfSome told (λ t. (input : List ℕ) → Obeys (PhaseOneEffect t.files name input) answer t new)
-    → IfSome told (λ t. IfSome rest (λ input. Does (PhaseOneEffect t.files name input) answer t new input rest taken taken))
-phase_one_does told new rest taken name answer h =
-    store_does (λ files input. PhaseOneEffect files name input) told new rest taken answer (λ files input e d. phase_one_quiet name (needed_bytes files (text_name name)) input e d) h
+pub phase_one_does : (told new : Option Told) (rest taken : Option (List ℕ)) (name : List ℕ) (o : Bool) (answer : Answer) → IfSome told (λ t. (input : List ℕ) → Obeys (PhaseOneEffect t.files name o input) answer t new)
+    → IfSome told (λ t. IfSome rest (λ input. Does (PhaseOneEffect t.files name o input) answer t new input rest taken taken))
+phase_one_does told new rest taken name o answer h =
+    store_does (λ files input. PhaseOneEffect files name o input) told new rest taken answer (λ files input e d. phase_one_quiet name o (needed_bytes files (text_name name)) input e d) h
 
 pub cpp_does : (told new : Option Told) (rest taken : Option (List ℕ)) (name : List ℕ) (answer : Answer) → IfSome told (λ t. (input : List ℕ) → Obeys (CppEffect t.files name input) answer t new)
     → IfSome told (λ t. IfSome rest (λ input. Does (CppEffect t.files name input) answer t new input rest taken taken))
@@ -265,6 +268,28 @@ where_does None new old rest taken taken' opts k answer h out left = tt
 where_does (Some t) new None rest taken taken' opts k answer h out left = tt
 where_does (Some t) new (Some input) rest taken taken' opts k answer h out left = record { answers = λ e d. h.answers e d; puts = λ e d. h.puts e d; output = out; rest = left; found = h.found }
 
+-- a run by the meaning of C puts no file
+interp_over_puts : (files : Files) (opts : RunOpts) (input : List ℕ) (comes : Result Parts BuildFault) (e : Effect) → InterpOver files opts input comes e → e.puts ≡ []
+interp_over_puts files opts input (Ok parts) e h = ap (λ (x : Effect). x.puts) h.2
+interp_over_puts files opts input (Err fault) e h = ap (λ (x : Effect). x.puts) h
+
+pub interp_does : (told new : Option Told) (old rest taken taken' : Option (List ℕ)) (opts : RunOpts) (answer : Answer) → Keeps told new
+    → IfSome told (λ t. IfSome old (λ input. Did t.files opts input answer rest taken taken'))
+    → IfSome told (λ t. IfSome old (λ input. Does (InterpEffect t.files opts input) answer t new input rest taken taken'))
+interp_does None new old rest taken taken' opts answer same h = tt
+interp_does (Some t) new None rest taken taken' opts answer same h = tt
+interp_does (Some t) new (Some input) rest taken taken' opts answer same h = record {
+  answers = λ e d. h.answers e d;
+  puts = λ e d. subst (λ (fs : List NamedFile). PutsFiles fs answer t new) (sym (interp_over_puts t.files opts input d.0 e d.2)) (nothing_put answer t new same);
+  output = λ e d. h.output e d;
+  rest = λ e d. h.rest e d;
+  found = h.found;
+}
+
+pub interp_no_usage : (answer : Answer) → IsInterpAnswer answer → IsNoUsage answer
+interp_no_usage Usage h = h
+interp_no_usage _ h = tt
+
 pub where_no_usage : (answer : Answer) → IsWhereAnswer answer → IsNoUsage answer
 where_no_usage Usage h = h
 where_no_usage _ h = tt
@@ -276,6 +301,7 @@ pub record Ends : Type 0 where
   pub run : (files : Files) (budget : ℕ) (input : List ℕ) → EndsIn input (run_effect files budget input).rest
   pub go : (files : Files) (opts : RunOpts) (input : List ℕ) (e : Effect) → GoEffect files opts input e → EndsIn input e.rest
   pub looks : (files : Files) (opts : RunOpts) (k : ℕ) (input : List ℕ) (e : Effect) → WhereEffect files opts k input e → EndsIn input e.rest
+  pub interprets : (files : Files) (opts : RunOpts) (input : List ℕ) (e : Effect) → InterpEffect files opts input e → EndsIn input e.rest
 
 ends_itself : (input : List ℕ) → EndsIn input input
 ends_itself input = ([], refl)
@@ -287,11 +313,12 @@ pub comes_ends : Ends → (command : Option Command) (files : Files) (input : Li
 comes_ends ends None files input e h = left_all input e (ap (λ (x : Effect). x.rest) h)
 comes_ends ends (Some (Go opts)) files input e h = ends.go files opts input e h
 comes_ends ends (Some (Where k opts)) files input e h = ends.looks files opts k input e h
+comes_ends ends (Some (Interp opts)) files input e h = ends.interprets files opts input e h
 comes_ends ends (Some (BuildAll opts)) files input e h = left_all input e (comes_rest files opts input e h)
 comes_ends ends (Some (Session opts)) files input e h = absurd h
 comes_ends ends (Some (Bench number opts)) files input e h = left_all input e (bench_prints number opts input e h).rest
 comes_ends ends (Some (Preprocess name)) files input e h = left_all input e (cpp_quiet files name input e h).rest
-comes_ends ends (Some (PhaseOne name)) files input e h = left_all input e (phase_one_quiet name (needed_bytes files (text_name name)) input e h).rest
+comes_ends ends (Some (PhaseOne name optimise)) files input e h = left_all input e (phase_one_quiet name optimise (needed_bytes files (text_name name)) input e h).rest
 comes_ends ends (Some (Analyse colours)) files input e h = left_all input e (analyse_quiet (summaries_of files) colours input e h).rest
 comes_ends ends (Some (PhaseTwo name)) files input e h = left_all input e (phase_two_quiet name (needed flow_at files (flow_name name)) (needed database_at files database_name) input e h).rest
 comes_ends ends (Some (Link stack)) files input e h = left_all input e (link_quiet (objects_of files) stack input e h).rest
@@ -374,6 +401,7 @@ no_command command answer e = absurd (none_and_some (Some command) command e ref
 first_line : (answer : Answer) → IsLineDue None answer None
 first_line (Refused name refusal) = refl
 first_line (RefusedSource name refusal) = refl
+first_line (Undefined operation home token) = refl
 first_line _ = tt
 
 -- an answer of a command that refuses no module

@@ -83,7 +83,7 @@ PutsNoObject _ = Unit {0}
 puts_apart : (command : Option Command) → PutsNoObject command → (name : List ℕ) → IsNoneOf (files_put command) (object_name name)
 puts_apart (Some (PhaseTwo unit)) h name = absurd h
 puts_apart (Some (Preprocess unit)) h name = cpp_apart unit name
-puts_apart (Some (PhaseOne unit)) h name = phase_one_apart unit name
+puts_apart (Some (PhaseOne unit optimise)) h name = phase_one_apart unit name
 puts_apart (Some (Analyse colours)) h name = database_apart name
 puts_apart (Some (Link stack)) h name = image_apart name
 puts_apart _ h name = tt

@@ -11,6 +11,7 @@ use Rattle.pw_commands_phases.specs.Made.{IsPhaseAnswer}
 use Rattle.pw_law_session.specs.FromSession.FromBuildFiles.Driving.{IsBuildAnswer}
 use Rattle.pw_go.specs.Going.{IsGoAnswer}
 use Rattle.pw_commands_cpp.specs.Command.{IsCppAnswer}
+use Rattle.pw_commands_interp.specs.Interpreting.{IsInterpAnswer}
 use Rattle.pw_commands_where.specs.Showing.{IsWhereAnswer}
 use Rattle.pw_law_session.specs.FromSession.Bench.{IsBenchAnswer}
 use Rattle.pw_law_session.specs.FromSession.Outcomes.{IsSessionAnswer}
@@ -33,6 +34,13 @@ go_proper (RefusedSource name refusal) h = absurd h
 go_proper (Cpp fault) h = absurd h
 go_proper (LinkRefused fault) h = link_proper fault h
 go_proper _ h = tt
+
+pub interp_proper : (answer : Answer) → IsInterpAnswer answer → HoldsNoWantOfMemory answer
+interp_proper (Refused name refusal) h = h
+interp_proper (RefusedSource name refusal) h = absurd h
+interp_proper (Cpp fault) h = absurd h
+interp_proper (LinkRefused fault) h = link_proper fault h
+interp_proper _ h = tt
 
 pub where_proper : (answer : Answer) → IsWhereAnswer answer → HoldsNoWantOfMemory answer
 where_proper (Refused name refusal) h = h

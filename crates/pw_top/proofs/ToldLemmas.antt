@@ -2,9 +2,10 @@
 use Rattle.std.proofs.Common.{◌≡◌, ℕ, ◌⊎◌, ⊎_elim, inl, inr, List, [], Option, Some, None, Result, Ok, Err, refl, sym, ap, ◌∙◌, subst, append-nil}
 use Rattle.std.specs.Prelude.{IfSome}
 use Rattle.pw_io.specs.Files.{Files, Told}
+use Rattle.pw_cmean.specs.declared.undefined.Undef.{Undef}
 use Rattle.pw_front_end.specs.declared.refusal.Refusal.{Refusal}
 use Rattle.pw_top_answer.specs.declared.answer.Answer.{Answer}
-use Rattle.pw_top_answer.specs.declared.answer.Answer.TheVariants.{Usage, Refused, RefusedSource, Cpp, LinkRefused, Halted, StoreFault, NoMemory, BadFile, BadScript, NoFrames}
+use Rattle.pw_top_answer.specs.declared.answer.Answer.TheVariants.{Usage, Refused, RefusedSource, Cpp, LinkRefused, Halted, StoreFault, NoMemory, BadFile, BadScript, NoFrames, Undefined}
 use Rattle.pw_top_answer.specs.Answers.{line_text, NeedsMemory}
 use Rattle.pw_top_answer.specs.Effects.{Effect, NamedFile, PutsFiles, PutPrefix}
 use Rattle.pw_top_answer.specs.Outcomes.{Answers, InputCount, IsLineDue, LeavesInput, LeavesStreams, OutputCount, StoreCount, ToldAs, WasReadInPart}
@@ -31,6 +32,9 @@ refused_is_some_memory name refusal e = cc
 
 source_is_some_memory : (name : List ℕ) (refusal : Refusal) → RefusedSource name refusal ≡ NoMemory → ⊥
 source_is_some_memory name refusal e = cc
+
+operation_is_some_memory : (operation : Undef) (home : List ℕ) (token : ℕ) → Undefined operation home token ≡ NoMemory → ⊥
+operation_is_some_memory operation home token e = cc
 
 pub no_memory_is_no_usage : NoMemory ≡ Usage → ⊥
 no_memory_is_no_usage e = cc
@@ -64,6 +68,7 @@ puts_all (Halted halt at) files told new n h = record { done = files; more = [];
 puts_all (BadFile name at) files told new n h = record { done = files; more = []; split = sym (append-nil files); left = h }
 puts_all (BadScript at) files told new n h = record { done = files; more = []; split = sym (append-nil files); left = h }
 puts_all (NoFrames address) files told new n h = record { done = files; more = []; split = sym (append-nil files); left = h }
+puts_all (Undefined operation home token) files told new n h = record { done = files; more = []; split = sym (append-nil files); left = h }
 puts_all _ files told new n h = absurd n
 
 part_of_wanted : (input wanted : List ℕ) (new : Option (List ℕ)) → EndsIn input wanted → new ≡ Some wanted → WasReadInPart wanted input new
@@ -78,6 +83,7 @@ left_part input wanted new (Halted halt at) e n h = part_of_wanted input wanted 
 left_part input wanted new (BadFile name at) e n h = part_of_wanted input wanted new e h
 left_part input wanted new (BadScript at) e n h = part_of_wanted input wanted new e h
 left_part input wanted new (NoFrames address) e n h = part_of_wanted input wanted new e h
+left_part input wanted new (Undefined operation home token) e n h = part_of_wanted input wanted new e h
 left_part input wanted new _ e n h = absurd n
 
 does_no_memory : (comes : Effect → Type 0) (answer : Answer) (told : Told) (new : Option Told) (input : List ℕ) (rest taken taken' : Option (List ℕ)) → ((e : Effect) → comes e → EndsIn input e.rest) → NeedsMemory answer
@@ -182,6 +188,7 @@ store_told before now answer last t h = told_by (λ a. StoreCount before now a) 
     kept (BadFile name at) n h = h
     kept (BadScript at) n h = h
     kept (NoFrames address) n h = h
+    kept (Undefined operation home token) n h = h
     kept _ n h = absurd n
 
 pub input_told : (before now : ℕ) (answer last : Answer) → ToldAs answer last → InputCount before now answer → InputCount before now last
@@ -196,6 +203,7 @@ input_told before now answer last t h = told_by (λ a. InputCount before now a) 
     kept (BadFile name at) n h = h
     kept (BadScript at) n h = h
     kept (NoFrames address) n h = h
+    kept (Undefined operation home token) n h = h
     kept _ n h = absurd n
 
 pub output_told : (before now : ℕ) (answer last : Answer) → ToldAs answer last → OutputCount before now answer → OutputCount before now last
@@ -210,6 +218,7 @@ output_told before now answer last t h = told_by (λ a. OutputCount before now a
     kept (BadFile name at) n h = h
     kept (BadScript at) n h = h
     kept (NoFrames address) n h = h
+    kept (Undefined operation home token) n h = h
     kept _ n h = absurd n
 
 pub streams_told : (P : Type 0) (answer last : Answer) (i i' o o' : Option (List ℕ)) → ToldAs answer last → (P → LeavesStreams answer i i' o o') → P → LeavesStreams last i i' o o'
@@ -249,20 +258,25 @@ rest_told command script old new answer last t h = told_by (λ a. KeepsTheRest c
 
 -- ---- the line
 
-same_line : (due : Option ℕ) (answer last : Answer) (line : Option ℕ) → IsLineDue due answer line → ToldAs answer last → line_text line last ≡ line_text due last
+same_line : (due : Answer → Option ℕ) (answer last : Answer) (line : Option ℕ) → IsLineDue (due answer) answer line → ToldAs answer last → line_text line last ≡ line_text (due last) last
 same_line due answer (Refused name refusal) line l t =
     ⊎_elim
-    (λ e. let P : Answer → Type 0 = λ a. IsLineDue due a line in ap (λ n. line_text n (Refused name refusal)) (subst P (sym e) l))
+    (λ e. let P : Answer → Type 0 = λ a. IsLineDue (due a) a line in ap (λ n. line_text n (Refused name refusal)) (subst P (sym e) l))
     (λ n. absurd (refused_is_some_memory name refusal n.1))
     t
 same_line due answer (RefusedSource name refusal) line l t =
     ⊎_elim
-    (λ e. let P : Answer → Type 0 = λ a. IsLineDue due a line in ap (λ n. line_text n (RefusedSource name refusal)) (subst P (sym e) l))
+    (λ e. let P : Answer → Type 0 = λ a. IsLineDue (due a) a line in ap (λ n. line_text n (RefusedSource name refusal)) (subst P (sym e) l))
     (λ n. absurd (source_is_some_memory name refusal n.1))
+    t
+same_line due answer (Undefined operation home token) line l t =
+    ⊎_elim
+    (λ e. let P : Answer → Type 0 = λ a. IsLineDue (due a) a line in ap (λ n. line_text n (Undefined operation home token)) (subst P (sym e) l))
+    (λ n. absurd (operation_is_some_memory operation home token n.1))
     t
 same_line due answer _ line l t = refl
 
-pub told_line : (due : Files → Option ℕ) (first : Option Told) (answer last : Answer) (line : Option ℕ) (Q : List ℕ → Type 0) → ToldAs answer last → IfSome first (λ t. IsLineDue (due t.files) answer line) → Q (line_text line last)
-    → IfSome first (λ t. Q (line_text (due t.files) last))
+pub told_line : (due : Files → Answer → Option ℕ) (first : Option Told) (answer last : Answer) (line : Option ℕ) (Q : List ℕ → Type 0) → ToldAs answer last → IfSome first (λ t. IsLineDue (due t.files answer) answer line) → Q (line_text line last)
+    → IfSome first (λ t. Q (line_text (due t.files last) last))
 told_line due None answer last line Q t l h = tt
 told_line due (Some now) answer last line Q t l h = subst Q (same_line (due now.files) answer last line l t) h

@@ -1,7 +1,7 @@
 -- What a command that builds did where the kept objects are genuine.
 use Rattle.std.proofs.Common.{◌≡◌, ℕ, List, Option, Some, None, Result, Ok, Err, refl, sym, ap, ◌∙◌, subst}
 use Rattle.std.specs.Prelude.{IfSome}
-use Rattle.pw_io.specs.Files.{Told}
+use Rattle.pw_io.specs.Files.{Files, Told}
 use Rattle.pw_store_modules.specs.Modules.{module_map}
 use Rattle.pw_top_answer.specs.declared.answer.Answer.{Answer}
 use Rattle.pw_top_answer.specs.declared.answer.Answer.TheVariants.{StoreFault, NoMemory}
@@ -13,17 +13,18 @@ use Rattle.pw_law_session.specs.FromSession.FromBuildFiles.Genuine.{KeepsGenuine
 use Rattle.pw_law_session.specs.FromSession.FromBuildFiles.Outcomes.{AreOpts}
 use Rattle.pw_law_session.specs.FromSession.FromBuildFiles.Driving.{BuildEffect, built_effect}
 use Rattle.pw_go.specs.Going.{GoEffect, GoOver}
+use Rattle.pw_commands_interp.specs.Interpreting.{InterpEffect, InterpsInFull}
 use Rattle.pw_law_session.specs.FromSession.Bench.{BenchEffect}
 use Rattle.pw_build_opts.specs.declared.opts.Opts.{Opts}
 use Rattle.pw_law_session.specs.Whole.{IsBuiltInFull, LeavesFull}
 use Rattle.pw_law_session.specs.Full.{BenchBuildsInFull, SessionBuildsInFull}
 use Rattle.pw_build_opts.specs.declared.opts.RunOpts.{RunOpts}
 use Rattle.pw_top_words.specs.declared.commands.Command.{Command}
-use Rattle.pw_top_words.specs.declared.commands.Command.TheVariants.{Go, Build as BuildAll, Session, Bench}
+use Rattle.pw_top_words.specs.declared.commands.Command.TheVariants.{Go, Build as BuildAll, Interp, Session, Bench}
 use Rattle.pw_top_words.specs.Limits.{IsWithin}
 use Rattle.pw_top.specs.Commands.{BuildsWhole}
 use Rattle.pw_top.specs.Does.{Does, DoesAs}
-use Rattle.pw_top.specs.Whole.{BenchesFull, ComesInFull, IfMade, ReportsFull, RunsFull}
+use Rattle.pw_top.specs.Whole.{BenchesFull, ComesInFull, IfMade, InterpretsFull, ReportsFull, RunsFull}
 
 -- ---- the laws
 
@@ -35,6 +36,9 @@ SessionsAreFull = (opts : RunOpts) (told : Told) (script : List ℕ) → AreOpts
 
 abbrev pub BenchesAreFull : Type 0
 BenchesAreFull = (number : ℕ) (opts : RunOpts) (input : List ℕ) (effect : Effect) → AreOpts opts.build → BenchEffect number opts input effect → BenchBuildsInFull number opts input effect
+
+abbrev pub InterpsAreFull : Type 0
+InterpsAreFull = (files : Files) (opts : RunOpts) (input : List ℕ) (effect : Effect) → KeepsGenuine files → InterpEffect files opts input effect → InterpsInFull files opts input effect
 
 -- those of builds, of some options
 abbrev pub FullAt : Opts → Type 0
@@ -117,25 +121,34 @@ bench_whole law number opts are NoMemory told new input rest taken taken' d = tt
 bench_whole law number opts are _ told new input rest taken taken' d =
     let c = d.found.1 in (d.found.0, law number opts input d.found.0 are c, d.answers d.found.0 c, d.output d.found.0 c)
 
+-- `interp`
+interp_whole : InterpsAreFull → (opts : RunOpts) (answer : Answer) (told : Told) (new : Option Told) (input : List ℕ) (rest taken taken' : Option (List ℕ)) → Does (InterpEffect told.files opts input) answer told new input rest taken taken' → KeepsGenuine told.files
+    → IfMade answer (InterpretsFull told.files opts input answer rest taken taken')
+interp_whole law opts StoreFault told new input rest taken taken' d keeps = tt
+interp_whole law opts NoMemory told new input rest taken taken' d keeps = tt
+interp_whole law opts _ told new input rest taken taken' d keeps =
+    let c = d.found.1 in (d.found.0, law told.files opts input d.found.0 keeps c, d.answers d.found.0 c, d.output d.found.0 c, d.rest d.found.0 c)
+
 -- the numbers of the command lie within their limits
 abbrev pub AreWithin : Option Command → Type 0
 AreWithin None = Unit {0}
 AreWithin (Some command) = IsWithin command
 
-whole_of : BuildsAreFull → SessionsAreFull → BenchesAreFull → (command : Option Command) (answer : Answer) (told : Told) (new : Option Told) (input : List ℕ) (rest taken taken' : Option (List ℕ)) → AreWithin command → DoesAs command answer told new input rest taken taken' → BuildsWhole command answer told new input rest taken taken'
-whole_of law sessions benches (Some (BuildAll opts)) answer told new input rest taken taken' w d =
+whole_of : BuildsAreFull → InterpsAreFull → SessionsAreFull → BenchesAreFull → (command : Option Command) (answer : Answer) (told : Told) (new : Option Told) (input : List ℕ) (rest taken taken' : Option (List ℕ)) → AreWithin command → DoesAs command answer told new input rest taken taken' → BuildsWhole command answer told new input rest taken taken'
+whole_of law interps sessions benches (Some (BuildAll opts)) answer told new input rest taken taken' w d =
     λ keeps. build_whole opts (full_at law opts (record { colours = w.0; least = w.1.0; most = w.1.1 })) answer told new input rest taken taken' d keeps
-whole_of law sessions benches (Some (Go opts)) answer told new input rest taken taken' w d =
+whole_of law interps sessions benches (Some (Go opts)) answer told new input rest taken taken' w d =
     λ keeps. go_whole opts (full_at law opts.build (record { colours = w.0; least = w.1.0; most = w.1.1 })) answer told new input rest taken taken' d keeps
-whole_of law sessions benches (Some (Session opts)) answer told new input rest taken taken' w d = λ keeps. sessions opts told input (record { colours = w.0; least = w.1.0; most = w.1.1 }) keeps
-whole_of law sessions benches (Some (Bench number opts)) answer told new input rest taken taken' w d = bench_whole benches number opts (record { colours = w.0; least = w.1.0; most = w.1.1 }) answer told new input rest taken taken' d
-whole_of law sessions benches command answer told new input rest taken taken' w d = tt
+whole_of law interps sessions benches (Some (Session opts)) answer told new input rest taken taken' w d = λ keeps. sessions opts told input (record { colours = w.0; least = w.1.0; most = w.1.1 }) keeps
+whole_of law interps sessions benches (Some (Bench number opts)) answer told new input rest taken taken' w d = bench_whole benches number opts (record { colours = w.0; least = w.1.0; most = w.1.1 }) answer told new input rest taken taken' d
+whole_of law interps sessions benches (Some (Interp opts)) answer told new input rest taken taken' w d = λ keeps. interp_whole interps opts answer told new input rest taken taken' d keeps
+whole_of law interps sessions benches command answer told new input rest taken taken' w d = tt
 
-pub builds_whole : BuildsAreFull → SessionsAreFull → BenchesAreFull → (command : Option Command) (first new : Option Told) (old rest taken taken' : Option (List ℕ)) (answer : Answer) → AreWithin command
+pub builds_whole : BuildsAreFull → InterpsAreFull → SessionsAreFull → BenchesAreFull → (command : Option Command) (first new : Option Told) (old rest taken taken' : Option (List ℕ)) (answer : Answer) → AreWithin command
     → IfSome first (λ t. IfSome old (λ input. DoesAs command answer t new input rest taken taken')) → IfSome first (λ t. IfSome old (λ input. BuildsWhole command answer t new input rest taken taken'))
-builds_whole law sessions benches command None new old rest taken taken' answer w d = tt
-builds_whole law sessions benches command (Some t) new None rest taken taken' answer w d = tt
-builds_whole law sessions benches command (Some t) new (Some input) rest taken taken' answer w d = whole_of law sessions benches command answer t new input rest taken taken' w d
+builds_whole law interps sessions benches command None new old rest taken taken' answer w d = tt
+builds_whole law interps sessions benches command (Some t) new None rest taken taken' answer w d = tt
+builds_whole law interps sessions benches command (Some t) new (Some input) rest taken taken' answer w d = whole_of law interps sessions benches command answer t new input rest taken taken' w d
 
 -- a command that the words say lies within its limits
 pub are_within : (command : Option Command) → ((one : Command) → command ≡ Some one → IsWithin one) → AreWithin command

@@ -18,17 +18,18 @@ use Rattle.pw_go.specs.Going.{HasBuilt}
 use Rattle.pw_law_session.specs.FromBuildLaws.Complete.{CanBeBuilt}
 use Rattle.pw_law_session.specs.Full.{SessionBuildsInFull}
 use Rattle.pw_top.specs.Rest.{LeavesRest}
-use Rattle.pw_top.specs.Whole.{BenchesFull, ComesInFull, IfMade, ReportsFull, RunsFull}
+use Rattle.pw_top.specs.Whole.{BenchesFull, ComesInFull, IfMade, InterpretsFull, ReportsFull, RunsFull}
 use Rattle.pw_commands_cpp.specs.Command.{cpp_puts}
+use Rattle.pw_commands_interp.specs.Interpreting.{told_line}
 use Rattle.pw_commands_phases.specs.First.{phase_line, phase_one_puts}
 use Rattle.pw_commands_phases.specs.Second.{phase_two_puts}
 use Rattle.pw_top_words.specs.declared.commands.Command.{Command}
-use Rattle.pw_top_words.specs.declared.commands.Command.TheVariants.{Go, Build, Session, PhaseOne, Analyse, PhaseTwo, Link, Run, List as ListImage, Db, Bench, Where, Preprocess}
+use Rattle.pw_top_words.specs.declared.commands.Command.TheVariants.{Go, Build, Session, PhaseOne, Analyse, PhaseTwo, Link, Run, List as ListImage, Db, Bench, Where, Preprocess, Interp}
 
 -- the command is a phase of separate compiling, the analysis or the link
 abbrev pub is_phase : Command → Bool
 is_phase (Preprocess name) = true
-is_phase (PhaseOne name) = true
+is_phase (PhaseOne name optimise) = true
 is_phase (Analyse colours) = true
 is_phase (PhaseTwo name) = true
 is_phase (Link stack) = true
@@ -48,6 +49,7 @@ is_builder (Build opts) = true
 is_builder (Session opts) = true
 is_builder (Bench number opts) = true
 is_builder (Where k opts) = true
+is_builder (Interp opts) = true
 is_builder _ = false
 
 -- the command puts no file
@@ -57,7 +59,7 @@ OnlyReads (Some (Build opts)) = ⊥
 OnlyReads (Some (Where k opts)) = ⊥
 OnlyReads (Some (Session opts)) = ⊥
 OnlyReads (Some (Preprocess name)) = ⊥
-OnlyReads (Some (PhaseOne name)) = ⊥
+OnlyReads (Some (PhaseOne name optimise)) = ⊥
 OnlyReads (Some (Analyse colours)) = ⊥
 OnlyReads (Some (PhaseTwo name)) = ⊥
 OnlyReads (Some (Link stack)) = ⊥
@@ -66,7 +68,7 @@ OnlyReads _ = Unit {0}
 -- the names of the files that a command puts, where they are known from its words
 abbrev pub files_put : Option Command → List (List ℕ)
 files_put (Some (Preprocess name)) = cpp_puts name
-files_put (Some (PhaseOne name)) = phase_one_puts name
+files_put (Some (PhaseOne name optimise)) = phase_one_puts name
 files_put (Some (Analyse colours)) = database_name ∷ []
 files_put (Some (PhaseTwo name)) = phase_two_puts name
 files_put (Some (Link stack)) = image_name ∷ []
@@ -110,13 +112,14 @@ IsComplete (Some (Build opts)) files answer = BuildsWhereItCan files opts answer
 IsComplete _ files answer = Unit {0}
 
 -- Where the kept objects were genuine, `build` and `go` come to the report and to the run of the full build's image, or to its
--- refusal, and leave its database and its image; and each build of a session, whatever ended it, is the full build of the
--- modules as they were then. `bench` builds in full whatever the store keeps.
+-- refusal, and leave its database and its image, and `interp` to the run with the frames of that image; and each build of a session,
+-- whatever ended it, is the full build of the modules as they were then. `bench` builds in full whatever the store keeps.
 abbrev pub BuildsWhole : Option Command → Answer → Told → Option Told → (input : List ℕ) → (input' taken taken' : Option (List ℕ)) → Type 0
 BuildsWhole (Some (Build opts)) answer told new input input' taken taken' =
     KeepsGenuine told.files → IfMade answer (ComesInFull opts told new (λ full. ReportsFull full answer taken taken'))
 BuildsWhole (Some (Go opts)) answer told new input input' taken taken' =
     KeepsGenuine told.files → IfMade answer (ComesInFull opts.build told new (λ full. RunsFull opts.budget input full answer input' taken taken'))
+BuildsWhole (Some (Interp opts)) answer told new input input' taken taken' = KeepsGenuine told.files → IfMade answer (InterpretsFull told.files opts input answer input' taken taken')
 BuildsWhole (Some (Session opts)) answer told new input input' taken taken' = KeepsGenuine told.files → SessionBuildsInFull opts told input
 BuildsWhole (Some (Bench number opts)) answer told new input input' taken taken' = IfMade answer (BenchesFull number opts input answer taken taken')
 BuildsWhole _ answer told new input input' taken taken' = Unit {0}
@@ -126,11 +129,12 @@ abbrev pub EndsScript : Option Command → Option (List ℕ) → Answer → Type
 EndsScript (Some (Session opts)) script answer = IfSome script (λ bytes. EndsAs bytes answer)
 EndsScript _ script answer = Unit {0}
 
--- the line on which a module is refused
-abbrev pub line_of : Option Command → Files → Option ℕ
-line_of (Some (Go opts)) files = phases.refused_line (modules_of files)
-line_of (Some (Where k opts)) files = phases.refused_line (modules_of files)
-line_of (Some (Build opts)) files = phases.refused_line (modules_of files)
-line_of (Some (Bench number opts)) files = phases.refused_line (modules_of (bench_files number))
-line_of (Some (PhaseOne name)) files = phase_line files name
-line_of _ files = None
+-- the line on which a module is refused; of `interp` also that on which an operation stands that has no meaning
+abbrev pub line_of : Option Command → Files → Answer → Option ℕ
+line_of (Some (Go opts)) files answer = phases.refused_line (modules_of files)
+line_of (Some (Where k opts)) files answer = phases.refused_line (modules_of files)
+line_of (Some (Interp opts)) files answer = told_line (modules_of files) answer
+line_of (Some (Build opts)) files answer = phases.refused_line (modules_of files)
+line_of (Some (Bench number opts)) files answer = phases.refused_line (modules_of (bench_files number))
+line_of (Some (PhaseOne name optimise)) files answer = phase_line files name
+line_of _ files answer = None

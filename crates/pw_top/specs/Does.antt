@@ -14,6 +14,7 @@ use Rattle.pw_commands.specs.Outcome.{IsFound}
 use Rattle.pw_commands.specs.Running.{run_effect}
 use Rattle.pw_commands.specs.Showing.{DatabaseEffect, ListEffect}
 use Rattle.pw_commands_cpp.specs.Command.{CppEffect}
+use Rattle.pw_commands_interp.specs.Interpreting.{InterpEffect}
 use Rattle.pw_commands_phases.specs.First.{PhaseOneEffect}
 use Rattle.pw_commands_phases.specs.Second.{PhaseTwoEffect}
 use Rattle.pw_law_session.specs.FromSession.FromBuildFiles.Driving.{BuildEffect}
@@ -21,7 +22,7 @@ use Rattle.pw_build_opts.specs.declared.opts.RunOpts.{RunOpts}
 use Rattle.pw_law_session.specs.FromSession.Bench.{BenchEffect}
 use Rattle.pw_law_session.specs.FromSession.Outcomes.{LeavesScript, ObeysSession}
 use Rattle.pw_top_words.specs.declared.commands.Command.{Command}
-use Rattle.pw_top_words.specs.declared.commands.Command.TheVariants.{Go, Build, Session, PhaseOne, Analyse, PhaseTwo, Link, Run, List as ListImage, Db, Bench, Where, Preprocess}
+use Rattle.pw_top_words.specs.declared.commands.Command.TheVariants.{Go, Build, Session, PhaseOne, Analyse, PhaseTwo, Link, Run, List as ListImage, Db, Bench, Where, Preprocess, Interp}
 
 -- The answer, the files that were put, what was put out and what is left of the input are those to which the command
 -- comes; a fault or want of memory may come in its place, and then a prefix of the files was put, a prefix of the output
@@ -43,11 +44,12 @@ abbrev pub DoesAs : Option Command → Answer → Told → Option Told → List 
 DoesAs None answer told told' input input' taken taken' = Does (λ effect. effect ≡ answers_alone Usage input) answer told told' input input' taken taken'
 DoesAs (Some (Go opts)) answer told told' input input' taken taken' = Does (GoEffect told.files opts input) answer told told' input input' taken taken'
 DoesAs (Some (Where k opts)) answer told told' input input' taken taken' = Does (WhereEffect told.files opts k input) answer told told' input input' taken taken'
+DoesAs (Some (Interp opts)) answer told told' input input' taken taken' = Does (InterpEffect told.files opts input) answer told told' input input' taken taken'
 DoesAs (Some (Build opts)) answer told told' input input' taken taken' = Does (BuildEffect told.files opts input) answer told told' input input' taken taken'
 DoesAs (Some (Session opts)) answer told told' input input' taken taken' = DoesSession opts answer told told' input input' taken taken'
 DoesAs (Some (Bench number opts)) answer told told' input input' taken taken' = Does (BenchEffect number opts input) answer told told' input input' taken taken'
 DoesAs (Some (Preprocess name)) answer told told' input input' taken taken' = Does (CppEffect told.files name input) answer told told' input input' taken taken'
-DoesAs (Some (PhaseOne name)) answer told told' input input' taken taken' = Does (PhaseOneEffect told.files name input) answer told told' input input' taken taken'
+DoesAs (Some (PhaseOne name optimise)) answer told told' input input' taken taken' = Does (PhaseOneEffect told.files name optimise input) answer told told' input input' taken taken'
 DoesAs (Some (Analyse colours)) answer told told' input input' taken taken' = Does (AnalyseEffect told.files colours input) answer told told' input input' taken taken'
 DoesAs (Some (PhaseTwo name)) answer told told' input input' taken taken' = Does (PhaseTwoEffect told.files name input) answer told told' input input' taken taken'
 DoesAs (Some (Link stack)) answer told told' input input' taken taken' = Does (LinkEffect told.files stack input) answer told told' input input' taken taken'

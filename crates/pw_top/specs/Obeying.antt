@@ -22,7 +22,7 @@ abbrev pub outside_of : (told : Option Told) (rest taken : Option (List ℕ)) (s
 outside_of told rest taken store input output =
     record { told = told; rest = rest; taken = taken; store_faults = store; input_faults = input; output_faults = output }
 
--- The call did what the command comes to, and nothing besides; its line is the one on which a module is refused.
+-- The call did what the command comes to, and nothing besides; its line is the one that the answer tells.
 pub record CarriesOut (command : Option Command) (answer : Answer) (number : Option ℕ) (old new : Outside) : Type 0 where
   pub does : IfSome old.told (λ told. IfSome old.rest (λ rest. DoesAs command answer told new.told rest new.rest old.taken new.taken))
   pub ends : EndsScript command old.rest answer
@@ -35,4 +35,4 @@ pub record CarriesOut (command : Option Command) (answer : Answer) (number : Opt
   pub read : InputCount old.input_faults new.input_faults answer
   pub write : OutputCount old.output_faults new.output_faults answer
   pub streams : IsNoSession command → LeavesStreams answer old.rest new.rest old.taken new.taken
-  pub line : IfSome old.told (λ told. IsLineDue (line_of command told.files) answer number)
+  pub line : IfSome old.told (λ told. IsLineDue (line_of command told.files answer) answer number)

@@ -1,7 +1,7 @@
 -- What a command that builds answers, puts out and leaves where the kept objects were genuine: what the full build of the
 -- modules comes to, in which nothing is kept.
 use Rattle.std.specs.Prelude.{◌≡◌, ℕ, List, [], Option, Result, Ok, Err}
-use Rattle.pw_io.specs.Files.{Told}
+use Rattle.pw_io.specs.Files.{Files, Told}
 use Rattle.pw_image.specs.declared.image.Image.{Image}
 use Rattle.pw_image.specs.Image.{Contents, IsImageFile}
 use Rattle.pw_store_modules.specs.Modules.{module_map}
@@ -18,6 +18,7 @@ use Rattle.pw_law_session.specs.FromSession.FromBuildFiles.Outcomes.{fault_answe
 use Rattle.pw_commands.specs.MachineRun.{run_answer, run_output, run_rest}
 use Rattle.pw_law_session.specs.FromSession.FromBuildFiles.Driving.{outcome_lines}
 use Rattle.pw_go.specs.Going.{run_from}
+use Rattle.pw_commands_interp.specs.Interpreting.{InterpsInFull}
 pub use Rattle.pw_go.specs.Going.{IfMade}
 use Rattle.pw_law_session.specs.Full.{BenchBuildsInFull}
 use Rattle.pw_law_session.specs.Whole.{LeavesFull}
@@ -47,3 +48,9 @@ BenchesFull number opts input answer taken taken' =
 abbrev pub ComesInFull : Opts → Told → Option Told → (Result (List ℕ) BuildFault → Type 0) → Type 0
 ComesInFull opts told new P =
     (full : Result (List ℕ) BuildFault) × BuildsAndMeans (module_map told.files) opts full × P full × LeavesFull (module_map told.files) opts full told new
+
+-- The answer, what is put out and what is left of the input are those to which a run of the modules by the meaning of C comes, with
+-- the frames of the full build's image, or they tell that build's refusal.
+abbrev pub InterpretsFull : Files → RunOpts → List ℕ → Answer → (input' taken taken' : Option (List ℕ)) → Type 0
+InterpretsFull files opts input answer input' taken taken' =
+    (effect : Effect) × InterpsInFull files opts input effect × Answers effect.answer answer × PutsOut effect.output answer taken taken' × LeavesInput effect.rest input answer input'

@@ -14,6 +14,8 @@ ghost use Rattle.pw_top_words.specs.Limits.{IsWithin};
 
 use pw_commands::{analyse_modules, link_modules, list_image, run_image, show_database};
 use pw_commands_cpp::preprocess_module;
+use pw_commands_interp::interpret_modules;
+use pw_commands_interp::laws::{genuine_objects_run_as_the_full_build, runs_leave_a_rest};
 use pw_commands_phases::{compile_flow, compile_text};
 use pw_commands_where::laws::looks_leave_an_end;
 use pw_commands_where::show_call;
@@ -43,7 +45,7 @@ fn obey_phase<S: Store>(alloc: Global, command: &Command, store: &mut S) -> Repl
             answer: preprocess_module(alloc, store, name),
             line: None,
         },
-        Command::PhaseOne(name) => compile_text(alloc, store, name),
+        Command::PhaseOne { name, optimise } => compile_text(alloc, store, name, *optimise),
         Command::Analyse { colours } => Reply {
             answer: analyse_modules(alloc, store, *colours),
             line: None,
@@ -112,6 +114,7 @@ fn obey_builder<S: Store, I: Source, O: Sink>(
         },
         Command::Bench { number, opts } => bench(alloc, *number, opts, out),
         Command::Where { call, opts } => show_call(alloc, store, opts, *call, input, out),
+        Command::Interp(opts) => interpret_modules(alloc, store, opts, input, out),
         _ => unreachable!(),
     }
 }
@@ -129,7 +132,7 @@ fn obey<S: Store, I: Source, O: Sink>(
     ensures obeys { CarriesOut (Some command.now) result.answer result.line (outside_of (S.told store.old) (I.rest input.old) (O.taken out.old) (S.faults store.old) (I.faults input.old) (O.faults out.old)) (outside_of (S.told store.new) (I.rest input.new) (O.taken out.new) (S.faults store.new) (I.faults input.new) (O.faults out.new)) }
 {
     match command {
-        Command::PhaseOne(_)
+        Command::PhaseOne { .. }
         | Command::Preprocess(_)
         | Command::Analyse { .. }
         | Command::PhaseTwo(_)
@@ -141,7 +144,8 @@ fn obey<S: Store, I: Source, O: Sink>(
         | Command::Build(_)
         | Command::Session(_)
         | Command::Bench { .. }
-        | Command::Where { .. } => obey_builder(alloc, command, store, input, out),
+        | Command::Where { .. }
+        | Command::Interp(_) => obey_builder(alloc, command, store, input, out),
     }
 }
 
@@ -159,6 +163,7 @@ fn obey_words<S: Store, I: Source, O: Sink>(
 {
     commands_are_within();
     looks_leave_an_end();
+    runs_leave_a_rest();
     runs_leave_an_end();
     match command(alloc, words) {
         Ok(command) => obey(alloc, &command, store, input, out),
@@ -223,14 +228,16 @@ pub fn pawc_top<S: Store, I: Source, O: Sink, E: Sink>(
     ensures output_faults { OutputCount (O.faults out.old) (O.faults out.new) result }
 
     // the line
-    ensures line { IfSome (S.told store.old) (λ told. Tells (line_text (line_of (command_of (map string_bytes words.now)) told.files) result) (E.taken err.old) (E.taken err.new) (E.faults err.old) (E.faults err.new)) }
+    ensures line { IfSome (S.told store.old) (λ told. Tells (line_text (line_of (command_of (map string_bytes words.now)) told.files result) result) (E.taken err.old) (E.taken err.new) (E.faults err.old) (E.faults err.new)) }
     ensures some_line { TellsSome result (E.taken err.old) (E.taken err.new) (E.faults err.old) (E.faults err.new) }
 {
     a_store_is_built_exactly_where_it_can_be();
     bench_builds_in_full();
     builds_are_full();
     commands_are_within();
+    genuine_objects_run_as_the_full_build();
     looks_leave_an_end();
+    runs_leave_a_rest();
     runs_leave_an_end();
     sessions_build_in_full();
     let reply = obey_words(alloc, words, store, input, out);

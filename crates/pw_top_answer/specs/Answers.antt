@@ -1,6 +1,7 @@
 -- The status and the line of each answer.
 use Rattle.std.specs.Prelude.{Bool, ℕ, List, [], ◌++◌, codes, false, true, Option, Some, None}
 use Rattle.std.specs.Fmt.{decimal}
+use Rattle.pw_cmean.specs.Undefined.{text_of}
 use Rattle.pw_cpp_directives.specs.declared.fault.CppKind.{CppKind}
 use Rattle.pw_cpp_directives.specs.declared.fault.CppKind.TheVariants as cpp
 use Rattle.pw_cpp_directives.specs.declared.fault.CppWhich.{CppWhich}
@@ -26,7 +27,7 @@ use Rattle.pw_value.specs.declared.fault.What.{What}
 use Rattle.pw_value.specs.declared.fault.What.TheVariants.{Modules, TextBytes, Functions, Globals}
 use Rattle.pw_store_modules.specs.FileNames.{text_name}
 use Rattle.pw_top_answer.specs.declared.answer.Answer.{Answer}
-use Rattle.pw_top_answer.specs.declared.answer.Answer.TheVariants.{Done, Ended, Usage, Refused, LinkRefused, StackStop, Spent, Halted, ReadFault, WriteFault, StoreFault, NoMemory, BadFile, BadScript, NoFrames, RefusedSource, Cpp}
+use Rattle.pw_top_answer.specs.declared.answer.Answer.TheVariants.{Done, Ended, Usage, Refused, LinkRefused, StackStop, Spent, Halted, ReadFault, WriteFault, StoreFault, NoMemory, BadFile, BadScript, NoFrames, RefusedSource, Cpp, Undefined}
 
 -- the status with which the process ends
 abbrev pub status_of : Answer → ℕ
@@ -46,6 +47,7 @@ status_of StoreFault = 120
 status_of NoMemory = 121
 status_of (BadFile name at) = 122
 status_of (BadScript at) = 123
+status_of (Undefined operation name token) = 124
 status_of (NoFrames address) = 125
 
 -- ---- the line that is told
@@ -168,7 +170,7 @@ at_line (Some line) = codes ":" ++ decimal line
 abbrev pub source_file : List ℕ → List ℕ
 source_file name = name ++ codes ".c"
 
--- The line of an answer, where a refused module is refused on this line of its text. A command that is done and a run that ended have none.
+-- The line of an answer, where a refused module is refused, or an undefined operation stands, on this line of its text. A command that is done and a run that ended have none.
 abbrev pub line_text : Option ℕ → Answer → List ℕ
 line_text line Done = []
 line_text line (Ended status) = []
@@ -187,6 +189,7 @@ line_text line NoMemory = codes "NoMemory" ++ newline
 line_text line (BadFile name at) = bad_file_text name at ++ newline
 line_text line (BadScript at) = codes "BadScript at " ++ decimal at ++ newline
 line_text line (NoFrames address) = codes "NoFrames " ++ decimal address ++ newline
+line_text line (Undefined operation name token) = text_name name ++ at_line line ++ codes ": Undefined " ++ text_of operation ++ codes " at token " ++ decimal token ++ newline
 
 -- the answers whose lines name something, and are made for them
 abbrev pub NeedsMemory : Answer → Type 0
@@ -207,3 +210,4 @@ NeedsMemory NoMemory = ⊥
 NeedsMemory (BadFile name at) = Unit {0}
 NeedsMemory (BadScript at) = Unit {0}
 NeedsMemory (NoFrames address) = Unit {0}
+NeedsMemory (Undefined operation name token) = Unit {0}

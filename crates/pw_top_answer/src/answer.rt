@@ -4,6 +4,7 @@ ghost use Rattle.std.specs.Prelude.{◌≡◌};
 ghost use Rattle.std.specs.Process.{exit_status};
 ghost use Rattle.pw_top_answer.specs.Answers.{is_untold, status_of};
 
+use pw_cmean::Undef;
 use pw_cpp::CppFault;
 use pw_front_end::Refusal;
 use pw_io::StoreError;
@@ -50,9 +51,12 @@ pub enum Answer {
     BadScript(u64),
     /// A walk over the frames of the functions that are active is lost at this address.
     NoFrames(Word),
+    /// The program met an operation that has no meaning in C, in the module of this name, at this token.
+    Undefined(Undef, Name, usize),
 }
 
-/// What came of a command. Where a module is refused, `line` is the line of its text on which it is, counted from 1.
+/// What came of a command. Where a module is refused, or an undefined operation is met in it, `line` is the line of its text on
+/// which that is, counted from 1.
 #[derive(Drop)]
 pub struct Reply {
     pub answer: Answer,
@@ -121,6 +125,7 @@ pub fn status(answer: &Answer) -> u8
         Answer::NoMemory => 121,
         Answer::BadFile(_, _) => 122,
         Answer::BadScript(_) => 123,
+        Answer::Undefined(_, _, _) => 124,
         Answer::NoFrames(_) => 125,
     }
 }

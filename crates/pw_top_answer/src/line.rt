@@ -7,6 +7,7 @@ ghost use Rattle.pw_top_answer.specs.Lines.{line_bytes};
 
 use crate::answer::Answer;
 use pw_check_walk::{CheckKind, Which};
+use pw_cmean::{Undef, undefined_text};
 use pw_cpp::{CppFault, CppKind, CppWhich};
 use pw_front_end::{ParseFault, Refusal};
 use pw_machine::Halt;
@@ -374,6 +375,25 @@ fn no_frames_line(alloc: Global, address: Word) -> Result<Vec<u8>, AllocError>
     Ok(text)
 }
 
+/// The line of an undefined operation at a token of a module's text, on line `line` of it.
+fn undefined_line(
+    alloc: Global,
+    operation: Undef,
+    name: &Name,
+    token: usize,
+    line: Option<usize>,
+) -> Result<Vec<u8>, AllocError>
+    ensures { IfOk result (λ text. text.items ≡ line_text line (Answer.Undefined operation name.now token)) }
+{
+    let mut text = Vec::from_slice(alloc, name.as_bytes())?;
+    text.extend_from_slice(TEXT_ENDING.as_bytes())?;
+    push_line(&mut text, line)?;
+    text.extend_from_slice(b": Undefined ")?;
+    push_at(&mut text, undefined_text(operation).as_bytes(), token)?;
+    text.extend_from_slice(b"\n")?;
+    Ok(text)
+}
+
 /// The line of a script that has no lawful line at an offset.
 fn bad_script_line(alloc: Global, at: u64) -> Result<Vec<u8>, AllocError>
     ensures { IfOk result (λ text. text.items ≡ codes "BadScript at " ++ decimal at ++ codes "\n") }
@@ -422,6 +442,9 @@ pub fn line_of(alloc: Global, answer: &Answer, line: Option<usize>) -> Result<Li
         Answer::BadFile(name, at) => Ok(Line::Made(bad_file_line(alloc, name, *at)?)),
         Answer::BadScript(at) => Ok(Line::Made(bad_script_line(alloc, *at)?)),
         Answer::NoFrames(address) => Ok(Line::Made(no_frames_line(alloc, *address)?)),
+        Answer::Undefined(operation, name, token) => {
+            Ok(Line::Made(undefined_line(alloc, *operation, name, *token, line)?))
+        }
         Answer::Done | Answer::Ended(_) => Ok(Line::Fixed(b"")),
         Answer::Usage => Ok(Line::Fixed(b"usage\n")),
         Answer::StackStop => Ok(Line::Fixed(b"StackStop\n")),

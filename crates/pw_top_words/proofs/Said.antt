@@ -71,8 +71,8 @@ different x y apart = go (bytes_eq x y) refl
     go true e = absurd (apart ((bytes_eq-Decides x y).0 e))
     go false e = e
 
-pub unknown : (word : Text) (words : List Text) → bytes_eq word (codes "go") ≡ false → bytes_eq word (codes "build") ≡ false → bytes_eq word (codes "session") ≡ false → bytes_eq word (codes "cpp") ≡ false → bytes_eq word (codes "phase1") ≡ false → bytes_eq word (codes "analyse") ≡ false
+pub unknown : (word : Text) (o : Bool) (others words : List Text) → bytes_eq word (codes "go") ≡ false → bytes_eq word (codes "build") ≡ false → bytes_eq word (codes "session") ≡ false → bytes_eq word (codes "cpp") ≡ false → bytes_eq word (codes "phase1") ≡ false → bytes_eq word (codes "analyse") ≡ false
     → bytes_eq word (codes "phase2") ≡ false → bytes_eq word (codes "link") ≡ false → bytes_eq word (codes "run") ≡ false → bytes_eq word (codes "list") ≡ false
-    → bytes_eq word (codes "db") ≡ false → bytes_eq word (codes "bench") ≡ false → bytes_eq word (codes "where") ≡ false → command_by_name word words ≡ None
+    → bytes_eq word (codes "db") ≡ false → bytes_eq word (codes "bench") ≡ false → bytes_eq word (codes "where") ≡ false → bytes_eq word (codes "interp") ≡ false → command_by_name word o others words ≡ None
 unfolding command_by_name
-unknown word words a b c d e f g h i j k l m = rw (a, b, c, d, e, f, g, h, i, j, k, l, m) refl
+unknown word o others words a b c d e f g h i j k l m n = rw (a, b, c, d, e, f, g, h, i, j, k, l, m, n) refl

@@ -7,8 +7,8 @@ use Rattle.pw_value.specs.Limits.{stack_least, stack_limit}
 use Rattle.pw_store_modules.specs.Modules.{is_module_name}
 use Rattle.pw_build_opts.specs.declared.opts.RunOpts.{RunOpts}
 use Rattle.pw_top_words.specs.declared.commands.Command.{Command}
-use Rattle.pw_top_words.specs.declared.commands.Command.TheVariants.{Go, Build, Session, PhaseOne, Analyse, PhaseTwo, Link, Run, List as ListImage, Db, Bench, Where, Preprocess}
-use Rattle.pw_top_words.specs.CommandLine.{Text, Part, is_numeral, number_in, number_or, value_of, colours, stack, steps, colours_in, stack_in, steps_in, module_named, module_in, plain_word, parts_of, seed_in, call_in, call_limit, built_with, run_with, with_build, with_run, go_of, build_of, session_of, analyse_of, link_of, run_of, bench_of, where_of, command_by_name, command_of, usual_stack}
+use Rattle.pw_top_words.specs.declared.commands.Command.TheVariants.{Go, Build, Session, PhaseOne, Analyse, PhaseTwo, Link, Run, List as ListImage, Db, Bench, Where, Preprocess, Interp}
+use Rattle.pw_top_words.specs.CommandLine.{Text, Part, is_numeral, number_in, number_or, value_of, colours, stack, steps, colours_in, stack_in, steps_in, module_named, module_in, plain_word, parts_of, seed_in, call_in, call_limit, built_with, run_with, is_switched, unswitched, with_build, with_run, go_of, build_of, session_of, analyse_of, link_of, run_of, bench_of, where_of, interp_of, command_by_name, command_of, usual_stack}
 use Rattle.pw_top_words.specs.Limits.{IsStack, IsWithin}
 use Rattle.pw_db.specs.Limits.{colour_limit}
 
@@ -93,57 +93,61 @@ any_within make (Some n) k = some_within (make n) (k n)
 
 -- the numbers of a build and a run, for each command that has them
 abbrev Runs : (RunOpts → Command) → Type 0
-Runs say = (c s n : ℕ) → c ≤ colour_limit → IsStack s → IsWithin (say (run_with c s n))
+Runs say = (c s n : ℕ) (o : Bool) → c ≤ colour_limit → IsStack s → IsWithin (say (run_with c s o n))
 
-stacked : (say : RunOpts → Command) (c : ℕ) (given : Option ℕ) (parts : List Part) → Runs say → c ≤ colour_limit → IsIn stack_least stack_limit given → Within (option_and_then (λ s. option_map (λ n. say (run_with c s n)) (steps_in parts)) given)
-stacked say c None parts all h k = none_within
-stacked say c (Some s) parts all h k = any_within (λ n. say (run_with c s n)) (steps_in parts) (λ n. all c s n h k)
+stacked : (say : RunOpts → Command) (o : Bool) (c : ℕ) (given : Option ℕ) (parts : List Part) → Runs say → c ≤ colour_limit → IsIn stack_least stack_limit given → Within (option_and_then (λ s. option_map (λ n. say (run_with c s o n)) (steps_in parts)) given)
+stacked say o c None parts all h k = none_within
+stacked say o c (Some s) parts all h k = any_within (λ n. say (run_with c s o n)) (steps_in parts) (λ n. all c s n o h k)
 
-coloured : (say : RunOpts → Command) (given : Option ℕ) (parts : List Part) → Runs say → IsIn 0 colour_limit given → Within (option_and_then (λ c. option_and_then (λ s. option_map (λ n. say (run_with c s n)) (steps_in parts)) (stack_in parts)) given)
-coloured say None parts all h = none_within
-coloured say (Some c) parts all h = stacked say c (stack_in parts) parts all h.1 (stack_is_in parts)
+coloured : (say : RunOpts → Command) (o : Bool) (given : Option ℕ) (parts : List Part) → Runs say → IsIn 0 colour_limit given → Within (option_and_then (λ c. option_and_then (λ s. option_map (λ n. say (run_with c s o n)) (steps_in parts)) (stack_in parts)) given)
+coloured say o None parts all h = none_within
+coloured say o (Some c) parts all h = stacked say o c (stack_in parts) parts all h.1 (stack_is_in parts)
 
-run_options_within : (say : RunOpts → Command) (parts : List Part) → Runs say → Within (with_run say parts)
-run_options_within say parts all = coloured say (colours_in parts) parts all (colours_are_in parts)
+run_options_within : (say : RunOpts → Command) (o : Bool) (parts : List Part) → Runs say → Within (with_run say o parts)
+run_options_within say o parts all = coloured say o (colours_in parts) parts all (colours_are_in parts)
 
-go_within : (words : List Text) → Within (go_of words)
-go_within words = parts_within (parts_of (colours ∷ stack ∷ steps ∷ []) 0 words) (with_run Go) (λ parts. run_options_within Go parts (λ c s n h k. (h, k)))
+go_within : (o : Bool) (words : List Text) → Within (go_of o words)
+go_within o words = parts_within (parts_of (colours ∷ stack ∷ steps ∷ []) 0 words) (with_run Go o) (λ parts. run_options_within Go o parts (λ c s n o h k. (h, k)))
 
-session_within : (words : List Text) → Within (session_of words)
-session_within words = parts_within (parts_of (colours ∷ stack ∷ steps ∷ []) 0 words) (with_run Session) (λ parts. run_options_within Session parts (λ c s n h k. (h, k)))
+session_within : (o : Bool) (words : List Text) → Within (session_of o words)
+session_within o words = parts_within (parts_of (colours ∷ stack ∷ steps ∷ []) 0 words) (with_run Session o) (λ parts. run_options_within Session o parts (λ c s n o h k. (h, k)))
 
-seeded : (given : Option ℕ) (parts : List Part) → Within (option_and_then (λ x. with_run (Bench x) parts) given)
-seeded None parts = none_within
-seeded (Some x) parts = run_options_within (Bench x) parts (λ c s n h k. (h, k))
+seeded : (o : Bool) (given : Option ℕ) (parts : List Part) → Within (option_and_then (λ x. with_run (Bench x) o parts) given)
+seeded o None parts = none_within
+seeded o (Some x) parts = run_options_within (Bench x) o parts (λ c s n o h k. (h, k))
 
-bench_within : (words : List Text) → Within (bench_of words)
-bench_within words = parts_within (parts_of (colours ∷ stack ∷ steps ∷ []) 1 words) (λ parts. option_and_then (λ x. with_run (Bench x) parts) (seed_in parts)) (λ parts. seeded (seed_in parts) parts)
+bench_within : (o : Bool) (words : List Text) → Within (bench_of o words)
+bench_within o words =
+    parts_within (parts_of (colours ∷ stack ∷ steps ∷ []) 1 words) (λ parts. option_and_then (λ x. with_run (Bench x) o parts) (seed_in parts)) (λ parts. seeded o (seed_in parts) parts)
 
 -- the number of a call is one at least
 call_is_in : (found : Option Text) → IsIn 1 call_limit (option_and_then (number_in 1 call_limit) found)
 call_is_in None = tt
 call_is_in (Some text) = number_is_in 1 call_limit text
 
-called : (given : Option ℕ) (parts : List Part) → IsIn 1 call_limit given → Within (option_and_then (λ k. with_run (Where k) parts) given)
-called None parts h = none_within
-called (Some k) parts h = run_options_within (Where k) parts (λ c s n few is_stack. (omega (arith, h.0), (few, is_stack)))
+called : (o : Bool) (given : Option ℕ) (parts : List Part) → IsIn 1 call_limit given → Within (option_and_then (λ k. with_run (Where k) o parts) given)
+called o None parts h = none_within
+called o (Some k) parts h = run_options_within (Where k) o parts (λ c s n o few is_stack. (omega (arith, h.0), (few, is_stack)))
 
-where_within : (words : List Text) → Within (where_of words)
-where_within words =
-    parts_within (parts_of (colours ∷ stack ∷ steps ∷ []) 1 words) (λ parts. option_and_then (λ k. with_run (Where k) parts) (call_in parts))
-    (λ parts. called (call_in parts) parts (call_is_in (plain_word parts)))
+where_within : (o : Bool) (words : List Text) → Within (where_of o words)
+where_within o words =
+    parts_within (parts_of (colours ∷ stack ∷ steps ∷ []) 1 words) (λ parts. option_and_then (λ k. with_run (Where k) o parts) (call_in parts))
+    (λ parts. called o (call_in parts) parts (call_is_in (plain_word parts)))
+
+interp_within : (o : Bool) (words : List Text) → Within (interp_of o words)
+interp_within o words = parts_within (parts_of (colours ∷ stack ∷ steps ∷ []) 0 words) (with_run Interp o) (λ parts. run_options_within Interp o parts (λ c s n o h k. (h, k)))
 
 -- the numbers of a build
-built : (c : ℕ) (given : Option ℕ) → c ≤ colour_limit → IsIn stack_least stack_limit given → Within (option_map (λ s. Build (built_with c s)) given)
-built c None h k = none_within
-built c (Some s) h k = some_within (Build (built_with c s)) (h, k)
+built : (o : Bool) (c : ℕ) (given : Option ℕ) → c ≤ colour_limit → IsIn stack_least stack_limit given → Within (option_map (λ s. Build (built_with c s o)) given)
+built o c None h k = none_within
+built o c (Some s) h k = some_within (Build (built_with c s o)) (h, k)
 
-build_options_within : (given : Option ℕ) (parts : List Part) → IsIn 0 colour_limit given → Within (option_and_then (λ c. option_map (λ s. Build (built_with c s)) (stack_in parts)) given)
-build_options_within None parts h = none_within
-build_options_within (Some c) parts h = built c (stack_in parts) h.1 (stack_is_in parts)
+build_options_within : (o : Bool) (given : Option ℕ) (parts : List Part) → IsIn 0 colour_limit given → Within (option_and_then (λ c. option_map (λ s. Build (built_with c s o)) (stack_in parts)) given)
+build_options_within o None parts h = none_within
+build_options_within o (Some c) parts h = built o c (stack_in parts) h.1 (stack_is_in parts)
 
-build_within : (words : List Text) → Within (build_of words)
-build_within words = parts_within (parts_of (colours ∷ stack ∷ []) 0 words) (with_build Build) (λ parts. build_options_within (colours_in parts) parts (colours_are_in parts))
+build_within : (o : Bool) (words : List Text) → Within (build_of o words)
+build_within o words = parts_within (parts_of (colours ∷ stack ∷ []) 0 words) (with_build Build o) (λ parts. build_options_within o (colours_in parts) parts (colours_are_in parts))
 
 phase_within : (make : Text → Command) (words : List Text) → ((name : Text) → is_module_name name ≡ true → IsWithin (make name)) → Within (option_and_then (λ parts. option_map make (module_in parts)) (parts_of [] 1 words))
 phase_within make words k =
@@ -159,24 +163,25 @@ link_within words = parts_within (parts_of (stack ∷ []) 0 words) (λ parts. op
 run_within : (words : List Text) → Within (run_of words)
 run_within words = parts_within (parts_of (steps ∷ []) 0 words) (λ parts. option_map Run (steps_in parts)) (λ parts. any_within Run (steps_in parts) (λ n. tt))
 
-name_within : (name : Text) (words : List Text) → Within (command_by_name name words)
+name_within : (name : Text) (o : Bool) (others words : List Text) → Within (command_by_name name o others words)
 unfolding command_by_name
-name_within name words =
-    if_within (bytes_eq name (codes "go")) _ _ (go_within words)
-    (if_within (bytes_eq name (codes "build")) _ _ (build_within words)
-    (if_within (bytes_eq name (codes "session")) _ _ (session_within words)
+name_within name o others words =
+    if_within (bytes_eq name (codes "go")) _ _ (go_within o others)
+    (if_within (bytes_eq name (codes "build")) _ _ (build_within o others)
+    (if_within (bytes_eq name (codes "session")) _ _ (session_within o others)
     (if_within (bytes_eq name (codes "cpp")) _ _ (phase_within Preprocess words (λ n h. h))
-    (if_within (bytes_eq name (codes "phase1")) _ _ (phase_within PhaseOne words (λ n h. h))
+    (if_within (bytes_eq name (codes "phase1")) _ _ (phase_within (λ n. PhaseOne n o) others (λ n h. h))
     (if_within (bytes_eq name (codes "analyse")) _ _ (analyse_within words)
     (if_within (bytes_eq name (codes "phase2")) _ _ (phase_within PhaseTwo words (λ n h. h))
     (if_within (bytes_eq name (codes "link")) _ _ (link_within words)
     (if_within (bytes_eq name (codes "run")) _ _ (run_within words)
     (if_within (bytes_eq name (codes "list")) _ _ (listed_within (parts_of [] 0 words) ListImage tt)
     (if_within (bytes_eq name (codes "db")) _ _ (listed_within (parts_of [] 0 words) Db tt)
-    (if_within (bytes_eq name (codes "bench")) _ _ (bench_within words)
-    (if_within (bytes_eq name (codes "where")) _ _ (where_within words)
-    none_within))))))))))))
+    (if_within (bytes_eq name (codes "bench")) _ _ (bench_within o others)
+    (if_within (bytes_eq name (codes "where")) _ _ (where_within o others)
+    (if_within (bytes_eq name (codes "interp")) _ _ (interp_within o others)
+    none_within)))))))))))))
 
 pub words_within : (words : List Text) → Within (command_of words)
 words_within [] = none_within
-words_within (name ∷ words) = name_within name words
+words_within (name ∷ words) = name_within name (is_switched words) (unswitched words) words

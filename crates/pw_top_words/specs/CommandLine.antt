@@ -1,5 +1,5 @@
 -- The words of a command line, and the command that they say.
-use Rattle.std.specs.Prelude.{◌≡◌, ℕ, zero, suc, ◌==◌, ◌&&◌, not, Bool, true, false, nat_le, if◌then◌else◌, List, [], ◌∷◌, map, filter, drop, length, codes, Option, Some, None, option_map, option_and_then, Result, Ok, Err}
+use Rattle.std.specs.Prelude.{◌≡◌, ℕ, zero, suc, ◌==◌, ◌&&◌, not, Bool, true, false, nat_le, if◌then◌else◌, List, [], ◌∷◌, map, filter, drop, take, ◌++◌, length, codes, is_some, Option, Some, None, option_map, option_and_then, Result, Ok, Err}
 use Rattle.std.specs.List.{list_any, list_all, before_first, after_first}
 use Rattle.std.specs.Char.{is_ascii_digit}
 use Rattle.std.specs.Str.{bytes_eq}
@@ -11,7 +11,7 @@ use Rattle.pw_build_opts.specs.declared.opts.RunOpts.{RunOpts}
 use Rattle.pw_top_words.specs.declared.fault.WordsFault.{WordsFault}
 use Rattle.pw_top_words.specs.declared.fault.WordsFault.TheVariants.{Usage, NoMemory}
 use Rattle.pw_top_words.specs.declared.commands.Command.{Command}
-use Rattle.pw_top_words.specs.declared.commands.Command.TheVariants.{Go, Build, Session, PhaseOne, Analyse, PhaseTwo, Link, Run, List as ListImage, Db, Bench, Where, Preprocess}
+use Rattle.pw_top_words.specs.declared.commands.Command.TheVariants.{Go, Build, Session, PhaseOne, Analyse, PhaseTwo, Link, Run, List as ListImage, Db, Bench, Where, Preprocess, Interp}
 use Rattle.pw_db.specs.Limits.{colour_limit}
 
 abbrev pub Text : Type 0
@@ -62,6 +62,34 @@ parts_from None (word ∷ words) =
     (if has_value word then with_part (Given (option_name word) (option_value word)) (parts_from None words)
     else parts_from (Some (option_name word)) words) else
     if is_dashed word then None else with_part (Plain word) (parts_from None words)
+
+-- ---- the switch
+
+-- the word that asks for optimised flow graphs
+abbrev pub switch : Text
+switch = codes "-O"
+
+-- The place of the first switch: a word that is no option's value, in front of `--`. It tells whether an option waits for
+-- its value, which is the next word.
+abbrev pub switch_from : Bool → List Text → Option ℕ
+switch_from waits [] = None
+switch_from true (word ∷ words) = option_map suc (switch_from false words)
+switch_from false (word ∷ words) =
+    if bytes_eq word (codes "--") then None else
+    if bytes_eq word switch then Some 0 else
+    option_map suc (switch_from (is_named word && not (has_value word)) words)
+
+-- whether words ask for optimised flow graphs
+abbrev pub is_switched : List Text → Bool
+is_switched words = is_some (switch_from false words)
+
+abbrev pub without_place : Option ℕ → List Text → List Text
+without_place None words = words
+without_place (Some n) words = take n words ++ drop (suc n) words
+
+-- the other words; a second switch among them is no part of theirs
+abbrev pub unswitched : List Text → List Text
+unswitched words = without_place (switch_from false words) words
 
 -- ---- which parts a command takes
 
@@ -184,34 +212,34 @@ call_in parts = option_and_then (number_in 1 call_limit) (plain_word parts)
 -- ---- commands
 
 -- what is said by the options of a build, and by those of a build and a run
-abbrev pub built_with : ℕ → ℕ → Opts
-built_with c s = record { colours = c; stack = s }
+abbrev pub built_with : ℕ → ℕ → Bool → Opts
+built_with c s o = record { colours = c; stack = s; optimise = o }
 
-abbrev pub with_build : (Opts → Command) → List Part → Option Command
-with_build say parts = option_and_then (λ c. option_map (λ s. say (built_with c s)) (stack_in parts)) (colours_in parts)
+abbrev pub with_build : (Opts → Command) → Bool → List Part → Option Command
+with_build say o parts = option_and_then (λ c. option_map (λ s. say (built_with c s o)) (stack_in parts)) (colours_in parts)
 
-abbrev pub run_with : ℕ → ℕ → ℕ → RunOpts
-run_with c s n = record { build = built_with c s; budget = n }
+abbrev pub run_with : ℕ → ℕ → Bool → ℕ → RunOpts
+run_with c s o n = record { build = built_with c s o; budget = n }
 
-abbrev pub with_run : (RunOpts → Command) → List Part → Option Command
-with_run say parts =
-    option_and_then (λ c. option_and_then (λ s. option_map (λ n. say (run_with c s n)) (steps_in parts)) (stack_in parts)) (colours_in parts)
+abbrev pub with_run : (RunOpts → Command) → Bool → List Part → Option Command
+with_run say o parts =
+    option_and_then (λ c. option_and_then (λ s. option_map (λ n. say (run_with c s o n)) (steps_in parts)) (stack_in parts)) (colours_in parts)
 
--- what the words behind a command's name say
-abbrev pub go_of : List Text → Option Command
-go_of words = option_and_then (with_run Go) (parts_of (colours ∷ stack ∷ steps ∷ []) 0 words)
+-- what the words behind a command's name say, of those that may have a switch the others with whether it is there
+abbrev pub go_of : Bool → List Text → Option Command
+go_of o words = option_and_then (with_run Go o) (parts_of (colours ∷ stack ∷ steps ∷ []) 0 words)
 
-abbrev pub build_of : List Text → Option Command
-build_of words = option_and_then (with_build Build) (parts_of (colours ∷ stack ∷ []) 0 words)
+abbrev pub build_of : Bool → List Text → Option Command
+build_of o words = option_and_then (with_build Build o) (parts_of (colours ∷ stack ∷ []) 0 words)
 
-abbrev pub session_of : List Text → Option Command
-session_of words = option_and_then (with_run Session) (parts_of (colours ∷ stack ∷ steps ∷ []) 0 words)
+abbrev pub session_of : Bool → List Text → Option Command
+session_of o words = option_and_then (with_run Session o) (parts_of (colours ∷ stack ∷ steps ∷ []) 0 words)
 
 abbrev pub preprocess_of : List Text → Option Command
 preprocess_of words = option_and_then (λ parts. option_map Preprocess (module_in parts)) (parts_of [] 1 words)
 
-abbrev pub phase_one_of : List Text → Option Command
-phase_one_of words = option_and_then (λ parts. option_map PhaseOne (module_in parts)) (parts_of [] 1 words)
+abbrev pub phase_one_of : Bool → List Text → Option Command
+phase_one_of o words = option_and_then (λ parts. option_map (λ name. PhaseOne name o) (module_in parts)) (parts_of [] 1 words)
 
 abbrev pub analyse_of : List Text → Option Command
 analyse_of words = option_and_then (λ parts. option_map Analyse (colours_in parts)) (parts_of (colours ∷ []) 0 words)
@@ -231,36 +259,40 @@ list_of words = option_map (λ parts. ListImage) (parts_of [] 0 words)
 abbrev pub db_of : List Text → Option Command
 db_of words = option_map (λ parts. Db) (parts_of [] 0 words)
 
-abbrev pub bench_of : List Text → Option Command
-bench_of words =
-    option_and_then (λ parts. option_and_then (λ x. with_run (Bench x) parts) (seed_in parts)) (parts_of (colours ∷ stack ∷ steps ∷ []) 1 words)
+abbrev pub bench_of : Bool → List Text → Option Command
+bench_of o words =
+    option_and_then (λ parts. option_and_then (λ x. with_run (Bench x) o parts) (seed_in parts)) (parts_of (colours ∷ stack ∷ steps ∷ []) 1 words)
 
-abbrev pub where_of : List Text → Option Command
-where_of words =
-    option_and_then (λ parts. option_and_then (λ k. with_run (Where k) parts) (call_in parts)) (parts_of (colours ∷ stack ∷ steps ∷ []) 1 words)
+abbrev pub where_of : Bool → List Text → Option Command
+where_of o words =
+    option_and_then (λ parts. option_and_then (λ k. with_run (Where k) o parts) (call_in parts)) (parts_of (colours ∷ stack ∷ steps ∷ []) 1 words)
 
--- the command of a name, and what the words behind it say
-unfoldable pub command_by_name : Text → List Text → Option Command
-command_by_name name words =
-    if bytes_eq name (codes "go") then go_of words else
-    if bytes_eq name (codes "build") then build_of words else
-    if bytes_eq name (codes "session") then session_of words else
+abbrev pub interp_of : Bool → List Text → Option Command
+interp_of o words = option_and_then (with_run Interp o) (parts_of (colours ∷ stack ∷ steps ∷ []) 0 words)
+
+-- the command of a name, and what the words behind it say: all of them, or those without a switch and whether it was there
+unfoldable pub command_by_name : Text → Bool → List Text → List Text → Option Command
+command_by_name name o others words =
+    if bytes_eq name (codes "go") then go_of o others else
+    if bytes_eq name (codes "build") then build_of o others else
+    if bytes_eq name (codes "session") then session_of o others else
     if bytes_eq name (codes "cpp") then preprocess_of words else
-    if bytes_eq name (codes "phase1") then phase_one_of words else
+    if bytes_eq name (codes "phase1") then phase_one_of o others else
     if bytes_eq name (codes "analyse") then analyse_of words else
     if bytes_eq name (codes "phase2") then phase_two_of words else
     if bytes_eq name (codes "link") then link_of words else
     if bytes_eq name (codes "run") then run_of words else
     if bytes_eq name (codes "list") then list_of words else
     if bytes_eq name (codes "db") then db_of words else
-    if bytes_eq name (codes "bench") then bench_of words else
-    if bytes_eq name (codes "where") then where_of words else
+    if bytes_eq name (codes "bench") then bench_of o others else
+    if bytes_eq name (codes "where") then where_of o others else
+    if bytes_eq name (codes "interp") then interp_of o others else
     None
 
 -- the command that words say
 abbrev pub command_of : List Text → Option Command
 command_of [] = None
-command_of (name ∷ words) = command_by_name name words
+command_of (name ∷ words) = command_by_name name (is_switched words) (unswitched words) words
 
 -- ---- what a call answers
 

@@ -4,7 +4,7 @@ use Rattle.pw_value.specs.Limits.{stack_least, stack_limit}
 use Rattle.pw_store_modules.specs.Modules.{is_module_name}
 use Rattle.pw_build_opts.specs.declared.opts.Opts.{Opts}
 use Rattle.pw_top_words.specs.declared.commands.Command.{Command}
-use Rattle.pw_top_words.specs.declared.commands.Command.TheVariants.{Go, Build, Session, PhaseOne, Analyse, PhaseTwo, Link, Run, List as ListImage, Db, Bench, Where, Preprocess}
+use Rattle.pw_top_words.specs.declared.commands.Command.TheVariants.{Go, Build, Session, PhaseOne, Analyse, PhaseTwo, Link, Run, List as ListImage, Db, Bench, Where, Preprocess, Interp}
 use Rattle.pw_db.specs.Limits.{colour_limit}
 
 -- the bytes of a stack
@@ -21,7 +21,7 @@ IsWithin (Go opts) = AreWithin opts.build
 IsWithin (Build opts) = AreWithin opts
 IsWithin (Session opts) = AreWithin opts.build
 IsWithin (Preprocess name) = is_module_name name ≡ true
-IsWithin (PhaseOne name) = is_module_name name ≡ true
+IsWithin (PhaseOne name optimise) = is_module_name name ≡ true
 IsWithin (Analyse colours) = colours ≤ colour_limit
 IsWithin (PhaseTwo name) = is_module_name name ≡ true
 IsWithin (Link stack) = IsStack stack
@@ -30,3 +30,4 @@ IsWithin ListImage = Unit {0}
 IsWithin Db = Unit {0}
 IsWithin (Bench number opts) = AreWithin opts.build
 IsWithin (Where k opts) = (0 < k) × AreWithin opts.build
+IsWithin (Interp opts) = AreWithin opts.build

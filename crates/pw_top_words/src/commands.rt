@@ -18,8 +18,8 @@ pub enum Command {
     Session(RunOpts),
     /// The text of a C module, preprocessed.
     Preprocess(Name),
-    /// The first phase of a module.
-    PhaseOne(Name),
+    /// The first phase of a module, whose flow graph may be optimised.
+    PhaseOne { name: Name, optimise: bool },
     /// The analysis of all modules.
     Analyse { colours: u8 },
     /// The second phase of a module.
@@ -34,6 +34,8 @@ pub enum Command {
     Db,
     /// A build, and a look at the call of a number, counted from 1, in the run.
     Where { call: u64, opts: RunOpts },
+    /// A run of the modules by the meaning of C, of which `steps` is the bound, with the frames of a build's image.
+    Interp(RunOpts),
     /// A build and a run of modules that are made from a number.
     Bench { number: u32, opts: RunOpts },
 }

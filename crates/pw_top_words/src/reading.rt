@@ -2,13 +2,14 @@
 
 ghost use Rattle.std.specs.Prelude.{◌≡◌, ◌≢◌, ◌≤◌, ℕ, List, None, Err, IfErr, IfOk, drop, map, string_bytes, codes, option_map, option_and_then, Option};
 ghost use Rattle.clap.specs.Matches.{first_value, found_of};
-ghost use Rattle.pw_top_words.specs.CommandLine.{Part, Reads, colours_in, command_of, go_of, command_by_name, module_in, number_or, parts_of, seed_in, stack_in, steps_in, with_build, with_run, build_of, session_of, bench_of, phase_one_of, phase_two_of, analyse_of, link_of, run_of, list_of, db_of, where_of, call_in, call_limit, digits_limit, usual_stack, steps_limit, seed_limit, usual_steps, preprocess_of};
+ghost use Rattle.pw_top_words.specs.CommandLine.{Part, Reads, is_switched, unswitched, colours_in, command_of, go_of, command_by_name, module_in, number_or, parts_of, seed_in, stack_in, steps_in, with_build, with_run, build_of, session_of, bench_of, phase_one_of, phase_two_of, analyse_of, link_of, run_of, list_of, db_of, where_of, call_in, call_limit, digits_limit, usual_stack, steps_limit, seed_limit, usual_steps, preprocess_of, interp_of};
 ghost use Rattle.pw_top_words.specs.Reading.{IsMatchOf};
 
 use crate::commands::Command;
 use crate::fault::WordsFault;
 use crate::numbers::{DIGITS_LIMIT, number_in};
 use crate::reader::{OPERAND, read_parts};
+use crate::switch::line_of;
 use clap::ArgMatches;
 use pw_build_opts::{Opts, RunOpts};
 use pw_db::COLOUR_LIMIT;
@@ -161,37 +162,40 @@ fn call(matches: &ArgMatches) -> Result<u64, WordsFault>
     }
 }
 
-fn go(alloc: Global, words: &[String]) -> Result<Command, WordsFault>
-    ensures { Reads (go_of (drop 1 (map string_bytes words.now))) result }
+fn go(alloc: Global, words: &[String], optimise: bool) -> Result<Command, WordsFault>
+    ensures { Reads (go_of optimise (drop 1 (map string_bytes words.now))) result }
 {
     let matches = read_parts(alloc, words, &BUILD_AND_RUN, false)?;
     Ok(Command::Go(RunOpts {
         build: Opts {
             colours: colours(&matches)?,
             stack: stack(&matches)?,
+            optimise,
         },
         budget: steps(&matches)?,
     }))
 }
 
-fn build(alloc: Global, words: &[String]) -> Result<Command, WordsFault>
-    ensures { Reads (build_of (drop 1 (map string_bytes words.now))) result }
+fn build(alloc: Global, words: &[String], optimise: bool) -> Result<Command, WordsFault>
+    ensures { Reads (build_of optimise (drop 1 (map string_bytes words.now))) result }
 {
     let matches = read_parts(alloc, words, &BUILD, false)?;
     Ok(Command::Build(Opts {
         colours: colours(&matches)?,
         stack: stack(&matches)?,
+        optimise,
     }))
 }
 
-fn session(alloc: Global, words: &[String]) -> Result<Command, WordsFault>
-    ensures { Reads (session_of (drop 1 (map string_bytes words.now))) result }
+fn session(alloc: Global, words: &[String], optimise: bool) -> Result<Command, WordsFault>
+    ensures { Reads (session_of optimise (drop 1 (map string_bytes words.now))) result }
 {
     let matches = read_parts(alloc, words, &BUILD_AND_RUN, false)?;
     Ok(Command::Session(RunOpts {
         build: Opts {
             colours: colours(&matches)?,
             stack: stack(&matches)?,
+            optimise,
         },
         budget: steps(&matches)?,
     }))
@@ -204,11 +208,14 @@ fn preprocess(alloc: Global, words: &[String]) -> Result<Command, WordsFault>
     Ok(Command::Preprocess(module(alloc, &matches)?))
 }
 
-fn phase_one(alloc: Global, words: &[String]) -> Result<Command, WordsFault>
-    ensures { Reads (phase_one_of (drop 1 (map string_bytes words.now))) result }
+fn phase_one(alloc: Global, words: &[String], optimise: bool) -> Result<Command, WordsFault>
+    ensures { Reads (phase_one_of optimise (drop 1 (map string_bytes words.now))) result }
 {
     let matches = read_parts(alloc, words, &[], true)?;
-    Ok(Command::PhaseOne(module(alloc, &matches)?))
+    Ok(Command::PhaseOne {
+        name: module(alloc, &matches)?,
+        optimise,
+    })
 }
 
 fn analyse(alloc: Global, words: &[String]) -> Result<Command, WordsFault>
@@ -259,8 +266,8 @@ fn db(alloc: Global, words: &[String]) -> Result<Command, WordsFault>
     Ok(Command::Db)
 }
 
-fn bench(alloc: Global, words: &[String]) -> Result<Command, WordsFault>
-    ensures { Reads (bench_of (drop 1 (map string_bytes words.now))) result }
+fn bench(alloc: Global, words: &[String], optimise: bool) -> Result<Command, WordsFault>
+    ensures { Reads (bench_of optimise (drop 1 (map string_bytes words.now))) result }
 {
     let matches = read_parts(alloc, words, &BUILD_AND_RUN, true)?;
     Ok(Command::Bench {
@@ -269,14 +276,15 @@ fn bench(alloc: Global, words: &[String]) -> Result<Command, WordsFault>
             build: Opts {
                 colours: colours(&matches)?,
                 stack: stack(&matches)?,
+                optimise,
             },
             budget: steps(&matches)?,
         },
     })
 }
 
-fn show_call(alloc: Global, words: &[String]) -> Result<Command, WordsFault>
-    ensures { Reads (where_of (drop 1 (map string_bytes words.now))) result }
+fn show_call(alloc: Global, words: &[String], optimise: bool) -> Result<Command, WordsFault>
+    ensures { Reads (where_of optimise (drop 1 (map string_bytes words.now))) result }
 {
     let matches = read_parts(alloc, words, &BUILD_AND_RUN, true)?;
     Ok(Command::Where {
@@ -285,33 +293,63 @@ fn show_call(alloc: Global, words: &[String]) -> Result<Command, WordsFault>
             build: Opts {
                 colours: colours(&matches)?,
                 stack: stack(&matches)?,
+                optimise,
             },
             budget: steps(&matches)?,
         },
     })
 }
 
-/// The command of a name, by the words, of which the first is the name.
+fn interp(alloc: Global, words: &[String], optimise: bool) -> Result<Command, WordsFault>
+    ensures { Reads (interp_of optimise (drop 1 (map string_bytes words.now))) result }
+{
+    let matches = read_parts(alloc, words, &BUILD_AND_RUN, false)?;
+    Ok(Command::Interp(RunOpts {
+        build: Opts {
+            colours: colours(&matches)?,
+            stack: stack(&matches)?,
+            optimise,
+        },
+        budget: steps(&matches)?,
+    }))
+}
+
+/// The command of a name, by the words, of which the first is the name, and by the words without the switch.
 #[tactic(auto, unfolding(crate::specs::CommandLine::command_by_name))]
-fn command_named(alloc: Global, name: &str, words: &[String]) -> Result<Command, WordsFault>
-    ensures { Reads (command_by_name name.now (drop 1 (map string_bytes words.now))) result }
+fn command_named(
+    alloc: Global,
+    name: &str,
+    words: &[String],
+    others: &[String],
+    optimise: bool,
+) -> Result<Command, WordsFault>
+    ensures { Reads (command_by_name name.now optimise (drop 1 (map string_bytes others.now)) (drop 1 (map string_bytes words.now))) result }
 {
     match name {
-        "go" => go(alloc, words),
-        "build" => build(alloc, words),
-        "session" => session(alloc, words),
+        "go" => go(alloc, others, optimise),
+        "build" => build(alloc, others, optimise),
+        "session" => session(alloc, others, optimise),
         "cpp" => preprocess(alloc, words),
-        "phase1" => phase_one(alloc, words),
+        "phase1" => phase_one(alloc, others, optimise),
         "analyse" => analyse(alloc, words),
         "phase2" => phase_two(alloc, words),
         "link" => link(alloc, words),
         "run" => run(alloc, words),
         "list" => list(alloc, words),
         "db" => db(alloc, words),
-        "bench" => bench(alloc, words),
-        "where" => show_call(alloc, words),
+        "bench" => bench(alloc, others, optimise),
+        "where" => show_call(alloc, others, optimise),
+        "interp" => interp(alloc, others, optimise),
         _ => Err(WordsFault::Usage),
     }
+}
+
+/// The command of a name, by the words, of which the first is the name.
+fn command_behind(alloc: Global, name: &str, words: &[String]) -> Result<Command, WordsFault>
+    ensures { Reads (command_by_name name.now (is_switched (drop 1 (map string_bytes words.now))) (unswitched (drop 1 (map string_bytes words.now))) (drop 1 (map string_bytes words.now))) result }
+{
+    let line = line_of(alloc, words)?;
+    command_named(alloc, name, words, &line.words, line.optimise)
 }
 
 /// The command that words say, the first of which is its name.
@@ -323,7 +361,7 @@ pub fn command(alloc: Global, words: &[String]) -> Result<Command, WordsFault>
     ensures { Reads (command_of (map string_bytes words.now)) result }
 {
     match words {
-        [name, ..] => command_named(alloc, name.as_str(), words),
+        [name, ..] => command_behind(alloc, name.as_str(), words),
         [] => Err(WordsFault::Usage),
     }
 }

@@ -10,4 +10,5 @@ mod walks;
 mod web;
 
 pub use finding::{interfere, webs};
+pub use neighbours::callers_of;
 pub use web::RawWeb;

@@ -41,7 +41,7 @@ fn add_caller(rows: &mut [Items<u32>], caller: u32, callees: &[u32]) -> Result<(
 }
 
 /// The callers of each function.
-fn callers_of(alloc: Global, calls: &[Items<u32>]) -> Result<Vec<Items<u32>>, NoMemory>
+pub fn callers_of(alloc: Global, calls: &[Items<u32>]) -> Result<Vec<Items<u32>>, NoMemory>
     requires steps { AreSteps calls.now }
     requires count { length calls.now ≤ 2 ^ 32 }
     ensures count { IfOk result (λ v. length v.items ≡ length calls.now) }

@@ -27,6 +27,8 @@ returns c = λ files opts full are.
       tells = λ input bytes budget bound more meaningful.
           c.stops_are_those_of_the_source.ensures (runs_of program.0 value opts.stack input) (image_start value.memory) input (holds.holds input bytes).holds.agree budget bound more meaningful;
       fit = c.frames_of_full_builds_fit.ensures texts opts parts program.0 builds.1 program.1 plain are.colours are.least are.most;
+      forms = holds.forms;
+      of_program = holds.of_program;
       summaries = holds.summaries;
       summarise = holds.summarise;
       traffic = λ input bytes defined. (holds.holds input bytes).traffic defined;

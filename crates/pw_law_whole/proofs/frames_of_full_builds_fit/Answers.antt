@@ -4,4 +4,4 @@ use Rattle.pw_law_whole.proofs.frames_of_full_builds_fit.Goals as goal
 pub returns : goal.returns
 returns c = λ texts opts parts p built of_texts plain few enough room.
     let whole = c.full_builds_are_whole.ensures texts opts parts p built of_texts plain few enough room in
-    c.frames_are_within_rooms.ensures p (flows_in p parts opts.stack) parts.database (functions_under p parts opts.stack) parts.objects whole.laid_out
+    c.frames_are_within_rooms.ensures p (flows_in whole.forms parts opts.stack) parts.database (functions_under whole.forms parts opts.stack) parts.objects whole.laid_out

@@ -5,9 +5,12 @@ pub returns : goal.returns
 returns c = λ texts opts parts p build is plain few least most.
     let whole = c.full_builds_are_whole.ensures texts opts parts p build is plain few least most in
     let analysed = whole.analysed c.lowering_keeps_runs.ensures in
+    let q = flows_in whole.forms parts opts.stack in
     record {
+      forms = whole.forms;
+      of_program = whole.of_program;
       summaries = whole.summaries;
       summarise = whole.summarise;
       database = analysed.database;
-      holds = λ input bytes. c.layers_give_all.ensures c.selection_keeps_runs.ensures p (flows_in p parts opts.stack) whole.summaries opts.colours parts.database (functions_under p parts opts.stack) parts.objects input analysed bytes;
+      holds = λ input bytes. c.layers_give_all.ensures c.selection_keeps_runs.ensures p q whole.summaries opts.colours parts.database (functions_under whole.forms parts opts.stack) parts.objects input analysed bytes;
     }

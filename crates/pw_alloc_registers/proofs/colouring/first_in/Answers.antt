@@ -1,5 +1,5 @@
 use Rattle.std.proofs.Common.{◌∙◌, ℕ, not, refl, sym}
-use Rattle.pw_alloc_taken.specs.Masks.{in_mask}
+use Rattle.pw_alloc_masks.specs.Masks.{in_mask}
 use Rattle.pw_alloc_registers.proofs.Choosing.{find_here, find_next, find_end}
 use Rattle.pw_alloc_registers.proofs.colouring.first_in.Goals as goal
 

@@ -1,6 +1,6 @@
 use Rattle.std.proofs.Common.{◌≡◌, ◌-◌, not}
 use Rattle.std.specs.List.{find, range_with_len}
-use Rattle.pw_alloc_taken.specs.Masks.{in_mask}
+use Rattle.pw_alloc_masks.specs.Masks.{in_mask}
 use Rattle.pw_alloc_registers.proofs.colouring.first_in.Given as goal
 
 abbrev pub invariant-loop-r : goal.invariant-loop-r

@@ -1,10 +1,11 @@
-use Rattle.std.proofs.Common.{◌∙◌, ℕ, List, map, sym, ap, subst}
+use Rattle.std.proofs.Common.{◌∙◌, List, map, sym, ap, subst}
 use Rattle.pw_db.specs.declared.database.Web.{Web}
 use Rattle.pw_db.specs.declared.database.Role.{Role}
 use Rattle.pw_flow.specs.Outline.{Outline}
-use Rattle.pw_live.specs.Liveness.{has}
 use Rattle.pw_live_fronts.specs.Blocks.{IsOutline}
 use Rattle.pw_alloc_temps.specs.Registers.{registers}
+use Rattle.pw_alloc_temps.specs.Temporaries.{cluster_of}
+use Rattle.pw_alloc_registers.specs.Masks.{IsMaskOf}
 use Rattle.pw_alloc_registers.proofs.Lawful.{outline_is}
 use Rattle.pw_alloc_registers.proofs.Barring.{webs_low}
 use Rattle.pw_alloc_registers.proofs.finding.find_registers.Goals as goal
@@ -18,5 +19,6 @@ registers-requires c = subst IsOutline (sym c.in_ok-outline.ensures) (outline_is
 pub returns : goal.returns
 returns c =
     let f = c.args.f.now in
-    let webs = λ (r : ℕ). c.webs_mask-webs.ensures r ∙ ap (λ (ws : List (Web × Role)). has r (map (λ w. w.0.reg) ws)) c.as_slice.ensures in
-    c.in_ok-registers.ensures (map (λ w. w.0.reg) f.directives.webs) webs ∙ ap (λ (o : Outline). registers o (map (λ w. w.0.reg) f.directives.webs)) c.in_ok-outline.ensures
+    let webs = subst (λ (ws : List (Web × Role)). IsMaskOf c.webs_mask-webs.result (map (λ w. w.0.reg) ws)) c.as_slice.ensures c.webs_mask-webs.ensures in
+    c.in_ok-registers.ensures (map (λ w. w.0.reg) f.directives.webs) (cluster_of f.directives) webs c.cluster_mask-cluster.ensures
+    ∙ ap (λ (o : Outline). registers o (map (λ w. w.0.reg) f.directives.webs) (cluster_of f.directives)) c.in_ok-outline.ensures

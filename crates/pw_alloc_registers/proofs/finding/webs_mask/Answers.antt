@@ -1,8 +1,8 @@
-use Rattle.std.proofs.Common.{◌<◌, ◌∙◌, List, map, sym, ap, subst}
+use Rattle.std.proofs.Common.{◌<◌, List, map, sym, subst}
 use Rattle.std.proofs.lemmas.List.{take_all}
 use Rattle.pw_db.specs.declared.database.Web.{Web}
 use Rattle.pw_db.specs.declared.database.Role.{Role}
-use Rattle.pw_live.specs.Liveness.{has}
+use Rattle.pw_alloc_registers.specs.Masks.{IsMaskOf}
 use Rattle.pw_alloc_registers.proofs.Barring.{barred_none, barred_more}
 use Rattle.pw_alloc_registers.proofs.finding.webs_mask.Goals as goal
 
@@ -17,4 +17,4 @@ pub loop-web-preserved : goal.loop-web-preserved
 loop-web-preserved c = barred_more c.args.webs.now c.loop-web.web-index c.web-item.result c.loop-web.mask c.with_register-more.result c.loop-web-test.true (sym c.web-item.is) c.with_register-more.ensures c.loop-web.invariant
 
 pub returns : goal.returns
-returns c = λ r. c.loop-web.invariant r ∙ ap (λ (ws : List (Web × Role)). has r (map (λ w. w.0.reg) ws)) (take_all c.loop-web.web-index c.args.webs.now c.loop-web-test.false)
+returns c = subst (λ (ws : List (Web × Role)). IsMaskOf c.loop-web.mask (map (λ w. w.0.reg) ws)) (take_all c.loop-web.web-index c.args.webs.now c.loop-web-test.false) c.loop-web.invariant

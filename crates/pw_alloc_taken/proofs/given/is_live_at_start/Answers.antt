@@ -3,7 +3,7 @@ use Rattle.std.proofs.lemmas.Bool.{both_ways}
 use Rattle.std.proofs.lemmas.List.{take_all}
 use Rattle.std.proofs.lemmas.List.Elements.{Contains-get_or}
 use Rattle.pw_live_spans.specs.Spans.{IsIn, Covers}
-use Rattle.pw_alloc_taken.proofs.Masking.{first_none, first_more, read_again}
+use Rattle.pw_live_spans.proofs.Steps.{first_none, first_more, item_at}
 use Rattle.pw_alloc_taken.proofs.given.is_live_at_start.Goals as goal
 
 pub loop-place-init : goal.loop-place-init
@@ -19,7 +19,7 @@ loop-place-preserved c = λ covers.
     let spans = c.args.spans.now in
     let place = c.loop-place.place in
     let span = get_or spans place (0, 0) in
-    elim ((first_more spans place span covers.0 c.loop-place-test.true (read_again spans place (0, 0) c.loop-place-test.true)).0 covers.1) [
+    elim ((first_more spans place span covers.0 c.loop-place-test.true (item_at spans place (0, 0) c.loop-place-test.true)).0 covers.1) [
       | inl old ↦ c.loop-place.invariant (covers.0, old, covers.2)
       | inr same ↦ both_ways c.has_first.result c.if-has_first.false (c.has_first.ensures.1 (subst (λ (s : ℕ × ℕ). IsIn s 0) same covers.2))
     ]

@@ -1,8 +1,11 @@
 use Rattle.std.proofs.Common.{◌<◌, ℕ, List, get_or, length, arith, rules, subst}
 use Rattle.std.specs.Prelude.{◌↔◌}
 use Rattle.std.proofs.lemmas.List.{take_all}
-use Rattle.pw_alloc_taken.specs.Masks.{HasRegister, IsOccupiedBehind}
-use Rattle.pw_alloc_taken.proofs.Masking.{behind_none, behind_more, zero_mask, read_again}
+use Rattle.pw_alloc_masks.specs.Masks.{HasRegister}
+use Rattle.pw_alloc_taken.specs.Masks.{IsOccupiedBehind}
+use Rattle.pw_live_spans.proofs.Steps.{item_at}
+use Rattle.pw_alloc_masks.proofs.Joining.{zero_mask}
+use Rattle.pw_alloc_taken.proofs.Masking.{behind_none, behind_more}
 use Rattle.pw_alloc_taken.proofs.occupied.occupied_behind.Goals as goal
 
 pub loop-place-init : goal.loop-place-init
@@ -23,7 +26,7 @@ pub loop-place-preserved : goal.loop-place-preserved
 loop-place-preserved c =
     let ds = c.args.definitions.now in
     let place = c.loop-place.place in
-    behind_more ds c.args.occupied.now place (get_or ds place 0) (HasRegister c.both-more.result) (HasRegister c.loop-place.behind) c.loop-place-test.true (read_again ds place 0 c.loop-place-test.true)
+    behind_more ds c.args.occupied.now place (get_or ds place 0) (HasRegister c.both-more.result) (HasRegister c.loop-place.behind) c.loop-place-test.true (item_at ds place 0 c.loop-place-test.true)
     c.both-more.ensures c.loop-place.invariant
 
 pub returns : goal.returns

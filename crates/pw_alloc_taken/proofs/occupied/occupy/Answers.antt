@@ -1,8 +1,9 @@
 use Rattle.std.proofs.Common.{◌∙◌, ℕ, get_or, arith, refl}
 use Rattle.std.specs.Prelude.{slice_index}
 use Rattle.std.proofs.lemmas.List.Elements.{Contains-get_or}
-use Rattle.pw_alloc_taken.specs.Masks.{HasRegister}
-use Rattle.pw_alloc_taken.proofs.Masking.{spread_none, spread_more, spread_all, read_again}
+use Rattle.pw_alloc_masks.specs.Masks.{HasRegister}
+use Rattle.pw_live_spans.proofs.Steps.{item_at}
+use Rattle.pw_alloc_taken.proofs.Masking.{spread_none, spread_more, spread_all}
 use Rattle.pw_alloc_taken.proofs.occupied.occupy.Goals as goal
 
 pub loop-place-init : goal.loop-place-init
@@ -23,7 +24,7 @@ loop-place-preserved c =
     record {
       long = c.occupy_span.ensures.length ∙ c.loop-place.invariant.long;
       each = spread_more spans place (get_or spans place (0, 0)) c.args.r (λ (q k : ℕ). HasRegister (slice_index c.occupy_span.new.occupied q) k) (λ (q k : ℕ). HasRegister (slice_index c.loop-place.occupied q) k)
-          (λ (q k : ℕ). HasRegister (slice_index c.args.occupied.now q) k) c.loop-place-test.true (read_again spans place (0, 0) c.loop-place-test.true) c.occupy_span.ensures.each c.loop-place.invariant.each;
+          (λ (q k : ℕ). HasRegister (slice_index c.args.occupied.now q) k) c.loop-place-test.true (item_at spans place (0, 0) c.loop-place-test.true) c.occupy_span.ensures.each c.loop-place.invariant.each;
     }
 
 pub returns-clause-each : goal.returns-clause-each

@@ -1,7 +1,7 @@
 use Rattle.std.proofs.Common.{◌≡◌, ◌⊎◌, ℕ, length, take}
 use Rattle.std.specs.Prelude.{slice_index, ◌↔◌}
 use Rattle.pw_live_spans.specs.Spans.{Covers}
-use Rattle.pw_alloc_taken.specs.Masks.{HasRegister}
+use Rattle.pw_alloc_masks.specs.Masks.{HasRegister}
 use Rattle.pw_alloc_taken.proofs.occupied.occupy.Given as goal
 
 abbrev pub invariant-loop-place : goal.invariant-loop-place

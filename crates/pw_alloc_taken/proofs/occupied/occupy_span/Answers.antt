@@ -1,7 +1,7 @@
 use Rattle.std.proofs.Common.{◌<◌, ◌∙◌, ℕ, length, arith, rules, refl}
 use Rattle.std.specs.Prelude.{slice_index}
 use Rattle.std.proofs.lemmas.List.{length-set}
-use Rattle.pw_alloc_taken.specs.Masks.{HasRegister}
+use Rattle.pw_alloc_masks.specs.Masks.{HasRegister}
 use Rattle.pw_alloc_taken.proofs.Masking.{over_none, over_more, over_end}
 use Rattle.pw_alloc_taken.proofs.occupied.occupy_span.Goals as goal
 

@@ -1,6 +1,6 @@
 use Rattle.std.proofs.Common.{◌≡◌, ◌⊎◌, ◌≤◌, ◌<◌, ℕ, length, max}
 use Rattle.std.specs.Prelude.{slice_index, ◌↔◌}
-use Rattle.pw_alloc_taken.specs.Masks.{HasRegister}
+use Rattle.pw_alloc_masks.specs.Masks.{HasRegister}
 use Rattle.pw_alloc_taken.proofs.occupied.occupy_span.Given as goal
 
 abbrev pub invariant-loop-p : goal.invariant-loop-p

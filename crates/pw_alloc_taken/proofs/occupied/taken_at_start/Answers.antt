@@ -1,6 +1,6 @@
 use Rattle.std.proofs.Common.{inl, inr}
 use Rattle.std.proofs.lemmas.Bool.{both_ways}
-use Rattle.pw_alloc_taken.proofs.Masking.{zero_mask}
+use Rattle.pw_alloc_masks.proofs.Joining.{zero_mask}
 use Rattle.pw_alloc_taken.proofs.occupied.taken_at_start.Goals as goal
 
 pub returns-then-is_param : goal.returns-then-is_param

@@ -10,7 +10,7 @@ use Rattle.pw_build_files.proofs.program.built_of.Goals as goal
 
 pub returns-in-Ok-clause-many : goal.returns-in-Ok-clause-many
 returns-in-Ok-clause-many g c =
-    as_many c.args.modules.now c.in_ok-flows.flows.items c.in_ok-kept.kept.items c.args.opts.now c.in-Ok.built c.in_ok-flows.ensures.flows c.in-Ok.ensures.built
+    as_many c.forms_keep_what_modules_have.ensures.count c.args.modules.now c.in_ok-flows.flows.items c.in_ok-kept.kept.items c.args.opts.now c.in-Ok.built c.in_ok-flows.ensures.flows c.in-Ok.ensures.built
 
 pub returns-in-Ok-clause-few : goal.returns-in-Ok-clause-few
 returns-in-Ok-clause-few g c = few_modules c.args.modules.now c.in_ok-flows.flows.items c.in_ok-flows.ensures.flows
@@ -37,5 +37,5 @@ returns-in-Err-NoMemory-clause-bound g c =
 pub returns-in-Err-clause-counted_fault : goal.returns-in-Err-clause-counted_fault
 returns-in-Err-clause-counted_fault g c =
     let other : c.in-Err.fault ≢ link.NoMemory = search rules in
-    made_counted (map source c.args.modules.now) c.in_ok-flows.flows.items c.in_ok-kept.kept.items (λ told. map (λ m. kept_object told.files m.name) c.args.modules.now) c.args.opts.now.colours c.args.steps.now c.complete.new.steps c.in-Err.fault
+    made_counted (map source c.args.modules.now) c.in_ok-flows.flows.items c.in_ok-kept.kept.items (λ told. map (λ m. kept_object told.files m.name) c.args.modules.now) c.args.opts.now c.args.steps.now c.complete.new.steps c.in-Err.fault
     (g.S.Store.told c.args.store.now) c.in_ok-flows.ensures.flows c.in_ok-kept.ensures.objects (not_want other c.in-Err.ensures.counted_fault)

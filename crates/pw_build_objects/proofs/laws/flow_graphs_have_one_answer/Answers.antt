@@ -6,7 +6,9 @@ pub returns : goal.returns
 returns c =
     let laws : Laws = record {
       summary = c.a_module_has_one_summary.ensures;
-      lawful = λ ss colours d few is. c.databases_are_lawful.ensures ss colours d (omega (arith, few)) is;
+      form = c.optimised_forms_are_one.ensures;
+      lawful_form = c.forms_keep_what_modules_have.ensures.lawful;
+      lawful = λ ss colours d few all is. c.databases_are_lawful.ensures ss colours d (omega (arith, few)) all is;
       database = c.databases_are_one.ensures;
       directives = c.directives_are_one.ensures;
       object = c.a_module_has_one_object.ensures;

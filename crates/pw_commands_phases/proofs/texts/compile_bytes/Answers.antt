@@ -8,8 +8,8 @@ use Rattle.pw_commands_phases.proofs.texts.compile_bytes.Goals as goal
 
 pub returns-in-Ok-clause-obeys : goal.returns-in-Ok-clause-obeys
 returns-in-Ok-clause-obeys g c =
-    obeys_made (record { flow_file = c.flow_graphs_and_files_are_one_to_one.ensures.one_file; summary = c.a_module_has_one_summary.ensures; summary_file = c.summaries_and_files_are_one_to_one.ensures.one_file })
-    (g.S.Store.told c.args.store.now) _ c.args.name.now c.args.text.now c.in-Ok.made.flow.items c.in-Ok.made.sum.items c.put_made.result
+    obeys_made (record { form = c.optimised_forms_are_one.ensures; flow_file = c.flow_graphs_and_files_are_one_to_one.ensures.one_file; summary = c.a_module_has_one_summary.ensures; summary_file = c.summaries_and_files_are_one_to_one.ensures.one_file })
+    (g.S.Store.told c.args.store.now) _ c.args.name.now c.args.optimise c.args.text.now c.in-Ok.made.flow.items c.in-Ok.made.sum.items c.put_made.result
     c.in-Ok.ensures c.put_made.ensures.answer c.put_made.ensures.put
 
 pub returns-in-Ok-clause-line : goal.returns-in-Ok-clause-line
@@ -22,7 +22,7 @@ pub returns-in-Err-clause-obeys : goal.returns-in-Err-clause-obeys
 returns-in-Err-clause-obeys g c =
     let name = c.args.name.now in
     let text = c.args.text.now in
-    obeys_replied (g.S.Store.told c.args.store.now) name text c.reply_of.result.answer c.reply_of.result.line
+    obeys_replied (g.S.Store.told c.args.store.now) name c.args.optimise text c.reply_of.result.answer c.reply_of.result.line
     (replies name text (compiled name text) c.in-Err.answer c.reply_of.result.answer c.reply_of.result.line c.in-Err.ensures c.reply_of.ensures)
 
 pub returns-in-Err-clause-line : goal.returns-in-Err-clause-line

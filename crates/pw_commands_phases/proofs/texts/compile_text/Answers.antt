@@ -6,7 +6,7 @@ use Rattle.pw_commands_phases.proofs.texts.compile_text.Goals as goal
 
 pub returns-in-Ok-clause-obeys : goal.returns-in-Ok-clause-obeys
 returns-in-Ok-clause-obeys g c =
-    obeys_text (g.S.Store.told c.args.store.now) _ _ c.args.name.now c.in-Ok.text.items c.compile_bytes.result.answer
+    obeys_text (g.S.Store.told c.args.store.now) _ _ c.args.name.now c.args.optimise c.in-Ok.text.items c.compile_bytes.result.answer
     c.in-Ok.ensures.bytes c.module_bytes.ensures.same (rw c.deref.ensures.value at c.compile_bytes.ensures.obeys)
 
 pub returns-in-Ok-clause-line : goal.returns-in-Ok-clause-line
@@ -16,7 +16,7 @@ returns-in-Ok-clause-line g c =
 
 pub returns-in-Err-clause-obeys : goal.returns-in-Err-clause-obeys
 returns-in-Err-clause-obeys g c =
-    obeys_stopped (g.S.Store.told c.args.store.now) _ c.args.name.now c.in-Err.answer c.in-Err.ensures.bytes c.module_bytes.ensures.same c.in-Err.ensures.stop
+    obeys_stopped (g.S.Store.told c.args.store.now) _ c.args.name.now c.args.optimise c.in-Err.answer c.in-Err.ensures.bytes c.module_bytes.ensures.same c.in-Err.ensures.stop
 
 pub returns-in-Err-clause-line : goal.returns-in-Err-clause-line
 returns-in-Err-clause-line g c = file_stop_line (g.S.Store.told c.args.store.now) c.args.name.now c.in-Err.answer None c.in-Err.ensures.stop

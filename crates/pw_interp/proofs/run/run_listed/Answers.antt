@@ -1,10 +1,15 @@
-use Rattle.std.proofs.Common.{ap, ◌∙◌}
-use Rattle.std.proofs.lemmas.Result.{IfOk-weaker}
+use Rattle.std.proofs.Common.{subst}
 use Rattle.pw_cmean.specs.SourceRun.{source_run}
 use Rattle.pw_interp_world.specs.Views.{view_program}
 use Rattle.pw_interp_calls.specs.Frames.{frame_among}
+use Rattle.pw_interp.specs.Streaming.{Interprets}
+use Rattle.pw_interp.proofs.RunLaws.{not_begun}
 use Rattle.pw_interp.proofs.run.run_listed.Goals as goal
 
-pub returns : goal.returns
-returns c =
-    IfOk-weaker c.run_owned.result _ _ (λ r h. h ∙ ap (λ ps. source_run (view_program ps) (frame_among c.args.frames.now) c.args.stack c.args.input.now c.args.bound) c.in_ok-names.ensures) c.run_owned.ensures
+pub returns-in_err-names-clause-over : goal.returns-in_err-names-clause-over
+returns-in_err-names-clause-over g c = not_begun _ (g.I.Source.rest c.args.input.now) (g.O.Sink.taken c.args.out.now) _
+
+pub returns-clause-over : goal.returns-clause-over
+returns-clause-over g c =
+    subst (λ ps. Interprets (λ bytes. source_run (view_program ps) (frame_among c.args.frames.now) c.args.stack bytes c.args.bound) (g.I.Source.rest c.args.input.now) (g.O.Sink.taken c.args.out.now) c.run_owned.result _ _) c.in_ok-names.ensures
+    c.run_owned.ensures.over

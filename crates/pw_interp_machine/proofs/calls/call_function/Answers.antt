@@ -15,7 +15,7 @@ returns-in-Library c main =
     let call = c.args.machine.now.call in
     let e = view_env call.env in
     steps_named (λ rest. ap (λ f. meaning.call e.world (runs.calls e.world call.bound) (callable_of f) c.args.args.now >>= λ r. rest e call.bound (Gave r)) c.in-Library.is)
-    (c.settle.ensures main call _ (view_state c.args.state.now) _ (c.given.ensures call _ (view_state c.args.state.now) _ (c.call_library-answer.ensures call.bound)))
+    (c.settle.ensures main call _ (view_state c.args.state.now) _ (c.transferred.ensures call _ (view_state c.args.state.now) _ (c.call_library-answer.ensures call.bound)))
 
 pub returns-in-Defined : goal.returns-in-Defined
 returns-in-Defined c main =

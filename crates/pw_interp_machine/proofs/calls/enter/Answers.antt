@@ -4,7 +4,7 @@ use Rattle.pw_value.specs.declared.value.Value.{Value}
 use Rattle.pw_typed.specs.Views.{view_function}
 use Rattle.pw_cmean.specs.Acts.{Act, State, ◌>>=◌}
 use Rattle.pw_interp_calls.specs.Answers.{Stops}
-use Rattle.pw_interp_state.specs.Shown.{shown}
+use Rattle.pw_interp_state.specs.Shown.{Streams, all_shown}
 use Rattle.pw_interp_todo.specs.Resuming.{control_act}
 use Rattle.pw_interp_machine.specs.declared.machine.Call.{Call}
 use Rattle.pw_interp_machine.specs.Standing.{InCall}
@@ -24,6 +24,6 @@ unfolding body_first control_act
 returns c main world act before behind b =
     let old = c.args.machine.now in
     let body = (view_function c.args.f.now).body in
-    let Begun : Call → Type 0 = λ call. (next : Option Value → Act (Unit {0})) (s : State) → shown world s ≡ before → InCall world call (body_first body call) next behind ((act >>= next) s) in
+    let Begun : Call → Type 0 = λ call. (next : Option Value → Act (Unit {0})) (st : Streams) (s : State) → all_shown world s ≡ (before, st) → InCall world call (body_first body call) next (behind, st) ((act >>= next) s) in
     let begun = subst Begun (sym c.replace-caller.ensures.after) (subst (λ r. IfOk r Begun) c.in_ok-call.was b.begun) in
     steps_enter old.call old.callers.items act body _ begun (c.in_ok-push.ensures.items ∙ ap (λ x. old.callers.items ++ x ∷ []) c.replace-caller.ensures.value) (λ rest s. refl)

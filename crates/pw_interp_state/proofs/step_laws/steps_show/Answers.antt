@@ -1,4 +1,4 @@
-use Rattle.pw_interp_state.proofs.RunLaws.{changes_at, write_shows, read_shows, put_shows, room_shows, full_shows}
+use Rattle.pw_interp_state.proofs.RunLaws.{changes_at, write_shows, room_shows, full_shows}
 use Rattle.pw_interp_state.proofs.step_laws.steps_show.Goals as goal
 
 pub returns-clause-changes : goal.returns-clause-changes
@@ -6,12 +6,6 @@ returns-clause-changes c = changes_at
 
 pub returns-clause-writes : goal.returns-clause-writes
 returns-clause-writes c = write_shows
-
-pub returns-clause-reads : goal.returns-clause-reads
-returns-clause-reads c = read_shows
-
-pub returns-clause-puts : goal.returns-clause-puts
-returns-clause-puts c = put_shows
 
 pub returns-clause-room : goal.returns-clause-room
 returns-clause-room c = room_shows

@@ -7,4 +7,4 @@ returns c = edit_comes (record {
   front = c.front.ensures.whole;
   modules = c.modules_are_exact.ensures.exact;
   rising = c.modules_are_exact.ensures.rising;
-})
+}) c.forms_keep_what_modules_have.ensures.count

@@ -9,9 +9,9 @@ use Rattle.pw_law_direction.proofs.undirected.webless_runs_keep_theirs.Goals as 
 
 pub returns : goal.returns
 returns c = λ p d input ok base none.
-    let sound = c.no_webs_are_sound.ensures (graph_of p) d base none in
+    let sound = c.no_webs_are_sound.ensures (graph_of p) d none in
     record {
-      runs = subst (λ run. Refines (MomentAlike p) (flow_run p input) (calls_of run)) (same_run p d input base none) (c.undirected_runs_keep_theirs.ensures p input ok).runs;
+      runs = subst (λ run. Refines (MomentAlike p) (flow_run p input) (calls_of run)) (same_run p d input none) (c.undirected_runs_keep_theirs.ensures p input ok).runs;
       registers = c.directed_runs_keep_registers.ensures p d input ok base sound;
       calls = c.directed_calls_are_of_the_graph.ensures p d input ok;
       traffic = c.directed_runs_obey_traffic.ensures p d input ok base sound;

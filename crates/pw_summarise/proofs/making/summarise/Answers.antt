@@ -1,12 +1,13 @@
-use Rattle.std.proofs.Common.{ℕ, List, map, refl, sym, subst}
+use Rattle.std.proofs.Common.{ℕ, Bor, All, List, map, refl, sym, subst}
 use Rattle.pw_flow.specs.declared.flow.FlowFn.{FlowFn}
-use Rattle.pw_flow.specs.ValidFlow.{AreDistinct}
+use Rattle.pw_flow.specs.ValidFlow.{AreDistinct, IsFunction}
 use Rattle.pw_summary.specs.declared.summary.Summary.{Summary}
+use Rattle.pw_summary.specs.Summary.{summary_version}
 use Rattle.pw_files.specs.Rising.{IsRising}
 use Rattle.pw_flow.specs.FlowGraph.{named_in}
 use Rattle.pw_summarise.specs.Summarises.{IsOrdered, Summarises}
-use Rattle.pw_summarise.proofs.LawfulLaws.{lawful}
-use Rattle.pw_summarise.proofs.MakingLaws.{functions_differ, entries_ordered, summarised}
+use Rattle.pw_summarise.proofs.LawfulLaws.{lawful, versioned}
+use Rattle.pw_summarise.proofs.MakingLaws.{functions_differ, each_lawful, entries_ordered, summarised}
 use Rattle.pw_summarise.proofs.making.summarise.Goals as goal
 
 pub sorted_functions-requires : goal.sorted_functions-requires
@@ -20,6 +21,10 @@ pub used_of-requires-clause-declared : goal.used_of-requires-clause-declared
 used_of-requires-clause-declared c =
     subst (λ (ds : List (List ℕ × List ℕ)). IsRising (map (λ e. e.0) ds)) (sym c.in_ok-defined.ensures.declared) c.in_ok-interface.ensures.declared.rising
 
+pub used_of-requires-clause-lawful : goal.used_of-requires-clause-lawful
+used_of-requires-clause-lawful c =
+    subst (λ (fs : List (Bor FlowFn)). All (λ f. IsFunction f.now) fs) (sym c.deref-2.ensures.value) (each_lawful c.args.flow.now c.in_ok-sorted.sorted.items c.requires (rw c.as_slice.ensures at c.in_ok-sorted.ensures))
+
 pub returns : goal.returns
 returns c =
     let m = c.args.flow.now in
@@ -27,6 +32,7 @@ returns c =
     let u = c.in_ok-used.used in
     let from = c.in_ok-used.ensures.addresses in
     let made : Summary = record {
+      version = summary_version;
       «module» = c.in_ok-name.name;
       globals = d.globals;
       functions = d.functions;
@@ -37,6 +43,7 @@ returns c =
       uses = u.uses;
     } in
     let is : Summarises m made = summarised m c.in_ok-sorted.sorted.items from.0 u.uses made (record {
+      version = refl;
       of_module = c.in_ok-name.ensures;
       globals = c.in_ok-defined.ensures.globals;
       in_order = rw c.as_slice.ensures at c.in_ok-sorted.ensures;
@@ -49,4 +56,4 @@ returns c =
       zip = rw c.deref-2.ensures.value at c.in_ok-used.ensures.uses;
       uses = refl;
     }) in
-    rw c.summary_of.ensures (record { summarises = is; lawful = lawful m made c.requires is })
+    rw c.summary_of.ensures (record { summarises = is; lawful = lawful m made c.requires is; versioned = versioned made refl (lawful m made c.requires is) })

@@ -1,7 +1,8 @@
+use Rattle.std.proofs.Common.{[]}
 use Rattle.pw_law_session.specs.FromSession.Removals.{MayRemove}
-use Rattle.pw_top.proofs.CommandLemmas.{build_built, build_does, build_no_usage, build_reads, go_does, go_no_usage, kept_alone, none_due, plain_line, where_does, where_no_usage}
-use Rattle.pw_top.proofs.GenuineLemmas.{genuine_alone, others_alone}
-use Rattle.pw_top.proofs.ProperLemmas.{bench_proper, build_proper, go_proper, session_proper, where_proper}
+use Rattle.pw_top.proofs.CommandLemmas.{build_built, build_does, build_no_usage, build_reads, go_does, go_no_usage, interp_does, interp_no_usage, kept_alone, none_due, plain_line, where_does, where_no_usage}
+use Rattle.pw_top.proofs.GenuineLemmas.{genuine_alone, kept_others, others_alone, stays_genuine}
+use Rattle.pw_top.proofs.ProperLemmas.{bench_proper, build_proper, go_proper, interp_proper, session_proper, where_proper}
 use Rattle.pw_top.proofs.RestLemmas.{leaves_rest}
 use Rattle.pw_top.proofs.SessionLemmas.{bench_does, bench_line, bench_no_usage, bench_reads, bench_stores, session_does, session_no_usage, session_others}
 use Rattle.pw_top.proofs.top.obey_builder.Goals as goal
@@ -119,4 +120,28 @@ returns-in-Where-clause-obeys g c =
       write = c.show_call.ensures.write;
       streams = λ h. c.show_call.ensures.streams;
       line = c.show_call.ensures.line;
+    })
+
+pub returns-in-Interp-clause-usage : goal.returns-in-Interp-clause-usage
+returns-in-Interp-clause-usage g c = interp_no_usage _ c.interpret_modules.ensures.answer
+
+pub returns-in-Interp-clause-obeys : goal.returns-in-Interp-clause-obeys
+returns-in-Interp-clause-obeys g c =
+    let told = g.S.Store.told c.args.store.now in
+    let rest = g.I.Source.rest c.args.input.now in
+    let taken = g.O.Sink.taken c.args.out.now in
+    let answer = c.interpret_modules.result.answer in
+    rw c.in-Interp.is (record {
+      does = interp_does told _ rest _ taken _ _ _ c.interpret_modules.ensures.same c.interpret_modules.ensures.did;
+      ends = tt;
+      built = none_due told;
+      proper = interp_proper _ c.interpret_modules.ensures.answer;
+      others = kept_others answer told _ c.interpret_modules.ensures.same;
+      genuine = stays_genuine [] answer told _ (λ name. tt) (kept_others answer told _ c.interpret_modules.ensures.same);
+      reads = λ h. c.interpret_modules.ensures.same;
+      store = c.interpret_modules.ensures.store;
+      read = c.interpret_modules.ensures.read;
+      write = c.interpret_modules.ensures.write;
+      streams = λ h. c.interpret_modules.ensures.streams;
+      line = c.interpret_modules.ensures.line;
     })

@@ -11,7 +11,7 @@ pub returns-in-PhaseOne-clause-obeys : goal.returns-in-PhaseOne-clause-obeys
 returns-in-PhaseOne-clause-obeys g c rest taken input output =
     let told = g.S.Store.told c.args.store.now in
     rw c.in-PhaseOne.is (record {
-      does = phase_one_does told _ rest taken _ c.compile_text.result.answer c.compile_text.ensures.obeys;
+      does = phase_one_does told _ rest taken _ _ c.compile_text.result.answer c.compile_text.ensures.obeys;
       ends = tt;
       built = none_due told;
       proper = phase_proper c.compile_text.result.answer c.compile_text.ensures.answer;

@@ -52,7 +52,7 @@ returns-in-Err-NoMemory-clause-obeys g c =
     let command = command_of (map string_bytes c.args.words.now) in
     let told = g.S.Store.told c.args.store.now in
     let rest = g.I.Source.rest c.args.input.now in
-    let ends : Ends = record { run = c.runs_leave_an_end.ensures.run; go = c.runs_leave_an_end.ensures.go; looks = c.looks_leave_an_end.ensures } in
+    let ends : Ends = record { run = c.runs_leave_an_end.ensures.run; go = c.runs_leave_an_end.ensures.go; looks = c.looks_leave_an_end.ensures; interprets = c.runs_leave_a_rest.ensures } in
     record {
       does = memory_does ends command told rest (g.O.Sink.taken c.args.out.now);
       ends = memory_ends command rest;

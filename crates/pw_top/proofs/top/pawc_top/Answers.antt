@@ -19,7 +19,7 @@ returns-clause-usage_comes g c =
 
 pub returns-clause-does : goal.returns-clause-does
 returns-clause-does g c =
-    let ends : Ends = record { run = c.runs_leave_an_end.ensures.run; go = c.runs_leave_an_end.ensures.go; looks = c.looks_leave_an_end.ensures } in
+    let ends : Ends = record { run = c.runs_leave_an_end.ensures.run; go = c.runs_leave_an_end.ensures.go; looks = c.looks_leave_an_end.ensures; interprets = c.runs_leave_a_rest.ensures } in
     told_does ends (command_of (map string_bytes c.args.words.now)) (g.S.Store.told c.args.store.now) _ (g.I.Source.rest c.args.input.now) _ (g.O.Sink.taken c.args.out.now) _
     c.obey_words-reply.result.answer c.tell.result c.tell.ensures.answer c.obey_words-reply.ensures.obeys.does
 
@@ -49,7 +49,7 @@ returns-clause-output_faults g c = output_told _ _ c.obey_words-reply.result.ans
 
 pub returns-clause-line : goal.returns-clause-line
 returns-clause-line g c =
-    told_line (λ files. line_of (command_of (map string_bytes c.args.words.now)) files) (g.S.Store.told c.args.store.now) c.obey_words-reply.result.answer c.tell.result c.obey_words-reply.result.line
+    told_line (λ files answer. line_of (command_of (map string_bytes c.args.words.now)) files answer) (g.S.Store.told c.args.store.now) c.obey_words-reply.result.answer c.tell.result c.obey_words-reply.result.line
     (λ (text : List ℕ). Tells text (g.E.Sink.taken c.args.err.now) (g.E.Sink.taken c.tell.new.err) (g.E.Sink.faults c.args.err.now) (g.E.Sink.faults c.tell.new.err)) c.tell.ensures.answer c.obey_words-reply.ensures.obeys.line c.tell.ensures.line
 
 pub returns-clause-some_line : goal.returns-clause-some_line
@@ -57,7 +57,7 @@ returns-clause-some_line g c = (c.obey_words-reply.result.line, c.tell.ensures.l
 
 pub returns-clause-builds_whole : goal.returns-clause-builds_whole
 returns-clause-builds_whole g c =
-    builds_whole c.builds_are_full.ensures c.sessions_build_in_full.ensures c.bench_builds_in_full.ensures (command_of (map string_bytes c.args.words.now)) (g.S.Store.told c.args.store.now) _ (g.I.Source.rest c.args.input.now) _ (g.O.Sink.taken c.args.out.now) _ c.tell.result
+    builds_whole c.builds_are_full.ensures c.genuine_objects_run_as_the_full_build.ensures c.sessions_build_in_full.ensures c.bench_builds_in_full.ensures (command_of (map string_bytes c.args.words.now)) (g.S.Store.told c.args.store.now) _ (g.I.Source.rest c.args.input.now) _ (g.O.Sink.taken c.args.out.now) _ c.tell.result
     (are_within (command_of (map string_bytes c.args.words.now)) (c.commands_are_within.ensures (map string_bytes c.args.words.now)))
     (returns-clause-does g c)
 

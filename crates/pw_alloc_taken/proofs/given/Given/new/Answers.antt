@@ -1,7 +1,7 @@
 use Rattle.std.proofs.Common.{◌≡◌, ◌∙◌, ℕ, List, length, replicate, rules, refl, ap}
 use Rattle.std.specs.Prelude.{Option}
 use Rattle.std.proofs.lemmas.List.{length-replicate}
-use Rattle.pw_alloc_taken.proofs.Giving.{nothing, given_none, registers_none}
+use Rattle.pw_alloc_taken.proofs.Giving.{nothing, given_none}
 use Rattle.pw_alloc_taken.proofs.given.Given.new.Goals as goal
 
 pub returns-clause-sized : goal.returns-clause-sized
@@ -13,11 +13,12 @@ returns-clause-sized c =
     record {
       temps = regs.ok.0 ∙ ap (λ (rs : List (Option ℕ)). length rs) none ∙ length-replicate c.args.f.now.temps nothing;
       points = occupied.ok.0 ∙ ap (λ (ms : List ℕ). length ms) zeros ∙ length-replicate c.args.count 0 ∙ c.requires;
-      low = registers_none regs.items c.args.f.now.temps none;
+      sets = c.in_ok-made.ensures.sets;
+      made = c.in_ok-made.ensures.points ∙ c.requires;
     }
 
 pub returns-clause-given : goal.returns-clause-given
 returns-clause-given c =
     let regs : c.in_ok-registers.registers.items ≡ replicate c.temps.result nothing = search rules in
     let zeros : c.in_ok-occupied.occupied.items ≡ replicate c.args.count 0 = search rules in
-    given_none c.args.f.now _ c.args.count (regs ∙ ap (λ (n : ℕ). replicate n nothing) c.temps.ensures) zeros refl
+    given_none c.args.f.now _ c.args.count (regs ∙ ap (λ (n : ℕ). replicate n nothing) c.temps.ensures) zeros refl c.in_ok-made.ensures.none

@@ -1,0 +1,5 @@
+mod Lists
+mod RoundLaws
+mod InnerLaws
+mod RootLaws
+mod NeedLaws

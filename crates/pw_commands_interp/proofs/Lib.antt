@@ -1,0 +1,5 @@
+mod RunLemmas
+mod BuildLemmas
+mod LineLemmas
+mod TypedLemmas
+mod FrameLemmas

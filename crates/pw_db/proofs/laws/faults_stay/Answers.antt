@@ -1,5 +1,0 @@
-use Rattle.pw_db.proofs.DatabaseFaults as laws
-use Rattle.pw_db.proofs.laws.faults_stay.Goals as goal
-
-pub returns : goal.returns
-returns c = laws.faults_stay

@@ -1,8 +1,0 @@
-use Rattle.pw_db.proofs.StoringLaws as laws
-use Rattle.pw_db.proofs.laws.one_list_is_stored.Goals as goal
-
-pub returns-clause-one_list : goal.returns-clause-one_list
-returns-clause-one_list c = laws.one_stored
-
-pub returns-clause-one_payload : goal.returns-clause-one_payload
-returns-clause-one_payload c = laws.one_stored_payload

@@ -1,6 +1,0 @@
-use Rattle.std.proofs.Common.{◌≡◌, map, take}
-use Rattle.pw_db.specs.Database.{names_of}
-use Rattle.pw_db.proofs.names.used_names.Given as goal
-
-abbrev pub invariant-loop-function : goal.invariant-loop-function
-invariant-loop-function l = map (λ name. name.now) l.used.items ≡ names_of (map (λ f. f.now) (take l.function-index l.functions))

@@ -1,9 +1,0 @@
-use Rattle.std.proofs.Common.{arith}
-use Rattle.pw_db.proofs.DatabaseLaws.{found_by, only_by}
-use Rattle.pw_db.proofs.reading.read.Goals as goal
-
-pub returns-clause-found : goal.returns-clause-found
-returns-clause-found c = found_by c.args.bytes.now c.read_alone.result (λ i. omega (arith, c.type_inv.bytes i)) c.read_alone.ensures
-
-pub returns-clause-only : goal.returns-clause-only
-returns-clause-only c = only_by c.args.bytes.now c.read_alone.result c.read_alone.ensures

@@ -1,6 +1,0 @@
-use Rattle.std.proofs.Common.{sym, subst}
-use Rattle.pw_db.specs.Database.{IsNamedBy}
-use Rattle.pw_db.proofs.writing.push_functions.Goals as goal
-
-pub push_function-requires-clause-stand : goal.push_function-requires-clause-stand
-push_function-requires-clause-stand c = subst (λ f. IsNamedBy c.args.names.now f.now) (sym c.function-item.is) (c.requires.stand c.loop-function.function-index _ c.loop-function-test.true)

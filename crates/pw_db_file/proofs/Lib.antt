@@ -1,0 +1,7 @@
+pub mod EachTwoLaws
+pub mod WebLaws
+pub mod SharingLaws
+pub mod SeenLaws
+pub mod DatabaseLaws
+pub mod DatabaseFaults
+pub mod WritingLemmas

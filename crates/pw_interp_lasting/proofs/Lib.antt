@@ -1,0 +1,4 @@
+mod Acts
+mod Expressions
+mod Statements
+mod Machines

@@ -1,0 +1,3 @@
+pub mod Logs
+pub mod Alike
+pub mod Told

@@ -1,0 +1,2 @@
+mod Solving
+mod Forming

@@ -1,0 +1,4 @@
+//! A law of optimised forms, without code: each module has one.
+#![tactic(auto)]
+
+pub mod laws;

@@ -1,0 +1,5 @@
+pub mod Holding
+pub mod Spanning
+mod Pointing
+mod Calling
+pub mod Knowledge

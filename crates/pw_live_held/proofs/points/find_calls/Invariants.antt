@@ -1,0 +1,8 @@
+use Rattle.std.proofs.Common.{◌≡◌, map, take}
+use Rattle.std.specs.List.{flat_map}
+use Rattle.pw_live.specs.Points.{points_in}
+use Rattle.pw_live_held.specs.Makers.{calls}
+use Rattle.pw_live_held.proofs.points.find_calls.Given as goal
+
+abbrev pub invariant-loop-block : goal.invariant-loop-block
+invariant-loop-block l = l.all.items ≡ map calls (flat_map points_in (take l.block-index l.f.blocks))

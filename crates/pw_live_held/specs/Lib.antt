@@ -1,0 +1,3 @@
+pub mod Makers
+pub mod Calls
+pub mod IsLiveness

@@ -1,0 +1,8 @@
+//! How many registers a function needs beside those that every call may change.
+#![tactic(auto)]
+
+mod counting;
+pub mod laws;
+mod needs;
+
+pub use needs::need;

@@ -1,0 +1,139 @@
+//! The outline of a flow graph.
+
+ghost use Rattle.std.specs.Prelude.{◌≡◌, ◌∷◌, [], map, IfOk};
+ghost use Rattle.pw_flow.specs.Outline.{act_of, stretch_of, outline_of};
+ghost use Rattle.pw_flow.specs.Uses.{op_uses, op_defines, op_calls, end_uses, successors};
+
+use pw_flow::{Block, End, FlowFn, Op};
+use pw_items::Items;
+use pw_live_fronts::{Act, Outline, Stretch};
+use std::alloc::{AllocError as NoMemory, Global};
+
+/// The same numbers, as items.
+pub fn numbers(alloc: Global, numbers: &[u32]) -> Result<Items<u32>, NoMemory>
+    ensures { IfOk result (λ v. v ≡ numbers.now) }
+{
+    Ok(Items::from_vec(Vec::from_slice(alloc, numbers)?))
+}
+
+/// A number, and numbers behind it.
+fn numbers_behind(alloc: Global, first: u32, rest: &[u32]) -> Result<Items<u32>, NoMemory>
+    ensures { IfOk result (λ v. v ≡ first ∷ rest.now) }
+{
+    let mut all = Vec::with_capacity(alloc, rest.len())?;
+    all.push(first)?;
+    for &n in rest {
+        all.push(n)?;
+    }
+    Ok(Items::from_vec(all))
+}
+
+/// The temporaries that an operation of a flow graph reads.
+pub fn op_uses(alloc: Global, op: &Op) -> Result<Items<u32>, NoMemory>
+    ensures { IfOk result (λ v. v ≡ op_uses op.now) }
+{
+    match op {
+        Op::Const(_, _)
+        | Op::AddrGlobal(_, _, _)
+        | Op::AddrSlot(_, _)
+        | Op::AddrFn(_, _)
+        | Op::LoadG(_, _, _) => Ok(Items::new(alloc)),
+        Op::Copy(_, a) | Op::Un(_, _, a) | Op::Ext(_, _, a) | Op::Load(_, _, a) => {
+            numbers(alloc, &[*a])
+        }
+        Op::StoreG(_, a, _) => numbers(alloc, &[*a]),
+        Op::Bin(_, _, a, b) | Op::Store(_, a, b) | Op::Move(a, b, _, _) => {
+            numbers(alloc, &[*a, *b])
+        }
+        Op::Call(_, _, args) => numbers(alloc, args.as_slice()),
+        Op::CallInd(_, a, _, args) => numbers_behind(alloc, *a, args.as_slice()),
+    }
+}
+
+/// The temporary that an operation of a flow graph writes.
+pub fn op_defines(op: &Op) -> Option<u32>
+    ensures { result ≡ op_defines op.now }
+{
+    match op {
+        Op::Const(t, _)
+        | Op::Copy(t, _)
+        | Op::Un(_, t, _)
+        | Op::Bin(_, t, _, _)
+        | Op::Ext(_, t, _)
+        | Op::AddrGlobal(t, _, _)
+        | Op::AddrSlot(t, _)
+        | Op::AddrFn(t, _)
+        | Op::LoadG(t, _, _)
+        | Op::Load(_, t, _) => Some(*t),
+        Op::StoreG(_, _, _) | Op::Store(_, _, _) | Op::Move(_, _, _, _) => None,
+        Op::Call(t, _, _) | Op::CallInd(t, _, _, _) => *t,
+    }
+}
+
+/// Whether an operation of a flow graph calls.
+pub fn op_calls(op: &Op) -> bool
+    ensures { result ≡ op_calls op.now }
+{
+    match op {
+        Op::Call(_, _, _) | Op::CallInd(_, _, _, _) => true,
+        _ => false,
+    }
+}
+
+/// What an operation reads and writes, and whether it calls.
+pub fn act_of(alloc: Global, op: &Op) -> Result<Act, NoMemory>
+    ensures { IfOk result (λ a. a ≡ act_of op.now) }
+{
+    Ok(Act::new(op_defines(op), op_uses(alloc, op)?, op_calls(op)))
+}
+
+fn acts(alloc: Global, ops: &[Op]) -> Result<Items<Act>, NoMemory>
+    ensures { IfOk result (λ v. v ≡ map act_of ops.now) }
+{
+    let mut acts = Items::new(alloc);
+    for op in ops {
+        acts.push(act_of(alloc, op)?)?;
+    }
+    Ok(acts)
+}
+
+/// The temporaries that the end of a block reads.
+pub fn end_uses(alloc: Global, end: End) -> Result<Items<u32>, NoMemory>
+    ensures { IfOk result (λ v. v ≡ end_uses end) }
+{
+    match end {
+        End::Jump(_) | End::Return(None) => Ok(Items::new(alloc)),
+        End::Branch(a, _, _) | End::Return(Some(a)) => numbers(alloc, &[a]),
+    }
+}
+
+/// The blocks at which it may go on.
+pub fn successors(alloc: Global, end: End) -> Result<Items<u32>, NoMemory>
+    ensures { IfOk result (λ v. v ≡ successors end) }
+{
+    match end {
+        End::Jump(b) => numbers(alloc, &[b]),
+        End::Branch(_, b, c) => numbers(alloc, &[b, c]),
+        End::Return(_) => Ok(Items::new(alloc)),
+    }
+}
+
+fn stretch(alloc: Global, block: &Block) -> Result<Stretch, NoMemory>
+    ensures { IfOk result (λ s. s ≡ stretch_of block.now) }
+{
+    let acts = acts(alloc, block.ops.as_slice())?;
+    let uses = end_uses(alloc, block.end)?;
+    let next = successors(alloc, block.end)?;
+    Ok(Stretch::new(block.depth, acts, uses, next))
+}
+
+/// The outline of a flow graph.
+pub fn outline_of(alloc: Global, f: &FlowFn) -> Result<Outline, NoMemory>
+    ensures { IfOk result (λ o. o ≡ outline_of f.now) }
+{
+    let mut blocks = Items::new(alloc);
+    for block in f.blocks.as_slice() {
+        blocks.push(stretch(alloc, block)?)?;
+    }
+    Ok(Outline::new(f.params, f.temps, blocks))
+}

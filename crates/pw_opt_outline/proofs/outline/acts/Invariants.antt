@@ -1,6 +1,0 @@
-use Rattle.std.proofs.Common.{◌≡◌, map, take}
-use Rattle.pw_flow.specs.Outline.{act_of}
-use Rattle.pw_opt_outline.proofs.outline.acts.Given as goal
-
-abbrev pub invariant-loop-op : goal.invariant-loop-op
-invariant-loop-op l = l.acts ≡ map act_of (take l.op-index l.ops)
