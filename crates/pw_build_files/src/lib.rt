@@ -16,5 +16,7 @@ pub use laws::{
     module_texts_are_no_objects, texts_have_one_image,
 };
 pub use program::{modules_to_build, program_of};
-pub use pw_build::{BuildFault, Unbuilt, flow_graphs_declare_main, laws as build_laws, phase_typed};
+pub use pw_build::{
+    BuildFault, Unbuilt, flow_graphs_declare_main, laws as build_laws, phase_typed,
+};
 pub use report::{Report, report_lines};

@@ -45,11 +45,7 @@ fn optimised_forms(alloc: Global, flows: &[FlowModule]) -> Result<Vec<FlowModule
 }
 
 /// Modules as they are, for so many registers; or which rule of linking they break.
-fn prepare_plain(
-    alloc: Global,
-    flows: Vec<FlowModule>,
-    colours: u8,
-) -> Result<Prepared, LinkFault>
+fn prepare_plain(alloc: Global, flows: Vec<FlowModule>, colours: u8) -> Result<Prepared, LinkFault>
     requires lawful { AllByRecursion IsValid flows.items }
     requires few { colours ≤ colour_limit }
     ensures prepared { IfOk result (IsPrepared flows.items false colours) }

@@ -151,11 +151,11 @@ module _ (g : CallGraph) (rows : length g.calls ≡ length g.functions) (calls_w
                 | inr lacks ↦ inr (λ p. lacks p.path)
               ]
             ])) [
-          | inl found ↦ inl (more a found.0 b (of_row a found.0 lt found.1) (right_false (eqb found.0 a) (list_any (eqb found.0) past) found.2.free) (fewer g past a found.2.path))
-          | inr others ↦
-              let all : PathPast g (a ∷ past) a b → ⊥ = no_path g (a ∷ past) none (λ c calls free path. others c (in_row a c lt calls) (record { free = free; path = path })) in
-              inr (λ path. elim (cut g past a path) [ inl p ↦ all p | inr p ↦ all p ])
-        ]
+              | inl found ↦ inl (more a found.0 b (of_row a found.0 lt found.1) (right_false (eqb found.0 a) (list_any (eqb found.0) past) found.2.free) (fewer g past a found.2.path))
+              | inr others ↦
+                  let all : PathPast g (a ∷ past) a b → ⊥ = no_path g (a ∷ past) none (λ c calls free path. others c (in_row a c lt calls) (record { free = free; path = path })) in
+                  inr (λ path. elim (cut g past a path) [ inl p ↦ all p | inr p ↦ all p ])
+            ]
       ]
 
   path_told : (a b : ℕ) → a < length g.functions → Path g a b ⊎ (Path g a b → ⊥)

@@ -165,11 +165,11 @@ run_did one opts few ms image None rest rest' taken taken' made objects a reply 
 run_did one opts few ms image (Some t) rest rest' taken taken' made objects a reply is built typed runs replies = λ sources. if_some rest (λ input told.
     let parts = built.0 in
     let builds = subst (λ (ss : List Source). Builds ss (kept_objects t.files) opts.build (Ok parts)) sources
-        (subst (λ (k : List (Option Object)). Builds (map source ms) k opts.build (Ok parts)) (kept_are ms t.files sources) built.1) in
+    (subst (λ (k : List (Option Object)). Builds (map source ms) k opts.build (Ok parts)) (kept_are ms t.files sources) built.1) in
     let file = subst (λ (bytes : List ℕ). IsImageFile bytes (record { names = built.2.image_names; value = linked parts.objects opts.build.stack })) (sym is) built.2.image in
     let ran : (modules : List ProgramModule) → AreTyped (modules_of t.files) modules → RanAs (run_of opts input parts modules) input a rest' taken taken' =
-        λ modules are. subst (λ (o : Option (List ℕ)). IfSome o (λ bytes. RanAs (run_of opts bytes parts modules) bytes a rest' taken taken')) told
-        (runs (record { names = built.2.image_names; value = linked parts.objects opts.build.stack }) modules file (subst (λ (ss : List Source). AreTyped ss modules) (sym sources) are)) in
+    λ modules are. subst (λ (o : Option (List ℕ)). IfSome o (λ bytes. RanAs (run_of opts bytes parts modules) bytes a rest' taken taken')) told
+    (runs (record { names = built.2.image_names; value = linked parts.objects opts.build.stack }) modules file (subst (λ (ss : List Source). AreTyped ss modules) (sym sources) are)) in
     let there = subst (λ (ss : List Source). UnlessMemory a ((typed : List ProgramModule) × AreTyped ss typed)) sources typed in
     of_reply (λ x. Did t.files opts input x rest' taken taken') (map source ms) a reply replies
     (did_run one t.files opts few input parts a rest' taken taken' builds there ran)
@@ -181,7 +181,7 @@ pub refused_did : OneBuild → (opts : RunOpts) → opts.build.colours ≤ colou
 refused_did one opts few ms None rest taken fault a is h = tt
 refused_did one opts few ms (Some t) rest taken fault a is h = λ sources. if_some rest (λ input told.
     let found = subst (λ (ss : List Source). FaultBuilds ss (kept_objects t.files) opts.build fault) sources
-        (subst (λ (k : List (Option Object)). FaultBuilds (map source ms) k opts.build fault) (kept_are ms t.files sources) h) in
+    (subst (λ (k : List (Option Object)). FaultBuilds (map source ms) k opts.build fault) (kept_are ms t.files sources) h) in
     subst (λ (x : Answer). Did t.files opts input x rest taken taken) (sym is)
     (subst (λ (o : Option (List ℕ)). Did t.files opts input (fault_answer fault) o taken taken) (sym told) (fault_did one t.files opts few input taken fault found)))
 

@@ -60,11 +60,7 @@ fn token_line(
 }
 
 /// The line that the answer to a run tells.
-fn line_of(
-    alloc: Global,
-    modules: &[Module],
-    answer: &Answer,
-) -> Result<Option<usize>, AllocError>
+fn line_of(alloc: Global, modules: &[Module], answer: &Answer) -> Result<Option<usize>, AllocError>
     ensures line { IfOk result (λ line. line ≡ spec.run_line (map source modules.now) answer.now) }
     ensures memory { OnErr result (TellsToken answer.now) }
 {

@@ -185,12 +185,7 @@ fn compile_bytes<S: Store>(
 /// The flow graph is optimised first, if that is asked for, and the summary is that of the optimised one. The text is read from
 /// `NAME.i`; `NAME.flow` is put, and then `NAME.sum`. The answer is `Done` where both were put;
 /// `Refused` where the text is refused, with the line; `BadFile` where the text is absent; nothing is put then.
-pub fn compile_text<S: Store>(
-    alloc: Global,
-    store: &mut S,
-    name: &Name,
-    optimise: bool,
-) -> Reply
+pub fn compile_text<S: Store>(alloc: Global, store: &mut S, name: &Name, optimise: bool) -> Reply
     requires { is_module_name name.now ≡ true }
     ensures obeys { IfSome (S.told store.old) (λ told. (input : List ℕ) → Obeys (PhaseOneEffect told.files name.now optimise input) result.answer told (S.told store.new)) }
     ensures others { KeepsOthers (phase_one_puts name.now) result.answer (S.told store.old) (S.told store.new) }

@@ -191,10 +191,7 @@ pub fn interpret_parts<'a, I: Source, O: Sink>(
 }
 
 /// The modules of a program, as its run takes them.
-fn parts_of<'a>(
-    alloc: Global,
-    modules: &'a [(Name, TModule)],
-) -> Result<Vec<Part<'a>>, AllocError>
+fn parts_of<'a>(alloc: Global, modules: &'a [(Name, TModule)]) -> Result<Vec<Part<'a>>, AllocError>
     ensures { IfOk result (λ parts. map view_part parts.items ≡ map module_of modules.now) }
 {
     let mut parts = Vec::new(alloc);

@@ -42,11 +42,7 @@ fn take_value<'a>(
 }
 
 /// A part of a statement left something: the last that the call has left to do takes it.
-fn take_flow<'a>(
-    machine: &mut Machine<'a>,
-    state: &mut State,
-    flow: Flow,
-) -> Result<(), Stop<'a>>
+fn take_flow<'a>(machine: &mut Machine<'a>, state: &mut State, flow: Flow) -> Result<(), Stop<'a>>
     ensures { (main : worlds.Body) → StepsAt main (view_env machine.old.call.env).world machine.old.call machine.old.callers.items
         (λ rest. rest (view_env machine.old.call.env) machine.old.call.bound (spec.Flowed (view_flow flow))) (view_state state.old) result machine.new (view_state state.new) }
 {

@@ -121,8 +121,7 @@ parts_exist laws flows ss kept opts few valid files of lawful linked =
     let together = laws.rules opts.optimise flows forms own.0 found.1 valid rules own.1 in
     let names = names_exist laws.names forms own.0 each own.1 in
     let db = laws.database own.0 opts.colours own.2 names together in
-    let os = objects_exist laws.one db.0 (laws.objects own.0 opts.colours db.0 few own.2 names together db.1) forms kept fine each in
-    (
+    let os = objects_exist laws.one db.0 (laws.objects own.0 opts.colours db.0 few own.2 names together db.1) forms kept fine each in (
       record { database = db.0; objects = os.0; fresh = os.1 },
       record {
         lawful = valid;

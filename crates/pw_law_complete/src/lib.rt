@@ -21,9 +21,7 @@ ghost use Rattle.pw_law_build.specs.Complete.{CanBeBuilt};
 ghost use Rattle.pw_law_shown.specs.Alike.{shown};
 
 use pw_build_files::build_laws::modules_have_one_build;
-use pw_build_objects::laws::{
-    forms_keep_what_modules_have, objects_are_refused_for_room_alone,
-};
+use pw_build_objects::laws::{forms_keep_what_modules_have, objects_are_refused_for_room_alone};
 use pw_db_file::laws::one_list_is_stored;
 use pw_flowfile::laws::flow_graphs_and_files_are_one_to_one;
 use pw_law_answers::{

@@ -19,9 +19,7 @@ use pw_check_rules::checks_is_exact;
 use pw_colour::laws::databases_are_lawful;
 use pw_db::laws::directives_are_one;
 use pw_front_end::front_is_exact;
-use pw_law_analysis::{
-    accepted_programs_have_shapes, layers_give_all, summaries_say_the_same,
-};
+use pw_law_analysis::{accepted_programs_have_shapes, layers_give_all, summaries_say_the_same};
 use pw_law_layers::{frames_are_within_rooms, lowered_have_rooms, lowering_implements};
 use pw_law_lowering::{checked_is_accepted, lowering_keeps_runs};
 use pw_law_opt::laws::{

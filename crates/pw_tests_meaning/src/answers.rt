@@ -79,12 +79,7 @@ fn streams_of(text: &Text, job: &Job) -> Result<Streams, AllocError> {
 }
 
 /// Adds a run: how it ended, how many bytes it read, and what it wrote.
-fn push_answer(
-    text: &mut Text,
-    job: &Job,
-    end: &Result<CEnd, InterpFault>,
-    streams: &mut Streams,
-) {
+fn push_answer(text: &mut Text, job: &Job, end: &Result<CEnd, InterpFault>, streams: &mut Streams) {
     let most = job.input.len();
     let left = count_left(&mut streams.input, most);
     push_end(text, end);

@@ -28,9 +28,8 @@ fn word_of(command: &Command) -> &'static str {
 /// The module of a command, or nothing.
 fn module_of(command: &Command) -> &[u8] {
     match command {
-        Command::Preprocess(name)
-        | Command::PhaseOne { name, .. }
-        | Command::PhaseTwo(name) => name.as_bytes(),
+        Command::Preprocess(name) | Command::PhaseOne { name, .. } | Command::PhaseTwo(name) =>
+            name.as_bytes(),
         _ => &[],
     }
 }
@@ -48,7 +47,9 @@ fn run_numbers(number: Option<u64>, opts: &RunOpts) -> [Option<u64>; 4] {
 /// The number of a command, its colours, its stack and its steps, as far as it has them.
 fn numbers_of(command: &Command) -> [Option<u64>; 4] {
     match command {
-        Command::Go(opts) | Command::Session(opts) | Command::Interp(opts) => run_numbers(None, opts),
+        Command::Go(opts) | Command::Session(opts) | Command::Interp(opts) => run_numbers(
+            None, opts,
+        ),
         Command::Bench { number, opts } => run_numbers(Some(u64::from(*number)), opts),
         Command::Where { call, opts } => run_numbers(Some(*call), opts),
         Command::Build(opts) => [

@@ -125,11 +125,7 @@ fn words_but(alloc: Global, words: &[String], at: usize) -> Result<Vec<String>, 
 }
 
 /// The words but the one at a place, if one is given.
-fn others(
-    alloc: Global,
-    words: &[String],
-    place: Option<usize>,
-) -> Result<Vec<String>, AllocError>
+fn others(alloc: Global, words: &[String], place: Option<usize>) -> Result<Vec<String>, AllocError>
     requires { IfSome place (λ n. n < length words.now) }
     ensures { IfOk result (λ line. map string_bytes line.items ≡ without_place place (map string_bytes words.now)) }
 {
