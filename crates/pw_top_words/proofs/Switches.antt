@@ -68,10 +68,10 @@ pub stands_here : (words : List Text) (at : ℕ) (word : Text) → SoFar words a
 stands_here words at word so next ends is =
     let rest = drop (at + 1) words in
     sym (
-      so ∙ ap (λ (ws : List Text). passed at (switch_from false ws)) next
-      ∙ ap (λ (b : Bool). passed at (turn word b (bytes_eq word switch) rest)) ends
-      ∙ ap (λ (b : Bool). passed at (turn word false b rest)) is
-      ∙ ap (λ (n : ℕ). Some n) (nothing_more at)
+    so ∙ ap (λ (ws : List Text). passed at (switch_from false ws)) next
+    ∙ ap (λ (b : Bool). passed at (turn word b (bytes_eq word switch) rest)) ends
+    ∙ ap (λ (b : Bool). passed at (turn word false b rest)) is
+    ∙ ap (λ (n : ℕ). Some n) (nothing_more at)
     )
   where
     nothing_more : (n : ℕ) → n + 0 ≡ n
@@ -120,11 +120,8 @@ but_one words first second before behind at b d f s =
 
 pub behind_name : (o : Option ℕ) (words : List Text) → drop 1 (without_place (option_map suc o) words) ≡ without_place o (drop 1 words)
 behind_name None words = refl
-behind_name (Some n) [] = nothing n
-  where
-    nothing : (n : ℕ) → ([] : List Text) ≡ take n [] ++ drop (suc n) []
-    nothing zero = refl
-    nothing (suc n) = refl
+behind_name (Some zero) [] = refl
+behind_name (Some (suc n)) [] = refl
 behind_name (Some n) (w ∷ words) = refl
 
 pub is_there : (o : Option ℕ) → is_some (option_map suc o) ≡ is_some o
