@@ -8,7 +8,7 @@ log=$(mktemp)
 trap 'rm -f "$log"' EXIT
 summary=
 failed=0
-for script in "$bench"/*.sh "$bench/checks.py" "$bench/cruns.py"; do
+for script in "$bench"/*.sh "$bench/checks.py" "$bench/cruns.py" "$bench/cpps.py"; do
     name=$(basename "$script")
     case $name in all.sh | common.sh | quick.sh) continue ;; esac
     case $name in

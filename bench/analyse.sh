@@ -43,7 +43,8 @@ for m in range(modules):
     for f in fs:
         p += lst([nm(c) for c in calls[f]]) + lst([])
         p += lst([nm(r) + u64(number[f] % 64 + 1) + u64(number[f] % 3) for r in refs[f]])
-    x = b'PAWS' + u32(12 + len(p) + 32) + u32(1) + p
+        p += bytes([number[f] % 5])
+    x = b'PAWS' + u32(12 + len(p) + 32) + u32(2) + p
     print(mod.decode(), (x + hashlib.sha256(x).digest()).hex())
 PYTHON
 

@@ -13,7 +13,8 @@ ghost use Rattle.std.specs.Prelude.{IfOk};
 ghost use Rattle.pw_flow.specs.ValidFlow.{IsValid};
 ghost use Rattle.pw_phase_two.specs.Phases.{AreDirectivesOf};
 
-use pw_db::{Database, Directives, read_payload};
+use pw_db::{Database, Directives, VERSION};
+use pw_db_file::read_payload;
 use pw_flow::{BinKind, Block, End, FlowFn, FlowModule, Op};
 use pw_items::Items;
 use pw_flow_valid::is_valid;
@@ -138,7 +139,11 @@ fn directives(alloc: Global, flow: &FlowModule) -> Result<Vec<(Name, Directives)
     let Ok(functions) = read_payload(alloc, &[0; 8]) else {
         return Err(AllocError);
     };
-    directives_for(alloc, flow, &Database { functions })
+    let db = Database {
+        version: VERSION,
+        functions,
+    };
+    directives_for(alloc, flow, &db)
 }
 
 /// Makes the object of a module; prints the microseconds that this took.

@@ -6,7 +6,8 @@ Usage: samples/picture.py PAWC FOLDER | dot -Tsvg > picture.svg
 The folder has what `pawc build` made. A function's box has its name and its frame, and a line for each web that it is in: the
 register and the global, in bold letters where the function is an entry, which loads the global into the register and, where
 the web writes it, stores it back; in a member it stands there already. Each register has a colour. An arrow is a call; a
-broken one leads to the mark of calls through pointers. The routines for arithmetic are left out.
+broken one leads to the mark of calls through pointers. The routines for arithmetic are left out, and so are the registers that
+functions share.
 """
 import html
 import re
@@ -43,9 +44,11 @@ def functions(listing):
 
 
 def webs(database):
-    """Each line's register, global, entries and members."""
+    """Each web's register, global, entries and members. Lines of registers that functions share have none."""
     for line in database.splitlines():
         name, register, _, *rest = line.split(" ")
+        if register in ("saves", "free"):
+            continue
         roles = list(zip(rest[::2], rest[1::2]))
         entries = [function for role, function in roles if role == "entry"]
         yield int(register[1:]), name, entries, [function for role, function in roles if role == "member"]

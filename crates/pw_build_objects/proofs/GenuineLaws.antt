@@ -67,7 +67,7 @@ stored_gives fs s can stored = All-from_recursion (HasDirectives s) fs (each_by 
 payload_one : Laws → (flow : FlowModule) (bytes : List ℕ) (ds es : DirectivesList) → AreDirectivesOf flow ds → AreDirectivesOf flow es → IsPayloadOf bytes ds → IsPayloadOf bytes es → ds ≡ es
 payload_one laws flow bytes ds es a b p q =
     let same : q.0 ≡ p.0 = laws.one_database bytes q.0 p.0 q.2 p.2 in
-    laws.directives p.0 p.2.1.lawful ds es (stored_gives ds p.0 a.storable p.1) (subst (λ (s : DirectivesList). All (HasDirectives s) es) same (stored_gives es q.0 b.storable q.1)) (a.functions ∙ sym b.functions)
+    laws.directives p.0 p.2.1.contents.lawful.functions ds es (stored_gives ds p.0 a.storable p.1) (subst (λ (s : DirectivesList). All (HasDirectives s) es) same (stored_gives es q.0 b.storable q.1)) (a.functions ∙ sym b.functions)
 
 -- ---- the object of a module
 

@@ -2,13 +2,16 @@
 use Rattle.std.proofs.Common.{◌≡◌, ℕ, ◌≤◌, ⊎_elim, inl, inr, Bool, true, false, List, [], ◌∷◌, Option, Some, Result, Ok, Err, map, refl, sym, ap, ◌∙◌, subst}
 use Rattle.std.specs.Prelude.{All, count_by}
 use Rattle.std.specs.List.{AllByRecursion}
+use Rattle.std.proofs.lemmas.List.Elements.{All-from_recursion}
 use Rattle.pw_value.specs.declared.fault.LinkFault.{LinkFault}
 use Rattle.pw_link_rules.specs.declared.interface.Interface.{Interface}
 use Rattle.pw_link_rules.specs.Linking.{Links, Refusal}
 use Rattle.pw_flow.specs.declared.flow.FlowModule.{FlowModule}
 use Rattle.pw_flow.specs.ValidFlow.{IsValid}
 use Rattle.pw_summary.specs.declared.summary.Summary.{Summary}
+use Rattle.pw_summary.specs.Summary.{IsSummary}
 use Rattle.pw_summarise.specs.Summarises.{Summarises}
+use Rattle.pw_summarise.proofs.LawfulLaws.{lawful as summary_lawful}
 use Rattle.pw_graph.specs.Program.{interface_of}
 use Rattle.pw_colour.specs.Colours.{IsDatabaseOf}
 use Rattle.pw_db.specs.Database.{HasDirectives, IsDatabase}
@@ -26,7 +29,7 @@ pub record Laws : Type 0 where
   pub summary : (m : FlowModule) (s t : Summary) → IsValid m → Summarises m s → Summarises m t → s ≡ t
   pub form : OneForm
   pub lawful_form : (o : Bool) (flows forms : List FlowModule) → AreForms o flows forms → AllByRecursion IsValid flows → AllByRecursion IsValid forms
-  pub lawful : (ss : List Summary) (colours : ℕ) (d : DirectivesList) → colours ≤ colour_limit → IsDatabaseOf ss colours d → IsDatabase d
+  pub lawful : (ss : List Summary) (colours : ℕ) (d : DirectivesList) → colours ≤ colour_limit → All IsSummary ss → IsDatabaseOf ss colours d → IsDatabase d
   pub database : (ss : List Summary) (colours : ℕ) (d e : DirectivesList) → IsDatabaseOf ss colours d → IsDatabaseOf ss colours e → d ≡ e
   pub directives : (fs : DirectivesList) → IsDatabase fs → (gs hs : DirectivesList) → All (HasDirectives fs) gs → All (HasDirectives fs) hs → map (λ f. f.0) gs ≡ map (λ f. f.0) hs → gs ≡ hs
   pub object : (m : FlowModule) (ds : DirectivesList) (o p : Object) → IsObjectOf m ds o → IsObjectOf m ds p → o ≡ p
@@ -43,6 +46,12 @@ summaries_one laws (f ∷ fs) [] ts v a b = absurd a
 summaries_one laws (f ∷ fs) (s ∷ ss) [] v a b = absurd b
 summaries_one laws (f ∷ fs) (s ∷ ss) (t ∷ ts) v a b =
     ap (λ (x : Summary). x ∷ ss) (laws.summary f s t v.0 a.0 b.0) ∙ ap (λ (xs : List Summary). t ∷ xs) (summaries_one laws fs ss ts v.1 a.1 b.1)
+
+summaries_lawful : (fs : List FlowModule) (ss : List Summary) → AllByRecursion IsValid fs → AreSummariesOf fs ss → AllByRecursion IsSummary ss
+summaries_lawful [] [] v a = tt
+summaries_lawful [] (s ∷ ss) v a = absurd a
+summaries_lawful (f ∷ fs) [] v a = absurd a
+summaries_lawful (f ∷ fs) (s ∷ ss) v a = (summary_lawful f s v.0 a.0, summaries_lawful fs ss v.1 a.1)
 
 -- ---- the object of a module
 
@@ -93,7 +102,8 @@ forms_parts_one : Laws → (fs : List FlowModule) (kept : List (Option Object)) 
     → AreObjectsFrom p.database fs kept p.objects p.fresh → AreObjectsFrom q.database fs kept q.objects q.fresh → p ≡ q
 forms_parts_one laws fs kept colours p q few valid a b os ps =
     let db : q.database ≡ p.database = database_one laws fs colours q.database p.database valid b a in
-    let is : IsDatabase p.database = laws.lawful a.summaries colours p.database few a.database in
+    let all = All-from_recursion IsSummary a.summaries (summaries_lawful fs a.summaries valid a.of_flows) in
+    let is : IsDatabase p.database = laws.lawful a.summaries colours p.database few all a.database in
     let both = objects_one laws p.database is fs kept p.objects q.objects p.fresh q.fresh os (subst (λ (d : DirectivesList). AreObjectsFrom d fs kept q.objects q.fresh) db ps) in
     λ i. record { database = sym db i; objects = both.0 i; fresh = both.1 i }
 

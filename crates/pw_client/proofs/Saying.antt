@@ -37,7 +37,7 @@ use Rattle.pw_top.specs.FromLawSession.FromMeaning.FromLawWhole.Programs.{AreMod
 use Rattle.pw_top.specs.FromLawSession.FromMeaning.Meaning.{BuildsAndMeans, Means, runs_of}
 use Rattle.pw_commands.specs.MachineRun.{run_answer, run_output}
 use Rattle.pw_top_answer.specs.declared.answer.Answer.{Answer}
-use Rattle.pw_top_answer.specs.declared.answer.Answer.TheVariants.{Done, Ended, Usage, Refused, LinkRefused, StackStop, Spent, Halted, ReadFault, WriteFault, StoreFault, NoMemory, BadFile, BadScript}
+use Rattle.pw_top_answer.specs.declared.answer.Answer.TheVariants.{Done, Ended, Usage, Refused, RefusedSource, Cpp, LinkRefused, StackStop, Spent, Halted, ReadFault, WriteFault, StoreFault, NoMemory, BadFile, BadScript, NoFrames}
 use Rattle.pw_top_answer.specs.Outcomes.{Answers, LeavesStreams, PutsOut}
 use Rattle.pw_top_words.specs.CommandLine.{command_of}
 use Rattle.pw_top_words.specs.declared.commands.Command.{Command}
@@ -182,6 +182,8 @@ by_answer wanted Done taken taken' e part says = says e
 by_answer wanted (Ended status) taken taken' e part says = says e
 by_answer wanted Usage taken taken' e part says = says e
 by_answer wanted (Refused name refusal) taken taken' e part says = says e
+by_answer wanted (RefusedSource name refusal) taken taken' e part says = says e
+by_answer wanted (Cpp fault) taken taken' e part says = says e
 by_answer wanted (LinkRefused fault) taken taken' e part says = part
 by_answer wanted StackStop taken taken' e part says = says e
 by_answer wanted Spent taken taken' e part says = part
@@ -192,12 +194,15 @@ by_answer wanted StoreFault taken taken' e part says = part
 by_answer wanted NoMemory taken taken' e part says = tt
 by_answer wanted (BadFile name at) taken taken' e part says = says e
 by_answer wanted (BadScript at) taken taken' e part says = says e
+by_answer wanted (NoFrames address) taken taken' e part says = says e
 
 if_made : (answer : Answer) (P : Type 0) (input input' taken taken' : Option (List ℕ)) → LeavesStreams answer input input' taken taken' → IfMade answer P → (P → SaysHi answer taken taken') → SaysHi answer taken taken'
 if_made Done P input input' taken taken' left h says = says h
 if_made (Ended status) P input input' taken taken' left h says = says h
 if_made Usage P input input' taken taken' left h says = says h
 if_made (Refused name refusal) P input input' taken taken' left h says = says h
+if_made (RefusedSource name refusal) P input input' taken taken' left h says = says h
+if_made (Cpp fault) P input input' taken taken' left h says = says h
 if_made (LinkRefused fault) P input input' taken taken' left h says = says h
 if_made StackStop P input input' taken taken' left h says = says h
 if_made Spent P input input' taken taken' left h says = says h
@@ -208,6 +213,7 @@ if_made StoreFault P input input' taken taken' left h says = ([], hello_output, 
 if_made NoMemory P input input' taken taken' left h says = tt
 if_made (BadFile name at) P input input' taken taken' left h says = says h
 if_made (BadScript at) P input input' taken taken' left h says = says h
+if_made (NoFrames address) P input input' taken taken' left h says = says h
 
 -- ---- the call
 

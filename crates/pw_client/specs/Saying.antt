@@ -4,7 +4,7 @@ use Rattle.pw_io.specs.Files.{Files}
 use Rattle.pw_io.specs.Streams.{Appends}
 use Rattle.pw_store_modules.specs.Modules.{modules_of}
 use Rattle.pw_top_answer.specs.declared.answer.Answer.{Answer}
-use Rattle.pw_top_answer.specs.declared.answer.Answer.TheVariants.{Done, Ended, Usage, Refused, StackStop, Halted, NoMemory, BadFile, BadScript}
+use Rattle.pw_top_answer.specs.declared.answer.Answer.TheVariants.{Done, Ended, Usage, Refused, RefusedSource, Cpp, StackStop, Halted, NoMemory, BadFile, BadScript, NoFrames}
 use Rattle.pw_hello.specs.Hello.{hello_name, hello_output, hello_text}
 
 -- the only module of the files is `hello`
@@ -24,8 +24,11 @@ SaysHi NoMemory taken taken' = Unit {0}
 SaysHi Done taken taken' = ⊥
 SaysHi Usage taken taken' = ⊥
 SaysHi (Refused name refusal) taken taken' = ⊥
+SaysHi (RefusedSource name refusal) taken taken' = ⊥
+SaysHi (Cpp fault) taken taken' = ⊥
 SaysHi StackStop taken taken' = ⊥
 SaysHi (Halted halt at) taken taken' = ⊥
 SaysHi (BadFile name at) taken taken' = ⊥
 SaysHi (BadScript at) taken taken' = ⊥
+SaysHi (NoFrames address) taken taken' = ⊥
 SaysHi _ taken taken' = PutsPrefix taken taken'

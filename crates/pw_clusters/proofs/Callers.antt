@@ -21,7 +21,7 @@ has_told b (x ∷ xs) = elim (cases_eq x b) [
   ]
 ]
 
-calls_by_row : (g : CallGraph) (a b : ℕ) (o : Option (List ℕ)) → slice_get g.calls a ≡ o → Calls g a b ⊎ (Calls g a b → ⊥)
+pub calls_by_row : (g : CallGraph) (a b : ℕ) (o : Option (List ℕ)) → slice_get g.calls a ≡ o → Calls g a b ⊎ (Calls g a b → ⊥)
 calls_by_row g a b None e = inr (λ c. absurd (let there : None ≡ Some c.row = sym e ∙ c.at in cc))
 calls_by_row g a b (Some row) e = elim (has_told b row) [
   | inl h ↦ inl (record { row = row; at = e; stands = contains_by b row h })

@@ -9,11 +9,11 @@ use Rattle.std.proofs.Math.Dec.{eqb}
 use Rattle.pw_graph.specs.declared.graph.CallGraph.{CallGraph}
 use Rattle.pw_graph.specs.CallGraph.{Calls, Path, call, on}
 
-is_false : (b : Bool) → (b ≡ true → ⊥) → b ≡ false
+pub is_false : (b : Bool) → (b ≡ true → ⊥) → b ≡ false
 is_false true others = absurd (others refl)
 is_false false others = refl
 
-all_other : (f : ℕ) (ts : List ℕ) → (list_any (eqb f) ts ≡ true → ⊥) → AllByRecursion (λ t. eqb f t ≡ false) ts
+pub all_other : (f : ℕ) (ts : List ℕ) → (list_any (eqb f) ts ≡ true → ⊥) → AllByRecursion (λ t. eqb f t ≡ false) ts
 all_other f [] others = tt
 all_other f (t ∷ ts) others = (
   is_false (eqb f t) (λ e. others (or_here (eqb f t) (list_any (eqb f) ts) e)),
@@ -24,7 +24,7 @@ all_other f (t ∷ ts) others = (
     or_here true y e = refl
     or_here false y e = absurd (false≢true e)
 
-none_distinct : IsDistinct eqb []
+pub none_distinct : IsDistinct eqb []
 unfolding IsDistinct
 none_distinct = tt
 

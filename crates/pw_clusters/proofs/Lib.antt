@@ -2,6 +2,7 @@ pub mod Once
 mod Registers
 mod Callers
 mod Climbing
+mod Telling
 mod Roots
 mod Sharing
 mod Naming

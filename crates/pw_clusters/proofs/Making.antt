@@ -12,9 +12,9 @@ use Rattle.pw_graph.specs.declared.graph.CallGraph.{CallGraph}
 use Rattle.pw_graph.specs.CallGraph.{Calls}
 use Rattle.pw_graph.specs.Program.{IsGraphOf}
 use Rattle.pw_clusters.specs.Clusters.{IsInner, AreRoots}
-use Rattle.pw_clusters.specs.Naming.{AreTold}
 use Rattle.pw_clusters.proofs.Callers.{search}
 use Rattle.pw_clusters.proofs.Climbing.{Trail, nothing, full, longer, caller_within}
+use Rattle.pw_clusters.proofs.Telling.{AreTold}
 
 module _ (ss : List Summary) (g : CallGraph) (told : AreTold ss g) (of : IsGraphOf ss g) where
   -- what a function takes, once its callers have numbers

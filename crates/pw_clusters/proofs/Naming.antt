@@ -14,10 +14,11 @@ use Rattle.pw_clusters.specs.ByName.{CallsByName}
 use Rattle.pw_clusters.specs.Clusters.{IsDefined, IsInner, HaveRoot, AreRoots}
 use Rattle.pw_clusters.specs.Saving.{free_at}
 use Rattle.pw_clusters.specs.Sharing.{PathBelow, here, further}
-use Rattle.pw_clusters.specs.Naming.{TellsMovable, AreTold, IsSavedAboveNamed}
+use Rattle.pw_clusters.specs.Naming.{TellsMovable, IsSavedAboveNamed}
 use Rattle.pw_clusters.proofs.Once.{map_same, once_there}
 use Rattle.pw_clusters.proofs.Callers.{search}
 use Rattle.pw_clusters.proofs.Climbing.{caller_within, everywhere}
+use Rattle.pw_clusters.proofs.Telling.{AreTold}
 use Rattle.pw_clusters.proofs.Roots.{each_is_within}
 use Rattle.pw_clusters.proofs.Sharing.{saved_above}
 

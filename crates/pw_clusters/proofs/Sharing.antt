@@ -65,7 +65,7 @@ most : (b : Bool) (n k m : ℕ) → n ≤ m → k ≤ m → max (if b then n els
 most true n k m one other = omega (arith, one, other)
 most false n k m one other = omega (arith, other)
 
-bounded : (m r f : ℕ) (roots needs : List ℕ) → AllByRecursion (λ n. n ≤ m) needs → greatest_need r f roots needs ≤ m
+pub bounded : (m r f : ℕ) (roots needs : List ℕ) → AllByRecursion (λ n. n ≤ m) needs → greatest_need r f roots needs ≤ m
 bounded m r f [] needs all = omega arith
 bounded m r f (root ∷ roots) [] all = bounded m r (suc f) roots [] tt
 bounded m r f (root ∷ roots) (n ∷ needs) all = most ((root == r) && not (f == r)) n (greatest_need r (suc f) roots needs) m all.0 (bounded m r (suc f) roots needs all.1)

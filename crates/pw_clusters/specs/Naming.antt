@@ -1,20 +1,16 @@
 -- The same by names, as soundness has it (Sound of pw_db_sound).
-use Rattle.std.specs.Prelude.{ℕ, ◌≡◌, ◌<◌, ◌⊎◌, ◌↔◌, Some, List, length, Contains, slice_get}
+use Rattle.std.specs.Prelude.{ℕ, ◌≡◌, ◌↔◌, Some, List, Contains, slice_get}
 use Rattle.pw_summary.specs.declared.summary.Summary.{Summary}
 use Rattle.pw_graph.specs.declared.graph.CallGraph.{CallGraph}
 use Rattle.pw_graph.specs.Program.{IsTaken, IsEscaped}
 use Rattle.pw_db_sound.specs.CallGraphs.{Graph, IsMovable, RootOf, PathBelow}
-use Rattle.pw_clusters.specs.Clusters.{IsDefined, IsInner}
+use Rattle.pw_clusters.specs.Clusters.{IsDefined}
 use Rattle.pw_clusters.specs.Saving.{saves_at}
 use Rattle.pw_clusters.specs.Sharing.{Shares}
 
 -- a graph by names tells which functions may be moved as the summaries do
 abbrev pub TellsMovable : List Summary → Graph → Type 0
 TellsMovable ss n = (f : List ℕ) → IsMovable n f ↔ (IsDefined ss f × (¬ IsTaken ss f) × (¬ IsEscaped ss f))
-
--- of each function one can tell whether it may work for another alone
-abbrev pub AreTold : List Summary → CallGraph → Type 0
-AreTold ss g = (f : ℕ) → f < length g.functions → IsInner ss g f ⊎ (IsInner ss g f → ⊥)
 
 -- the function of the name saves the register for others, and it shares the register
 pub record IsSaverNamed (g : CallGraph) (roots needs : List ℕ) (h : List ℕ) (r : ℕ) : Type 0 where

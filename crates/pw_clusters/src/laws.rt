@@ -10,7 +10,7 @@ ghost use Rattle.pw_graph.specs.Program.{IsGraphOf};
 ghost use Rattle.pw_clusters.specs.Clusters.{AreRoots, IsMember};
 ghost use Rattle.pw_summary.specs.Summary.{need_limit};
 ghost use Rattle.pw_clusters.specs.Saving.{last_registers, saves_by, free_by, need_in, free_at, IsNeed};
-ghost use Rattle.pw_clusters.specs.Naming.{TellsMovable, AreTold, IsSavedAboveNamed};
+ghost use Rattle.pw_clusters.specs.Naming.{TellsMovable, IsSavedAboveNamed};
 ghost use Rattle.pw_clusters.specs.Sharing.{Shares, IsSavedAbove};
 ghost use Rattle.pw_clusters.specs.ByName.{IsNamed};
 ghost use Rattle.pw_db_sound.specs.CallGraphs.{Graph};
@@ -20,12 +20,14 @@ ghost use Rattle.pw_db_sound.specs.CallGraphs.{Graph};
 pub fn few_registers_are_saved()
     ensures kept { (k r : ℕ) → k ≤ need_limit → Contains (last_registers k) r → (first_register ≤ r) × (r ≤ last_register) }
     ensures apart { (f root k : ℕ) → (saves_by f root k ≡ []) ⊎ (free_by f root k ≡ []) }
+    ensures few { (roots needs : List ℕ) (r : ℕ) → AllByRecursion (λ n. n ≤ need_limit) needs → need_in roots needs r ≤ need_limit }
 {}
 
-/// A call graph has at most one assignment of roots, and by it each root is its own.
+/// A call graph has at most one assignment of roots, and by it each root is a function and its own root.
 pub fn roots_are_one()
     ensures one { (ss : List Summary) (g : CallGraph) (xs ys : List ℕ) → IsGraphOf ss g → AreRoots ss g xs → AreRoots ss g ys → xs ≡ ys }
     ensures own { (ss : List Summary) (g : CallGraph) (roots : List ℕ) → IsGraphOf ss g → AreRoots ss g roots → (f : ℕ) → f < length g.functions → slice_index roots (slice_index roots f) ≡ slice_index roots f }
+    ensures within { (ss : List Summary) (g : CallGraph) (roots : List ℕ) → IsGraphOf ss g → AreRoots ss g roots → (f : ℕ) → f < length g.functions → slice_index roots f < length g.functions }
 {}
 
 /// A register that a function is free to use is saved by its root, and each function from which calls lead to it without the
@@ -35,10 +37,9 @@ pub fn free_registers_are_saved_above()
     ensures of_no_web { (roots needs : List ℕ) (f q : ℕ) → AllByRecursion (λ n. n ≤ need_limit) needs → Shares roots needs f q → (first_register + colour_limit ≤ q) × (q ≤ last_register) }
 {}
 
-/// So it is by names, as soundness of directives has it, where one can tell of each function whether it may work for another
-/// alone: its root is the one of that graph.
+/// So it is by names, as soundness of directives has it: its root is the one of that graph.
 pub fn free_registers_are_saved_by_name()
-    ensures { (ss : List Summary) (g : CallGraph) (roots needs : List ℕ) (n : Graph) → IsGraphOf ss g → AreRoots ss g roots → IsNamed g n → TellsMovable ss n → AreTold ss g → (f : ℕ) (h : List ℕ) (q : ℕ) → slice_get g.functions f ≡ Some h → Contains (free_at roots needs f) q → IsSavedAboveNamed g n roots needs h q }
+    ensures { (ss : List Summary) (g : CallGraph) (roots needs : List ℕ) (n : Graph) → IsGraphOf ss g → AreRoots ss g roots → IsNamed g n → TellsMovable ss n → (f : ℕ) (h : List ℕ) (q : ℕ) → slice_get g.functions f ≡ Some h → Contains (free_at roots needs f) q → IsSavedAboveNamed g n roots needs h q }
 {}
 
 /// Each member of a cluster has as many registers free as it needs, and no more are saved than some member needs.
@@ -47,9 +48,9 @@ pub fn members_have_what_they_need()
     ensures attained { (roots needs : List ℕ) (r : ℕ) → (need_in roots needs r ≡ 0) ⊎ IsNeed roots needs r (need_in roots needs r) }
 {}
 
-/// A call graph has an assignment of roots, where one can tell of each function whether it may work for another alone.
+/// A call graph has an assignment of roots.
 pub fn roots_are_there()
-    ensures { (ss : List Summary) (g : CallGraph) → IsGraphOf ss g → AreTold ss g → (roots : List ℕ) × AreRoots ss g roots }
+    ensures { (ss : List Summary) (g : CallGraph) → IsGraphOf ss g → (roots : List ℕ) × AreRoots ss g roots }
 {}
 
 /// What holds of each function if it holds of all that call it, and holds of it or else it does not come to call itself, holds

@@ -3,15 +3,17 @@ use Rattle.std.proofs.Common.{◌≡◌, ℕ, zero, suc, ◌+◌, ◌<◌, List,
 use Rattle.std.specs.Prelude.{Some, slice_get}
 use Rattle.std.specs.List.{AllByRecursion}
 use Rattle.std.specs.List.Sorted.{IsStrictlyIncreasing}
+use Rattle.std.proofs.lemmas.Bool.{cases_eq}
 use Rattle.std.proofs.lemmas.Option.{slice_get_within, same_Some}
 use Rattle.pw_value.specs.declared.value.Kind.{Kind}
 use Rattle.pw_files.specs.Rising.{IsRising}
 use Rattle.pw_files.proofs.ByteOrder.{one_rising}
 use Rattle.pw_files.proofs.Standing.{Has, has_each, each_by, has_by, contains_by}
 use Rattle.pw_summary.specs.declared.summary.Summary.{Summary}
+use Rattle.pw_summary.specs.declared.summary.Uses.{Uses}
 use Rattle.pw_graph.specs.declared.graph.CallGraph.{CallGraph}
 use Rattle.pw_graph.specs.CallGraph.{Calls, Weighs}
-use Rattle.pw_graph.specs.Program.{IsGraphOf}
+use Rattle.pw_graph.specs.Program.{IsUseOf, HasNeed, IsGraphOf}
 use Rattle.pw_graph.proofs.Lists.{has_at}
 use Rattle.pw_clusters.proofs.Once.{map_same}
 
@@ -130,15 +132,34 @@ refs_one ss g h one two =
     (key_ups (λ (r : ℕ × ℕ × ℕ). r.0) b (each_at (λ (row : List (ℕ × ℕ × ℕ)). IsStrictlyIncreasing (map (λ r. r.0) row)) h.refs i b two.refs_rise eb))
     (ref_in ss g h one two i a b ea eb) (ref_in ss h g two one i b a eb ea))
 
-abbrev made : List (List ℕ) → List (List ℕ × Kind) → List (List ℕ) → List (List (ℕ × ℕ × ℕ)) → CallGraph
-made a b c d = record { functions = a; globals = b; calls = c; refs = d }
+need_one : (ss : List Summary) (f : List ℕ) (m n : ℕ) → HasNeed ss f m → HasNeed ss f n → m ≡ n
+need_one ss f m n one two = elim (cases_eq m n) [
+  | inl e ↦ e
+  | inr differ ↦
+      let none : (u : Uses) → IsUseOf ss f u → ⊥ = λ u of. differ (one.told u of ∙ sym (two.told u of)) in
+      one.untold none ∙ sym (two.untold none)
+]
 
-same_fields : (g h : CallGraph) → g.functions ≡ h.functions → g.globals ≡ h.globals → g.calls ≡ h.calls → g.refs ≡ h.refs → g ≡ h
-same_fields g h a b c d =
-    ap (λ (x : List (List ℕ)). made x g.globals g.calls g.refs) a
-    ∙ ap (λ (x : List (List ℕ × Kind)). made h.functions x g.calls g.refs) b
-    ∙ ap (λ (x : List (List ℕ)). made h.functions h.globals x g.refs) c
-    ∙ ap (λ (x : List (List (ℕ × ℕ × ℕ))). made h.functions h.globals h.calls x) d
+needs_one : (ss : List Summary) (g h : CallGraph) → IsGraphOf ss g → IsGraphOf ss h → g.needs ≡ h.needs
+needs_one ss g h one two =
+    let same = functions_one ss g h one two in
+    rows_one g.needs h.needs (one.need_rows ∙ ap (λ (fs : List (List ℕ)). length fs) same ∙ sym two.need_rows)
+    (λ i m n em en.
+    let here = slice_get_within g.needs i m em in
+    let rows = one.need_rows in
+    let f = item_there g.functions i (omega (arith, here, rows)) in
+    need_one ss f.0 m n (one.needs i m f.0 f.1 em) (two.needs i n f.0 (subst (λ (fs : List (List ℕ)). slice_get fs i ≡ Some f.0) same f.1) en))
+
+abbrev made : List (List ℕ) → List (List ℕ × Kind) → List (List ℕ) → List (List (ℕ × ℕ × ℕ)) → List ℕ → CallGraph
+made a b c d e = record { functions = a; globals = b; calls = c; refs = d; needs = e }
+
+same_fields : (g h : CallGraph) → g.functions ≡ h.functions → g.globals ≡ h.globals → g.calls ≡ h.calls → g.refs ≡ h.refs → g.needs ≡ h.needs → g ≡ h
+same_fields g h a b c d e =
+    ap (λ (x : List (List ℕ)). made x g.globals g.calls g.refs g.needs) a
+    ∙ ap (λ (x : List (List ℕ × Kind)). made h.functions x g.calls g.refs g.needs) b
+    ∙ ap (λ (x : List (List ℕ)). made h.functions h.globals x g.refs g.needs) c
+    ∙ ap (λ (x : List (List (ℕ × ℕ × ℕ))). made h.functions h.globals h.calls x g.needs) d
+    ∙ ap (λ (x : List ℕ). made h.functions h.globals h.calls h.refs x) e
 
 pub graph_one : (ss : List Summary) (g h : CallGraph) → IsGraphOf ss g → IsGraphOf ss h → g ≡ h
-graph_one ss g h one two = same_fields g h (functions_one ss g h one two) (globals_one ss g h one two) (calls_one ss g h one two) (refs_one ss g h one two)
+graph_one ss g h one two = same_fields g h (functions_one ss g h one two) (globals_one ss g h one two) (calls_one ss g h one two) (refs_one ss g h one two) (needs_one ss g h one two)

@@ -1,33 +1,35 @@
 -- The database of summaries is lawful.
 use Rattle.std.proofs.Common.{◌≡◌, ◌≢◌, ◌⊎◌, ℕ, zero, suc, ◌+◌, ◌<◌, ◌≤◌, ◌==◌, Bool, true, false, List, [], ◌∷◌, ◌++◌, length, get_or, map, refl, sym, ap, subst, ◌∙◌, arith, inl, inr}
-use Rattle.std.specs.Prelude.{Option, Some, None, slice_get, Contains, ◌↔◌, if◌then◌else◌, ◌||◌}
-use Rattle.std.specs.List.{AllByRecursion, list_any}
+use Rattle.std.specs.Prelude.{Option, Some, None, slice_get, slice_index, Contains, IsTrue, ◌-◌, ◌↔◌, if◌then◌else◌, ◌||◌}
+use Rattle.std.specs.List.{AllByRecursion, list_any, range_with_len}
 use Rattle.std.proofs.lemmas.Bool.{cases_eq, eqb-true}
 use Rattle.std.proofs.lemmas.Option.{same_Some}
 use Rattle.pw_value.specs.declared.value.Kind.{Kind}
 use Rattle.pw_value.specs.declared.value.Kind.TheVariants.{W32}
 use Rattle.pw_files.specs.Rising.{IsRising, IsRisingBehind}
 use Rattle.pw_files.proofs.ByteOrder.{not_behind}
-use Rattle.pw_files.proofs.Standing.{Has, has_each, each_by, contains_by, has_map, has_map_back, has_flat, has_flat_back}
+use Rattle.pw_files.proofs.Standing.{Has, has_by, has_each, each_by, contains_by, has_map, has_map_back, has_flat, has_flat_back}
 use Rattle.pw_fix.specs.Row.{Holds, members as numbers}
 use Rattle.pw_fix.specs.declared.bit_row.BitRow.{BitRow}
-use Rattle.pw_db.specs.Database.{EachTwo, IsWeb, IsDirectives, IsDatabase, Agree, all_webs, webs_of as webs_in}
+use Rattle.pw_db.specs.Database.{EachTwo, IsWeb, AreKeptFrom, IsDirectives, says_something, IsDatabase, Agree, all_webs, webs_of as webs_in}
 use Rattle.pw_db.specs.declared.database.Web.{Web}
 use Rattle.pw_db.specs.declared.database.Role.{Role}
 use Rattle.pw_db.specs.declared.database.Role.TheVariants.{Entry, Member}
 use Rattle.pw_db.specs.declared.database.Directives.{Directives}
 use Rattle.pw_summary.specs.declared.summary.Summary.{Summary}
+use Rattle.pw_summary.specs.Summary.{need_limit}
 use Rattle.pw_graph.specs.declared.graph.CallGraph.{CallGraph}
 use Rattle.pw_graph.proofs.Members.{in_members}
 use Rattle.pw_graph.proofs.Lists.{has_at}
 use Rattle.pw_webs.specs.declared.web.RawWeb.{RawWeb}
 use Rattle.pw_webs.specs.Webs.{IsRawWeb, IsSameWeb, Interfere}
 use Rattle.pw_colour.specs.Colours.{IsColour, AreColoured, numbered, global_of, web_of, has_number, webs_of, directives_of, IsDatabaseOf}
+use Rattle.pw_clusters.specs.Saving.{last_registers, need_in}
 use Rattle.pw_clusters.proofs.Once.{once_there}
 use Rattle.pw_colour.proofs.Same.{differ}
 use Rattle.pw_colour.proofs.Numbered.{web_at, number_there}
 use Rattle.pw_colour.proofs.Unique.{raw_in}
-use Rattle.pw_db.specs.Limits.{first_register, register_count}
+use Rattle.pw_db.specs.Limits.{first_register, last_register, register_count}
 
 -- ---- numbered webs
 
@@ -158,7 +160,7 @@ all_two R (x ∷ xs) f = (each_by (R x) xs (λ y h. f x y (inl refl) (inr h)), a
 
 -- ---- what the database of summaries says of its webs
 
-pub record IsMade (g : CallGraph) (colours : ℕ) (qs : List (ℕ × RawWeb × ℕ)) (db : List (List ℕ × Directives)) : Type 0 where
+pub record IsMade (g : CallGraph) (colours : ℕ) (roots : List ℕ) (qs : List (ℕ × RawWeb × ℕ)) (db : List (List ℕ × Directives)) : Type 0 where
   pub raw : (q : ℕ × RawWeb × ℕ) → Has q qs → IsRawWeb g q.1
   pub register : (q : ℕ × RawWeb × ℕ) → Has q qs → (first_register ≤ q.2) × (q.2 < first_register + colours)
   pub rise : EachTwo (λ a b. a.0 < b.0) qs
@@ -167,7 +169,7 @@ pub record IsMade (g : CallGraph) (colours : ℕ) (qs : List (ℕ × RawWeb × �
   pub names : IsRising g.functions
   pub globals : IsRising (map (λ v. v.0) g.globals)
   pub rising : IsRising (map (λ f. f.0) db)
-  pub of : (f : List ℕ) (d : Directives) → Contains db (f, d) ↔ ((place : ℕ) × (slice_get g.functions place ≡ Some f) × (d ≡ directives_of g qs place) × (0 < length d.webs))
+  pub of : (f : List ℕ) (d : Directives) → Contains db (f, d) ↔ ((place : ℕ) × (slice_get g.functions place ≡ Some f) × (d ≡ directives_of g roots qs place) × IsTrue (says_something (f, d)))
 
 registers_of : (colours n : ℕ) (es cs : List (RawWeb × Option ℕ)) → AreColoured colours es cs → (q : ℕ × RawWeb × ℕ) → Has q (numbered n cs) → (first_register ≤ q.2) × (q.2 < first_register + colours)
 registers_of colours n es [] all q h = absurd h
@@ -175,7 +177,7 @@ registers_of colours n es ((w, None) ∷ cs) all q h = registers_of colours n ((
 registers_of colours n es ((w, Some r) ∷ cs) all q (inl e) = subst (λ (p : ℕ × RawWeb × ℕ). (first_register ≤ p.2) × (p.2 < first_register + colours)) e all.0.1
 registers_of colours n es ((w, Some r) ∷ cs) all q (inr h) = registers_of colours (suc n) ((w, Some r) ∷ es) cs all.1 q h
 
-pub is_made : (ss : List Summary) (colours : ℕ) (db : List (List ℕ × Directives)) (d : IsDatabaseOf ss colours db) → ((u w : RawWeb) (f : ℕ) → IsRawWeb d.graph u → IsRawWeb d.graph w → u.global ≡ w.global → Holds u.members f → Holds w.members f → IsSameWeb u w) → IsMade d.graph colours (numbered 0 d.coloured) db
+pub is_made : (ss : List Summary) (colours : ℕ) (db : List (List ℕ × Directives)) (d : IsDatabaseOf ss colours db) → ((u w : RawWeb) (f : ℕ) → IsRawWeb d.graph u → IsRawWeb d.graph w → u.global ≡ w.global → Holds u.members f → Holds w.members f → IsSameWeb u w) → IsMade d.graph colours d.roots (numbered 0 d.coloured) db
 is_made ss colours db d meet =
     let ws = map (λ (p : RawWeb × Option ℕ). p.0) d.coloured in
     let raws : (w : RawWeb) → Has w ws → IsRawWeb d.graph w = raw_in d.graph d.webs ws d.are_webs d.same_webs in
@@ -206,19 +208,39 @@ global_at g w raw = global_there g w raw.global
 pub one_global : (g : CallGraph) (a b : RawWeb) → IsRising (map (λ v. v.0) g.globals) → IsRawWeb g a → IsRawWeb g b → (global_of g a).0 ≡ (global_of g b).0 → a.global ≡ b.global
 one_global g a b up ra rb e = once_there (λ (v : List ℕ × Kind). v.0) g.globals up a.global b.global (global_of g a) (global_of g b) (global_at g a ra) (global_at g b rb) e
 
-lawful_webs : (g : CallGraph) (colours : ℕ) (qs : List (ℕ × RawWeb × ℕ)) (db : List (List ℕ × Directives)) → colours ≤ register_count → IsMade g colours qs db → (f : ℕ) → IsDirectives (directives_of g qs f)
-lawful_webs g colours qs db few made f = record {
+-- ---- registers that are shared
+
+-- so many registers, one behind the other
+kept_range : (least a n : ℕ) → least ≤ a → a + n ≤ last_register + 1 → AreKeptFrom least (range_with_len a n)
+kept_range least a zero low high = tt
+kept_range least a (suc n) low high = (low, omega (arith, high), kept_range (suc a) (a + 1) n (omega arith) (omega (arith, high)))
+
+kept_last : (k : ℕ) → k ≤ need_limit → AreKeptFrom first_register (last_registers k)
+kept_last k few = kept_range first_register (last_register + 1 - k) k (omega (arith, few)) (omega (arith, few))
+
+kept_if : (b : Bool) (xs ys : List ℕ) → AreKeptFrom first_register xs → AreKeptFrom first_register ys → AreKeptFrom first_register (if b then xs else ys)
+kept_if true xs ys one two = one
+kept_if false xs ys one two = two
+
+not_both : (b : Bool) (rs : List ℕ) → AllByRecursion (λ r. ¬ Contains (if b then [] else rs) r) (if b then rs else [])
+not_both true rs = each_by (λ r. ¬ Contains [] r) rs (λ r h c. has_by r [] c)
+not_both false rs = tt
+
+-- ---- the rules
+
+lawful_webs : (g : CallGraph) (colours : ℕ) (roots : List ℕ) (qs : List (ℕ × RawWeb × ℕ)) (db : List (List ℕ × Directives)) → colours ≤ register_count → ((r : ℕ) → need_in roots g.needs r ≤ need_limit) → IsMade g colours roots qs db → (f : ℕ) → IsDirectives (directives_of g roots qs f)
+lawful_webs g colours roots qs db few needs made f = record {
   each = each_web g IsWeb f qs (λ q h m. let r = made.register q h in let low = r.0 in let high = r.1 in record { low = low; high = omega (arith, high, few) });
   numbers = two_webs g (λ (a b : ℕ × RawWeb × ℕ). a.0 < b.0) (λ a b. a.id < b.id) f qs (λ q p h k m n lt. lt) made.rise;
   globals = two_webs g AreApart (λ a b. a.global ≡ b.global → ⊥) f qs (λ q p h k m n apart e. (apart f m n).1 (one_global g q.1 p.1 made.globals (made.raw q h) (made.raw p k) e)) made.apart;
   registers = two_webs g AreApart (λ a b. a.reg ≡ b.reg → ⊥) f qs (λ q p h k m n apart e. (apart f m n).0 e) made.apart;
-  free = tt;
-  saves = tt;
-  apart = tt;
+  free = kept_if (slice_index roots f == f) [] (last_registers (need_in roots g.needs (slice_index roots f))) tt (kept_last (need_in roots g.needs (slice_index roots f)) (needs (slice_index roots f)));
+  saves = kept_if (slice_index roots f == f) (last_registers (need_in roots g.needs (slice_index roots f))) [] (kept_last (need_in roots g.needs (slice_index roots f)) (needs (slice_index roots f))) tt;
+  apart = not_both (slice_index roots f == f) (last_registers (need_in roots g.needs (slice_index roots f)));
 }
 
-pub lawful : (g : CallGraph) (colours : ℕ) (qs : List (ℕ × RawWeb × ℕ)) (db : List (List ℕ × Directives)) → colours ≤ register_count → IsMade g colours qs db → IsDatabase db
-lawful g colours qs db few made =
+pub lawful : (g : CallGraph) (colours : ℕ) (roots : List ℕ) (qs : List (ℕ × RawWeb × ℕ)) (db : List (List ℕ × Directives)) → colours ≤ register_count → ((r : ℕ) → need_in roots g.needs r ≤ need_limit) → IsMade g colours roots qs db → IsDatabase db
+lawful g colours roots qs db few needs made =
     let source : (w : Web) → Has w (all_webs db) → (q : ℕ × RawWeb × ℕ) × Has q qs × (w ≡ web_of g q) = λ w h.
     let p = has_flat_back (λ (f : List ℕ × Directives). webs_in f.1) w db h in
     let place = (made.of p.0.0 p.0.1).0 (contains_by p.0 db p.1) in
@@ -228,7 +250,7 @@ lawful g colours qs db few made =
     in
     record {
       functions = made.rising;
-      directives = each_by (λ f. IsDirectives f.1) db (λ f h. let place = (made.of f.0 f.1).0 (contains_by f db h) in subst IsDirectives (sym place.2) (lawful_webs g colours qs db few made place.0));
+      directives = each_by (λ f. IsDirectives f.1) db (λ f h. let place = (made.of f.0 f.1).0 (contains_by f db h) in subst IsDirectives (sym place.2) (lawful_webs g colours roots qs db few needs made place.0));
       agree = all_two Agree (all_webs db) (λ a b h k e.
           let x = source a h in
           let y = source b k in

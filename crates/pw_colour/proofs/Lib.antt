@@ -1,6 +1,7 @@
 pub mod Ranks
 pub mod Same
 pub mod Given
+pub mod Clustering
 pub mod Numbered
 pub mod Entries
 pub mod GraphOne

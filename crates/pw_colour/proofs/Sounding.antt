@@ -1,6 +1,7 @@
 -- The database of summaries is sound.
-use Rattle.std.proofs.Common.{◌≡◌, ℕ, ◌<◌, Bool, true, false, List, [], ◌∷◌, length, refl, sym, ap, subst, ◌∙◌, arith, inl, inr}
-use Rattle.std.specs.Prelude.{Some, slice_get, Contains, if◌then◌else◌}
+use Rattle.std.proofs.Common.{◌≡◌, ℕ, ◌+◌, ◌<◌, ◌≤◌, ◌⊎◌, Bool, true, false, List, [], ◌∷◌, length, refl, sym, ap, subst, ◌∙◌, arith, inl, inr}
+use Rattle.std.specs.Prelude.{Some, slice_get, Contains, IsTrue, nat_lt, ◌||◌, if◌then◌else◌}
+use Rattle.std.proofs.lemmas.Bool.{lt-ltb}
 use Rattle.pw_value.specs.declared.value.Kind.{Kind}
 use Rattle.pw_value.specs.ProgramNames.{start_name}
 use Rattle.pw_files.specs.Rising.{IsRising}
@@ -10,6 +11,8 @@ use Rattle.pw_db.specs.declared.database.Web.{Web}
 use Rattle.pw_db.specs.declared.database.Role.{Role}
 use Rattle.pw_db.specs.declared.database.Role.TheVariants.{Entry, Member}
 use Rattle.pw_db.specs.declared.database.Directives.{Directives}
+use Rattle.pw_db.specs.Database.{says_something}
+use Rattle.pw_db.specs.Limits.{first_register, colour_limit}
 use Rattle.pw_graph.specs.declared.graph.CallGraph.{CallGraph}
 use Rattle.pw_graph.specs.CallGraph.{Calls, Path, call, on, References, Writes}
 use Rattle.pw_graph.proofs.Members.{in_members}
@@ -20,15 +23,18 @@ use Rattle.pw_webs.proofs.Closed.{closed, along, in_region}
 use Rattle.pw_db_sound.specs.CallGraphs.{Graph}
 use Rattle.pw_db_sound.specs.CallGraphs as Named
 use Rattle.pw_db_sound.specs.CallGraphs.{call as named_call, on as named_on}
-use Rattle.pw_db_sound.specs.Sound.{In, Needs, refers, keeps, Sound}
+use Rattle.pw_db_sound.specs.Sound.{In, Needs, refers, keeps, IsFree, IsSaver, LeavesAlone, IsSavedAbove, Sound}
 use Rattle.pw_db_sound.specs.Sound.{Has as HasRole}
 use Rattle.pw_colour.specs.Colours.{global_of, web_of, has_number, webs_of, directives_of}
 use Rattle.pw_clusters.specs.ByName.{IsNamed}
+use Rattle.pw_clusters.specs.Naming.{IsSavedAboveNamed}
+use Rattle.pw_clusters.specs.Saving.{free_at, saves_at}
+use Rattle.pw_clusters.specs.Sharing.{Shares}
 use Rattle.pw_clusters.proofs.Once.{map_same, once_there}
 use Rattle.pw_colour.proofs.Numbered.{number_there}
 use Rattle.pw_colour.proofs.Lawful.{two_of, AreApart, IsWebOf, web_from, web_to, holds_number, IsMade, global_at, one_global}
 
-module _ (g : CallGraph) (colours : ℕ) (qs : List (ℕ × RawWeb × ℕ)) (db : List (List ℕ × Directives)) (n : Graph) (made : IsMade g colours qs db) (named : IsNamed g n) where
+module _ (g : CallGraph) (colours : ℕ) (roots : List ℕ) (qs : List (ℕ × RawWeb × ℕ)) (db : List (List ℕ × Directives)) (n : Graph) (made : IsMade g colours roots qs db) (named : IsNamed g n) where
   one_place : (i j : ℕ) (f : List ℕ) → slice_get g.functions i ≡ Some f → slice_get g.functions j ≡ Some f → i ≡ j
   one_place i j f ei ej = once_there (λ x. x) g.functions (subst IsRising (sym (map_same g.functions)) made.names) i j f f ei ej refl
 
@@ -43,9 +49,21 @@ module _ (g : CallGraph) (colours : ℕ) (qs : List (ℕ × RawWeb × ℕ)) (db 
       let p = (made.of f has.directives).0 has.there in
       record { place = p.0; at = p.1; from = web_from g qs p.0 (w, role) (has_by (w, role) (webs_of g qs p.0) (subst (λ (d : Directives). Contains d.webs (w, role)) p.2 has.web)) }
 
-  longer : {X : Type 0} (x : X) (xs : List X) → Has x xs → 0 < length xs
+  -- who has a web, or a register to share, is told of something
+  one_said : (a b c : Bool) → (a ≡ true) ⊎ ((b ≡ true) ⊎ (c ≡ true)) → (a || (b || c)) ≡ true
+  one_said true b c h = refl
+  one_said false true c h = refl
+  one_said false false true h = refl
+  one_said false false false (inl e) = e
+  one_said false false false (inr (inl e)) = e
+  one_said false false false (inr (inr e)) = e
+
+  longer : {X : Type 0} (x : X) (xs : List X) → Has x xs → nat_lt 0 (length xs) ≡ true
   longer x [] h = absurd h
-  longer x (y ∷ xs) h = omega arith
+  longer x (y ∷ xs) h = lt-ltb 0 (length (y ∷ xs)) (omega arith)
+
+  said : (f : List ℕ) (d : Directives) → (nat_lt 0 (length d.webs) ≡ true) ⊎ ((nat_lt 0 (length d.free) ≡ true) ⊎ (nat_lt 0 (length d.saves) ≡ true)) → IsTrue (says_something (f, d))
+  said f d h = one_said (nat_lt 0 (length d.webs)) (nat_lt 0 (length d.free)) (nat_lt 0 (length d.saves)) h
 
   is_in : (q : ℕ × RawWeb × ℕ) (place : ℕ) (f : List ℕ) (w : Web) → Has q qs → Holds q.1.members place → slice_get g.functions place ≡ Some f → w ≡ web_of g q → In db w f
   is_in q place f w has member at same =
@@ -54,8 +72,8 @@ module _ (g : CallGraph) (colours : ℕ) (qs : List (ℕ × RawWeb × ℕ)) (db 
       record {
         role = role;
         has = record {
-          directives = directives_of g qs place;
-          there = (made.of f (directives_of g qs place)).1 (place, at, refl, longer (web_of g q, role) (webs_of g qs place) there);
+          directives = directives_of g roots qs place;
+          there = (made.of f (directives_of g roots qs place)).1 (place, at, refl, said f (directives_of g roots qs place) (inl (longer (web_of g q, role) (webs_of g qs place) there)));
           web = subst (λ (v : Web). Contains (webs_of g qs place) (v, role)) (sym same) (contains_by (web_of g q, role) (webs_of g qs place) there);
         };
       }
@@ -207,8 +225,69 @@ module _ (g : CallGraph) (colours : ℕ) (qs : List (ℕ × RawWeb × ℕ)) (db 
       let its : Writes g p.place q.1.global = subst (λ k. Writes g p.place k) v (subst (λ k. Writes g k r.global) here r.is) in
       ap (λ (x : Web). x.writes) p.from.is ∙ (made.raw q p.from.has).writes.1 (p.place, p.from.member, its)
 
-  pub sound : ((a b : ℕ) → Calls g a b → slice_get g.functions b ≡ Some start_name → ⊥) → Sound n db
-  sound uncalled = record {
+  -- ---- registers that are shared
+
+  -- where a function is free to use the register, or saves it
+  record IsListed (list : ℕ → List ℕ) (f : List ℕ) (r : ℕ) : Type 0 where
+    place : ℕ
+    at : slice_get g.functions place ≡ Some f
+    register : Contains (list place) r
+
+  listed_free : (f : List ℕ) (r : ℕ) → IsFree db f r → IsListed (free_at roots g.needs) f r
+  listed_free f r i = let p = (made.of f i.directives).0 i.there in record { place = p.0; at = p.1; register = subst (λ (d : Directives). Contains d.free r) p.2 i.register }
+
+  listed_saver : (f : List ℕ) (r : ℕ) → IsSaver db f r → IsListed (saves_at roots g.needs) f r
+  listed_saver f r i = let p = (made.of f i.directives).0 i.there in record { place = p.0; at = p.1; register = subst (λ (d : Directives). Contains d.saves r) p.2 i.register }
+
+  is_free : (f : List ℕ) (r place : ℕ) → slice_get g.functions place ≡ Some f → Contains (free_at roots g.needs place) r → IsFree db f r
+  is_free f r place at free = record {
+    directives = directives_of g roots qs place;
+    there = (made.of f (directives_of g roots qs place)).1 (place, at, refl, said f (directives_of g roots qs place) (inr (inl (longer r (free_at roots g.needs place) (has_by r (free_at roots g.needs place) free)))));
+    register = free;
+  }
+
+  is_saver : (f : List ℕ) (r place : ℕ) → slice_get g.functions place ≡ Some f → Contains (saves_at roots g.needs place) r → IsSaver db f r
+  is_saver f r place at saves = record {
+    directives = directives_of g roots qs place;
+    there = (made.of f (directives_of g roots qs place)).1 (place, at, refl, said f (directives_of g roots qs place) (inr (inr (longer r (saves_at roots g.needs place) (has_by r (saves_at roots g.needs place) saves)))));
+    register = saves;
+  }
+
+  -- what the laws of clusters say
+  pub record AreShared : Type 0 where
+    pub few : colours ≤ colour_limit
+    pub behind : (f r : ℕ) → Shares roots g.needs f r → first_register + colour_limit ≤ r
+    pub above : (f : ℕ) (h : List ℕ) (r : ℕ) → slice_get g.functions f ≡ Some h → Contains (free_at roots g.needs f) r → IsSavedAboveNamed g n roots g.needs h r
+
+  -- no web has a register that is shared
+  webless : AreShared → (f : ℕ) (r : ℕ) → Shares roots g.needs f r → (h : List ℕ) (w : Web) (role : Role) → HasRole db h w role → w.reg ≡ r → ⊥
+  webless all f r shares h w role has same =
+      let p = place_of h w role has in
+      let reg : w.reg ≡ p.from.web.2 = ap (λ (v : Web). v.reg) p.from.is in
+      let high = (made.register p.from.web p.from.has).1 in
+      let low = all.behind f r shares in
+      let few = all.few in
+      omega (arith, high, low, few, reg, same)
+
+  alone : AreShared → (h : List ℕ) (r place : ℕ) → slice_get g.functions place ≡ Some h → Shares roots g.needs place r → LeavesAlone db h r
+  alone all h r place at shares = record {
+    moved = elim shares [ inl free ↦ inl (is_free h r place at free) | inr saves ↦ inr (is_saver h r place at saves) ];
+    webless = λ w within. webless all place r shares h w within.role within.has;
+  }
+
+  saved_above : AreShared → (f : List ℕ) (r : ℕ) → IsFree db f r → IsSavedAbove n db f r
+  saved_above all f r i =
+      let p = listed_free f r i in
+      let a = all.above p.place f r p.at p.register in
+      record {
+        root = a.root;
+        is = a.is;
+        saver = is_saver a.root r a.saver.place a.saver.at a.saver.saves;
+        way = λ h below path. let s = a.way h path in alone all h r s.place s.at s.shares;
+      }
+
+  pub sound : AreShared → ((a b : ℕ) → Calls g a b → slice_get g.functions b ≡ Some start_name → ⊥) → Sound n db
+  sound all uncalled = record {
     member_callers = member_callers;
     entry_callers = entry_callers;
     start = start uncalled;
@@ -217,10 +296,6 @@ module _ (g : CallGraph) (colours : ℕ) (qs : List (ℕ × RawWeb × ℕ)) (db 
     registers = registers;
     eligible = eligible;
     writes = written;
-    free = λ f r i.
-        let none : i.directives.free ≡ [] = ap (λ (d : Directives). d.free) ((made.of f i.directives).0 i.there).2 in
-        absurd (has_by r [] (subst (λ (rs : List ℕ). Contains rs r) none i.register));
-    saves = λ f r i w has.
-        let none : i.directives.saves ≡ [] = ap (λ (d : Directives). d.saves) ((made.of f i.directives).0 i.there).2 in
-        absurd (has_by r [] (subst (λ (rs : List ℕ). Contains rs r) none i.register));
+    free = saved_above all;
+    saves = λ f r i w has. let p = listed_saver f r i in webless all p.place r (inr p.register) f w Member has;
   }

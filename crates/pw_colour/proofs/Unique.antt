@@ -1,6 +1,6 @@
 -- The database of summaries is one.
 use Rattle.std.proofs.Common.{◌≡◌, ℕ, suc, ◌<◌, ◌==◌, Bool, List, [], ◌∷◌, ◌++◌, length, map, refl, sym, ap, subst, ◌∙◌, arith, inl, inr}
-use Rattle.std.specs.Prelude.{Option, Some, None, slice_get, slice_index_or, Contains, ◌↔◌, if◌then◌else◌}
+use Rattle.std.specs.Prelude.{Option, Some, None, slice_get, slice_index_or, Contains, IsTrue, ◌↔◌, if◌then◌else◌}
 use Rattle.std.specs.List.{AllByRecursion, AllZip, list_any}
 use Rattle.std.specs.List.Sorted.{IsPermutation}
 use Rattle.std.proofs.lemmas.Int.{ints}
@@ -10,19 +10,22 @@ use Rattle.pw_value.specs.declared.value.Kind.TheVariants.{W32}
 use Rattle.pw_files.proofs.ByteOrder.{one_rising}
 use Rattle.pw_files.proofs.Standing.{Has, has_each, each_by, has_by, contains_by}
 use Rattle.pw_fix.specs.Row.{Holds, members as numbers}
-use Rattle.pw_db.specs.Database.{EachTwo}
+use Rattle.pw_db.specs.Database.{EachTwo, says_something}
 use Rattle.pw_db.specs.declared.database.Web.{Web}
 use Rattle.pw_db.specs.declared.database.Role.{Role}
 use Rattle.pw_db.specs.declared.database.Role.TheVariants.{Entry, Member}
 use Rattle.pw_db.specs.declared.database.Directives.{Directives}
 use Rattle.pw_summary.specs.declared.summary.Summary.{Summary}
 use Rattle.pw_graph.specs.declared.graph.CallGraph.{CallGraph}
+use Rattle.pw_graph.specs.Program.{IsGraphOf}
 use Rattle.pw_graph.proofs.Members.{in_members}
 use Rattle.pw_graph.proofs.Lists.{at_has}
 use Rattle.pw_webs.specs.declared.web.RawWeb.{RawWeb}
 use Rattle.pw_webs.specs.Webs.{Region, Joined, self, forth, back as behind, IsRawWeb, IsSameWeb, StandsBefore, AreWebs}
 use Rattle.pw_webs.proofs.Closed.{in_region}
 use Rattle.pw_webs.proofs.Gather.{joined_back}
+use Rattle.pw_clusters.specs.Clusters.{AreRoots}
+use Rattle.pw_clusters.specs.Saving.{free_at, saves_at}
 use Rattle.pw_colour.specs.Colours.{ComesFirst, IsFree, IsColour, AreColoured, numbered, webs_of, directives_of, IsDatabaseOf}
 use Rattle.pw_colour.proofs.Same.{IsLike, like, back, least_of, least_too, not_first}
 use Rattle.pw_colour.proofs.GraphOne.{graph_one}
@@ -233,20 +236,20 @@ webs_one g f [] (b ∷ ys) all = absurd all
 webs_one g f (a ∷ xs) [] all = absurd all
 webs_one g f (a ∷ xs) (b ∷ ys) all = ap (λ (zs : List (Web × Role)). zs ++ webs_of g xs f) (web_one g f a b all.0) ∙ ap (λ (zs : List (Web × Role)). web_at g f b ++ zs) (webs_one g f xs ys all.1)
 
--- the same in another graph
-record IsFrom (g : CallGraph) (colours : ℕ) (cs : List (RawWeb × Option ℕ)) (db : List (List ℕ × Directives)) : Type 0 where
+-- the same in another graph, by the roots of its functions
+record IsFrom (g : CallGraph) (colours : ℕ) (roots : List ℕ) (cs : List (RawWeb × Option ℕ)) (db : List (List ℕ × Directives)) : Type 0 where
   webs : List RawWeb
   are_webs : AreWebs g webs
   same_webs : IsPermutation webs (map (λ w. w.0) cs)
   order : EachTwo ComesFirst (map (λ w. w.0) cs)
   colours_of : AreColoured colours [] cs
-  of : (f : List ℕ) (d : Directives) → Contains db (f, d) ↔ ((place : ℕ) × (slice_get g.functions place ≡ Some f) × (d ≡ directives_of g (numbered 0 cs) place) × (0 < length d.webs))
+  of : (f : List ℕ) (d : Directives) → Contains db (f, d) ↔ ((place : ℕ) × (slice_get g.functions place ≡ Some f) × (d ≡ directives_of g roots (numbered 0 cs) place) × IsTrue (says_something (f, d)))
 
-is_from : (ss : List Summary) (colours : ℕ) (db : List (List ℕ × Directives)) (d : IsDatabaseOf ss colours db) → IsFrom d.graph colours d.coloured db
+is_from : (ss : List Summary) (colours : ℕ) (db : List (List ℕ × Directives)) (d : IsDatabaseOf ss colours db) → IsFrom d.graph colours d.roots d.coloured db
 is_from ss colours db d = record { webs = d.webs; are_webs = d.are_webs; same_webs = d.same_webs; order = d.order; colours_of = d.colours_of; of = d.of }
 
-from_one : (g : CallGraph) (colours : ℕ) (cs ds : List (RawWeb × Option ℕ)) (d e : List (List ℕ × Directives)) → IsFrom g colours cs d → IsFrom g colours ds e → (f : List ℕ) (x : Directives) → Contains d (f, x) → Contains e (f, x)
-from_one g colours cs ds d e one two f x c =
+from_one : (g : CallGraph) (colours : ℕ) (roots : List ℕ) (cs ds : List (RawWeb × Option ℕ)) (d e : List (List ℕ × Directives)) → IsFrom g colours roots cs d → IsFrom g colours roots ds e → (f : List ℕ) (x : Directives) → Contains d (f, x) → Contains e (f, x)
+from_one g colours roots cs ds d e one two f x c =
     let xs = map (λ (p : RawWeb × Option ℕ). p.0) cs in
     let ys = map (λ (p : RawWeb × Option ℕ). p.0) ds in
     let rx : AllByRecursion (IsRawWeb g) xs = each_by (IsRawWeb g) xs (raw_in g one.webs xs one.are_webs one.same_webs) in
@@ -257,11 +260,19 @@ from_one g colours cs ds d e one two f x c =
     let zip = colours_one g colours [] [] cs ds tt rx ry same one.colours_of two.colours_of in
     let p = (one.of f x).0 c in
     let webs = webs_one g p.0 (numbered 0 cs) (numbered 0 ds) (numbers_one g 0 cs ds rx ry zip) in
-    (two.of f x).1 (p.0, p.1, p.2 ∙ ap (λ (ws : List (Web × Role)). record { webs = ws; free = []; saves = [] }) webs, p.3)
+    (two.of f x).1 (p.0, p.1, p.2 ∙ ap (λ (ws : List (Web × Role)). record { webs = ws; free = free_at roots g.needs p.0; saves = saves_at roots g.needs p.0 }) webs, p.3)
 
-pub database_one : (ss : List Summary) (colours : ℕ) (d e : List (List ℕ × Directives)) → IsDatabaseOf ss colours d → IsDatabaseOf ss colours e → d ≡ e
-database_one ss colours d e one two =
-    let there = subst (λ (g : CallGraph). IsFrom g colours two.coloured e) (graph_one ss two.graph one.graph two.graph_of one.graph_of) (is_from ss colours e two) in
+-- a call graph has one assignment of roots
+abbrev pub RootsAreOne : Type 0
+RootsAreOne = (ss : List Summary) (g : CallGraph) (xs ys : List ℕ) → IsGraphOf ss g → AreRoots ss g xs → AreRoots ss g ys → xs ≡ ys
+
+pub database_one : RootsAreOne → (ss : List Summary) (colours : ℕ) (d e : List (List ℕ × Directives)) → IsDatabaseOf ss colours d → IsDatabaseOf ss colours e → d ≡ e
+database_one roots_one ss colours d e one two =
+    let graphs : two.graph ≡ one.graph = graph_one ss two.graph one.graph two.graph_of one.graph_of in
+    let moved : AreRoots ss one.graph two.roots = subst (λ (g : CallGraph). AreRoots ss g two.roots) graphs two.are_roots in
+    let roots : two.roots ≡ one.roots = roots_one ss one.graph two.roots one.roots one.graph_of moved one.are_roots in
+    let other = subst (λ (g : CallGraph). IsFrom g colours two.roots two.coloured e) graphs (is_from ss colours e two) in
+    let there = subst (λ (rs : List ℕ). IsFrom one.graph colours rs two.coloured e) roots other in
     let here = is_from ss colours d one in
     one_rising (λ p. p.0) d e one.rising two.rising
-    (λ p. (from_one one.graph colours one.coloured two.coloured d e here there p.0 p.1, from_one one.graph colours two.coloured one.coloured e d there here p.0 p.1))
+    (λ p. (from_one one.graph colours one.roots one.coloured two.coloured d e here there p.0 p.1, from_one one.graph colours one.roots two.coloured one.coloured e d there here p.0 p.1))

@@ -1,5 +1,6 @@
--- The order in which webs get registers, the register of each, and the database that says so.
-use Rattle.std.specs.Prelude.{ℕ, suc, ◌≡◌, ◌<◌, ◌≤◌, ◌+◌, ◌⊎◌, ◌↔◌, ◌==◌, if◌then◌else◌, Bool, Option, Some, None, List, [], ◌∷◌, length, map, Contains, slice_get, slice_index_or}
+-- The order in which webs get registers, the register of each, and the database that says so, with the registers that roots
+-- of clusters save for their members.
+use Rattle.std.specs.Prelude.{ℕ, suc, ◌≡◌, ◌<◌, ◌≤◌, ◌+◌, ◌⊎◌, ◌↔◌, ◌==◌, if◌then◌else◌, Bool, IsTrue, Option, Some, None, List, [], ◌∷◌, length, map, Contains, slice_get, slice_index_or}
 use Rattle.std.specs.Prelude.{pos, ◌<ℤ◌, ◌≤ℤ◌}
 use Rattle.std.specs.List.{flat_map, list_any}
 use Rattle.std.specs.List.Sorted.{IsPermutation}
@@ -9,7 +10,7 @@ use Rattle.pw_files.specs.Rising.{IsRising}
 use Rattle.pw_fix.specs.Row.{members as numbers}
 use Rattle.pw_fix.specs.declared.bit_row.BitRow.{BitRow}
 use Rattle.pw_summary.specs.declared.summary.Summary.{Summary}
-use Rattle.pw_db.specs.Database.{EachTwo}
+use Rattle.pw_db.specs.Database.{EachTwo, says_something}
 use Rattle.pw_db.specs.Limits.{first_register}
 use Rattle.pw_db.specs.declared.database.Web.{Web}
 use Rattle.pw_db.specs.declared.database.Role.{Role}
@@ -19,6 +20,8 @@ use Rattle.pw_graph.specs.declared.graph.CallGraph.{CallGraph}
 use Rattle.pw_graph.specs.Program.{IsGraphOf}
 use Rattle.pw_webs.specs.declared.web.RawWeb.{RawWeb}
 use Rattle.pw_webs.specs.Webs.{AreWebs, StandsBefore, Interfere}
+use Rattle.pw_clusters.specs.Clusters.{AreRoots}
+use Rattle.pw_clusters.specs.Saving.{free_at, saves_at}
 
 -- the web that saves more comes first, and of webs that save the same the one that stands first
 abbrev pub ComesFirst : RawWeb → RawWeb → Type 0
@@ -65,11 +68,12 @@ has_number row f = list_any (λ n. n == f) (numbers row)
 abbrev pub webs_of : CallGraph → List (ℕ × RawWeb × ℕ) → ℕ → List (Web × Role)
 webs_of g ws f = flat_map (λ w. if has_number w.1.members f then ((web_of g w, (if has_number w.1.entries f then Entry else Member)) ∷ []) else []) ws
 
-abbrev pub directives_of : CallGraph → List (ℕ × RawWeb × ℕ) → ℕ → Directives
-directives_of g ws f = record { webs = webs_of g ws f; free = []; saves = [] }
+-- with the registers that it shares with its cluster, where each function has this root
+abbrev pub directives_of : CallGraph → List ℕ → List (ℕ × RawWeb × ℕ) → ℕ → Directives
+directives_of g roots ws f = record { webs = webs_of g ws f; free = free_at roots g.needs f; saves = saves_at roots g.needs f }
 
--- the database of a program for so many registers: its webs in order, each coloured behind those before it;
--- those with a register numbered in this order; and each function that is in one of them with its directives
+-- the database of a program for so many registers: its webs in order, each coloured behind those before it; those with a
+-- register numbered in this order; the root of each function; and each function whose directives say something, with these
 pub record IsDatabaseOf (ss : List Summary) (colours : ℕ) (db : List (List ℕ × Directives)) : Type 0 where
   pub graph : CallGraph
   pub graph_of : IsGraphOf ss graph
@@ -79,5 +83,7 @@ pub record IsDatabaseOf (ss : List Summary) (colours : ℕ) (db : List (List ℕ
   pub same_webs : IsPermutation webs (map (λ w. w.0) coloured)
   pub order : EachTwo ComesFirst (map (λ w. w.0) coloured)
   pub colours_of : AreColoured colours [] coloured
+  pub roots : List ℕ
+  pub are_roots : AreRoots ss graph roots
   pub rising : IsRising (map (λ f. f.0) db)
-  pub of : (f : List ℕ) (d : Directives) → Contains db (f, d) ↔ ((place : ℕ) × (slice_get graph.functions place ≡ Some f) × (d ≡ directives_of graph (numbered 0 coloured) place) × (0 < length d.webs))
+  pub of : (f : List ℕ) (d : Directives) → Contains db (f, d) ↔ ((place : ℕ) × (slice_get graph.functions place ≡ Some f) × (d ≡ directives_of graph roots (numbered 0 coloured) place) × IsTrue (says_something (f, d)))

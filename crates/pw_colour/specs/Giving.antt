@@ -1,5 +1,5 @@
--- Which registers are busy in which functions, and which one a web gets.
-use Rattle.std.specs.Prelude.{ℕ, suc, ◌≡◌, ◌<◌, ◌+◌, ◌⊎◌, ◌↔◌, Option, Some, None, nat_lt, if◌then◌else◌, List, [], ◌∷◌, ◌++◌, length, vec_len}
+-- Which registers are busy in which functions, and which one a web gets; and the database, function by function.
+use Rattle.std.specs.Prelude.{ℕ, suc, ◌≡◌, ◌<◌, ◌+◌, ◌⊎◌, ◌↔◌, Option, Some, None, if◌then◌else◌, List, [], ◌∷◌, ◌++◌, length, slice_index, vec_len}
 use Rattle.std.specs.Prelude.{pos, ◌<ℤ◌, ◌≤ℤ◌}
 use Rattle.pw_fix.specs.Row.{Holds}
 use Rattle.pw_fix.specs.Table.{HoldsAt}
@@ -10,7 +10,10 @@ use Rattle.pw_graph.specs.declared.graph.CallGraph.{CallGraph}
 use Rattle.pw_webs.specs.declared.web.RawWeb.{RawWeb}
 use Rattle.pw_colour.specs.declared.directing.Coloured.{Coloured}
 use Rattle.pw_db.specs.Limits.{first_register}
-use Rattle.pw_colour.specs.Colours.{directives_of, webs_of}
+use Rattle.pw_db.specs.Database.{says_something}
+use Rattle.pw_summary.specs.Summary.{need_limit}
+use Rattle.pw_clusters.specs.Saving.{need_in}
+use Rattle.pw_colour.specs.Colours.{directives_of}
 
 -- ---- registers
 
@@ -52,10 +55,18 @@ paired (w ∷ ws) (r ∷ rs) = (w, r) ∷ paired ws rs
 abbrev pub coloured : Coloured → ℕ × RawWeb × ℕ
 coloured c = (c.id, c.web.now, c.reg)
 
--- what a function has, where it is in a web
-abbrev pub entry_of : CallGraph → List (ℕ × RawWeb × ℕ) → ℕ → List ℕ → List (List ℕ × Directives)
-entry_of g ws place f = if nat_lt 0 (length (webs_of g ws place)) then ((f, directives_of g ws place) ∷ []) else []
+-- the root of each function, and of each root what the member needs that needs most
+pub record AreClusters (g : CallGraph) (roots most : List ℕ) : Type 0 where
+  pub each : length roots ≡ length g.functions
+  pub within : (f : ℕ) → f < length g.functions → slice_index roots f < length g.functions
+  pub count : length most ≡ length roots
+  pub needs : (r : ℕ) → slice_index most r ≡ need_in roots g.needs r
+  pub few : (r : ℕ) → need_in roots g.needs r ≤ need_limit
 
-abbrev pub entries_from : CallGraph → List (ℕ × RawWeb × ℕ) → ℕ → List (List ℕ) → List (List ℕ × Directives)
-entries_from g ws place [] = []
-entries_from g ws place (f ∷ fs) = entry_of g ws place f ++ entries_from g ws (suc place) fs
+-- what a function has, where its directives say something
+abbrev pub entry_of : CallGraph → List ℕ → List (ℕ × RawWeb × ℕ) → ℕ → List ℕ → List (List ℕ × Directives)
+entry_of g roots ws place f = if says_something (f, directives_of g roots ws place) then ((f, directives_of g roots ws place) ∷ []) else []
+
+abbrev pub entries_from : CallGraph → List ℕ → List (ℕ × RawWeb × ℕ) → ℕ → List (List ℕ) → List (List ℕ × Directives)
+entries_from g roots ws place [] = []
+entries_from g roots ws place (f ∷ fs) = entry_of g roots ws place f ++ entries_from g roots ws (suc place) fs

@@ -1,10 +1,12 @@
-//! The database of webs that have registers.
+//! The database of webs that have registers, and of the registers that roots save.
 
-ghost use Rattle.std.specs.Prelude.{◌≡◌, ◌<◌, ◌^◌, ℕ, if◌then◌else◌, length, map, All, IfOk};
+ghost use Rattle.std.specs.Prelude.{◌≡◌, ◌<◌, ◌^◌, ℕ, List, if◌then◌else◌, length, map, All, IfOk};
+ghost use Rattle.pw_db.specs.Database.{says_something as tells};
 ghost use Rattle.pw_db.specs.declared.database.Role.TheVariants.{Entry, Member};
-ghost use Rattle.pw_colour.specs.Colours.{numbered as numbered_from, web_of as web_at, has_number, webs_of as webs_at};
-ghost use Rattle.pw_colour.specs.Giving.{coloured as seen, paired, entries_from};
+ghost use Rattle.pw_colour.specs.Colours.{numbered as numbered_from, web_of as web_at, has_number, webs_of as webs_at, directives_of as directives_at};
+ghost use Rattle.pw_colour.specs.Giving.{coloured as seen, paired, entries_from, AreClusters};
 
+use pw_cluster_roots::{free, saved};
 use pw_db::{Database, Directives, Role, VERSION, Web};
 use pw_graph::CallGraph;
 use pw_items::Items;
@@ -89,25 +91,58 @@ fn webs_of(
     Ok(webs)
 }
 
-/// The functions that are in a web, each with its directives.
+/// Of each function the root, and of each root what the member needs that needs most.
+#[derive(Clone, Copy)]
+pub(crate) struct Clusters<'a> {
+    pub roots: &'a [u32],
+    pub needs: &'a [u8],
+}
+
+/// The directives of a function.
+fn directives_of(
+    alloc: Global,
+    graph: &CallGraph,
+    coloured: &[Coloured],
+    clusters: Clusters,
+    place: usize,
+) -> Result<Directives, AllocError>
+    requires globals { All (λ c. c.web.now.global < length graph.now.globals) coloured.now }
+    requires clusters { AreClusters graph.now clusters.roots.now clusters.needs.now }
+    requires place { place < length graph.now.functions }
+    ensures { IfOk result (λ d. d ≡ directives_at graph.now clusters.roots.now (map seen coloured.now) place) }
+{
+    let root = clusters.roots[place] as usize;
+    let need = clusters.needs[root];
+    Ok(Directives {
+        webs: webs_of(alloc, graph, coloured, place)?,
+        free: free(alloc, place, root, need)?,
+        saves: saved(alloc, place, root, need)?,
+    })
+}
+
+/// Whether directives hold a web, a register that is free to use, or one to save for others.
+fn say_something(directives: &Directives) -> bool
+    ensures { (f : List ℕ) → result ≡ tells (f, directives.now) }
+{
+    !directives.webs.is_empty() || (!directives.free.is_empty() || !directives.saves.is_empty())
+}
+
+/// The functions whose directives say something, each with these.
 pub(crate) fn database(
     alloc: Global,
     graph: &CallGraph,
     coloured: &[Coloured],
+    clusters: Clusters,
 ) -> Result<Database, AllocError>
-    requires { All (λ c. c.web.now.global < length graph.now.globals) coloured.now }
-    ensures { IfOk result (λ db. db.functions ≡ entries_from graph.now (map seen coloured.now) 0 graph.now.functions) }
+    requires globals { All (λ c. c.web.now.global < length graph.now.globals) coloured.now }
+    requires clusters { AreClusters graph.now clusters.roots.now clusters.needs.now }
+    ensures { IfOk result (λ db. db.functions ≡ entries_from graph.now clusters.roots.now (map seen coloured.now) 0 graph.now.functions) }
 {
     let functions = graph.functions.as_slice();
     let mut entries = Items::new(alloc);
     for place in 0..functions.len() {
-        let webs = webs_of(alloc, graph, coloured, place)?;
-        if !webs.is_empty() {
-            let directives = Directives {
-                webs,
-                free: Items::new(alloc),
-                saves: Items::new(alloc),
-            };
+        let directives = directives_of(alloc, graph, coloured, clusters, place)?;
+        if say_something(&directives) {
             entries.push((functions[place].copy(alloc)?, directives))?;
         }
     }

@@ -8,7 +8,7 @@ use Rattle.pw_machine.specs.Run.{Progress, Running, Stopped}
 pub use Rattle.pw_machine.specs.Run.{start_state}
 use Rattle.pw_top_answer.specs.Effects.{Effect}
 use Rattle.pw_top_answer.specs.declared.answer.Answer.{Answer}
-use Rattle.pw_top_answer.specs.declared.answer.Answer.TheVariants.{Done, Ended, Usage, Refused, LinkRefused, StackStop, Spent, Halted, ReadFault, WriteFault, StoreFault, NoMemory, BadFile, BadScript, NoFrames}
+use Rattle.pw_top_answer.specs.declared.answer.Answer.TheVariants.{Done, Ended, Usage, Refused, LinkRefused, StackStop, Spent, Halted, ReadFault, WriteFault, StoreFault, NoMemory, BadFile, BadScript, NoFrames, RefusedSource, Cpp}
 
 -- how a run ended, as an answer; one that goes on has spent its budget
 abbrev pub end_answer : End → Answer
@@ -46,6 +46,8 @@ abbrev pub IsRunAnswer : Answer → Type 0
 IsRunAnswer Done = ⊥
 IsRunAnswer Usage = ⊥
 IsRunAnswer (Refused name refusal) = ⊥
+IsRunAnswer (RefusedSource name refusal) = ⊥
+IsRunAnswer (Cpp fault) = ⊥
 IsRunAnswer (LinkRefused fault) = ⊥
 IsRunAnswer StoreFault = ⊥
 IsRunAnswer (BadFile name at) = ⊥

@@ -8,7 +8,7 @@ use Rattle.pw_machine.specs.Start.{image_start}
 use Rattle.pw_machine.specs.Run.{run_of}
 use Rattle.pw_store_modules.specs.FileNames.{image_name}
 use Rattle.pw_top_answer.specs.declared.answer.Answer.{Answer}
-use Rattle.pw_top_answer.specs.declared.answer.Answer.TheVariants.{Done, Usage, Refused, LinkRefused}
+use Rattle.pw_top_answer.specs.declared.answer.Answer.TheVariants.{Done, Usage, Refused, LinkRefused, RefusedSource, Cpp}
 use Rattle.pw_top_answer.specs.Effects.{Effect, answers_alone}
 use Rattle.pw_commands.specs.MachineRun.{ran, start_state}
 use Rattle.pw_commands.specs.Needed.{needed}
@@ -34,5 +34,7 @@ abbrev pub IsRunOrStop : Answer → Type 0
 IsRunOrStop Done = ⊥
 IsRunOrStop Usage = ⊥
 IsRunOrStop (Refused name refusal) = ⊥
+IsRunOrStop (RefusedSource name refusal) = ⊥
+IsRunOrStop (Cpp fault) = ⊥
 IsRunOrStop (LinkRefused fault) = ⊥
 IsRunOrStop _ = Unit {0}

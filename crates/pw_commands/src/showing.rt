@@ -71,7 +71,7 @@ pub fn list_image<S: Store, O: Sink>(alloc: Global, store: &mut S, out: &mut O) 
     }
 }
 
-/// Prints the database in `prog.db` as text: a line for each web.
+/// Prints the database in `prog.db` as text: a line for each web, and lines for the registers that functions share.
 ///
 /// The answer is `Done` where all was printed; or `BadFile` where `prog.db` is absent or refused, and then nothing was.
 pub fn show_database<S: Store, O: Sink>(alloc: Global, store: &mut S, out: &mut O) -> Answer

@@ -1,2 +1,2 @@
 pub mod Command
-pub mod Seen
+pub mod Steps

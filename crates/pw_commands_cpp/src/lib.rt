@@ -1,8 +1,6 @@
 //! The command `cpp`: from the text of a C module and the headers of a store to the text that is compiled.
 #![tactic(auto)]
 
-mod seen;
 mod sources;
 
-pub use seen::{compiled_modules, seen_modules, told};
 pub use sources::preprocess_module;

@@ -16,7 +16,7 @@ use Rattle.pw_summarise.specs.Summarises.{Summarises}
 use Rattle.pw_phase_one.specs.FirstPhase.{Phase, compiled}
 use Rattle.pw_store_modules.specs.FileNames.{text_name}
 use Rattle.pw_top_answer.specs.declared.answer.Answer.{Answer}
-use Rattle.pw_top_answer.specs.declared.answer.Answer.TheVariants.{Done, Refused, StoreFault, NoMemory, BadFile}
+use Rattle.pw_top_answer.specs.declared.answer.Answer.TheVariants.{Done, Refused, RefusedSource, StoreFault, NoMemory, BadFile}
 use Rattle.pw_top_answer.specs.Effects.{Effect, PutsFiles, answers_alone, puts_files}
 use Rattle.pw_top_answer.specs.Outcomes.{Answers, IsLineDue, StoreCount}
 use Rattle.pw_commands.specs.Needed.{StopsAs, needed_bytes}
@@ -122,14 +122,20 @@ phase_due : (name text : List ℕ) (phase : Phase) (answer : Answer) (line : Opt
 phase_due name text (Ok flow) answer line h = absurd h
 phase_due name text (Err refusal) answer line h = h.1
 
+no_source : (name text : List ℕ) (phase : Phase) (own : List ℕ) (refusal : Refusal) (line : Option ℕ) → RepliesPhase name text phase (RefusedSource own refusal) line → ⊥
+no_source name text (Ok flow) own refusal line h = h
+no_source name text (Err other) own refusal line h = let e : RefusedSource own refusal ≡ Refused name other = h.0 in cc
+
 pub reply_due : (name text : List ℕ) (phase : Phase) (answer : Answer) (line : Option ℕ) → Replies name text phase answer line → IsLineDue (line_in text phase) answer line
 reply_due name text phase (Refused own refusal) line h = phase_due name text phase (Refused own refusal) line h
+reply_due name text phase (RefusedSource own refusal) line h = absurd (no_source name text phase own refusal line h)
 reply_due name text phase _ line h = tt
 
 -- ---- answers that name no module
 
 pub put_line : (due : Option ℕ) (answer : Answer) (line : Option ℕ) → IsPutAnswer answer → IsLineDue due answer line
 put_line due (Refused own refusal) line h = absurd h
+put_line due (RefusedSource own refusal) line h = absurd h
 put_line due _ line h = tt
 
 pub put_is_phase : (answer : Answer) → IsPutAnswer answer → IsPhaseAnswer answer
@@ -146,6 +152,7 @@ file_stop_is _ h = absurd h
 
 stop_line : (due : Option ℕ) (answer : Answer) (line : Option ℕ) → IsFileStop answer → IsLineDue due answer line
 stop_line due (Refused own refusal) line h = absurd h
+stop_line due (RefusedSource own refusal) line h = absurd h
 stop_line due _ line h = tt
 
 pub file_stop_line : (first : Option Told) (name : List ℕ) (answer : Answer) (line : Option ℕ) → IsFileStop answer → IfSome first (λ t. IsLineDue (phase_line t.files name) answer line)

@@ -12,7 +12,7 @@ use Rattle.pw_debug_frames.specs.Frames.{AreFrames}
 use Rattle.pw_where.specs.Calls.{Passes}
 use Rattle.pw_where.specs.Looks.{ShowsAt, entries_in, start_over}
 use Rattle.pw_top_answer.specs.declared.answer.Answer.{Answer}
-use Rattle.pw_top_answer.specs.declared.answer.Answer.TheVariants.{Done, Usage, Refused, LinkRefused, BadFile, BadScript, NoFrames}
+use Rattle.pw_top_answer.specs.declared.answer.Answer.TheVariants.{Done, Usage, Refused, RefusedSource, Cpp, LinkRefused, BadFile, BadScript, NoFrames}
 use Rattle.pw_top_answer.specs.Effects.{Effect, NamedFile, answers_alone}
 use Rattle.pw_commands.specs.MachineRun.{run_answer, run_rest}
 use Rattle.pw_build_files.specs.FromBuild.BuildFault.{BuildFault}
@@ -30,10 +30,14 @@ pub data LookEffect (image : Image) (objects : List Object) (frames : List Frame
   passes : (p : Progress) → Passes (entries_in image objects) (start_over image input) k budget p
       → LookEffect image objects frames k budget input puts (record { answer = run_answer p; puts = puts; output = []; rest = run_rest p })
 
+-- a look at the image in a file, which these objects were linked to, with what is known of their functions
+abbrev pub FileEffect : List ℕ → List Object → ℕ → ℕ → List ℕ → List NamedFile → Effect → Type 0
+FileEffect bytes objects k budget input puts effect =
+    (c : Contents Image) × (frames : List FrameInfo) × IsImageFile bytes c × AreFrames objects frames × LookEffect c.value objects frames k budget input puts effect
+
 -- what comes of what the build comes to: its files are put, and its image is looked at; or its refusal is told
 abbrev pub WhereOver : ℕ → ℕ → List ℕ → Result Outcome BuildFault → Effect → Type 0
-WhereOver budget k input (Ok outcome) effect =
-    (c : Contents Image) × (frames : List FrameInfo) × IsImageFile outcome.image c × AreFrames outcome.linked_objects frames × LookEffect c.value outcome.linked_objects frames k budget input outcome.puts effect
+WhereOver budget k input (Ok outcome) effect = FileEffect outcome.image outcome.linked_objects k budget input outcome.puts effect
 WhereOver budget k input (Err fault) effect = effect ≡ answers_alone (fault_answer fault) input
 
 -- `where` over a store's files and an input
@@ -45,6 +49,8 @@ WhereEffect files opts k input effect =
 abbrev pub IsWhereAnswer : Answer → Type 0
 IsWhereAnswer Usage = ⊥
 IsWhereAnswer (Refused name refusal) = HoldsNoWant refusal
+IsWhereAnswer (RefusedSource name refusal) = ⊥
+IsWhereAnswer (Cpp fault) = ⊥
 IsWhereAnswer (LinkRefused fault) = fault ≢ link.NoMemory
 IsWhereAnswer (BadFile name at) = ⊥
 IsWhereAnswer (BadScript at) = ⊥

@@ -1,14 +1,12 @@
 //! The command `where`.
 
-ghost use Rattle.std.specs.Prelude.{◌<◌, [], IfSome};
+ghost use Rattle.std.specs.Prelude.{◌≡◌, ◌≢◌, ◌<◌, IfSome};
 ghost use Rattle.std.specs.List.{AllByRecursion};
 ghost use Rattle.pw_store_modules.specs.Modules.{modules_of};
-ghost use Rattle.pw_image.specs.Image.{Contents, IsImageFile};
-ghost use Rattle.pw_image.specs.declared.image.Image.{Image};
-ghost use Rattle.pw_debug.specs.declared.info.FrameInfo.{FrameInfo};
+ghost use Rattle.pw_debug.specs.Knowing.{IsFrame};
 ghost use Rattle.pw_debug_frames.specs.Frames.{AreFrames};
 ghost use Rattle.pw_top_answer.specs.Effects.{Effect};
-ghost use Rattle.pw_top_answer.specs.Outcomes.{Answers, InputCount, IsLineDue, LeavesInput, LeavesStreams, OutputCount, PutsOut, StoreCount};
+ghost use Rattle.pw_top_answer.specs.Outcomes.{InputCount, IsLineDue, LeavesInput, LeavesStreams, OutputCount, PutsOut, StoreCount};
 ghost use Rattle.pw_commands.specs.Outcome.{Obeys};
 ghost use Rattle.pw_build_objects.specs.Programs.{WasMade};
 ghost use Rattle.pw_build_files.specs.FromBuild.Phases.{refused_line};
@@ -16,20 +14,35 @@ ghost use Rattle.pw_build_files.specs.Driving.{KeepsUnput};
 ghost use Rattle.pw_build_files.specs.Genuine.{KeepsGenuine};
 ghost use Rattle.pw_build_files.specs.Outcomes.{AreOpts, HoldsImage};
 ghost use Rattle.pw_go.specs.Going.{HasBuilt};
-ghost use Rattle.pw_commands_where.specs.Showing.{IsWhereAnswer, LookEffect, WhereEffect};
+ghost use Rattle.pw_commands_where.specs.Showing.{IsWhereAnswer, WhereEffect};
+ghost use Rattle.pw_commands_where.specs.Steps.{IsLookAnswer, LooksAtFile, PutsLook, TellsLook};
 
-use pw_build_files::{Report, answer_of, build_uncounted};
+use pw_build_files::{answer_of, build_uncounted};
 use pw_build_opts::RunOpts;
 use pw_commands::answer_of_stop;
+use pw_debug::FrameInfo;
 use pw_debug_frames::frames;
+use pw_debug_frames::laws::objects_have_one_list_of_frames;
+use pw_image::laws::images_and_files_are_one_to_one;
 use pw_io::laws::other_files;
 use pw_io::{Sink, Source, Store};
+use pw_machine::{Stop, runs_add_up};
+use pw_object::Object;
 use pw_top_answer::{Answer, Reply, print};
+use pw_where::laws::{
+    a_call_shows_one_thing, a_call_shows_something, a_run_comes_or_passes, a_run_has_one_call,
+};
 use pw_where::{Look, look_at_call};
 use std::alloc::{AllocError, Global};
 
-/// What a look comes to, as the answer of the command; lines are put out.
-fn told<O: Sink>(look: Look, out: &mut O) -> Answer {
+/// What a look comes to, as the answer of the command; lines are put out. The run had no fault of an output, since nothing
+/// of its own was put out.
+fn told<O: Sink>(look: Look, out: &mut O) -> Answer
+    requires { look ≢ Look.StoppedAs Stop.WriteFault }
+    ensures tells { TellsLook look result }
+    ensures output { PutsLook look result (O.taken out.old) (O.taken out.new) }
+    ensures write { OutputCount (O.faults out.old) (O.faults out.new) result }
+{
     match look {
         Look::Lines(lines) => print(out, &lines),
         Look::LostAt(address) => Answer::NoFrames(address),
@@ -37,39 +50,68 @@ fn told<O: Sink>(look: Look, out: &mut O) -> Answer {
     }
 }
 
-/// Shows a call in the run of a program that was built.
-fn show_built<I: Source, O: Sink>(
+/// Shows a call in the run of a program whose functions' frames are known.
+fn show_known<I: Source, O: Sink>(
     alloc: Global,
-    report: &Report,
+    image: &[u8],
+    objects: &[Object],
+    known: &[FrameInfo],
     call: u64,
     budget: u64,
     input: &mut I,
     out: &mut O,
 ) -> Answer
-    requires image { HoldsImage report.now.image.items }
-    requires objects { AllByRecursion WasMade report.now.objects.items }
+    requires image { HoldsImage image.now }
+    requires known { AreFrames objects.now known.now }
+    requires lawful { AllByRecursion IsFrame known.now }
     requires first { 0 < call }
-    ensures answer { IfSome (I.rest input.old) (λ rest. (c : Contents Image) (frames : List FrameInfo) (effect : Effect) → IsImageFile report.now.image.items c → AreFrames report.now.objects.items frames → LookEffect c.value report.now.objects.items frames call budget rest [] effect → Answers effect.answer result) }
-    ensures output { IfSome (I.rest input.old) (λ rest. (c : Contents Image) (frames : List FrameInfo) (effect : Effect) → IsImageFile report.now.image.items c → AreFrames report.now.objects.items frames → LookEffect c.value report.now.objects.items frames call budget rest [] effect → PutsOut effect.output result (O.taken out.old) (O.taken out.new)) }
-    ensures rest { IfSome (I.rest input.old) (λ rest. (c : Contents Image) (frames : List FrameInfo) (effect : Effect) → IsImageFile report.now.image.items c → AreFrames report.now.objects.items frames → LookEffect c.value report.now.objects.items frames call budget rest [] effect → LeavesInput effect.rest rest result (I.rest input.new)) }
+    ensures looks { IfSome (I.rest input.old) (λ rest. LooksAtFile image.now objects.now call budget rest result (I.rest input.new) (O.taken out.old) (O.taken out.new)) }
     ensures read { InputCount (I.faults input.old) (I.faults input.new) result }
     ensures write { OutputCount (O.faults out.old) (O.faults out.new) result }
-    ensures proper { IsWhereAnswer result }
+    ensures answer { IsLookAnswer result }
 {
-    let known = match frames(alloc, &report.objects) {
-        Ok(known) => known,
-        Err(AllocError) => return Answer::NoMemory,
-    };
-    match look_at_call(
-        alloc,
-        &report.image,
-        &report.objects,
-        known.as_slice(),
-        call,
-        budget,
-        input,
-    ) {
+    a_call_shows_one_thing();
+    a_call_shows_something();
+    a_run_comes_or_passes();
+    a_run_has_one_call();
+    images_and_files_are_one_to_one();
+    objects_have_one_list_of_frames();
+    runs_add_up();
+    match look_at_call(alloc, image, objects, known, call, budget, input) {
         Ok(look) => told(look, out),
+        Err(AllocError) => Answer::NoMemory,
+    }
+}
+
+/// Shows a call in the run of a program that was built.
+fn show_built<I: Source, O: Sink>(
+    alloc: Global,
+    image: &[u8],
+    objects: &[Object],
+    call: u64,
+    budget: u64,
+    input: &mut I,
+    out: &mut O,
+) -> Answer
+    requires image { HoldsImage image.now }
+    requires objects { AllByRecursion WasMade objects.now }
+    requires first { 0 < call }
+    ensures looks { IfSome (I.rest input.old) (λ rest. LooksAtFile image.now objects.now call budget rest result (I.rest input.new) (O.taken out.old) (O.taken out.new)) }
+    ensures read { InputCount (I.faults input.old) (I.faults input.new) result }
+    ensures write { OutputCount (O.faults out.old) (O.faults out.new) result }
+    ensures answer { IsLookAnswer result }
+{
+    match frames(alloc, objects) {
+        Ok(known) => show_known(
+            alloc,
+            image,
+            objects,
+            known.as_slice(),
+            call,
+            budget,
+            input,
+            out,
+        ),
         Err(AllocError) => Answer::NoMemory,
     }
 }
@@ -108,7 +150,15 @@ pub fn show_call<S: Store, I: Source, O: Sink>(
     other_files();
     match build_uncounted(alloc, store, &opts.build) {
         Ok(report) => Reply {
-            answer: show_built(alloc, &report, call, opts.budget, input, out),
+            answer: show_built(
+                alloc,
+                &report.image,
+                &report.objects,
+                call,
+                opts.budget,
+                input,
+                out,
+            ),
             line: None,
         },
         Err(unbuilt) => Reply {

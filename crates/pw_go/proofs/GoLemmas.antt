@@ -98,6 +98,8 @@ run_rest_is (Some t) new (Some input) input' taken taken' opts report a b run =
 
 no_refusal : (a : Answer) → IsRunAnswer a → IsNoRefusal a
 no_refusal (answer.Refused name refusal) k = absurd k
+no_refusal (answer.RefusedSource name refusal) k = absurd k
+no_refusal (answer.Cpp fault) k = absurd k
 no_refusal (answer.LinkRefused fault) k = absurd k
 no_refusal (answer.BadFile name at) k = absurd k
 no_refusal (answer.BadScript at) k = absurd k
@@ -123,15 +125,19 @@ run_built_so (Some t) new opts report a k b = done_built opts report a t new k b
 pub run_line : (due : Files → Option ℕ) (told : Option Told) (a : Answer) → IsRunAnswer a → IfSome told (λ t. IsLineDue (due t.files) a None)
 run_line due None a k = tt
 run_line due (Some t) (answer.Refused name refusal) k = absurd k
+run_line due (Some t) (answer.RefusedSource name refusal) k = absurd k
 run_line due (Some t) _ k = tt
 
 pub run_is : (a : Answer) → IsRunAnswer a → IsGoAnswer a
 run_is answer.Done k = absurd k
 run_is answer.Usage k = absurd k
 run_is (answer.Refused name refusal) k = absurd k
+run_is (answer.RefusedSource name refusal) k = absurd k
+run_is (answer.Cpp fault) k = absurd k
 run_is (answer.LinkRefused fault) k = absurd k
 run_is (answer.BadFile name at) k = absurd k
 run_is (answer.BadScript at) k = absurd k
+run_is (answer.NoFrames address) k = absurd k
 run_is _ k = tt
 
 pub run_stores : (before now : ℕ) (a : Answer) → IsRunAnswer a → now ≡ before → StoreCount before now a
@@ -141,6 +147,8 @@ run_stores before now _ k e = e
 pub run_streams : (a : Answer) (i i' o o' : Option (List ℕ)) → IsRunAnswer a → LeavesStreams a i i' o o'
 run_streams answer.Usage i i' o o' k = absurd k
 run_streams (answer.Refused name refusal) i i' o o' k = absurd k
+run_streams (answer.RefusedSource name refusal) i i' o o' k = absurd k
+run_streams (answer.Cpp fault) i i' o o' k = absurd k
 run_streams (answer.LinkRefused fault) i i' o o' k = absurd k
 run_streams (answer.BadFile name at) i i' o o' k = absurd k
 run_streams answer.StoreFault i i' o o' k = absurd k

@@ -18,13 +18,13 @@ use Rattle.pw_files.proofs.Standing.{Has, has_by, contains_by, each_by, has_each
 use Rattle.pw_files.proofs.ByteOrder.{table_rises, one_rising, behind}
 use Rattle.pw_summary.specs.declared.summary.Summary.{Summary}
 use Rattle.pw_summary.specs.declared.summary.Uses.{Uses}
-use Rattle.pw_summary.specs.Summary.{IsSummary, IsUses}
+use Rattle.pw_summary.specs.Summary.{need_limit, IsSummary, IsUses}
 use Rattle.pw_graph.specs.declared.graph.CallGraph.{CallGraph}
 use Rattle.pw_graph.specs.CallGraph.{Calls, Weighs, IsGraph}
 use Rattle.pw_graph.proofs.Counts.{few_homes, few_scalars}
 use Rattle.std.proofs.lemmas.List.{length-map}
-use Rattle.pw_graph.specs.Program.{AreLinked, functions_of, IsUseOf, IsCall, by_name, through_value, HasWeights, IsEligible, IsGraphOf}
-use Rattle.pw_graph.specs.Making.{IsOrdered, all_homes, all_taken, all_escaped, all_eligible, place_in, targets_from, place_if, of_shape, callees, IsCallRow, with_weights, placed, ref_row, HasRefs}
+use Rattle.pw_graph.specs.Program.{AreLinked, functions_of, IsUseOf, IsCall, by_name, through_value, HasWeights, HasNeed, IsEligible, IsGraphOf}
+use Rattle.pw_graph.specs.Making.{IsOrdered, all_homes, all_taken, all_escaped, all_eligible, place_in, targets_from, place_if, of_shape, callees, IsCallRow, with_weights, placed, ref_row, HasRefs, need_of}
 use Rattle.pw_graph.proofs.Lists.{has_at, at_has, mapped_at, at_mapped, zip_at, at_zip, zip_length, zip_each, has_filtered, has_filtered_back}
 use Rattle.pw_graph.proofs.Members.{Ups, increasing}
 use Rattle.pw_graph.proofs.Placing.{one_place, lesser_place, name_at_place, place_of_name}
@@ -140,7 +140,7 @@ module _ (ss : List Summary) (lawful : All IsSummary ss) (H : List Entry) (names
   targets = targets_from taken 0 H
 
   abbrev graph : CallGraph
-  graph = record { functions = names; globals = G; calls = rows; refs = map (λ h. ref_row globals h.2) H }
+  graph = record { functions = names; globals = G; calls = rows; refs = map (λ h. ref_row globals h.2) H; needs = map (λ h. need_of h.2) H }
 
   names_are : names ≡ map (λ h. h.0) H
   names_are = names_one (λ h. h.0) names H homes.0 of_names
@@ -272,6 +272,37 @@ module _ (ss : List Summary) (lawful : All IsSummary ss) (H : List Entry) (names
   refs_rise [] sub = tt
   refs_rise (e ∷ hs) sub = (entry_rises e (sub e (inl refl)), refs_rise hs (λ x h. sub x (inr h)))
 
+  -- ---- needs
+
+  told_need : (e : Entry) (n : ℕ) (u : Uses) → need_of e.2 ≡ n → e.2 ≡ Some u → n ≡ u.need
+  told_need e n u is same = sym is ∙ ap need_of same
+
+  untold_need : (f : List ℕ) (o : Option Uses) (n : ℕ) → need_of o ≡ n → ((u : Uses) → o ≡ Some u → IsUseOf ss f u) → ((u : Uses) → IsUseOf ss f u → ⊥) → n ≡ 0
+  untold_need f None n is of none = sym is
+  untold_need f (Some u) n is of none = absurd (none u (of u refl))
+
+  needs_are : (a n : ℕ) (f : List ℕ) → slice_get names a ≡ Some f → slice_get (map (λ (h : Entry). need_of h.2) H) a ≡ Some n → HasNeed ss f n
+  needs_are a n f at_a at_n =
+      let e = entry_at a f at_a in
+      let m = mapped_at (λ (h : Entry). need_of h.2) H a n at_n in
+      let same : m.0 ≡ e.0 = same_Some m.0 e.0 (sym m.1 ∙ e.1) in
+      let is : need_of e.0.2 ≡ n = subst (λ (x : Entry). need_of x.2 ≡ n) same m.2 in
+      record {
+        told = λ u of. told_need e.0 n u is (use_at a e.0 u e.1 (subst (λ (k : List ℕ). IsUseOf ss k u) (sym e.2) of));
+        untold = untold_need f e.0.2 n is (λ u there. subst (λ (k : List ℕ). IsUseOf ss k u) e.2 (use_of a e.0 u e.1 there));
+      }
+
+  need_fits : (o : Option Uses) → ((u : Uses) → o ≡ Some u → IsUses u) → need_of o ≤ need_limit
+  need_fits None all = omega arith
+  need_fits (Some u) all = (all u refl).need
+
+  needs_fit : (hs : List Entry) → ((e : Entry) → Has e hs → Has e H) → AllByRecursion (λ n. n ≤ need_limit) (map (λ (h : Entry). need_of h.2) hs)
+  needs_fit [] sub = tt
+  needs_fit (e ∷ hs) sub = (
+    need_fits e.2 (λ u same. lawful_uses e.0 u (use_forth ss e u (in_all e (sub e (inl refl))) same)),
+    needs_fit hs (λ x h. sub x (inr h)),
+  )
+
   -- ---- names
 
   each_function : (f : List ℕ) → Contains names f ↔ Contains (map (λ h. h.0) (functions_of ss)) f
@@ -308,6 +339,8 @@ module _ (ss : List Summary) (lawful : All IsSummary ss) (H : List Entry) (names
     refs_rise = refs_rise H (λ e h. h);
     refs_within = refs_within;
     weights = weights_fit;
+    need_rows = length-map H (λ (h : Entry). need_of h.2) ∙ sym size;
+    needs = needs_fit H (λ e h. h);
   }
 
   pub is_graph : IsGraphOf ss graph
@@ -324,6 +357,8 @@ module _ (ss : List Summary) (lawful : All IsSummary ss) (H : List Entry) (names
     refs_rise = refs_rise H (λ e h. h);
     refs_within = refs_within;
     refs = refs_are;
+    need_rows = length-map H (λ (h : Entry). need_of h.2) ∙ sym size;
+    needs = needs_are;
   }
 
 -- ---- the lists that are made
@@ -349,17 +384,19 @@ pub made : (ss : List Summary) → All IsSummary ss → AreLinked ss → (H : Li
     → IsOrdered (λ v. v.0) (all_eligible taken escaped ss) G → length G ≡ length (all_eligible taken escaped ss) → IsTableOf globals (map (λ v. v.0) G)
     → (ts : List (List ℕ × ℕ)) → ts ≡ targets_from taken 0 H → (rows : List (List ℕ)) → AllZip (IsCallRow names ts) H rows
     → (functions : List (List ℕ)) → functions ≡ names → (scalars : List (List ℕ × Kind)) → scalars ≡ G → (refs : List (List (ℕ × ℕ × ℕ))) → refs ≡ map (λ h. ref_row globals h.2) H
-    → IsGraphOf ss (record { functions = functions; globals = scalars; calls = rows; refs = refs }) × IsGraph (record { functions = functions; globals = scalars; calls = rows; refs = refs })
-made ss lawful linked H names taken escaped G globals homes count of_names of_taken of_escaped ordered count_globals of_globals ts targets_are rows are_rows functions functions_are scalars scalars_are refs refs_are =
+    → (needs : List ℕ) → needs ≡ map (λ h. need_of h.2) H
+    → IsGraphOf ss (record { functions = functions; globals = scalars; calls = rows; refs = refs; needs = needs }) × IsGraph (record { functions = functions; globals = scalars; calls = rows; refs = refs; needs = needs })
+made ss lawful linked H names taken escaped G globals homes count of_names of_taken of_escaped ordered count_globals of_globals ts targets_are rows are_rows functions functions_are scalars scalars_are refs refs_are needs needs_are =
     let zipped = subst (λ (xs : List (List ℕ × ℕ)). AllZip (IsCallRow names xs) H rows) targets_are are_rows in
     let few = few_homes ss linked in
     let few_g = few_scalars taken escaped ss linked in
-    subst (λ (fs : List (List ℕ)). IsGraphOf ss (record { functions = fs; globals = scalars; calls = rows; refs = refs }) × IsGraph (record { functions = fs; globals = scalars; calls = rows; refs = refs })) (sym functions_are)
-    (subst (λ (gs : List (List ℕ × Kind)). IsGraphOf ss (record { functions = names; globals = gs; calls = rows; refs = refs }) × IsGraph (record { functions = names; globals = gs; calls = rows; refs = refs })) (sym scalars_are)
-    (subst (λ (rs : List (List (ℕ × ℕ × ℕ))). IsGraphOf ss (record { functions = names; globals = G; calls = rows; refs = rs }) × IsGraph (record { functions = names; globals = G; calls = rows; refs = rs })) (sym refs_are) (
+    subst (λ (fs : List (List ℕ)). IsGraphOf ss (record { functions = fs; globals = scalars; calls = rows; refs = refs; needs = needs }) × IsGraph (record { functions = fs; globals = scalars; calls = rows; refs = refs; needs = needs })) (sym functions_are)
+    (subst (λ (gs : List (List ℕ × Kind)). IsGraphOf ss (record { functions = names; globals = gs; calls = rows; refs = refs; needs = needs }) × IsGraph (record { functions = names; globals = gs; calls = rows; refs = refs; needs = needs })) (sym scalars_are)
+    (subst (λ (rs : List (List (ℕ × ℕ × ℕ))). IsGraphOf ss (record { functions = names; globals = G; calls = rows; refs = rs; needs = needs }) × IsGraph (record { functions = names; globals = G; calls = rows; refs = rs; needs = needs })) (sym refs_are)
+    (subst (λ (ns : List ℕ). IsGraphOf ss (record { functions = names; globals = G; calls = rows; refs = map (λ h. ref_row globals h.2) H; needs = ns }) × IsGraph (record { functions = names; globals = G; calls = rows; refs = map (λ h. ref_row globals h.2) H; needs = ns })) (sym needs_are) (
       is_graph ss lawful H names taken escaped G globals homes of_names of_taken of_escaped ordered of_globals rows zipped,
       well_made ss lawful H names taken escaped G globals homes of_names of_taken of_escaped ordered of_globals rows zipped (omega (arith, few, count)) (omega (arith, few_g, count_globals)),
-    )))
+    ))))
 
 pub few_scalars_of : (ss : List Summary) → AreLinked ss → (taken escaped : List (List ℕ)) (G : List (List ℕ × Kind)) → length G ≡ length (all_eligible taken escaped ss) → length G ≤ global_limit
 few_scalars_of ss linked taken escaped G count = let few = few_scalars taken escaped ss linked in omega (arith, few, count)
@@ -369,8 +406,8 @@ pub graph_result : {E : Type 0} (ss : List Summary) → All IsSummary ss → Are
     → IsTableOf taken (all_taken ss) → IsTableOf escaped (all_escaped ss)
     → IsOrdered (λ v. v.0) (all_eligible taken escaped ss) G → length G ≡ length (all_eligible taken escaped ss)
     → (ts : List (List ℕ × ℕ)) → ts ≡ targets_from taken 0 H → (r : Result CallGraph E)
-    → IfOk r (λ g. g.functions ≡ names) → IfOk r (λ g. g.globals ≡ G) → IfOk r (λ g. AllZip (IsCallRow names ts) H g.calls) → IfOk r (λ g. HasRefs G H g.refs)
+    → IfOk r (λ g. g.functions ≡ names) → IfOk r (λ g. g.globals ≡ G) → IfOk r (λ g. AllZip (IsCallRow names ts) H g.calls) → IfOk r (λ g. HasRefs G H g.refs) → IfOk r (λ g. g.needs ≡ map (λ h. need_of h.2) H)
     → IfOk r (IsGraphOf ss) × IfOk r IsGraph
-graph_result ss lawful linked H names taken escaped G homes count of_names of_taken of_escaped ordered countG ts targets_are (Ok g) functions globals calls refs =
-    made ss lawful linked H names taken escaped G refs.globals homes count of_names of_taken of_escaped ordered countG refs.table ts targets_are g.calls calls g.functions functions g.globals globals g.refs refs.rows
-graph_result ss lawful linked H names taken escaped G homes count of_names of_taken of_escaped ordered countG ts targets_are (Err e) functions globals calls refs = (tt, tt)
+graph_result ss lawful linked H names taken escaped G homes count of_names of_taken of_escaped ordered countG ts targets_are (Ok g) functions globals calls refs needs =
+    made ss lawful linked H names taken escaped G refs.globals homes count of_names of_taken of_escaped ordered countG refs.table ts targets_are g.calls calls g.functions functions g.globals globals g.refs refs.rows g.needs needs
+graph_result ss lawful linked H names taken escaped G homes count of_names of_taken of_escaped ordered countG ts targets_are (Err e) functions globals calls refs needs = (tt, tt)

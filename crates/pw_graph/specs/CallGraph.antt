@@ -4,6 +4,7 @@ use Rattle.std.specs.Prelude.{ℕ, ◌≡◌, ◌<◌, ◌≤◌, ◌+◌, ◌^�
 use Rattle.std.specs.List.{AllByRecursion}
 use Rattle.std.specs.List.Sorted.{IsStrictlyIncreasing}
 use Rattle.pw_value.specs.Limits.{function_limit, global_limit}
+use Rattle.pw_summary.specs.Summary.{need_limit}
 use Rattle.pw_fix.specs.Table.{HoldsAt}
 use Rattle.pw_fix.specs.declared.bit_rows.BitRows.{BitRows}
 use Rattle.pw_graph.specs.declared.graph.CallGraph.{CallGraph}
@@ -40,8 +41,8 @@ pub record Writes (g : CallGraph) (f v : ℕ) : Type 0 where
   pub weighs : Weighs g f v reads writes
   pub some : 0 < writes
 
--- each function has a row of calls and a row of references, which lead to functions and globals of the graph;
--- there are no more functions and globals than a program has, and no weight that does not fit 32 bits
+-- each function has a row of calls, a row of references and a need; the rows lead to functions and globals of the graph;
+-- there are no more functions and globals than a program has, no weight that does not fit 32 bits, and no need above the limit
 pub record IsGraph (g : CallGraph) : Type 0 where
   pub functions : length g.functions ≤ function_limit + 3
   pub globals : length g.globals ≤ global_limit
@@ -51,6 +52,8 @@ pub record IsGraph (g : CallGraph) : Type 0 where
   pub refs_rise : AllByRecursion (λ row. IsStrictlyIncreasing (map (λ r. r.0) row)) g.refs
   pub refs_within : (a v reads writes : ℕ) → Weighs g a v reads writes → v < length g.globals
   pub weights : (a v reads writes : ℕ) → Weighs g a v reads writes → (reads < 2 ^ 32) × (writes < 2 ^ 32)
+  pub need_rows : length g.needs ≡ length g.functions
+  pub needs : AllByRecursion (λ n. n ≤ need_limit) g.needs
 
 -- some function that refers to v reaches f, and is reached from f
 pub record IsReachedFromUser (g : CallGraph) (f v : ℕ) : Type 0 where

@@ -1,5 +1,5 @@
--- How the lists of a call graph are made: functions with what they use, eligible globals, and what each function
--- calls and refers to, by places.
+-- How the lists of a call graph are made: functions with what they use, eligible globals, what each function calls and
+-- refers to, by places, and what it needs.
 use Rattle.std.specs.Prelude.{ℕ, suc, ◌≡◌, ◌↔◌, ◌||◌, nat_lt, Bool, true, false, Option, Some, None, option_map, List, [], ◌∷◌, ◌++◌, length, map, Contains, if◌then◌else◌}
 use Rattle.std.specs.List.{flat_map, filter_map}
 use Rattle.std.specs.List.Sorted.{IsStrictlyIncreasing}
@@ -115,3 +115,9 @@ pub record HasRefs (scalars : List (List ℕ × Kind)) (homes : List (List ℕ �
   pub globals : List (List ℕ)
   pub table : IsTableOf globals (map (λ v. v.0) scalars)
   pub rows : refs ≡ map (λ h. ref_row globals h.2) homes
+
+-- ---- needs
+
+abbrev pub need_of : Option Uses → ℕ
+need_of None = 0
+need_of (Some u) = u.need

@@ -1,5 +1,5 @@
--- What summaries say of a program: its functions, who calls whom, and which globals are eligible; and the call
--- graph that says the same by places.
+-- What summaries say of a program: its functions, who calls whom, how many registers each one needs, and which globals are
+-- eligible; and the call graph that says the same by places.
 use Rattle.std.specs.Prelude.{ℕ, ◌≡◌, ◌<◌, ◌↔◌, Option, Some, None, if◌then◌else◌, false, List, [], ◌∷◌, ◌++◌, length, map, Contains, slice_get}
 use Rattle.std.specs.List.{flat_map, AllByRecursion}
 use Rattle.std.specs.List.Sorted.{IsStrictlyIncreasing}
@@ -71,6 +71,11 @@ pub record HasWeights (ss : List Summary) (f global : List ℕ) (reads writes : 
   pub uses : IsUseOf ss f u
   pub stands : Contains u.refs (global, reads, writes)
 
+-- f needs so many registers: what the module tells that defines it, and none where no module does
+pub record HasNeed (ss : List Summary) (f : List ℕ) (n : ℕ) : Type 0 where
+  pub told : (u : Uses) → IsUseOf ss f u → n ≡ u.need
+  pub untold : ((u : Uses) → IsUseOf ss f u → ⊥) → n ≡ 0
+
 -- a scalar global that is not volatile and whose address no module takes
 pub record IsEligible (ss : List Summary) (global : List ℕ) (kind : Kind) : Type 0 where
   pub summary : Summary
@@ -95,3 +100,5 @@ pub record IsGraphOf (ss : List Summary) (g : CallGraph) : Type 0 where
   pub refs_rise : AllByRecursion (λ row. IsStrictlyIncreasing (map (λ r. r.0) row)) g.refs
   pub refs_within : (a v reads writes : ℕ) → Weighs g a v reads writes → v < length g.globals
   pub refs : (a v reads writes : ℕ) (f : List ℕ) (global : List ℕ × Kind) → slice_get g.functions a ≡ Some f → slice_get g.globals v ≡ Some global → Weighs g a v reads writes ↔ HasWeights ss f global.0 reads writes
+  pub need_rows : length g.needs ≡ length g.functions
+  pub needs : (a n : ℕ) (f : List ℕ) → slice_get g.functions a ≡ Some f → slice_get g.needs a ≡ Some n → HasNeed ss f n

@@ -6,13 +6,13 @@ ghost use Rattle.pw_fields.specs.FieldNames.{IsRisingFrom, IsTableOf};
 ghost use Rattle.pw_files.specs.Rising.{IsRising};
 ghost use Rattle.pw_summary.specs.Summary.{IsSummary};
 ghost use Rattle.pw_graph.specs.CallGraph.{IsGraph};
-ghost use Rattle.pw_graph.specs.Making.{IsOrdered, home, scalar, target, all_homes, all_taken, all_escaped, IsCallRow, HasRefs};
+ghost use Rattle.pw_graph.specs.Making.{IsOrdered, home, scalar, target, all_homes, all_taken, all_escaped, IsCallRow, HasRefs, need_of};
 ghost use Rattle.pw_graph.specs.Program.{AreLinked, AreRefused, IsGraphOf};
 
 use crate::calls::{Target, call_rows, targets};
 use crate::eligible::{Scalar, copied, eligible, escaped_names, scalar_names, taken_names};
 use crate::graph::CallGraph;
-use crate::homes::{Home, home_names, sorted_homes};
+use crate::homes::{Home, home_names, home_needs, sorted_homes};
 use crate::references::ref_rows;
 use crate::views::views;
 use pw_items::Items;
@@ -38,6 +38,7 @@ fn rows_of(
     ensures globals { IfOk result (λ g. g.globals ≡ map scalar scalars.now) }
     ensures calls { IfOk result (λ g. AllZip (IsCallRow names.items (map target targets.now)) (map home homes.now) g.calls) }
     ensures refs { IfOk result (λ g. HasRefs (map scalar scalars.now) (map home homes.now) g.refs) }
+    ensures needs { IfOk result (λ g. g.needs ≡ map (λ h. need_of h.2) (map home homes.now)) }
 {
     let globals = scalar_names(alloc, scalars)?;
     let calls = call_rows(alloc, &names, targets, homes)?;
@@ -46,6 +47,7 @@ fn rows_of(
         globals: copied(alloc, scalars)?,
         calls,
         refs,
+        needs: home_needs(alloc, homes)?,
         functions: Items::from_vec(names),
     })
 }

@@ -5,7 +5,7 @@ use pw_items::Items;
 use pw_value::{Kind, Name};
 
 /// All functions of a program, `$start` and the library's included, with what they call, and the globals
-/// that may live in registers, with who refers to them.
+/// that may live in registers, with who refers to them, and how many registers each function needs.
 #[derive(Drop)]
 pub struct CallGraph {
     /// The functions in byte order.
@@ -17,6 +17,8 @@ pub struct CallGraph {
     /// The places of the eligible globals that each function refers to, rising, with its weighted reads and
     /// weighted writes.
     pub refs: Items<Items<(u32, u64, u64)>>,
+    /// How many registers each function needs beside the two that every call may change.
+    pub needs: Items<u8>,
 }
 
 /// Sets of eligible globals, a row for each function: those that it refers to itself, those that a function

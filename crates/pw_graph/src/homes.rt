@@ -1,13 +1,14 @@
 //! The functions of a program in byte order, with what they use.
 
-ghost use Rattle.std.specs.Prelude.{ℕ, ◌≡◌, ◌<◌, ◌++◌, List, length, slice_get, Some, map, IfOk, OnOk};
+ghost use Rattle.std.specs.Prelude.{ℕ, ◌≡◌, ◌<◌, ◌++◌, List, length, slice_get, Some, map, option_map, IfOk, OnOk};
 ghost use Rattle.std.specs.List.{IsDistinct};
 ghost use Rattle.std.specs.Str.{bytes_eq};
 ghost use Rattle.pw_fields.specs.FieldNames.{IsTableOf};
 ghost use Rattle.pw_link_rules.specs.Linking.{library as the_library};
-ghost use Rattle.pw_graph.specs.Making.{IsOrdered, home, homes_in, all_homes};
+ghost use Rattle.pw_graph.specs.Making.{IsOrdered, home, homes_in, all_homes, need_of};
 
 use pw_fields::names::table_of;
+use pw_items::Items;
 use pw_link_rules::Interface;
 use pw_summary::{Summary, Uses};
 use pw_value::{Name, Shape};
@@ -90,4 +91,25 @@ pub(crate) fn home_names(alloc: Global, homes: &[Home]) -> Result<Vec<Name>, All
         names.push(home.name)?;
     }
     table_of(alloc, names)
+}
+
+/// How many registers a function needs: none where the library defines it.
+fn need(uses: Option<&Uses>) -> u8
+    ensures { result ≡ need_of (option_map (λ u. u.now) uses.entry) }
+{
+    match uses {
+        Some(uses) => uses.need,
+        None => 0,
+    }
+}
+
+/// How many registers each function needs.
+pub(crate) fn home_needs(alloc: Global, homes: &[Home]) -> Result<Items<u8>, AllocError>
+    ensures { IfOk result (λ v. v ≡ map (λ h. need_of h.2) (map home homes.now)) }
+{
+    let mut needs = Items::new(alloc);
+    for home in homes {
+        needs.push(need(home.uses))?;
+    }
+    Ok(needs)
 }

@@ -1,12 +1,14 @@
 -- Every function that refers to a global all of whose webs have a register is in one of them.
-use Rattle.std.proofs.Common.{◌≡◌, ℕ, suc, ◌<◌, List, [], ◌∷◌, length, map, refl, sym, ap, subst, ◌∙◌, arith, inl, inr}
+use Rattle.std.proofs.Common.{◌≡◌, ℕ, suc, ◌<◌, ◌||◌, nat_lt, true, List, [], ◌∷◌, length, map, refl, sym, ap, subst, ◌∙◌, arith, inl, inr}
 use Rattle.std.specs.Prelude.{Option, Some, None, if◌then◌else◌, slice_get, slice_index_or, Contains}
+use Rattle.std.proofs.lemmas.Bool.{or_left, lt-ltb}
 use Rattle.std.proofs.lemmas.Option.{get_or_from_slice_get, slice_get_within}
 use Rattle.std.proofs.lemmas.List.Sorted.{Contains-permutation}
 use Rattle.pw_value.specs.declared.value.Kind.{Kind}
 use Rattle.pw_value.specs.declared.value.Kind.TheVariants.{W32}
 use Rattle.pw_files.proofs.Standing.{Has, has_by, contains_by}
 use Rattle.pw_fix.specs.Row.{Holds}
+use Rattle.pw_db.specs.Database.{says_something}
 use Rattle.pw_db.specs.declared.database.Role.{Role}
 use Rattle.pw_db.specs.declared.database.Role.TheVariants.{Entry, Member}
 use Rattle.pw_db.specs.declared.database.Directives.{Directives}
@@ -40,6 +42,10 @@ longer : {X : Type 0} (x : X) (xs : List X) → Has x xs → 0 < length xs
 longer x [] h = absurd h
 longer x (y ∷ xs) h = omega arith
 
+-- directives that hold a web say something
+tells : (f : List ℕ) (d : Directives) → 0 < length d.webs → says_something (f, d) ≡ true
+tells f d some = or_left (nat_lt 0 (length d.webs)) (nat_lt 0 (length d.free) || nat_lt 0 (length d.saves)) (lt-ltb 0 (length d.webs) some)
+
 module _ (ss : List Summary) (colours : ℕ) (db : List (List ℕ × Directives)) (i : IsDatabaseOf ss colours db) (n : Graph) (named : IsNamed i.graph n) where
   -- a function of a numbered web is in it
   keeps : (q : ℕ × RawWeb × ℕ) (place : ℕ) (f v : List ℕ) → Has q (numbered 0 i.coloured) → Holds q.1.members place → slice_get i.graph.functions place ≡ Some f → (global_of i.graph q.1).0 ≡ v → KeepsIt db v f
@@ -47,13 +53,14 @@ module _ (ss : List Summary) (colours : ℕ) (db : List (List ℕ × Directives)
       let qs = numbered 0 i.coloured in
       let role : Role = (if has_number q.1.entries place then Entry else Member) in
       let there = web_to i.graph qs place q has member in
+      let own = directives_of i.graph i.roots qs place in
       record {
         web = web_of i.graph q;
         within = record {
           role = role;
           has = record {
-            directives = directives_of i.graph qs place;
-            there = (i.of f (directives_of i.graph qs place)).1 (place, at, refl, longer (web_of i.graph q, role) (webs_of i.graph qs place) there);
+            directives = own;
+            there = (i.of f own).1 (place, at, refl, tells f own (longer (web_of i.graph q, role) (webs_of i.graph qs place) there));
             web = contains_by (web_of i.graph q, role) (webs_of i.graph qs place) there;
           };
         };

@@ -1,16 +1,13 @@
 -- What the machine's run notes of registers at returns is so of its states.
 use Rattle.std.proofs.Common.{◌≡◌, ◌⊎◌, ℕ, zero, suc, ◌+◌, ◌-◌, ◌<◌, ◌≤◌, Bool, true, false, not, if◌then◌else◌, Option, Some, None, List, [], ◌∷◌, ◌++◌, slice_get, refl, sym, ap, subst, ◌∙◌, arith, inl, inr}
-use Rattle.std.specs.Prelude.{Contains}
 use Rattle.std.proofs.lemmas.Option.{slice_get-get_or}
 use Rattle.std.proofs.lemmas.List.FromFn.{length-map-range_with_len, get_or-map-range_with_len}
 use Rattle.pw_files.proofs.Standing.{Has}
 use Rattle.pw_db.specs.Limits.{first_register, last_register, register_count}
 use Rattle.pw_db.specs.declared.database.Directives.{Directives}
-use Rattle.pw_summary.specs.declared.summary.Summary.{Summary}
-use Rattle.pw_colour.specs.Colours.{IsDatabaseOf}
 use Rattle.pw_machine.specs.Core.{Core, register}
 use Rattle.pw_machine.specs.Run.{State, Progress, Running, Stopped, goes_on, run_of}
-use Rattle.pw_run_languages.specs.Traces.{Standing, Event, Returned, Notes, IsMembers, MayChange, member, free, KeepsRegisters, KeepRegisters}
+use Rattle.pw_run_languages.specs.Traces.{Standing, Event, Returned, Notes, MayChange, KeepsRegisters, KeepRegisters}
 use Rattle.pw_run_languages.specs.MachineRun.{Map, Call, Noted, has_returned, globals_in, kept, with_returns, left, function_at, called, arrived, accesses_in, stepped, began, noted, staged, start_state, traced_run}
 
 -- ---- what is noted at an arrival
@@ -203,19 +200,3 @@ kept_over_call d m c input notes f n (suc k) a b at stands goes later at' back n
     (log_at (KeepRegisters d) m c input notes (suc k) b at') back_noted.there in
     same_some (register b.core r) (register a.core r)
     (sym (kept_at b.core r low high) ∙ (keeps r low high stay ∙ kept_at a.core r low high))
-
--- ---- the analyser's directives
-
--- they leave no register free
-none_free : {ss : List Summary} {colours : ℕ} {db : List (List ℕ × Directives)} → IsDatabaseOf ss colours db → (f : List ℕ) (d : Directives) → Contains db (f, d)
-    → (r : ℕ) → Contains d.free r → ⊥
-none_free i f d there r among =
-    let own = (i.of f d).0 there in
-    let nothing : d.free ≡ [] = ap (λ (x : Directives). x.free) own.2 in
-    let h = subst (λ (l : List ℕ). Contains l r) nothing among in
-    absurd (omega (arith, h.1))
-
--- so a register that a function may change is that of a web in which it is a member
-pub members_alone : {ss : List Summary} {colours : ℕ} {db : List (List ℕ × Directives)} → IsDatabaseOf ss colours db → (f : List ℕ) (r : ℕ) → MayChange db f r → IsMembers db f r
-members_alone i f r (member m) = m
-members_alone i f r (free d there among) = absurd (none_free i f d there r among)

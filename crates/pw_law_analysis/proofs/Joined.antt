@@ -32,7 +32,7 @@ use Rattle.pw_law_analysis.specs.ImageTraffic.{IsPlaced}
 use Rattle.pw_law_analysis.specs.OwedLaws.{Serves, AnalysesCompose, AllLawsCompose}
 use Rattle.pw_law_analysis.proofs.Symbols.{symbols_are}
 use Rattle.pw_law_analysis.proofs.ImageTraffic.{of_fewer}
-use Rattle.pw_law_analysis.proofs.ImageRegisters.{kept_over_call, members_alone}
+use Rattle.pw_law_analysis.proofs.ImageRegisters.{kept_over_call}
 
 -- what holds of logs of which another thing holds
 notes : {M : Type 0} → (P Q : List M → Type 0) → ((l : List M) → P l → Q l) → (s : Stage M) → Notes P s → Notes Q s
@@ -103,5 +103,5 @@ joined layers analyses names tells selection link lawful sound covered p q ss co
       registers = λ defined f n m a b call r low high others.
           kept_over_call db (map_of q functions v) (image_start v.memory) input (h.registers defined) f n m a b call.called_after
           (found q functions v i.graph.globals same a.core.front f call.stands_at) call.goes call.later call.returned_after call.back call.first
-          r low high (λ change. others (members_alone i f r change));
+          r low high others;
     }

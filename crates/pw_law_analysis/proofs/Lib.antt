@@ -12,6 +12,7 @@ mod Composition
 mod Symbols
 mod ImageTraffic
 mod ImageRegisters
+mod Savers
 mod Joined
 mod Naming
 mod Covering

@@ -1,5 +1,6 @@
 -- What the analyser's laws give, now that they stand: the same as in pw_law_analysis, without them as premises.
 use Rattle.std.specs.Prelude.{ℕ, ◌≤◌, List}
+use Rattle.pw_db.specs.Limits.{colour_limit}
 use Rattle.pw_db.specs.declared.database.Directives.{Directives}
 use Rattle.pw_summary.specs.declared.summary.Summary.{Summary}
 use Rattle.pw_graph.specs.declared.graph.CallGraph.{CallGraph}
@@ -14,6 +15,8 @@ use Rattle.pw_run_languages.specs.Programs.{AreBytes}
 use Rattle.pw_run_languages.specs.LawfulPrograms.{graph_of}
 use Rattle.pw_run_languages.specs.SelectionLaws.{SelectionKeepsRuns}
 use Rattle.pw_cmean.specs.Worlds.{Program}
+use Rattle.pw_image.specs.declared.image.Image.{Image}
+use Rattle.pw_law_analysis.specs.ImageRegisters.{CallsKeepRegisters, SavedRegistersComeBack}
 use Rattle.pw_law_analysis.specs.SummaryGraphs.{named_graph}
 use Rattle.pw_law_analysis.specs.OwedLaws.{AreSummaries, Serves, IsAnalysed, HoldsOver}
 
@@ -25,7 +28,7 @@ NamedGraphsSayTheSame = (ss : List Summary) (g : CallGraph) → IsGraphOf ss g �
 abbrev pub DatabasesServe : Type 0
 DatabasesServe =
     (q : flows.Program) (ss : List Summary) (colours : ℕ) (db : List (List ℕ × Directives)) →
-    AreSummaries ss → colours ≤ 16 → (i : IsDatabaseOf ss colours db) → SayTheSame (named_graph ss i.graph) (graph_of q) →
+    AreSummaries ss → colours ≤ colour_limit → (i : IsDatabaseOf ss colours db) → SayTheSame (named_graph ss i.graph) (graph_of q) →
     Serves q ss colours db i
 
 -- what holds of a program that was built with this database and with places that serve, from the law of selection
@@ -35,3 +38,9 @@ LayersGiveAll =
     (p : Program) (q : flows.Program) (ss : List Summary) (colours : ℕ) (db : List (List ℕ × Directives)) (functions : List Located) (objects : List Object) (input : List ℕ) →
     IsAnalysed p q ss colours db functions objects → AreBytes input →
     HoldsOver p q ss colours db functions objects input
+
+-- where calls keep registers, what a root saves for its cluster comes back
+abbrev pub RootsKeepRegisters : Type 0
+RootsKeepRegisters =
+    (ss : List Summary) (colours : ℕ) (db : List (List ℕ × Directives)) (v : Image) (input : List ℕ) →
+    AreSummaries ss → colours ≤ colour_limit → IsDatabaseOf ss colours db → CallsKeepRegisters db v input → SavedRegistersComeBack db v input

@@ -1,6 +1,6 @@
 -- The registers that a call keeps, in an image that runs: the return from a function finds in each of them what the call
--- left there, but for the registers of webs in which the function is a member. It is read by the map of the image and by
--- the directives alone.
+-- left there, but for the registers of webs in which the function is a member, and those that it is free to use. It is read
+-- by the map of the image and by the directives alone.
 use Rattle.std.specs.Prelude.{ℕ, ◌≡◌, ◌<◌, ◌≤◌, true, false, Some, List, []}
 use Rattle.pw_db.specs.Limits.{first_register, last_register}
 use Rattle.pw_db.specs.declared.database.Directives.{Directives}
@@ -8,7 +8,8 @@ use Rattle.pw_image.specs.declared.image.Image.{Image}
 use Rattle.pw_machine.specs.Core.{Core, register}
 use Rattle.pw_machine.specs.Start.{image_start}
 use Rattle.pw_machine.specs.Run.{State, Progress, Running, run_of}
-use Rattle.pw_run_languages.specs.Traces.{IsMembers}
+use Rattle.pw_db_sound.specs.Sound.{IsSaver}
+use Rattle.pw_run_languages.specs.Traces.{MayChange}
 use Rattle.pw_run_languages.specs.ImageTrace.{Call, function_at, has_returned, start_state, symbols_of}
 
 -- the image's run on an input, after so many steps
@@ -31,8 +32,14 @@ pub record CallReturns (v : Image) (input : List ℕ) (f : List ℕ) (n m : ℕ)
   pub first : (k : ℕ) (between : State) → n < k → k < m → run_after v input k ≡ Running between → has_returned between.core (call_at f called.core) ≡ false
 
 -- Over each call of a function each register that a callee keeps stays as it was, but that of a web in which the function is
--- a member.
+-- a member, and one that it is free to use.
 abbrev pub CallsKeepRegisters : List (List ℕ × Directives) → Image → List ℕ → Type 0
 CallsKeepRegisters d v input =
     (f : List ℕ) (n m : ℕ) (called returned : State) → CallReturns v input f n m called returned →
-    (r : ℕ) → first_register ≤ r → r ≤ last_register → ¬ IsMembers d f r → register returned.core r ≡ register called.core r
+    (r : ℕ) → first_register ≤ r → r ≤ last_register → ¬ MayChange d f r → register returned.core r ≡ register called.core r
+
+-- so does each register that the function saves for others
+abbrev pub SavedRegistersComeBack : List (List ℕ × Directives) → Image → List ℕ → Type 0
+SavedRegistersComeBack d v input =
+    (f : List ℕ) (n m : ℕ) (called returned : State) → CallReturns v input f n m called returned →
+    (r : ℕ) → IsSaver d f r → register returned.core r ≡ register called.core r

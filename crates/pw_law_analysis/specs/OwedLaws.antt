@@ -4,6 +4,7 @@ use Rattle.std.specs.List.{AllByRecursion}
 use Rattle.pw_value.specs.Limits.{stack_least}
 use Rattle.pw_value.specs.declared.value.Kind.{Kind}
 use Rattle.pw_db.specs.declared.database.Directives.{Directives}
+use Rattle.pw_db.specs.Limits.{colour_limit, register_count}
 use Rattle.pw_db.specs.Database.{IsDatabase}
 use Rattle.pw_summary.specs.declared.summary.Summary.{Summary}
 use Rattle.pw_summary.specs.Summary.{IsSummary}
@@ -40,16 +41,16 @@ pub record AreSummaries (ss : List Summary) : Type 0 where
   pub each : AllByRecursion IsSummary ss
   pub linked : AreLinked ss
 
--- the database is lawful, as a callee keeps sixteen registers
+-- the database is lawful, for no more registers than a callee keeps
 abbrev pub DatabaseIsLawful : Type 0
 DatabaseIsLawful =
-    (ss : List Summary) (colours : ℕ) (db : List (List ℕ × Directives)) → AreSummaries ss → colours ≤ 16 →
+    (ss : List Summary) (colours : ℕ) (db : List (List ℕ × Directives)) → AreSummaries ss → colours ≤ register_count →
     IsDatabaseOf ss colours db → IsDatabase db
 
--- it is sound for the graph of its summaries
+-- it is sound for the graph of its summaries, for no more registers than webs may have
 abbrev pub DatabaseIsSound : Type 0
 DatabaseIsSound =
-    (ss : List Summary) (colours : ℕ) (db : List (List ℕ × Directives)) → AreSummaries ss →
+    (ss : List Summary) (colours : ℕ) (db : List (List ℕ × Directives)) → AreSummaries ss → colours ≤ colour_limit →
     (i : IsDatabaseOf ss colours db) → Sound (named_graph ss i.graph) db
 
 -- every function that refers to a global all of whose webs have a register is in one of these
@@ -74,7 +75,7 @@ abbrev pub AnalysesCompose : Type 0
 AnalysesCompose =
     DatabaseIsLawful → DatabaseIsSound → ColouredIsCovered →
     (q : flows.Program) (ss : List Summary) (colours : ℕ) (db : List (List ℕ × Directives)) →
-    AreSummaries ss → colours ≤ 16 → (i : IsDatabaseOf ss colours db) → SayTheSame (named_graph ss i.graph) (graph_of q) →
+    AreSummaries ss → colours ≤ colour_limit → (i : IsDatabaseOf ss colours db) → SayTheSame (named_graph ss i.graph) (graph_of q) →
     Serves q ss colours db i
 
 -- ---- with the layers between C and words
@@ -87,7 +88,7 @@ pub record IsAnalysed (p : Program) (q : flows.Program) (ss : List Summary) (col
   pub names : AreNamesApart q
   pub enough : stack_least ≤ q.stack
   pub linked : AreSummaries ss
-  pub few : colours ≤ 16
+  pub few : colours ≤ colour_limit
   pub database : IsDatabaseOf ss colours db
   pub alike : SayTheSame (named_graph ss database.graph) (graph_of q)
   pub serve : AllServe (directed_functions q db) functions

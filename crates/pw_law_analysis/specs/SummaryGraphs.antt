@@ -1,5 +1,5 @@
 -- The graph of summaries, which goes by places, as the rules of directives see it, by names.
-use Rattle.std.specs.Prelude.{ℕ, zero, suc, Bool, nat_lt, if◌then◌else◌, List, [], ◌∷◌, map, length, slice_index_or}
+use Rattle.std.specs.Prelude.{ℕ, zero, suc, Bool, ◌||◌, nat_lt, if◌then◌else◌, List, [], ◌∷◌, map, length, slice_index_or}
 use Rattle.std.specs.List.{flat_map, list_any}
 use Rattle.std.specs.Str.{bytes_eq}
 use Rattle.pw_value.specs.declared.value.Kind.TheVariants.{W32}
@@ -20,6 +20,10 @@ global_at g n = (slice_index_or g.globals n ([], W32)).0
 abbrev pub is_among : List (List ℕ × List ℕ) → List ℕ → Bool
 is_among entries name = list_any (λ e. bytes_eq e.0 name) entries
 
+-- the summary's module takes the address of what has the name
+abbrev pub is_addressed_in : Summary → List ℕ → Bool
+is_addressed_in s name = is_among s.taken name || list_any (λ e. bytes_eq e name) s.escaped
+
 abbrev pub read_in : CallGraph → ℕ × ℕ × ℕ → List (List ℕ)
 read_in g r = if nat_lt 0 r.1 then global_at g r.0 ∷ [] else []
 
@@ -34,7 +38,7 @@ node_at ss g n = record {
   reads = flat_map (read_in g) (slice_index_or g.refs n []);
   writes = flat_map (written_in g) (slice_index_or g.refs n []);
   defined = list_any (λ s. is_among s.functions (name_at g n)) ss;
-  taken = list_any (λ s. is_among s.taken (name_at g n)) ss;
+  taken = list_any (λ s. is_addressed_in s (name_at g n)) ss;
 }
 
 -- so many places from one on

@@ -2,7 +2,7 @@
 //! words.
 
 ghost use Rattle.pw_law_analysis.specs.OwedLaws.{DatabaseIsLawful, DatabaseIsSound, ColouredIsCovered};
-ghost use Rattle.pw_law_analysis.specs.AnalyserLaws.{NamedGraphsSayTheSame, DatabasesServe, LayersGiveAll};
+ghost use Rattle.pw_law_analysis.specs.AnalyserLaws.{NamedGraphsSayTheSame, DatabasesServe, LayersGiveAll, RootsKeepRegisters};
 
 use crate::owed::{all_laws_compose, analyses_compose};
 use pw_colour::laws;
@@ -16,14 +16,14 @@ pub fn named_graphs_say_the_same()
     ensures { NamedGraphsSayTheSame }
 {}
 
-/// The database of summaries that make a program is lawful, for as many registers as a callee keeps.
+/// The database of summaries that make a program is lawful, for no more registers than a callee keeps.
 pub fn databases_are_lawful()
     ensures { DatabaseIsLawful }
 {
     laws::databases_are_lawful();
 }
 
-/// It is sound for the graph of its summaries by names, for however many registers.
+/// It is sound for the graph of its summaries by names, for no more registers than webs may have.
 pub fn databases_are_sound_by_name()
     ensures { DatabaseIsSound }
 {
@@ -48,6 +48,15 @@ pub fn databases_serve()
     databases_are_lawful();
     databases_are_sound_by_name();
     coloured_globals_are_covered();
+}
+
+/// Where calls keep registers by the database, each function that saves registers for its cluster has in them at its return what
+/// it had at its call.
+pub fn roots_keep_registers()
+    ensures { RootsKeepRegisters }
+{
+    databases_are_lawful();
+    databases_are_sound_by_name();
 }
 
 /// From the law of selection follows of each program that was built with the database that the analyser makes of it, and with

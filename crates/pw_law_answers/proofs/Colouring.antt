@@ -24,6 +24,7 @@ use Rattle.pw_graph.proofs.Lists.{at_has}
 use Rattle.pw_graph.proofs.Members.{held_within}
 use Rattle.pw_webs.specs.declared.web.RawWeb.{RawWeb}
 use Rattle.pw_webs.specs.Webs.{AreWebs, StandsBefore, Interfere}
+use Rattle.pw_clusters.specs.Clusters.{AreRoots}
 use Rattle.pw_colour.specs.Colours.{ComesFirst, IsFree, IsColour, AreColoured, numbered, IsDatabaseOf}
 use Rattle.pw_colour.specs.Giving.{paired, entries_from}
 use Rattle.pw_colour.proofs.Ranks.{two_at}
@@ -184,22 +185,27 @@ pairs_few (w ∷ ws) (r ∷ rs) = let rest = pairs_few ws rs in omega (arith, re
 global_within : (g : CallGraph) (ws us : List RawWeb) (rs : List (Option ℕ)) → AreWebs g ws → ((u : RawWeb) → Has u us → Has u ws) → (w : RawWeb) (o : Option ℕ) → Has (w, o) (paired us rs) → w.global < length g.globals
 global_within g ws us rs webs over w o h = let p = at_has ws w (over w (has_paired us rs w o h)) in (webs.each p.0 w p.1).global
 
-database_with : (ss : List Summary) (colours : ℕ) (g : CallGraph) (ws us : List RawWeb) (rs : List (Option ℕ)) → IsGraphOf ss g → IsGraph g → AreWebs g ws → length ws ≤ length g.globals * length g.functions
+-- a call graph of summaries has an assignment of roots
+abbrev pub RootsAreThere : Type 0
+RootsAreThere = (ss : List Summary) (g : CallGraph) → IsGraphOf ss g → (roots : List ℕ) × AreRoots ss g roots
+
+database_with : (ss : List Summary) (colours : ℕ) (g : CallGraph) (roots : List ℕ) (ws us : List RawWeb) (rs : List (Option ℕ)) → IsGraphOf ss g → IsGraph g → AreRoots ss g roots → AreWebs g ws → length ws ≤ length g.globals * length g.functions
     → IsPermutation ws us → EachTwo ComesFirst us → ((u : RawWeb) → Has u us → Has u ws) → length rs ≡ length us → AreColoured colours [] (paired us rs)
     → (db : List (List ℕ × Directives)) × IsDatabaseOf ss colours db × ((f : List ℕ × Directives) → Has f db → IsSmall g f)
-database_with ss colours g ws us rs of graph webs count moved order over long coloured =
-    let db = entries_from g (numbered 0 (paired us rs)) 0 g.functions in
+database_with ss colours g roots ws us rs of graph are_roots webs count moved order over long coloured =
+    let db = entries_from g roots (numbered 0 (paired us rs)) 0 g.functions in
     let few = few_webs (length ws) (length g.globals) (length g.functions) count graph.globals graph.functions in
     let same : length us ≡ length ws = length_permutation ws us moved in
     let fewer = pairs_few us rs in (
       db,
-      is_database ss g colours ws us rs (numbered 0 (paired us rs)) db of webs moved order long coloured refl refl,
-      entries_small g (paired us rs) (omega (arith, few, same, fewer)) (global_within g ws us rs webs over),
+      is_database ss g colours ws us rs (numbered 0 (paired us rs)) db roots of are_roots webs moved order long coloured refl refl,
+      entries_small g roots (paired us rs) (omega (arith, few, same, fewer)) (global_within g ws us rs webs over),
     )
 
-pub database_of_graph : (ss : List Summary) (colours : ℕ) (g : CallGraph) → IsGraphOf ss g → IsGraph g → (db : List (List ℕ × Directives)) × IsDatabaseOf ss colours db × ((f : List ℕ × Directives) → Has f db → IsSmall g f)
-database_of_graph ss colours g of graph =
+pub database_of_graph : RootsAreThere → (ss : List Summary) (colours : ℕ) (g : CallGraph) → IsGraphOf ss g → IsGraph g → (db : List (List ℕ × Directives)) × IsDatabaseOf ss colours db × ((f : List ℕ × Directives) → Has f db → IsSmall g f)
+database_of_graph there ss colours g of graph =
+    let roots = there ss g of in
     let ws = webs_exist g graph in
     let us = ranked ws.0 (two_at StandsBefore ws.0 ws.1.order) in
     let rs = registers_exist colours [] us.0 in
-    database_with ss colours g ws.0 us.0 rs.0 of graph ws.1 ws.2 us.1 us.2 us.3 rs.1 rs.2
+    database_with ss colours g roots.0 ws.0 us.0 rs.0 of graph roots.1 ws.1 ws.2 us.1 us.2 us.3 rs.1 rs.2

@@ -16,7 +16,7 @@ use Rattle.pw_link_rules.specs.Linking.{library_declarations}
 use Rattle.pw_graph.specs.declared.graph.CallGraph.{CallGraph}
 use Rattle.pw_graph.specs.CallGraph.{IsGraph}
 use Rattle.pw_graph.specs.Program.{AreLinked, IsEligible, IsGraphOf, functions_of}
-use Rattle.pw_graph.specs.Making.{all_homes, all_taken, all_escaped, all_eligible, targets_from, callees, IsCallRow, ref_row}
+use Rattle.pw_graph.specs.Making.{all_homes, all_taken, all_escaped, all_eligible, targets_from, callees, IsCallRow, ref_row, need_of}
 use Rattle.pw_graph.proofs.Counts.{few_homes, few_scalars}
 use Rattle.pw_graph.proofs.Once.{homes_apart, globals_apart}
 use Rattle.pw_graph.proofs.IsGraph.{Entry, functions_forth, eligible_forth}
@@ -113,7 +113,7 @@ module _ (ss : List Summary) (lawful : All IsSummary ss) (linked : AreLinked ss)
   graph_of H names taken escaped G globals rows homes short of_names of_taken of_escaped scalars short_g of_globals are_rows =
       let few = few_homes ss linked in
       let few_g = few_scalars taken escaped ss linked in (
-        record { functions = names; globals = G; calls = rows; refs = map (λ h. ref_row globals h.2) H },
+        record { functions = names; globals = G; calls = rows; refs = map (λ h. ref_row globals h.2) H; needs = map (λ h. need_of h.2) H },
         is_graph ss lawful H names taken escaped G globals (homes.rising, homes.of) of_names of_taken of_escaped (scalars.rising, scalars.of) of_globals rows are_rows,
         well_made ss lawful H names taken escaped G globals (homes.rising, homes.of) of_names of_taken of_escaped (scalars.rising, scalars.of) of_globals rows are_rows (omega (arith, few, short)) (omega (arith, few_g, short_g)),
       )

@@ -1,5 +1,5 @@
 -- Summaries that make a program have a database, and each lawful flow graph that a file can hold has an object under it.
-use Rattle.std.proofs.Common.{◌≡◌, ◌⊎◌, ℕ, ◌^◌, ◌<◌, ◌≤◌, List, [], ◌∷◌, ◌++◌, length, map, refl, ap, subst, arith, inl, inr}
+use Rattle.std.proofs.Common.{◌≡◌, ◌⊎◌, ℕ, ◌^◌, ◌<◌, ◌≤◌, List, [], ◌∷◌, ◌++◌, length, map, All, refl, ap, subst, arith, inl, inr}
 use Rattle.std.specs.List.{AllByRecursion}
 use Rattle.std.proofs.lemmas.List.Elements.{All-from_recursion}
 use Rattle.pw_value.specs.Names.{IsNameLength}
@@ -27,7 +27,7 @@ use Rattle.pw_law_answers.specs.Held.{HasFile, HasNames}
 use Rattle.pw_law_answers.proofs.Ordering.{ordered, ordered_names}
 use Rattle.pw_law_answers.proofs.Summaries.{one_item}
 use Rattle.pw_law_answers.proofs.Graphs.{graph_exists, graph_named}
-use Rattle.pw_law_answers.proofs.Colouring.{database_of_graph}
+use Rattle.pw_law_answers.proofs.Colouring.{RootsAreThere, database_of_graph}
 use Rattle.pw_law_answers.proofs.Payloads.{IsSmall, payload_exists}
 
 -- functions by name, each with its directives
@@ -44,15 +44,15 @@ record Analysed (ss : List Summary) (colours : ℕ) : Type 0 where
   named : (n : List ℕ) → Has n (graph.functions ++ map (λ v. v.0) graph.globals) → IsNameLength (length n)
   small : (f : List ℕ × Directives) → Has f db → IsSmall graph f
 
-analysed : (ss : List Summary) (colours : ℕ) → AllByRecursion IsSummary ss → AllByRecursion HasNames ss → AreLinked ss → Analysed ss colours
-analysed ss colours lawful names linked =
+analysed : RootsAreThere → (ss : List Summary) (colours : ℕ) → AllByRecursion IsSummary ss → AllByRecursion HasNames ss → AreLinked ss → Analysed ss colours
+analysed roots ss colours lawful names linked =
     let laws = All-from_recursion IsSummary ss lawful in
     let g = graph_exists ss laws linked names in
-    let d = database_of_graph ss colours g.0 g.1 g.2 in
+    let d = database_of_graph roots ss colours g.0 g.1 g.2 in
     record { db = d.0; is = d.1; graph = g.0; is_graph = g.2; named = graph_named ss laws linked names g.0 g.1; small = d.2 }
 
-pub database_exists : (ss : List Summary) (colours : ℕ) → AllByRecursion IsSummary ss → AllByRecursion HasNames ss → AreLinked ss → (db : DirectivesList) × IsDatabaseOf ss colours db
-database_exists ss colours lawful names linked = let a = analysed ss colours lawful names linked in (a.db, a.is)
+pub database_exists : RootsAreThere → (ss : List Summary) (colours : ℕ) → AllByRecursion IsSummary ss → AllByRecursion HasNames ss → AreLinked ss → (db : DirectivesList) × IsDatabaseOf ss colours db
+database_exists roots ss colours lawful names linked = let a = analysed roots ss colours lawful names linked in (a.db, a.is)
 
 -- ---- the directives of a module
 
@@ -128,12 +128,13 @@ object_under ss colours a is flow valid file =
 few_colours : (colours : ℕ) → colours ≤ colour_limit → colours ≤ register_count
 few_colours colours few = omega (arith, few)
 
-module _ (lawful_databases : (ss : List Summary) (colours : ℕ) (db : DirectivesList) → colours ≤ register_count → IsDatabaseOf ss colours db → IsDatabase db)
+module _ (roots : RootsAreThere)
+    (lawful_databases : (ss : List Summary) (colours : ℕ) (db : DirectivesList) → colours ≤ register_count → All IsSummary ss → IsDatabaseOf ss colours db → IsDatabase db)
     (one_database : (ss : List Summary) (colours : ℕ) (a b : DirectivesList) → IsDatabaseOf ss colours a → IsDatabaseOf ss colours b → a ≡ b) where
   pub object_exists_under : (ss : List Summary) (colours : ℕ) (db : DirectivesList) → colours ≤ colour_limit → AllByRecursion IsSummary ss → AllByRecursion HasNames ss → AreLinked ss → IsDatabaseOf ss colours db
       → (flow : FlowModule) → IsValid flow → HasFile flow → HasObject db flow
   object_exists_under ss colours db few lawful names linked is flow valid file =
-      let a = analysed ss colours lawful names linked in
+      let a = analysed roots ss colours lawful names linked in
       let same : a.db ≡ db = one_database ss colours a.db db a.is is in
       subst (λ (d : DirectivesList). HasObject d flow) same
-      (object_under ss colours a (lawful_databases ss colours a.db (few_colours colours few) a.is) flow valid file)
+      (object_under ss colours a (lawful_databases ss colours a.db (few_colours colours few) (All-from_recursion IsSummary ss lawful) a.is) flow valid file)

@@ -1,6 +1,6 @@
 -- The directives of a module in the database of its program have a payload.
 use Rattle.std.proofs.Common.{◌≡◌, ◌⊎◌, ℕ, zero, suc, ◌+◌, ◌^◌, ◌<◌, ◌≤◌, Bool, true, false, List, [], ◌∷◌, ◌++◌, length, map, refl, sym, ap, subst, ◌∙◌, arith, inl, inr, length-append}
-use Rattle.std.specs.Prelude.{Contains, Option, Some, None, slice_index_or, nat_lt, cond, if◌then◌else◌}
+use Rattle.std.specs.Prelude.{Contains, Option, Some, None, slice_index_or, cond, if◌then◌else◌}
 use Rattle.std.specs.List.{flat_map, filter}
 use Rattle.std.proofs.lemmas.List.{length-map}
 use Rattle.std.proofs.lemmas.List.Concat.{flat_map-cons}
@@ -47,16 +47,16 @@ in_entry true x d f (inr h) = absurd h
 in_entry false x d f h = absurd h
 
 -- where the directives of a function come from
-record Source (g : CallGraph) (ws : List (ℕ × RawWeb × ℕ)) (fs : List (List ℕ)) (f : List ℕ × Directives) : Type 0 where
+record Source (g : CallGraph) (roots : List ℕ) (ws : List (ℕ × RawWeb × ℕ)) (fs : List (List ℕ)) (f : List ℕ × Directives) : Type 0 where
   place : ℕ
   name : Has f.0 fs
-  is : directives_of g ws place ≡ f.1
+  is : directives_of g roots ws place ≡ f.1
 
-source_of : (g : CallGraph) (ws : List (ℕ × RawWeb × ℕ)) (n : ℕ) (fs : List (List ℕ)) (f : List ℕ × Directives) → Has f (entries_from g ws n fs) → Source g ws fs f
-source_of g ws n [] f h = absurd h
-source_of g ws n (x ∷ fs) f h = elim (has_split f (entry_of g ws n x) (entries_from g ws (suc n) fs) h) [
-  | inl k ↦ let e = in_entry (nat_lt 0 (length (webs_of g ws n))) x (directives_of g ws n) f k in record { place = n; name = inl e.0; is = e.1 }
-  | inr k ↦ let s = source_of g ws (suc n) fs f k in record { place = s.place; name = inr s.name; is = s.is }
+source_of : (g : CallGraph) (roots : List ℕ) (ws : List (ℕ × RawWeb × ℕ)) (n : ℕ) (fs : List (List ℕ)) (f : List ℕ × Directives) → Has f (entries_from g roots ws n fs) → Source g roots ws fs f
+source_of g roots ws n [] f h = absurd h
+source_of g roots ws n (x ∷ fs) f h = elim (has_split f (entry_of g roots ws n x) (entries_from g roots ws (suc n) fs) h) [
+  | inl k ↦ let e = in_entry (says_something (x, directives_of g roots ws n)) x (directives_of g roots ws n) f k in record { place = n; name = inl e.0; is = e.1 }
+  | inr k ↦ let s = source_of g roots ws (suc n) fs f k in record { place = s.place; name = inr s.name; is = s.is }
 ]
 
 one_at_most : {X : Type 0} (b : Bool) (x : X) → length (if b then (x ∷ []) else []) ≤ 1
@@ -98,7 +98,7 @@ stands_at [] k d lt = absurd (omega (arith, lt))
 stands_at (x ∷ xs) zero d lt = inl refl
 stands_at (x ∷ xs) (suc k) d lt = inr (stands_at xs k d (omega (arith, lt)))
 
-module _ (g : CallGraph) (ps : List (RawWeb × Option ℕ)) (few : length ps < 2 ^ 32) (raw : (w : RawWeb) (o : Option ℕ) → Has (w, o) ps → w.global < length g.globals) where
+module _ (g : CallGraph) (roots : List ℕ) (ps : List (RawWeb × Option ℕ)) (few : length ps < 2 ^ 32) (raw : (w : RawWeb) (o : Option ℕ) → Has (w, o) ps → w.global < length g.globals) where
   abbrev all : List (ℕ × RawWeb × ℕ)
   all = numbered 0 ps
 
@@ -110,14 +110,14 @@ module _ (g : CallGraph) (ps : List (RawWeb × Option ℕ)) (few : length ps < 2
     there : Has number all
     is : web_of g number ≡ w
 
-  from : (place : ℕ) (w : Web) → Has w (webs_in (directives_of g all place)) → From w
+  from : (place : ℕ) (w : Web) → Has w (webs_in (directives_of g roots all place)) → From w
   from place w h =
       let p = has_map_back (λ (x : Web × Role). x.0) w (webs_of g all place) h in
       let q = has_flat_back (part place) p.0 all p.1 in
       let e = in_if (has_number q.0.1.members place) _ p.0 q.2 in
       record { number = q.0; there = q.1; is = ap (λ (x : Web × Role). x.0) e ∙ p.2 }
 
-  small_at : (place : ℕ) (name : List ℕ) → Has name g.functions → IsSmall g (name, directives_of g all place)
+  small_at : (place : ℕ) (name : List ℕ) → Has name g.functions → IsSmall g (name, directives_of g roots all place)
   small_at place name there = record {
     function = there;
     few = (let le = few_parts (part place) all (λ w. one_at_most (has_number w.1.members place) _) in let n = few_numbered 0 ps in omega (arith, le, n, few));
@@ -134,9 +134,9 @@ module _ (g : CallGraph) (ps : List (RawWeb × Option ℕ)) (few : length ps < 2
         subst (λ (n : List ℕ). Has n (map (λ v. v.0) g.globals)) (ap (λ (v : Web). v.global) x.is) at;
   }
 
-  pub entries_small : (f : List ℕ × Directives) → Has f (entries_from g all 0 g.functions) → IsSmall g f
+  pub entries_small : (f : List ℕ × Directives) → Has f (entries_from g roots all 0 g.functions) → IsSmall g f
   entries_small f h =
-      let s = source_of g all 0 g.functions f h in
+      let s = source_of g roots all 0 g.functions f h in
       subst (λ (d : Directives). IsSmall g (f.0, d)) s.is (small_at s.place f.0 s.name)
 
 -- ---- lists of names without repeats

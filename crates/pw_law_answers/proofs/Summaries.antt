@@ -6,8 +6,11 @@ use Rattle.pw_value.specs.declared.value.Kind.{Kind}
 use Rattle.pw_flow.specs.declared.flow.FlowFn.{FlowFn}
 use Rattle.pw_flow.specs.declared.flow.FlowModule.{FlowModule}
 use Rattle.pw_flow.specs.FlowGraph.{named_in, global_names, function_names}
+use Rattle.pw_flow.specs.Outline.{outline_of}
 use Rattle.pw_flow.specs.ValidFlow.{AreDistinct, IsValid}
 use Rattle.pw_flow.proofs.Once.{distinct_left, distinct_right}
+use Rattle.pw_live_needs.specs.Needs.{need}
+use Rattle.pw_summary.specs.Summary.{summary_version}
 use Rattle.pw_summary.specs.declared.summary.Uses.{Uses}
 use Rattle.pw_summary.specs.declared.summary.Summary.{Summary}
 use Rattle.pw_files.proofs.Standing.{Has, contains_by, has_by, has_each, has_map, has_map_back, has_flat_back}
@@ -38,7 +41,7 @@ uses_exist f =
     let calls = ordered_names (in_function called f) in
     let shapes = ordered_names (in_function called_shape f) in
     let refs = ordered (λ (r : List ℕ × ℕ × ℕ). r.0) (map (reference f) (in_function referenced f)) (one_reference f (in_function referenced f)) in
-    (record { calls = calls.0; shapes = shapes.0; refs = refs.0 }, record { calls = calls.1; shapes = shapes.1; refs = refs.1 })
+    (record { calls = calls.0; shapes = shapes.0; refs = refs.0; need = need (outline_of f) }, record { calls = calls.1; shapes = shapes.1; refs = refs.1; need = refl })
 
 each_uses : (fs : List FlowFn) (entries : List (List ℕ × List ℕ)) → ((e : List ℕ × List ℕ) → Has e entries → Has e (map function_entry fs)) → (us : List Uses) × AreUsesOf fs entries us
 each_uses fs [] there = ([], tt)
@@ -85,6 +88,7 @@ summary_exists m valid =
     let escaped = ordered_names (escaped_of (function_entries m) m.declared names) in
     let uses = each_uses m.functions functions.0 (λ e h. has_by e (function_entries m) ((functions.1.of e).0 (contains_by e functions.0 h))) in (
       record {
+        version = summary_version;
         «module» = m.name;
         globals = globals.0;
         functions = functions.0;
@@ -95,6 +99,7 @@ summary_exists m valid =
         uses = uses.0;
       },
       record {
+        version = refl;
         of_module = refl;
         globals = globals.1;
         functions = functions.1;

@@ -23,6 +23,7 @@ ghost use Rattle.pw_object.specs.declared.object.Object.{Object};
 ghost use Rattle.pw_phase_two.specs.Phases.{AreDirectivesIn, IsObjectOf};
 ghost use Rattle.pw_law_answers.specs.Held.{HasFile, HasNames};
 
+use pw_clusters::laws::roots_are_there;
 use pw_colour::laws::{databases_are_lawful, databases_are_one};
 
 /// Each lawful flow graph has a summary, which keeps the rules of summaries; where a file can hold the flow graph, the summary's names
@@ -46,7 +47,9 @@ pub fn graphs_have_webs()
 pub fn programs_have_databases()
     ensures { (ss : List Summary) (colours : ℕ) → AllByRecursion IsSummary ss → AllByRecursion HasNames ss → AreLinked ss →
         (db : List (List ℕ × Directives)) × IsDatabaseOf ss colours db }
-{}
+{
+    roots_are_there();
+}
 
 /// Under the database of such a program each lawful flow graph that a file can hold has an object, with its directives.
 pub fn programs_have_objects()
@@ -55,4 +58,5 @@ pub fn programs_have_objects()
 {
     databases_are_lawful();
     databases_are_one();
+    roots_are_there();
 }

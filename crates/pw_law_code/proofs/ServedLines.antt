@@ -2,11 +2,13 @@
 use Rattle.std.proofs.Common.{◌≡◌, ℕ, zero, suc, ◌+◌, ◌*◌, ◌^◌, ◌≤◌, ◌<◌, List, [], ◌∷◌, map, length, get_or, refl, sym, ap, subst, ◌∙◌, arith}
 use Rattle.std.specs.Prelude.{Contains}
 use Rattle.std.specs.List.{AllByRecursion}
+use Rattle.pw_files.proofs.Standing.{has_by}
 use Rattle.pw_db.specs.Limits.{first_register, last_register, register_count}
 use Rattle.pw_db.specs.Database.{EachTwo, IsDirectives, IsWeb}
 use Rattle.pw_db.specs.declared.database.Web.{Web}
 use Rattle.pw_db.specs.declared.database.Role.{Role}
 use Rattle.pw_db.specs.declared.database.Role.TheVariants.{Entry}
+use Rattle.pw_db.proofs.Keeping.{kept_from}
 use Rattle.pw_webflow.specs.declared.web.WebFn.{WebFn}
 use Rattle.pw_webflow.specs.ValidWebs.{IsWebFn}
 use Rattle.pw_webflow.specs.Direction.{directed}
@@ -39,7 +41,7 @@ web_is (x ∷ rest) (suc k) w all lt e = web_is rest k w all.1 (omega (arith, lt
 
 register_between : (f : WebFn) (l : Located) → IsWebFn f → Serves f l → (r : ℕ) → Changes f l r → (first_register ≤ r) × (r ≤ last_register)
 register_between f l is serves r (places c small apart) = let h = (serves.registers r c).0.low in (h, small)
-register_between f l is serves r (saves c) = absurd (let none : c.0 < 0 = c.1 in omega (arith, none))
+register_between f l is serves r (saves c) = kept_from first_register f.directives.saves r is.directives.saves (has_by r f.directives.saves c)
 register_between f l is serves r (enters w) =
     let web = web_is f.directives.webs w.there.0 (w.web, Entry) is.directives.each w.there.1 w.there.2 in
     (omega (arith, web.low, w.is), omega (arith, web.high, w.is))

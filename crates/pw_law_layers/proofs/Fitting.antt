@@ -6,12 +6,14 @@ use Rattle.std.proofs.lemmas.List.{map-append}
 use Rattle.std.proofs.lemmas.List.Concat.{flat_map-cons}
 use Rattle.std.proofs.lemmas.List.Elements.{All-contains, All-from_recursion, Contains-append_right}
 use Rattle.pw_value.specs.declared.value.Kind.{Kind}
+use Rattle.pw_files.proofs.Standing.{has_by}
 use Rattle.pw_db.specs.declared.database.Web.{Web}
 use Rattle.pw_db.specs.declared.database.Role.{Role}
 use Rattle.pw_db.specs.declared.database.Role.TheVariants.{Entry}
 use Rattle.pw_db.specs.declared.database.Directives.{Directives}
 use Rattle.pw_db.specs.Database.{EachTwo, IsWeb, IsDirectives}
 use Rattle.pw_db.specs.Limits.{first_register, last_register, register_count}
+use Rattle.pw_db.proofs.Keeping.{kept_from}
 use Rattle.pw_flow.specs.declared.flow.Op.{Op}
 use Rattle.pw_flow.specs.declared.flow.Op.TheVariants.{LoadG, StoreG}
 use Rattle.pw_flow.specs.declared.flow.Block.{Block}
@@ -51,7 +53,7 @@ saved_within : (f : FlowFn) (d : Directives) (l : Located) → IsDirectives d �
     → (r : ℕ) → Changes (directed f d) l r → (first_register ≤ r) × (r ≤ last_register)
 unfolding directed
 saved_within f d l lawful s r (places c high unfree) = (((s.registers r c).0).low, high)
-saved_within f d l lawful s r (saves c) = absurd (let none : c.0 < 0 = c.1 in omega (arith, none))
+saved_within f d l lawful s r (saves c) = kept_from first_register d.saves r lawful.saves (has_by r d.saves c)
 saved_within f d l lawful s r (enters has) =
     let web : IsWeb has.web = All-contains IsWeb (map (λ w. w.0) d.webs) has.web
     (All-from_recursion IsWeb (map (λ w. w.0) d.webs) lawful.each)

@@ -67,7 +67,7 @@ saver_saved p d functions a r base k s =
     placed_saves p d functions a r k (saves there)
 
 -- a register that a function is free to use it does not save for others
-not_saver : (d : List (List ℕ × Directives)) → IsDatabase d → (f : List ℕ) (r : ℕ) (dirs : Directives) → Contains d (f, dirs) → Contains dirs.free r → IsSaver d f r → ⊥
+pub not_saver : (d : List (List ℕ × Directives)) → IsDatabase d → (f : List ℕ) (r : ℕ) (dirs : Directives) → Contains d (f, dirs) → Contains dirs.free r → IsSaver d f r → ⊥
 not_saver d base f r dirs there among s =
     let same : s.directives ≡ dirs = sym (one_directives d base f s.directives s.there) ∙ one_directives d base f dirs there in
     let lawful : IsDirectives dirs = has_each (λ (x : List ℕ × Directives). IsDirectives x.1) d (f, dirs) base.directives (has_by (f, dirs) d there) in

@@ -4,6 +4,7 @@ mod Noted
 mod Composition
 mod Frames
 mod Guarding
+mod Holding
 pub mod Starts
 pub mod Fitting
 pub mod MapFrames

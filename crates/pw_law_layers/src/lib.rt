@@ -1,7 +1,7 @@
 //! The main law from C to words, without code: the laws of all layers give the agreement of source and machine.
 #![tactic(auto)]
 
-ghost use Rattle.pw_law_layers.specs.Guarding.{SoundDirectivesGuard};
+ghost use Rattle.pw_law_layers.specs.Guarding.{CallersHoldNothingThere, SoundDirectivesGuard};
 ghost use Rattle.pw_law_layers.specs.Rooms.{PlacesFit, MapHasFrames};
 ghost use Rattle.pw_law_layers.specs.Whole.{AllFramesFit, LayersCompose, LayersHold, LoweredHaveRooms, LoweredImplements, RefinementGoesThrough};
 
@@ -47,6 +47,14 @@ pub fn lowering_implements()
 /// too, or saves.
 pub fn sound_directives_guard()
     ensures { SoundDirectivesGuard }
+{
+    callers_leave_free_registers_alone();
+}
+
+/// Under sound directives whoever calls a function that is free to use a register holds nothing in it over the call: none of its
+/// webs has the register, and no temporary that it needs behind the call.
+pub fn callers_hold_nothing_there()
+    ensures { CallersHoldNothingThere }
 {
     callers_leave_free_registers_alone();
 }

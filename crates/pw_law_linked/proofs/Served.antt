@@ -3,11 +3,13 @@ use Rattle.std.specs.Prelude.{ℕ, zero, suc, ◌≡◌, ◌<◌, ◌≤◌, ◌
 use Rattle.std.specs.List.{AllByRecursion}
 use Rattle.std.proofs.Common.{arith, subst, sym, refl, get_or}
 use Rattle.std.proofs.lemmas.Bool.{ne_eqb}
+use Rattle.pw_files.proofs.Standing.{has_by}
 use Rattle.pw_db.specs.Limits.{first_register, last_register}
 use Rattle.pw_db.specs.Database.{IsWeb}
 use Rattle.pw_db.specs.declared.database.Web.{Web}
 use Rattle.pw_db.specs.declared.database.Role.{Role}
 use Rattle.pw_db.specs.declared.database.Role.TheVariants.{Entry}
+use Rattle.pw_db.proofs.Keeping.{kept_from}
 use Rattle.pw_webflow.specs.declared.web.WebFn.{WebFn}
 use Rattle.pw_webflow.specs.declared.web.WebOp.{WebOp}
 use Rattle.pw_webflow.specs.declared.web.WebOp.TheVariants.{Flow, Read, Write}
@@ -70,7 +72,7 @@ all_blocks f webs (b ∷ rest) h = (all_ops f webs b.ops h.0.ops, all_blocks f w
 
 pub changed_between : (f : WebFn) (l : Located) → IsWebFn f → Serves f l → (r : ℕ) → Changes f l r → (first_register ≤ r) × (r ≤ last_register)
 changed_between f l is serves r (places c small free) = let low = (serves.registers r c).0.low in (low, small)
-changed_between f l is serves r (saves c) = absurd (let none : c.0 < 0 = c.1 in omega (arith, none))
+changed_between f l is serves r (saves c) = kept_from first_register f.directives.saves r is.directives.saves (has_by r f.directives.saves c)
 changed_between f l is serves r (enters w) =
     let web = web_low f.directives.webs w.there.0 (w.web, Entry) is.directives.each w.there.1 w.there.2 in
     let low = web.low in

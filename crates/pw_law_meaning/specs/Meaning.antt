@@ -56,8 +56,8 @@ pub record Means (texts : Texts) (opts : Opts) (bytes : List ℕ) : Type 0 where
   pub summaries : List Summary
   pub summarise : Summarise forms summaries
   pub traffic : (input : List ℕ) → AreBytes input → IsDefined (runs_of program contents.value opts.stack input) → Traffic summaries opts.colours contents.value input
-  -- the webs that have a register, by function: over each call the registers that a callee keeps stay as they were, but those of
-  -- webs in which the function is a member
+  -- the webs that have a register, and the registers that functions share, by function: over each call the registers that a callee
+  -- keeps stay as they were, but those of webs in which the function is a member, and those that it is free to use
   pub database : DirectivesList
   pub directives : IsDatabaseOf summaries opts.colours database
   pub registers : (input : List ℕ) → AreBytes input → IsDefined (runs_of program contents.value opts.stack input) → CallsKeepRegisters database contents.value input

@@ -8,13 +8,16 @@ use Rattle.pw_value.specs.declared.value.Value.TheVariants.{Undefined}
 use Rattle.pw_value.specs.declared.value.Byte.TheVariants as B
 use Rattle.pw_value.specs.declared.value.Pointer.{Pointer}
 use Rattle.pw_value.specs.Objects.{Object, object_at, no_object}
+use Rattle.pw_files.proofs.Standing.{has_by}
 use Rattle.pw_flow.specs.declared.flow.FlowGlobal.{FlowGlobal}
 use Rattle.pw_inst.specs.Computing.{offset_by}
 use Rattle.pw_inst.specs.Registers.{help, second, return_address, stack_pointer}
 use Rattle.pw_db.specs.declared.database.Web.{Web}
 use Rattle.pw_db.specs.declared.database.Role.{Role}
 use Rattle.pw_db.specs.declared.database.Role.TheVariants.{Entry}
+use Rattle.pw_db.specs.Limits.{first_register}
 use Rattle.pw_db.specs.Database.{IsWeb, IsDirectives}
+use Rattle.pw_db.proofs.Keeping.{kept_from}
 use Rattle.pw_webflow.specs.declared.web.WebBlock.{WebBlock}
 use Rattle.pw_alloc.specs.declared.located.Place.{Place}
 use Rattle.pw_alloc.specs.declared.located.Place.TheVariants.{Slot, Reg}
@@ -117,7 +120,10 @@ saved_are_temps f serves directives = all_contained f.saved (λ r c. by_change r
         let is : IsWeb has.web = subst (λ (x : Web × Role). IsWeb x.0) c.2 (web_at f.body.directives.webs c.0 (has.web, Entry) directives.each c.1) in
         let high = is.high in
         subst IsTempRegister has.is (record { low = is.low; high = omega (arith, high) })
-    by_change r (Changes.saves c) = absurd (let less = c.1 in omega (arith, less))
+    by_change r (Changes.saves c) =
+        let k = kept_from first_register f.body.directives.saves r directives.saves (has_by r f.body.directives.saves c) in
+        let high = k.1 in
+        record { low = k.0; high = omega (arith, high) }
 
 -- ---- the state
 

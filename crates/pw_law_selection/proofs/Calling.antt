@@ -4,12 +4,13 @@ use Rattle.std.specs.Prelude.{Contains}
 use Rattle.std.specs.List.{AllByRecursion}
 use Rattle.pw_value.specs.ProgramNames.{library_functions}
 use Rattle.pw_files.proofs.Standing.{Has, has_by, has_each, contains_by, has_map}
-use Rattle.pw_db.specs.Limits.{kept_registers}
-use Rattle.pw_db.specs.Database.{IsWeb, webs_of}
+use Rattle.pw_db.specs.Limits.{first_register, kept_registers}
+use Rattle.pw_db.specs.Database.{IsWeb, IsDirectives, webs_of}
 use Rattle.pw_db.specs.declared.database.Web.{Web}
 use Rattle.pw_db.specs.declared.database.Role.{Role}
 use Rattle.pw_db.specs.declared.database.Role.TheVariants.{Entry}
 use Rattle.pw_db.specs.declared.database.Directives.{Directives}
+use Rattle.pw_db.proofs.Keeping.{kept_from}
 use Rattle.pw_db_sound.specs.CallGraphs.{Graph, Calls}
 use Rattle.pw_flow.specs.declared.flow.FlowFn.{FlowFn}
 use Rattle.pw_flow.specs.declared.flow.FlowGlobal.{FlowGlobal}
@@ -39,12 +40,14 @@ use Rattle.pw_law_selection.proofs.Keeping.{KeptLaws, keep_too, some_register, s
 
 -- ---- registers that a function saves
 
-changes_kept : (l : Located) → Serves l.body l → AllByRecursion IsWeb (webs_of l.body.directives) → (r : ℕ) → Changes l.body l r → IsKept r
-changes_kept l serves webs r (places c small free) = record { low = (serves.registers r c).0.low; high = small }
-changes_kept l serves webs r (saves c) = absurd (let none : c.0 < 0 = c.1 in omega (arith, none))
-changes_kept l serves webs r (enters w) =
+changes_kept : (l : Located) → Serves l.body l → IsDirectives l.body.directives → (r : ℕ) → Changes l.body l r → IsKept r
+changes_kept l serves lawful r (places c small free) = record { low = (serves.registers r c).0.low; high = small }
+changes_kept l serves lawful r (saves c) =
+    let k = kept_from first_register l.body.directives.saves r lawful.saves (has_by r l.body.directives.saves c) in
+    record { low = k.0; high = k.1 }
+changes_kept l serves lawful r (enters w) =
     let has = has_by (w.web, Entry) l.body.directives.webs w.there in
-    let web = has_each IsWeb (webs_of l.body.directives) w.web webs (has_map (λ (x : Web × Role). x.0) (w.web, Entry) l.body.directives.webs has) in
+    let web = has_each IsWeb (webs_of l.body.directives) w.web lawful.each (has_map (λ (x : Web × Role). x.0) (w.web, Entry) l.body.directives.webs has) in
     let low = web.low in
     let high = web.high in
     record { low = omega (arith, low, w.is); high = omega (arith, high, w.is) }
@@ -52,7 +55,7 @@ changes_kept l serves webs r (enters w) =
 pub saved_kept : (p : Program) (d : List (List ℕ × Directives)) (l : Located) → IsFine p d l → (r : ℕ) → Contains l.saved r → IsKept r
 saved_kept p d l fine r c =
     let serves = serves_itself p d l fine in
-    changes_kept l serves fine.lawful.directives.each r ((serves.saved r).0 c)
+    changes_kept l serves fine.lawful.directives r ((serves.saved r).0 c)
 
 -- ---- functions of one name
 

@@ -3,6 +3,7 @@ use Rattle.std.proofs.Common.{◌≡◌, ◌↔◌, ◌≤◌, ℕ, Bool, List, 
 use Rattle.std.specs.Prelude.{All, Ok}
 use Rattle.std.specs.List.{AllByRecursion}
 use Rattle.std.specs.FinMap as finite
+use Rattle.std.proofs.lemmas.List.Elements.{All-from_recursion}
 use Rattle.pw_value.specs.Limits.{stack_least, stack_limit}
 use Rattle.pw_files.specs.Rising.{IsRising}
 use Rattle.pw_files.proofs.Standing.{Has, has_by, has_map, has_each}
@@ -74,7 +75,7 @@ pub record Laws : Type 0 where
   pub accepted_shapes : AcceptedHaveShapes
   pub same : SummariesSayTheSame
   pub serve : TemporariesServePrograms
-  pub databases : (ss : List Summary) (colours : ℕ) (d : DirectivesList) → colours ≤ register_count → IsDatabaseOf ss colours d → IsDatabase d
+  pub databases : (ss : List Summary) (colours : ℕ) (d : DirectivesList) → colours ≤ register_count → All IsSummary ss → IsDatabaseOf ss colours d → IsDatabase d
   pub one : (db : DirectivesList) → IsDatabase db → (gs hs : DirectivesList) → All (HasDirectives db) gs → All (HasDirectives db) hs → map (λ f. f.0) gs ≡ map (λ f. f.0) hs → gs ≡ hs
   pub accepted : CheckedIsAccepted
   pub alike : (flows : List FlowModule) (ss : List Summary) → AllByRecursion IsValid flows → AreSummariesOf flows ss → Links (map shown flows) ↔ AreLinked ss
@@ -98,7 +99,8 @@ whole_with laws texts opts parts p declares (are, linked) of_texts plain few eno
     let db = parts.database in
     let ms = are.forms in
     let has = are.database in
-    let lawful_db : IsDatabase db = laws.databases has.summaries opts.colours db (omega (arith, few)) has.database in
+    let lawful_summaries = all_lawful ms has.summaries (laws.lawful_forms opts.optimise (map flow_of p.modules) ms are.of_flows are.lawful) has.of_flows in
+    let lawful_db : IsDatabase db = laws.databases has.summaries opts.colours db (omega (arith, few)) (All-from_recursion IsSummary has.summaries lawful_summaries) has.database in
     let single = laws.one db lawful_db in
     let checked : AreChecked p = λ m there. all_checked (finite.entries texts) p.modules of_texts m (has_by m p.modules there) in
     let whole : IsWhole p frame_of opts.stack = is_whole laws texts p frame_of opts.stack are.lawful declares are.rules of_texts plain room checked in
@@ -129,8 +131,8 @@ whole_with laws texts opts parts p declares (are, linked) of_texts plain few eno
         frames = laid.frames;
         names = formed.names_of_forms laws.forms opts.optimise p q ms are.of_flows whole.names;
         enough = enough;
-        linked = record { each = all_lawful ms has.summaries (laws.lawful_forms opts.optimise (map flow_of p.modules) ms are.of_flows are.lawful) has.of_flows; linked = has.linked };
-        few = omega (arith, few);
+        linked = record { each = lawful_summaries; linked = has.linked };
+        few = few;
         database = has.database;
         alike = laws.same (flows_in ms parts opts.stack) has.summaries has.database.graph program
             (formed.shapes_of_forms laws.forms opts.optimise p q ms are.of_flows (laws.accepted_shapes p frame_of opts.stack whole.accepted)) summarised has.database.graph_of;

@@ -14,7 +14,7 @@ use Rattle.pw_machine.specs.Start.{image_start}
 use Rattle.pw_commands.specs.MachineRun.{run_answer}
 use Rattle.pw_store_modules.specs.Modules.{modules_of}
 use Rattle.pw_top_answer.specs.declared.answer.Answer.{Answer}
-use Rattle.pw_top_answer.specs.declared.answer.Answer.TheVariants.{Done, Usage, Refused, LinkRefused, WriteFault, StoreFault, NoMemory, BadFile}
+use Rattle.pw_top_answer.specs.declared.answer.Answer.TheVariants.{Done, Usage, Refused, RefusedSource, Cpp, LinkRefused, WriteFault, StoreFault, NoMemory, BadFile}
 use Rattle.pw_top_answer.specs.Effects.{Effect, answers_alone, prints}
 use Rattle.pw_top_answer.specs.Outcomes.{Answers, IsPrintAnswer, LeavesStreams, OutputCount, PutsOut, StoreCount}
 use Rattle.pw_gen.specs.Generator.{generated}
@@ -156,11 +156,14 @@ said_is _ k = absurd k
 
 pub said_at : (number : ℕ) (answer : Answer) (line : Option ℕ) → IsPrintAnswer answer → IsBenchLine number answer line
 said_at number (Refused name refusal) line k = absurd k
+said_at number (RefusedSource name refusal) line k = absurd k
 said_at number _ line k = tt
 
 pub said_streams : (answer : Answer) (input taken taken' : Option (List ℕ)) → IsPrintAnswer answer → LeavesStreams answer input input taken taken'
 said_streams Usage input taken taken' k = absurd k
 said_streams (Refused name refusal) input taken taken' k = absurd k
+said_streams (RefusedSource name refusal) input taken taken' k = absurd k
+said_streams (Cpp fault) input taken taken' k = absurd k
 said_streams (LinkRefused fault) input taken taken' k = absurd k
 said_streams (BadFile name at) input taken taken' k = absurd k
 said_streams StoreFault input taken taken' k = absurd k
@@ -169,6 +172,8 @@ said_streams _ input taken taken' k = tt
 pub alone_streams : (answer : Answer) (input taken : Option (List ℕ)) → LeavesStreams answer input input taken taken
 alone_streams Usage input taken = (refl, refl)
 alone_streams (Refused name refusal) input taken = (refl, refl)
+alone_streams (RefusedSource name refusal) input taken = (refl, refl)
+alone_streams (Cpp fault) input taken = (refl, refl)
 alone_streams (LinkRefused fault) input taken = (refl, refl)
 alone_streams (BadFile name at) input taken = (refl, refl)
 alone_streams StoreFault input taken = (refl, refl)

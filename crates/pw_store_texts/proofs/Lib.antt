@@ -1,0 +1,4 @@
+pub mod ComeLemmas
+pub mod HeaderLemmas
+pub mod OutputLemmas
+pub mod Picking

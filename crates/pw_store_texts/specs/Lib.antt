@@ -1,4 +1,5 @@
 pub mod Headers
+pub mod Names
 pub mod Outputs
-pub mod Sources
+pub mod Seen
 pub mod Views

@@ -1,10 +1,10 @@
 //! The headers of a store.
 
-ghost use Rattle.std.specs.Prelude.{◌≡◌, ◌++◌, IfOk, IfSome, OnOk, option_to_list, string_bytes};
+ghost use Rattle.std.specs.Prelude.{◌≡◌, ◌++◌, IfOk, IfSome, OnOk, map, option_to_list, string_bytes};
+ghost use Rattle.pw_cpp_sources.specs.Sources.{texts_of};
 ghost use Rattle.pw_io.specs.Faults.{HasStoreCause};
 ghost use Rattle.pw_io.specs.Files.{Keeps};
-ghost use Rattle.pw_store_texts.specs.Headers.{header_in, headers_of};
-ghost use Rattle.pw_cpp.specs.Answers.{texts_of};
+ghost use Rattle.pw_store_texts.specs.Headers.{header_in, headers_among, headers_of};
 
 use pw_cpp::is_header;
 use pw_io::{Store, StoreError};
@@ -32,31 +32,41 @@ fn add_header<S: Store>(
     let Some(text) = store.get(alloc, file, TEXT_READ)? else {
         return Ok(());
     };
-    let name = match Name::lawful(alloc, file.as_bytes()) {
-        Ok(name) => name,
-        Err(_) => return Err(StoreError::NoMemory),
-    };
+    let name = Name::lawful(alloc, file.as_bytes())?;
     match headers.push((name, text)) {
         Ok(()) => Ok(()),
         Err(_) => Err(StoreError::NoMemory),
     }
 }
 
-/// The headers of a store in the byte order of their names, behind other files, each text up to one byte more than a text may have. The
+/// The headers among the files of a store that have these names, in their order, each text up to one byte more than a text may have. The
 /// store stays as it is.
+pub fn headers_among<S: Store>(
+    alloc: Global,
+    store: &mut S,
+    names: &[String],
+) -> Result<Vec<(Name, Vec<u8>)>, StoreError>
+    ensures read { IfSome (S.told store.old) (λ told. IfOk result (λ all. texts_of all.items ≡ headers_among told.files (map string_bytes names.now))) }
+    ensures same { Keeps (S.told store.old) (S.told store.new) }
+    ensures cause { HasStoreCause (S.faults store.old) (S.faults store.new) result }
+{
+    let mut all = Vec::new(alloc);
+    for name in names {
+        add_header(alloc, store, &mut all, name.as_str())?;
+    }
+    Ok(all)
+}
+
+/// The headers of a store in the byte order of their names: the names are listed, then each header is read, up to one byte more than a text
+/// may have. The store stays as it is.
 pub fn read_headers<S: Store>(
     alloc: Global,
     store: &mut S,
-    files: Vec<(Name, Vec<u8>)>,
 ) -> Result<Vec<(Name, Vec<u8>)>, StoreError>
-    ensures read { IfSome (S.told store.old) (λ told. IfOk result (λ all. texts_of all.items ≡ texts_of files.items ++ headers_of told.files)) }
+    ensures read { IfSome (S.told store.old) (λ told. IfOk result (λ all. texts_of all.items ≡ headers_of told.files)) }
     ensures same { Keeps (S.told store.old) (S.told store.new) }
     ensures cause { HasStoreCause (S.faults store.old) (S.faults store.new) result }
 {
     let names = store.names(alloc)?;
-    let mut all = files;
-    for name in &names {
-        add_header(alloc, store, &mut all, name.as_str())?;
-    }
-    Ok(all)
+    headers_among(alloc, store, &names)
 }

@@ -1,12 +1,14 @@
-//! The texts of a store that are compiled: `NAME.i`, or what the preprocessor makes of `NAME.c` and the headers.
+//! The texts of a store that are preprocessed: the C sources of modules, and headers; and what comes of them.
 #![tactic(auto)]
 
 mod headers;
+mod laws;
 mod names;
 mod outputs;
-mod reading;
+mod sources;
 
 pub use headers::{TEXT_READ, read_headers};
+pub use laws::sources_come_to_one;
 pub use names::{SOURCE_ENDING, is_source_file, is_text_file, source_name};
-pub use outputs::{Compiled, compile_texts, preprocess_source};
-pub use reading::{Text, Texts, TextsFault, read_texts};
+pub use outputs::preprocess_source;
+pub use sources::{Compiled, compile_sources};

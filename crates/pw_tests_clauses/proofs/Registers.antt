@@ -7,7 +7,7 @@ use Rattle.pw_machine.specs.Core.{word_at}
 use Rattle.pw_machine.specs.Effect.{effect_of, effect_of_inst}
 use Rattle.pw_machine.specs.Run.{State, Running, taken, step, goes_on, run_of, start_state}
 use Rattle.pw_machine.specs.Start.{image_start, start_core, start_memory}
-use Rattle.pw_run_languages.specs.Traces.{IsMembers}
+use Rattle.pw_run_languages.specs.Traces.{MayChange, member, free}
 use Rattle.pw_run_languages.specs.ImageTrace.{has_returned}
 use Rattle.pw_law_analysis.specs.ImageRegisters.{CallReturns, CallsKeepRegisters, call_at}
 use Rattle.pw_tests_clauses.specs.Images.{changer_name, changing, changing_words}
@@ -126,11 +126,12 @@ the_call at =
       first = λ k between low high e. before memory h k between low high (sym (ap (run_of k) starts) ∙ e);
     }
 
-no_web : ¬ IsMembers [] changer_name 5
-no_web i = let less : i.has.there.0 < 0 = i.has.there.1 in omega (arith, less)
+not_its_own : MayChange [] changer_name 5 → ⊥
+not_its_own (member i) = let less : i.has.there.0 < 0 = i.has.there.1 in omega (arith, less)
+not_its_own (free directives there among) = let less : there.0 < 0 = there.1 in omega (arith, less)
 
 apart : ◌≡◌ {A = ℕ} 1 0 → ⊥
 apart e = omega (arith, e)
 
 pub changed : Words → ¬ CallsKeepRegisters [] changing []
-changed at keeps = apart (keeps changer_name 2 5 (state (start_memory changing_words []) 4112 4116 r1) (state (start_memory changing_words []) 4104 4108 r2) (the_call at) 5 (lit≤ tt) (lit≤ tt) no_web)
+changed at keeps = apart (keeps changer_name 2 5 (state (start_memory changing_words []) 4112 4116 r1) (state (start_memory changing_words []) 4104 4108 r2) (the_call at) 5 (lit≤ tt) (lit≤ tt) not_its_own)

@@ -37,7 +37,14 @@ fn push_under(text: &mut Text, flow: &FlowModule, payload: &[u8])
     requires lawful { IsValid flow.now }
 {
     match read_payload(text.alloc(), payload) {
-        Ok(functions) => push_code(text, flow, &Database { version: VERSION, functions }),
+        Ok(functions) => push_code(
+            text,
+            flow,
+            &Database {
+                version: VERSION,
+                functions,
+            },
+        ),
         Err(_) => text.push(b"no files"),
     }
 }

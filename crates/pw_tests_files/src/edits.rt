@@ -1,6 +1,7 @@
 //! Bytes that are made of others.
 
 use crate::faults::Format;
+use pw_fields::read_u32;
 use pw_files::writing::seal_payload;
 use pw_rows::Text;
 
@@ -44,9 +45,17 @@ pub fn payload_of(file: &[u8]) -> &[u8] {
     file.get(12..file.len().saturating_sub(32)).unwrap_or(&[])
 }
 
-/// The file of a payload.
-pub fn sealed(text: &mut Text, format: Format, payload: &[u8]) -> Vec<u8> {
-    match seal_payload(text.alloc(), format.kind(), format.version(), payload) {
+/// The version that a file says.
+pub fn version_of(file: &[u8]) -> u32 {
+    match read_u32(file.get(8..).unwrap_or(&[])) {
+        Ok((version, _)) => version,
+        Err(_) => 0,
+    }
+}
+
+/// The file of a payload in a version.
+pub fn sealed(text: &mut Text, format: Format, version: u32, payload: &[u8]) -> Vec<u8> {
+    match seal_payload(text.alloc(), format.kind(), version, payload) {
         Ok(file) => file,
         Err(_) => {
             text.cut();
@@ -55,9 +64,9 @@ pub fn sealed(text: &mut Text, format: Format, payload: &[u8]) -> Vec<u8> {
     }
 }
 
-/// The file with a digest made anew.
+/// The file in its version with a digest made anew.
 pub fn sealed_anew(text: &mut Text, format: Format, file: &[u8]) -> Vec<u8> {
-    sealed(text, format, payload_of(file))
+    sealed(text, format, version_of(file), payload_of(file))
 }
 
 /// Adds the one item of a list so often, and its count before that. Of the rest the first four bytes are the count, and

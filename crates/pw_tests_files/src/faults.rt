@@ -1,6 +1,6 @@
 //! Formats, and where bytes that should have one are faulty.
 
-use crate::edits::{payload_of, sealed};
+use crate::edits::{payload_of, sealed, version_of};
 use crate::functions::read_named;
 use crate::shown::push_value;
 use pw_rows::Text;
@@ -27,17 +27,6 @@ impl Format {
             Format::Summary => pw_summary::KIND,
             Format::Database => pw_db::KIND,
             Format::Object => pw_object::KIND,
-            Format::Payload | Format::Function => 0,
-        }
-    }
-
-    /// The version in which its files are written; a payload and a function have none.
-    pub fn version(self) -> u32 {
-        match self {
-            Format::Flow => pw_flowfile::VERSION,
-            Format::Summary => pw_summary::VERSION,
-            Format::Database => pw_db::VERSION,
-            Format::Object => pw_object::VERSION,
             Format::Payload | Format::Function => 0,
         }
     }
@@ -68,9 +57,14 @@ fn error_in(alloc: Global, format: Format, bytes: &[u8]) -> Option<FileError> {
     }
 }
 
-/// The same of the file of a payload.
-fn error_in_payload(text: &mut Text, format: Format, payload: &[u8]) -> Option<FileError> {
-    let file = sealed(text, format, payload);
+/// The same of the file of a payload in a version.
+fn error_in_payload(
+    text: &mut Text,
+    format: Format,
+    version: u32,
+    payload: &[u8],
+) -> Option<FileError> {
+    let file = sealed(text, format, version, payload);
     error_in(text.alloc(), format, &file)
 }
 
@@ -88,7 +82,7 @@ pub fn push_cuts(text: &mut Text, format: Format, bytes: &[u8], is_payload: bool
     for len in 0..whole.len() {
         let front = &whole[..len];
         let error = if is_payload {
-            error_in_payload(text, format, front)
+            error_in_payload(text, format, version_of(bytes), front)
         } else {
             error_in(text.alloc(), format, front)
         };

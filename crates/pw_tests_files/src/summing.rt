@@ -1,6 +1,6 @@
 //! Summaries that are made of flow graphs.
 
-ghost use Rattle.pw_summary.specs.Summary.{IsSummary};
+ghost use Rattle.pw_summary.specs.Summary.{IsVersioned};
 
 use crate::shown::push_value;
 use crate::summaries::push_summary;
@@ -11,7 +11,7 @@ use pw_summary_file::write;
 
 /// Adds a summary and its file.
 fn push_with_file(text: &mut Text, summary: &Summary)
-    requires { IsSummary summary.now }
+    requires { IsVersioned summary.now }
 {
     push_summary(text, summary);
     match write(text.alloc(), summary) {

@@ -11,6 +11,7 @@ fn word_of(command: &Command) -> &'static str {
         Command::Go(_) => "go",
         Command::Build(_) => "build",
         Command::Session(_) => "session",
+        Command::Preprocess(_) => "cpp",
         Command::PhaseOne { .. } => "phase1",
         Command::Analyse { .. } => "analyse",
         Command::PhaseTwo(_) => "phase2",
@@ -26,7 +27,9 @@ fn word_of(command: &Command) -> &'static str {
 /// The module of a command, or nothing.
 fn module_of(command: &Command) -> &[u8] {
     match command {
-        Command::PhaseOne { name, .. } | Command::PhaseTwo(name) => name.as_bytes(),
+        Command::Preprocess(name)
+        | Command::PhaseOne { name, .. }
+        | Command::PhaseTwo(name) => name.as_bytes(),
         _ => &[],
     }
 }

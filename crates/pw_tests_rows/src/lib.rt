@@ -28,8 +28,8 @@
 //!   has them.
 //! - `? script`: how many lawful lines the text begins with, up to its end or up to the first place where none stands, and
 //!   the offset of that place.
-//! - `? database`, `? image`: the text of the database, or the listing of the image, whose file has the text as its payload.
-//!   `? file`: the listing of the image whose file the text is.
+//! - `? database`, `? image`: the text of the database, or the listing of the image, whose file has the text as its payload, in
+//!   the version that is made. `? file`: the listing of the image whose file the text is.
 //! - `? program NUMBER`: the files of the made program of this number with two modules.
 #![tactic(auto)]
 

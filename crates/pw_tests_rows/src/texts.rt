@@ -24,10 +24,10 @@ pub fn push_text(text: &mut Text, bytes: &[u8]) {
     }
 }
 
-/// The file of a kind with a payload of few bytes.
-fn sealed(text: &mut Text, kind: u32, payload: &[u8]) -> Vec<u8> {
+/// The file of a kind, in a version, with a payload of few bytes.
+fn sealed(text: &mut Text, kind: u32, version: u32, payload: &[u8]) -> Vec<u8> {
     if payload.len() <= MOST {
-        if let Ok(file) = seal(text.alloc(), kind, 1, payload) {
+        if let Ok(file) = seal(text.alloc(), kind, version, payload) {
             return file;
         }
     }
@@ -65,13 +65,13 @@ fn push_listing(text: &mut Text, file: &[u8]) {
 
 /// Adds the text of a database by its payload.
 fn push_sealed_database(text: &mut Text, payload: &[u8]) {
-    let file = sealed(text, pw_db::KIND, payload);
+    let file = sealed(text, pw_db::KIND, pw_db::VERSION, payload);
     push_database_file(text, &file);
 }
 
 /// Adds the listing of an image by its payload.
 fn push_sealed_image(text: &mut Text, payload: &[u8]) {
-    let file = sealed(text, pw_image::KIND, payload);
+    let file = sealed(text, pw_image::KIND, pw_image::VERSION, payload);
     push_listing(text, &file);
 }
 

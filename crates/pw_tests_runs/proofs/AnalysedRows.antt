@@ -1,8 +1,9 @@
 -- Analysed programs exist: bump and main, with the database that the analyser makes of their summary for eight registers,
--- where these flow graphs implement a program. With more registers than a callee keeps they are not.
+-- where these flow graphs implement a program. With more registers than webs may have they are not.
 use Rattle.std.specs.Prelude.{ℕ, ◌≡◌, ◌≤◌, ◌↔◌, true, false, List, [], ◌∷◌, Contains}
 use Rattle.std.specs.List.{AllByRecursion}
 use Rattle.std.proofs.Common.{arith, subst, refl}
+use Rattle.pw_db.specs.Limits.{colour_limit}
 use Rattle.pw_db_sound.specs.CallGraphs.{Node, Graph, Calls, Reads, Writes, SayTheSame, IsMovable}
 use Rattle.pw_cmean.specs.Worlds as source
 use Rattle.pw_run_languages.specs.LawfulPrograms.{node_of, graph_of}
@@ -209,5 +210,5 @@ analysed p implements = record {
   fits = small;
 }
 
-too_many : (p : source.Program) → IsAnalysed p (graphs 4096) summaries 17 bump_directives places objects → ⊥
-too_many p a = let few : 17 ≤ 16 = a.few in omega (arith, few)
+too_many : (p : source.Program) → IsAnalysed p (graphs 4096) summaries 9 bump_directives places objects → ⊥
+too_many p a = let few : 9 ≤ colour_limit = a.few in omega (arith, few)

@@ -45,10 +45,10 @@ nothing_lawful = record { each = tt; numbers = tt; globals = tt; registers = tt;
 
 pub all_serve : AllServe (directed_functions bumping bump_directives) places
 all_serve = (
-  words_serve bump (only_of Member) (lawful_only Member),
+  words_serve bump (only_of Member) (lawful_only Member) refl,
   (
-    words_serve bump_main (only_of Entry) (lawful_only Entry),
-    (words_serve start empty nothing_lawful, tt),
+    words_serve bump_main (only_of Entry) (lawful_only Entry) refl,
+    (words_serve start empty nothing_lawful refl, tt),
   ),
 )
   where

@@ -1,5 +1,5 @@
--- The simplest places that serve: each temporary has a word of its own, and the registers of the webs that the function enters
--- are saved.
+-- The simplest places that serve, where a function saves no registers for others: each temporary has a word of its own, and the
+-- registers of the webs that the function enters are saved.
 use Rattle.std.specs.Prelude.{ℕ, zero, suc, Bool, true, false, if◌then◌else◌, ℤ, pos, neg_ℤ, ◌≡◌, ◌≢◌, ◌≤◌, ◌<◌, ◌+◌, ◌*◌, Option, Some, None, List, [], ◌∷◌, length, map, slice_get, Contains, negsuc}
 use Rattle.std.specs.List.{AllByRecursion}
 use Rattle.std.proofs.Common.{arith, subst, sym, ap, refl, inl, inr, ◌∙◌}
@@ -146,11 +146,11 @@ alone head saved i (suc n) = ap (λ (rest : List Place). Slot (temp_offset head 
 
 -- ---- together
 
-changes : (f : WebFn) → AllByRecursion IsWeb (map (λ w. w.0) f.directives.webs) → (r : ℕ) → Changes f (in_words f) r → Contains (saved_of f) r
+changes : (f : WebFn) → f.directives.saves ≡ [] → AllByRecursion IsWeb (map (λ w. w.0) f.directives.webs) → (r : ℕ) → Changes f (in_words f) r → Contains (saved_of f) r
 unfolding in_words
-changes f lawful r (places c high apart) = absurd (no_register (head_size f) (length (saved_of f)) f.temps r c)
-changes f lawful r (saves c) = absurd (nowhere r c)
-changes f lawful r (enters has) =
+changes f none lawful r (places c high apart) = absurd (no_register (head_size f) (length (saved_of f)) f.temps r c)
+changes f none lawful r (saves c) = absurd (nowhere r (subst (λ (rs : List ℕ). Contains rs r) none c))
+changes f none lawful r (enters has) =
     let web : IsWeb has.web = All-contains IsWeb (map (λ w. w.0) f.directives.webs) has.web
     (All-from_recursion IsWeb (map (λ w. w.0) f.directives.webs) lawful)
     (map_there f.directives.webs (has.web, Entry) has.there) in
@@ -175,9 +175,9 @@ changed f r c =
     let e = entered_by f.directives.webs r k.2 in
     enters (record { web = e.web; there = e.there; is = e.is })
 
-serves : (f : WebFn) → AllByRecursion IsWeb (map (λ w. w.0) f.directives.webs) → Serves f (in_words f)
+serves : (f : WebFn) → f.directives.saves ≡ [] → AllByRecursion IsWeb (map (λ w. w.0) f.directives.webs) → Serves f (in_words f)
 unfolding in_words
-serves f lawful =
+serves f none lawful =
     let head = head_size f in
     let saved = length (saved_of f) in
     let words : slots_alone (slots_from head saved 0 f.temps) ≡ slots_from head saved 0 f.temps = alone head saved 0 f.temps in
@@ -188,12 +188,12 @@ serves f lawful =
       apart = λ d t low clash. kept_apart f d t low clash;
       held = λ t place h e. subst (KeptIn f) e (all_kept f head saved 0 f.temps t);
       registers = λ r c. absurd (no_register head saved f.temps r c);
-      saved = λ r. (changed f r, changes f lawful r);
+      saved = λ r. (changed f r, changes f none lawful r);
       order = rises f.directives.webs first_register register_count;
       words = words ∙ ap (slots_from head saved 0) (sym count);
       frame = ap (λ (n : ℕ). last_reach (slots_begin head saved n) f.slots) (sym count);
     }
 
-pub words_serve : (f : FlowFn) (d : Directives) → IsDirectives d → Serves (directed f d) (in_words (directed f d))
+pub words_serve : (f : FlowFn) (d : Directives) → IsDirectives d → d.saves ≡ [] → Serves (directed f d) (in_words (directed f d))
 unfolding directed
-words_serve f d directives = serves (directed f d) directives.each
+words_serve f d directives none = serves (directed f d) none directives.each

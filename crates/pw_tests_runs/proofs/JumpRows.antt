@@ -159,8 +159,8 @@ objects = whole_object (codes "a") [] [] [] [] [] (map compiled places) ∷ []
 
 all_serve : AllServe (directed_functions jumping []) places
 all_serve = (
-  words_serve start empty nothing_lawful,
-  (words_serve deciding empty nothing_lawful, tt),
+  words_serve start empty nothing_lawful refl,
+  (words_serve deciding empty nothing_lawful refl, tt),
 )
 
 small : size_fault objects 4096 ≡ None

@@ -11,26 +11,27 @@ use Rattle.pw_link_rules.specs.declared.interface.Interface.{Interface}
 use Rattle.pw_link_rules.specs.Linking.{few_functions, few_globals, all_defined, defined_once, all_agree, has_main, definitions, declarations, defined_names, used_names}
 use Rattle.pw_summary.specs.declared.summary.Uses.{Uses}
 use Rattle.pw_summary.specs.declared.summary.Summary.{Summary}
-use Rattle.pw_summary.specs.Summary.{IsUses, IsSummary}
+use Rattle.pw_summary.specs.Summary.{IsUses, IsSummary, summary_version}
 use Rattle.pw_graph.specs.declared.graph.CallGraph.{CallGraph}
 use Rattle.pw_graph.specs.CallGraph.{Calls, Weighs}
-use Rattle.pw_graph.specs.Program.{AreLinked, interface_of, functions_of, IsUseOf, IsEscaped, IsTaken, IsCall, by_name, through_value, HasWeights, IsEligible, IsGraphOf}
+use Rattle.pw_graph.specs.Program.{AreLinked, interface_of, functions_of, IsUseOf, IsEscaped, IsTaken, IsCall, by_name, through_value, HasWeights, HasNeed, IsEligible, IsGraphOf}
 use Rattle.pw_tests_runs.proofs.ProgramRows.{all_differ, distinct, are_distinct}
 use Rattle.pw_tests_runs.proofs.WrittenLists.{nowhere, each, moved, EachAt, each_at, of_two, rising_none, rising_one, rising_two}
 
 -- ---- the summary
 
 abbrev of_start : Uses
-of_start = record { calls = codes "exit" ∷ codes "main" ∷ []; shapes = []; refs = [] }
+of_start = record { calls = codes "exit" ∷ codes "main" ∷ []; shapes = []; refs = []; need = 0 }
 
 abbrev of_bump : Uses
-of_bump = record { calls = []; shapes = []; refs = (codes "n", 1, 1) ∷ [] }
+of_bump = record { calls = []; shapes = []; refs = (codes "n", 1, 1) ∷ []; need = 0 }
 
 abbrev of_main : Uses
-of_main = record { calls = codes "bump" ∷ codes "putchar" ∷ []; shapes = []; refs = (codes "n", 2, 0) ∷ [] }
+of_main = record { calls = codes "bump" ∷ codes "putchar" ∷ []; shapes = []; refs = (codes "n", 2, 0) ∷ []; need = 0 }
 
 abbrev pub summary : Summary
 summary = record {
+  version = summary_version;
   «module» = codes "a";
   globals = (codes "n", codes "i!", Some W32, false) ∷ [];
   functions = (codes "$start", codes "fv") ∷ (codes "bump", codes "fv") ∷ (codes "main", codes "fi") ∷ [];
@@ -51,6 +52,7 @@ uses_start = record {
   shapes = tt;
   refs = tt;
   weights = tt;
+  need = omega arith;
 }
 
 uses_bump : IsUses of_bump
@@ -60,6 +62,7 @@ uses_bump = record {
   shapes = tt;
   refs = (tt, tt);
   weights = ((omega arith, omega arith), tt);
+  need = omega arith;
 }
 
 uses_main : IsUses of_main
@@ -69,9 +72,10 @@ uses_main = record {
   shapes = tt;
   refs = (tt, tt);
   weights = ((omega arith, omega arith), tt);
+  need = omega arith;
 }
 
-abbrev function_names : List (List ℕ)
+abbrev pub function_names : List (List ℕ)
 function_names = codes "$start" ∷ codes "bump" ∷ codes "main" ∷ []
 
 pub is_summary : IsSummary summary
@@ -138,6 +142,7 @@ graph = record {
   globals = (codes "n", W32) ∷ [];
   calls = (2 ∷ 4 ∷ []) ∷ [] ∷ [] ∷ [] ∷ (1 ∷ 5 ∷ []) ∷ [] ∷ [];
   refs = [] ∷ ((0, 1, 1) ∷ []) ∷ [] ∷ [] ∷ ((0, 2, 0) ∷ []) ∷ [] ∷ [];
+  needs = 0 ∷ 0 ∷ 0 ∷ 0 ∷ 0 ∷ 0 ∷ [];
 }
 
 -- what holds of each call, and of each reference with its weights, holds by the rows
@@ -331,6 +336,17 @@ weighs_back a v reads writes f global e k has =
     subst (λ (a : ℕ). Weighs graph a v reads writes) (named_at a f e)
     (subst (λ (v : ℕ). Weighs graph (place_of f) v reads writes) first (refers f has.u has.uses (global.0, reads, writes) has.stands))
 
+-- ---- needs
+
+none_needed : (a n : ℕ) → slice_get graph.needs a ≡ Some n → n ≡ 0
+none_needed = each_at (λ i n. n ≡ 0) graph.needs (refl, (refl, (refl, (refl, (refl, (refl, tt))))))
+
+no_need : (f : List ℕ) (u : Uses) → IsUseOf summaries f u → u.need ≡ 0
+no_need = each_use (λ (f : List ℕ) (u : Uses). u.need ≡ 0) refl refl refl
+
+needed : (a n : ℕ) (f : List ℕ) → slice_get graph.functions a ≡ Some f → slice_get graph.needs a ≡ Some n → HasNeed summaries f n
+needed a n f e k = record { told = λ u made. none_needed a n k ∙ sym (no_need f u made); untold = λ none. none_needed a n k }
+
 -- ---- together
 
 pub is_graph : IsGraphOf summaries graph
@@ -356,4 +372,6 @@ is_graph = record {
   refs_rise = (rising_none, (rising_one 0, (rising_none, (rising_none, (rising_one 0, (rising_none, tt))))));
   refs_within = each_ref (λ a x. x.0 < 1) (tt, ((omega arith, tt), (tt, (tt, ((omega arith, tt), (tt, tt))))));
   refs = λ a v reads writes f global e k. ((λ w. all_weighed a v reads writes w f global e k), weighs_back a v reads writes f global e k);
+  need_rows = refl;
+  needs = needed;
 }

@@ -1,8 +1,8 @@
--- The one web of bump and main, and the database that it makes for eight registers.
-use Rattle.std.specs.Prelude.{ℕ, zero, suc, ◌≡◌, ◌<◌, ◌≤◌, ◌+◌, ◌*◌, ◌/◌, ◌%◌, ◌⊎◌, ◌↔◌, true, IsTrue, pos, Option, Some, List, [], ◌∷◌, map, length, codes, slice_get, slice_index, Contains}
+-- The one web of bump and main, their roots, and the database that these make for eight registers.
+use Rattle.std.specs.Prelude.{ℕ, zero, suc, ◌≡◌, ◌<◌, ◌≤◌, ◌+◌, ◌*◌, ◌/◌, ◌%◌, ◌⊎◌, ◌↔◌, true, false, IsTrue, pos, Option, Some, unwrap_or, List, [], ◌∷◌, map, codes, slice_get, slice_index, Contains}
 use Rattle.std.specs.Int.{bit_at}
 use Rattle.std.specs.List.Sorted.{IsPermutation}
-use Rattle.std.proofs.Common.{arith, subst, sym, refl, ◌∙◌, inl, inr}
+use Rattle.std.proofs.Common.{arith, ap, subst, sym, refl, ◌∙◌, inl, inr}
 use Rattle.std.proofs.lemmas.Nat.Bits.{bit_at-zero, bit_at_above}
 use Rattle.std.specs.declared.alloc.Global.{Global}
 use Rattle.std.specs.declared.vec.Vec.{Vec}
@@ -12,13 +12,19 @@ use Rattle.pw_fix.specs.Row.{Holds, members as numbers}
 use Rattle.pw_fix.specs.declared.bit_row.BitRow.{BitRow}
 use Rattle.pw_db.specs.declared.database.Role.TheVariants.{Entry, Member}
 use Rattle.pw_db.specs.declared.database.Directives.{Directives}
+use Rattle.pw_db.specs.Database.{empty, says_something}
+use Rattle.pw_flow.proofs.Once.{absent}
+use Rattle.pw_summary.specs.declared.summary.Summary.{Summary}
 use Rattle.pw_graph.specs.CallGraph.{Calls, Path, call, on, References, Writes}
+use Rattle.pw_graph.specs.Program.{IsTaken, IsEscaped}
+use Rattle.pw_clusters.specs.Clusters.{AreRoots, HaveRoot, IsDefined, IsInner}
 use Rattle.pw_webs.specs.declared.web.RawWeb.{RawWeb}
 use Rattle.pw_webs.specs.Webs.{Region, refers, between, outside, Joined, self, forth, back, HasCaller, IsWeb, IsRawWeb, AreWebs}
 use Rattle.pw_colour.specs.Colours.{IsDatabaseOf, IsColour, directives_of, numbered}
 use Rattle.pw_tests_runs.proofs.Programs.{bump_directives}
+use Rattle.pw_tests_runs.proofs.ProgramRows.{all_differ, differ}
 use Rattle.pw_tests_runs.proofs.WrittenLists.{nowhere, each, moved, each_at}
-use Rattle.pw_tests_runs.proofs.SummaryRows.{summaries, graph, is_graph, each_call, each_ref, start_main, main_bump, bump_weighs, main_weighs}
+use Rattle.pw_tests_runs.proofs.SummaryRows.{summaries, function_names, graph, is_graph, each_call, each_ref, start_main, main_bump, bump_weighs, main_weighs}
 
 -- ---- sets of the six functions
 
@@ -166,6 +172,90 @@ are_webs = record {
   all = all_in;
 }
 
+-- ---- the roots: `$start` is that of bump and main, and each other function is its own
+
+abbrev pub roots : List ℕ
+roots = 0 ∷ 0 ∷ 2 ∷ 3 ∷ 0 ∷ 5 ∷ []
+
+undefined : (name : List ℕ) → (Contains function_names name → ⊥) → (f : List ℕ) → Some name ≡ Some f → IsDefined summaries f → ⊥
+undefined name none f e d = none (subst (IsDefined summaries) (sym (ap (λ o. unwrap_or o name) e)) d)
+
+-- one of the program's own functions has the root of whoever calls it
+abbrev HasItsRoot : ℕ → ℕ → Type 0
+HasItsRoot a b = (f : List ℕ) → slice_get graph.functions b ≡ Some f → IsDefined summaries f → slice_index roots a ≡ slice_index roots b
+
+root_of_caller : (a b : ℕ) → Calls graph a b → HasItsRoot a b
+root_of_caller = each_call HasItsRoot (
+  ((λ f e d. absurd (undefined (codes "exit") (absent (codes "exit") function_names (all_differ (codes "exit") function_names refl)) f e d)), ((λ f e d. refl), tt)),
+  (
+    tt,
+    (
+      tt,
+      (
+        tt,
+        (
+          ((λ f e d. refl), ((λ f e d. absurd (undefined (codes "putchar") (absent (codes "putchar") function_names (all_differ (codes "putchar") function_names refl)) f e d)), tt)),
+          (tt, tt),
+        ),
+      ),
+    ),
+  ),
+)
+
+of_callers : (f r : ℕ) → IsInner summaries graph f → HaveRoot graph roots f r → slice_index roots f ≡ r
+of_callers f r i have = sym (root_of_caller i.caller f i.called i.name i.at i.defined) ∙ have i.caller i.called
+
+-- all that call have the root `$start`
+start_calls : (a b : ℕ) → Calls graph a b → slice_index roots a ≡ 0
+start_calls = each_call (λ a b. slice_index roots a ≡ 0) ((refl, (refl, tt)), (tt, (tt, (tt, ((refl, (refl, tt)), (tt, tt))))))
+
+not_taken : (f : List ℕ) → IsTaken summaries f → ⊥
+not_taken f e = each (λ (s : Summary). Contains (map (λ d. d.0) s.taken) f → ⊥) summaries (nowhere f, tt) e.summary e.stands e.taken
+
+not_escaped : (f : List ℕ) → IsEscaped summaries f → ⊥
+not_escaped f e = each (λ (s : Summary). Contains s.escaped f → ⊥) summaries (nowhere f, tt) e.summary e.stands e.escaped
+
+bump_inner : IsInner summaries graph 1
+bump_inner = record {
+  name = codes "bump";
+  at = refl;
+  defined = (1, omega arith, refl);
+  no_start = differ (codes "bump") (codes "$start") refl;
+  no_cycle = λ p. leaf_path 1 1 (inl refl) p;
+  not_taken = not_taken (codes "bump");
+  not_escaped = not_escaped (codes "bump");
+  caller = 4;
+  called = main_bump;
+}
+
+main_once : Path graph 4 4 → ⊥
+main_once p = elim (below 4 4 (inr refl) p) [ inl e ↦ omega (arith, e) | inr e ↦ omega (arith, e) ]
+
+main_inner : IsInner summaries graph 4
+main_inner = record {
+  name = codes "main";
+  at = refl;
+  defined = (2, omega arith, refl);
+  no_start = differ (codes "main") (codes "$start") refl;
+  no_cycle = main_once;
+  not_taken = not_taken (codes "main");
+  not_escaped = not_escaped (codes "main");
+  caller = 0;
+  called = start_main;
+}
+
+itself : (f : ℕ) → f < 6 → ((r : ℕ) → IsInner summaries graph f → HaveRoot graph roots f r → ⊥) → slice_index roots f ≡ f
+itself zero lt none = refl
+itself (suc zero) lt none = absurd (none 0 bump_inner (λ c d. start_calls c 1 d))
+itself (suc (suc zero)) lt none = refl
+itself (suc (suc (suc zero))) lt none = refl
+itself (suc (suc (suc (suc zero)))) lt none = absurd (none 0 main_inner (λ c d. start_calls c 4 d))
+itself (suc (suc (suc (suc (suc zero))))) lt none = refl
+itself (suc (suc (suc (suc (suc (suc f)))))) lt none = absurd (omega (arith, lt))
+
+pub are_roots : AreRoots summaries graph roots
+are_roots = record { each = refl; of_callers = of_callers; itself = itself }
+
 -- ---- the database
 
 abbrev coloured : List (RawWeb × Option ℕ)
@@ -174,29 +264,29 @@ coloured = (web, Some 3) ∷ []
 pub three : IsColour 8 [] web (Some 3)
 three = (record { lt = tt }, (omega arith, omega arith), (λ u c. absurd (nowhere (u, Some 3) c)), (λ q low high free. omega (arith, low, high)))
 
-pub given : (f : List ℕ) (d : Directives) → Contains bump_directives (f, d) → (place : ℕ) × (slice_get graph.functions place ≡ Some f) × (d ≡ directives_of graph (numbered 0 coloured) place) × (0 < length d.webs)
+pub given : (f : List ℕ) (d : Directives) → Contains bump_directives (f, d) → (place : ℕ) × (slice_get graph.functions place ≡ Some f) × (d ≡ directives_of graph roots (numbered 0 coloured) place) × IsTrue (says_something (f, d))
 given f d c =
-    each (λ (x : List ℕ × Directives). (place : ℕ) × (slice_get graph.functions place ≡ Some x.0) × (x.1 ≡ directives_of graph (numbered 0 coloured) place) × (0 < length x.1.webs))
-    bump_directives ((1, refl, refl, omega arith), ((4, refl, refl, omega arith), tt)) (f, d) c
+    each (λ (x : List ℕ × Directives). (place : ℕ) × (slice_get graph.functions place ≡ Some x.0) × (x.1 ≡ directives_of graph roots (numbered 0 coloured) place) × IsTrue (says_something x))
+    bump_directives ((1, refl, refl, refl), ((4, refl, refl, refl), tt)) (f, d) c
 
-webless : (f : List ℕ) (d : Directives) → d ≡ record { webs = []; free = []; saves = [] } → 0 < length d.webs → Contains bump_directives (f, d)
-webless f d e some = let none : 0 < 0 = subst (λ (d : Directives). 0 < length d.webs) e some in absurd (omega (arith, none))
+says_nothing : (f : List ℕ) (d : Directives) → d ≡ empty → IsTrue (says_something (f, d)) → Contains bump_directives (f, d)
+says_nothing f d e some = let none : false ≡ true = subst (λ (d : Directives). IsTrue (says_something (f, d))) e some in absurd cc
 
 abbrev IsStored : ℕ → List ℕ → Type 0
-IsStored place f = (d : Directives) → d ≡ directives_of graph (numbered 0 coloured) place → 0 < length d.webs → Contains bump_directives (f, d)
+IsStored place f = (d : Directives) → d ≡ directives_of graph roots (numbered 0 coloured) place → IsTrue (says_something (f, d)) → Contains bump_directives (f, d)
 
 pub stored : (place : ℕ) (f : List ℕ) → slice_get graph.functions place ≡ Some f → IsStored place f
 stored = each_at IsStored graph.functions (
-  webless (codes "$start"),
+  says_nothing (codes "$start"),
   (
     (λ d e some. subst (λ (d : Directives). Contains bump_directives (codes "bump", d)) (sym e) (0, omega arith, refl)),
     (
-      webless (codes "exit"),
+      says_nothing (codes "exit"),
       (
-        webless (codes "getchar"),
+        says_nothing (codes "getchar"),
         (
           (λ d e some. subst (λ (d : Directives). Contains bump_directives (codes "main", d)) (sym e) (1, omega arith, refl)),
-          (webless (codes "putchar"), tt),
+          (says_nothing (codes "putchar"), tt),
         ),
       ),
     ),
@@ -213,6 +303,8 @@ database = record {
   same_webs = record { moves = []; below = tt; is = refl };
   order = (tt, tt);
   colours_of = (three, tt);
+  roots = roots;
+  are_roots = are_roots;
   rising = (tt, (refl, tt));
   of = λ f d. (given f d, (λ s. stored s.0 f s.1 d s.2 s.3));
 }

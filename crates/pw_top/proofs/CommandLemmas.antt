@@ -11,7 +11,7 @@ use Rattle.pw_summary.specs.declared.summary.Summary.{Summary}
 use Rattle.pw_image.specs.declared.image.Image.{Image}
 use Rattle.pw_machine.specs.Core.{Core}
 use Rattle.pw_top_answer.specs.declared.answer.Answer.{Answer}
-use Rattle.pw_top_answer.specs.declared.answer.Answer.TheVariants.{Usage, Refused, LinkRefused, ReadFault, WriteFault, StoreFault, NoMemory, BadFile}
+use Rattle.pw_top_answer.specs.declared.answer.Answer.TheVariants.{Usage, Refused, RefusedSource, Cpp, LinkRefused, ReadFault, WriteFault, StoreFault, NoMemory, BadFile}
 use Rattle.pw_top_answer.specs.Effects.{Effect, NamedFile, PutsFiles, answers_alone, prints}
 use Rattle.pw_top_answer.specs.Outcomes.{Answers, InputCount, IsLineDue, LeavesInput, LeavesStreams, OutputCount, PutsOut}
 use Rattle.pw_go.specs.Ends.{EndsIn}
@@ -22,6 +22,7 @@ use Rattle.pw_law_session.specs.FromSession.FromBuildFiles.Building.{BuildOutcom
 use Rattle.pw_law_session.specs.FromSession.FromBuildFiles.Outcomes.{AnswersOutcome}
 use Rattle.pw_law_session.specs.FromSession.FromBuildFiles.Driving.{BuildEffect, IsBuildAnswer, built_effect}
 use Rattle.pw_go.specs.Going.{GoEffect, HasBuilt, IfMade, IsGoAnswer}
+use Rattle.pw_commands_where.specs.Showing.{IsWhereAnswer, WhereEffect}
 use Rattle.pw_commands.specs.Analysing.{AnalyseEffect, AnalyseOver, summaries_of}
 use Rattle.pw_commands.specs.Linking.{LinkEffect, LinkOver, objects_of}
 use Rattle.pw_commands.specs.Needed.{needed, needed_bytes}
@@ -30,7 +31,8 @@ use Rattle.pw_commands.specs.Running.{IsRunOrStop, core_in, run_effect, runs}
 use Rattle.pw_commands.specs.Showing.{DatabaseEffect, IsShowAnswer, ListEffect, ListOver, Shows, database_text, image_in, printed}
 use Rattle.pw_law_session.specs.FromSession.Bench.{BenchEffect}
 use Rattle.pw_top_words.specs.declared.commands.Command.{Command}
-use Rattle.pw_top_words.specs.declared.commands.Command.TheVariants.{Go, Build as BuildAll, Session, PhaseOne, Analyse, PhaseTwo, Link, Run, List as ListImage, Db, Bench}
+use Rattle.pw_top_words.specs.declared.commands.Command.TheVariants.{Go, Build as BuildAll, Session, PhaseOne, Analyse, PhaseTwo, Link, Run, List as ListImage, Db, Bench, Where, Preprocess}
+use Rattle.pw_commands_cpp.specs.Command.{CppEffect, CppOver, IsCppAnswer, effect_of, needed_source}
 use Rattle.pw_commands_phases.specs.First.{EffectOfPhase, PhaseOneEffect, PhaseOneOver}
 use Rattle.pw_commands_phases.specs.Made.{IsPhaseAnswer}
 use Rattle.pw_commands_phases.specs.Second.{PhaseTwoEffect, PhaseTwoOver, database_at, flow_at}
@@ -43,9 +45,11 @@ use Rattle.pw_top.proofs.DoesLemmas.{Prints, Quiet, left_so, nothing_put, one_do
 abbrev pub Comes : Option Command → Files → List ℕ → (Effect → Type 0)
 Comes None files input = λ effect. effect ≡ answers_alone Usage input
 Comes (Some (Go opts)) files input = GoEffect files opts input
+Comes (Some (Where k opts)) files input = WhereEffect files opts k input
 Comes (Some (BuildAll opts)) files input = BuildEffect files opts input
 Comes (Some (Session opts)) files input = λ effect. ⊥
 Comes (Some (Bench number opts)) files input = BenchEffect number opts input
+Comes (Some (Preprocess name)) files input = CppEffect files name input
 Comes (Some (PhaseOne name optimise)) files input = PhaseOneEffect files name optimise input
 Comes (Some (Analyse colours)) files input = AnalyseEffect files colours input
 Comes (Some (PhaseTwo name)) files input = PhaseTwoEffect files name input
@@ -75,6 +79,17 @@ link_quiet (Ok objects) stack input e h =
     (λ l. subst (Quiet input) (sym l.1.2) (record { output = refl; rest = refl }))
     h
 
+output_quiet : (name : List ℕ) (output : _) (input : List ℕ) (e : Effect) → e ≡ effect_of name output input → Quiet input e
+output_quiet name (Ok output) input e h = subst (Quiet input) (sym h) (record { output = refl; rest = refl })
+output_quiet name (Err fault) input e h = subst (Quiet input) (sym h) (record { output = refl; rest = refl })
+
+cpp_over_quiet : (headers : _) (name : List ℕ) (text : Result (List ℕ) Answer) (input : List ℕ) (e : Effect) → CppOver headers name text input e → Quiet input e
+cpp_over_quiet headers name (Err answer) input e h = quiet_answer answer input e h
+cpp_over_quiet headers name (Ok text) input e h = output_quiet name h.0 input e h.2
+
+cpp_quiet : (files : Files) (name input : List ℕ) (e : Effect) → CppEffect files name input e → Quiet input e
+cpp_quiet files name input e h = cpp_over_quiet _ name (needed_source files name) input e h
+
 phase_quiet : (name : List ℕ) (o : Bool) (phase : Phase) (input : List ℕ) (e : Effect) → EffectOfPhase name o phase input e → Quiet input e
 phase_quiet name o (Err refusal) input e h = quiet_answer (Refused name refusal) input e h
 phase_quiet name o (Ok flow) input e h = subst (Quiet input) (sym h.3) (record { output = refl; rest = refl })
@@ -98,6 +113,11 @@ pub phase_one_does : (told new : Option Told) (rest taken : Option (List ℕ)) (
     → IfSome told (λ t. IfSome rest (λ input. Does (PhaseOneEffect t.files name o input) answer t new input rest taken taken))
 phase_one_does told new rest taken name o answer h =
     store_does (λ files input. PhaseOneEffect files name o input) told new rest taken answer (λ files input e d. phase_one_quiet name o (needed_bytes files (text_name name)) input e d) h
+
+pub cpp_does : (told new : Option Told) (rest taken : Option (List ℕ)) (name : List ℕ) (answer : Answer) → IfSome told (λ t. (input : List ℕ) → Obeys (CppEffect t.files name input) answer t new)
+    → IfSome told (λ t. IfSome rest (λ input. Does (CppEffect t.files name input) answer t new input rest taken taken))
+cpp_does told new rest taken name answer h =
+    store_does (λ files input. CppEffect files name input) told new rest taken answer (λ files input e d. cpp_quiet files name input e d) h
 
 pub analyse_does : (told new : Option Told) (rest taken : Option (List ℕ)) (colours : ℕ) (answer : Answer) → IfSome told (λ t. (input : List ℕ) → Obeys (AnalyseEffect t.files colours input) answer t new)
     → IfSome told (λ t. IfSome rest (λ input. Does (AnalyseEffect t.files colours input) answer t new input rest taken taken))
@@ -235,13 +255,26 @@ pub go_no_usage : (answer : Answer) → IsGoAnswer answer → IsNoUsage answer
 go_no_usage Usage h = h
 go_no_usage _ h = tt
 
+pub where_does : (told new : Option Told) (old rest taken taken' : Option (List ℕ)) (opts : RunOpts) (k : ℕ) (answer : Answer)
+    → IfSome told (λ t. IfSome old (λ input. Obeys (WhereEffect t.files opts k input) answer t new))
+    → IfSome told (λ t. IfSome old (λ input. (e : Effect) → WhereEffect t.files opts k input e → PutsOut e.output answer taken taken'))
+    → IfSome told (λ t. IfSome old (λ input. (e : Effect) → WhereEffect t.files opts k input e → LeavesInput e.rest input answer rest))
+    → IfSome told (λ t. IfSome old (λ input. Does (WhereEffect t.files opts k input) answer t new input rest taken taken'))
+where_does None new old rest taken taken' opts k answer h out left = tt
+where_does (Some t) new None rest taken taken' opts k answer h out left = tt
+where_does (Some t) new (Some input) rest taken taken' opts k answer h out left = record { answers = λ e d. h.answers e d; puts = λ e d. h.puts e d; output = out; rest = left; found = h.found }
+
+pub where_no_usage : (answer : Answer) → IsWhereAnswer answer → IsNoUsage answer
+where_no_usage Usage h = h
+where_no_usage _ h = tt
+
 -- ---- what each command leaves of the input is a rest of it
 
-abbrev pub RunsEnd : Type 0
-RunsEnd = (files : Files) (budget : ℕ) (input : List ℕ) → EndsIn input (run_effect files budget input).rest
-
-abbrev pub BuildsEnd : Type 0
-BuildsEnd = (files : Files) (opts : RunOpts) (input : List ℕ) (e : Effect) → GoEffect files opts input e → EndsIn input e.rest
+-- the laws of the commands that read it
+pub record Ends : Type 0 where
+  pub run : (files : Files) (budget : ℕ) (input : List ℕ) → EndsIn input (run_effect files budget input).rest
+  pub go : (files : Files) (opts : RunOpts) (input : List ℕ) (e : Effect) → GoEffect files opts input e → EndsIn input e.rest
+  pub looks : (files : Files) (opts : RunOpts) (k : ℕ) (input : List ℕ) (e : Effect) → WhereEffect files opts k input e → EndsIn input e.rest
 
 ends_itself : (input : List ℕ) → EndsIn input input
 ends_itself input = ([], refl)
@@ -249,19 +282,21 @@ ends_itself input = ([], refl)
 left_all : (input : List ℕ) (e : Effect) → e.rest ≡ input → EndsIn input e.rest
 left_all input e h = subst (EndsIn input) (sym h) (ends_itself input)
 
-pub comes_ends : RunsEnd → BuildsEnd → (command : Option Command) (files : Files) (input : List ℕ) (e : Effect) → Comes command files input e → EndsIn input e.rest
-comes_ends runs builds None files input e h = left_all input e (ap (λ (x : Effect). x.rest) h)
-comes_ends runs builds (Some (Go opts)) files input e h = builds files opts input e h
-comes_ends runs builds (Some (BuildAll opts)) files input e h = left_all input e (comes_rest files opts input e h)
-comes_ends runs builds (Some (Session opts)) files input e h = absurd h
-comes_ends runs builds (Some (Bench number opts)) files input e h = left_all input e (bench_prints number opts input e h).rest
-comes_ends runs builds (Some (PhaseOne name optimise)) files input e h = left_all input e (phase_one_quiet name optimise (needed_bytes files (text_name name)) input e h).rest
-comes_ends runs builds (Some (Analyse colours)) files input e h = left_all input e (analyse_quiet (summaries_of files) colours input e h).rest
-comes_ends runs builds (Some (PhaseTwo name)) files input e h = left_all input e (phase_two_quiet name (needed flow_at files (flow_name name)) (needed database_at files database_name) input e h).rest
-comes_ends runs builds (Some (Link stack)) files input e h = left_all input e (link_quiet (objects_of files) stack input e h).rest
-comes_ends runs builds (Some (Run steps)) files input e h = subst (λ (x : Effect). EndsIn input x.rest) (sym h) (runs files steps input)
-comes_ends runs builds (Some ListImage) files input e h = left_all input e (list_prints (image_in files) input e h).rest
-comes_ends runs builds (Some Db) files input e h = left_all input e (subst (Prints input) (sym h) (printed_prints (database_text files) input)).rest
+pub comes_ends : Ends → (command : Option Command) (files : Files) (input : List ℕ) (e : Effect) → Comes command files input e → EndsIn input e.rest
+comes_ends ends None files input e h = left_all input e (ap (λ (x : Effect). x.rest) h)
+comes_ends ends (Some (Go opts)) files input e h = ends.go files opts input e h
+comes_ends ends (Some (Where k opts)) files input e h = ends.looks files opts k input e h
+comes_ends ends (Some (BuildAll opts)) files input e h = left_all input e (comes_rest files opts input e h)
+comes_ends ends (Some (Session opts)) files input e h = absurd h
+comes_ends ends (Some (Bench number opts)) files input e h = left_all input e (bench_prints number opts input e h).rest
+comes_ends ends (Some (Preprocess name)) files input e h = left_all input e (cpp_quiet files name input e h).rest
+comes_ends ends (Some (PhaseOne name optimise)) files input e h = left_all input e (phase_one_quiet name optimise (needed_bytes files (text_name name)) input e h).rest
+comes_ends ends (Some (Analyse colours)) files input e h = left_all input e (analyse_quiet (summaries_of files) colours input e h).rest
+comes_ends ends (Some (PhaseTwo name)) files input e h = left_all input e (phase_two_quiet name (needed flow_at files (flow_name name)) (needed database_at files database_name) input e h).rest
+comes_ends ends (Some (Link stack)) files input e h = left_all input e (link_quiet (objects_of files) stack input e h).rest
+comes_ends ends (Some (Run steps)) files input e h = subst (λ (x : Effect). EndsIn input x.rest) (sym h) (ends.run files steps input)
+comes_ends ends (Some ListImage) files input e h = left_all input e (list_prints (image_in files) input e h).rest
+comes_ends ends (Some Db) files input e h = left_all input e (subst (Prints input) (sym h) (printed_prints (database_text files) input)).rest
 
 -- ---- the words
 
@@ -273,6 +308,8 @@ none_and_some o x n s = cc
 pub left_alone : (answer : Answer) (input taken : Option (List ℕ)) → LeavesStreams answer input input taken taken
 left_alone Usage input taken = (refl, refl)
 left_alone (Refused name refusal) input taken = (refl, refl)
+left_alone (RefusedSource name refusal) input taken = (refl, refl)
+left_alone (Cpp fault) input taken = (refl, refl)
 left_alone (LinkRefused fault) input taken = (refl, refl)
 left_alone (BadFile name at) input taken = (refl, refl)
 left_alone StoreFault input taken = (refl, refl)
@@ -289,6 +326,18 @@ store_writes count _ h = refl
 pub show_reads : (count : ℕ) (answer : Answer) → IsShowAnswer answer → InputCount count count answer
 show_reads count ReadFault h = absurd h
 show_reads count _ h = refl
+
+pub cpp_reads : (count : ℕ) (answer : Answer) → IsCppAnswer answer → InputCount count count answer
+cpp_reads count ReadFault h = absurd h
+cpp_reads count _ h = refl
+
+pub cpp_writes : (count : ℕ) (answer : Answer) → IsCppAnswer answer → OutputCount count count answer
+cpp_writes count WriteFault h = absurd h
+cpp_writes count _ h = refl
+
+pub cpp_no_usage : (answer : Answer) → IsCppAnswer answer → IsNoUsage answer
+cpp_no_usage Usage h = h
+cpp_no_usage _ h = tt
 
 pub phase_reads : (count : ℕ) (answer : Answer) → IsPhaseAnswer answer → InputCount count count answer
 phase_reads count ReadFault h = absurd h
@@ -323,6 +372,7 @@ no_command command answer e = absurd (none_and_some (Some command) command e ref
 
 first_line : (answer : Answer) → IsLineDue None answer None
 first_line (Refused name refusal) = refl
+first_line (RefusedSource name refusal) = refl
 first_line _ = tt
 
 -- an answer of a command that refuses no module

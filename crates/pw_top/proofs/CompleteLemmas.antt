@@ -1,10 +1,10 @@
--- Where the kept objects are genuine, `build` and `go` refuse nothing exactly where the modules can be built.
+-- Where the kept objects are genuine, `build`, `go` and `where` refuse nothing exactly where the modules can be built.
 use Rattle.std.proofs.Common.{◌≡◌, ◌≤◌, Option, Some, None, Result, Ok, Err, refl, sym, subst}
 use Rattle.std.specs.Prelude.{◌↔◌, IfSome, IsOk}
 use Rattle.pw_io.specs.Files.{Files, Told}
 use Rattle.pw_store_modules.specs.Modules.{modules_of}
 use Rattle.pw_top_answer.specs.declared.answer.Answer.{Answer}
-use Rattle.pw_top_answer.specs.declared.answer.Answer.TheVariants.{Refused, LinkRefused, ReadFault, WriteFault, StoreFault, NoMemory, BadFile, BadScript}
+use Rattle.pw_top_answer.specs.declared.answer.Answer.TheVariants.{Refused, RefusedSource, Cpp, LinkRefused, ReadFault, WriteFault, StoreFault, NoMemory, BadFile, BadScript}
 use Rattle.pw_top_answer.specs.Outcomes.{IsNoRefusal, RefusesAs}
 use Rattle.pw_db.specs.Limits.{colour_limit}
 use Rattle.pw_law_session.specs.FromSession.FromBuild.BuildFault.{BuildFault}
@@ -16,7 +16,7 @@ use Rattle.pw_go.specs.Going.{HasBuilt, IfMade}
 use Rattle.pw_build_opts.specs.declared.opts.Opts.{Opts}
 use Rattle.pw_law_session.specs.FromBuildLaws.Complete.{CanBeBuilt}
 use Rattle.pw_top_words.specs.declared.commands.Command.{Command}
-use Rattle.pw_top_words.specs.declared.commands.Command.TheVariants.{Go, Build as BuildAll}
+use Rattle.pw_top_words.specs.declared.commands.Command.TheVariants.{Go, Build as BuildAll, Where}
 use Rattle.pw_top.specs.Commands.{BuildsFirst, IsComplete}
 use Rattle.pw_top.proofs.WholeLemmas.{AreWithin}
 
@@ -55,6 +55,8 @@ refuses fault WriteFault h = λ clear. h
 refuses fault StoreFault h = tt
 refuses fault NoMemory h = tt
 refuses fault (Refused name refusal) h = λ clear. clear
+refuses fault (RefusedSource name refusal) h = λ clear. clear
+refuses fault (Cpp other) h = λ clear. clear
 refuses fault (LinkRefused other) h = λ clear. clear
 refuses fault (BadFile name at) h = λ clear. clear
 refuses fault (BadScript at) h = λ clear. clear
@@ -81,6 +83,7 @@ built_exactly opts answer told new law h =
 complete_of : AreBuiltExactly → (command : Option Command) (answer : Answer) (told : Told) (new : Option Told) → AreWithin command → BuildsFirst command answer told new → IsComplete command told.files answer
 complete_of law (Some (BuildAll opts)) answer told new within built = λ keeps. built_exactly opts answer told new (λ comes h. law told.files opts comes within.0 keeps h) built
 complete_of law (Some (Go opts)) answer told new within built = λ keeps. built_exactly opts.build answer told new (λ comes h. law told.files opts.build comes within.0 keeps h) built
+complete_of law (Some (Where k opts)) answer told new within built = λ keeps. built_exactly opts.build answer told new (λ comes h. law told.files opts.build comes within.1.0 keeps h) built
 complete_of law command answer told new within built = tt
 
 pub is_complete : AreBuiltExactly → (command : Option Command) (first new : Option Told) (answer : Answer) → AreWithin command → IfSome first (λ t. BuildsFirst command answer t new) → IfSome first (λ t. IsComplete command t.files answer)

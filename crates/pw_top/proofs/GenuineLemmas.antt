@@ -4,7 +4,7 @@ use Rattle.std.specs.Prelude.{IfSome, IsSomeAnd}
 use Rattle.std.specs.List.{AllByRecursion}
 use Rattle.pw_io.specs.Files.{Told, Keeps}
 use Rattle.pw_object.specs.declared.object.Object.{Object}
-use Rattle.pw_store_modules.specs.FileNames.{database_name, image_name, flow_name, summary_name, object_name}
+use Rattle.pw_store_modules.specs.FileNames.{database_name, image_name, flow_name, summary_name, object_name, text_name}
 use Rattle.pw_top_answer.specs.declared.answer.Answer.{Answer}
 use Rattle.pw_top_answer.specs.declared.answer.Answer.TheVariants.{NoMemory}
 use Rattle.pw_top_answer.specs.Effects.{NamedFile, PutPart}
@@ -12,11 +12,12 @@ use Rattle.pw_build_objects.specs.Kept.{IsGenuine}
 use Rattle.pw_commands.specs.Others.{IsNoneOf, IsOneOf, KeepsOthers, PutsOnly}
 use Rattle.pw_store_kept.specs.Kept.{counted, object_in}
 use Rattle.pw_law_session.specs.FromSession.FromBuildFiles.Genuine.{IsGenuineFile, KeepsGenuine}
+use Rattle.pw_commands_cpp.specs.Command.{cpp_puts}
 use Rattle.pw_commands_phases.specs.First.{phase_one_puts}
 use Rattle.pw_commands_phases.specs.Second.{IsMade, IsMadeFile, PutsMade}
 use Rattle.pw_law_session.specs.FromSession.FromBuildFiles.Driving.{KeepsUnput}
 use Rattle.pw_top_words.specs.declared.commands.Command.{Command}
-use Rattle.pw_top_words.specs.declared.commands.Command.TheVariants.{Go, Build as BuildAll, Session, PhaseOne, Analyse, PhaseTwo, Link}
+use Rattle.pw_top_words.specs.declared.commands.Command.TheVariants.{Go, Build as BuildAll, Session, Where, Preprocess, PhaseOne, Analyse, PhaseTwo, Link}
 use Rattle.pw_law_session.specs.FromSession.Removals.{MayRemove}
 use Rattle.pw_top.specs.Commands.{KeepsTheRest, files_put}
 use Rattle.pw_top.proofs.SessionLemmas.{changes_none, rest_none}
@@ -49,6 +50,9 @@ phase_one_apart unit name = (
   (differs name (summary_name unit) 109 (last_behind unit 46 (115 ∷ 117 ∷ 109 ∷ [])) (λ e. let h : 106 ≡ 109 = e in omega (arith, h)), tt),
 )
 
+pub cpp_apart : (unit name : List ℕ) → IsNoneOf (cpp_puts unit) (object_name name)
+cpp_apart unit name = (differs name (text_name unit) 105 (last_behind unit 46 (105 ∷ [])) (λ e. let h : 106 ≡ 105 = e in omega (arith, h)), tt)
+
 -- ---- genuine objects
 
 not_one : (names : List (List ℕ)) (name : List ℕ) → IsNoneOf names name → IsOneOf names name → ⊥
@@ -71,12 +75,14 @@ stays_genuine names answer (Some t) (Some now) apart h =
 abbrev pub PutsNoObject : Option Command → Type 0
 PutsNoObject (Some (Go opts)) = ⊥
 PutsNoObject (Some (BuildAll opts)) = ⊥
+PutsNoObject (Some (Where k opts)) = ⊥
 PutsNoObject (Some (Session opts)) = ⊥
 PutsNoObject (Some (PhaseTwo name)) = ⊥
 PutsNoObject _ = Unit {0}
 
 puts_apart : (command : Option Command) → PutsNoObject command → (name : List ℕ) → IsNoneOf (files_put command) (object_name name)
 puts_apart (Some (PhaseTwo unit)) h name = absurd h
+puts_apart (Some (Preprocess unit)) h name = cpp_apart unit name
 puts_apart (Some (PhaseOne unit optimise)) h name = phase_one_apart unit name
 puts_apart (Some (Analyse colours)) h name = database_apart name
 puts_apart (Some (Link stack)) h name = image_apart name
@@ -85,6 +91,7 @@ puts_apart _ h name = tt
 others_of : (command : Option Command) (script : Option (List ℕ)) (answer : Answer) (told new : Option Told) → PutsNoObject command → KeepsTheRest command script answer told new → KeepsOthers (files_put command) answer told new
 others_of (Some (Go opts)) script answer told new p h = absurd p
 others_of (Some (BuildAll opts)) script answer told new p h = absurd p
+others_of (Some (Where k opts)) script answer told new p h = absurd p
 others_of (Some (Session opts)) script answer told new p h = absurd p
 others_of command script answer told new p h = h
 
@@ -136,6 +143,8 @@ rest_alone (Some (Go opts)) script None = tt
 rest_alone (Some (Go opts)) script (Some t) = unput_alone NoMemory t
 rest_alone (Some (BuildAll opts)) script None = tt
 rest_alone (Some (BuildAll opts)) script (Some t) = unput_alone NoMemory t
+rest_alone (Some (Where k opts)) script None = tt
+rest_alone (Some (Where k opts)) script (Some t) = unput_alone NoMemory t
 rest_alone (Some (Session opts)) script None = tt
 rest_alone (Some (Session opts)) script (Some t) = (changes_none (MayRemove script) t, rest_none (MayRemove script) NoMemory t)
 rest_alone command script told = others_alone (files_put command) NoMemory told

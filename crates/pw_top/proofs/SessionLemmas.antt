@@ -3,7 +3,7 @@ use Rattle.std.proofs.Common.{◌≡◌, ℕ, List, [], Option, Some, None, Resu
 use Rattle.std.specs.Prelude.{IfSome, IsSomeAnd}
 use Rattle.pw_io.specs.Files.{Told}
 use Rattle.pw_top_answer.specs.declared.answer.Answer.{Answer}
-use Rattle.pw_top_answer.specs.declared.answer.Answer.TheVariants.{Done, Usage, Refused, LinkRefused, Halted, ReadFault, WriteFault, StoreFault, NoMemory, BadFile, BadScript}
+use Rattle.pw_top_answer.specs.declared.answer.Answer.TheVariants.{Done, Usage, Refused, RefusedSource, Cpp, LinkRefused, Halted, ReadFault, WriteFault, StoreFault, NoMemory, BadFile, BadScript, NoFrames}
 use Rattle.pw_top_answer.specs.Answers.{NeedsMemory}
 use Rattle.pw_top_answer.specs.Effects.{Effect, NamedFile, PutsFiles}
 use Rattle.pw_top_answer.specs.Outcomes.{InputCount, IsLineDue, StoreCount}
@@ -67,20 +67,26 @@ changes_none may told = ([], tt, refl)
 
 pub some_memory : (may : List ℕ → Type 0) (answer : Answer) (told : Told) (new : Option Told) → NeedsMemory answer → MakesSome may answer told new → MakesSome may NoMemory told new
 some_memory may (Refused name refusal) told new n h = h
+some_memory may (RefusedSource name refusal) told new n h = h
+some_memory may (Cpp fault) told new n h = h
 some_memory may (LinkRefused fault) told new n h = h
 some_memory may (Halted halt at) told new n h = h
 some_memory may (BadFile name at) told new n h = h
 some_memory may (BadScript at) told new n h = h
+some_memory may (NoFrames address) told new n h = h
 some_memory may _ told new n h = absurd n
 
 -- ---- want of memory in place of the answer's line
 
 changes_front : (changes : List Change) (answer : Answer) (told : Told) (new : Option Told) → NeedsMemory answer → MakesChanges changes answer told new → ChangePrefix told changes new
 changes_front changes (Refused name refusal) told new n h = record { done = changes; more = []; split = sym (append-nil changes); left = h }
+changes_front changes (RefusedSource name refusal) told new n h = record { done = changes; more = []; split = sym (append-nil changes); left = h }
+changes_front changes (Cpp fault) told new n h = record { done = changes; more = []; split = sym (append-nil changes); left = h }
 changes_front changes (LinkRefused fault) told new n h = record { done = changes; more = []; split = sym (append-nil changes); left = h }
 changes_front changes (Halted halt at) told new n h = record { done = changes; more = []; split = sym (append-nil changes); left = h }
 changes_front changes (BadFile name at) told new n h = record { done = changes; more = []; split = sym (append-nil changes); left = h }
 changes_front changes (BadScript at) told new n h = record { done = changes; more = []; split = sym (append-nil changes); left = h }
+changes_front changes (NoFrames address) told new n h = record { done = changes; more = []; split = sym (append-nil changes); left = h }
 changes_front changes _ told new n h = absurd n
 
 leaves_part : (script : List ℕ) (answer : Answer) (rest : Option (List ℕ)) → NeedsMemory answer → LeavesScript script answer rest → LeavesScript script NoMemory rest
@@ -154,6 +160,7 @@ bench_stores count _ h = refl
 
 bench_due : (number : ℕ) (answer : Answer) (line : Option ℕ) → IsBenchLine number answer line → IsLineDue (refused_line (modules_of (bench_files number))) answer line
 bench_due number (Refused name refusal) line h = h
+bench_due number (RefusedSource name refusal) line h = h
 bench_due number _ line h = tt
 
 pub bench_line : (told : Option Told) (number : ℕ) (answer : Answer) (line : Option ℕ) → IsBenchLine number answer line → IfSome told (λ t. IsLineDue (refused_line (modules_of (bench_files number))) answer line)

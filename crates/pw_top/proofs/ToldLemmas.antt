@@ -4,7 +4,7 @@ use Rattle.std.specs.Prelude.{IfSome}
 use Rattle.pw_io.specs.Files.{Files, Told}
 use Rattle.pw_front_end.specs.declared.refusal.Refusal.{Refusal}
 use Rattle.pw_top_answer.specs.declared.answer.Answer.{Answer}
-use Rattle.pw_top_answer.specs.declared.answer.Answer.TheVariants.{Usage, Refused, LinkRefused, Halted, StoreFault, NoMemory, BadFile, BadScript}
+use Rattle.pw_top_answer.specs.declared.answer.Answer.TheVariants.{Usage, Refused, RefusedSource, Cpp, LinkRefused, Halted, StoreFault, NoMemory, BadFile, BadScript, NoFrames}
 use Rattle.pw_top_answer.specs.Answers.{line_text, NeedsMemory}
 use Rattle.pw_top_answer.specs.Effects.{Effect, NamedFile, PutsFiles, PutPrefix}
 use Rattle.pw_top_answer.specs.Outcomes.{Answers, InputCount, IsLineDue, LeavesInput, LeavesStreams, OutputCount, StoreCount, ToldAs, WasReadInPart}
@@ -16,7 +16,7 @@ use Rattle.pw_law_session.specs.FromSession.FromBuildFiles.Outcomes.{AnswersOutc
 use Rattle.pw_build_opts.specs.declared.opts.Opts.{Opts}
 use Rattle.pw_go.specs.Going.{HasBuilt}
 use Rattle.pw_top_words.specs.declared.commands.Command.{Command}
-use Rattle.pw_top_words.specs.declared.commands.Command.TheVariants.{Go, Build as BuildAll, Session}
+use Rattle.pw_top_words.specs.declared.commands.Command.TheVariants.{Go, Build as BuildAll, Session, Where}
 use Rattle.pw_law_session.specs.FromSession.FromBuildFiles.Driving.{KeepsUnput, Unput}
 use Rattle.pw_law_session.specs.FromSession.Removals.{MayRemove}
 use Rattle.pw_top.specs.Answers.{HoldsNoWantOfMemory}
@@ -24,10 +24,13 @@ use Rattle.pw_top.specs.Commands.{BuildsFirst, EndsScript, KeepsTheRest, files_p
 use Rattle.pw_top.specs.Does.{Does, DoesAs}
 use Rattle.pw_top.proofs.DoesLemmas.{memory_here, out_part}
 use Rattle.pw_top.proofs.SessionLemmas.{left_memory, session_memory_here, session_no_memory, some_memory}
-use Rattle.pw_top.proofs.CommandLemmas.{BuildsEnd, Comes, RunsEnd, comes_ends}
+use Rattle.pw_top.proofs.CommandLemmas.{Comes, Ends, comes_ends}
 
 refused_is_some_memory : (name : List ℕ) (refusal : Refusal) → Refused name refusal ≡ NoMemory → ⊥
 refused_is_some_memory name refusal e = cc
+
+source_is_some_memory : (name : List ℕ) (refusal : Refusal) → RefusedSource name refusal ≡ NoMemory → ⊥
+source_is_some_memory name refusal e = cc
 
 pub no_memory_is_no_usage : NoMemory ≡ Usage → ⊥
 no_memory_is_no_usage e = cc
@@ -54,10 +57,13 @@ usage_comes answer told P t h p = usage_told answer told t (h p)
 
 puts_all : (answer : Answer) (files : List NamedFile) (told : Told) (new : Option Told) → NeedsMemory answer → PutsFiles files answer told new → PutPrefix told files new
 puts_all (Refused name refusal) files told new n h = record { done = files; more = []; split = sym (append-nil files); left = h }
+puts_all (RefusedSource name refusal) files told new n h = record { done = files; more = []; split = sym (append-nil files); left = h }
+puts_all (Cpp fault) files told new n h = record { done = files; more = []; split = sym (append-nil files); left = h }
 puts_all (LinkRefused fault) files told new n h = record { done = files; more = []; split = sym (append-nil files); left = h }
 puts_all (Halted halt at) files told new n h = record { done = files; more = []; split = sym (append-nil files); left = h }
 puts_all (BadFile name at) files told new n h = record { done = files; more = []; split = sym (append-nil files); left = h }
 puts_all (BadScript at) files told new n h = record { done = files; more = []; split = sym (append-nil files); left = h }
+puts_all (NoFrames address) files told new n h = record { done = files; more = []; split = sym (append-nil files); left = h }
 puts_all _ files told new n h = absurd n
 
 part_of_wanted : (input wanted : List ℕ) (new : Option (List ℕ)) → EndsIn input wanted → new ≡ Some wanted → WasReadInPart wanted input new
@@ -65,10 +71,13 @@ part_of_wanted input wanted new e h = let P : Option (List ℕ) → Type 0 = λ 
 
 left_part : (input wanted : List ℕ) (new : Option (List ℕ)) (answer : Answer) → EndsIn input wanted → NeedsMemory answer → LeavesInput wanted input answer new → WasReadInPart wanted input new
 left_part input wanted new (Refused name refusal) e n h = part_of_wanted input wanted new e h
+left_part input wanted new (RefusedSource name refusal) e n h = part_of_wanted input wanted new e h
+left_part input wanted new (Cpp fault) e n h = part_of_wanted input wanted new e h
 left_part input wanted new (LinkRefused fault) e n h = part_of_wanted input wanted new e h
 left_part input wanted new (Halted halt at) e n h = part_of_wanted input wanted new e h
 left_part input wanted new (BadFile name at) e n h = part_of_wanted input wanted new e h
 left_part input wanted new (BadScript at) e n h = part_of_wanted input wanted new e h
+left_part input wanted new (NoFrames address) e n h = part_of_wanted input wanted new e h
 left_part input wanted new _ e n h = absurd n
 
 does_no_memory : (comes : Effect → Type 0) (answer : Answer) (told : Told) (new : Option Told) (input : List ℕ) (rest taken taken' : Option (List ℕ)) → ((e : Effect) → comes e → EndsIn input e.rest) → NeedsMemory answer
@@ -81,28 +90,28 @@ does_no_memory comes answer told new input rest taken taken' ends n h = record {
   found = tt;
 }
 
-as_no_memory : RunsEnd → BuildsEnd → (command : Option Command) (answer : Answer) (told : Told) (new : Option Told) (input : List ℕ) (rest taken taken' : Option (List ℕ)) → NeedsMemory answer
+as_no_memory : Ends → (command : Option Command) (answer : Answer) (told : Told) (new : Option Told) (input : List ℕ) (rest taken taken' : Option (List ℕ)) → NeedsMemory answer
     → DoesAs command answer told new input rest taken taken' → DoesAs command NoMemory told new input rest taken taken'
-as_no_memory runs builds (Some (Session opts)) answer told new input rest taken taken' n h = session_no_memory opts answer told new input rest taken taken' n h
-as_no_memory runs builds command answer told new input rest taken taken' n h =
-    does_no_memory (Comes command told.files input) answer told new input rest taken taken' (λ e c. comes_ends runs builds command told.files input e c) n h
+as_no_memory ends (Some (Session opts)) answer told new input rest taken taken' n h = session_no_memory opts answer told new input rest taken taken' n h
+as_no_memory ends command answer told new input rest taken taken' n h =
+    does_no_memory (Comes command told.files input) answer told new input rest taken taken' (λ e c. comes_ends ends command told.files input e c) n h
 
-memory_as : RunsEnd → BuildsEnd → (command : Option Command) (told : Told) (input : List ℕ) (taken : Option (List ℕ)) → DoesAs command NoMemory told (Some told) input (Some input) taken taken
-memory_as runs builds (Some (Session opts)) told input taken = session_memory_here opts told input taken
-memory_as runs builds command told input taken = memory_here (Comes command told.files input) told input taken (λ e c. comes_ends runs builds command told.files input e c)
+memory_as : Ends → (command : Option Command) (told : Told) (input : List ℕ) (taken : Option (List ℕ)) → DoesAs command NoMemory told (Some told) input (Some input) taken taken
+memory_as ends (Some (Session opts)) told input taken = session_memory_here opts told input taken
+memory_as ends command told input taken = memory_here (Comes command told.files input) told input taken (λ e c. comes_ends ends command told.files input e c)
 
-pub memory_does : RunsEnd → BuildsEnd → (command : Option Command) (told : Option Told) (rest taken : Option (List ℕ)) → IfSome told (λ t. IfSome rest (λ input. DoesAs command NoMemory t told input rest taken taken))
-memory_does runs builds command None rest taken = tt
-memory_does runs builds command (Some t) None taken = tt
-memory_does runs builds command (Some t) (Some input) taken = memory_as runs builds command t input taken
+pub memory_does : Ends → (command : Option Command) (told : Option Told) (rest taken : Option (List ℕ)) → IfSome told (λ t. IfSome rest (λ input. DoesAs command NoMemory t told input rest taken taken))
+memory_does ends command None rest taken = tt
+memory_does ends command (Some t) None taken = tt
+memory_does ends command (Some t) (Some input) taken = memory_as ends command t input taken
 
-pub told_does : RunsEnd → BuildsEnd → (command : Option Command) (first new : Option Told) (old rest taken taken' : Option (List ℕ)) (answer last : Answer) → ToldAs answer last
+pub told_does : Ends → (command : Option Command) (first new : Option Told) (old rest taken taken' : Option (List ℕ)) (answer last : Answer) → ToldAs answer last
     → IfSome first (λ t. IfSome old (λ input. DoesAs command answer t new input rest taken taken'))
     → IfSome first (λ t. IfSome old (λ input. DoesAs command last t new input rest taken taken'))
-told_does runs builds command None new old rest taken taken' answer last t h = tt
-told_does runs builds command (Some now) new None rest taken taken' answer last t h = tt
-told_does runs builds command (Some now) new (Some input) rest taken taken' answer last t h =
-    told_by (λ a. DoesAs command a now new input rest taken taken') answer last t h (λ n d. as_no_memory runs builds command answer now new input rest taken taken' n d)
+told_does ends command None new old rest taken taken' answer last t h = tt
+told_does ends command (Some now) new None rest taken taken' answer last t h = tt
+told_does ends command (Some now) new (Some input) rest taken taken' answer last t h =
+    told_by (λ a. DoesAs command a now new input rest taken taken') answer last t h (λ n d. as_no_memory ends command answer now new input rest taken taken' n d)
 
 -- ---- the end of a session
 
@@ -130,6 +139,7 @@ nothing_built opts told = record {
 
 builds_nothing : (command : Option Command) (told : Told) → BuildsFirst command NoMemory told (Some told)
 builds_nothing (Some (Go opts)) told = nothing_built opts.build told
+builds_nothing (Some (Where k opts)) told = nothing_built opts.build told
 builds_nothing (Some (BuildAll opts)) told = nothing_built opts told
 builds_nothing command told = tt
 
@@ -147,6 +157,7 @@ built_memory opts answer told new n h = record {
 
 builds_memory : (command : Option Command) (answer : Answer) (told : Told) (new : Option Told) → NeedsMemory answer → BuildsFirst command answer told new → BuildsFirst command NoMemory told new
 builds_memory (Some (Go opts)) answer told new n h = built_memory opts.build answer told new n h
+builds_memory (Some (Where k opts)) answer told new n h = built_memory opts.build answer told new n h
 builds_memory (Some (BuildAll opts)) answer told new n h = built_memory opts answer told new n h
 builds_memory command answer told new n h = tt
 
@@ -164,10 +175,13 @@ store_told before now answer last t h = told_by (λ a. StoreCount before now a) 
   where
     kept : (answer : Answer) → NeedsMemory answer → StoreCount before now answer → now ≡ before
     kept (Refused name refusal) n h = h
+    kept (RefusedSource name refusal) n h = h
+    kept (Cpp fault) n h = h
     kept (LinkRefused fault) n h = h
     kept (Halted halt at) n h = h
     kept (BadFile name at) n h = h
     kept (BadScript at) n h = h
+    kept (NoFrames address) n h = h
     kept _ n h = absurd n
 
 pub input_told : (before now : ℕ) (answer last : Answer) → ToldAs answer last → InputCount before now answer → InputCount before now last
@@ -175,10 +189,13 @@ input_told before now answer last t h = told_by (λ a. InputCount before now a) 
   where
     kept : (answer : Answer) → NeedsMemory answer → InputCount before now answer → now ≡ before
     kept (Refused name refusal) n h = h
+    kept (RefusedSource name refusal) n h = h
+    kept (Cpp fault) n h = h
     kept (LinkRefused fault) n h = h
     kept (Halted halt at) n h = h
     kept (BadFile name at) n h = h
     kept (BadScript at) n h = h
+    kept (NoFrames address) n h = h
     kept _ n h = absurd n
 
 pub output_told : (before now : ℕ) (answer last : Answer) → ToldAs answer last → OutputCount before now answer → OutputCount before now last
@@ -186,10 +203,13 @@ output_told before now answer last t h = told_by (λ a. OutputCount before now a
   where
     kept : (answer : Answer) → NeedsMemory answer → OutputCount before now answer → now ≡ before
     kept (Refused name refusal) n h = h
+    kept (RefusedSource name refusal) n h = h
+    kept (Cpp fault) n h = h
     kept (LinkRefused fault) n h = h
     kept (Halted halt at) n h = h
     kept (BadFile name at) n h = h
     kept (BadScript at) n h = h
+    kept (NoFrames address) n h = h
     kept _ n h = absurd n
 
 pub streams_told : (P : Type 0) (answer last : Answer) (i i' o o' : Option (List ℕ)) → ToldAs answer last → (P → LeavesStreams answer i i' o o') → P → LeavesStreams last i i' o o'
@@ -216,6 +236,8 @@ puts_memory names answer (Some told) (Some left) n h = record { put = h.put; fai
 rest_memory : (command : Option Command) (script : Option (List ℕ)) (answer : Answer) (old new : Option Told) → NeedsMemory answer → KeepsTheRest command script answer old new → KeepsTheRest command script NoMemory old new
 rest_memory (Some (Go opts)) script answer None new n h = tt
 rest_memory (Some (Go opts)) script answer (Some told) new n h = unput_memory answer told new n h
+rest_memory (Some (Where k opts)) script answer None new n h = tt
+rest_memory (Some (Where k opts)) script answer (Some told) new n h = unput_memory answer told new n h
 rest_memory (Some (BuildAll opts)) script answer None new n h = tt
 rest_memory (Some (BuildAll opts)) script answer (Some told) new n h = unput_memory answer told new n h
 rest_memory (Some (Session opts)) script answer None new n h = tt
@@ -232,6 +254,11 @@ same_line due answer (Refused name refusal) line l t =
     ⊎_elim
     (λ e. let P : Answer → Type 0 = λ a. IsLineDue due a line in ap (λ n. line_text n (Refused name refusal)) (subst P (sym e) l))
     (λ n. absurd (refused_is_some_memory name refusal n.1))
+    t
+same_line due answer (RefusedSource name refusal) line l t =
+    ⊎_elim
+    (λ e. let P : Answer → Type 0 = λ a. IsLineDue due a line in ap (λ n. line_text n (RefusedSource name refusal)) (subst P (sym e) l))
+    (λ n. absurd (source_is_some_memory name refusal n.1))
     t
 same_line due answer _ line l t = refl
 

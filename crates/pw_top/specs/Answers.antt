@@ -2,8 +2,9 @@
 use Rattle.pw_value.specs.declared.fault.LinkFault.{LinkFault}
 use Rattle.pw_value.specs.declared.fault.LinkFault.TheVariants as link
 use Rattle.pw_front_end.specs.Fronts.{HoldsNoWant}
+use Rattle.pw_commands_cpp.specs.Command.{IsCppAnswer}
 use Rattle.pw_top_answer.specs.declared.answer.Answer.{Answer}
-use Rattle.pw_top_answer.specs.declared.answer.Answer.TheVariants.{Usage, Refused, LinkRefused}
+use Rattle.pw_top_answer.specs.declared.answer.Answer.TheVariants.{Usage, Refused, RefusedSource, Cpp, LinkRefused}
 
 -- a refusal of modules together for another reason than want of memory
 abbrev pub HoldsNoLinkWant : LinkFault → Type 0
@@ -13,6 +14,8 @@ HoldsNoLinkWant _ = Unit {0}
 -- a refusal is never want of memory
 abbrev pub HoldsNoWantOfMemory : Answer → Type 0
 HoldsNoWantOfMemory (Refused name refusal) = HoldsNoWant refusal
+HoldsNoWantOfMemory (RefusedSource name refusal) = HoldsNoWant refusal
+HoldsNoWantOfMemory (Cpp fault) = IsCppAnswer (Cpp fault)
 HoldsNoWantOfMemory (LinkRefused fault) = HoldsNoLinkWant fault
 HoldsNoWantOfMemory _ = Unit {0}
 

@@ -77,8 +77,8 @@ abbrev pub IsNoSession : Option Command → Type 0
 IsNoSession (Some (Session opts)) = ⊥
 IsNoSession _ = Unit {0}
 
--- A store that told its files goes on telling them, and each file but those that the command puts is as it was; of `go`, of a
--- build and of a session the store tells which were put, and a session put files of modules and of builds, and removed files
+-- A store that told its files goes on telling them, and each file but those that the command puts is as it was; of `go`, of `where`,
+-- of a build and of a session the store tells which were put, and a session put files of modules and of builds, and removed files
 -- of modules, each by a line of its script, in order. Where the store failed, perhaps one file more was put in part.
 abbrev pub KeepsTheRest : Option Command → Option (List ℕ) → Answer → Option Told → Option Told → Type 0
 KeepsTheRest (Some (Go opts)) script answer old new = IfSome old (λ told. KeepsUnput answer told new)
@@ -88,7 +88,7 @@ KeepsTheRest (Some (Session opts)) script answer old new =
     IfSome old (λ told. MakesSome (MayRemove script) answer told new × IsSomeAnd new (LeavesRest (MayRemove script) answer told))
 KeepsTheRest command script answer old new = KeepsOthers (files_put command) answer old new
 
--- `build` and `go` built first, whatever the input tells: the refusal to which their build comes is their answer, in whose place
+-- `build`, `go` and `where` built first, whatever the input tells: the refusal to which their build comes is their answer, in whose place
 -- only want of memory and a fault of the store may come, and the files of a build were put.
 abbrev pub BuildsFirst : Option Command → Answer → Told → Option Told → Type 0
 BuildsFirst (Some (Go opts)) answer told new = HasBuilt opts.build answer told new
@@ -102,7 +102,7 @@ BuildsFirst _ answer told new = Unit {0}
 abbrev pub BuildsWhereItCan : Files → Opts → Answer → Type 0
 BuildsWhereItCan files opts answer = KeepsGenuine files → IfMade answer (IsNoRefusal answer ↔ CanBeBuilt (modules_of files) opts)
 
--- `build` and `go` do so
+-- `build`, `go` and `where` do so
 abbrev pub IsComplete : Option Command → Files → Answer → Type 0
 IsComplete (Some (Go opts)) files answer = BuildsWhereItCan files opts.build answer
 IsComplete (Some (Where k opts)) files answer = BuildsWhereItCan files opts.build answer

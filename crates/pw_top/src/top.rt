@@ -15,6 +15,7 @@ ghost use Rattle.pw_top_words.specs.Limits.{IsWithin};
 use pw_commands::{analyse_modules, link_modules, list_image, run_image, show_database};
 use pw_commands_cpp::preprocess_module;
 use pw_commands_phases::{compile_flow, compile_text};
+use pw_commands_where::laws::looks_leave_an_end;
 use pw_commands_where::show_call;
 use pw_go::go;
 use pw_go::laws::runs_leave_an_end;
@@ -40,7 +41,7 @@ fn obey_phase<S: Store>(alloc: Global, command: &Command, store: &mut S) -> Repl
     match command {
         Command::Preprocess(name) => Reply {
             answer: preprocess_module(alloc, store, name),
-            line: 1,
+            line: None,
         },
         Command::PhaseOne { name, optimise } => compile_text(alloc, store, name, *optimise),
         Command::Analyse { colours } => Reply {
@@ -128,8 +129,8 @@ fn obey<S: Store, I: Source, O: Sink>(
     ensures obeys { CarriesOut (Some command.now) result.answer result.line (outside_of (S.told store.old) (I.rest input.old) (O.taken out.old) (S.faults store.old) (I.faults input.old) (O.faults out.old)) (outside_of (S.told store.new) (I.rest input.new) (O.taken out.new) (S.faults store.new) (I.faults input.new) (O.faults out.new)) }
 {
     match command {
-        Command::Preprocess(_)
-        | Command::PhaseOne { .. }
+        Command::PhaseOne { .. }
+        | Command::Preprocess(_)
         | Command::Analyse { .. }
         | Command::PhaseTwo(_)
         | Command::Link { .. } => obey_phase(alloc, command, store),
@@ -157,6 +158,7 @@ fn obey_words<S: Store, I: Source, O: Sink>(
     ensures obeys { CarriesOut (command_of (map string_bytes words.now)) result.answer result.line (outside_of (S.told store.old) (I.rest input.old) (O.taken out.old) (S.faults store.old) (I.faults input.old) (O.faults out.old)) (outside_of (S.told store.new) (I.rest input.new) (O.taken out.new) (S.faults store.new) (I.faults input.new) (O.faults out.new)) }
 {
     commands_are_within();
+    looks_leave_an_end();
     runs_leave_an_end();
     match command(alloc, words) {
         Ok(command) => obey(alloc, &command, store, input, out),
@@ -206,7 +208,7 @@ pub fn pawc_top<S: Store, I: Source, O: Sink, E: Sink>(
     // no refusal is one for want of memory
     ensures no_want_refused { HoldsNoWantOfMemory result }
 
-    // the refusals and the files of `build` and `go`, whatever the input tells
+    // the refusals and the files of `build`, `go` and `where`, whatever the input tells
     ensures builds { IfSome (S.told store.old) (λ told. BuildsFirst (command_of (map string_bytes words.now)) result told (S.told store.new)) }
 
     // what stays
@@ -228,6 +230,7 @@ pub fn pawc_top<S: Store, I: Source, O: Sink, E: Sink>(
     bench_builds_in_full();
     builds_are_full();
     commands_are_within();
+    looks_leave_an_end();
     runs_leave_an_end();
     sessions_build_in_full();
     let reply = obey_words(alloc, words, store, input, out);

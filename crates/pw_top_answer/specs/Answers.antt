@@ -1,10 +1,10 @@
 -- The status and the line of each answer.
 use Rattle.std.specs.Prelude.{Bool, ℕ, List, [], ◌++◌, codes, false, true, Option, Some, None}
 use Rattle.std.specs.Fmt.{decimal}
-use Rattle.pw_cpp.specs.declared.fault.CppKind.{CppKind}
-use Rattle.pw_cpp.specs.declared.fault.CppKind.TheVariants as cpp
-use Rattle.pw_cpp.specs.declared.fault.CppWhich.{CppWhich}
-use Rattle.pw_cpp.specs.declared.fault.CppWhich.TheVariants as limit
+use Rattle.pw_cpp_directives.specs.declared.fault.CppKind.{CppKind}
+use Rattle.pw_cpp_directives.specs.declared.fault.CppKind.TheVariants as cpp
+use Rattle.pw_cpp_directives.specs.declared.fault.CppWhich.{CppWhich}
+use Rattle.pw_cpp_directives.specs.declared.fault.CppWhich.TheVariants as limit
 use Rattle.pw_machine.specs.declared.ends.Halt.{Halt}
 use Rattle.pw_machine.specs.declared.ends.Halt.TheVariants.{Illegal, Unaligned, OutOfMemoryRange, TextWrite, BadBranch, BadBreak}
 use Rattle.pw_token.specs.declared.token.Feature.{Feature}

@@ -5,3 +5,4 @@ pub mod Loads
 pub mod Once
 pub mod Reaching
 pub mod Orders
+pub mod Ends

@@ -1,10 +1,10 @@
--- What a call shows is one: one order of the globals, and one value of each.
-use Rattle.std.proofs.Common.{◌≡◌, ℕ, suc, ◌+◌, ◌<◌, ◌⊎◌, not, Bool, true, false, cond, List, [], ◌∷◌, length, get_or, Result, Ok, Err, refl, sym, ap, subst, ◌∙◌, arith, inl, inr}
+-- What a call shows is one: one order of the globals, which there is, and one value of each.
+use Rattle.std.proofs.Common.{◌≡◌, ℕ, zero, suc, ◌+◌, ◌<◌, ◌≤◌, ◌⊎◌, not, Bool, true, false, cond, List, [], ◌∷◌, length, get_or, Result, Ok, Err, refl, sym, ap, subst, ◌∙◌, arith, inl, inr}
 use Rattle.std.specs.Prelude.{filter, ◌&&◌}
 use Rattle.std.specs.List.{AllByRecursion}
-use Rattle.std.specs.List.Sorted.{IsSortedBy, ties}
+use Rattle.std.specs.List.Sorted.{IsPermutation, IsSortedBy, ties}
 use Rattle.std.specs.Cmp.{IsStrictWeakOrder}
-use Rattle.std.proofs.lemmas.List.Sorted.{sorted_far}
+use Rattle.std.proofs.lemmas.List.Sorted.{IsPermutation-cons, IsPermutation-middle, IsPermutation-refl, IsPermutation-trans, sorted_far}
 use Rattle.pw_object.specs.declared.object.Object.{Object}
 use Rattle.pw_image.specs.declared.image.Image.{Image}
 use Rattle.pw_image.specs.declared.image.Function.{Function}
@@ -25,6 +25,11 @@ all_from P (x ∷ xs) f = (f 0 x (omega arith), all_from P xs (λ i d low. f (su
 first_not : (a b : Bool) → (not a && not b) ≡ true → a ≡ false
 first_not true b e = absurd cc
 first_not false b e = refl
+
+second_not : (a b : Bool) → (not a && not b) ≡ true → b ≡ false
+second_not true b e = absurd cc
+second_not false true e = absurd cc
+second_not false false e = refl
 
 module _ {X : Type 0} (lt : X → X → Bool) (order : IsStrictWeakOrder lt) where
   abbrev IsUp : List X → Type 0
@@ -86,8 +91,102 @@ module _ {X : Type 0} (lt : X → X → Bool) (order : IsStrictWeakOrder lt) whe
   pub sorted_is_one : (xs ys : List X) → IsSortedBy lt xs → IsSortedBy lt ys → ((x : X) → filter (ties lt x) xs ≡ filter (ties lt x) ys) → xs ≡ ys
   sorted_is_one xs ys sx sy same = one_order xs ys (up xs sx) (up ys sy) same
 
+  -- ---- there is one: a thing goes in front of the first that is not before it
+
+  abbrev placed : X → List X → List X
+  placed x [] = x ∷ []
+  placed x (y ∷ ys) = cond (lt y x) (y ∷ placed x ys) (x ∷ y ∷ ys)
+
+  abbrev pub in_order : List X → List X
+  in_order [] = []
+  in_order (x ∷ xs) = placed x (in_order xs)
+
+  same_by : (b : Bool) (x y : X) (ys zs : List X) → IsPermutation (x ∷ ys) zs → IsPermutation (x ∷ y ∷ ys) (cond b (y ∷ zs) (x ∷ y ∷ ys))
+  same_by true x y ys zs h = IsPermutation-trans _ _ _ (IsPermutation-middle (x ∷ []) y ys) (IsPermutation-cons y (x ∷ ys) zs h)
+  same_by false x y ys zs h = IsPermutation-refl (x ∷ y ∷ ys)
+
+  placed_same : (x : X) (ys : List X) → IsPermutation (x ∷ ys) (placed x ys)
+  placed_same x [] = IsPermutation-refl (x ∷ [])
+  placed_same x (y ∷ ys) = same_by (lt y x) x y ys (placed x ys) (placed_same x ys)
+
+  pub order_same : (xs : List X) → IsPermutation xs (in_order xs)
+  order_same [] = IsPermutation-refl []
+  order_same (x ∷ xs) = IsPermutation-trans _ _ _ (IsPermutation-cons x xs (in_order xs) (order_same xs)) (placed_same x (in_order xs))
+
+  all_by : (P : X → Type 0) (b : Bool) (x y : X) (ys zs : List X) → P x → AllByRecursion P (y ∷ ys) → AllByRecursion P zs → AllByRecursion P (cond b (y ∷ zs) (x ∷ y ∷ ys))
+  all_by P true x y ys zs p all more = (all.0, more)
+  all_by P false x y ys zs p all more = (p, all)
+
+  all_placed : (P : X → Type 0) (x : X) (ys : List X) → P x → AllByRecursion P ys → AllByRecursion P (placed x ys)
+  all_placed P x [] p all = (p, tt)
+  all_placed P x (y ∷ ys) p all = all_by P (lt y x) x y ys (placed x ys) p all (all_placed P x ys p all.1)
+
+  -- what is not before y, which is not before x, is not before x
+  none_before : (x y : X) (ys : List X) → lt y x ≡ false → AllByRecursion (λ w. lt w y ≡ false) ys → AllByRecursion (λ w. lt w x ≡ false) ys
+  none_before x y [] e all = tt
+  none_before x y (w ∷ ws) e all = (order.chain w y x all.0 e, none_before x y ws e all.1)
+
+  up_by : (b : Bool) (x y : X) (ys : List X) → lt y x ≡ b → IsUp (y ∷ ys) → IsUp (placed x ys) → IsUp (cond b (y ∷ placed x ys) (x ∷ y ∷ ys))
+  up_by true x y ys e u v = (all_placed (λ w. lt w y ≡ false) x ys (order.one_way y x e) u.0, v)
+  up_by false x y ys e u v = ((e, none_before x y ys e u.0), u)
+
+  placed_up : (x : X) (ys : List X) → IsUp ys → IsUp (placed x ys)
+  placed_up x [] u = (tt, tt)
+  placed_up x (y ∷ ys) u = up_by (lt y x) x y ys refl u (placed_up x ys u.1)
+
+  order_up : (xs : List X) → IsUp (in_order xs)
+  order_up [] = tt
+  order_up (x ∷ xs) = placed_up x (in_order xs) (order_up xs)
+
+  rises : (x : X) (xs : List X) → AllByRecursion (λ y. lt y x ≡ false) xs → IsSortedBy lt xs → IsSortedBy lt (x ∷ xs)
+  rises x [] all s = λ k d low high. absurd (omega (arith, high))
+  rises x (y ∷ xs) all s = λ k d low high. at k d high
+    where
+      at : (k : ℕ) (d : X) → k + 1 < length (x ∷ y ∷ xs) → lt (get_or (x ∷ y ∷ xs) (k + 1) d) (get_or (x ∷ y ∷ xs) k d) ≡ false
+      at zero d high = all.0
+      at (suc k) d high =
+          let shift : suc (k + 1) ≡ suc k + 1 = omega arith in
+          subst (λ n. lt (get_or (x ∷ y ∷ xs) n d) (get_or (y ∷ xs) k d) ≡ false) shift (s k d (omega arith) (omega (arith, high)))
+
+  up_sorted : (xs : List X) → IsUp xs → IsSortedBy lt xs
+  up_sorted [] u = λ k d low high. absurd (omega (arith, high))
+  up_sorted (x ∷ xs) u = rises x xs u.0 (up_sorted xs u.1)
+
+  pub order_sorted : (xs : List X) → IsSortedBy lt (in_order xs)
+  order_sorted xs = up_sorted (in_order xs) (order_up xs)
+
+  -- those that tie keep their order
+  moved : (c d : Bool) (x y : X) (zs : List X) → (c ≡ true → d ≡ true → ⊥) → cond d (y ∷ cond c (x ∷ zs) zs) (cond c (x ∷ zs) zs) ≡ cond c (x ∷ cond d (y ∷ zs) zs) (cond d (y ∷ zs) zs)
+  moved true true x y zs apart = absurd (apart refl refl)
+  moved true false x y zs apart = refl
+  moved false true x y zs apart = refl
+  moved false false x y zs apart = refl
+
+  apart : (z x y : X) → lt y x ≡ true → ties lt z x ≡ true → ties lt z y ≡ true → ⊥
+  apart z x y e c d =
+      let f : lt y x ≡ false = order.chain y z x (second_not (lt z y) (lt y z) d) (first_not (lt z x) (lt x z) c) in
+      cc
+
+  stable_by : (z : X) (b : Bool) (x y : X) (ys : List X) → lt y x ≡ b → filter (ties lt z) (placed x ys) ≡ filter (ties lt z) (x ∷ ys) → filter (ties lt z) (cond b (y ∷ placed x ys) (x ∷ y ∷ ys)) ≡ filter (ties lt z) (x ∷ y ∷ ys)
+  stable_by z true x y ys e h = ap (λ (zs : List X). cond (ties lt z y) (y ∷ zs) zs) h ∙ moved (ties lt z x) (ties lt z y) x y (filter (ties lt z) ys) (λ c d. apart z x y e c d)
+  stable_by z false x y ys e h = refl
+
+  placed_stable : (z x : X) (ys : List X) → filter (ties lt z) (placed x ys) ≡ filter (ties lt z) (x ∷ ys)
+  placed_stable z x [] = refl
+  placed_stable z x (y ∷ ys) = stable_by z (lt y x) x y ys refl (placed_stable z x ys)
+
+  pub order_stable : (z : X) (xs : List X) → filter (ties lt z) (in_order xs) ≡ filter (ties lt z) xs
+  order_stable z [] = refl
+  order_stable z (x ∷ xs) = placed_stable z x (in_order xs) ∙ ap (λ (zs : List X). cond (ties lt z x) (x ∷ zs) zs) (order_stable z xs)
+
 pub one_order_of_names : (shown a b : List Shown) → IsByName shown a → IsByName shown b → a ≡ b
 one_order_of_names shown a b one other = sorted_is_one is_before by_name_ranks a b one.order other.order (λ x. one.stable x ∙ sym (other.stable x))
+
+abbrev pub in_names : List Shown → List Shown
+in_names shown = in_order is_before by_name_ranks shown
+
+pub by_name : (shown : List Shown) → IsByName shown (in_names shown)
+by_name shown = record { same = order_same is_before by_name_ranks shown; order = order_sorted is_before by_name_ranks shown; stable = λ z. order_stable is_before by_name_ranks z shown }
 
 -- ---- values
 

@@ -260,3 +260,6 @@ pub unwritten : (h : Stop) → WriteCount 0 0 h → h ≢ how.WriteFault
 unwritten h count is =
     let rose : WriteCount 0 0 how.WriteFault = subst (λ (x : Stop). WriteCount 0 0 x) is count in
     absurd (omega (arith, rose))
+
+pub spent_unwritten : how.Spent ≢ how.WriteFault
+spent_unwritten e = cc

@@ -1,5 +1,5 @@
 -- Calls in a run of the machine: the steps before which it stands at the start of a function of a module.
-use Rattle.std.specs.Prelude.{ℕ, zero, suc, ◌≡◌, ◌<◌, ◌+◌, ◌*◌, ◌==◌, ◌&&◌, not, Bool, true, false, Option, Some, List, [], ◌∷◌, length, map, filter, take, slice_set, slice_index_or}
+use Rattle.std.specs.Prelude.{ℕ, zero, suc, ◌≡◌, ◌≢◌, ◌<◌, ◌+◌, ◌*◌, ◌==◌, ◌&&◌, not, Bool, true, false, Option, Some, List, [], ◌∷◌, length, map, filter, take, slice_set, slice_index_or}
 use Rattle.std.specs.List.{sum_by, list_any}
 use Rattle.pw_value.specs.Limits.{text_start, word_limit}
 use Rattle.pw_value.specs.ProgramNames.{may_stand}
@@ -108,6 +108,11 @@ Reaches entries start k budget (StoppedBefore how) core rest = EndsShort entries
 abbrev pub FaultCount : ℕ → ℕ → Reached → Type 0
 FaultCount before now AtCall = now ≡ before
 FaultCount before now (StoppedBefore how) = ReadCount before now how
+
+-- a run whose output nobody keeps does not stop for a fault of it
+abbrev pub IsUnwritten : Reached → Type 0
+IsUnwritten AtCall = Unit {0}
+IsUnwritten (StoppedBefore how) = how ≢ stop.WriteFault
 
 -- ---- inside
 

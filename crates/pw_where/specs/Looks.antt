@@ -1,5 +1,5 @@
 -- What a debugger shows of a program at its k-th call.
-use Rattle.std.specs.Prelude.{Bool, ℕ, ◌≡◌, ◌==◌, ◌&&◌, ◌++◌, ◌<◌, ◌⊎◌, Option, Some, Result, Ok, Err, List, [], ◌∷◌}
+use Rattle.std.specs.Prelude.{Bool, ℕ, ◌≡◌, ◌≢◌, ◌==◌, ◌&&◌, ◌++◌, ◌<◌, ◌⊎◌, Option, Some, Result, Ok, Err, List, [], ◌∷◌}
 use Rattle.std.specs.List.{flat_map, find}
 use Rattle.std.specs.Option.{option_map_or}
 use Rattle.pw_object.specs.declared.object.Object.{Object}
@@ -8,6 +8,7 @@ use Rattle.pw_image.specs.declared.image.Image.{Image}
 use Rattle.pw_image.specs.declared.image.Function.{Function}
 use Rattle.pw_image.specs.Image.{Contents, IsImageFile}
 use Rattle.pw_machine.specs.declared.ends.Stop.{Stop}
+use Rattle.pw_machine.specs.declared.ends.Stop.TheVariants.{WriteFault}
 use Rattle.pw_machine.specs.Core.{Core}
 use Rattle.pw_machine.specs.Run.{State, start_state}
 use Rattle.pw_machine.specs.Start.{image_start}
@@ -123,6 +124,12 @@ abbrev pub LookCount : {E : Type 0} → ℕ → ℕ → Result Look E → Type 0
 LookCount before now (Ok (StoppedAs stop)) = ReadCount before now stop
 LookCount before now (Ok look) = now ≡ before
 LookCount before now (Err none) = now ≡ before
+
+-- the output of the run goes nowhere, so that it has no fault
+abbrev pub LooksUnwritten : {E : Type 0} → Result Look E → Type 0
+LooksUnwritten (Ok (StoppedAs stop)) = stop ≢ WriteFault
+LooksUnwritten (Ok look) = Unit {0}
+LooksUnwritten (Err none) = Unit {0}
 
 -- ---- inside
 

@@ -1,10 +1,12 @@
 //! Laws of calls and of walks. A function here does nothing: its clauses are facts about all values.
 
 ghost use Rattle.std.specs.Prelude.{◌≡◌, ◌<◌, ℕ, List, Result};
+ghost use Rattle.std.specs.List.{AllByRecursion};
 ghost use Rattle.pw_object.specs.declared.object.Object.{Object};
 ghost use Rattle.pw_image.specs.declared.image.Image.{Image};
 ghost use Rattle.pw_machine.specs.Core.{Core};
 ghost use Rattle.pw_machine.specs.Run.{Progress, State};
+ghost use Rattle.pw_debug.specs.Knowing.{IsFrame};
 ghost use Rattle.pw_debug.specs.declared.info.FrameInfo.{FrameInfo};
 ghost use Rattle.pw_debug.specs.declared.turning.At.{At};
 ghost use Rattle.pw_debug.specs.Walk.{Seen, WalksTo};
@@ -30,4 +32,9 @@ pub fn a_walk_has_one_end()
 /// What is shown at a call is one: one order of the globals, one value of each, or one address that is lost.
 pub fn a_call_shows_one_thing()
     ensures { (image : Image) (objects : List Object) (frames : List FrameInfo) (k : ℕ) (core : Core) (a b : Result (List ℕ) ℕ) → Shows image objects frames k core a → Shows image objects frames k core b → a ≡ b }
+{}
+
+/// Something is shown at a call: the globals have an order, and each walk over lawful frames has an end.
+pub fn a_call_shows_something()
+    ensures { (image : Image) (objects : List Object) (frames : List FrameInfo) (k : ℕ) (core : Core) → AllByRecursion IsFrame frames → (lines : Result (List ℕ) ℕ) × Shows image objects frames k core lines }
 {}

@@ -7,7 +7,7 @@ ghost use Rattle.pw_image.specs.Image.{Contents, IsImageFile};
 ghost use Rattle.pw_machine.specs.Stops.{loaded};
 ghost use Rattle.pw_debug.specs.Knowing.{IsFrame};
 ghost use Rattle.pw_where.specs.Calls.{text_end};
-ghost use Rattle.pw_where.specs.Looks.{HoldsImage, IsPlan, LeavesUnlooked, LookCount, LooksAs, Shows, look_of, told_lines};
+ghost use Rattle.pw_where.specs.Looks.{HoldsImage, IsPlan, LeavesUnlooked, LookCount, LooksAs, LooksUnwritten, Shows, look_of, told_lines};
 
 use crate::entries::{of_modules, table_of};
 use crate::lines::{Told, call_line, name_at, with_values};
@@ -126,6 +126,7 @@ fn look_from<I: Source>(
     ensures look { (image : AnyImage) → IsPlan image objects.now plan.now → machine.old ≡ loaded image → IfSome (I.rest input.old) (λ rest. IfOk result (λ look. LooksAs image objects.now frames.now call budget rest look (I.rest input.new))) }
     ensures memory { (image : AnyImage) → IsPlan image objects.now plan.now → machine.old ≡ loaded image → IfSome (I.rest input.old) (λ rest. OnErr result (LeavesUnlooked image objects.now call budget rest (I.rest input.new))) }
     ensures read { LookCount (I.faults input.old) (I.faults input.new) result }
+    ensures unwritten { LooksUnwritten result }
 {
     match run_to_call(machine, input, &plan.table, call, budget) {
         Reached::AtCall => {
@@ -157,6 +158,7 @@ pub fn look_at_call<I: Source>(
     ensures look { IfSome (I.rest input.old) (λ rest. (c : Contents AnyImage) → IsImageFile bytes.now c → IfOk result (λ look. LooksAs c.value objects.now frames.now call budget rest look (I.rest input.new))) }
     ensures memory { IfSome (I.rest input.old) (λ rest. (c : Contents AnyImage) → IsImageFile bytes.now c → OnErr result (LeavesUnlooked c.value objects.now call budget rest (I.rest input.new))) }
     ensures read { LookCount (I.faults input.old) (I.faults input.new) result }
+    ensures unwritten { LooksUnwritten result }
 {
     let plan = plan_of(alloc, bytes, objects)?;
     let mut machine = machine_of(alloc, bytes)?;

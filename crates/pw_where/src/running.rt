@@ -2,7 +2,7 @@
 
 ghost use Rattle.std.specs.Prelude.{◌≡◌, ◌-◌, ◌<◌, ℕ, List, None, IfSome, false, slice_index_or};
 ghost use Rattle.pw_machine.specs.Run.{start_state};
-ghost use Rattle.pw_where.specs.Calls.{is_at, one_if, Tells, Reaches, FaultCount};
+ghost use Rattle.pw_where.specs.Calls.{is_at, one_if, Tells, Reaches, FaultCount, IsUnwritten};
 
 use pw_io::{DropSink, Source};
 use pw_machine::{Machine, Stop, runs_add_up};
@@ -55,6 +55,7 @@ pub(crate) fn run_to_call<I: Source>(
     requires going { machine.old.core.stopped ≡ None }
     ensures reaches { (entries : List ℕ) → Tells table.now entries → IfSome (I.rest input.old) (λ rest. Reaches entries (start_state machine.old.core rest) call budget result machine.new.core (I.rest input.new)) }
     ensures read { FaultCount (I.faults input.old) (I.faults input.new) result }
+    ensures unwritten { IsUnwritten result }
 {
     runs_add_up();
     let mut left = call;

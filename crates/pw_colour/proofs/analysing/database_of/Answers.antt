@@ -1,75 +1,42 @@
-use Rattle.std.proofs.Common.{◌≡◌, ◌<◌, ◌∙◌, [], ℕ, All, List, ap, arith, length, map, subst, sym}
-use Rattle.std.specs.Prelude.{Option}
+use Rattle.std.proofs.Common.{◌≡◌, ◌<◌, ◌∙◌, ℕ, All, List, ap, length, subst, sym}
+use Rattle.std.specs.Prelude.{slice_index}
 use Rattle.std.proofs.lemmas.Result.{IfOk-weaker}
-use Rattle.std.proofs.lemmas.List.Elements.{All-from_recursion}
-use Rattle.std.proofs.lemmas.List.Sorted.{length_permutation}
-use Rattle.pw_files.proofs.Standing.{Has, each_by, has_map}
-use Rattle.pw_db.specs.Database.{EachTwo}
-use Rattle.pw_webs.specs.declared.web.RawWeb.{RawWeb}
-use Rattle.pw_webs.specs.Webs.{IsSameWeb, IsRawWeb, StandsBefore}
-use Rattle.pw_colour.specs.declared.directing.Coloured.{Coloured}
-use Rattle.pw_colour.specs.Colours.{numbered, AreColoured}
-use Rattle.pw_colour.specs.Giving.{coloured as seen, paired}
-use Rattle.pw_colour.proofs.Ranks.{two_at}
-use Rattle.pw_colour.proofs.Same.{differ}
-use Rattle.pw_colour.proofs.Given.{has_paired}
-use Rattle.pw_colour.proofs.Unique.{raw_in}
-use Rattle.pw_colour.proofs.Lawful.{numbered_has}
-use Rattle.pw_colour.proofs.Entries.{is_database, few_webs}
+use Rattle.pw_clusters.specs.Clusters.{AreRoots}
+use Rattle.pw_clusters.specs.Saving.{need_in}
+use Rattle.pw_colour.specs.Giving.{AreClusters}
+use Rattle.pw_colour.proofs.Clustering.{roots_fit}
 use Rattle.pw_colour.proofs.analysing.database_of.Goals as goal
 
-pub ranked-requires : goal.ranked-requires
-ranked-requires c = two_at StandsBefore c.in_ok-webs.field-0.items c.in_ok-webs.ensures.webs.order
+pub greatest_needs-requires-clause-count : goal.greatest_needs-requires-clause-count
+greatest_needs-requires-clause-count c =
+    ap length c.as_slice.ensures ∙ c.requires.graph.need_rows ∙ sym c.in_ok-roots.ensures.each ∙ sym (ap length c.deref.ensures.value)
 
-pub registers-requires-clause-places : goal.registers-requires-clause-places
-registers-requires-clause-places c =
+pub greatest_needs-requires-clause-within : goal.greatest_needs-requires-clause-within
+greatest_needs-requires-clause-within c =
     let g = c.args.graph.now in
-    let ws = c.in_ok-webs.field-0.items in
-    let cs = c.in_ok-all.all.items in
-    let P : RawWeb → Type 0 = λ (w : RawWeb). w.members.len ≡ c.len.result in
-    let each : All P cs = All-from_recursion P cs (each_by P cs (λ w h. (raw_in g ws cs c.in_ok-webs.ensures.webs c.in_ok-all.ensures.same w h).member_places ∙ sym c.len.ensures)) in
-    subst (λ (xs : List RawWeb). All P xs) (sym c.deref.ensures.value) each
+    let roots = c.in_ok-roots.roots.items in
+    subst (λ (rs : List ℕ). All (λ r. r < length rs) rs) (sym c.deref.ensures.value)
+    (roots_fit (length g.functions) roots c.in_ok-roots.ensures.each (c.roots_are_one.ensures.within c.args.summaries.now g roots c.requires.of c.in_ok-roots.ensures))
 
-pub registers-requires-clause-differ : goal.registers-requires-clause-differ
-registers-requires-clause-differ c =
+pub database_with-requires-clause-clusters : goal.database_with-requires-clause-clusters
+database_with-requires-clause-clusters c =
     let g = c.args.graph.now in
-    let ws = c.in_ok-webs.field-0.items in
-    let cs = c.in_ok-all.all.items in
-    let raws = each_by (IsRawWeb g) cs (raw_in g ws cs c.in_ok-webs.ensures.webs c.in_ok-all.ensures.same) in
-    subst (λ (xs : List RawWeb). EachTwo (λ u w. IsSameWeb u w → ⊥) xs) (sym c.deref.ensures.value) (differ g cs raws c.in_ok-all.ensures.order)
-
-pub numbered-requires-clause-few : goal.numbered-requires-clause-few
-numbered-requires-clause-few c =
-    let g = c.args.graph.now in
-    let ws = c.in_ok-webs.field-0.items in
-    let cs = c.in_ok-all.all.items in
-    let size : length c.deref-2.result.now ≡ length ws = ap length c.deref-2.ensures.value ∙ length_permutation ws cs c.in_ok-all.ensures.same in
-    let few = few_webs (length ws) (length g.globals) (length g.functions) c.in_ok-webs.ensures.count c.requires.graph.globals c.requires.graph.functions in
-    omega (arith, size, few)
-
-pub database-requires : goal.database-requires
-database-requires c =
-    let g = c.args.graph.now in
-    let ws = c.in_ok-webs.field-0.items in
-    let cs = c.in_ok-all.all.items in
-    let found = c.in_ok-coloured.coloured.items in
-    let numbers : map seen found ≡ numbered 0 (paired cs c.in_ok-given.given.items) =
-    c.in_ok-coloured.ensures ∙ ap (λ (xs : List RawWeb). numbered 0 (paired xs c.deref-3.result.now)) c.deref-2.ensures.value ∙ ap (λ (rs : List (Option ℕ)). numbered 0 (paired cs rs)) c.deref-3.ensures.value in
-    let P : Coloured → Type 0 = λ (x : Coloured). x.web.now.global < length g.globals in
-    let each : All P found = All-from_recursion P found (each_by P found (λ x h.
-    let there = numbered_has 0 (paired cs c.in_ok-given.given.items) (seen x) (subst (λ (qs : List (ℕ × RawWeb × ℕ)). Has (seen x) qs) numbers (has_map seen x found h)) in
-    (raw_in g ws cs c.in_ok-webs.ensures.webs c.in_ok-all.ensures.same x.web.now (has_paired cs c.in_ok-given.given.items x.web.now _ there)).global)) in
-    subst (λ (xs : List Coloured). All P xs) (sym c.deref-4.ensures.value) each
+    let roots = c.in_ok-roots.roots.items in
+    let most = c.in_ok-needs.needs.items in
+    let count : length most ≡ length roots = c.in_ok-needs.ensures.count ∙ ap length c.deref.ensures.value in
+    let needs : (r : ℕ) → slice_index most r ≡ need_in roots g.needs r = λ r.
+    c.in_ok-needs.ensures.needs r ∙ ap (λ (rs : List ℕ). need_in rs c.as_slice.result.now r) c.deref.ensures.value ∙ ap (λ (ns : List ℕ). need_in roots ns r) c.as_slice.ensures in
+    let are : AreClusters g roots most = record {
+      each = c.in_ok-roots.ensures.each;
+      within = c.roots_are_one.ensures.within c.args.summaries.now g roots c.requires.of c.in_ok-roots.ensures;
+      count = count;
+      needs = needs;
+      few = λ r. c.few_registers_are_saved.ensures.few roots g.needs r c.requires.graph.needs;
+    } in
+    subst (λ (rs : List ℕ). AreClusters g rs c.deref-3.result.now) (sym c.deref-2.ensures.value) (subst (λ (ns : List ℕ). AreClusters g roots ns) (sym c.deref-3.ensures.value) are)
 
 pub returns : goal.returns
 returns c =
-    let g = c.args.graph.now in
-    let ws = c.in_ok-webs.field-0.items in
-    let cs = c.in_ok-all.all.items in
-    let rs = c.in_ok-given.given.items in
-    let numbers : map seen c.deref-4.result.now ≡ numbered 0 (paired cs rs) =
-    ap (λ (xs : List Coloured). map seen xs) c.deref-4.ensures.value ∙ c.in_ok-coloured.ensures ∙ ap (λ (xs : List RawWeb). numbered 0 (paired xs c.deref-3.result.now)) c.deref-2.ensures.value
-    ∙ ap (λ (ys : List (Option ℕ)). numbered 0 (paired cs ys)) c.deref-3.ensures.value in
-    let count : length rs ≡ length cs = c.in_ok-given.ensures.count ∙ ap length c.deref.ensures.value in
-    let given = subst (λ (xs : List RawWeb). AreColoured c.args.colours [] (paired xs rs)) c.deref.ensures.value c.in_ok-given.ensures.coloured in
-    IfOk-weaker c.database.result _ _ (λ db h ss of. is_database ss g c.args.colours ws cs rs (map seen c.deref-4.result.now) db.functions of c.in_ok-webs.ensures.webs c.in_ok-all.ensures.same c.in_ok-all.ensures.order count given numbers h) c.database.ensures
+    let ss = c.args.summaries.now in
+    let are = subst (λ (rs : List ℕ). AreRoots ss c.args.graph.now rs) (sym c.deref-2.ensures.value) c.in_ok-roots.ensures in
+    IfOk-weaker c.database_with.result _ _ (λ db h. h ss c.requires.of are) c.database_with.ensures

@@ -1,5 +1,5 @@
 use Rattle.std.proofs.Common.{List, ℕ, sym, subst}
-use Rattle.pw_db.specs.Database.{IsPayload}
+use Rattle.pw_db_file.specs.Spelling.{IsPayload}
 use Rattle.pw_debug_frames.proofs.FrameLemmas.{no_fault}
 use Rattle.pw_debug_frames.proofs.reading.stored_of.Goals as goal
 
@@ -13,4 +13,4 @@ pub returns-in-Ok-clause-payload : goal.returns-in-Ok-clause-payload
 returns-in-Ok-clause-payload c = subst (λ (b : List ℕ). IsPayload b c.in-Ok.functions) c.as_slice.ensures c.in-Ok.ensures.found
 
 pub returns-in-Ok-clause-lawful : goal.returns-in-Ok-clause-lawful
-returns-in-Ok-clause-lawful c = let found = c.in-Ok.ensures.found in found.1.lawful
+returns-in-Ok-clause-lawful c = let found = c.in-Ok.ensures.found in found.1.contents.lawful.functions

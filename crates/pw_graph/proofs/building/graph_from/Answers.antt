@@ -43,5 +43,5 @@ returns c =
     let calls = subst (λ (us : List Target). IfOk c.rows_of.result (λ g. AllZip (IsCallRow names (map target us)) H g.calls)) c.deref.ensures.value c.rows_of.ensures.calls in
     let refs = subst (λ (vs : List Scalar). IfOk c.rows_of.result (λ g. HasRefs (map scalar vs) H g.refs)) c.deref-2.ensures.value c.rows_of.ensures.refs in
     let both = graph_result ss c.requires.lawful c.requires.linked H names c.args.taken.now c.args.escaped.now G c.requires.homes c.requires.count c.in_ok-names.ensures c.requires.taken c.requires.escaped
-    c.in_ok-scalars.ensures.order c.in_ok-scalars.ensures.count ts c.in_ok-targets.ensures c.rows_of.result c.rows_of.ensures.functions globals calls refs in
+    c.in_ok-scalars.ensures.order c.in_ok-scalars.ensures.count ts c.in_ok-targets.ensures c.rows_of.result c.rows_of.ensures.functions globals calls refs c.rows_of.ensures.needs in
     record { of = both.0; graph = both.1 }

@@ -6,4 +6,4 @@ use Rattle.pw_db.proofs.StoringLaws.{can_be_stored}
 use Rattle.pw_tests_files.proofs.databases.push_payload.Goals as goal
 
 pub payload-written-requires : goal.payload-written-requires
-payload-written-requires c = subst (λ (fs : List (List ℕ × Directives)). CanBeStored fs) (sym c.as_slice-functions.ensures) (can_be_stored _ c.in-Ok.ensures.found.1.lawful)
+payload-written-requires c = subst (λ (fs : List (List ℕ × Directives)). CanBeStored fs) (sym c.as_slice-functions.ensures) (can_be_stored _ c.in-Ok.ensures.found.1.contents.lawful.functions)

@@ -1,7 +1,7 @@
 use Rattle.pw_law_session.specs.FromSession.Removals.{MayRemove}
-use Rattle.pw_top.proofs.CommandLemmas.{build_built, build_does, build_no_usage, build_reads, go_does, go_no_usage, kept_alone, none_due, plain_line}
+use Rattle.pw_top.proofs.CommandLemmas.{build_built, build_does, build_no_usage, build_reads, go_does, go_no_usage, kept_alone, none_due, plain_line, where_does, where_no_usage}
 use Rattle.pw_top.proofs.GenuineLemmas.{genuine_alone, others_alone}
-use Rattle.pw_top.proofs.ProperLemmas.{bench_proper, build_proper, go_proper, session_proper}
+use Rattle.pw_top.proofs.ProperLemmas.{bench_proper, build_proper, go_proper, session_proper, where_proper}
 use Rattle.pw_top.proofs.RestLemmas.{leaves_rest}
 use Rattle.pw_top.proofs.SessionLemmas.{bench_does, bench_line, bench_no_usage, bench_reads, bench_stores, session_does, session_no_usage, session_others}
 use Rattle.pw_top.proofs.top.obey_builder.Goals as goal
@@ -96,4 +96,27 @@ returns-in-Bench-clause-obeys g c =
       write = c.bench.ensures.write;
       streams = λ h. c.bench.ensures.streams rest;
       line = bench_line told _ _ _ c.bench.ensures.line;
+    })
+
+pub returns-in-Where-clause-usage : goal.returns-in-Where-clause-usage
+returns-in-Where-clause-usage g c = where_no_usage _ c.show_call.ensures.answer
+
+pub returns-in-Where-clause-obeys : goal.returns-in-Where-clause-obeys
+returns-in-Where-clause-obeys g c =
+    let told = g.S.Store.told c.args.store.now in
+    let rest = g.I.Source.rest c.args.input.now in
+    let taken = g.O.Sink.taken c.args.out.now in
+    rw c.in-Where.is (record {
+      does = where_does told _ rest _ taken _ _ _ _ c.show_call.ensures.obeys c.show_call.ensures.output c.show_call.ensures.rest;
+      ends = tt;
+      built = c.show_call.ensures.built;
+      proper = where_proper _ c.show_call.ensures.answer;
+      others = c.show_call.ensures.others;
+      genuine = c.show_call.ensures.genuine;
+      reads = λ h. absurd h;
+      store = c.show_call.ensures.store;
+      read = c.show_call.ensures.read;
+      write = c.show_call.ensures.write;
+      streams = λ h. c.show_call.ensures.streams;
+      line = c.show_call.ensures.line;
     })

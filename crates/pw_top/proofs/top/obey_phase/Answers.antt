@@ -1,7 +1,7 @@
 use Rattle.std.proofs.Common.{Some}
-use Rattle.pw_top.proofs.CommandLemmas.{analyse_does, left_alone, link_does, none_due, phase_no_usage, phase_one_does, phase_reads, phase_two_does, phase_writes, plain_line, store_no_usage, store_reads, store_writes}
+use Rattle.pw_top.proofs.CommandLemmas.{analyse_does, cpp_does, cpp_no_usage, cpp_reads, cpp_writes, left_alone, link_does, none_due, phase_no_usage, phase_one_does, phase_reads, phase_two_does, phase_writes, plain_line, store_no_usage, store_reads, store_writes}
 use Rattle.pw_top.proofs.GenuineLemmas.{phase_two_genuine, plain_genuine}
-use Rattle.pw_top.proofs.ProperLemmas.{phase_proper, store_proper}
+use Rattle.pw_top.proofs.ProperLemmas.{cpp_proper, phase_proper, store_proper}
 use Rattle.pw_top.proofs.top.obey_phase.Goals as goal
 
 pub returns-in-PhaseOne-clause-usage : goal.returns-in-PhaseOne-clause-usage
@@ -23,6 +23,27 @@ returns-in-PhaseOne-clause-obeys g c rest taken input output =
       write = phase_writes output c.compile_text.result.answer c.compile_text.ensures.answer;
       streams = λ h. left_alone c.compile_text.result.answer rest taken;
       line = c.compile_text.ensures.line;
+    })
+
+pub returns-in-Preprocess-clause-usage : goal.returns-in-Preprocess-clause-usage
+returns-in-Preprocess-clause-usage g c = cpp_no_usage _ c.preprocess_module.ensures.answer
+
+pub returns-in-Preprocess-clause-obeys : goal.returns-in-Preprocess-clause-obeys
+returns-in-Preprocess-clause-obeys g c rest taken input output =
+    let told = g.S.Store.told c.args.store.now in
+    rw c.in-Preprocess.is (record {
+      does = cpp_does told _ rest taken _ c.preprocess_module.result c.preprocess_module.ensures.obeys;
+      ends = tt;
+      built = none_due told;
+      proper = cpp_proper c.preprocess_module.result c.preprocess_module.ensures.answer;
+      others = c.preprocess_module.ensures.others;
+      genuine = plain_genuine (Some c.args.command.now) rest c.preprocess_module.result told _ (rw c.in-Preprocess.is tt) (rw c.in-Preprocess.is c.preprocess_module.ensures.others);
+      reads = λ h. absurd h;
+      store = c.preprocess_module.ensures.count;
+      read = cpp_reads input c.preprocess_module.result c.preprocess_module.ensures.answer;
+      write = cpp_writes output c.preprocess_module.result c.preprocess_module.ensures.answer;
+      streams = λ h. left_alone c.preprocess_module.result rest taken;
+      line = plain_line told _;
     })
 
 pub returns-in-Analyse-clause-usage : goal.returns-in-Analyse-clause-usage

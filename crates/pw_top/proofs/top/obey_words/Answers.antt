@@ -3,7 +3,7 @@ use Rattle.std.specs.Prelude.{string_bytes}
 use Rattle.pw_top_answer.specs.declared.answer.Answer.TheVariants.{Usage}
 use Rattle.pw_top_words.specs.CommandLine.{command_of}
 use Rattle.pw_top.proofs.DoesLemmas.{usage_does}
-use Rattle.pw_top.proofs.CommandLemmas.{kept_alone, left_alone, no_command, none_due, usage_apart}
+use Rattle.pw_top.proofs.CommandLemmas.{Ends, kept_alone, left_alone, no_command, none_due, usage_apart}
 use Rattle.pw_top.proofs.GenuineLemmas.{genuine_alone, others_alone, rest_alone}
 use Rattle.pw_top.proofs.ToldLemmas.{memory_builds, memory_does, memory_ends, no_memory_is_no_usage}
 use Rattle.pw_top.proofs.top.obey_words.Goals as goal
@@ -52,8 +52,9 @@ returns-in-Err-NoMemory-clause-obeys g c =
     let command = command_of (map string_bytes c.args.words.now) in
     let told = g.S.Store.told c.args.store.now in
     let rest = g.I.Source.rest c.args.input.now in
+    let ends : Ends = record { run = c.runs_leave_an_end.ensures.run; go = c.runs_leave_an_end.ensures.go; looks = c.looks_leave_an_end.ensures } in
     record {
-      does = memory_does c.runs_leave_an_end.ensures.run c.runs_leave_an_end.ensures.go command told rest (g.O.Sink.taken c.args.out.now);
+      does = memory_does ends command told rest (g.O.Sink.taken c.args.out.now);
       ends = memory_ends command rest;
       built = memory_builds command told;
       proper = tt;

@@ -3,6 +3,7 @@ use Rattle.std.specs.Prelude.{None, string_bytes}
 use Rattle.pw_top_answer.specs.Outcomes.{Tells}
 use Rattle.pw_top_words.specs.CommandLine.{command_of}
 use Rattle.pw_top.specs.Commands.{IsNoSession, line_of}
+use Rattle.pw_top.proofs.CommandLemmas.{Ends}
 use Rattle.pw_top.proofs.CompleteLemmas.{is_complete}
 use Rattle.pw_top.proofs.ToldLemmas.{ends_told, input_told, output_told, rest_told, store_told, streams_told, told_builds, told_does, told_line, told_proper, usage_comes, usage_is}
 use Rattle.pw_top.proofs.WholeLemmas.{are_within, builds_whole}
@@ -18,7 +19,8 @@ returns-clause-usage_comes g c =
 
 pub returns-clause-does : goal.returns-clause-does
 returns-clause-does g c =
-    told_does c.runs_leave_an_end.ensures.run c.runs_leave_an_end.ensures.go (command_of (map string_bytes c.args.words.now)) (g.S.Store.told c.args.store.now) _ (g.I.Source.rest c.args.input.now) _ (g.O.Sink.taken c.args.out.now) _
+    let ends : Ends = record { run = c.runs_leave_an_end.ensures.run; go = c.runs_leave_an_end.ensures.go; looks = c.looks_leave_an_end.ensures } in
+    told_does ends (command_of (map string_bytes c.args.words.now)) (g.S.Store.told c.args.store.now) _ (g.I.Source.rest c.args.input.now) _ (g.O.Sink.taken c.args.out.now) _
     c.obey_words-reply.result.answer c.tell.result c.tell.ensures.answer c.obey_words-reply.ensures.obeys.does
 
 pub returns-clause-ends_script : goal.returns-clause-ends_script

@@ -1,0 +1,6 @@
+//! Laws of the preprocessor.
+#![tactic(auto)]
+
+mod laws;
+
+pub use laws::one_output;

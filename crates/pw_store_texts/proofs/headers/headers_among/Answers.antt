@@ -1,0 +1,18 @@
+use Rattle.std.proofs.Common.{map, arith, ◌∙◌}
+use Rattle.std.specs.Prelude.{string_bytes}
+use Rattle.pw_cpp_sources.specs.Sources.{texts_of}
+use Rattle.pw_store_modules.proofs.ModuleLemmas.{mapped_rest}
+use Rattle.pw_store_modules.proofs.ReadingLemmas.{keeps_on}
+use Rattle.pw_store_texts.specs.Headers.{header_in}
+use Rattle.pw_store_texts.proofs.Picking.{picked-turn}
+use Rattle.pw_store_texts.proofs.headers.headers_among.Goals as goal
+
+pub loop-name-preserved : goal.loop-name-preserved
+loop-name-preserved g c =
+    let next = mapped_rest string_bytes c.args.names.now c.loop-name.name-index c.name-item.result (omega arith) c.name-item.is in
+    record {
+      read = picked-turn header_in (g.S.Store.told c.args.store.now) (g.S.Store.told c.loop-name.store) (string_bytes c.name-item.result) _ _ _ (texts_of c.loop-name.all.items) _
+          c.loop-name.invariant.read c.loop-name.invariant.same (rw c.as_str.ensures.value at c.in_ok-add_header.ensures.read) next;
+      same = keeps_on (g.S.Store.told c.args.store.now) (g.S.Store.told c.loop-name.store) _ c.loop-name.invariant.same c.add_header.ensures.same;
+      count = c.in_ok-add_header.ensures.cause ∙ c.loop-name.invariant.count;
+    }
