@@ -97,7 +97,7 @@ module _ (transfer : List Flat → Op → List Flat) (r : Rises transfer) (f : F
 
     -- at the start a solution has Many
     entered_below : (n : ℕ) → IsRowBelow (entered f.temps n (front others n)) (front others n)
-    entered_below zero t = subst (λ z. IsBelow (known (entered f.temps 0 (front others 0)) t) z) (sym (s.start t)) (below_many (known (entered f.temps 0 (front others 0)) t))
+    entered_below zero = λ t. subst (λ z. IsBelow (known (entered f.temps 0 (front others 0)) t) z) (sym (s.start t)) (below_many (known (entered f.temps 0 (front others 0)) t))
     entered_below (suc n) = subst (λ (row : List Flat). IsRowBelow row (front others (suc n))) (sym (entered_on f.temps n (front others (suc n)))) (rows_below_themselves (front others (suc n)))
 
     edge_below : (m n : ℕ) (x : List Flat) → IsEdge f.blocks m n → IsRowBelow x (outflow transfer f.temps f.blocks m (front others m)) → IsRowBelow x (front others n)
@@ -180,7 +180,7 @@ module _ (transfer : List Flat → Op → List Flat) (r : Rises transfer) (f : F
         (subst (λ (row : List Flat). IsBelow (known row t) (known x t)) out (step.2 t))
 
     onward : (b c : ℕ) (block : Block) → slice_get f.blocks b ≡ Some block → Contains (successors block.end) c → IsRowBelow (behind transfer (front fronts b) block.ops) (front fronts c)
-    onward b zero block is next t =
+    onward b zero block is next = λ t.
         subst (λ z. IsBelow (known (behind transfer (front fronts b) block.ops) t) z) (sym (start t)) (below_many (known (behind transfer (front fronts b) block.ops) t))
     onward b (suc c) block is next = elim (cases_lt (suc c) (length f.blocks)) [
       | inl lt ↦ λ t.
@@ -194,7 +194,7 @@ module _ (transfer : List Flat → Op → List Flat) (r : Rises transfer) (f : F
     ]
 
     below_others : (others : List (List Flat)) → IsSolution transfer f others → (n : ℕ) → IsRowBelow (front fronts n) (front others n)
-    below_others others s zero t = subst (λ z. IsBelow (known (front fronts 0) t) z) (sym (s.start t)) (below_many (known (front fronts 0) t))
+    below_others others s zero = λ t. subst (λ z. IsBelow (known (front fronts 0) t) z) (sym (s.start t)) (below_many (known (front fronts 0) t))
     below_others others s (suc n) = elim (cases_lt (suc n) (length f.blocks)) [
       | inl lt ↦
           subst (λ (row : List Flat). IsRowBelow row (front others (suc n))) (sym (opened_on inflows many n))
