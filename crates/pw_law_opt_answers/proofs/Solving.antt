@@ -135,8 +135,8 @@ no_block b e = cc
 
 -- ---- tables of what is known, by blocks and temporaries
 
-abbrev Table : Type 0
-Table = ℕ → ℕ → Flat
+abbrev Knowing : Type 0
+Knowing = ℕ → ℕ → Flat
 
 -- anything may be at the start, and nothing is known to come elsewhere
 abbrev first : ℕ → ℕ → Flat
@@ -144,30 +144,30 @@ first zero t = Many
 first (suc b) t = Bottom
 
 module _ (transfer : List Flat → Op → List Flat) (r : Rises transfer) (f : FlowFn) where
-  abbrev row : Table → ℕ → List Flat
+  abbrev row : Knowing → ℕ → List Flat
   row p b = listed f.temps (p b)
 
-  known_row : (p : Table) (b t : ℕ) → t < f.temps → known (row p b) t ≡ p b t
+  known_row : (p : Knowing) (b t : ℕ) → t < f.temps → known (row p b) t ≡ p b t
   known_row p b t lt = listed_at f.temps (p b) Many t lt
 
-  known_past : (p : Table) (b t : ℕ) → f.temps ≤ t → known (row p b) t ≡ Many
+  known_past : (p : Knowing) (b t : ℕ) → f.temps ≤ t → known (row p b) t ≡ Many
   known_past p b t ge = let long : length (row p b) ≡ f.temps = listed_long f.temps (p b) in get_or_past (row p b) t Many (omega (arith, ge, long))
 
   -- what is known behind a block
-  abbrev out : Table → ℕ → Block → List Flat
+  abbrev out : Knowing → ℕ → Block → List Flat
   out p b block = behind transfer (row p b) block.ops
 
-  abbrev Flows : Table → ℕ → Block → ℕ → Type 0
-  Flows p b block c = (t : ℕ) → t < f.temps → IsBelow (known (out p b block) t) (p c t)
+  abbrev FlowsTo : Knowing → ℕ → Block → ℕ → Type 0
+  FlowsTo p b block c = (t : ℕ) → t < f.temps → IsBelow (known (out p b block) t) (p c t)
 
-  abbrev FlowsOn : Table → ℕ → Block → ℕ → Type 0
-  FlowsOn p b block c = c < length f.blocks → Flows p b block c
+  abbrev FlowsOn : Knowing → ℕ → Block → ℕ → Type 0
+  FlowsOn p b block c = c < length f.blocks → FlowsTo p b block c
 
-  abbrev AllFlow : Table → Type 0
+  abbrev AllFlow : Knowing → Type 0
   AllFlow p = (b : ℕ) (block : Block) → slice_get f.blocks b ≡ Some block → (c : ℕ) → Has c (successors block.end) → FlowsOn p b block c
 
   -- an edge along which something flows that is not below what is known there
-  record Gap (p : Table) : Type 0 where
+  record Gap (p : Knowing) : Type 0 where
     pub from : ℕ
     pub block : Block
     pub at : slice_get f.blocks from ≡ Some block
@@ -178,7 +178,7 @@ module _ (transfer : List Flat → Op → List Flat) (r : Rises transfer) (f : F
     pub inside : place < f.temps
     pub above : ¬ IsBelow (known (out p from block) place) (p to place)
 
-  edge_told : (p : Table) (b : ℕ) (block : Block) → slice_get f.blocks b ≡ Some block → (c : ℕ) → Has c (successors block.end) → FlowsOn p b block c ⊎ Gap p
+  edge_told : (p : Knowing) (b : ℕ) (block : Block) → slice_get f.blocks b ≡ Some block → (c : ℕ) → Has c (successors block.end) → FlowsOn p b block c ⊎ Gap p
   edge_told p b block at c next = elim (cases_lt c (length f.blocks)) [
     | inr past ↦ inl (λ lt. absurd (omega (arith, lt, past)))
     | inl within ↦ elim (first_told (λ (t : ℕ). IsBelow (known (out p b block) t) (p c t)) (λ t. below_told (known (out p b block) t) (p c t)) f.temps) [
@@ -187,14 +187,14 @@ module _ (transfer : List Flat → Op → List Flat) (r : Rises transfer) (f : F
     ]
   ]
 
-  block_told : (p : Table) (b : ℕ) (o : Option Block) → slice_get f.blocks b ≡ o → ((block : Block) → o ≡ Some block → (c : ℕ) → Has c (successors block.end) → FlowsOn p b block c) ⊎ Gap p
+  block_told : (p : Knowing) (b : ℕ) (o : Option Block) → slice_get f.blocks b ≡ o → ((block : Block) → o ≡ Some block → (c : ℕ) → Has c (successors block.end) → FlowsOn p b block c) ⊎ Gap p
   block_told p b None at = inl (λ block e. absurd (no_block block e))
   block_told p b (Some own) at = elim (all_or (FlowsOn p b own) (successors own.end) (edge_told p b own at)) [
     | inl all ↦ inl (λ block e. subst (λ (x : Block). (c : ℕ) → Has c (successors x.end) → FlowsOn p b x c) (same_Some own block e) all)
     | inr gap ↦ inr gap
   ]
 
-  told : (p : Table) → AllFlow p ⊎ Gap p
+  told : (p : Knowing) → AllFlow p ⊎ Gap p
   told p =
       elim (count_or (λ (b : ℕ). (block : Block) → slice_get f.blocks b ≡ Some block → (c : ℕ) → Has c (successors block.end) → FlowsOn p b block c) (length f.blocks) (λ b. block_told p b (slice_get f.blocks b) refl)) [
         | inl all ↦ inl (λ b block at. all b (slice_get_within f.blocks b block at) block at)
@@ -203,7 +203,7 @@ module _ (transfer : List Flat → Op → List Flat) (r : Rises transfer) (f : F
 
   -- ---- what is below every solution
 
-  record IsLow (p : Table) : Type 0 where
+  record IsLow (p : Knowing) : Type 0 where
     pub start : (t : ℕ) → p 0 t ≡ Many
     pub below : (others : List (List Flat)) → IsSolution transfer f others → (b t : ℕ) → b < length f.blocks → t < f.temps → IsBelow (p b t) (known (front others b) t)
 
@@ -214,7 +214,7 @@ module _ (transfer : List Flat → Op → List Flat) (r : Rises transfer) (f : F
   first_low : IsLow first
   first_low = record { start = λ t. refl; below = first_below }
 
-  rows_below : (p : Table) → IsLow p → (others : List (List Flat)) → IsSolution transfer f others → (b : ℕ) → b < length f.blocks → IsRowBelow (row p b) (front others b)
+  rows_below : (p : Knowing) → IsLow p → (others : List (List Flat)) → IsSolution transfer f others → (b : ℕ) → b < length f.blocks → IsRowBelow (row p b) (front others b)
   rows_below p low others s b within t = elim (cases_lt t f.temps) [
     | inl inside ↦ subst (λ (z : Flat). IsBelow z (known (front others b) t)) (sym (known_row p b t inside)) (low.below others s b t within inside)
     | inr past ↦
@@ -224,20 +224,20 @@ module _ (transfer : List Flat → Op → List Flat) (r : Rises transfer) (f : F
 
   -- ---- raising
 
-  abbrev flow : (p : Table) → Gap p → ℕ → Flat
+  abbrev flow : (p : Knowing) → Gap p → ℕ → Flat
   flow p g t = known (out p g.from g.block) t
 
-  abbrev raised : (p : Table) → Gap p → ℕ → ℕ → Flat
+  abbrev raised : (p : Knowing) → Gap p → ℕ → ℕ → Flat
   raised p g b t = if b == g.to then joined (p b t) (flow p g t) else p b t
 
-  raised_above : (p : Table) (g : Gap p) (b t : ℕ) → IsBelow (p b t) (raised p g b t)
+  raised_above : (p : Knowing) (g : Gap p) (b t : ℕ) → IsBelow (p b t) (raised p g b t)
   raised_above p g b t = by (b == g.to)
     where
       by : (c : Bool) → IsBelow (p b t) (if c then joined (p b t) (flow p g t) else p b t)
       by true = above_first (p b t) (flow p g t)
       by false = below_itself (p b t)
 
-  flow_below : (p : Table) (g : Gap p) → IsLow p → (others : List (List Flat)) → IsSolution transfer f others → (t : ℕ) → IsBelow (flow p g t) (known (front others g.to) t)
+  flow_below : (p : Knowing) (g : Gap p) → IsLow p → (others : List (List Flat)) → IsSolution transfer f others → (t : ℕ) → IsBelow (flow p g t) (known (front others g.to) t)
   flow_below p g low others s t =
       let within = slice_get_within f.blocks g.from g.block g.at in
       let same : length (row p g.from) ≡ length (front others g.from) = listed_long f.temps (p g.from) ∙ sym (s.each_temp g.from within) in
@@ -245,7 +245,7 @@ module _ (transfer : List Flat → Op → List Flat) (r : Rises transfer) (f : F
       (behind_rises transfer r (row p g.from) (front others g.from) g.block.ops same (rows_below p low others s g.from within) t)
       (s.flows g.from g.to g.block g.at g.next t)
 
-  raised_below : (p : Table) (g : Gap p) → IsLow p → (others : List (List Flat)) → IsSolution transfer f others → (b t : ℕ) → b < length f.blocks → t < f.temps → IsBelow (raised p g b t) (known (front others b) t)
+  raised_below : (p : Knowing) (g : Gap p) → IsLow p → (others : List (List Flat)) → IsSolution transfer f others → (b t : ℕ) → b < length f.blocks → t < f.temps → IsBelow (raised p g b t) (known (front others b) t)
   raised_below p g low others s b t within inside = by (b == g.to) refl
     where
       by : (c : Bool) → (b == g.to) ≡ c → IsBelow (if c then joined (p b t) (flow p g t) else p b t) (known (front others b) t)
@@ -254,7 +254,7 @@ module _ (transfer : List Flat → Op → List Flat) (r : Rises transfer) (f : F
           (subst (λ (k : ℕ). IsBelow (flow p g t) (known (front others k) t)) (sym (eqb-true b g.to e)) (flow_below p g low others s t))
       by false e = low.below others s b t within inside
 
-  raised_low : (p : Table) (g : Gap p) → IsLow p → IsLow (raised p g)
+  raised_low : (p : Knowing) (g : Gap p) → IsLow p → IsLow (raised p g)
   raised_low p g low = record { start = λ t. by t (0 == g.to); below = raised_below p g low }
     where
       by : (t : ℕ) (c : Bool) → (if c then joined (p 0 t) (flow p g t) else p 0 t) ≡ Many
@@ -263,27 +263,27 @@ module _ (transfer : List Flat → Op → List Flat) (r : Rises transfer) (f : F
 
   -- ---- ranks
 
-  abbrev row_sum : Table → ℕ → ℕ
+  abbrev row_sum : Knowing → ℕ → ℕ
   row_sum p b = total (λ (t : ℕ). flat_rank (p b t)) f.temps
 
-  abbrev rank : Table → ℕ
+  abbrev rank : Knowing → ℕ
   rank p = total (row_sum p) (length f.blocks)
 
   abbrev most : ℕ
   most = total (λ (b : ℕ). total (λ (t : ℕ). 2) f.temps) (length f.blocks)
 
-  rank_fits : (p : Table) → rank p ≤ most
+  rank_fits : (p : Knowing) → rank p ≤ most
   rank_fits p = total_le (row_sum p) (λ (b : ℕ). total (λ (t : ℕ). 2) f.temps) (length f.blocks) (λ b within. total_le (λ (t : ℕ). flat_rank (p b t)) (λ (t : ℕ). 2) f.temps (λ t inside. rank_most (p b t)))
 
-  place_up : (p : Table) (g : Gap p) → flat_rank (p g.to g.place) < flat_rank (raised p g g.to g.place)
+  place_up : (p : Knowing) (g : Gap p) → flat_rank (p g.to g.place) < flat_rank (raised p g g.to g.place)
   place_up p g =
       subst (λ (c : Bool). flat_rank (p g.to g.place) < flat_rank (if c then joined (p g.to g.place) (flow p g g.place) else p g.to g.place)) (sym (eq-eqb g.to g.to refl))
       (joined_up (p g.to g.place) (flow p g g.place) g.above)
 
-  each_up : (p : Table) (g : Gap p) (b t : ℕ) → flat_rank (p b t) ≤ flat_rank (raised p g b t)
+  each_up : (p : Knowing) (g : Gap p) (b t : ℕ) → flat_rank (p b t) ≤ flat_rank (raised p g b t)
   each_up p g b t = rank_rises (p b t) (raised p g b t) (raised_above p g b t)
 
-  rank_up : (p : Table) (g : Gap p) → rank p < rank (raised p g)
+  rank_up : (p : Knowing) (g : Gap p) → rank p < rank (raised p g)
   rank_up p g =
       total_lt (row_sum p) (row_sum (raised p g)) (length f.blocks) g.to
       (λ b within. total_le (λ (t : ℕ). flat_rank (p b t)) (λ (t : ℕ). flat_rank (raised p g b t)) f.temps (λ t inside. each_up p g b t)) g.within
@@ -292,14 +292,14 @@ module _ (transfer : List Flat → Op → List Flat) (r : Rises transfer) (f : F
   -- ---- until nothing rises
 
   record Settled : Type 0 where
-    pub table : Table
+    pub table : Knowing
     pub low : IsLow table
     pub flows : AllFlow table
 
   spent : (before after left : ℕ) → before < after → after ≤ most → most ≤ before + left → left ≡ 0 → ⊥
   spent before after left up fits enough none = omega (arith, up, fits, enough, none)
 
-  settle : (left : ℕ) (p : Table) → IsLow p → most ≤ rank p + left → Settled
+  settle : (left : ℕ) (p : Knowing) → IsLow p → most ≤ rank p + left → Settled
   settle zero p low enough = elim (told p) [
     | inl all ↦ record { table = p; low = low; flows = all }
     | inr g ↦ absurd (spent (rank p) (rank (raised p g)) 0 (rank_up p g) (rank_fits (raised p g)) enough refl)

@@ -1,7 +1,7 @@
 -- A run that refines one which refines another, where the moments of the last two are the same.
 use Rattle.std.specs.Prelude.{ℕ, ◌≡◌, ◌≤◌, List, [], ◌∷◌}
 use Rattle.std.proofs.Common.{refl, sym, ap₂, subst, ◌∙◌, arith}
-use Rattle.pw_run.specs.Runs.{View, Stage, Going, Over, Wrong, AreAlike, none, also, SameIn, Met, Refines, Same}
+use Rattle.pw_run.specs.Runs.{End, View, Stage, Going, Over, Wrong, AreAlike, none, also, SameIn, GoesOn, EndsSo, Met, Refines, Same}
 use Rattle.pw_cmean.specs.Acts as source
 use Rattle.pw_run_languages.specs.Programs as flows
 use Rattle.pw_run_languages.specs.Programs.{globals_of}
@@ -26,21 +26,19 @@ module _ {M N : Type 0} (F G : M → N → Type 0) (weaker : (m : M) (n : N) →
     log = subst (AreAlike G a.log) (all_same b.log c.log y.log) (all_alike a.log b.log x.log);
   }
 
+  goes_on : (a : View M) (b : View N) (c : ℕ → Stage N) → SameIn F a b → a.events ≤ b.events → GoesOn Same b c → GoesOn G a c
+  goes_on a b c p n q = record { at = q.at; view = q.view; is = q.is; same = same_through a b q.view p q.same; counted = omega (arith, n, q.counted) }
+
+  ends_so : (end : End) (a : View M) (b : View N) (c : ℕ → Stage N) → SameIn F a b → a.events ≤ b.events → EndsSo Same end b c → EndsSo G end a c
+  ends_so end a b c p n q = record { at = q.at; view = q.view; is = q.is; same = same_through a b q.view p q.same; counted = omega (arith, n, q.counted) }
+
   met_through : (s : Stage M) (b c : ℕ → Stage N) → Met F s b → Refines Same b c → Met G s c
-  met_through (Going v) b c g r =
-      let k = subst (λ t. Met Same t c) g.is (r g.at) in
-      let less : v.events ≤ g.view.events = g.counted in
-      let more : g.view.events ≤ k.view.events = k.counted in
-      record { at = k.at; view = k.view; is = k.is; same = same_through v g.view k.view g.same k.same; counted = omega (arith, less, more) }
-  met_through (Over end v) b c g r =
-      let k = subst (λ t. Met Same t c) g.is (r g.at) in
-      let less : v.events ≤ g.view.events = g.counted in
-      let more : g.view.events ≤ k.view.events = k.counted in
-      record { at = k.at; view = k.view; is = k.is; same = same_through v g.view k.view g.same k.same; counted = omega (arith, less, more) }
-  met_through Wrong b c g r = tt
+  met_through (Going v) b c g r = goes_on v g.view c g.same g.counted (subst (λ (t : Stage N). Met Same t c) g.is (r g.at))
+  met_through (Over end v) b c g r = ends_so end v g.view c g.same g.counted (subst (λ (t : Stage N). Met Same t c) g.is (r g.at))
+  met_through Wrong b c g r = record {}
 
   pub refines_on : (a : ℕ → Stage M) (b c : ℕ → Stage N) → Refines F a b → Refines Same b c → Refines G a c
-  refines_on a b c f g n = met_through (a n) b c (f n) g
+  refines_on a b c f g = λ n. met_through (a n) b c (f n) g
 
 -- ---- moments of two programs with the same globals
 

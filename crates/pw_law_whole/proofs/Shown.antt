@@ -57,13 +57,18 @@ bare_fixes (f ∷ fs) = flat_map-cons names_of_fixes (bare f) (map bare fs) ∙ 
 same_shape : (a b : List ℕ) → ◌≡◌ {A = Option (List ℕ)} (Some a) (Some b) → a ≡ b
 same_shape a b e = cc
 
-main_has : (fs : List FlowFn) (s : List ℕ) → main_in (map function_entry fs) ≡ Some s → (f : FlowFn) × Has f fs × (f.name ≡ main_name) × (f.shape ≡ s)
+-- a function is `main`, with this shape
+abbrev HasMain : List FlowFn → List ℕ → Type 0
+HasMain fs s = (f : FlowFn) × Has f fs × (f.name ≡ main_name) × (f.shape ≡ s)
+
+main_by : (f : FlowFn) (fs : List FlowFn) (s : List ℕ) (b : Bool) → bytes_eq f.name main_name ≡ b → (main_in (map function_entry fs) ≡ Some s → HasMain fs s)
+    → (if b then Some f.shape else main_in (map function_entry fs)) ≡ Some s → HasMain (f ∷ fs) s
+main_by f fs s true same later is = (f, inl refl, (bytes_eq-Decides f.name main_name).0 same, same_shape f.shape s is)
+main_by f fs s false same later is = let r = later is in (r.0, inr r.1, r.2, r.3)
+
+main_has : (fs : List FlowFn) (s : List ℕ) → main_in (map function_entry fs) ≡ Some s → HasMain fs s
 main_has [] s e = absurd cc
-main_has (f ∷ fs) s e = by (bytes_eq f.name main_name) refl e
-  where
-    by : (b : Bool) → bytes_eq f.name main_name ≡ b → (if b then Some f.shape else main_in (map function_entry fs)) ≡ Some s → (g : FlowFn) × Has g (f ∷ fs) × (g.name ≡ main_name) × (g.shape ≡ s)
-    by true same is = (f, inl refl, (bytes_eq-Decides f.name main_name).0 same, same_shape f.shape s is)
-    by false same is = let r = main_has fs s is in (r.0, inr r.1, r.2, r.3)
+main_has (f ∷ fs) s e = main_by f fs s (bytes_eq f.name main_name) refl (main_has fs s) e
 
 main_declared : (m : FlowModule) → DeclaresMain m → (s : List ℕ) → main_in (function_entries m) ≡ Some s → Has (main_name, s) m.declared
 main_declared m declares s e =

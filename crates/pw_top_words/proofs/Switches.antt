@@ -24,6 +24,10 @@ passed_next n (Some k) = ap (λ (m : ℕ). Some m) (next n k)
     next : (n k : ℕ) → n + suc k ≡ n + 1 + k
     next n k = omega arith
 
+-- a test of a word by what is shown of it
+pub told_by : (test : Text → Bool) (word shown : Text) (result answer : Bool) → shown ≡ word → result ≡ test shown → result ≡ answer → test word ≡ answer
+told_by test word shown result answer same is told = ap test (sym same) ∙ sym is ∙ told
+
 -- ---- the words that are left
 
 pub next_word : {Z : Type 0} (words : List (String Z)) (at : ℕ) (word : String Z) → at < length words → word ≡ get_or words at word → drop at (map string_bytes words) ≡ string_bytes word ∷ drop (at + 1) (map string_bytes words)

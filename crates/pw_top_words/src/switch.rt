@@ -1,7 +1,8 @@
 //! The switch of a command line, and its other words.
 
-ghost use Rattle.std.specs.Prelude.{◌≡◌, ◌++◌, ◌∷◌, [], ◌&&◌, ◌<◌, Some, not, false, drop, take, length, map, option_map, string_bytes, suc, IfOk, IfSome, OnOk};
-ghost use Rattle.pw_top_words.specs.CommandLine.{has_value, is_named, is_switched, switch_from, unswitched, without_place};
+ghost use Rattle.std.specs.Prelude.{◌≡◌, ◌++◌, ◌∷◌, [], ◌&&◌, ◌<◌, Some, codes, not, false, drop, take, length, map, option_map, string_bytes, suc, IfOk, IfSome, OnOk};
+ghost use Rattle.std.specs.Str.{bytes_eq};
+ghost use Rattle.pw_top_words.specs.CommandLine.{has_value, is_named, is_switched, switch, switch_from, unswitched, without_place};
 
 use std::alloc::{AllocError, Global};
 
@@ -13,6 +14,20 @@ const SWITCH: &str = "-O";
 pub struct Line {
     pub optimise: bool,
     pub words: Vec<String>,
+}
+
+/// Whether a word ends the options.
+fn ends_options(word: &str) -> bool
+    ensures { result ≡ bytes_eq word.now (codes "--") }
+{
+    word == "--"
+}
+
+/// Whether a word is the switch.
+fn is_switch(word: &str) -> bool
+    ensures { result ≡ bytes_eq word.now switch }
+{
+    word == SWITCH
 }
 
 /// Whether a word is an option that waits for its value, the next word.
@@ -35,9 +50,9 @@ fn switch_at(words: &[String]) -> Option<usize>
         let word = words[at].as_str();
         if waits {
             waits = false;
-        } else if word == "--" {
+        } else if ends_options(word) {
             return None;
-        } else if word == SWITCH {
+        } else if is_switch(word) {
             return Some(at);
         } else {
             waits = waits_for_value(word);
