@@ -35,10 +35,16 @@ class Case:
 
 
 def samples():
-    """Each with its files `input`, `output` and `status`, as samples/check.sh has them."""
+    """Each with its files `input`, `output` and `status`, as samples/check.sh has them; C sources are preprocessed first."""
     for folder in sorted(path for path in (TOP / "samples").iterdir() if path.is_dir()):
         given, wanted, status = (folder / name for name in ("input", "output", "status"))
-        modules = {text.stem: text.read_bytes() for text in folder.glob("*.i")}
+        work = Path(sys.argv[1], folder.name)
+        work.mkdir()
+        for text in folder.glob("*.[ich]"):
+            shutil.copy(text, work)
+        for source in work.glob("*.c"):
+            subprocess.run([sys.argv[2], "cpp", source.stem], cwd=work, check=True)
+        modules = {text.stem: text.read_bytes() for text in work.glob("*.i")}
         out = wanted.read_bytes() if wanted.exists() else b""
         known = int(status.read_text()) if status.exists() else 0, out, None
         yield Case(folder.name, modules, given.read_bytes() if given.exists() else b"", (), known)

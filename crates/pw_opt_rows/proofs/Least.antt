@@ -1,9 +1,9 @@
 -- What flows into the blocks of a function, by the solver, is the least solution of what is known in it.
-use Rattle.std.specs.Prelude.{◌≡◌, ℕ, zero, suc, ◌+◌, ◌<◌, ◌≤◌, ◌↔◌, Bool, Option, Some, None, List, [], ◌∷◌, length, replicate, slice_get, Contains}
-use Rattle.std.proofs.Common.{refl, sym, ap, subst, ◌∙◌, arith, inl, inr}
+use Rattle.std.specs.Prelude.{◌≡◌, ℕ, zero, suc, ◌<◌, ◌≤◌, ◌↔◌, ◌==◌, if◌then◌else◌, Bool, true, false, Option, Some, None, List, [], ◌∷◌, length, replicate, slice_get, Contains}
+use Rattle.std.proofs.Common.{set, refl, sym, ap, subst, ◌∙◌, arith, inl, inr}
 use Rattle.std.proofs.lemmas.Bool.{cases_lt}
-use Rattle.std.proofs.lemmas.List.{get_or_past, get_or-replicate, length-replicate}
-use Rattle.std.proofs.lemmas.Option.{slice_get_within, slice_get_past, slice_get-get_or}
+use Rattle.std.proofs.lemmas.List.{get_or_past, get_or-replicate, length-replicate, length-set}
+use Rattle.std.proofs.lemmas.Option.{slice_get_within, slice_get-get_or}
 use Rattle.pw_fix.specs.Order.{IsLeast, IsJoin}
 use Rattle.pw_fix.specs.Solution.{HasEdge, IsAbovePredecessors, IsInflow, IsStep, Place, into, value_of, Derivable, least, flows, steps, joins}
 use Rattle.pw_fix.specs.Solution as fix
@@ -19,15 +19,12 @@ use Rattle.pw_opt_rules.specs.Rows.{known, IsRowBelow, behind, front, IsSolution
 use Rattle.pw_opt_order.specs.Rises.{Rises}
 use Rattle.pw_opt_order.specs.Order.{below_many, below_through, rows_below_themselves, behind_long, behind_rises}
 use Rattle.pw_opt_rows.specs.Joins.{joined, IsOwnRow}
-use Rattle.pw_opt_rows.specs.Outflows.{outflow_by, outflow, IsOutflow, IsEdge}
+use Rattle.pw_opt_rows.specs.Outflows.{entered, outflow_by, outflow, IsOutflow, IsEdge}
+use Rattle.pw_opt_rows.specs.RowLaws.{entered_long, entered_rises}
+use Rattle.pw_opt_rows.proofs.Entering.{all_many, entered_on, opened_first, opened_on}
 use Rattle.pw_opt_rows.proofs.Joining.{least_above, rows_join, bottom_least}
 
 -- ---- places
-
-many_below : (x y : Flat) → x ≡ Many → IsBelow x y → y ≡ Many
-many_below x Bottom e b = absurd (subst (λ z. IsBelow z Bottom) e b)
-many_below x (One n) e b = absurd (subst (λ z. IsBelow z (One n)) e b)
-many_below x Many e b = refl
 
 bottom_below : (x y : Flat) → IsBelow x Bottom → IsBelow x y
 bottom_below Bottom y b = tt
@@ -75,9 +72,16 @@ module _ (transfer : List Flat → Op → List Flat) (r : Rises transfer) (f : F
           subst (λ (row : List Flat). length row ≤ f.temps) (sym (get_or_past others n [] (omega (arith, ge, each)))) (omega arith)
     ]
 
-    out_long : (n : ℕ) (block : Option Block) → length (outflow_by transfer f.temps (front others n) block) ≤ f.temps
-    out_long n (Some b) = let e : length (behind transfer (front others n) b.ops) ≡ length (front others n) = behind_long transfer r (front others n) b.ops in let le = front_long n in omega (arith, e, le)
-    out_long n None = let e : length (replicate f.temps Many) ≡ f.temps = length-replicate f.temps Many in omega (arith, e)
+    entered_short : (n : ℕ) (c : Bool) → length (if c then replicate f.temps Many else front others n) ≤ f.temps
+    entered_short n true = let e : length (replicate f.temps Many) ≡ f.temps = length-replicate f.temps Many in omega (arith, e)
+    entered_short n false = front_long n
+
+    out_long : (n : ℕ) (block : Option Block) → length (outflow_by transfer (entered f.temps n (front others n)) block) ≤ f.temps
+    out_long n (Some b) =
+        let e : length (behind transfer (entered f.temps n (front others n)) b.ops) ≡ length (entered f.temps n (front others n)) = behind_long transfer r (entered f.temps n (front others n)) b.ops in
+        let le : length (entered f.temps n (front others n)) ≤ f.temps = entered_short n (n == 0) in
+        omega (arith, e, le)
+    out_long n None = entered_short n (n == 0)
 
     bound_long : (p : Place) → length (bound p) ≤ f.temps
     bound_long (into n) = front_long n
@@ -91,18 +95,26 @@ module _ (transfer : List Flat → Op → List Flat) (r : Rises transfer) (f : F
           subst (λ z. IsBelow (known x t) z) (sym (get_or_past (bound p) t Many (omega (arith, ge, le)))) (below_many (known x t))
     ]
 
+    -- at the start a solution has Many
+    entered_below : (n : ℕ) → IsRowBelow (entered f.temps n (front others n)) (front others n)
+    entered_below zero = λ t. subst (λ z. IsBelow (known (entered f.temps 0 (front others 0)) t) z) (sym (s.start t)) (below_many (known (entered f.temps 0 (front others 0)) t))
+    entered_below (suc n) = subst (λ (row : List Flat). IsRowBelow row (front others (suc n))) (sym (entered_on f.temps n (front others (suc n)))) (rows_below_themselves (front others (suc n)))
+
     edge_below : (m n : ℕ) (x : List Flat) → IsEdge f.blocks m n → IsRowBelow x (outflow transfer f.temps f.blocks m (front others m)) → IsRowBelow x (front others n)
-    edge_below m n x (inl way) b t =
-        below_through (known x t) (known (behind transfer (front others m) way.0.ops) t) (known (front others n) t)
-        (subst (λ (o : Option Block). IsBelow (known x t) (known (outflow_by transfer f.temps (front others m) o) t)) way.1 (b t))
-        (s.flows m n way.0 way.1 way.2 t)
-    edge_below m n x (inr way) b t =
-        subst (λ z. IsBelow (known x t) z) (sym (ap (λ k. known (front others k) t) way.1 ∙ s.start t)) (below_many (known x t))
+    edge_below m n x way b t =
+        let long : length (front others m) ≡ f.temps = s.each_temp m (slice_get_within f.blocks m way.0 way.1) in
+        below_through (known x t) (known (behind transfer (entered f.temps m (front others m)) way.0.ops) t) (known (front others n) t)
+        (subst (λ (o : Option Block). IsBelow (known x t) (known (outflow_by transfer (entered f.temps m (front others m)) o) t)) way.1 (b t))
+        (below_through (known (behind transfer (entered f.temps m (front others m)) way.0.ops) t) (known (behind transfer (front others m) way.0.ops) t) (known (front others n) t)
+        (behind_rises transfer r (entered f.temps m (front others m)) (front others m) way.0.ops (entered_long f.temps m (front others m) long ∙ sym long) (entered_below m) t)
+        (s.flows m n way.0 way.1 way.2 t))
 
     out_below : (n : ℕ) (block : Option Block) (y : List Flat) → slice_get f.blocks n ≡ block → length y ≡ f.temps → IsRowBelow y (front others n)
-        → IsRowBelow (outflow_by transfer f.temps y block) (outflow_by transfer f.temps (front others n) block)
-    out_below n (Some b) y there long below = behind_rises transfer r y (front others n) b.ops (long ∙ sym (s.each_temp n (slice_get_within f.blocks n b there))) below
-    out_below n None y there long below = rows_below_themselves (replicate f.temps Many)
+        → IsRowBelow (outflow_by transfer (entered f.temps n y) block) (outflow_by transfer (entered f.temps n (front others n)) block)
+    out_below n (Some b) y there long below =
+        let same : length (front others n) ≡ f.temps = s.each_temp n (slice_get_within f.blocks n b there) in
+        behind_rises transfer r (entered f.temps n y) (entered f.temps n (front others n)) b.ops (entered_long f.temps n y long ∙ sym (entered_long f.temps n (front others n) same)) (entered_rises f.temps n y (front others n) below)
+    out_below n None y there long below = entered_rises f.temps n y (front others n) below
 
     joins_below : (x y z w : List Flat) → Own x → Own y → IsJoin Own IsRowBelow x y z → IsRowBelow x w → IsRowBelow y w → IsRowBelow z w
     joins_below x y z w a b j first second t =
@@ -122,70 +134,79 @@ module _ (transfer : List Flat → Op → List Flat) (r : Rises transfer) (f : F
 
   -- ---- the rows at the fronts
 
-  module _ (ends fronts : List (List Flat)) (solved : fix.IsSolution Own IsRowBelow gives (length f.blocks + 1) edges ends) (count : length fronts ≡ length f.blocks)
-      (inflows : (n : ℕ) (row : List Flat) → slice_get fronts n ≡ Some row → IsInflow Own IsRowBelow edges ends n row)
-      (derived : (n : ℕ) (row : List Flat) → slice_get fronts n ≡ Some row → Derivable Own IsRowBelow gives edges (into n) row) (some : 0 < length f.blocks) where
-    there : (n : ℕ) → n < length f.blocks → slice_get fronts n ≡ Some (front fronts n)
-    there n lt = slice_get-get_or fronts n [] (omega (arith, lt, count))
+  module _ (ends inflows : List (List Flat)) (solved : fix.IsSolution Own IsRowBelow gives (length f.blocks) edges ends) (count : length inflows ≡ length f.blocks)
+      (joined_in : (n : ℕ) (row : List Flat) → slice_get inflows n ≡ Some row → IsInflow Own IsRowBelow edges ends n row)
+      (derived : (n : ℕ) (row : List Flat) → slice_get inflows n ≡ Some row → Derivable Own IsRowBelow gives edges (into n) row) (some : 0 < length f.blocks) where
+    abbrev many : List Flat
+    many = replicate f.temps Many
 
-    end_there : (n : ℕ) → n < length f.blocks + 1 → slice_get ends n ≡ Some (front ends n)
-    end_there n lt = let each : length ends ≡ length f.blocks + 1 = solved.each_node in slice_get-get_or ends n [] (omega (arith, lt, each))
+    abbrev fronts : List (List Flat)
+    fronts = set inflows 0 many
 
-    inflow : (n : ℕ) → n < length f.blocks → IsInflow Own IsRowBelow edges ends n (front fronts n)
-    inflow n lt = inflows n (front fronts n) (there n lt)
+    there : (n : ℕ) → n < length f.blocks → slice_get inflows n ≡ Some (front inflows n)
+    there n lt = slice_get-get_or inflows n [] (omega (arith, lt, count))
+
+    end_there : (n : ℕ) → n < length f.blocks → slice_get ends n ≡ Some (front ends n)
+    end_there n lt = let each : length ends ≡ length f.blocks = solved.each_node in slice_get-get_or ends n [] (omega (arith, lt, each))
+
+    inflow : (n : ℕ) → n < length f.blocks → IsInflow Own IsRowBelow edges ends n (front inflows n)
+    inflow n lt = joined_in n (front inflows n) (there n lt)
+
+    opened : (n : ℕ) → front fronts n ≡ entered f.temps n (front inflows n)
+    opened zero = opened_first inflows many (omega (arith, some, count))
+    opened (suc n) = opened_on inflows many n ∙ sym (entered_on f.temps n (front inflows (suc n)))
+
+    size : length fronts ≡ length f.blocks
+    size = length-set inflows 0 many ∙ count
 
     long : (n : ℕ) → n < length f.blocks → length (front fronts n) ≡ f.temps
-    long n lt = (inflow n lt).own.0
+    long n lt = ap (λ (row : List Flat). length row) (opened n) ∙ entered_long f.temps n (front inflows n) (inflow n lt).own.0
 
     start : (t : ℕ) → known (front fronts 0) t ≡ Many
-    start t =
-        let x : List Flat = front ends (length f.blocks) in
-        let is : slice_get ends (length f.blocks) ≡ Some x = end_there (length f.blocks) (omega arith) in
-        let step = solved.at_least_step (length f.blocks) x is in
-        let none : slice_get f.blocks (length f.blocks) ≡ None = slice_get_past f.blocks (length f.blocks) (omega arith) in
-        let all : step.0 ≡ replicate f.temps Many = step.1.given ∙ ap (outflow_by transfer f.temps step.1.inflow) none in
-        many_below (known x t) (known (front fronts 0) t)
-        (many_below (known step.0 t) (known x t) (ap (λ (row : List Flat). known row t) all ∙ all_many t) (step.2 t))
-        ((inflow 0 some).above (length f.blocks) x ((exact (length f.blocks) 0).1 (inr (refl, refl))) is t)
-      where
-        all_many : (t : ℕ) → known (replicate f.temps Many) t ≡ Many
-        all_many t = elim (cases_lt t f.temps) [
-          | inl lt ↦ get_or-replicate f.temps t Many Many lt
-          | inr ge ↦ let size : length (replicate f.temps Many) ≡ f.temps = length-replicate f.temps Many in get_or_past (replicate f.temps Many) t Many (omega (arith, ge, size))
-        ]
+    start t = ap (λ (row : List Flat). known row t) (opened_first inflows many (omega (arith, some, count))) ∙ all_many f.temps t
 
-    within : (b c : ℕ) (block : Block) → b < length f.blocks → c < length f.blocks → slice_get f.blocks b ≡ Some block → Contains (successors block.end) c → IsRowBelow (behind transfer (front fronts b) block.ops) (front fronts c)
-    within b c block lt lt_c is next t =
+    -- what is known behind a block is at or below its value
+    at_end : (b : ℕ) (block : Block) → slice_get f.blocks b ≡ Some block → IsRowBelow (behind transfer (front fronts b) block.ops) (front ends b)
+    at_end b block is t =
+        let lt = slice_get_within f.blocks b block is in
         let x : List Flat = front ends b in
-        let at_end = end_there b (omega (arith, lt)) in
-        let step = solved.at_least_step b x at_end in
+        let step = solved.at_least_step b x (end_there b lt) in
         let y : List Flat = step.1.inflow in
-        let under : IsRowBelow (front fronts b) y = (inflow b lt).least y step.1.joined.own step.1.joined.above in
-        let out : step.0 ≡ behind transfer y block.ops = step.1.given ∙ ap (outflow_by transfer f.temps y) is in
-        below_through (known (behind transfer (front fronts b) block.ops) t) (known (behind transfer y block.ops) t) (known (front fronts c) t)
-        (behind_rises transfer r (front fronts b) y block.ops (long b lt ∙ sym step.1.joined.own.0) under t)
-        (subst (λ (row : List Flat). IsBelow (known row t) (known (front fronts c) t)) out
-        (below_through (known step.0 t) (known x t) (known (front fronts c) t) (step.2 t) ((inflow c lt_c).above b x ((exact b c).1 (inl (block, is, next))) at_end t)))
+        let under : IsRowBelow (front inflows b) y = (inflow b lt).least y step.1.joined.own step.1.joined.above in
+        let above : IsRowBelow (front fronts b) (entered f.temps b y) = subst (λ (row : List Flat). IsRowBelow row (entered f.temps b y)) (sym (opened b)) (entered_rises f.temps b (front inflows b) y under) in
+        let out : step.0 ≡ behind transfer (entered f.temps b y) block.ops = step.1.given ∙ ap (outflow_by transfer (entered f.temps b y)) is in
+        below_through (known (behind transfer (front fronts b) block.ops) t) (known (behind transfer (entered f.temps b y) block.ops) t) (known x t)
+        (behind_rises transfer r (front fronts b) (entered f.temps b y) block.ops (long b lt ∙ sym (entered_long f.temps b y step.1.joined.own.0)) above t)
+        (subst (λ (row : List Flat). IsBelow (known row t) (known x t)) out (step.2 t))
 
     onward : (b c : ℕ) (block : Block) → slice_get f.blocks b ≡ Some block → Contains (successors block.end) c → IsRowBelow (behind transfer (front fronts b) block.ops) (front fronts c)
-    onward b c block is next = elim (cases_lt c (length f.blocks)) [
-      | inl lt ↦ within b c block (slice_get_within f.blocks b block is) lt is next
+    onward b zero block is next = λ t.
+        subst (λ z. IsBelow (known (behind transfer (front fronts b) block.ops) t) z) (sym (start t)) (below_many (known (behind transfer (front fronts b) block.ops) t))
+    onward b (suc c) block is next = elim (cases_lt (suc c) (length f.blocks)) [
+      | inl lt ↦ λ t.
+          subst (λ (row : List Flat). IsBelow (known (behind transfer (front fronts b) block.ops) t) (known row t)) (sym (opened_on inflows many c))
+          (below_through (known (behind transfer (front fronts b) block.ops) t) (known (front ends b) t) (known (front inflows (suc c)) t) (at_end b block is t)
+          ((inflow (suc c) lt).above b (front ends b) ((exact b (suc c)).1 (block, is, next)) (end_there b (slice_get_within f.blocks b block is)) t))
       | inr ge ↦ λ t.
-          subst (λ (row : List Flat). IsBelow (known (behind transfer (front fronts b) block.ops) t) (known row t)) (sym (get_or_past fronts c [] (omega (arith, ge, count))))
+          let all : length fronts ≡ length f.blocks = size in
+          subst (λ (row : List Flat). IsBelow (known (behind transfer (front fronts b) block.ops) t) (known row t)) (sym (get_or_past fronts (suc c) [] (omega (arith, ge, all))))
           (below_many (known (behind transfer (front fronts b) block.ops) t))
     ]
 
     below_others : (others : List (List Flat)) → IsSolution transfer f others → (n : ℕ) → IsRowBelow (front fronts n) (front others n)
-    below_others others s n = elim (cases_lt n (length f.blocks)) [
-      | inl lt ↦ bounded others s (into n) (front fronts n) (derived n (front fronts n) (there n lt))
+    below_others others s zero = λ t. subst (λ z. IsBelow (known (front fronts 0) t) z) (sym (s.start t)) (below_many (known (front fronts 0) t))
+    below_others others s (suc n) = elim (cases_lt (suc n) (length f.blocks)) [
+      | inl lt ↦
+          subst (λ (row : List Flat). IsRowBelow row (front others (suc n))) (sym (opened_on inflows many n))
+          (bounded others s (into (suc n)) (front inflows (suc n)) (derived (suc n) (front inflows (suc n)) (there (suc n) lt)))
       | inr ge ↦
           let each : length others ≡ length f.blocks = s.each_block in
-          subst (λ (row : List Flat). IsRowBelow (front fronts n) row) (sym (get_or_past others n [] (omega (arith, ge, each)))) (λ t. below_many (known (front fronts n) t))
+          subst (λ (row : List Flat). IsRowBelow (front fronts (suc n)) row) (sym (get_or_past others (suc n) [] (omega (arith, ge, each)))) (λ t. below_many (known (front fronts (suc n)) t))
     ]
 
-    pub fronts_solve : IsLeastSolution transfer f fronts
+    pub fronts_solve : IsLeastSolution transfer f (set inflows 0 (replicate f.temps Many))
     fronts_solve = record {
-      solution = record { each_block = count; each_temp = long; start = start; flows = onward };
+      solution = record { each_block = size; each_temp = long; start = start; flows = onward };
       least = below_others;
     }
 
@@ -195,14 +216,14 @@ module _ (transfer : List Flat → Op → List Flat) (r : Rises transfer) (f : F
   abbrev Solves : List Block → Type 0
   Solves blocks =
       ((m n : ℕ) → HasEdge edges m n ↔ IsEdge blocks m n)
-      → fix.IsSolution (IsOwnRow may f.temps) IsRowBelow (IsOutflow transfer f.temps blocks) (length blocks + 1) edges ends
-      → (fronts : List (List Flat)) → length fronts ≡ length blocks
-      → ((n : ℕ) (row : List Flat) → slice_get fronts n ≡ Some row → IsInflow (IsOwnRow may f.temps) IsRowBelow edges ends n row)
-      → ((n : ℕ) (row : List Flat) → slice_get fronts n ≡ Some row → Derivable (IsOwnRow may f.temps) IsRowBelow (IsOutflow transfer f.temps blocks) edges (into n) row)
-      → IsLeastSolution transfer f fronts
+      → fix.IsSolution (IsOwnRow may f.temps) IsRowBelow (IsOutflow transfer f.temps blocks) (length blocks) edges ends
+      → (inflows : List (List Flat)) → length inflows ≡ length blocks
+      → ((n : ℕ) (row : List Flat) → slice_get inflows n ≡ Some row → IsInflow (IsOwnRow may f.temps) IsRowBelow edges ends n row)
+      → ((n : ℕ) (row : List Flat) → slice_get inflows n ≡ Some row → Derivable (IsOwnRow may f.temps) IsRowBelow (IsOutflow transfer f.temps blocks) edges (into n) row)
+      → IsLeastSolution transfer f (set inflows 0 (replicate f.temps Many))
 
   own_solve : Solves f.blocks
-  own_solve exact solved fronts count inflows derived = fronts_solve transfer r f may edges exact ends fronts solved count inflows derived some
+  own_solve exact solved inflows count joined_in derived = fronts_solve transfer r f may edges exact ends inflows solved count joined_in derived some
 
   pub solves : (blocks : List Block) → blocks ≡ f.blocks → Solves blocks
   solves blocks is = subst Solves (sym is) own_solve

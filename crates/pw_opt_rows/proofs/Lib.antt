@@ -2,4 +2,5 @@ mod Joining
 mod Ways
 mod Gathering
 mod Steps
+mod Entering
 mod Least

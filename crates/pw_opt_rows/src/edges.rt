@@ -26,12 +26,11 @@ fn add_edges(edges: &mut Vec<(usize, usize)>, from: usize, end: End) -> Result<(
     }
 }
 
-/// All edges of a function, and the one from the node behind its blocks to its start.
+/// All edges of a function.
 pub(crate) fn edges_of(alloc: Global, blocks: &[Block]) -> Result<Vec<(usize, usize)>, NoMemory>
     ensures { IfOk result (λ edges. (m n : ℕ) → HasEdge edges.items m n ↔ IsEdge blocks.now m n) }
 {
     let mut edges = Vec::new(alloc);
-    edges.push((blocks.len(), 0))?;
     for place in 0..blocks.len() {
         add_edges(&mut edges, place, blocks[place].end)?;
     }

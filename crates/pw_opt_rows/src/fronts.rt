@@ -1,12 +1,12 @@
 //! The least solution of a rewriting.
 
-ghost use Rattle.std.specs.Prelude.{ℕ, ◌≡◌, ◌+◌, ◌*◌, ◌<◌, List, length, replicate, All, IfOk, vec_len, slice_get, Some, true};
+ghost use Rattle.std.specs.Prelude.{ℕ, ◌≡◌, ◌*◌, ◌<◌, List, [], length, replicate, All, IfOk, vec_len, slice_get, slice_index_or, slice_set, Some, true};
 ghost use Rattle.pw_fix.specs.Solution.{AreDerived, Derivable, IsInflow, into as flows_into};
 ghost use Rattle.pw_opt_rules.specs.declared.flat.Flat.{Flat as FlatValue};
-ghost use Rattle.pw_opt_rules.specs.declared.flat.Flat.TheVariants.{Bottom};
+ghost use Rattle.pw_opt_rules.specs.declared.flat.Flat.TheVariants.{Bottom, Many};
 ghost use Rattle.pw_opt_rules.specs.Rows.{behind, IsRowBelow, IsLeastSolution};
 ghost use Rattle.pw_opt_rows.specs.Joins.{HasWhatMay, IsOwnRow};
-ghost use Rattle.pw_opt_rows.specs.Outflows.{AreAbout, HasWays, IsOutflow};
+ghost use Rattle.pw_opt_rows.specs.Outflows.{AreAbout, HasWays, IsOutflow, entered};
 
 use crate::edges::edges_of;
 use crate::rewriting::Rewriting;
@@ -15,6 +15,18 @@ use crate::rows::FlatRows;
 use pw_fix::{Graph, Lattice, Problem, solve};
 use pw_flow::{Block, FlowFn, Op};
 use std::alloc::{AllocError as NoMemory, Global};
+
+/// What is known at the front of a block into which a row flows from others: at the start all may be anything.
+fn enter(block: usize, inflow: &Row, row: &mut Row)
+    requires { length row.old ≡ length inflow.now }
+    ensures { row.new ≡ entered (length row.old) block inflow.now }
+{
+    if block == 0 {
+        row.set_many();
+    } else {
+        row.copy_from(inflow);
+    }
+}
 
 /// What is known behind operations that follow one another, in place.
 fn follow_all<R: Rewriting>(rewriting: &R, row: &mut Row, ops: &[Op])
@@ -41,7 +53,7 @@ impl<'a, R: Rewriting> Problem for Blocks<'a, R> {
 
     type L = FlatRows<'a, R>;
 
-    ghost node_count = { λ p. length p.blocks.now + 1 };
+    ghost node_count = { λ p. length p.blocks.now };
 
     ghost lattice_of = { λ p. p.rows };
 
@@ -54,12 +66,8 @@ impl<'a, R: Rewriting> Problem for Blocks<'a, R> {
     }
 
     fn step(&self, node: usize, inflow: &Row, out: &mut Row) {
-        if node < self.blocks.len() {
-            out.copy_from(inflow);
-            follow_all(self.rows.rewriting, out, self.blocks[node].ops.as_slice());
-        } else {
-            out.set_many();
-        }
+        enter(node, inflow, out);
+        follow_all(self.rows.rewriting, out, self.blocks[node].ops.as_slice());
     }
 
     fn height(&self) -> u64 {
@@ -83,7 +91,7 @@ fn bottoms(alloc: Global, count: usize, temps: u32) -> Result<Vec<Row>, NoMemory
     Ok(rows)
 }
 
-/// Of each block what flows into it: the join of what flows out of the nodes from which an edge leads there.
+/// Of each block what flows into it: the join of what flows out of the blocks from which an edge leads there.
 fn gather<R: Rewriting>(
     alloc: Global,
     problem: &Blocks<'_, R>,
@@ -108,6 +116,15 @@ fn gather<R: Rewriting>(
     Ok(fronts)
 }
 
+/// Rows of which the first is at Many: at the start all may be anything.
+fn opened(mut rows: Vec<Row>) -> Vec<Row>
+    requires { 0 < length rows.items }
+    ensures { result.items ≡ slice_set rows.items 0 (replicate (length (slice_index_or rows.items 0 [])) Many) }
+{
+    rows[0].set_many();
+    rows
+}
+
 /// What is known at the front of each block of a function: the least solution of a rewriting.
 ///
 /// # Errors
@@ -127,7 +144,7 @@ pub fn find_fronts<R: Rewriting>(
     let blocks = f.blocks.as_slice();
     let edges = edges_of(alloc, blocks)?;
     let graph = Graph {
-        nodes: blocks.len() + 1,
+        nodes: blocks.len(),
         edges,
     };
     let rows = FlatRows {
@@ -136,6 +153,6 @@ pub fn find_fronts<R: Rewriting>(
     };
     let problem = Blocks { rows, blocks };
     let ends = solve(alloc, &graph, &problem)?;
-    let fronts = gather(alloc, &problem, &graph.edges, &ends)?;
-    Ok(fronts)
+    let inflows = gather(alloc, &problem, &graph.edges, &ends)?;
+    Ok(opened(inflows))
 }

@@ -1,19 +1,22 @@
-use Rattle.std.proofs.Common.{◌≡◌, ◌∙◌, ℕ, ◌+◌, ◌<◌, List, All, length, sym, ap, subst, arith}
-use Rattle.std.specs.Prelude.{◌↔◌, Some, slice_get}
-use Rattle.pw_fix.proofs.Places.{All-from_at}
+use Rattle.std.proofs.Common.{◌≡◌, ◌∙◌, ℕ, ◌<◌, Bool, List, [], All, length, replicate, set, sym, ap, subst, arith, inl, inr}
+use Rattle.std.specs.Prelude.{◌↔◌, Some, slice_get, slice_index_or}
+use Rattle.std.proofs.lemmas.Option.{slice_get-get_or}
+use Rattle.pw_fix.proofs.Places.{All-from_at, set_cases}
 use Rattle.pw_fix.specs.Solution.{HasEdge, IsInflow, into, Derivable, AreDerived}
 use Rattle.pw_flow.specs.declared.flow.Block.{Block}
 use Rattle.pw_opt_rules.specs.declared.flat.Flat.{Flat}
-use Rattle.pw_opt_rules.specs.Rows.{IsRowBelow}
+use Rattle.pw_opt_rules.specs.declared.flat.Flat.TheVariants.{Many}
+use Rattle.pw_opt_rules.specs.Rows.{IsRowBelow, IsLeastSolution}
 use Rattle.pw_opt_rows.specs.Joins.{IsOwnRow}
 use Rattle.pw_opt_rows.specs.Outflows.{HasWays, IsOutflow, IsEdge}
-use Rattle.pw_opt_rows.proofs.Ways.{edges_inside, edges_nodes}
+use Rattle.pw_opt_rows.proofs.Entering.{many_own}
+use Rattle.pw_opt_rows.proofs.Ways.{edges_inside}
 use Rattle.pw_opt_rows.proofs.Least.{solves}
 use Rattle.pw_opt_rows.proofs.fronts.find_fronts.Goals as goal
 
--- the edges are between nodes
+-- the edges are between blocks
 abbrev Inside : ℕ → List (ℕ × ℕ) → Type 0
-Inside count edges = All (λ (e : ℕ × ℕ). (e.0 < count + 1) × (e.1 < count)) edges
+Inside count edges = All (λ (e : ℕ × ℕ). (e.0 < count) × (e.1 < count)) edges
 
 inside : (blocks own : List Block) (edges : List (ℕ × ℕ)) → blocks ≡ own → HasWays own → ((m n : ℕ) → HasEdge edges m n ↔ IsEdge blocks m n) → Inside (length blocks) edges
 inside blocks own edges is ways exact =
@@ -21,14 +24,13 @@ inside blocks own edges is ways exact =
 
 pub invariant_of-graph : goal.invariant_of-graph
 invariant_of-graph g c =
-    let bs = c.as_slice-blocks.result.now in
-    record { within = edges_nodes c.in_ok-edges.edges.items (length bs) (inside bs c.args.f.now.blocks c.in_ok-edges.edges.items c.as_slice-blocks.ensures c.requires.ways c.in_ok-edges.ensures) }
+    record { within = inside c.as_slice-blocks.result.now c.args.f.now.blocks c.in_ok-edges.edges.items c.as_slice-blocks.ensures c.requires.ways c.in_ok-edges.ensures }
 
 pub gather-requires-clause-edges : goal.gather-requires-clause-edges
 gather-requires-clause-edges g c =
     let bs = c.as_slice-blocks.result.now in
     let all = inside bs c.args.f.now.blocks c.in_ok-edges.edges.items c.as_slice-blocks.ensures c.requires.ways c.in_ok-edges.ensures in
-    let nodes : length c.deref-2.result.now ≡ length bs + 1 = ap (λ xs. length xs) c.deref-2.ensures.value ∙ c.in_ok-ends.ensures.least.solution.each_node in
+    let nodes : length c.deref-2.result.now ≡ length bs = ap (λ xs. length xs) c.deref-2.ensures.value ∙ c.in_ok-ends.ensures.least.solution.each_node in
     subst (λ (es : List (ℕ × ℕ)). All (λ (e : ℕ × ℕ). (e.0 < length c.deref-2.result.now) × (e.1 < length bs)) es) (sym c.deref.ensures.value)
     (subst (λ (n : ℕ). All (λ (e : ℕ × ℕ). (e.0 < n) × (e.1 < length bs)) c.in_ok-edges.edges.items) (sym nodes) all)
 
@@ -46,6 +48,25 @@ gather-requires-clause-derived g c =
     subst (λ rows. AreDerived own IsRowBelow gives c.deref.result.now rows) (sym c.deref-2.ensures.value)
     (subst (λ es. AreDerived own IsRowBelow gives es c.in_ok-ends.ends.items) (sym c.deref.ensures.value) c.in_ok-ends.ensures.derived)
 
+pub opened-requires : goal.opened-requires
+opened-requires g c =
+    let ok = c.in_ok-inflows.inflows.ok.0 in
+    let count = c.in_ok-inflows.ensures.count in
+    let same : length c.as_slice-blocks.result.now ≡ length c.args.f.now.blocks = ap (λ (bs : List Block). length bs) c.as_slice-blocks.ensures in
+    let some = c.requires.ways.start in
+    omega (arith, ok, count, same, some)
+
+-- rows stay those of a function with its first at Many
+opened_own : (may : ℕ → ℕ → Bool) (temps : ℕ) (rows : List (List Flat)) → ((n : ℕ) (row : List Flat) → slice_get rows n ≡ Some row → IsOwnRow may temps row) → All (IsOwnRow may temps) (set rows 0 (replicate temps Many))
+opened_own may temps rows each =
+    All-from_at (IsOwnRow may temps) (set rows 0 (replicate temps Many)) (λ n row at. elim (set_cases rows 0 n (replicate temps Many) row at) [
+      | inl now ↦ subst (IsOwnRow may temps) (sym now.1) (many_own may temps)
+      | inr old ↦ each n row old.1
+    ])
+
+opened_long : (may : ℕ → ℕ → Bool) (temps : ℕ) (rows : List (List Flat)) → ((n : ℕ) (row : List Flat) → slice_get rows n ≡ Some row → IsOwnRow may temps row) → 0 < length rows → length (slice_index_or rows 0 []) ≡ temps
+opened_long may temps rows each some = (each 0 (slice_index_or rows 0 []) (slice_get-get_or rows 0 [] some)).0
+
 pub returns : goal.returns
 returns g c =
     let r = c.args.rewriting.now in
@@ -56,15 +77,21 @@ returns g c =
     let bs = c.as_slice-blocks.result.now in
     let edges = c.in_ok-edges.edges.items in
     let ends = c.in_ok-ends.ends.items in
-    let fronts = c.in_ok-fronts.fronts.items in
-    let facts = c.in_ok-fronts.ensures in
-    let inflows = λ (n : ℕ) (row : List Flat) (is : slice_get fronts n ≡ Some row).
+    let rows = c.in_ok-inflows.inflows.items in
+    let facts = c.in_ok-inflows.ensures in
+    let joined_in = λ (n : ℕ) (row : List Flat) (is : slice_get rows n ≡ Some row).
     subst (λ es. IsInflow own IsRowBelow es ends n row) c.deref.ensures.value
-    (subst (λ rows. IsInflow own IsRowBelow c.deref.result.now rows n row) c.deref-2.ensures.value (facts.inflows n row is)) in
-    let derived = λ (n : ℕ) (row : List Flat) (is : slice_get fronts n ≡ Some row).
+    (subst (λ ends. IsInflow own IsRowBelow c.deref.result.now ends n row) c.deref-2.ensures.value (facts.inflows n row is)) in
+    let derived = λ (n : ℕ) (row : List Flat) (is : slice_get rows n ≡ Some row).
     subst (λ es. Derivable own IsRowBelow (IsOutflow transfer f.temps bs) es (into n) row) c.deref.ensures.value (facts.derived n row is) in
+    let each = λ (n : ℕ) (row : List Flat) (is : slice_get rows n ≡ Some row). (facts.inflows n row is).own in
+    let long : length rows ≡ length bs = let ok = c.in_ok-inflows.inflows.ok.0 in let count = facts.count in omega (arith, ok, count) in
+    let same : length bs ≡ length f.blocks = ap (λ (xs : List Block). length xs) c.as_slice-blocks.ensures in
+    let some : 0 < length rows = let start = c.requires.ways.start in omega (arith, long, same, start) in
+    let is : c.opened.result.items ≡ set rows 0 (replicate f.temps Many) = c.opened.ensures ∙ ap (λ (k : ℕ). set rows 0 (replicate k Many)) (opened_long may f.temps rows each some) in
     record {
-      least = solves transfer (g.met.R.Rewriting.rises r) f may edges ends c.requires.ways.start bs c.as_slice-blocks.ensures c.in_ok-edges.ensures c.in_ok-ends.ensures.least.solution
-          fronts (let ok = c.in_ok-fronts.fronts.ok.0 in let count = facts.count in omega (arith, ok, count)) inflows derived;
-      may = All-from_at own fronts (λ n row is. (facts.inflows n row is).own);
+      least = subst (λ fronts. IsLeastSolution transfer f fronts) (sym is)
+          (solves transfer (g.met.R.Rewriting.rises r) f may edges ends c.requires.ways.start bs c.as_slice-blocks.ensures c.in_ok-edges.ensures c.in_ok-ends.ensures.least.solution
+          rows long joined_in derived);
+      may = subst (λ fronts. All own fronts) (sym is) (opened_own may f.temps rows each);
     }
