@@ -41,13 +41,14 @@ fn rows_of(
     ensures needs { IfOk result (λ g. g.needs ≡ map (λ h. need_of h.2) (map home homes.now)) }
 {
     let globals = scalar_names(alloc, scalars)?;
+    let needs = home_needs(alloc, homes)?;
     let calls = call_rows(alloc, &names, targets, homes)?;
     let refs = ref_rows(alloc, &globals, homes)?;
     Ok(CallGraph {
         globals: copied(alloc, scalars)?,
         calls,
         refs,
-        needs: home_needs(alloc, homes)?,
+        needs,
         functions: Items::from_vec(names),
     })
 }

@@ -33,6 +33,10 @@ last_before calls p (Some c) none is = (
 
 -- ---- one point more
 
+pub none_yet : (calls : List Bool) (lasts : List (Option ℕ)) → lasts ≡ [] → (q : ℕ) (last : Option ℕ) → slice_get lasts q ≡ Some last → IsLastCall calls 0 (q + 1) last
+none_yet calls [] is q last at = absurd cc
+none_yet calls (x ∷ xs) is q last at = absurd cc
+
 push_cases : {X : Type 0} (xs : List X) (x y : X) (q : ℕ) → slice_get (xs ++ x ∷ []) q ≡ Some y → (slice_get xs q ≡ Some y) ⊎ ((q ≡ length xs) × (x ≡ y))
 push_cases [] x y zero e = inr (refl, same_Some x y e)
 push_cases [] x y (suc q) e = absurd cc

@@ -1,5 +1,5 @@
 -- What is known of a temporary at the points of its spans.
-use Rattle.std.proofs.Common.{◌≡◌, ◌<◌, ℕ, true, List, length, map, arith, sym, ap, ◌∙◌}
+use Rattle.std.proofs.Common.{◌≡◌, ◌<◌, ℕ, true, List, length, map, sym, ap, ◌∙◌}
 use Rattle.std.specs.Prelude.{Option, Some, slice_get, ◌↔◌}
 use Rattle.std.proofs.lemmas.List.{length-map}
 use Rattle.std.proofs.lemmas.Option.{slice_get_within}

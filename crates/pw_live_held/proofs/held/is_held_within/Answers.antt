@@ -1,4 +1,4 @@
-use Rattle.std.proofs.Common.{◌<◌, ◌∙◌, arith, rules, get_or, length, map, refl, sym}
+use Rattle.std.proofs.Common.{◌<◌, ◌∙◌, arith, rules, get_or, length, map, sym}
 use Rattle.std.specs.Prelude.{None}
 use Rattle.std.proofs.lemmas.Option.{slice_get-get_or}
 use Rattle.pw_live.specs.Points.{points}

@@ -7,15 +7,15 @@ use Rattle.pw_live_held.specs.Makers.{calls}
 use Rattle.pw_live_held.proofs.Calling.{last_at, last_from, none_from}
 use Rattle.pw_live_held.proofs.held.last_within.Goals as goal
 
-pub returns-then-to-le-from : goal.returns-then-to-le-from
-returns-then-to-le-from c = let past = c.if-to-le-from.true in λ q low high _. omega (arith, past, low, high)
+pub returns-then-to-from : goal.returns-then-to-from
+returns-then-to-from c = let past = c.if-to-from.true in λ q low high _. omega (arith, past, low, high)
 
 pub bounds-lasts-end : goal.bounds-lasts-end
-bounds-lasts-end c = let some = c.if-to-le-from.false in c.requires.points (c.args.to - 1) (omega (arith, some)) (omega (arith, some))
+bounds-lasts-end c = let some = c.if-to-from.false in c.requires.points (c.args.to - 1) (omega (arith, some)) (omega (arith, some))
 
 pub offset_bounds-lasts-end : goal.offset_bounds-lasts-end
 offset_bounds-lasts-end c =
-    let some = c.if-to-le-from.false in
+    let some = c.if-to-from.false in
     let lt : c.args.to - 1 < length c.args.lasts.now = c.requires.points (c.args.to - 1) (omega (arith, some)) (omega (arith, some)) in
     first_of (omega arith, search rules, grind arith)
 
@@ -23,7 +23,7 @@ pub returns-then-is_before : goal.returns-then-is_before
 returns-then-is_before c =
     let lasts = c.args.lasts.now in
     let to = c.args.to in
-    let some = c.if-to-le-from.false in
+    let some = c.if-to-from.false in
     let lt = c.requires.points (to - 1) (omega (arith, some)) (omega (arith, some)) in
     let all = map calls (points c.args.f.now) in
     let last = get_or lasts (to - 1) None in
@@ -33,7 +33,7 @@ pub returns-else-is_before : goal.returns-else-is_before
 returns-else-is_before c =
     let lasts = c.args.lasts.now in
     let to = c.args.to in
-    let some = c.if-to-le-from.false in
+    let some = c.if-to-from.false in
     let lt = c.requires.points (to - 1) (omega (arith, some)) (omega (arith, some)) in
     let all = map calls (points c.args.f.now) in
     let last = get_or lasts (to - 1) None in

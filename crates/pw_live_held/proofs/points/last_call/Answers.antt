@@ -1,4 +1,4 @@
-use Rattle.std.proofs.Common.{Bool, List, subst}
+use Rattle.std.proofs.Common.{Bool, subst}
 use Rattle.std.specs.Prelude.{Some, slice_get, ◌≡◌}
 use Rattle.pw_live_held.proofs.Calling.{last_here, last_before}
 use Rattle.pw_live_held.proofs.points.last_call.Goals as goal

@@ -1,12 +1,18 @@
-use Rattle.std.proofs.Common.{◌+◌, ◌++◌, ◌∷◌, [], ◌∙◌, ℕ, List, get_or, length, ap, arith, refl}
+use Rattle.std.proofs.Common.{◌+◌, ◌∷◌, [], ◌∙◌, ℕ, List, length, ap, arith}
 use Rattle.std.specs.Prelude.{Option}
 use Rattle.std.proofs.lemmas.List.{length-append}
 use Rattle.std.proofs.lemmas.Option.{slice_get-get_or}
-use Rattle.pw_live_held.proofs.Calling.{lasts_more}
+use Rattle.pw_live_held.proofs.Calling.{none_yet, lasts_more}
 use Rattle.pw_live_held.proofs.points.last_calls.Goals as goal
 
 pub loop-p-init : goal.loop-p-init
-loop-p-init c = record { high = omega arith; long = refl; each = λ q last at. absurd cc; last = λ q low high _. omega (arith, high) }
+loop-p-init c =
+    record {
+      high = omega arith;
+      long = ap (λ (xs : List (Option ℕ)). length xs) c.new-lasts.ensures.items;
+      each = none_yet c.args.all.now c.new-lasts.result.items c.new-lasts.ensures.items;
+      last = λ q low high _. omega (arith, high);
+    }
 
 pub loop-p-preserved : goal.loop-p-preserved
 loop-p-preserved c =
