@@ -1,11 +1,9 @@
 -- A register that is given: what is known of all that has been given.
 use Rattle.std.proofs.Common.{◌≡◌, ◌≢◌, ◌⊎◌, ℕ, zero, suc, ◌<◌, ◌==◌, Bool, false, List, [], ◌∷◌, length, set, replicate, refl, sym, ap, subst, ◌∙◌, arith, inl, inr}
 use Rattle.std.specs.Prelude.{Option, None, Some, if◌then◌else◌, slice_get, slice_index, ◌↔◌}
-use Rattle.std.specs.Int.{bit_at}
 use Rattle.std.proofs.lemmas.Bool.{cases_eq, cases_Bool, eqb-true, eq-eqb}
-use Rattle.std.proofs.lemmas.Nat.Bits.{bit_at-zero}
 use Rattle.std.proofs.lemmas.Option.{same_Some}
-use Rattle.pw_fix.proofs.Places.{slice_get-set_same, slice_get-set_other, set_cases}
+use Rattle.pw_fix.proofs.Places.{slice_get-set_same, slice_get-set_other}
 use Rattle.pw_files.proofs.Standing.{Has, has_by, contains_by}
 use Rattle.pw_flow.specs.Outline.{Outline}
 use Rattle.pw_live_spans.specs.Spans.{Covers}

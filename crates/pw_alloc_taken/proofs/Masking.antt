@@ -23,7 +23,7 @@ pub beside_more : (made : PointSets) (spans : List (ℕ × ℕ)) (i : ℕ) (span
 beside_more made spans i span New Cur Within lt is within now before k = (
   λ h. elim ((now k).0 h) [
     | inl c ↦ let b = (before k).0 c in (b.0, (b.1.0, (first_more spans i span b.1.0 lt is).1 (inl b.1.1), b.1.2), b.2)
-    | inr i ↦ let w = (within k).0 i in (w.0, (span, (first_more spans i span span lt is).1 (inr refl), (w.1, w.2)), w.3)
+    | inr one ↦ let w = (within k).0 one in (w.0, (span, (first_more spans i span span lt is).1 (inr refl), (w.1, w.2)), w.3)
   ],
   λ h. (now k).1 (elim ((first_more spans i span h.1.0 lt is).0 h.1.1) [
     | inl c ↦ inl ((before k).1 (h.0, (h.1.0, c, h.1.2), h.2))

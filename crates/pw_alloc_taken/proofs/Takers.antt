@@ -1,8 +1,7 @@
 -- The registers that are taken for a temporary are those of temporaries that have got one and interfere.
 use Rattle.std.proofs.Common.{◌≡◌, ◌≢◌, ◌⊎◌, ℕ, ◌<◌, ◌==◌, ◌&&◌, Bool, true, List, [], ◌∷◌, sym, ap, subst, ◌∙◌, inl, inr}
-use Rattle.std.specs.Prelude.{Option, None, Some, slice_get, slice_index, Contains, ◌↔◌}
+use Rattle.std.specs.Prelude.{None, Some, slice_get, slice_index, Contains, ◌↔◌}
 use Rattle.std.proofs.lemmas.Bool.{or_cases, or_left, or_right, and_from, eqb-true, eq-eqb}
-use Rattle.std.proofs.lemmas.Option.{same_Some}
 use Rattle.pw_files.proofs.Standing.{Has, contains_by}
 use Rattle.pw_flow.specs.Outline.{Outline}
 use Rattle.pw_live.specs.Liveness.{is_live_in}

@@ -23,9 +23,9 @@ pub record AreFacts (f : Outline) (v : Facts) : Type 0 where
 -- there is a place for each temporary and for each point
 pub record AreSized (f : Outline) (v : Given) : Type 0 where
   pub temps : vec_len v.registers ≡ f.temps
-  pub points : vec_len v.occupied ≡ length (points f)
   pub sets : AreSets v.made
   pub made : v.made.points ≡ length (points f)
+  pub points : vec_len v.occupied ≡ length (points f)
 
 -- what has been given to temporaries is a list of them with their registers, each once
 pub record AreGiven (f : Outline) (given : List (ℕ × ℕ)) (v : Given) : Type 0 where

@@ -34,7 +34,7 @@ more_meets x l lib has scratch so s run n (On m) e h =
 more_meets x l lib has scratch so s run n (lines.Stopped end m) e h = h
 more_meets x l lib has scratch so s run n Astray e h = tt
 
-steps_meet : (x : Setting) → IsLinked x → HasLibrary x → (has : HasRoutines x) (scratch : ℕ → (ℕ → ℕ) → ℕ → ℕ) → LeaveSo x has scratch → (s : Step) → IsSteadyRun x scratch s → Meets x s → (n : ℕ)
+pub steps_meet : (x : Setting) → IsLinked x → HasLibrary x → (has : HasRoutines x) (scratch : ℕ → (ℕ → ℕ) → ℕ → ℕ) → LeaveSo x has scratch → (s : Step) → IsSteadyRun x scratch s → Meets x s → (n : ℕ)
     → Meets x (steps x.program x.addresses scratch n s)
 unfolding steps
 steps_meet x l lib has scratch so s run h zero = h

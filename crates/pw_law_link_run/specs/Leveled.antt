@@ -15,7 +15,7 @@ use Rattle.pw_run_languages.specs.LineRun.{LineFn, Frame, Machine, Step, On, Sto
 use Rattle.pw_run_languages.specs.MachineRun.{function_at}
 use Rattle.pw_law_link_run.specs.Steps.{Setting, map_in}
 use Rattle.pw_law_link_run.specs.Placing.{own_address, words_of, Parts}
-use Rattle.pw_law_link_run.specs.Meeting.{IsTurning}
+use Rattle.pw_law_link_run.specs.Meeting.{Meets, IsTurning}
 use Rattle.pw_law_link_run.specs.Simulating.{IsCaller}
 
 -- the stack pointer at a call is above the data, and so far below the greatest word that a frame fits above it
@@ -137,3 +137,8 @@ abbrev pub StepLevel : (x : Setting) → AreFramed x → Step → Type 0
 StepLevel x fr (On t) = IsInLevel x fr t
 StepLevel x fr (Stopped end t) = Unit {0}
 StepLevel x fr Astray = Unit {0}
+
+-- what the machine comes to where the lines have taken some steps, and that the lines are in level there
+pub record IsMet (x : Setting) (a : AreFramed x) (s : Step) : Type 0 where
+  pub comes : Meets x s
+  pub level : StepLevel x a s

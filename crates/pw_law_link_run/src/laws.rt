@@ -21,7 +21,7 @@ ghost use Rattle.pw_delay.specs.Placement.{size};
 ghost use Rattle.pw_run_languages.specs.Addresses.{Addresses};
 ghost use Rattle.pw_run_languages.specs.Acts as lines;
 ghost use Rattle.pw_run_languages.specs.Acts.{acts};
-ghost use Rattle.pw_run_languages.specs.LineRun.{LineFn, Frame, Machine, On, function_named, left_behind, counted, does, to_block, words_back, goes_back, return_address, enters, returns, through_slot, start, line_run};
+ghost use Rattle.pw_run_languages.specs.LineRun.{LineFn, Frame, Machine, On, function_named, left_behind, counted, does, to_block, words_back, goes_back, return_address, enters, returns, through_slot, steps, start, line_run};
 ghost use Rattle.pw_run.specs.Runs.{Refines, Same};
 ghost use Rattle.pw_milli.specs.Words.{divs_words, divu_words, mul_words, rems_words, remu_words};
 ghost use Rattle.pw_milli.specs.Calls.{Enters};
@@ -41,7 +41,7 @@ ghost use Rattle.pw_law_link_run.specs.Meeting.{Meets, IsHighBehind};
 ghost use Rattle.pw_law_link_run.specs.Behind.{AllStand};
 ghost use Rattle.pw_law_link_run.specs.Leaving.{AreByRegisters, Leaves};
 ghost use Rattle.pw_law_link_run.specs.Routines.{HasRoutines, LeaveSo, IsSteadyRun, Makes};
-ghost use Rattle.pw_law_link_run.specs.Leveled.{AreFramed, IsFramed, IsPassing};
+ghost use Rattle.pw_law_link_run.specs.Leveled.{AreFramed, IsFramed, IsPassing, IsMet};
 ghost use Rattle.pw_law_link_run.specs.Starting.{IsStart, HasData};
 ghost use Rattle.pw_law_link_run.specs.Conventional.{IsConventional};
 
@@ -149,6 +149,13 @@ pub fn steady_runs_are_met()
 pub fn framed_runs_are_met()
     ensures { (x : Setting) → IsLinked x → HasLibrary x → HasRoutines x → AreFramed x → (scratch : ℕ → (ℕ → ℕ) → ℕ → ℕ) × ((core : Core) (input : List ℕ) (f : LineFn) →
         x.start ≡ start_state core input → IsStart x f input → Refines Same (line_run x.program x.addresses scratch input) (traced_run (map_in x) core input)) }
+{}
+
+/// So each step of the run of lines comes to what the machine comes to at some step, with the same log; and there each active
+/// function's stack pointer is at the end of its caller's frame.
+pub fn framed_steps_are_met()
+    ensures { (x : Setting) → IsLinked x → HasLibrary x → HasRoutines x → (fr : AreFramed x) → (scratch : ℕ → (ℕ → ℕ) → ℕ → ℕ) × ((input : List ℕ) (f : LineFn) → IsStart x f input →
+        (n : ℕ) → IsMet x fr (steps x.program x.addresses scratch n (start x.program x.addresses input))) }
 {}
 
 /// A lawful state whose data begin where the lines have them is one from which the machine's run keeps its text.

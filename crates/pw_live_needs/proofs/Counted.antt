@@ -1,15 +1,15 @@
 -- Counts and marks, point by point and span by span.
-use Rattle.std.proofs.Common.{◌≡◌, ◌≢◌, ◌⊎◌, ℕ, zero, suc, ◌+◌, ◌<◌, ◌≤◌, ◌==◌, ◌&&◌, not, Bool, true, false, cond, List, [], ◌∷◌, ◌++◌, length, get_or, max, set, take, drop, map, refl, sym, ap, subst, ◌∙◌, arith, inl, inr}
-use Rattle.std.specs.Prelude.{if◌then◌else◌, Option, Some, None, slice_get, slice_index, Contains, ◌↔◌}
-use Rattle.std.specs.List.{count_by, sum_by, range_with_len}
-use Rattle.std.proofs.lemmas.Bool.{cases_eq, cases_lt, ne_eqb, eq-eqb, eqb-true}
-use Rattle.std.proofs.lemmas.List.{take_more, take_all, drop_all, get_or-set_same, get_or-set_other}
+use Rattle.std.proofs.Common.{◌≡◌, ◌≢◌, ◌⊎◌, ℕ, zero, suc, ◌+◌, ◌<◌, ◌≤◌, ◌==◌, Bool, true, false, cond, List, [], ◌∷◌, ◌++◌, length, get_or, max, set, take, drop, map, refl, sym, ap, subst, ◌∙◌, arith, inl, inr}
+use Rattle.std.specs.Prelude.{if◌then◌else◌, slice_index, ◌↔◌}
+use Rattle.std.specs.List.{count_by, range_with_len}
+use Rattle.std.proofs.lemmas.Bool.{cases_eq, cases_lt, ne_eqb, eq-eqb}
+use Rattle.std.proofs.lemmas.List.{drop_all, get_or-set_same, get_or-set_other}
 use Rattle.std.proofs.lemmas.List.Sums.{sum_by_push}
 use Rattle.pw_live_spans.specs.Spans.{IsIn, Covers}
-use Rattle.pw_live_spans.proofs.Steps.{first_more, first_none}
+use Rattle.pw_live_spans.proofs.Steps.{first_more}
 use Rattle.pw_flow.specs.Outline.{Outline}
-use Rattle.pw_live.specs.Points.{Point, points}
-use Rattle.pw_live_needs.specs.Needs.{is_short, short_at, most_short}
+use Rattle.pw_live.specs.Points.{Point}
+use Rattle.pw_live_needs.specs.Needs.{short_at, most_short}
 use Rattle.pw_live_needs.specs.Counts.{full, IsReached, greatest}
 use Rattle.pw_live_needs.specs.declared.counting.Counting.{Counting}
 

@@ -1,4 +1,4 @@
-use Rattle.std.proofs.Common.{◌<◌, ◌∙◌, ℕ, get_or, arith, refl, sym, subst}
+use Rattle.std.proofs.Common.{◌<◌, ◌∙◌, ℕ, get_or, refl, sym, subst}
 use Rattle.pw_live_spans.proofs.Steps.{item_at}
 use Rattle.pw_alloc_masks.specs.Sets.{HasAt}
 use Rattle.pw_alloc_taken.proofs.Masking.{put_none, put_more, put_all}

@@ -1,4 +1,4 @@
-use Rattle.std.proofs.Common.{◌≡◌, ◌∙◌, ◌<◌, ℕ, length, arith, sym, subst}
+use Rattle.std.proofs.Common.{◌≡◌, ◌∙◌, ℕ, length, arith, sym, subst}
 use Rattle.pw_live.specs.Points.{points}
 use Rattle.pw_live_held.proofs.Knowledge.{many_points, spanned_points}
 use Rattle.pw_live_needs.specs.Counts.{AreCounts}

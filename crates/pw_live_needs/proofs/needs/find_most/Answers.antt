@@ -1,4 +1,4 @@
-use Rattle.std.proofs.Common.{◌≡◌, ◌≤◌, ◌∙◌, ℕ, length, ap, arith, min, subst}
+use Rattle.std.proofs.Common.{◌≡◌, ◌+◌, ◌∙◌, ℕ, length, ap, arith, min, subst}
 use Rattle.std.specs.List.{count_by, range_with_len}
 use Rattle.pw_live.specs.Points.{points}
 use Rattle.pw_live_held.proofs.Knowledge.{many_points}
@@ -16,15 +16,15 @@ loop-t-init c =
     let n : c.len.result ≡ length (points f) = c.len.ensures ∙ v.makers.ok.0 ∙ many_points f v.makers.items c.in_ok-liveness.ensures.makers in
     none_counted f w (subst (λ (k : ℕ). AreCounts k w) n c.in_ok-counting.ensures.sized) c.in_ok-counting.ensures.counts c.in_ok-counting.ensures.marks
 
-pub returns-then-reached-ge-limit : goal.returns-then-reached-ge-limit
-returns-then-reached-ge-limit c =
+pub returns-then-reached-limit : goal.returns-then-reached-limit
+returns-then-reached-limit c =
     let f = c.args.f.now in
     let temps = c.temps-t-end.ensures in
     let lt = c.loop-t-test.true in
     let most = reached_most f (c.loop-t.t + 1) c.count_temp-reached.result c.count_temp-reached.new.counting c.count_temp-reached.ensures.counted (omega (arith, lt, temps)) c.count_temp-reached.ensures.reached in
     let saved = c.from-saved.ensures in
     let changed = c.from-changed.ensures in
-    let high = c.if-reached-ge-limit.true in
+    let high = c.if-reached-limit.true in
     omega (arith, most, saved, changed, high)
 
 pub returns : goal.returns

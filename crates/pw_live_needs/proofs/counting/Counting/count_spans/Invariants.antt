@@ -1,4 +1,4 @@
-use Rattle.std.proofs.Common.{◌≡◌, ◌⊎◌, ◌<◌, ◌≤◌, ℕ, take}
+use Rattle.std.proofs.Common.{◌≡◌, ◌⊎◌, ℕ, take}
 use Rattle.std.specs.Prelude.{◌↔◌, slice_index}
 use Rattle.pw_live_spans.specs.Spans.{Covers}
 use Rattle.pw_live_needs.specs.Counts.{full, AreCounts, IsReached}
