@@ -35,7 +35,7 @@ fn database_with(
     requires graph { IsGraph graph.now }
     requires clusters { AreClusters graph.now clusters.roots.now clusters.needs.now }
     requires few { colours ≤ colour_limit }
-    ensures { IfOk result (λ db. (ss : List Whole) → IsGraphOf ss graph.now → AreRoots ss graph.now clusters.roots.now → IsDatabaseOf ss colours db.functions) }
+    ensures { IfOk result (λ db. (ss : List Whole) → IsGraphOf ss graph.now → AreRoots ss graph.now clusters.entry.roots.now → IsDatabaseOf ss colours db.functions) }
 {
     let sets = ref_sets(alloc, graph)?;
     let all = ranked(webs(alloc, graph, &sets)?)?;

@@ -109,7 +109,7 @@ fn directives_of(
     requires globals { All (λ c. c.web.now.global < length graph.now.globals) coloured.now }
     requires clusters { AreClusters graph.now clusters.roots.now clusters.needs.now }
     requires place { place < length graph.now.functions }
-    ensures { IfOk result (λ d. d ≡ directives_at graph.now clusters.roots.now (map seen coloured.now) place) }
+    ensures { IfOk result (λ d. d ≡ directives_at graph.now clusters.entry.roots.now (map seen coloured.now) place) }
 {
     let root = clusters.roots[place] as usize;
     let need = clusters.needs[root];
@@ -136,7 +136,7 @@ pub(crate) fn database(
 ) -> Result<Database, AllocError>
     requires globals { All (λ c. c.web.now.global < length graph.now.globals) coloured.now }
     requires clusters { AreClusters graph.now clusters.roots.now clusters.needs.now }
-    ensures { IfOk result (λ db. db.functions ≡ entries_from graph.now clusters.roots.now (map seen coloured.now) 0 graph.now.functions) }
+    ensures { IfOk result (λ db. db.functions ≡ entries_from graph.now clusters.entry.roots.now (map seen coloured.now) 0 graph.now.functions) }
 {
     let functions = graph.functions.as_slice();
     let mut entries = Items::new(alloc);
