@@ -109,7 +109,10 @@ impl<'a, R> CurrentFolder<'a, R> {
 fn can_be_file(name: &str) -> bool
     ensures { result ≡ can_be_file name.now }
 {
-    !name.as_bytes().iter().any(|byte| *byte == b'/' || *byte == 0)
+    !name
+        .as_bytes()
+        .iter()
+        .any(|byte| *byte == b'/' || *byte == 0)
 }
 
 /// A name that can be that of a file of a folder. Of any other the system is not asked: it is a fault, and none that says that
