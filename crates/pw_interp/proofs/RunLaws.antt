@@ -33,13 +33,14 @@ use Rattle.pw_interp.proofs.StreamLaws.{behind_more, carried_first, front_read, 
 
 -- ---- main
 
+-- the first that passes, or else one behind it
+first_or : {X : Type 0} (p : X → Bool) (y x : X) (rest : Option X) (b : Bool) → p y ≡ b → cond b (Some y) rest ≡ Some x → (rest ≡ Some x → p x ≡ true) → p x ≡ true
+first_or p y x rest true e is more = let same : y ≡ x = cc is in ap p (sym same) ∙ e
+first_or p y x rest false e is more = more is
+
 found_fits : {X : Type 0} (p : X → Bool) (xs : List X) (x : X) → find p xs ≡ Some x → p x ≡ true
 found_fits p [] x is = cc is
-found_fits p (y ∷ ys) x is = by (p y) refl is
-  where
-    by : (b : Bool) → p y ≡ b → cond b (Some y) (find p ys) ≡ Some x → p x ≡ true
-    by true e is = let same : y ≡ x = cc is in ap p (sym same) ∙ e
-    by false e is = found_fits p ys x is
+found_fits p (y ∷ ys) x is = first_or p y x (find p ys) (p y) refl is (λ k. found_fits p ys x k)
 
 -- no function of the library is called main
 library_names : (g : LibraryFunction) → bytes_eq (callable_of (B.Library g)).name main_name ≡ false
@@ -69,40 +70,40 @@ later_from : (s t : State) (st : Streams) → streams s ≡ st → IsLater s t �
 later_from s t st is p = subst (λ x. GoesOnFrom x t) is (record { written = p.written; taken = p.taken })
 
 -- what ended so without a byte
-pub stops_over : {world : World} {act : Act (Unit {0})} {before behind : Shown} (rest taken : Option (List ℕ)) (why : Stop) (r : Result Ending InterpFault) → r ≡ ending_of why → Stops world act before why behind
+pub stops_over : (world : World) (act : Act (Unit {0})) (before behind : Shown) (rest taken : Option (List ℕ)) (why : Stop) (r : Result Ending InterpFault) → r ≡ ending_of why → Stops world act before why behind
     → ((s : State) → IsLater s (state_behind (act s))) → RunsOver world act before rest taken r behind rest taken
-stops_over {world = world} {act = act} {before = before} {behind = behind} rest taken why r is stops later =
+stops_over world act before behind rest taken why r is stops later =
     subst (λ x. RunsOver world act before rest taken x behind rest taken) (sym is) (by why stops)
   where
     by : (x : Stop) → Stops world act before x behind → RunsOver world act before rest taken (ending_of x) behind rest taken
     by (S.Ended ending) run = if_some rest (λ bytes told s e. record { streams = unread bytes; carried = carried_first bytes taken rest told; shows = run.comes (unread bytes) s e })
     by S.NoMemory run = if_some rest (λ bytes told s e. record { streams = unread bytes; carried = carried_first bytes taken rest told; later = later_from s _ (unread bytes) (ap {A = Shown × Streams} (λ x. x.1) e) (later s) })
 
-pub over_named : {world : World} {act other : Act (Unit {0})} {before behind : Shown} (rest taken rest' taken' : Option (List ℕ)) (r : Result Ending InterpFault) → ((s : State) → act s ≡ other s)
+pub over_named : (world : World) {act other : Act (Unit {0})} (before behind : Shown) (rest taken rest' taken' : Option (List ℕ)) (r : Result Ending InterpFault) → ((s : State) → act s ≡ other s)
     → RunsOver world other before rest taken r behind rest' taken' → RunsOver world act before rest taken r behind rest' taken'
-over_named {world = world} {act = act} {other = other} {before = before} {behind = behind} rest taken rest' taken' r same over = by rest over
+over_named world {act = act} {other = other} before behind rest taken rest' taken' r same over = by rest over
   where
     by : (o : Option (List ℕ)) → RunsOver world other before o taken r behind rest' taken' → RunsOver world act before o taken r behind rest' taken'
     by None over = tt
     by (Some bytes) over = λ s e. subst (λ o. Stopped r behind world o bytes taken rest' taken') (sym (same s)) (over s e)
 
 -- a run without main
-pub over_wrong : {world : World} {before : Shown} (rest taken : Option (List ℕ)) → RunsOver world (stop Wrong) before rest taken (Ok E.Wrong) before rest taken
+pub over_wrong : (world : World) (before : Shown) (rest taken : Option (List ℕ)) → RunsOver world (stop Wrong) before rest taken (Ok E.Wrong) before rest taken
 unfolding stop
-over_wrong rest taken = if_some rest (λ bytes told s e. record { streams = unread bytes; carried = carried_first bytes taken rest told; shows = (refl, e) })
+over_wrong world before rest taken = if_some rest (λ bytes told s e. record { streams = unread bytes; carried = carried_first bytes taken rest told; shows = (refl, e) })
 
 -- what is seen of a run that ended so
-seen_is : {world : World} (o : Outcome (Unit {0})) (ending : acts.Ending) (now : Shown) (st : Streams) → Shows world o (Err ending) (now, st) → seen o ≡ record { end = ending; out = st.out; read = st.read }
-seen_is (Gives d t) ending now st (is, at) = cc is
-seen_is (Ends other t) ending now st (is, at) =
+seen_is : (world : World) (o : Outcome (Unit {0})) (ending : acts.Ending) (now : Shown) (st : Streams) → Shows world o (Err ending) (now, st) → seen o ≡ record { end = ending; out = st.out; read = st.read }
+seen_is world (Gives d t) ending now st (is, at) = cc is
+seen_is world (Ends other t) ending now st (is, at) =
     let same : other ≡ ending = cc is in
     ap (λ x. record { end = x; out = t.out; read = t.read }) same ∙ ap {A = Shown × Streams} {B = Run} (λ v. record { end = ending; out = v.1.out; read = v.1.read }) at
 
 pub ends_over : {world : World} {o : Outcome (Unit {0})} {now : Shown} (ending : Ending) (end : CEnd) (bytes : List ℕ) (taken rest' taken' : Option (List ℕ)) → view_end end ≡ view_ending ending
     → StopsOver ending now world o bytes taken rest' taken' → EndsOver (seen o) bytes taken end rest' taken'
-ends_over {o = o} {now = now} ending end bytes taken rest' taken' same s =
+ends_over {world = world} {o = o} {now = now} ending end bytes taken rest' taken' same s =
     let st = s.streams in
-    let is = seen_is o (view_ending ending) now st s.shows in
+    let is = seen_is world o (view_ending ending) now st s.shows in
     record {
       ends = ap (λ (r : Run). r.end) is ∙ sym same;
       left = s.carried.left ∙ ap Some s.carried.read ∙ ap (λ (r : Run). Some (drop r.read bytes)) (sym is);
@@ -138,10 +139,10 @@ still_given_up o bytes taken rest' taken' g =
     }
 
 -- where a run ended, but its end was not told
-ended_given_up : {world : World} (o : Outcome (Unit {0})) (now : Shown) (ending : Ending) (bytes : List ℕ) (taken rest' taken' : Option (List ℕ)) → StopsOver ending now world o bytes taken rest' taken' → GivenUp (seen o) bytes taken rest' taken'
-ended_given_up o now ending bytes taken rest' taken' s =
+ended_given_up : (world : World) (o : Outcome (Unit {0})) (now : Shown) (ending : Ending) (bytes : List ℕ) (taken rest' taken' : Option (List ℕ)) → StopsOver ending now world o bytes taken rest' taken' → GivenUp (seen o) bytes taken rest' taken'
+ended_given_up world o now ending bytes taken rest' taken' s =
     let st = s.streams in
-    let is = seen_is o (view_ending ending) now st s.shows in
+    let is = seen_is world o (view_ending ending) now st s.shows in
     record {
       output = st.out;
       more = [];
@@ -158,11 +159,11 @@ ended_given_up o now ending bytes taken rest' taken' s =
 pub owned_over : {world : World} {o : Outcome (Unit {0})} {now : Shown} (ending : Ending) (r : Result CEnd InterpFault) (bytes : List ℕ) (taken rest' taken' : Option (List ℕ)) → IfOk r (λ end. view_end end ≡ view_ending ending)
     → StopsOver ending now world o bytes taken rest' taken' → LeftBy (seen o) bytes taken r rest' taken'
 owned_over ending (Ok end) bytes taken rest' taken' same s = ends_over ending end bytes taken rest' taken' same s
-owned_over {o = o} {now = now} ending (Err fault) bytes taken rest' taken' same s = ended_given_up o now ending bytes taken rest' taken' s
+owned_over {world = world} {o = o} {now = now} ending (Err fault) bytes taken rest' taken' same s = ended_given_up world o now ending bytes taken rest' taken' s
 
 -- a run that has not begun
-pub not_begun : (run : List ℕ → Run) (rest taken : Option (List ℕ)) (fault : InterpFault) → Interprets run rest taken (Err fault) rest taken
-not_begun run rest taken fault = if_some rest (λ bytes told. record {
+pub not_begun : (run : List ℕ → Run) (rest taken : Option (List ℕ)) (r : Result CEnd InterpFault) (fault : InterpFault) → r ≡ Err fault → Interprets run rest taken r rest taken
+not_begun run rest taken r fault is = subst (λ (x : Result CEnd InterpFault). Interprets run rest taken x rest taken) (sym is) (if_some rest (λ bytes told. record {
   output = [];
   more = (run bytes).out;
   written = refl;
@@ -173,7 +174,11 @@ not_begun run rest taken fault = if_some rest (λ bytes told. record {
   read = refl;
   unread = take (run bytes).read bytes;
   behind = sym (take-append-drop (run bytes).read bytes);
-})
+}))
+
+-- one that was given up by what was answered before
+pub left_up : (run : Run) (bytes : List ℕ) (taken rest' taken' : Option (List ℕ)) (r : Result CEnd InterpFault) (fault : InterpFault) → r ≡ Err fault → GivenUp run bytes taken rest' taken' → LeftBy run bytes taken r rest' taken'
+left_up run bytes taken rest' taken' r fault is given = subst (λ (x : Result CEnd InterpFault). LeftBy run bytes taken x rest' taken') (sym is) given
 
 -- ---- the start
 

@@ -89,6 +89,30 @@ no_write_fault (Err ReadFault) is before = refl
 no_write_fault (Err WriteFault) is before = cc is
 no_write_fault (Err NoMemory) is before = refl
 
+-- at an exit for want of memory
+pub memory_read : {T : Type 0} (r : Result T InterpFault) (fault : InterpFault) → r ≡ Err fault → fault ≡ NoMemory → (before : ℕ) → ReadCount before before r
+memory_read {T = T} r fault is none before = subst (λ (x : Result T InterpFault). ReadCount before before x) (sym (is ∙ ap {A = InterpFault} {B = Result T InterpFault} Err none)) refl
+
+pub memory_write : {T : Type 0} (r : Result T InterpFault) (fault : InterpFault) → r ≡ Err fault → fault ≡ NoMemory → (before : ℕ) → WriteCount before before r
+memory_write {T = T} r fault is none before = subst (λ (x : Result T InterpFault). WriteCount before before x) (sym (is ∙ ap {A = InterpFault} {B = Result T InterpFault} Err none)) refl
+
+-- at an exit with the fault of a call
+err_read : (T : Type 0) (fault : InterpFault) (before now : ℕ) → ReadCount {T = Unit {0}} before now (Err fault) → ReadCount {T = T} before now (Err fault)
+err_read T ReadFault before now h = h
+err_read T WriteFault before now h = h
+err_read T NoMemory before now h = h
+
+pub read_of : {T : Type 0} (r : Result T InterpFault) (fault : InterpFault) (before now : ℕ) → r ≡ Err fault → ReadCount {T = Unit {0}} before now (Err fault) → ReadCount before now r
+read_of {T = T} r fault before now is h = subst (λ (x : Result T InterpFault). ReadCount before now x) (sym is) (err_read T fault before now h)
+
+err_write : (T : Type 0) (fault : InterpFault) (before now : ℕ) → WriteCount {T = Unit {0}} before now (Err fault) → WriteCount {T = T} before now (Err fault)
+err_write T ReadFault before now h = h
+err_write T WriteFault before now h = h
+err_write T NoMemory before now h = h
+
+pub write_of : {T : Type 0} (r : Result T InterpFault) (fault : InterpFault) (before now : ℕ) → r ≡ Err fault → WriteCount {T = Unit {0}} before now (Err fault) → WriteCount before now r
+write_of {T = T} r fault before now is h = subst (λ (x : Result T InterpFault). WriteCount before now x) (sym is) (err_write T fault before now h)
+
 -- a count that is as before, where another call had the faults
 pub read_since : {T : Type 0} (r : Result T InterpFault) (a b now : ℕ) → b ≡ a → ReadCount b now r → ReadCount a now r
 read_since r a b now is h = subst (λ n. ReadCount n now r) is h

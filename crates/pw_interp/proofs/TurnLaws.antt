@@ -1,5 +1,5 @@
 -- What a turn of a run leaves.
-use Rattle.std.proofs.Common.{ℕ, ◌≡◌, List, [], ◌∷◌, Option, Some, None, Result, Ok, Err, refl, subst}
+use Rattle.std.proofs.Common.{ℕ, ◌≡◌, List, [], ◌∷◌, Option, Some, None, Result, Ok, Err, refl, subst, sym}
 use Rattle.std.specs.Prelude.{IfErr}
 use Rattle.pw_io.specs.declared.Failed.{Failed}
 use Rattle.pw_io.specs.Streams.{TakesNext, Appends, AppendsPart}
@@ -21,13 +21,17 @@ use Rattle.pw_interp_lasting.specs.Going.{GoesOnFrom}
 use Rattle.pw_interp.specs.declared.ends.InterpFault.{InterpFault}
 use Rattle.pw_interp.specs.declared.ends.InterpFault.TheVariants.{NoMemory}
 use Rattle.pw_interp.specs.Ends.{ending_of}
-use Rattle.pw_interp.specs.Streaming.{GoesOver, StandsStill, Turns}
+use Rattle.pw_interp.specs.Streaming.{GoesOver, StandsStill, Stopped, TurnLeaves, Turns}
 use Rattle.pw_interp.proofs.StreamLaws.{byte_carried, failed_read_carried, failed_write_carried, put_carried}
 
 -- a stop that tells how the run ended
-pub ended_shows : {world : World} {end : Outcome (Unit {0})} {now : Shown × Streams} (stop : Stop) (ending : Ending) → ending_of stop ≡ Ok ending → EndsSo world end stop now → Shows world end (Err (view_ending ending)) now
-ended_shows {world = world} {end = end} {now = now} (S.Ended e) ending is so = let same : e ≡ ending = cc is in subst (λ x. Shows world end (Err (view_ending x)) now) same so
-ended_shows S.NoMemory ending is so = cc is
+pub ended_shows : (world : World) (end : Outcome (Unit {0})) (now : Shown × Streams) (stop : Stop) (ending : Ending) → ending_of stop ≡ Ok ending → EndsSo world end stop now → Shows world end (Err (view_ending ending)) now
+ended_shows world end now (S.Ended e) ending is so = let same : e ≡ ending = cc is in subst (λ x. Shows world end (Err (view_ending x)) now) same so
+ended_shows world end now S.NoMemory ending is so = cc is
+
+pub memory_alone : (stop : Stop) (fault : InterpFault) → ending_of stop ≡ Err fault → fault ≡ NoMemory
+memory_alone (S.Ended e) fault is = cc is
+memory_alone S.NoMemory fault is = cc is
 
 pub only_memory : (stop : Stop) → IfErr (ending_of stop) (λ fault. fault ≡ NoMemory)
 only_memory (S.Ended e) = tt
@@ -58,7 +62,7 @@ step_goes old new before behind rest taken s is world end bytes first at =
 pub step_ends : {main : Body} (old new : Machine) (before behind : Shown) {r : Result (Unit {0}) Stop} (rest taken : Option (List ℕ)) (stop : Stop) (ending : Ending)
     → Steps main (view_env old.call.env).world old before r new behind → r ≡ Err stop → ending_of stop ≡ Ok ending → Turns main old before rest taken (Ok (Some ending)) new behind rest taken
 step_ends old new before behind rest taken stop ending s is ends world end bytes first at =
-    record { streams = at.streams; carried = at.carried; shows = ended_shows stop ending ends (run_ends old stop s is at.streams at.stands) }
+    record { streams = at.streams; carried = at.carried; shows = ended_shows world end (behind, at.streams) stop ending ends (run_ends old stop s is at.streams at.stands) }
 
 pub read_goes : (main : Body) (old new : Machine) (now : Shown) (rest rest' taken : Option (List ℕ)) (byte : Option ℕ) → TakesNext rest rest' (Ok byte)
     → ((world : World) (st after : Streams) (end : Outcome (Unit {0})) → IsRead st byte after → Stands main world old (now, st) end → Stands main world new (now, after) end)
@@ -83,8 +87,9 @@ pub still : MachinesGoOn → (main : Body) (m : Machine) (now : Shown) (world : 
     → StandsStill end bytes taken rest' taken'
 still law main m now world end bytes taken rest' taken' at = record { streams = at.streams; carried = at.carried; later = law main world m (now, at.streams) end at.stands }
 
-pub step_gives_up : MachinesGoOn → (main : Body) (old new : Machine) (before behind : Shown) (rest taken : Option (List ℕ)) (fault : InterpFault) → Turns main old before rest taken (Err fault) new behind rest taken
-step_gives_up law main old new before behind rest taken fault world end bytes first at = still law main old before world end bytes first rest taken at
+pub step_gives_up : MachinesGoOn → (main : Body) (old new : Machine) (before behind : Shown) (rest taken : Option (List ℕ)) (r : Result (Option Ending) InterpFault) (fault : InterpFault) → r ≡ Err fault → Turns main old before rest taken r new behind rest taken
+step_gives_up law main old new before behind rest taken r fault is world end bytes first at =
+    subst (λ (x : Result (Option Ending) InterpFault). TurnLeaves main x new behind world end bytes first rest taken) (sym is) (still law main old before world end bytes first rest taken at)
 
 pub read_gives_up : MachinesGoOn → (main : Body) (old new : Machine) (now : Shown) (rest rest' taken : Option (List ℕ)) (fault : InterpFault) (why : Failed) → TakesNext rest rest' (Err why) → Turns main old now rest taken (Err fault) new now rest' taken
 read_gives_up law main old new now rest rest' taken fault why next world end bytes first at =
@@ -93,3 +98,14 @@ read_gives_up law main old new now rest rest' taken fault why next world end byt
 pub write_gives_up : MachinesGoOn → (main : Body) (old new : Machine) (now : Shown) (rest taken taken' : Option (List ℕ)) (fault : InterpFault) (byte : ℕ) → AppendsPart taken taken' (byte ∷ []) → Turns main old now rest taken (Err fault) new now rest taken'
 write_gives_up law main old new now rest taken taken' fault byte put world end bytes first at =
     record { streams = at.streams; carried = failed_write_carried bytes first at.streams rest taken taken' byte at.carried put; later = law main world old (now, at.streams) end at.stands }
+
+-- ---- the turns of a run
+
+-- what has not ended goes on
+pub none_left : (o : Option Ending) → ((ending : Ending) → o ≡ Some ending → ⊥) → o ≡ None
+none_left None other = refl
+none_left (Some ending) other = absurd (other ending refl)
+
+pub stopped_up : (r : Result Ending InterpFault) (fault : InterpFault) (now : Shown) (world : World) (end : Outcome (Unit {0})) (bytes : List ℕ) (taken rest' taken' : Option (List ℕ)) → r ≡ Err fault
+    → StandsStill end bytes taken rest' taken' → Stopped r now world end bytes taken rest' taken'
+stopped_up r fault now world end bytes taken rest' taken' is given = subst (λ (x : Result Ending InterpFault). Stopped x now world end bytes taken rest' taken') (sym is) given

@@ -6,4 +6,4 @@ use Rattle.pw_interp.proofs.run.main_of.Goals as goal
 
 pub returns-in-Library : goal.returns-in-Library
 returns-in-Library c =
-    no_library_main (view_world c.args.world.now).program _ (sym (ap (option_map callable_of) (c.in_some-body.was ∙ ap Some c.in-Library.is)) ∙ c.function_named.ensures)
+    no_library_main (view_world c.args.world.now).program _ (sym (ap (option_map callable_of) (c.in_ok-body.was ∙ ap Some c.in-Library.is)) ∙ c.function_named.ensures)

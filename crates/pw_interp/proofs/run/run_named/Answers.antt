@@ -1,14 +1,30 @@
 use Rattle.std.proofs.Common.{subst}
+use Rattle.std.proofs.lemmas.Result.{err_from_is_err_and}
 use Rattle.pw_cmean.specs.SourceRun.{source_run, seen, run_main, start_state}
+use Rattle.pw_interp_world.specs.Views.{view_program}
+use Rattle.pw_interp_calls.specs.Frames.{frame_among}
 use Rattle.pw_interp.specs.Streaming.{Interprets}
 use Rattle.pw_interp.proofs.RunLaws.{not_begun}
+use Rattle.pw_interp.proofs.StreamLaws.{memory_read, memory_write}
 use Rattle.pw_interp.proofs.run.run_named.Goals as goal
 
 pub returns-in_err-world-clause-over : goal.returns-in_err-world-clause-over
-returns-in_err-world-clause-over g c = not_begun _ (g.I.Source.rest c.args.input.now) (g.O.Sink.taken c.args.out.now) _
+returns-in_err-world-clause-over g c =
+    let p = err_from_is_err_and c.from_residual.result c.from_residual.ensures.1 in
+    not_begun (λ bytes. source_run (view_program c.args.names.now.parts.now) (frame_among c.args.frames.now) c.args.stack bytes c.args.bound) (g.I.Source.rest c.args.input.now) (g.O.Sink.taken c.args.out.now) c.from_residual.result p.0 p.1
+
+pub returns-in_err-world-clause-read : goal.returns-in_err-world-clause-read
+returns-in_err-world-clause-read g c =
+    let p = err_from_is_err_and c.from_residual.result c.from_residual.ensures.1 in
+    memory_read c.from_residual.result p.0 p.1 p.2 (g.I.Source.faults c.args.input.now)
+
+pub returns-in_err-world-clause-write : goal.returns-in_err-world-clause-write
+returns-in_err-world-clause-write g c =
+    let p = err_from_is_err_and c.from_residual.result c.from_residual.ensures.1 in
+    memory_write c.from_residual.result p.0 p.1 p.2 (g.O.Sink.faults c.args.out.now)
 
 pub returns-clause-over : goal.returns-clause-over
 unfolding source_run
 returns-clause-over g c =
-    subst (λ w. Interprets (λ bytes. seen (run_main w c.args.bound (start_state w.program bytes))) (g.I.Source.rest c.args.input.now) (g.O.Sink.taken c.args.out.now) c.run_world.result _ _) c.in_ok-world.ensures
+    subst (λ w. Interprets (λ bytes. seen (run_main w c.args.bound (start_state w.program bytes))) (g.I.Source.rest c.args.input.now) (g.O.Sink.taken c.args.out.now) c.run_world.result (g.I.Source.rest c.run_world.new.input) (g.O.Sink.taken c.run_world.new.out)) c.in_ok-world.ensures
     c.run_world.ensures.over

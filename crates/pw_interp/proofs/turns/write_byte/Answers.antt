@@ -1,3 +1,4 @@
+use Rattle.pw_interp.specs.declared.ends.InterpFault.TheVariants.{WriteFault}
 use Rattle.pw_interp.proofs.TurnLaws.{write_gives_up, write_goes}
 use Rattle.pw_interp.proofs.turns.write_byte.Goals as goal
 
@@ -7,4 +8,4 @@ returns-in-Ok-clause-turns g c main now rest =
 
 pub returns-in-Err-clause-turns : goal.returns-in-Err-clause-turns
 returns-in-Err-clause-turns g c main now rest =
-    write_gives_up c.runs_go_on.ensures.machines main c.args.machine.now _ now rest (g.O.Sink.taken c.args.out.now) _ _ c.args.byte c.in-Err.ensures.failed
+    write_gives_up c.runs_go_on.ensures.machines main c.args.machine.now c.args.machine.now now rest (g.O.Sink.taken c.args.out.now) _ WriteFault c.args.byte c.in-Err.ensures.failed
