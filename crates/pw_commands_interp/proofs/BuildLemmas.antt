@@ -2,7 +2,7 @@
 use Rattle.std.proofs.Common.{◌≡◌, ◌≤◌, ℕ, List, [], ◌∷◌, ◌++◌, take, drop, map, Option, Some, None, Result, Ok, Err, refl, sym, ap, subst, ◌∙◌}
 use Rattle.std.specs.Prelude.{IfSome}
 use Rattle.std.proofs.lemmas.List.{take-append-drop}
-use Rattle.pw_io.specs.Files.{Files, Told}
+use Rattle.pw_io.specs.Files.{Files, Keeps, Told}
 use Rattle.pw_object.specs.declared.object.Object.{Object}
 use Rattle.pw_db.specs.Limits.{colour_limit}
 use Rattle.pw_link.specs.Linking.{linked}
@@ -201,7 +201,8 @@ unread_did one opts few (Some t) rest taken fault a is h = if_some rest (λ inpu
     (fault_did one t.files opts few input taken fault (phases_fault (modules_of t.files) (kept_objects t.files) opts.build fault h))))
 
 -- what was done by the modules that were read
-pub read_did : (opts : RunOpts) (ms : List Module) (told : Option Told) (rest rest' taken taken' : Option (List ℕ)) (a : Answer) → IfSome told (λ t. map source ms ≡ modules_of t.files)
-    → IfSome told (λ t. map source ms ≡ modules_of t.files → IfSome rest (λ input. Did t.files opts input a rest' taken taken')) → IfSome told (λ t. IfSome rest (λ input. Did t.files opts input a rest' taken taken'))
-read_did opts ms None rest rest' taken taken' a sources did = tt
-read_did opts ms (Some t) rest rest' taken taken' a sources did = did sources
+pub read_did : (opts : RunOpts) (ms : List Module) (told now : Option Told) (rest rest' taken taken' : Option (List ℕ)) (a : Answer) → Keeps told now → IfSome told (λ t. map source ms ≡ modules_of t.files)
+    → IfSome now (λ t. map source ms ≡ modules_of t.files → IfSome rest (λ input. Did t.files opts input a rest' taken taken')) → IfSome told (λ t. IfSome rest (λ input. Did t.files opts input a rest' taken taken'))
+read_did opts ms None now rest rest' taken taken' a same sources did = tt
+read_did opts ms (Some t) now rest rest' taken taken' a same sources did =
+    subst (λ (o : Option Told). IfSome o (λ u. map source ms ≡ modules_of u.files → IfSome rest (λ input. Did u.files opts input a rest' taken taken'))) same did sources

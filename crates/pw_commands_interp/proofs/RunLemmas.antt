@@ -4,15 +4,18 @@ use Rattle.std.specs.Prelude.{IfSome, IsSomeAnd}
 use Rattle.std.proofs.lemmas.List.{take-append-drop}
 use Rattle.pw_io.specs.Streams.{Appends}
 use Rattle.pw_cmean.specs.SourceRun.{Run}
+use Rattle.pw_cmean.specs.Worlds.{ProgramModule}
+use Rattle.pw_interp_calls.specs.Frames.{frame_among}
 use Rattle.pw_interp.specs.declared.ends.CEnd.{CEnd}
 use Rattle.pw_interp.specs.declared.ends.CEnd.TheVariants as E
 use Rattle.pw_interp.specs.declared.ends.InterpFault.{InterpFault}
 use Rattle.pw_interp.specs.declared.ends.InterpFault.TheVariants as interp
-use Rattle.pw_interp.specs.Streaming.{GivenUp, LeftBy, ReadCount, WriteCount}
+use Rattle.pw_interp.specs.Streaming.{GivenUp, Interprets, LeftBy, ReadCount, WriteCount}
 use Rattle.pw_top_answer.specs.declared.answer.Answer.{Answer}
 use Rattle.pw_top_answer.specs.declared.answer.Answer.TheVariants as answer
 use Rattle.pw_top_answer.specs.Outcomes.{InputCount, LeavesStreams, OutputCount, StoreCount, WasReadInPart}
-use Rattle.pw_commands_interp.specs.Interpreting.{IsInterpAnswer, IsRunAnswer, RanAs, UnlessMemory, answer_of, end_answer}
+use Rattle.pw_commands_interp.specs.Interpreting.{IsInterpAnswer, IsRunAnswer, RanAs, RunsAs, UnlessMemory, answer_of, end_answer}
+use Rattle.pw_build_opts.specs.declared.opts.RunOpts.{RunOpts}
 
 pub appends_none : (taken : Option (List ℕ)) → Appends taken taken []
 appends_none None = tt
@@ -44,6 +47,19 @@ ran_as run bytes (Err interp.WriteFault) rest' taken taken' g =
     record { answers = tt; output = record { output = g.output; more = g.more; taken = g.took; front = g.written; whole = tt }; rest = given_as run bytes rest' taken taken' g }
 ran_as run bytes (Err interp.NoMemory) rest' taken taken' g =
     record { answers = tt; output = record { output = g.output; more = g.more; taken = g.took; front = g.written; whole = tt }; rest = given_as run bytes rest' taken taken' g }
+
+-- a run over a source that may tell its bytes
+pub runs_answered : (run : List ℕ → Run) (rest : Option (List ℕ)) (r : Result CEnd InterpFault) (a : Answer) (rest' taken taken' : Option (List ℕ)) → a ≡ answer_of r → Interprets run rest taken r rest' taken'
+    → IfSome rest (λ bytes. RanAs (run bytes) bytes a rest' taken taken')
+runs_answered run None r a rest' taken taken' is h = tt
+runs_answered run (Some bytes) r a rest' taken taken' is h = subst (λ (x : Answer). RanAs (run bytes) bytes x rest' taken taken') (sym is) (ran_as (run bytes) bytes r rest' taken taken' h)
+
+-- the same modules with the same frames run alike
+pub runs_alike : (opts : RunOpts) (rest rest' taken taken' : Option (List ℕ)) (a : Answer) (ms ns : List ProgramModule) (fs gs : List (List ℕ × ℕ)) → ms ≡ ns → fs ≡ gs → RunsAs (record { modules = ms }) (frame_among fs) opts rest a rest' taken taken'
+    → RunsAs (record { modules = ns }) (frame_among gs) opts rest a rest' taken taken'
+runs_alike opts rest rest' taken taken' a ms ns fs gs e f h =
+    subst (λ (x : List ProgramModule). RunsAs (record { modules = x }) (frame_among gs) opts rest a rest' taken taken') e
+    (subst (λ (x : List (List ℕ × ℕ)). RunsAs (record { modules = ms }) (frame_among x) opts rest a rest' taken taken') f h)
 
 -- nothing was read
 pub untouched : (wanted more bytes : List ℕ) → bytes ≡ more ++ wanted → WasReadInPart wanted bytes (Some bytes)

@@ -39,6 +39,7 @@ pub fn answer_of(ran: Result<CEnd, InterpFault>) -> Answer
 }
 
 /// The line of a token in the text of the module of a name. It is where a fault of syntax at the token would be told.
+#[tactic(auto, unfolding(pw_front_end::specs::Places::refusal_line))]
 fn token_line(
     alloc: Global,
     modules: &[Module],

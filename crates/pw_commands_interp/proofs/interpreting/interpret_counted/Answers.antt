@@ -27,25 +27,25 @@ returns-in-Ok-clause-write g c = reply_write (map source c.args.modules.now) c.r
 pub returns-in-Ok-clause-streams : goal.returns-in-Ok-clause-streams
 returns-in-Ok-clause-streams g c = reply_streams (map source c.args.modules.now) c.run_linked-answer.result c.with_line.result _ _ _ _ c.run_linked-answer.ensures.answer c.with_line.ensures
 
-pub returns-in-Err-clause-did : goal.returns-in-Err-clause-did
-returns-in-Err-clause-did g c =
+pub returns-clause-did : goal.returns-clause-did
+returns-clause-did g c =
     refused_did c.modules_have_one_build.ensures.answer c.args.opts.now c.requires.colours c.args.modules.now (g.S.Store.told c.args.store.now) (g.I.Source.rest c.args.input.now) (g.O.Sink.taken c.args.out.now)
     c.in-Err.unbuilt.fault c.answer_of.result c.answer_of.ensures c.in-Err.ensures.fault
 
-pub returns-in-Err-clause-line : goal.returns-in-Err-clause-line
-returns-in-Err-clause-line g c = line_of_fault (map source c.args.modules.now) c.in-Err.unbuilt.fault c.answer_of.result c.in-Err.unbuilt.line c.answer_of.ensures c.in-Err.ensures.line
+pub returns-clause-line : goal.returns-clause-line
+returns-clause-line g c = line_of_fault (map source c.args.modules.now) c.in-Err.unbuilt.fault c.answer_of.result c.in-Err.unbuilt.line c.answer_of.ensures c.in-Err.ensures.line
 
-pub returns-in-Err-clause-answer : goal.returns-in-Err-clause-answer
-returns-in-Err-clause-answer g c = fault_proper c.in-Err.unbuilt.fault c.answer_of.result c.answer_of.ensures c.in-Err.ensures.proper
+pub returns-clause-answer : goal.returns-clause-answer
+returns-clause-answer g c = fault_proper c.in-Err.unbuilt.fault c.answer_of.result c.answer_of.ensures c.in-Err.ensures.proper
 
-pub returns-in-Err-clause-store : goal.returns-in-Err-clause-store
-returns-in-Err-clause-store g c = rw c.answer_of.ensures c.in-Err.ensures.count
+pub returns-clause-store : goal.returns-clause-store
+returns-clause-store g c = rw c.answer_of.ensures c.in-Err.ensures.count
 
-pub returns-in-Err-clause-read : goal.returns-in-Err-clause-read
-returns-in-Err-clause-read g c = fault_reads _ c.in-Err.unbuilt.fault c.answer_of.result c.answer_of.ensures
+pub returns-clause-read : goal.returns-clause-read
+returns-clause-read g c = fault_reads _ c.in-Err.unbuilt.fault c.answer_of.result c.answer_of.ensures
 
-pub returns-in-Err-clause-write : goal.returns-in-Err-clause-write
-returns-in-Err-clause-write g c = fault_writes _ c.in-Err.unbuilt.fault c.answer_of.result c.answer_of.ensures
+pub returns-clause-write : goal.returns-clause-write
+returns-clause-write g c = fault_writes _ c.in-Err.unbuilt.fault c.answer_of.result c.answer_of.ensures
 
-pub returns-in-Err-clause-streams : goal.returns-in-Err-clause-streams
-returns-in-Err-clause-streams g c = fault_streams c.in-Err.unbuilt.fault c.answer_of.result (g.I.Source.rest c.args.input.now) (g.O.Sink.taken c.args.out.now) c.answer_of.ensures
+pub returns-clause-streams : goal.returns-clause-streams
+returns-clause-streams g c = fault_streams c.in-Err.unbuilt.fault c.answer_of.result (g.I.Source.rest c.args.input.now) (g.O.Sink.taken c.args.out.now) c.answer_of.ensures

@@ -4,7 +4,7 @@ use Rattle.pw_commands_interp.proofs.interpreting.interpret_modules.Goals as goa
 
 pub returns-in-Ok-clause-did : goal.returns-in-Ok-clause-did
 returns-in-Ok-clause-did g c =
-    read_did c.args.opts.now c.in-Ok.modules.items (g.S.Store.told c.args.store.now) (g.I.Source.rest c.args.input.now) _ (g.O.Sink.taken c.args.out.now) _ c.interpret_counted.result.answer c.in-Ok.ensures.modules
+    read_did c.args.opts.now c.in-Ok.modules.items (g.S.Store.told c.args.store.now) _ (g.I.Source.rest c.args.input.now) _ (g.O.Sink.taken c.args.out.now) _ c.interpret_counted.result.answer c.modules_to_build.ensures.same c.in-Ok.ensures.modules
     (rw c.deref.ensures.value at c.interpret_counted.ensures.did)
 
 pub returns-in-Ok-clause-line : goal.returns-in-Ok-clause-line

@@ -1,10 +1,7 @@
-use Rattle.std.proofs.Common.{ℕ, List, map, subst}
-use Rattle.pw_cmean.specs.Worlds.{ProgramModule}
-use Rattle.pw_interp_calls.specs.Frames.{frame_among}
+use Rattle.std.proofs.Common.{map}
 use Rattle.pw_interp.specs.Programs.{module_of}
 use Rattle.pw_store_modules.specs.Views.{source}
-use Rattle.pw_commands_interp.specs.Interpreting.{RunsAs}
-use Rattle.pw_commands_interp.proofs.RunLemmas.{if_some, not_run, unless_memory}
+use Rattle.pw_commands_interp.proofs.RunLemmas.{if_some, not_run, runs_alike, unless_memory}
 use Rattle.pw_commands_interp.proofs.TypedLemmas.{same_typed}
 use Rattle.pw_commands_interp.proofs.interpreting.run_linked.Goals as goal
 
@@ -15,8 +12,7 @@ returns-in-Ok-clause-runs g c = λ k modules held typed.
     let rest = g.I.Source.rest c.args.input.now in
     let taken = g.O.Sink.taken c.args.out.now in
     let same = same_typed (map source c.args.modules.now) (map module_of program.modules.items) modules c.in-Ok.ensures.typed typed in
-    subst (λ (ms : List ProgramModule). RunsAs (record { modules = ms }) (frame_among _) opts rest c.run_program.result _ taken _) same
-    (subst (λ (fs : List (List ℕ × ℕ)). RunsAs (record { modules = map module_of program.modules.items }) (frame_among fs) opts rest c.run_program.result _ taken _) (c.in-Ok.ensures.frames k held) c.run_program.ensures.runs)
+    runs_alike opts rest _ taken _ c.run_program.result (map module_of program.modules.items) modules _ _ same (c.in-Ok.ensures.frames k held) c.run_program.ensures.runs
 
 pub returns-in-Ok-clause-typed : goal.returns-in-Ok-clause-typed
 returns-in-Ok-clause-typed g c = unless_memory c.run_program.result _ (map module_of c.in-Ok.program.modules.items, c.in-Ok.ensures.typed)

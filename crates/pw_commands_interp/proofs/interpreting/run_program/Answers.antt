@@ -1,20 +1,16 @@
-use Rattle.std.proofs.Common.{sym, subst}
-use Rattle.std.proofs.lemmas.Option.{IfSome_then}
 use Rattle.pw_cmean.specs.SourceRun.{source_run}
 use Rattle.pw_interp_calls.specs.Frames.{frame_among}
 use Rattle.pw_interp.specs.Programs.{program_of}
-use Rattle.pw_top_answer.specs.declared.answer.Answer.{Answer}
-use Rattle.pw_commands_interp.specs.Interpreting.{RanAs}
-use Rattle.pw_commands_interp.proofs.RunLemmas.{input_count, output_count, ran_as}
+use Rattle.std.specs.Prelude.{List, ℕ}
+use Rattle.pw_commands_interp.proofs.RunLemmas.{input_count, output_count, runs_answered}
 use Rattle.pw_commands_interp.proofs.interpreting.run_program.Goals as goal
 
 pub returns-clause-runs : goal.returns-clause-runs
 returns-clause-runs g c =
     let program = c.args.program.now in
     let opts = c.args.opts.now in
-    let taken = g.O.Sink.taken c.args.out.now in
-    IfSome_then (g.I.Source.rest c.args.input.now) (rw (c.deref.ensures.value, c.deref-2.ensures.value) at c.interpret-ran.ensures.over) (λ bytes left.
-    subst (λ (a : Answer). RanAs (source_run (program_of program.modules.items) (frame_among program.frames.items) opts.build.stack bytes opts.budget) bytes a _ taken _) (sym c.answer_of.ensures.is) (ran_as _ bytes _ _ taken _ left))
+    runs_answered (λ (bytes : List ℕ). source_run (program_of program.modules.items) (frame_among program.frames.items) opts.build.stack bytes opts.budget) (g.I.Source.rest c.args.input.now) c.interpret-ran.result c.answer_of.result _
+    (g.O.Sink.taken c.args.out.now) _ c.answer_of.ensures.is (rw (c.deref.ensures.value, c.deref-2.ensures.value) at c.interpret-ran.ensures.over)
 
 pub returns-clause-read : goal.returns-clause-read
 returns-clause-read g c = input_count _ _ c.interpret-ran.result c.answer_of.result c.answer_of.ensures.is c.interpret-ran.ensures.read
