@@ -1,10 +1,9 @@
 -- The parts of a function with places are those of the definition, and they fit.
-use Rattle.std.proofs.Common.{◌≡◌, ◌≤◌, ◌+◌, ℕ, List, length, refl, sym, ap, ◌∙◌, arith}
+use Rattle.std.proofs.Common.{◌≡◌, ◌≤◌, ℕ, List, length, refl, ap, arith}
 use Rattle.std.specs.Prelude.{Option}
 use Rattle.pw_db.specs.Limits.{register_count}
 use Rattle.pw_webflow.specs.declared.web.WebFn.{WebFn}
 use Rattle.pw_alloc.specs.declared.located.Place.{Place}
-use Rattle.pw_alloc.specs.declared.located.Located.{Located}
 use Rattle.pw_alloc.specs.Allocation.{in_frame}
 use Rattle.pw_alloc.specs.Frames.{head_size, slots_begin, last_reach}
 use Rattle.pw_alloc.specs.ValidPlaces.{IsLocated}

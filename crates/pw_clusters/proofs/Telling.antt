@@ -122,7 +122,7 @@ module _ (g : CallGraph) (rows : length g.calls ≡ length g.functions) (calls_w
     ];
   }
 
-  row_of : ℕ → List ℕ
+  abbrev row_of : ℕ → List ℕ
   row_of a = get_or g.calls a []
 
   row_at : (a : ℕ) → a < length g.functions → slice_get g.calls a ≡ Some (row_of a)

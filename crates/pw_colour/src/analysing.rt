@@ -9,6 +9,7 @@ ghost use Rattle.pw_graph.specs.Program.{AreLinked, AreRefused, IsGraphOf};
 ghost use Rattle.pw_clusters.specs.Clusters.{AreRoots};
 ghost use Rattle.pw_colour.specs.Colours.{IsDatabaseOf};
 ghost use Rattle.pw_colour.specs.Giving.{AreClusters};
+ghost use Rattle.pw_db.specs.Database.{database_version};
 ghost use Rattle.pw_db.specs.Limits.{colour_limit};
 
 use crate::colouring::registers;
@@ -35,7 +36,8 @@ fn database_with(
     requires graph { IsGraph graph.now }
     requires clusters { AreClusters graph.now clusters.roots.now clusters.needs.now }
     requires few { colours ≤ colour_limit }
-    ensures { IfOk result (λ db. (ss : List Whole) → IsGraphOf ss graph.now → AreRoots ss graph.now clusters.roots.now → IsDatabaseOf ss colours db.functions) }
+    ensures functions { IfOk result (λ db. (ss : List Whole) → IsGraphOf ss graph.now → AreRoots ss graph.now clusters.entry.roots.now → IsDatabaseOf ss colours db.functions) }
+    ensures version { IfOk result (λ db. db.version ≡ database_version) }
 {
     let sets = ref_sets(alloc, graph)?;
     let all = ranked(webs(alloc, graph, &sets)?)?;
@@ -54,7 +56,8 @@ fn database_of(
     requires of { IsGraphOf summaries.now graph.now }
     requires graph { IsGraph graph.now }
     requires few { colours ≤ colour_limit }
-    ensures { IfOk result (λ db. IsDatabaseOf summaries.now colours db.functions) }
+    ensures functions { IfOk result (λ db. IsDatabaseOf summaries.now colours db.functions) }
+    ensures version { IfOk result (λ db. db.version ≡ database_version) }
 {
     roots_are_one();
     few_registers_are_saved();
@@ -68,11 +71,12 @@ fn database_of(
 }
 
 /// The database of a program for so many registers, made of the summaries of its modules; or which rule of
-/// linking they break.
+/// linking they break. It is a database of the newest version.
 pub fn analyse(alloc: Global, summaries: &[Summary], colours: u8) -> Result<Database, LinkFault>
     requires lawful { All IsSummary summaries.now }
     requires few { colours ≤ colour_limit }
     ensures exact { IfOk result (λ db. (d : List (List ℕ × Directives)) → IsDatabaseOf summaries.now colours d ↔ (d ≡ db.functions)) }
+    ensures version { IfOk result (λ db. db.version ≡ database_version) }
     ensures linked { OnOk result (AreLinked summaries.now) }
     ensures refused { IfErr result (λ fault. (fault ≡ LinkFault.NoMemory) ⊎ AreRefused summaries.now fault) }
 {

@@ -1,7 +1,7 @@
 //! The database of webs that have registers, and of the registers that roots save.
 
 ghost use Rattle.std.specs.Prelude.{◌≡◌, ◌<◌, ◌^◌, ℕ, List, if◌then◌else◌, length, map, All, IfOk};
-ghost use Rattle.pw_db.specs.Database.{says_something as tells};
+ghost use Rattle.pw_db.specs.Database.{database_version, says_something as tells};
 ghost use Rattle.pw_db.specs.declared.database.Role.TheVariants.{Entry, Member};
 ghost use Rattle.pw_colour.specs.Colours.{numbered as numbered_from, web_of as web_at, has_number, webs_of as webs_at, directives_of as directives_at};
 ghost use Rattle.pw_colour.specs.Giving.{coloured as seen, paired, entries_from, AreClusters};
@@ -109,7 +109,7 @@ fn directives_of(
     requires globals { All (λ c. c.web.now.global < length graph.now.globals) coloured.now }
     requires clusters { AreClusters graph.now clusters.roots.now clusters.needs.now }
     requires place { place < length graph.now.functions }
-    ensures { IfOk result (λ d. d ≡ directives_at graph.now clusters.roots.now (map seen coloured.now) place) }
+    ensures { IfOk result (λ d. d ≡ directives_at graph.now clusters.entry.roots.now (map seen coloured.now) place) }
 {
     let root = clusters.roots[place] as usize;
     let need = clusters.needs[root];
@@ -136,7 +136,8 @@ pub(crate) fn database(
 ) -> Result<Database, AllocError>
     requires globals { All (λ c. c.web.now.global < length graph.now.globals) coloured.now }
     requires clusters { AreClusters graph.now clusters.roots.now clusters.needs.now }
-    ensures { IfOk result (λ db. db.functions ≡ entries_from graph.now clusters.roots.now (map seen coloured.now) 0 graph.now.functions) }
+    ensures functions { IfOk result (λ db. db.functions ≡ entries_from graph.now clusters.entry.roots.now (map seen coloured.now) 0 graph.now.functions) }
+    ensures version { IfOk result (λ db. db.version ≡ database_version) }
 {
     let functions = graph.functions.as_slice();
     let mut entries = Items::new(alloc);

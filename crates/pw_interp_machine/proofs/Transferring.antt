@@ -22,15 +22,15 @@ read_gives : (next : Option Value → Act (Unit {0})) (bytes : List ℕ) (s : St
 unfolding transfer_act get_char ◌>>=◌
 read_gives next bytes s is = ap (λ left. go_on (go_on (next_byte left s) (λ byte. give (Some (V.Num byte)))) next) is
 
-module _ {main : Body} {world : World} {w : Shown} {end : Outcome (Unit {0})} (old : Machine) (word : ℕ) where
-  -- the machine that goes on with the byte's word
-  abbrev gone_on : Machine
-  gone_on = record old { control = C.Gave (Some (V.Num word)) }
+-- the machine that goes on with the byte's word
+abbrev gone_on : Machine → ℕ → Machine
+gone_on old word = record old { control = C.Gave (Some (V.Num word)) }
 
+module _ {main : Body} {world : World} {w : Shown} {end : Outcome (Unit {0})} (old : Machine) (word : ℕ) where
   moved : (st new : Streams) (t : State) (at : Stands main world old (w, st) end) → all_shown world t ≡ (w, new)
       → control_act old.control (view_env old.call.env) old.call.bound (resume old.call.todo.items (ended at.in_call.active (callers_act old.callers.items at.waiting (finish main)))) at.in_call.state
       ≡ resume old.call.todo.items (ended at.in_call.active (callers_act old.callers.items at.waiting (finish main))) (view_env old.call.env) old.call.bound (Gave (Some (V.Num word))) t
-      → Stands main world gone_on (w, new) end
+      → Stands main world (gone_on old word) (w, new) end
   unfolding control_act
   moved st new t at shows comes =
       let here = at.in_call in
@@ -40,7 +40,7 @@ module _ {main : Body} {world : World} {w : Shown} {end : Outcome (Unit {0})} (o
         in_call = record { active = here.active; state = t; is_call = here.is_call; shows = shows; comes = here.comes ∙ comes };
       }
 
-  pub read_stands : (st new : Streams) (byte : Option ℕ) → old.control ≡ C.Outside T.Read → word ≡ word_read byte → IsRead st byte new → Stands main world old (w, st) end → Stands main world gone_on (w, new) end
+  pub read_stands : (st new : Streams) (byte : Option ℕ) → old.control ≡ C.Outside T.Read → word ≡ word_read byte → IsRead st byte new → Stands main world old (w, st) end → Stands main world (gone_on old word) (w, new) end
   unfolding control_act next_byte give go_on
   read_stands st new (Some byte) control is read at =
       let s = at.in_call.state in
@@ -65,7 +65,7 @@ module _ {main : Body} {world : World} {w : Shown} {end : Outcome (Unit {0})} (o
       ∙ read_gives (λ r. rest e old.call.bound (Gave r)) [] s left
       ∙ ap (λ n. rest e old.call.bound (Gave (Some (V.Num n))) s) (sym is))
 
-  pub written_stands : (st : Streams) (byte : ℕ) → old.control ≡ C.Outside (T.Write byte) → word ≡ byte → Stands main world old (w, st) end → Stands main world gone_on (w, with_byte byte st) end
+  pub written_stands : (st : Streams) (byte : ℕ) → old.control ≡ C.Outside (T.Write byte) → word ≡ byte → Stands main world old (w, st) end → Stands main world (gone_on old word) (w, with_byte byte st) end
   unfolding control_act transfer_act put_char give go_on ◌>>=◌
   written_stands st byte control is at =
       let s = at.in_call.state in

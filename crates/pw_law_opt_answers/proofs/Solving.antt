@@ -15,9 +15,8 @@ use Rattle.pw_opt_rules.specs.declared.flat.Flat.TheVariants.{Bottom, One, Many}
 use Rattle.pw_opt_rules.specs.Flat.{IsBelow}
 use Rattle.pw_opt_rules.specs.Rows.{known, IsRowBelow, behind, front, IsSolution, IsLeastSolution}
 use Rattle.pw_opt_order.specs.Rises.{Rises}
-use Rattle.pw_opt_order.specs.Order.{below_itself, below_many, below_through, behind_rises}
+use Rattle.pw_opt_order.specs.Order.{below_many, below_through, behind_rises}
 use Rattle.pw_opt_rows.specs.Joins.{joined, flat_rank}
-use Rattle.pw_opt_rows.proofs.Joining.{above_first, above_second, least_above, joined_stays, rank_rises}
 
 -- ---- lists by their places
 
@@ -119,11 +118,41 @@ all_or P (y ∷ ys) each = elim (each y (inl refl)) [
 
 -- ---- joins
 
+-- below whatever both are below
+least_above : (x y w : Flat) → IsBelow x w → IsBelow y w → IsBelow (joined x y) w
+least_above Bottom y w a b = b
+least_above (One m) Bottom w a b = a
+least_above (One m) (One n) Bottom a b = absurd a
+least_above (One m) (One n) (One k) a b = subst (λ (c : Bool). IsBelow (if c then One m else Many) (One k)) (sym (eq-eqb m n (a ∙ sym b))) a
+least_above (One m) (One n) Many a b = below_many (joined (One m) (One n))
+least_above (One m) Many Bottom a b = absurd a
+least_above (One m) Many (One k) a b = absurd b
+least_above (One m) Many Many a b = tt
+least_above Many y w a b = a
+
+-- no lower in rank
+rank_joined : (x y : Flat) → flat_rank x ≤ flat_rank (joined x y)
+rank_joined Bottom y = omega arith
+rank_joined (One a) Bottom = omega arith
+rank_joined (One a) (One b) = either (a == b) where
+  either : (c : Bool) → 1 ≤ flat_rank (if c then One a else Many)
+  either true = omega arith
+  either false = omega arith
+rank_joined (One a) Many = omega arith
+rank_joined Many y = omega arith
+
+-- and higher, where the second is not below the first
 joined_up : (x y : Flat) → ¬ IsBelow y x → flat_rank x < flat_rank (joined x y)
-joined_up x y above = elim (cases_lt (flat_rank x) (flat_rank (joined x y))) [
-  | inl lt ↦ lt
-  | inr ge ↦ absurd (above (subst (λ (z : Flat). IsBelow y z) (joined_stays x y ge) (above_second x y)))
-]
+joined_up Bottom Bottom above = absurd (above tt)
+joined_up Bottom (One b) above = omega arith
+joined_up Bottom Many above = omega arith
+joined_up (One a) Bottom above = absurd (above tt)
+joined_up (One a) (One b) above = either (a == b) refl where
+  either : (c : Bool) → (a == b) ≡ c → 1 < flat_rank (if c then One a else Many)
+  either true e = absurd (above (sym (eqb-true a b e)))
+  either false e = omega arith
+joined_up (One a) Many above = omega arith
+joined_up Many y above = absurd (above (below_many y))
 
 rank_most : (x : Flat) → flat_rank x ≤ 2
 rank_most Bottom = omega arith
@@ -230,13 +259,6 @@ module _ (transfer : List Flat → Op → List Flat) (r : Rises transfer) (f : F
   abbrev raised : (p : Knowing) → Gap p → ℕ → ℕ → Flat
   raised p g b t = if b == g.to then joined (p b t) (flow p g t) else p b t
 
-  raised_above : (p : Knowing) (g : Gap p) (b t : ℕ) → IsBelow (p b t) (raised p g b t)
-  raised_above p g b t = by (b == g.to)
-    where
-      by : (c : Bool) → IsBelow (p b t) (if c then joined (p b t) (flow p g t) else p b t)
-      by true = above_first (p b t) (flow p g t)
-      by false = below_itself (p b t)
-
   flow_below : (p : Knowing) (g : Gap p) → IsLow p → (others : List (List Flat)) → IsSolution transfer f others → (t : ℕ) → IsBelow (flow p g t) (known (front others g.to) t)
   flow_below p g low others s t =
       let within = slice_get_within f.blocks g.from g.block g.at in
@@ -281,7 +303,11 @@ module _ (transfer : List Flat → Op → List Flat) (r : Rises transfer) (f : F
       (joined_up (p g.to g.place) (flow p g g.place) g.above)
 
   each_up : (p : Knowing) (g : Gap p) (b t : ℕ) → flat_rank (p b t) ≤ flat_rank (raised p g b t)
-  each_up p g b t = rank_rises (p b t) (raised p g b t) (raised_above p g b t)
+  each_up p g b t = by (b == g.to)
+    where
+      by : (c : Bool) → flat_rank (p b t) ≤ flat_rank (if c then joined (p b t) (flow p g t) else p b t)
+      by true = rank_joined (p b t) (flow p g t)
+      by false = omega arith
 
   rank_up : (p : Knowing) (g : Gap p) → rank p < rank (raised p g)
   rank_up p g =

@@ -46,7 +46,7 @@ pub record AreDirectivesIn (db : List (List ℕ × Directives)) (flow : FlowModu
   pub of_module : AreDirectivesOf flow directives
   pub each : All (HasDirectives db) directives
 
--- The bytes are those of the payload of the directives that hold a web.
+-- the bytes are those of the payload of the directives that say something
 abbrev pub IsPayloadOf : List ℕ → List (List ℕ × Directives) → Type 0
 IsPayloadOf bytes directives = (stored : List (List ℕ × Directives)) × IsStored directives stored × IsPayload bytes stored
 

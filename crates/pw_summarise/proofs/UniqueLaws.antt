@@ -6,7 +6,7 @@ use Rattle.pw_flow.specs.declared.flow.FlowFn.{FlowFn}
 use Rattle.pw_flow.specs.declared.flow.FlowModule.{FlowModule}
 use Rattle.pw_flow.specs.FlowGraph.{named_in, global_names, function_names}
 use Rattle.pw_flow.specs.ValidFlow.{AreDistinct, IsValid}
-use Rattle.pw_flow.proofs.Once.{distinct_left, distinct_right}
+use Rattle.pw_flow.proofs.Once.{distinct_right}
 use Rattle.pw_summary.specs.declared.summary.Uses.{Uses}
 use Rattle.pw_summary.specs.declared.summary.Summary.{Summary}
 use Rattle.pw_summarise.specs.Summarises.{called, called_shape, referenced, addressed, in_function, in_module, reference, taken_of, escaped_of, global_entry, function_entries, IsUsesOf, AreUsesOf, Summarises}

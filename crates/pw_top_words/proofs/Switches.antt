@@ -42,16 +42,20 @@ abbrev pub SoFar : List Text → ℕ → Bool → Type 0
 SoFar words at waits = option_map suc (switch_from false (drop 1 words)) ≡ passed at (switch_from waits (drop at words))
 
 -- the value of an option is none
-pub value_passed : (words : List Text) (at : ℕ) (word : Text) → SoFar words at true → drop at words ≡ word ∷ drop (at + 1) words → SoFar words (at + 1) false
+value_passed : (words : List Text) (at : ℕ) (word : Text) → SoFar words at true → drop at words ≡ word ∷ drop (at + 1) words → SoFar words (at + 1) false
 value_passed words at word so next =
     so ∙ ap (λ (ws : List Text). passed at (switch_from true ws)) next ∙ passed_next at (switch_from false (drop (at + 1) words))
 
 abbrev turn : Text → Bool → Bool → List Text → Option ℕ
 turn word ends is words = if ends then None else if is then Some 0 else option_map suc (switch_from (is_named word && not (has_value word)) words)
 
-pub word_passed : (words : List Text) (at : ℕ) (word : Text) (waits : Bool) → SoFar words at false → drop at words ≡ word ∷ drop (at + 1) words → bytes_eq word (codes "--") ≡ false → bytes_eq word switch ≡ false → waits ≡ (is_named word && not (has_value word))
+-- whether the word behind a word is an option's value
+abbrev pub next_is_value : Bool → Text → Bool
+next_is_value value word = not value && (is_named word && not (has_value word))
+
+other_passed : (words : List Text) (at : ℕ) (word : Text) (waits : Bool) → SoFar words at false → drop at words ≡ word ∷ drop (at + 1) words → bytes_eq word (codes "--") ≡ false → bytes_eq word switch ≡ false → waits ≡ (is_named word && not (has_value word))
     → SoFar words (at + 1) waits
-word_passed words at word waits so next ends is e =
+other_passed words at word waits so next ends is e =
     let rest = drop (at + 1) words in
     so ∙ ap (λ (ws : List Text). passed at (switch_from false ws)) next
     ∙ ap (λ (b : Bool). passed at (turn word b (bytes_eq word switch) rest)) ends
@@ -59,13 +63,23 @@ word_passed words at word waits so next ends is e =
     ∙ passed_next at (switch_from (is_named word && not (has_value word)) rest)
     ∙ ap (λ (b : Bool). passed (at + 1) (switch_from b rest)) (sym e)
 
-pub ends_here : (words : List Text) (at : ℕ) (word : Text) → SoFar words at false → drop at words ≡ word ∷ drop (at + 1) words → bytes_eq word (codes "--") ≡ true → None ≡ option_map suc (switch_from false (drop 1 words))
-ends_here words at word so next ends =
+pub word_passed : (words : List Text) (at : ℕ) (word : Text) (value waits : Bool) → SoFar words at value → drop at words ≡ word ∷ drop (at + 1) words → (not value && bytes_eq word (codes "--")) ≡ false → (not value && bytes_eq word switch) ≡ false → waits ≡ next_is_value value word
+    → SoFar words (at + 1) waits
+word_passed words at word true waits so next ends is e = subst (λ (b : Bool). SoFar words (at + 1) b) (sym e) (value_passed words at word so next)
+word_passed words at word false waits so next ends is e = other_passed words at word waits so next ends is e
+
+not_both : false ≡ true → ⊥
+not_both e = cc
+
+pub ends_here : (words : List Text) (at : ℕ) (word : Text) (value : Bool) → SoFar words at value → drop at words ≡ word ∷ drop (at + 1) words → (not value && bytes_eq word (codes "--")) ≡ true → None ≡ option_map suc (switch_from false (drop 1 words))
+ends_here words at word true so next ends = absurd (not_both ends)
+ends_here words at word false so next ends =
     sym (so ∙ ap (λ (ws : List Text). passed at (switch_from false ws)) next ∙ ap (λ (b : Bool). passed at (turn word b (bytes_eq word switch) (drop (at + 1) words))) ends)
 
-pub stands_here : (words : List Text) (at : ℕ) (word : Text) → SoFar words at false → drop at words ≡ word ∷ drop (at + 1) words → bytes_eq word (codes "--") ≡ false → bytes_eq word switch ≡ true
+pub stands_here : (words : List Text) (at : ℕ) (word : Text) (value : Bool) → SoFar words at value → drop at words ≡ word ∷ drop (at + 1) words → (not value && bytes_eq word (codes "--")) ≡ false → (not value && bytes_eq word switch) ≡ true
     → Some at ≡ option_map suc (switch_from false (drop 1 words))
-stands_here words at word so next ends is =
+stands_here words at word true so next ends is = absurd (not_both is)
+stands_here words at word false so next ends is =
     let rest = drop (at + 1) words in
     sym (
     so ∙ ap (λ (ws : List Text). passed at (switch_from false ws)) next

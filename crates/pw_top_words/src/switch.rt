@@ -16,18 +16,18 @@ pub struct Line {
     pub words: Vec<String>,
 }
 
-/// Whether a word ends the options.
-fn ends_options(word: &str) -> bool
-    ensures { result ≡ bytes_eq word.now (codes "--") }
+/// Whether a word that is or is not the value of an option ends the options.
+fn ends_options(is_value: bool, word: &str) -> bool
+    ensures { result ≡ (not is_value && bytes_eq word.now (codes "--")) }
 {
-    word == "--"
+    !is_value && word == "--"
 }
 
-/// Whether a word is the switch.
-fn is_switch(word: &str) -> bool
-    ensures { result ≡ bytes_eq word.now switch }
+/// Whether it is the switch.
+fn is_switch(is_value: bool, word: &str) -> bool
+    ensures { result ≡ (not is_value && bytes_eq word.now switch) }
 {
-    word == SWITCH
+    !is_value && word == SWITCH
 }
 
 /// Whether a word is an option that waits for its value, the next word.
@@ -40,23 +40,28 @@ fn waits_for_value(word: &str) -> bool
     }
 }
 
+/// Whether the word behind a word that is or is not the value of an option is one.
+fn is_next_value(is_value: bool, word: &str) -> bool
+    ensures { result ≡ (not is_value && (is_named word.now && not (has_value word.now))) }
+{
+    !is_value && waits_for_value(word)
+}
+
 /// The place of the switch among words, the first of which is the command's name.
 fn switch_at(words: &[String]) -> Option<usize>
     ensures place { result ≡ option_map suc (switch_from false (drop 1 (map string_bytes words.now))) }
     ensures bound { IfSome result (λ n. n < length words.now) }
 {
-    let mut waits = false;
+    let mut is_value = false;
     for at in 1..words.len() {
         let word = words[at].as_str();
-        if waits {
-            waits = false;
-        } else if ends_options(word) {
+        if ends_options(is_value, word) {
             return None;
-        } else if is_switch(word) {
-            return Some(at);
-        } else {
-            waits = waits_for_value(word);
         }
+        if is_switch(is_value, word) {
+            return Some(at);
+        }
+        is_value = is_next_value(is_value, word);
     }
     None
 }

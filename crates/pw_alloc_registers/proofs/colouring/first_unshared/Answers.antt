@@ -1,4 +1,4 @@
-use Rattle.std.proofs.Common.{◌∙◌, ℕ, sym}
+use Rattle.std.proofs.Common.{◌∙◌}
 use Rattle.pw_live.specs.Liveness.{has}
 use Rattle.pw_db.specs.Limits.{kept_registers}
 use Rattle.pw_alloc_masks.specs.Masks.{in_mask}

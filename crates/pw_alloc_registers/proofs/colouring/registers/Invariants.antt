@@ -1,4 +1,4 @@
-use Rattle.std.proofs.Common.{◌≡◌, ℕ, [], List, take}
+use Rattle.std.proofs.Common.{ℕ, [], List, take}
 use Rattle.pw_alloc_temps.specs.Registers.{given_to}
 use Rattle.pw_alloc_registers.specs.Masks.{IsMaskOf}
 use Rattle.pw_alloc_taken.specs.Knowing.{AreSized, AreGiven}

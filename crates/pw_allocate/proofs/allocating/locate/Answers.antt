@@ -1,4 +1,4 @@
-use Rattle.std.proofs.Common.{◌≡◌, ◌≤◌, ℕ, List, length, sym, ap, ◌∙◌, arith}
+use Rattle.std.proofs.Common.{◌≡◌, ◌≤◌, ℕ, List, length, ap, ◌∙◌, arith}
 use Rattle.std.specs.Prelude.{Option, map}
 use Rattle.pw_db.specs.Limits.{first_register, register_count}
 use Rattle.pw_webflow.specs.WebOutline.{web_outline}

@@ -35,8 +35,8 @@ database_with-requires-clause-clusters c =
     } in
     subst (λ (rs : List ℕ). AreClusters g rs c.deref-3.result.now) (sym c.deref-2.ensures.value) (subst (λ (ns : List ℕ). AreClusters g roots ns) (sym c.deref-3.ensures.value) are)
 
-pub returns : goal.returns
-returns c =
+pub returns-clause-functions : goal.returns-clause-functions
+returns-clause-functions c =
     let ss = c.args.summaries.now in
     let are = subst (λ (rs : List ℕ). AreRoots ss c.args.graph.now rs) (sym c.deref-2.ensures.value) c.in_ok-roots.ensures in
-    IfOk-weaker c.database_with.result _ _ (λ db h. h ss c.requires.of are) c.database_with.ensures
+    IfOk-weaker c.database_with.result _ _ (λ db h. h ss c.requires.of are) c.database_with.ensures.functions

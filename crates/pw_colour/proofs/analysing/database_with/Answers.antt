@@ -61,8 +61,8 @@ database-requires-clause-globals c =
     (raw_in g ws cs c.in_ok-webs.ensures.webs c.in_ok-all.ensures.same x.web.now (has_paired cs c.in_ok-given.given.items x.web.now _ there)).global)) in
     subst (λ (xs : List Coloured). All P xs) (sym c.deref-4.ensures.value) each
 
-pub returns : goal.returns
-returns c =
+pub returns-clause-functions : goal.returns-clause-functions
+returns-clause-functions c =
     let g = c.args.graph.now in
     let ws = c.in_ok-webs.field-0.items in
     let cs = c.in_ok-all.all.items in
@@ -72,4 +72,4 @@ returns c =
     ∙ ap (λ (ys : List (Option ℕ)). numbered 0 (paired cs ys)) c.deref-3.ensures.value in
     let count : length rs ≡ length cs = c.in_ok-given.ensures.count ∙ ap length c.deref.ensures.value in
     let given = subst (λ (xs : List RawWeb). AreColoured c.args.colours [] (paired xs rs)) c.deref.ensures.value c.in_ok-given.ensures.coloured in
-    IfOk-weaker c.database.result _ _ (λ db h ss of are. is_database ss g c.args.colours ws cs rs (map seen c.deref-4.result.now) db.functions c.args.clusters.roots.now of are c.in_ok-webs.ensures.webs c.in_ok-all.ensures.same c.in_ok-all.ensures.order count given numbers h) c.database.ensures
+    IfOk-weaker c.database.result _ _ (λ db h ss of are. is_database ss g c.args.colours ws cs rs (map seen c.deref-4.result.now) db.functions c.args.clusters.roots.now of are c.in_ok-webs.ensures.webs c.in_ok-all.ensures.same c.in_ok-all.ensures.order count given numbers h) c.database.ensures.functions
