@@ -5,7 +5,7 @@ use Rattle.pw_value.specs.declared.fault.LinkFault.{LinkFault}
 use Rattle.pw_value.specs.declared.fault.LinkFault.TheVariants as link
 use Rattle.pw_flow.specs.declared.flow.FlowModule.{FlowModule}
 use Rattle.pw_object.specs.declared.object.Object.{Object}
-use Rattle.pw_build_objects.specs.Counting.{CountsAnew}
+use Rattle.pw_build_objects.specs.Counting.{CountsAnew, CountsUpTo}
 use Rattle.pw_build_objects.specs.Programs.{AreParts, BreakRule, Parts}
 use Rattle.pw_build_opts.specs.declared.opts.Opts.{Opts}
 
@@ -21,3 +21,7 @@ broken_counted flows kept opts n result fault e h = subst (λ (r : Result _ Link
 -- those that are marked, where there are parts
 pub made_counted : (flows : List FlowModule) (kept : List (Option Object)) (opts : Opts) (before now : ℕ) (parts : Parts) → AreParts flows kept opts parts → now ≡ before + count_by (λ f. f) parts.fresh → CountsAnew flows kept opts before now
 made_counted flows kept opts before now parts are e = (count_by (λ f. f) parts.fresh, inr (parts, are, refl), e)
+
+-- as many modules have the same bound
+pub bound_as_many : (most other before now : ℕ) → most ≡ other → CountsUpTo most before now → CountsUpTo other before now
+bound_as_many most other before now e h = subst (λ (n : ℕ). CountsUpTo n before now) e h

@@ -17,11 +17,12 @@ abbrev pub Lasts : {A : Type 0} → Act A → Type 0
 Lasts m = (s : State) → IsLater s (state_behind (m s))
 
 -- both of two acts do
-abbrev pub AreLasting : (A : Type 0) → Act A → Act A → Type 0
-AreLasting A m m' = Lasts m × Lasts m'
+pub record AreLasting (A : Type 0) (m m' : Act A) : Type 0 where
+  pub first : Lasts m
+  pub second : Lasts m'
 
 twice : {A : Type 0} (m : Act A) → Lasts m → AreLasting A m m
-twice m k = (k, k)
+twice m k = record { first = k; second = k }
 
 -- go on behind it
 on_behind : {A B : Type 0} (s : State) (o : Outcome A) (k : A → Act B) → IsLater s (state_behind o) → ((a : A) → Lasts (k a)) → IsLater s (state_behind (go_on o k))
@@ -64,15 +65,15 @@ unfolding give stop look write get_char put_char
 lasting = record {
   gives = λ A a. twice (give a) λ s. later-refl s;
   stops = λ A e. twice {A = A} (stop e) λ s. later-refl s;
-  selfs = λ A m m' p. (p.1, p.1);
-  bounds = λ A m p. ((λ s. later-refl s), p.1);
+  selfs = λ A m m' p. record { first = p.second; second = p.second };
+  bounds = λ A m p. record { first = λ s. later-refl s; second = p.second };
   looks = λ A f. twice (look f) λ s. later-refl s;
   writes = λ n i bytes. twice (write n i bytes) λ s. as_before s _ refl refl refl;
   gets = twice get_char λ s. read_later s s.rest refl;
   puts = λ b. twice (put_char b) λ s. record { written = (b ∷ [], refl); taken = ([], refl, omega arith) };
-  durings = λ A name m m' p. (during_lasts name m p.0, during_lasts name m' p.1);
-  withs = λ A size w f f' p. (with_object_lasts size w f (λ n. (p n).0), with_object_lasts size w f' (λ n. (p n).1));
-  binds = λ A B m m' k k' p q. (bind_lasts m k p.0 (λ a. (q a).0), bind_lasts m' k' p.1 (λ a. (q a).1));
+  durings = λ A name m m' p. record { first = during_lasts name m p.first; second = during_lasts name m' p.second };
+  withs = λ A size w f f' p. record { first = with_object_lasts size w f (λ n. (p n).first); second = with_object_lasts size w f' (λ n. (p n).second) };
+  binds = λ A B m m' k k' p q. record { first = bind_lasts m k p.first (λ a. (q a).first); second = bind_lasts m' k' p.second (λ a. (q a).second) };
 }
 
 -- an object ends
@@ -83,20 +84,20 @@ end_lasts number = twice (end_object number) λ s. as_before s _ refl refl refl
 -- ---- one act
 
 abbrev pub L : {A : Type 0} → Act A → Type 0
-L {A} m = AreLasting A m m
+L {A = A} m = AreLasting A m m
 
 pub of_one : {A : Type 0} (m : Act A) → Lasts m → L m
 of_one m k = twice m k
 
 pub then_l : {A B : Type 0} {m : Act A} {k : A → Act B} → L m → ((a : A) → L (k a)) → L (m >>= k)
-then_l {A} {B} {m} {k} p q = lasting.binds A B m m k k p q
+then_l {A = A} {B = B} {m = m} {k = k} p q = lasting.binds A B m m k k p q
 
 pub give_l : {A : Type 0} (a : A) → L (give a)
-give_l {A} a = lasting.gives A a
+give_l {A = A} a = lasting.gives A a
 
-pub stop_l : {A : Type 0} (e : Ending) → L {A} (stop e)
-stop_l {A} e = lasting.stops A e
+pub stop_l : {A : Type 0} (e : Ending) → L {A = A} (stop e)
+stop_l {A = A} e = lasting.stops A e
 
-pub wrong_l : {A : Type 0} → L {A} wrong
+pub wrong_l : {A : Type 0} → L {A = A} wrong
 unfolding wrong
-wrong_l {A} = lasting.stops A Wrong
+wrong_l {A = A} = lasting.stops A Wrong

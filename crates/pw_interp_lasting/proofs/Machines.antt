@@ -3,7 +3,7 @@ use Rattle.std.proofs.Common.{ℕ, zero, suc, ◌≡◌, refl, sym, ap, subst, L
 use Rattle.pw_value.specs.declared.value.Value.{Value}
 use Rattle.pw_typed.specs.Views.{view_exprs}
 use Rattle.pw_cmean.specs.Worlds.{World, Body, Callable}
-use Rattle.pw_cmean.specs.Acts.{Act, State, Outcome, Returned}
+use Rattle.pw_cmean.specs.Acts.{Act, State, Outcome}
 use Rattle.pw_cmean.specs.Lasting.{IsLater, state_behind}
 use Rattle.pw_cmean.specs.Evaluation.{Env, call}
 use Rattle.pw_cmean.specs.Execution.{Flow}
@@ -126,10 +126,10 @@ stands_later main world m now end at =
     (resume_l m.call.todo.items (ended here.active (callers_act m.callers.items at.waiting (finish main)))
     (ended_l here.active (callers_act m.callers.items at.waiting (finish main)) (λ v. callers_l m.callers.items at.waiting (finish main) (λ w. finish-r AreLasting lasting main w) v))) in
     subst (λ (o : Outcome (Unit {0})). GoesOnFrom now.1 (state_behind o)) (sym here.comes)
-    (later_shown here.state _ now.1 (sym (ap {A = Shown × Streams} (λ x. x.1) here.shows)) (lasts.0 here.state))
+    (later_shown here.state _ now.1 (sym (ap {A = Shown × Streams} (λ x. x.1) here.shows)) (lasts.first here.state))
 
 pub run_later : (world : World) (bound : ℕ) (f : Callable) (args : List Value) (main : Body) (s : State) → IsLater s (state_behind (then_finished (call world (calls world bound) f args) main s))
 run_later world bound f args main s =
     let lasts : L (then_finished (call world (calls world bound) f args) main) =
     then_l (call-r AreLasting lasting world _ _ f args (calls_l world bound)) (λ r. finish-r AreLasting lasting main r) in
-    lasts.0 s
+    lasts.first s

@@ -12,7 +12,7 @@ ghost use Rattle.std.specs.declared.io.ErrorKind.{ErrorKind};
 ghost use Rattle.pw_io.specs.Files.{Told, Keeps, ListsNames, Puts, PutsPart, Removes};
 ghost use Rattle.pw_io_system.specs.Entries.{FailsAt, FailsInList, FindsFiles, HasNoText, ListsFiles, PutsEntry, PutsName};
 ghost use Rattle.pw_io_system.specs.Faults.{TellsKind};
-ghost use Rattle.pw_io_system.specs.Folders.{IsAbsent, Opens, OpensAs, can_be_file};
+ghost use Rattle.pw_io_system.specs.Folders.{IsAbsent, Opens, OpensAs, can_be_file, holds};
 
 use std::alloc::Global;
 use std::fs;
@@ -105,11 +105,19 @@ impl<'a, R> CurrentFolder<'a, R> {
     }
 }
 
+/// Whether the bytes hold one byte.
+fn holds(bytes: &[u8], byte: u8) -> bool
+    ensures { result ≡ holds bytes.now byte }
+{
+    bytes.iter().any(|other| *other == byte)
+}
+
 /// Whether a name can be that of a file of a folder: it holds neither a `/` nor a zero byte.
 fn can_be_file(name: &str) -> bool
     ensures { result ≡ can_be_file name.now }
 {
-    !name.as_bytes().iter().any(|byte| *byte == b'/' || *byte == 0)
+    let bytes = name.as_bytes();
+    !holds(bytes, b'/') && !holds(bytes, 0)
 }
 
 /// A name that can be that of a file of a folder. Of any other the system is not asked: it is a fault, and none that says that

@@ -8,8 +8,8 @@ analyse_flows-requires-clause-lawful c =
 
 pub returns-in_err-analysed-clause-refused : goal.returns-in_err-analysed-clause-refused
 returns-in_err-analysed-clause-refused c =
-    no_rule_broken c.modules_have_one_answer.ensures.not_both c.forms_keep_what_modules_have.ensures.rules true c.args.flows.now c.in_ok-forms.forms.items c.from_residual.result c.in_err-analysed.field-0.0
-    (first_of (search (rules, c.from_residual.ensures), cc (c.from_residual.ensures)))
+    no_rule_broken c.modules_have_one_answer.ensures.not_both c.forms_keep_what_modules_have.ensures.rules true c.args.flows.now c.in_ok-forms.forms.items c.from_residual-in_err-analysed.result c.in_err-analysed.field-0.0
+    (first_of (search (rules, c.from_residual-in_err-analysed.ensures), cc (c.from_residual-in_err-analysed.ensures)))
     c.in_ok-forms.ensures c.requires.lawful c.in_ok-look_at_rules.ensures.keep (rw c.deref.ensures.value at c.in_err-analysed.ensures.refused)
 
 pub returns-clause-prepared : goal.returns-clause-prepared

@@ -1,9 +1,8 @@
-use Rattle.std.proofs.Common.{ℕ, List, rules, ⊎_elim, inl, inr, length, subst, sym}
+use Rattle.std.proofs.Common.{List, rules, ⊎_elim, inl, inr, length, subst, sym}
 use Rattle.std.specs.List.{AllByRecursion}
 use Rattle.std.proofs.lemmas.Result.{IfErr-weaker, IfOk-weaker}
 use Rattle.pw_build_objects.specs.Choosing.{marks_of, objects_of}
-use Rattle.pw_build_objects.specs.Counting.{CountsUpTo}
-use Rattle.pw_build_objects.proofs.CountLemmas.{broken_counted, made_counted}
+use Rattle.pw_build_objects.proofs.CountLemmas.{bound_as_many, broken_counted, made_counted}
 use Rattle.pw_build_objects.proofs.LoopLemmas.{bound_none}
 use Rattle.pw_build_objects.proofs.PreparedParts.{completed, parts_with, prepared_parts}
 use Rattle.pw_build_objects.proofs.RoomLaws.{new_objects_link}
@@ -48,12 +47,12 @@ returns-in_err-prepared-clause-bound g c = bound_none (length c.args.flows.items
 
 pub returns-in_err-made-clause-bound : goal.returns-in_err-made-clause-bound
 returns-in_err-made-clause-bound g c =
-    subst (λ (n : ℕ). CountsUpTo n _ _)
+    bound_as_many _ _ _ _
     (c.forms_keep_what_modules_have.ensures.count c.args.opts.now.optimise c.args.flows.items c.in_ok-prepared.prepared.forms.items c.in_ok-prepared.ensures.prepared.of_flows) c.all_objects.ensures.bound
 
 pub returns-clause-bound : goal.returns-clause-bound
 returns-clause-bound g c =
-    subst (λ (n : ℕ). CountsUpTo n _ _)
+    bound_as_many _ _ _ _
     (c.forms_keep_what_modules_have.ensures.count c.args.opts.now.optimise c.args.flows.items c.in_ok-prepared.prepared.forms.items c.in_ok-prepared.ensures.prepared.of_flows) c.all_objects.ensures.bound
 
 pub returns-clause-counted_fault : goal.returns-clause-counted_fault
