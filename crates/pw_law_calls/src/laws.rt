@@ -24,7 +24,7 @@ ghost use Rattle.pw_law_layers.specs.Whole.{GlobalInMachine, InMachine};
 ghost use Rattle.pw_debug.specs.declared.info.FrameInfo.{FrameInfo};
 ghost use Rattle.pw_debug.specs.Walk.{WalksTo, in_memory, seen, start_of};
 ghost use Rattle.pw_where.specs.Calls.{IsCall};
-ghost use Rattle.pw_law_walk.specs.Chains.{Chain};
+ghost use Rattle.pw_law_walk.specs.Chains.{Callers};
 ghost use Rattle.pw_law_where.specs.Counting.{AreEntriesOf};
 ghost use Rattle.pw_law_debug.specs.Telling.{number_of};
 ghost use Rattle.pw_law_calls.specs.Calls.{HasNoted, IsCallOfSource, IsSmall, IsSourceCall};
@@ -56,7 +56,7 @@ pub fn numbers_are_told()
 pub fn values_are_those_of_the_source()
     ensures { (core : Core) (functions : List Function) (frames : List FrameInfo) (object : GlobalObject) (kind : Kind) (named : List ℕ → ℕ) (active : List Active) (g : FlowGlobal) (held value : ℕ) (address : Pointer → ℕ) (objects : List Object) (bytes : List Byte) (v : ℕ) →
         ((b : ℕ) → byte_at core.memory b < 256) → g.name ≡ object.name → named g.name ≡ object.address → g.size ≡ kind_size kind → g.kind ≡ Some kind →
-        Chain (seen core.memory functions frames object kind) (start_of core) active →
+        Callers (seen core.memory functions frames object kind) (start_of core).stack (start_of core).link active →
         in_memory core.memory kind object.address ≡ Some held →
         length bytes ≡ kind_size kind → AllByRecursion IsSmall bytes → scalar_of kind bytes ≡ Num v →
         GlobalInMachine address objects g bytes (global_now named (byte_at core.memory) (register core) active g) →

@@ -12,11 +12,10 @@ ghost use Rattle.pw_run_languages.specs.Acts.{number_at};
 ghost use Rattle.pw_run_languages.specs.Standing.{Active, global_now};
 ghost use Rattle.pw_debug.specs.declared.info.FrameInfo.{FrameInfo};
 ghost use Rattle.pw_debug.specs.Walk.{WalksTo, in_memory, is_signed, seen, start_of};
-ghost use Rattle.pw_law_walk.specs.Chains.{Chain};
+ghost use Rattle.pw_law_walk.specs.Chains.{Callers};
 ghost use Rattle.pw_law_debug.specs.Telling.{number_of};
 
-use pw_law_walk::laws::walks_find_globals;
-use pw_where::laws::a_walk_has_one_end;
+use pw_law_walk::laws::values_are_held;
 
 /// What memory of bytes holds at an address, by a kind, is the number that the bytes there write, the first being worth most,
 /// extended to a word.
@@ -30,11 +29,10 @@ pub fn memory_holds_its_bytes()
 pub fn walks_come_to_what_is_noted()
     ensures { (core : Core) (functions : List Function) (frames : List FrameInfo) (object : GlobalObject) (kind : Kind) (named : List ℕ → ℕ) (active : List Active) (g : FlowGlobal) (held value : ℕ) →
         ((b : ℕ) → byte_at core.memory b < 256) → g.name ≡ object.name → named g.name ≡ object.address → g.size ≡ kind_size kind →
-        Chain (seen core.memory functions frames object kind) (start_of core) active →
+        Callers (seen core.memory functions frames object kind) (start_of core).stack (start_of core).link active →
         in_memory core.memory kind object.address ≡ Some held →
         WalksTo (seen core.memory functions frames object kind) (start_of core) (Ok value) →
         value ≡ number_of kind (global_now named (byte_at core.memory) (register core) active g) }
 {
-    walks_find_globals();
-    a_walk_has_one_end();
+    values_are_held();
 }

@@ -1,5 +1,5 @@
 -- A walk, function by function, beside what is held.
-use Rattle.std.proofs.Common.{◌≡◌, ℕ, zero, suc, ◌+◌, ◌-◌, ◌*◌, ◌%◌, ◌<◌, ◌≤◌, ◌==◌, Bool, true, false, cond, List, [], ◌∷◌, length, map, get_or, set, Option, Some, None, Ok, refl, sym, ap, subst, ◌∙◌, inl, inr, arith, add-one}
+use Rattle.std.proofs.Common.{◌≡◌, ℕ, zero, suc, ◌+◌, ◌-◌, ◌*◌, ◌%◌, ◌<◌, ◌≤◌, ◌==◌, Bool, true, false, cond, List, [], ◌∷◌, length, map, get_or, set, Option, Some, None, Result, Ok, Err, refl, sym, ap, subst, ◌∙◌, inl, inr, arith, add-one}
 use Rattle.std.specs.Prelude.{ℤ, pos, negsuc, ◌+ℤ◌, ◌&&◌, nat_le, bytes_eq, option_and_then, slice_index, slice_set, IfSome}
 use Rattle.std.specs.List.{AllByRecursion, range_with_len}
 use Rattle.std.proofs.lemmas.Bool.{cases_eq, eq-eqb, ne_eqb, le-leb, le-ltb}
@@ -26,13 +26,14 @@ use Rattle.pw_run_languages.specs.Standing as standing
 use Rattle.pw_run_languages.specs.Standing.{Active, held, without}
 use Rattle.pw_debug.specs.declared.info.FrameInfo.{FrameInfo}
 use Rattle.pw_debug.specs.declared.turning.At.{At}
-use Rattle.pw_debug.specs.declared.turning.Finding.TheVariants.{Found, On}
+use Rattle.pw_debug.specs.declared.turning.Finding.{Finding}
+use Rattle.pw_debug.specs.declared.turning.Finding.TheVariants.{Found, Nothing, On}
 use Rattle.pw_debug.specs.Knowing.{IsKept}
-use Rattle.pw_debug.specs.Walk.{Seen, WalksTo, found_at, goes_on, given_back, in_memory, of_kind, on_or_nothing, found_or_nothing, outward, registers_of, seen, start_of, turn, turn_at, turn_by_web, word_in}
+use Rattle.pw_debug.specs.Walk.{Seen, WalksTo, behind as call_behind, found_at, goes_on, given_back, in_memory, lost_at, of_kind, on_or_nothing, found_or_nothing, outward, registers_of, seen, start_of, turn, turn_at, turn_by_web, word_in}
 use Rattle.pw_debug.specs.Holding.{frame_at}
 use Rattle.pw_debug.proofs.Finding.{lawful_register}
 use Rattle.pw_debug_frames.specs.Frames.{frame_info, places_from, save_places}
-use Rattle.pw_law_walk.specs.Chains.{Chain, starts, calls, found}
+use Rattle.pw_law_walk.specs.Chains.{Callers, Chain, called, calls, found, outermost, starts}
 
 -- ---- words
 
@@ -45,12 +46,12 @@ down sp zero le = ap pos (omega arith)
 down sp (suc m) le = ap (λ (b : Bool). cond b (negsuc (suc m - suc sp)) (pos (sp - suc m))) (le-ltb sp (suc m) le)
 
 -- the word so far below an address
-beside : (memory : List ℕ) (sp n w : ℕ) → n ≤ sp → word_in memory (pos sp +ℤ below n) ≡ Some w → w ≡ word_at memory (sp - n)
+pub beside : (memory : List ℕ) (sp n w : ℕ) → n ≤ sp → word_in memory (pos sp +ℤ below n) ≡ Some w → w ≡ word_at memory (sp - n)
 beside memory sp n w le e =
     let at = down sp n le in
     some_if (((sp - n) % 4 == 0) && nat_le (sp - n + 4) memory_size) (word_at memory (sp - n)) w (subst (λ (z : ℤ). word_in memory z ≡ Some w) at e)
 
-number_word : (memory : List ℕ) (a : ℕ) → number_at 4 (byte_at memory) a ≡ word_at memory a
+pub number_word : (memory : List ℕ) (a : ℕ) → number_at 4 (byte_at memory) a ≡ word_at memory a
 number_word memory a =
     let third : byte_at memory (a + 1 + 1) ≡ byte_at memory (a + 2) = ap (λ k. byte_at memory k) (let e : a + 1 + 1 ≡ a + 2 = omega arith in e) in
     let fourth : byte_at memory (a + 1 + 1 + 1) ≡ byte_at memory (a + 2 + 1) = ap (λ k. byte_at memory k) (let e : a + 1 + 1 + 1 ≡ a + 2 + 1 = omega arith in e) in
@@ -197,3 +198,111 @@ pub walk_finds : (core : Core) (functions : List Function) (frames : List FrameI
     → WalksTo (seen core.memory functions frames object kind) (start_of core) (Ok (found kind value (held object.name (byte_at core.memory) (register core) active)))
 walk_finds core functions frames object kind active value chain there =
     finds (seen core.memory functions frames object kind) (start_of core) active (register core) value there (machine_alike core) chain
+
+-- ---- a walk that comes to a value
+
+-- what is known of an end by what the first turn finds
+abbrev pub ComesTo : Seen → Finding → Result ℕ ℕ → Type 0
+ComesTo s (Found value) end = end ≡ Ok value
+ComesTo s (On next) end = WalksTo s next end
+ComesTo s Nothing (Ok value) = ⊥
+ComesTo s Nothing (Err address) = Unit {0}
+
+turned : (s : Seen) (at : At) (end : Result ℕ ℕ) → WalksTo s at end → ComesTo s (turn s at) end
+turned s at end (found_at here value e) = subst (λ (f : Finding). ComesTo s f (Ok value)) (sym e) refl
+turned s at end (lost_at here e) = subst (λ (f : Finding). ComesTo s f (Err here.link)) (sym e) tt
+turned s at end (goes_on here next last e walk) = subst (λ (f : Finding). ComesTo s f last) (sym e) walk
+
+-- the words that a step outward takes
+record Outward (memory : List ℕ) (i : FrameInfo) (at next : At) : Type 0 where
+  registers : List ℕ
+  given : given_back memory at.stack i.saved at.registers ≡ Some registers
+  link : ℕ
+  word : word_in memory (pos (at.stack - i.frame) +ℤ below link_place) ≡ Some link
+  is : next ≡ record { stack = at.stack - i.frame; link = link; registers = registers }
+
+outward_takes : (memory : List ℕ) (i : FrameInfo) (at next : At) → outward memory i at ≡ Some next → Outward memory i at next
+outward_takes memory i at next = by (nat_le i.frame at.stack)
+  where
+    by_word : (registers : List ℕ) → given_back memory at.stack i.saved at.registers ≡ Some registers → (o : Option ℕ) → word_in memory (pos (at.stack - i.frame) +ℤ below link_place) ≡ o
+        → call_behind (at.stack - i.frame) registers o ≡ Some next → Outward memory i at next
+    by_word registers given None is e = absurd cc
+    by_word registers given (Some link) is e =
+        let to : At = record { stack = at.stack - i.frame; link = link; registers = registers } in
+        let some : Some to ≡ Some next = e in
+        let same : to ≡ next = cc in
+        record { registers = registers; given = given; link = link; word = is; is = sym same }
+
+    by_given : (o : Option (List ℕ)) → given_back memory at.stack i.saved at.registers ≡ o
+        → option_and_then (λ registers. call_behind (at.stack - i.frame) registers (word_in memory (pos (at.stack - i.frame) +ℤ below link_place))) o ≡ Some next → Outward memory i at next
+    by_given None is e = absurd cc
+    by_given (Some registers) is e = by_word registers is (word_in memory (pos (at.stack - i.frame) +ℤ below link_place)) refl e
+
+    by : (b : Bool)
+        → cond b (option_and_then (λ registers. call_behind (at.stack - i.frame) registers (word_in memory (pos (at.stack - i.frame) +ℤ below link_place))) (given_back memory at.stack i.saved at.registers)) None ≡ Some next
+        → Outward memory i at next
+    by true e = by_given (given_back memory at.stack i.saved at.registers) refl e
+    by false e = absurd cc
+
+in_web_value : (s : Seen) (at : At) (a : Active) (callers : List Active) (f : ℕ → ℕ) (v value r : ℕ) → Alike at.registers f → IsLocated a.function → frame_at s.functions s.frames at.link ≡ Some (frame_info a.function)
+    → register_of a.function.body.directives.webs s.global ≡ Some r → ComesTo s (turn s at) (Ok value) → value ≡ found s.kind v (held s.global (byte_at s.memory) f (a ∷ callers))
+in_web_value s at a callers f v value r alike lawful known web walk =
+    let same : slice_index at.registers r ≡ f r = alike.each r (low_register a s.global r lawful web) in
+    let is : of_kind s.kind (slice_index at.registers r) ≡ found s.kind v (held s.global (byte_at s.memory) f (a ∷ callers)) = rw web (ap (of_kind s.kind) same) in
+    let end : ◌≡◌ {A = Result ℕ ℕ} (Ok value) (Ok (of_kind s.kind (slice_index at.registers r))) =
+    subst (λ (t : Finding). ComesTo s t (Ok value)) (by_web s at (frame_info a.function) r known web) walk in
+    let one : value ≡ of_kind s.kind (slice_index at.registers r) = cc in
+    one ∙ is
+
+in_start_value : (s : Seen) (at : At) (a : Active) (f : ℕ → ℕ) (v value : ℕ) (o : Option ℕ) → register_of a.function.body.directives.webs s.global ≡ o → Alike at.registers f → IsLocated a.function
+    → frame_at s.functions s.frames at.link ≡ Some (frame_info a.function) → bytes_eq a.function.body.name start_name ≡ true → in_memory s.memory s.kind s.address ≡ Some v
+    → ComesTo s (turn s at) (Ok value) → value ≡ found s.kind v (held s.global (byte_at s.memory) f (a ∷ []))
+in_start_value s at a f v value (Some r) web alike lawful known is there walk = in_web_value s at a [] f v value r alike lawful known web walk
+in_start_value s at a f v value None web alike lawful known is there walk =
+    let end : ◌≡◌ {A = Result ℕ ℕ} (Ok value) (Ok v) = subst (λ (t : Finding). ComesTo s t (Ok value)) (by_start s at (frame_info a.function) v known web is there) walk in
+    let one : value ≡ v = cc in
+    let here : v ≡ found s.kind v (held s.global (byte_at s.memory) f (a ∷ [])) = rw web refl in
+    one ∙ here
+
+-- it is another function, and has no web
+by_step : (s : Seen) (at : At) (i : FrameInfo) → frame_at s.functions s.frames at.link ≡ Some i → register_of i.webs s.global ≡ None → bytes_eq i.function start_name ≡ false
+    → turn s at ≡ on_or_nothing (outward s.memory i at)
+by_step s at i known web other = ap (turn_at s at) known ∙ ap (turn_by_web s at i) web ∙ rw other refl
+
+behind_value : (s : Seen) (at : At) (a : Active) (callers : List Active) (f : ℕ → ℕ) (v value link : ℕ) (o : Option ℕ) → register_of a.function.body.directives.webs s.global ≡ o → Alike at.registers f → IsLocated a.function
+    → frame_at s.functions s.frames at.link ≡ Some (frame_info a.function) → bytes_eq a.function.body.name start_name ≡ false → at.stack ≡ a.stack + a.function.frame
+    → ((word : ℕ) → word_in s.memory (pos a.stack +ℤ below link_place) ≡ Some word → word ≡ link) → ComesTo s (turn s at) (Ok value)
+    → ((next : At) → next.stack ≡ a.stack → next.link ≡ link → Alike next.registers (without a (byte_at s.memory) f) → WalksTo s next (Ok value)
+    → value ≡ found s.kind v (held s.global (byte_at s.memory) (without a (byte_at s.memory) f) callers))
+    → value ≡ found s.kind v (held s.global (byte_at s.memory) f (a ∷ callers))
+behind_value s at a callers f v value link (Some r) web alike lawful known other end linked walk more = in_web_value s at a callers f v value r alike lawful known web walk
+behind_value s at a callers f v value link None web alike lawful known other end linked walk more =
+    by (outward s.memory (frame_info a.function) at) refl (subst (λ (t : Finding). ComesTo s t (Ok value)) (by_step s at (frame_info a.function) known web other) walk)
+  where
+    by : (o : Option At) → outward s.memory (frame_info a.function) at ≡ o → ComesTo s (on_or_nothing o) (Ok value) → value ≡ found s.kind v (held s.global (byte_at s.memory) f (a ∷ callers))
+    by None is w = absurd w
+    by (Some next) is w =
+        let g = outward_takes s.memory (frame_info a.function) at next is in
+        let back : at.stack - a.function.frame ≡ a.stack = omega (arith, end) in
+        let stack : next.stack ≡ a.stack = ap (λ (n : At). n.stack) g.is ∙ back in
+        let word : word_in s.memory (pos a.stack +ℤ below link_place) ≡ Some g.link = ap (λ (k : ℕ). word_in s.memory (pos k +ℤ below link_place)) (sym back) ∙ g.word in
+        let to : next.link ≡ link = ap (λ (n : At). n.link) g.is ∙ linked g.link word in
+        let own = given_by s.memory at.stack a at.registers g.registers f alike lawful end g.given in
+        let alike' : Alike next.registers (without a (byte_at s.memory) f) = subst (λ (rs : List ℕ). Alike rs (without a (byte_at s.memory) f)) (sym (ap (λ (n : At). n.registers) g.is)) own in
+        let same : found s.kind v (held s.global (byte_at s.memory) (without a (byte_at s.memory) f) callers) ≡ found s.kind v (held s.global (byte_at s.memory) f (a ∷ callers)) = rw web refl in
+        more next stack to alike' w ∙ same
+
+held_value : (s : Seen) (at : At) (stack link : ℕ) (active : List Active) (f : ℕ → ℕ) (v value : ℕ) → at.stack ≡ stack → at.link ≡ link → in_memory s.memory s.kind s.address ≡ Some v → Alike at.registers f
+    → Callers s stack link active → WalksTo s at (Ok value) → value ≡ found s.kind v (held s.global (byte_at s.memory) f active)
+held_value s at stack link active f v value p q there alike (outermost sp ra a lawful known is) walk =
+    in_start_value s at a f v value (register_of a.function.body.directives.webs s.global) refl alike lawful (ap (λ (n : ℕ). frame_at s.functions s.frames n) q ∙ known) is there (turned s at (Ok value) walk)
+held_value s at stack link active f v value p q there alike (called sp ra next a callers lawful known other end linked behind) walk =
+    behind_value s at a callers f v value next (register_of a.function.body.directives.webs s.global) refl alike lawful (ap (λ (n : ℕ). frame_at s.functions s.frames n) q ∙ known) other (p ∙ end) linked
+    (turned s at (Ok value) walk)
+    (λ to p' q' alike' walk'. held_value s to a.stack next callers (without a (byte_at s.memory) f) v value p' q' there alike' behind walk')
+
+pub value_is_held : (core : Core) (functions : List Function) (frames : List FrameInfo) (object : GlobalObject) (kind : Kind) (active : List Active) (word value : ℕ)
+    → Callers (seen core.memory functions frames object kind) (start_of core).stack (start_of core).link active → in_memory core.memory kind object.address ≡ Some word
+    → WalksTo (seen core.memory functions frames object kind) (start_of core) (Ok value) → value ≡ found kind word (held object.name (byte_at core.memory) (register core) active)
+value_is_held core functions frames object kind active word value callers there walk =
+    held_value (seen core.memory functions frames object kind) (start_of core) (start_of core).stack (start_of core).link active (register core) word value refl refl there (machine_alike core) callers walk

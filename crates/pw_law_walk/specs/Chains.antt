@@ -22,6 +22,16 @@ pub data Chain (s : Seen) : At → List Active → Type 0 where
       → word_in s.memory (pos a.stack +ℤ below link_place) ≡ Some link
       → Chain s (record { stack = a.stack; link = link; registers = registers }) callers → Chain s at (a ∷ callers)
 
+-- The same of functions whose words need not stand in memory, by the stack pointer and the address to which a call returns: but
+-- where a function's own return address does, it is this one.
+pub data Callers (s : Seen) : ℕ → ℕ → List Active → Type 0 where
+  outermost : (stack link : ℕ) (a : Active) → IsLocated a.function → frame_at s.functions s.frames link ≡ Some (frame_info a.function) → bytes_eq a.function.body.name start_name ≡ true → Callers s stack link (a ∷ [])
+  called : (stack link next : ℕ) (a : Active) (callers : List Active)
+      → IsLocated a.function → frame_at s.functions s.frames link ≡ Some (frame_info a.function) → bytes_eq a.function.body.name start_name ≡ false
+      → stack ≡ a.stack + a.function.frame
+      → ((word : ℕ) → word_in s.memory (pos a.stack +ℤ below link_place) ≡ Some word → word ≡ next)
+      → Callers s a.stack next callers → Callers s stack link (a ∷ callers)
+
 -- what is found where a global stands: in a word, as its kind has it; or else what memory holds
 abbrev pub found : Kind → ℕ → Option ℕ → ℕ
 found kind in_memory (Some word) = of_kind kind word
