@@ -1,5 +1,6 @@
 -- What the calls of a folder that tells its files answer, and what opening comes to.
-use Rattle.std.specs.Prelude.{◌≡◌, ◌≢◌, ℕ, List, None, Some, Ok, Err, Option, Result, IfSome, IsSomeAnd, IsErrAnd}
+use Rattle.std.specs.Prelude.{◌≡◌, ◌≢◌, ℕ, ◌==◌, ◌&&◌, Bool, not, List, None, Some, Ok, Err, Option, Result, IfSome, IsSomeAnd, IsErrAnd}
+use Rattle.std.specs.List.{list_any}
 use Rattle.std.specs.FinMap as finite
 use Rattle.std.specs.Fs.{IsDir, file_type}
 use Rattle.std.specs.IoError.{error_kind}
@@ -12,6 +13,14 @@ use Rattle.pw_io.specs.Files.{Told}
 abbrev pub Opens : Option Told → List ℕ → Option (List ℕ) → Type 0
 Opens old name remaining =
     IfSome old (λ told. IsSomeAnd (finite.get told.files name) (λ bytes. remaining ≡ Some bytes))
+
+-- A byte is among others.
+abbrev pub holds : List ℕ → ℕ → Bool
+holds bytes byte = list_any (λ other. other == byte) bytes
+
+-- The name can be that of a file of a folder: it holds neither a `/` nor a zero byte.
+abbrev pub can_be_file : List ℕ → Bool
+can_be_file name = not (holds name 47) && not (holds name 0)
 
 -- No file has the name.
 abbrev pub IsAbsent : Option Told → List ℕ → Type 0

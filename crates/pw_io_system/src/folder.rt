@@ -12,7 +12,7 @@ ghost use Rattle.std.specs.declared.io.ErrorKind.{ErrorKind};
 ghost use Rattle.pw_io.specs.Files.{Told, Keeps, ListsNames, Puts, PutsPart, Removes};
 ghost use Rattle.pw_io_system.specs.Entries.{FailsAt, FailsInList, FindsFiles, HasNoText, ListsFiles, PutsEntry, PutsName};
 ghost use Rattle.pw_io_system.specs.Faults.{TellsKind};
-ghost use Rattle.pw_io_system.specs.Folders.{IsAbsent, Opens, OpensAs};
+ghost use Rattle.pw_io_system.specs.Folders.{IsAbsent, Opens, OpensAs, can_be_file, holds};
 
 use std::alloc::Global;
 use std::fs;
@@ -76,7 +76,8 @@ fn kind_of<T>(answer: &io::Result<T>) -> Option<ErrorKind>
     }
 }
 
-/// The current folder of the system, which tells no files.
+/// The current folder of the system, which tells no files. A name that holds a `/` or a zero byte is no file of it: to open, write
+/// or remove one is a fault.
 #[derive(Drop)]
 pub struct CurrentFolder<'a, R> {
     rt: &'a R,
@@ -102,6 +103,34 @@ impl<'a, R> CurrentFolder<'a, R> {
         self.last_fault = kind_of(&answer);
         answer
     }
+}
+
+/// Whether the bytes hold one byte.
+fn holds(bytes: &[u8], byte: u8) -> bool
+    ensures { result ≡ holds bytes.now byte }
+{
+    bytes.iter().any(|other| *other == byte)
+}
+
+/// Whether a name can be that of a file of a folder: it holds neither a `/` nor a zero byte.
+fn can_be_file(name: &str) -> bool
+    ensures { result ≡ can_be_file name.now }
+{
+    let bytes = name.as_bytes();
+    !holds(bytes, b'/') && !holds(bytes, 0)
+}
+
+/// A name that can be that of a file of a folder. Of any other the system is not asked: it is a fault, and none that says that
+/// a file is not found.
+fn file_name(name: &str) -> io::Result<&str>
+    ensures same { IfOk result (λ own. own.now ≡ name.now) }
+    ensures decides { IsOk result ↔ (can_be_file name.now ≡ true) }
+    ensures fault { IfErr result (λ e. error_kind e ≡ ErrorKind.InvalidInput) }
+{
+    if can_be_file(name) {
+        return Ok(name);
+    }
+    Err(io::Error::from(ErrorKind::InvalidInput))
 }
 
 /// Whether what the system tells of a name is that it is a file's, or that of a link to one. A folder, a link to one and a
@@ -297,7 +326,11 @@ impl<'a, R: Files + AllocGlobal + Clone + Drop> Folder for CurrentFolder<'a, R> 
     }
 
     fn open(&mut self, name: &str) -> io::Result<R::File> {
-        let file = opened_file(fs::open(self.rt, name), |file| file.metadata());
+        let opened = match file_name(name) {
+            Ok(name) => fs::open(self.rt, name),
+            Err(fault) => Err(fault),
+        };
+        let file = opened_file(opened, |file| file.metadata());
         self.noted(file)
     }
 
@@ -307,12 +340,18 @@ impl<'a, R: Files + AllocGlobal + Clone + Drop> Folder for CurrentFolder<'a, R> 
     }
 
     fn write(&mut self, name: &str, bytes: &[u8]) -> io::Result<()> {
-        let written = fs::write(self.rt, name, bytes);
+        let written = match file_name(name) {
+            Ok(name) => fs::write(self.rt, name, bytes),
+            Err(fault) => Err(fault),
+        };
         self.noted(written)
     }
 
     fn remove(&mut self, name: &str) -> io::Result<()> {
-        let removed = fs::remove_file(self.rt, name);
+        let removed = match file_name(name) {
+            Ok(name) => fs::remove_file(self.rt, name),
+            Err(fault) => Err(fault),
+        };
         self.noted(removed)
     }
 }

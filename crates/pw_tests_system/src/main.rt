@@ -12,9 +12,9 @@ use std::io::{self, BufWriter, ErrorKind, Write};
 use std::os::unix::fs::symlink;
 use std::rt::Files;
 
-/// The files of which the fronts are read, and how many bytes. The system opens the last but one, and fails to read it; the
-/// last one it does not open, though it does not say that it is not there.
-const GETS: [(&str, usize); 11] = [
+/// The files of which the fronts are read, and how many bytes. The system opens `to_mem.i`, and fails to read it. The last two
+/// are no names of files of a folder.
+const GETS: [(&str, usize); 12] = [
     ("a.i", 100),
     ("a.i", 4),
     ("a.i", 3),
@@ -24,20 +24,22 @@ const GETS: [(&str, usize); 11] = [
     ("to_folder.i", 9),
     ("to_nothing.i", 9),
     ("to_a.i", 2),
-    ("/proc/self/mem", 9),
+    ("to_mem.i", 9),
     ("a.i/x", 9),
+    ("./a.i", 9),
 ];
 
-/// The files that are written.
-const PUTS: [(&str, &str); 4] = [
+/// The files that are written. The last is none of the folder's.
+const PUTS: [(&str, &str); 5] = [
     ("new", "one"),
     ("new", ""),
     ("new", "three"),
     ("folder.i", "x"),
+    ("folder.i/new", "x"),
 ];
 
-/// The files that are taken out.
-const REMOVALS: [&str; 4] = ["new", "new", "folder.i", "to_a.i"];
+/// The files that are taken out. The last is none of the folder's.
+const REMOVALS: [&str; 5] = ["new", "new", "folder.i", "to_a.i", "./a.i"];
 
 /// The calls of the system that fail, one a row, and the fault. A name that is no text is told without a number; number 36
 /// is the system's fault of a name that is too long, and is of the same kind.
@@ -95,12 +97,13 @@ const FAILING: [(&str, Call, Fault); 11] = [
     ),
 ];
 
-/// A folder and links to it, to nothing and to a file.
+/// A folder and links to it, to nothing, to a file, and to a file of the system that opens and cannot be read.
 fn make_folder(rt: &HostRuntime) -> io::Result<()> {
     fs::create_dir(rt, "folder.i")?;
     symlink(rt, "folder.i", "to_folder.i")?;
     symlink(rt, "gone.i", "to_nothing.i")?;
-    symlink(rt, "a.i", "to_a.i")
+    symlink(rt, "a.i", "to_a.i")?;
+    symlink(rt, "/proc/self/mem", "to_mem.i")
 }
 
 /// What a read of a file answered.
