@@ -1,5 +1,5 @@
 -- What is built can be built.
-use Rattle.std.proofs.Common.{◌≡◌, ◌↔◌, ℕ, ◌≤◌, List, [], Option, None, Some, Result, Ok, Err, map, refl, inr}
+use Rattle.std.proofs.Common.{◌≡◌, ◌↔◌, ◌≤◌, List, [], Option, None, Some, Result, Ok, Err, map, refl, inr}
 use Rattle.std.specs.Prelude.{IsOk}
 use Rattle.std.specs.List.{AllByRecursion}
 use Rattle.pw_io.specs.Files.{Files}

@@ -1,23 +1,21 @@
 -- What the forms of a program's flow graphs have of these.
-use Rattle.std.specs.Prelude.{ℕ, ◌≡◌, ◌≤◌, Bool, true, false, List, [], ◌∷◌, ◌++◌, map, Contains}
-use Rattle.std.specs.List.{AllByRecursion, flat_map}
+use Rattle.std.specs.Prelude.{ℕ, ◌≡◌, ◌≤◌, Bool, true, false, List, ◌∷◌, ◌++◌, map, Contains}
+use Rattle.std.specs.List.{flat_map}
 use Rattle.std.proofs.Common.{refl, sym, ap, ap₂, subst, ◌∙◌, inl, inr}
 use Rattle.std.proofs.lemmas.List.{map-append}
 use Rattle.std.proofs.lemmas.List.Concat.{flat_map-cons}
 use Rattle.pw_value.specs.ProgramNames.{library_functions}
 use Rattle.pw_files.proofs.Standing.{Has, has_by, contains_by, has_left, has_right, has_split}
-use Rattle.pw_types.specs.TypedTrees.{FunctionValue}
 use Rattle.pw_flow.specs.declared.flow.FlowFn.{FlowFn}
 use Rattle.pw_flow.specs.declared.flow.FlowGlobal.{FlowGlobal}
 use Rattle.pw_flow.specs.declared.flow.FlowModule.{FlowModule}
 use Rattle.pw_flow.specs.FlowGraph.{names_in_global}
 use Rattle.pw_flow.specs.FrameRooms.{flow_room}
-use Rattle.pw_flow.specs.ValidFlow.{IsValid, AreDistinct}
+use Rattle.pw_flow.specs.ValidFlow.{AreDistinct}
 use Rattle.pw_summarise.specs.Summarises.{addressed, in_function, in_module, function_shape}
 use Rattle.pw_link.specs.FromMilli.Library.{routines}
-use Rattle.pw_run.specs.Runs.{Refines}
 use Rattle.pw_run_languages.specs.Programs as flows
-use Rattle.pw_run_languages.specs.Programs.{functions_of, globals_of, names_of}
+use Rattle.pw_run_languages.specs.Programs.{functions_of, names_of}
 use Rattle.pw_run_languages.specs.FlowRun.{flow_run}
 use Rattle.pw_run_languages.specs.LawfulPrograms.{IsProgram}
 use Rattle.pw_run_languages.specs.LinkingLaws.{AreNamesApart}
@@ -25,7 +23,7 @@ use Rattle.pw_opt_rules.specs.Optimised.{IsOptimised, stays, steps, AreOptimised
 use Rattle.pw_opt_rules.specs.Optimised as optimised
 use Rattle.pw_law_opt.specs.Sides.{with_modules}
 use Rattle.pw_law_opt.specs.Laws.{AreOptimisedModules, none, also, addresses_in, ShowsNoMore, OptimisationKeepsRuns, OptimisationKeepsRooms, OptimisationKeepsPrograms, OptimisationShowsNoMore}
-use Rattle.pw_cmean.specs.Worlds.{Program, ProgramModule}
+use Rattle.pw_cmean.specs.Worlds.{Program}
 use Rattle.pw_law_source.specs.Source.{source_stages}
 use Rattle.pw_law_source.specs.Lowering.{MomentKept}
 use Rattle.pw_law_layers.specs.Whole.{HasRoom, HaveRooms, Implements}

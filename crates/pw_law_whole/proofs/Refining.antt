@@ -1,5 +1,5 @@
 -- A run that refines one which refines another, where the moments of the last two are the same.
-use Rattle.std.specs.Prelude.{ℕ, ◌≡◌, ◌≤◌, List, [], ◌∷◌}
+use Rattle.std.specs.Prelude.{ℕ, ◌≡◌, ◌≤◌, List, ◌∷◌}
 use Rattle.std.proofs.Common.{refl, sym, ap₂, subst, ◌∙◌, arith}
 use Rattle.pw_run.specs.Runs.{End, View, Stage, Going, Over, Wrong, AreAlike, none, also, SameIn, GoesOn, EndsSo, Met, Refines, Same}
 use Rattle.pw_cmean.specs.Acts as source

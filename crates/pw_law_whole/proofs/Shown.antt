@@ -16,8 +16,6 @@ use Rattle.pw_graph.specs.Program.{main_in}
 use Rattle.pw_object.specs.declared.functions.ObjectFn.{ObjectFn}
 use Rattle.pw_object.specs.declared.object.Object.{Object}
 use Rattle.pw_link_interface.specs.Interface.{interface, names_of_fixes, used_names}
-use Rattle.pw_link_rules.specs.declared.interface.Interface.{Interface}
-use Rattle.pw_link_rules.specs.Linking.{Links}
 use Rattle.pw_law_shown.specs.Alike.{DeclaresMain, shown}
 use Rattle.pw_law_source.specs.Accepting.{Shows, AllShow}
 use Rattle.pw_law_opt_links.specs.Less.{ShowsLess, AllShowLess}
