@@ -1,0 +1,5 @@
+pub mod Far
+pub mod Follows
+pub mod Rooms
+pub mod Values
+pub mod Pauses
