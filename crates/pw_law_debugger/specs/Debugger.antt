@@ -1,0 +1,28 @@
+-- What it says that the debugger tells the truth of a program.
+use Rattle.std.specs.Prelude.{ℕ, List, Ok}
+use Rattle.pw_value.specs.Objects.{Object as Thing}
+use Rattle.pw_io.specs.Files.{Files}
+use Rattle.pw_object.specs.declared.object.Object.{Object}
+use Rattle.pw_image.specs.declared.image.Image.{Image}
+use Rattle.pw_image.specs.Image.{Contents, IsImageFile}
+use Rattle.pw_store_modules.specs.Modules.{module_map}
+use Rattle.pw_build_opts.specs.declared.opts.RunOpts.{RunOpts}
+use Rattle.pw_build_files.specs.Full.{BuildsImage}
+use Rattle.pw_cmean.specs.Worlds.{Program}
+use Rattle.pw_run_agreement.specs.Agreement.{IsDefined}
+use Rattle.pw_run_languages.specs.LinkingLaws.{frame_in}
+use Rattle.pw_law_source.specs.Source.{source_runs}
+use Rattle.pw_law_truth.specs.Truth.{ComesToCall, TellTrue}
+
+-- The lines are true of the program's k-th call over the input, if the program is defined on it and comes to that call on its
+-- stack, each call taking the stack that its function takes in the image.
+pub record TellsTruth (files : Files) (opts : RunOpts) (k : ℕ) (input lines : List ℕ) (p : Program) : Type 0 where
+  -- the image of the full build of the files' modules
+  pub bytes : List ℕ
+  pub builds : BuildsImage (module_map files) opts.build (Ok bytes)
+  pub contents : Contents Image
+  pub file : IsImageFile bytes contents
+  -- the objects of which it was linked
+  pub objects : List Object
+  pub tells : IsDefined (source_runs p (frame_in contents.value) opts.build.stack input) → (f : List ℕ) (things : List Thing) →
+      ComesToCall p contents.value opts.build.stack input k f things → TellTrue p contents.value objects k lines f things
