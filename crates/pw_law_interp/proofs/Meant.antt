@@ -13,7 +13,6 @@ use Rattle.pw_build_objects.specs.Programs.{Parts}
 use Rattle.pw_build_files.specs.FromBuild.BuildFault.{BuildFault}
 use Rattle.pw_build_files.specs.FromBuild.Builds.{FullBuild}
 use Rattle.pw_build_files.specs.Outcomes.{AreOpts}
-use Rattle.pw_top_answer.specs.declared.answer.Answer.{Answer}
 use Rattle.pw_top_answer.specs.declared.answer.Answer.TheVariants as answer
 use Rattle.pw_top_answer.specs.Effects.{Effect}
 use Rattle.pw_cmean.specs.Worlds.{Program}
