@@ -1,3 +1,4 @@
 mod Typed
 mod Refused
+mod Told
 mod Meant

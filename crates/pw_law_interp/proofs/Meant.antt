@@ -27,9 +27,10 @@ use Rattle.pw_law_source.specs.Lowering.{AreChecked, IsAccepted}
 use Rattle.pw_law_never.specs.Resolved.{IsResolvedProgram}
 use Rattle.pw_law_whole.specs.FromLayers.Whole.{image_of}
 use Rattle.pw_law_whole.specs.Programs.{HavePlainNames, IsProgramOf, IsWholeWith}
-use Rattle.pw_commands_interp.specs.Interpreting.{InterpOver, end_answer, frames_of}
+use Rattle.pw_commands_interp.specs.Interpreting.{InterpOver, InterpsInFull, end_answer, frames_of}
 use Rattle.pw_law_interp.proofs.Typed.{TypedExactly, are_modules}
 use Rattle.pw_law_interp.proofs.Refused.{refusals_want_no_memory, wants}
+use Rattle.pw_law_interp.proofs.Told.{told_so}
 
 -- the laws on which it stands
 pub record Laws : Type 0 where
@@ -69,3 +70,10 @@ module _ (laws : Laws) (files : Files) (opts : RunOpts) (input : List ℕ) (are 
       let run = source_run p frame_of opts.build.stack input opts.budget in
       answered effect _ over.2 (end_by run.end (ends parts p frame_of full (are_modules laws.typed (modules_of files) over.0 over.1)))
   meant (Err fault) effect full over = answered effect _ over (refusals_want_no_memory (module_map files) opts.build fault full)
+
+-- over the files as a build sees them, told of the C source where the module has one
+pub told_meant : Laws → (files : Files) (opts : RunOpts) (input : List ℕ) → AreOpts opts.build → AreBytes input → (effect : Effect) → InterpsInFull files opts input effect → effect.answer ≢ answer.NoMemory
+told_meant laws files opts input are bytes effect comes =
+    let plain = comes.0 in
+    let seen = comes.1 in
+    answered effect _ comes.2 (told_so files plain.answer (meant laws seen.0 opts input are bytes seen.2 plain seen.3 seen.4))

@@ -1,4 +1,4 @@
-use Rattle.pw_law_interp.proofs.Meant.{Laws, meant}
+use Rattle.pw_law_interp.proofs.Meant.{Laws, told_meant}
 use Rattle.pw_law_interp.proofs.meanings_want_no_memory.Goals as goal
 
 pub returns : goal.returns
@@ -11,8 +11,7 @@ returns c =
       never = c.resolved_programs_are_never_wrong.ensures;
     } in
     record {
-      full = λ files opts input effect are bytes d. meant laws files opts input are bytes d.0 effect d.1 d.2;
+      full = λ files opts input effect are bytes comes. told_meant laws files opts input are bytes effect comes;
       kept = λ files opts input effect are bytes keeps comes.
-          let d = c.genuine_objects_run_as_the_full_build.ensures files opts input effect keeps comes in
-          meant laws files opts input are bytes d.0 effect d.1 d.2;
+          told_meant laws files opts input are bytes effect (c.genuine_objects_run_as_the_full_build.ensures files opts input effect keeps comes);
     }
