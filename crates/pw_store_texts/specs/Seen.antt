@@ -10,7 +10,7 @@ use Rattle.pw_store_modules.specs.Modules.{stem, text_read}
 use Rattle.pw_store_texts.specs.Headers.{headers_of}
 use Rattle.pw_store_texts.specs.Names.{is_source_file}
 use Rattle.pw_store_texts.specs.Outputs.{ComesBy, Output, output_of}
-use Rattle.pw_store_texts.specs.declared.sources.Compiled.{Compiled}
+use Rattle.pw_store_texts.specs.declared.compiled.Compiled.{Compiled}
 
 -- a C source with its module's name, and its text as far as texts are read
 abbrev pub source_in : Files → List ℕ → Option (List ℕ × List ℕ)
@@ -54,4 +54,4 @@ seen_text (Err fault) = refused_text
 -- the output of each C source stands as its module's text
 abbrev pub seen : Files → Outputs → Files
 seen files [] = files
-seen files (output ∷ outputs) = finite.insert (seen files outputs) (text_name output.0) (seen_text output.1)
+seen files (output ∷ outputs) = seen (finite.insert files (text_name output.0) (seen_text output.1)) outputs
