@@ -16,7 +16,8 @@ use Rattle.pw_top_answer.specs.declared.answer.Answer.TheVariants.{Done, Usage, 
 use Rattle.pw_top_answer.specs.Effects.{Effect, NamedFile, answers_alone}
 use Rattle.pw_commands.specs.MachineRun.{run_answer, run_rest}
 use Rattle.pw_build_files.specs.FromBuild.BuildFault.{BuildFault}
-use Rattle.pw_build_files.specs.Building.{BuildOutcome, Outcome}
+use Rattle.pw_build_files.specs.Building.{Outcome}
+use Rattle.pw_build_files.specs.Seen.{SeenOutcome}
 use Rattle.pw_build_files.specs.Outcomes.{fault_answer}
 use Rattle.pw_build_opts.specs.declared.opts.RunOpts.{RunOpts}
 
@@ -43,7 +44,7 @@ WhereOver budget k input (Err fault) effect = effect ≡ answers_alone (fault_an
 -- `where` over a store's files and an input
 abbrev pub WhereEffect : Files → RunOpts → ℕ → List ℕ → Effect → Type 0
 WhereEffect files opts k input effect =
-    (comes : Result Outcome BuildFault) × BuildOutcome files opts.build comes × WhereOver opts.budget k input comes effect
+    (comes : Result Outcome BuildFault) × SeenOutcome files opts.build comes × WhereOver opts.budget k input comes effect
 
 -- the answers of the command, whose refusals are none for want of memory
 abbrev pub IsWhereAnswer : Answer → Type 0

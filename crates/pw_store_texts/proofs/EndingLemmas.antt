@@ -4,7 +4,7 @@ use Rattle.std.specs.Prelude.{nat_lt}
 use Rattle.std.proofs.Math.Seq.{drop-append-add}
 use Rattle.std.proofs.lemmas.Slice.Eq.{bytes_eq-Decides}
 use Rattle.pw_cpp_sources.specs.Sources.{ends_in, has_gap, header_name_limit, is_header}
-use Rattle.pw_store_modules.specs.FileNames.{database_name, image_name, text_ending, object_ending, object_name}
+use Rattle.pw_store_modules.specs.FileNames.{database_name, image_name, text_ending, text_name, object_ending, object_name}
 use Rattle.pw_store_modules.specs.Modules.{is_module_file, is_module_name, stem}
 use Rattle.pw_store_texts.specs.Names.{is_source_file, is_text_file, source_ending}
 
@@ -91,3 +91,20 @@ no-database file h e = ends_apart file (codes "db") ((λ s. no_source_db s), (λ
 
 pub no-image : (file : List ℕ) → is_text_file file ≡ true → image_name ≢ file
 no-image file h e = ends_apart file (codes "mg") ((λ s. no_source_mg s), (λ m. no_module_mg m), (λ d. no_header_mg d)) h (ap last_two (sym e))
+
+-- ---- the texts of modules
+
+text_ends : (name : List ℕ) → last_two (text_name name) ≡ text_ending
+text_ends name =
+    let l = length-append name text_ending in
+    let k : length (text_name name) - 2 ≡ length name + 0 = omega (arith, l) in
+    ap (λ (n : ℕ). drop n (text_name name)) k ∙ drop-append-add name text_ending 0
+
+pub object-no-text : (name m : List ℕ) → object_name name ≢ text_name m
+object-no-text name m e = no_module (sym (text_ends m) ∙ ap last_two (sym e) ∙ object_ends name)
+
+pub database-no-text : (m : List ℕ) → database_name ≢ text_name m
+database-no-text m e = no_module_db (sym (text_ends m) ∙ ap last_two (sym e))
+
+pub image-no-text : (m : List ℕ) → image_name ≢ text_name m
+image-no-text m e = no_module_mg (sym (text_ends m) ∙ ap last_two (sym e))

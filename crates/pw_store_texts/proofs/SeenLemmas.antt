@@ -1,6 +1,7 @@
 -- The modules of a store with what comes of its C sources in their places.
-use Rattle.std.proofs.Common.{◌≡◌, ◌≢◌, ◌↔◌, ℕ, ◌+◌, ◌≤◌, ◌<◌, Bool, true, false, if◌then◌else◌, cond, List, [], ◌∷◌, ◌++◌, take, length, map, Option, Some, None, Ok, Err, refl, sym, ap, ◌∙◌, subst, append_assoc, append-nil, arith}
-use Rattle.std.specs.Prelude.{IfSome}
+use Rattle.std.proofs.Common.{◌≡◌, ◌≢◌, ◌↔◌, ℕ, ◌+◌, ◌≤◌, ◌<◌, Bool, true, false, if◌then◌else◌, cond, List, [], ◌∷◌, take, length, map, Option, Some, None, Result, Ok, Err, refl, sym, ap, ◌∙◌, subst, arith}
+use Rattle.std.specs.Prelude.{IfOk, IfSome}
+use Rattle.std.specs.Global.{Vec}
 use Rattle.std.specs.Option.{option_map}
 use Rattle.std.specs.List.{AllByRecursion, cons_option}
 use Rattle.std.specs.Ordering.{nat_cmp, eq_by_cmp, is_eq}
@@ -8,27 +9,25 @@ use Rattle.std.specs.Cmp.Lexicographic.{slice_cmp, nat_list_cmp_total}
 use Rattle.std.specs.FinMap as finite
 use Rattle.std.specs.FinMap.{entries-insert, get-insert, same_map, slice_cmp-IsAntisymmetric, nat_cmp-IsAntisymmetric}
 use Rattle.std.proofs.lemmas.Cmp.{tied_itself}
-use Rattle.std.proofs.lemmas.List.{append_cancel_right, length-map, map-append}
+use Rattle.std.proofs.lemmas.List.{append_cancel_right, length-map}
 use Rattle.std.proofs.lemmas.Map.Lookups.{exact_bytes}
 use Rattle.std.proofs.lemmas.Map.Views.{tells_apart}
 use Rattle.pw_cpp_sources.specs.Sources.{Texts}
 use Rattle.pw_io.specs.Files.{Files, Keeps, Told, prefix_of}
 use Rattle.pw_store_modules.specs.FileNames.{text_ending, text_name}
 use Rattle.pw_store_modules.specs.Modules.{HoldsModule, Source, is_module_name, module_map, modules_of, names_of_modules, stem, text_read}
-use Rattle.pw_store_modules.specs.Few.{IsFewFault}
+use Rattle.pw_store_modules.specs.Few.{AnswersFew}
 use Rattle.pw_store_modules.specs.Views.{source}
 use Rattle.pw_store_modules.specs.declared.few.ModulesFault.{ModulesFault}
 use Rattle.pw_store_modules.specs.declared.few.ModulesFault.TheVariants as modules
+use Rattle.pw_store_modules.specs.declared.modules.Module.{Module}
 use Rattle.pw_store_texts.specs.Headers.{headers_of}
 use Rattle.pw_store_texts.specs.Names.{is_source_file}
-use Rattle.pw_store_texts.specs.Origins.{AnswersSeen, AreSeen, ArePlaced, FaultValue, origin, origin_of}
 use Rattle.pw_store_texts.specs.Outputs.{output_of}
 use Rattle.pw_store_texts.specs.Placing.{placed, with_outputs}
 use Rattle.pw_store_texts.specs.Seen as seen
-use Rattle.pw_store_texts.specs.Seen.{AllCome, Outputs, StoreComes, outcome, seen_text, sources_among, sources_of}
+use Rattle.pw_store_texts.specs.Seen.{AllCome, AnswersSeen, IsSeen, Outputs, StoreComes, outcome, seen_text, sources_among, sources_of}
 use Rattle.pw_store_texts.specs.declared.compiled.Compiled.{Compiled}
-use Rattle.pw_store_texts.specs.declared.modules.SeenModules.{SeenModules}
-use Rattle.pw_store_texts.specs.declared.origin.Origin.{Origin}
 use Rattle.pw_value.specs.Limits.{module_limit}
 use Rattle.pw_store_texts.proofs.HeaderLemmas.{source-named}
 
@@ -45,15 +44,6 @@ placed-more all new whole m c left rest inv is e n =
     ap (λ a. with_outputs a (map outcome rest)) (n ∙ ap (λ (s : Source). placed s.0 s.1 all) e)
     ∙ sym (ap (λ (l : List Compiled). with_outputs all (map outcome l)) is) ∙ inv
 
-pub origins-more : (old new : List Origin) (o : Origin) (c : Compiled) (left rest : List Compiled) (whole : List (List ℕ × Option FaultValue)) → map origin old ++ map origin_of (map outcome left) ≡ whole → left ≡ c ∷ rest
-    → origin o ≡ origin_of (outcome c) → new ≡ old ++ o ∷ [] → map origin new ++ map origin_of (map outcome rest) ≡ whole
-origins-more old new o c left rest whole inv is e n =
-    ap (λ (x : List Origin). map origin x ++ map origin_of (map outcome rest)) n
-    ∙ ap (λ x. x ++ map origin_of (map outcome rest)) (map-append origin old (o ∷ []))
-    ∙ append_assoc (map origin old) (origin o ∷ []) (map origin_of (map outcome rest))
-    ∙ ap (λ x. map origin old ++ x ∷ map origin_of (map outcome rest)) e
-    ∙ sym (ap (λ (l : List Compiled). map origin old ++ map origin_of (map outcome l)) is) ∙ inv
-
 pub length-behind : {X : Type 0} {n m : ℕ} (xs : List X) (x : X) (rest : List X) → xs ≡ x ∷ rest → m + 1 ≡ n → n ≡ length xs → m ≡ length rest
 length-behind {X} {n} {m} xs x rest is more count = let all : n ≡ length (x ∷ rest) = count ∙ ap length is in omega arith
 
@@ -63,9 +53,6 @@ nothing-in (x ∷ xs) h = absurd (omega arith)
 
 pub none-placed : (all whole : List Source) (left : List Compiled) → with_outputs all (map outcome left) ≡ whole → left ≡ [] → all ≡ whole
 none-placed all whole left inv is = sym (ap (λ (l : List Compiled). with_outputs all (map outcome l)) is) ∙ inv
-
-pub none-from : (old : List Origin) (left : List Compiled) (whole : List (List ℕ × Option FaultValue)) → map origin old ++ map origin_of (map outcome left) ≡ whole → left ≡ [] → map origin old ≡ whole
-none-from old left whole inv is = sym (append-nil (map origin old)) ∙ sym (ap (λ (l : List Compiled). map origin old ++ map origin_of (map outcome l)) is) ∙ inv
 
 -- ---- a text that stands in a module's file is the module's
 
@@ -141,60 +128,72 @@ come_named headers sources outputs (seen.more name text output left rest comes k
 
 -- ---- the modules as a build sees them
 
-seen_by : Laws → (files : Files) (outputs : Outputs) (found : SeenModules) → StoreComes files outputs → ArePlaced (modules_of files) outputs found → AreSeen files outputs found
-seen_by laws files outputs found comes p = record {
-  modules = p.modules ∙ placed-seen laws files outputs (come_named (headers_of files) (sources_of files) outputs comes (sources_named files (finite.keys files)));
-  origins = p.origins;
-}
+seen_by : Laws → (files : Files) (outputs : Outputs) → StoreComes files outputs → with_outputs (modules_of files) outputs ≡ modules_of (seen.seen files outputs)
+seen_by laws files outputs comes = placed-seen laws files outputs (come_named (headers_of files) (sources_of files) outputs comes (sources_named files (finite.keys files)))
+
+is_seen : (files : Files) (outputs : Outputs) → StoreComes files outputs → IsSeen files (seen.seen files outputs)
+is_seen files outputs comes = (outputs, comes, refl)
 
 -- the modules that were read, with what comes of C sources
-pub placed-over : (told : Option Told) (sources : List Source) (outputs : Outputs) (found : SeenModules) → IfSome told (λ t. sources ≡ modules_of t.files) → ArePlaced sources outputs found → IfSome told (λ t. ArePlaced (modules_of t.files) outputs found)
-placed-over None sources outputs found e p = tt
-placed-over (Some t) sources outputs found e p = subst (λ (ss : List Source). ArePlaced ss outputs found) e p
+pub placed-over : (told : Option Told) (sources all : List Source) (outputs : Outputs) → IfSome told (λ t. sources ≡ modules_of t.files) → all ≡ with_outputs sources outputs → IfSome told (λ t. all ≡ with_outputs (modules_of t.files) outputs)
+placed-over None sources all outputs e p = tt
+placed-over (Some t) sources all outputs e p = p ∙ ap (λ ss. with_outputs ss outputs) e
 
 -- no more than there may be
-pub answers-placed : Laws → (first now : Option Told) (outputs : Outputs) (found : SeenModules) → IfSome first (λ t. StoreComes t.files outputs) → Keeps first now → IfSome now (λ t. ArePlaced (modules_of t.files) outputs found)
-    → length found.modules.items ≤ module_limit → IfSome first (λ t. AnswersSeen t.files (Ok found))
-answers-placed laws None now outputs found comes same p few = tt
-answers-placed laws (Some t) now outputs found comes same p few =
-    let P : Option Told → Type 0 = λ o. IfSome o (λ u. ArePlaced (modules_of u.files) outputs found) in
-    (outputs, comes, seen_by laws t.files outputs found comes (subst P same p), few)
+pub answers-placed : Laws → (first now : Option Told) (outputs : Outputs) (all : Vec Module) → IfSome first (λ t. StoreComes t.files outputs) → Keeps first now → IfSome now (λ t. map source all.items ≡ with_outputs (modules_of t.files) outputs)
+    → length all.items ≤ module_limit → IfSome first (λ t. AnswersSeen t.files (Ok all))
+answers-placed laws None now outputs all comes same p few = tt
+answers-placed laws (Some t) now outputs all comes same p few =
+    let P : Option Told → Type 0 = λ o. IfSome o (λ u. map source all.items ≡ with_outputs (modules_of u.files) outputs) in
+    let are : map source all.items ≡ with_outputs (modules_of t.files) outputs = subst P same p in
+    (seen.seen t.files outputs, is_seen t.files outputs comes, are ∙ seen_by laws t.files outputs comes, few)
 
 -- more than there may be
-pub answers-many : Laws → (first now : Option Told) (outputs : Outputs) (found : SeenModules) (count : ℕ) → IfSome first (λ t. StoreComes t.files outputs) → Keeps first now → IfSome now (λ t. ArePlaced (modules_of t.files) outputs found)
-    → count ≡ length found.modules.items → module_limit < count → IfSome first (λ t. AnswersSeen t.files (Err (modules.TooMany count)))
-answers-many laws None now outputs found count comes same p is many = tt
-answers-many laws (Some t) now outputs found count comes same p is many =
-    let P : Option Told → Type 0 = λ o. IfSome o (λ u. ArePlaced (modules_of u.files) outputs found) in
-    let a = seen_by laws t.files outputs found comes (subst P same p) in
-    (outputs, comes, is ∙ sym (length-map found.modules.items source) ∙ ap length a.modules, many)
+pub answers-many : Laws → (first now : Option Told) (outputs : Outputs) (all : Vec Module) (count : ℕ) → IfSome first (λ t. StoreComes t.files outputs) → Keeps first now → IfSome now (λ t. map source all.items ≡ with_outputs (modules_of t.files) outputs)
+    → count ≡ length all.items → module_limit < count → IfSome first (λ t. AnswersSeen t.files (Err (modules.TooMany count)))
+answers-many laws None now outputs all count comes same p is many = tt
+answers-many laws (Some t) now outputs all count comes same p is many =
+    let P : Option Told → Type 0 = λ o. IfSome o (λ u. map source all.items ≡ with_outputs (modules_of u.files) outputs) in
+    let are : map source all.items ≡ with_outputs (modules_of t.files) outputs = subst P same p in
+    (seen.seen t.files outputs, is_seen t.files outputs comes, is ∙ sym (length-map all.items source) ∙ ap length (are ∙ seen_by laws t.files outputs comes), many)
 
 -- ---- where there is no C source
 
-plain_by : (files : Files) (outputs : Outputs) (found : SeenModules) → outputs ≡ [] → map source found.modules.items ≡ modules_of files → found.origins.items ≡ [] → AreSeen files outputs found
-plain_by files outputs found none m o = subst (λ (os : Outputs). AreSeen files os found) (sym none) (record { modules = m; origins = ap (map origin) o })
+-- files are seen as they are
+as_they_are : (files : Files) (outputs : Outputs) → StoreComes files outputs → outputs ≡ [] → IsSeen files files
+as_they_are files outputs comes none = (outputs, comes, sym (ap (seen.seen files) none))
 
-pub answers-plain : (first now : Option Told) (outputs : Outputs) (found : SeenModules) → IfSome first (λ t. StoreComes t.files outputs) → outputs ≡ [] → Keeps first now
-    → IfSome now (λ t. map source found.modules.items ≡ modules_of t.files) → IfSome now (λ t. length (names_of_modules t.files) ≤ module_limit) → found.origins.items ≡ [] → IfSome first (λ t. AnswersSeen t.files (Ok found))
-answers-plain None now outputs found comes none same m few o = tt
-answers-plain (Some t) now outputs found comes none same m few o =
-    let P : Option Told → Type 0 = λ x. IfSome x (λ u. map source found.modules.items ≡ modules_of u.files) in
-    let Q : Option Told → Type 0 = λ x. IfSome x (λ u. length (names_of_modules u.files) ≤ module_limit) in
-    let are : map source found.modules.items ≡ modules_of t.files = subst P same m in
-    let within : length (names_of_modules t.files) ≤ module_limit = subst Q same few in
-    let count : length found.modules.items ≡ length (names_of_modules t.files) = sym (length-map found.modules.items source) ∙ ap length are ∙ sym (length-map (modules_of t.files) (λ s. s.0)) in
-    (outputs, comes, plain_by t.files outputs found none are o, subst (λ (n : ℕ). n ≤ module_limit) (sym count) within)
+plain_by : (files : Files) (result : Result (Vec Module) ModulesFault) → IsSeen files files → IfOk result (λ all. map source all.items ≡ modules_of files) → AnswersFew (length (names_of_modules files)) result → AnswersSeen files result
+plain_by files (Ok all) is are few =
+    let count : length all.items ≡ length (names_of_modules files) = sym (length-map all.items source) ∙ ap length are ∙ sym (length-map (modules_of files) (λ s. s.0)) in
+    (files, is, are, subst (λ (n : ℕ). n ≤ module_limit) (sym count) few)
+plain_by files (Err (modules.TooMany count)) is are few = (files, is, few.0 ∙ length-map (modules_of files) (λ s. s.0), subst (λ (n : ℕ). module_limit < n) (sym few.0) few.1)
+plain_by files (Err (modules.Store error)) is are few = tt
 
-none_many : (count : ℕ) (files : Files) → (count ≡ length (names_of_modules files)) × (module_limit < count) → StoreComes files [] → AnswersSeen files (Err (modules.TooMany count))
-none_many count files h comes = ([], comes, h.0 ∙ length-map (modules_of files) (λ s. s.0), h.1)
+pub answers-plain : (first now : Option Told) (outputs : Outputs) (result : Result (Vec Module) ModulesFault) → IfSome first (λ t. StoreComes t.files outputs) → outputs ≡ [] → Keeps first now
+    → IfSome now (λ t. IfOk result (λ all. map source all.items ≡ modules_of t.files)) → IfSome now (λ t. AnswersFew (length (names_of_modules t.files)) result) → IfSome first (λ t. AnswersSeen t.files result)
+answers-plain None now outputs result comes none same are few = tt
+answers-plain (Some t) now outputs result comes none same are few =
+    let P : Option Told → Type 0 = λ x. IfSome x (λ u. IfOk result (λ all. map source all.items ≡ modules_of u.files)) in
+    let Q : Option Told → Type 0 = λ x. IfSome x (λ u. AnswersFew (length (names_of_modules u.files)) result) in
+    plain_by t.files result (as_they_are t.files outputs comes none) (subst P same are) (subst Q same few)
 
-plain_fault : (files : Files) (fault : ModulesFault) → IsFewFault (length (names_of_modules files)) fault → StoreComes files [] → AnswersSeen files (Err fault)
-plain_fault files (modules.TooMany count) h comes = none_many count files h comes
-plain_fault files (modules.Store error) h comes = tt
+-- ---- laws
 
-pub answers-no-plain : (first now : Option Told) (outputs : Outputs) (fault : ModulesFault) → IfSome first (λ t. StoreComes t.files outputs) → outputs ≡ [] → Keeps first now
-    → IfSome now (λ t. IsFewFault (length (names_of_modules t.files)) fault) → IfSome first (λ t. AnswersSeen t.files (Err fault))
-answers-no-plain None now outputs fault comes none same few = tt
-answers-no-plain (Some t) now outputs fault comes none same few =
-    let P : Option Told → Type 0 = λ x. IfSome x (λ u. IsFewFault (length (names_of_modules u.files)) fault) in
-    plain_fault t.files fault (subst P same few) (subst (λ (os : Outputs). StoreComes t.files os) none comes)
+abbrev pub ComeToOne : Type 0
+ComeToOne = (files : Files) (outputs others : Outputs) → StoreComes files outputs → StoreComes files others → outputs ≡ others
+
+pub seen-once : ComeToOne → (files shown other : Files) → IsSeen files shown → IsSeen files other → shown ≡ other
+seen-once one files shown other is are = is.2 ∙ ap (seen.seen files) (one files is.0 are.0 is.1 are.1) ∙ sym are.2
+
+abbrev pub Insertion : Type 0
+Insertion = (files : Files) (name bytes other : List ℕ) → other ≢ name → finite.get (finite.insert files name bytes) other ≡ finite.get files other
+
+seen_beside : Insertion → (name : List ℕ) → ((m : List ℕ) → name ≢ text_name m) → (files : Files) (outputs : Outputs) → finite.get (seen.seen files outputs) name ≡ finite.get files name
+seen_beside ins name apart files [] = refl
+seen_beside ins name apart files (o ∷ outputs) =
+    seen_beside ins name apart (finite.insert files (text_name o.0) (seen_text o.1)) outputs ∙ ins files (text_name o.0) (seen_text o.1) name (apart o.0)
+
+-- a file that is no module's text
+pub seen-beside : Insertion → (files shown : Files) (name : List ℕ) → ((m : List ℕ) → name ≢ text_name m) → IsSeen files shown → finite.get shown name ≡ finite.get files name
+seen-beside ins files shown name apart is = ap (λ (f : Files). finite.get f name) is.2 ∙ seen_beside ins name apart files is.0

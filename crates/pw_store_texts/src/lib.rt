@@ -6,7 +6,6 @@ mod headers;
 mod laws;
 mod modules;
 mod names;
-mod origin;
 mod outputs;
 mod place;
 mod source;
@@ -14,9 +13,10 @@ mod sources;
 
 pub use compiled::Compiled;
 pub use headers::{TEXT_READ, read_headers};
-pub use laws::{sources_come_to_one, texts_are_not_built};
-pub use modules::{SeenModules, seen_modules};
+pub use laws::{
+    built_files_are_seen, files_are_seen_in_one_way, sources_come_to_one, texts_are_not_built,
+};
+pub use modules::seen_modules;
 pub use names::{SOURCE_ENDING, is_source_file, is_text_file, source_name};
-pub use origin::Origin;
 pub use outputs::preprocess_source;
 pub use sources::compile_sources;

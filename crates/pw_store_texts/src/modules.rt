@@ -6,13 +6,12 @@ ghost use Rattle.pw_io.specs.Files.{Keeps, prefix_of};
 ghost use Rattle.pw_store_modules.specs.Few.{HasModulesCause};
 ghost use Rattle.pw_store_modules.specs.Modules.{modules_of, text_read};
 ghost use Rattle.pw_store_modules.specs.Views.{source};
-ghost use Rattle.pw_store_texts.specs.Origins.{AnswersSeen, ArePlaced, origin, origin_of};
 ghost use Rattle.pw_store_texts.specs.Outputs.{output_of};
-ghost use Rattle.pw_store_texts.specs.Seen.{outcome, seen_text};
+ghost use Rattle.pw_store_texts.specs.Placing.{with_outputs};
+ghost use Rattle.pw_store_texts.specs.Seen.{AnswersSeen, outcome, seen_text};
 
 use crate::compiled::Compiled;
 use crate::headers::TEXT_READ;
-use crate::origin::Origin;
 use crate::place::put_module;
 use crate::sources::compile_sources;
 use pw_io::laws::other_files;
@@ -26,40 +25,19 @@ use std::alloc::{AllocError, Global};
 /// A text that no module may have.
 const REFUSED_TEXT: &[u8] = b"@";
 
-/// The modules of a store as a build sees them, in the byte order of their names, and where the texts of those come from that have a C
-/// source.
-#[derive(Drop)]
-pub struct SeenModules {
-    pub modules: Vec<Module>,
-    pub origins: Vec<Origin>,
-}
-
-/// A module as a build sees it, of what came of its C source, and where its text comes from.
-fn seen_module(
-    alloc: Global,
-    compiled: Compiled,
-) -> Result<(Module, Origin), AllocError>
-    ensures made { IfOk result (λ made. source made.0 ≡ (compiled.name, prefix_of text_read (seen_text (output_of compiled.output)))) }
-    ensures origin { IfOk result (λ made. origin made.1 ≡ origin_of (outcome compiled)) }
+/// A module as a build sees it, by what came of its C source.
+fn seen_module(alloc: Global, compiled: Compiled) -> Result<Module, AllocError>
+    ensures { IfOk result (λ made. source made ≡ (compiled.name, prefix_of text_read (seen_text (output_of compiled.output)))) }
 {
     let Compiled { name, output, .. } = compiled;
-    let own = name.copy(alloc)?;
     match output {
         Ok(mut text) => {
             text.truncate(TEXT_READ);
-            let from = Origin {
-                name: own,
-                fault: None,
-            };
-            Ok((Module { name, text }, from))
+            Ok(Module { name, text })
         }
-        Err(fault) => {
+        Err(_) => {
             let text = Vec::from_slice(alloc, REFUSED_TEXT)?;
-            let from = Origin {
-                name: own,
-                fault: Some(fault),
-            };
-            Ok((Module { name, text }, from))
+            Ok(Module { name, text })
         }
     }
 }
@@ -69,20 +47,14 @@ fn with_outputs(
     alloc: Global,
     modules: Vec<Module>,
     outputs: Vec<Compiled>,
-) -> Result<SeenModules, AllocError>
-    ensures { IfOk result (λ found. ArePlaced (map source modules.items) (map outcome outputs.items) found) }
+) -> Result<Vec<Module>, AllocError>
+    ensures { IfOk result (λ all. map source all.items ≡ with_outputs (map source modules.items) (map outcome outputs.items)) }
 {
     let mut all = modules;
-    let mut origins = Vec::new(alloc);
     for compiled in outputs {
-        let (one, origin) = seen_module(alloc, compiled)?;
-        put_module(&mut all, one)?;
-        origins.push(origin)?;
+        put_module(&mut all, seen_module(alloc, compiled)?)?;
     }
-    Ok(SeenModules {
-        modules: all,
-        origins,
-    })
+    Ok(all)
 }
 
 /// The modules of a store as they stand in their files `NAME.i`.
@@ -100,8 +72,8 @@ fn placed_modules<S: Store>(
     alloc: Global,
     store: &mut S,
     outputs: Vec<Compiled>,
-) -> Result<SeenModules, StoreError>
-    ensures placed { IfSome (S.told store.old) (λ told. IfOk result (λ found. ArePlaced (modules_of told.files) (map outcome outputs.items) found)) }
+) -> Result<Vec<Module>, StoreError>
+    ensures placed { IfSome (S.told store.old) (λ told. IfOk result (λ all. map source all.items ≡ with_outputs (modules_of told.files) (map outcome outputs.items))) }
     ensures same { Keeps (S.told store.old) (S.told store.new) }
     ensures cause { HasStoreCause (S.faults store.old) (S.faults store.new) result }
 {
@@ -109,14 +81,14 @@ fn placed_modules<S: Store>(
     Ok(with_outputs(alloc, modules, outputs)?)
 }
 
-/// The modules of a store as a build sees them, where there are not too many: the output that the preprocessor makes of `NAME.c` stands
-/// in the place of `NAME.i`, and where it has a fault, a text that no module may have. Where there is no C source the modules are counted
-/// before a text is read. The store stays as it is.
+/// The modules of a store as a build sees them, in the byte order of their names, where there are not too many: the output that the
+/// preprocessor makes of `NAME.c` stands in the place of `NAME.i`, and where it has a fault, a text that no module may have. Where there is
+/// no C source the modules are counted before a text is read. The store stays as it is.
 ///
 /// # Errors
 ///
 /// `TooMany` where there are more than `MODULE_LIMIT`, with their count; a fault of the store, or want of memory.
-pub fn seen_modules<S: Store>(alloc: Global, store: &mut S) -> Result<SeenModules, ModulesFault>
+pub fn seen_modules<S: Store>(alloc: Global, store: &mut S) -> Result<Vec<Module>, ModulesFault>
     ensures seen { IfSome (S.told store.old) (λ told. AnswersSeen told.files result) }
     ensures same { Keeps (S.told store.old) (S.told store.new) }
     ensures cause { HasModulesCause (S.faults store.old) (S.faults store.new) result }
@@ -125,15 +97,12 @@ pub fn seen_modules<S: Store>(alloc: Global, store: &mut S) -> Result<SeenModule
     other_files();
     let outputs = compile_sources(alloc, store)?;
     if outputs.is_empty() {
-        return Ok(SeenModules {
-            modules: read_modules(alloc, store)?,
-            origins: Vec::new(alloc),
-        });
+        return read_modules(alloc, store);
     }
-    let found = placed_modules(alloc, store, outputs)?;
-    let count = found.modules.len() as u64;
+    let all = placed_modules(alloc, store, outputs)?;
+    let count = all.len() as u64;
     if count > MODULE_LIMIT {
         return Err(ModulesFault::TooMany(count));
     }
-    Ok(found)
+    Ok(all)
 }

@@ -16,8 +16,8 @@ use std::cmp::Ordering;
 fn place_of(modules: &[Module], name: &Name) -> Result<usize, usize>
     ensures { Places (map source modules.now) name.now result }
 {
-    for (i, module) in modules.iter().enumerate() {
-        match name.cmp(&module.name) {
+    for (i, other) in modules.iter().enumerate() {
+        match name.cmp(&other.name) {
             Ordering::Less => return Err(i),
             Ordering::Equal => return Ok(i),
             Ordering::Greater => {}
