@@ -4,7 +4,8 @@ use Rattle.pw_io.specs.Files.{Told, after_put, after_remove}
 use Rattle.pw_store_texts.specs.Names.{is_text_file}
 use Rattle.pw_top_answer.specs.Effects.{after_puts}
 use Rattle.pw_session.specs.FromBuild.BuildFault.{BuildFault}
-use Rattle.pw_session.specs.FromBuildFiles.Building.{BuildOutcome, Outcome, puts_of}
+use Rattle.pw_session.specs.FromBuildFiles.Building.{Outcome, puts_of}
+use Rattle.pw_session.specs.FromBuildFiles.Seen.{SeenOutcome}
 use Rattle.pw_session.specs.FromBuildFiles.Outcomes.{AreOpts}
 use Rattle.pw_build_opts.specs.declared.opts.Opts.{Opts}
 use Rattle.pw_law_session.specs.Whole.{IsBuiltInFull}
@@ -25,7 +26,7 @@ behind told (BuildsAll opts comes) = after_puts told (puts_of comes)
 abbrev pub MayHappen : Told → Action → Type 0
 MayHappen told (WritesText file text) = is_text_file file ≡ true
 MayHappen told (RemovesText file) = is_text_file file ≡ true
-MayHappen told (BuildsAll opts comes) = AreOpts opts × BuildOutcome told.files opts comes
+MayHappen told (BuildsAll opts comes) = AreOpts opts × SeenOutcome told.files opts comes
 
 -- they happen one behind another
 abbrev pub Happen : Told → List Action → Type 0
