@@ -1,5 +1,5 @@
 -- The fault where the modules of a store are not told: there are too many, or the store had one.
-use Rattle.std.proofs.Common.{◌≡◌, ◌∙◌, ℕ, ◌<◌, ◌≤◌, Bool, true, cond, List, length, map, Option, Some, None, Ok, Err, Result, refl, sym, ap, subst, arith}
+use Rattle.std.proofs.Common.{◌≡◌, ◌∙◌, ℕ, ◌<◌, ◌≤◌, Bool, true, cond, List, length, map, Option, Some, None, Ok, Err, sym, ap, subst, arith}
 use Rattle.std.proofs.lemmas.Bool.Decides.{nat_tests}
 use Rattle.std.specs.Prelude.{IfSome, nat_lt}
 use Rattle.std.specs.Global.{Vec}
@@ -19,7 +19,7 @@ use Rattle.pw_store_modules.specs.declared.few.ModulesFault.TheVariants as modul
 use Rattle.pw_top_answer.specs.Outcomes.{StoreCount}
 use Rattle.pw_build.specs.declared.fault.BuildFault.{BuildFault}
 use Rattle.pw_build.specs.declared.fault.BuildFault.TheVariants as build
-use Rattle.pw_build.specs.Builds.{flows_of, limit_passed, within}
+use Rattle.pw_build.specs.Builds.{flows_of, within}
 use Rattle.pw_build.specs.Phases.{IsLine}
 use Rattle.pw_build.specs.Stores.{modules_fault}
 use Rattle.pw_build_files.specs.Programs.{IsNoWant, fault_answer}

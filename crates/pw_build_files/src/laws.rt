@@ -1,6 +1,6 @@
 //! Laws of builds over the files of a store. A function here does nothing: its clauses are facts about all values.
 
-ghost use Rattle.std.specs.Prelude.{◌≡◌, ◌≤◌, ℕ, List, [], Ok, Err, IfSome, Option, Result};
+ghost use Rattle.std.specs.Prelude.{◌≡◌, ◌≤◌, ℕ, List, [], Ok, IfSome, Option, Result};
 ghost use Rattle.std.specs.List.{AllByRecursion};
 ghost use Rattle.pw_io.specs.Files.{Files, Told};
 ghost use Rattle.pw_store_modules.specs.Modules.{Texts, module_map, modules_of};

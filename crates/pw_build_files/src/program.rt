@@ -17,7 +17,7 @@ ghost use Rattle.pw_build.specs.Phases.{IsLine, refused_line};
 ghost use Rattle.pw_store_kept.specs.Kept.{kept_object};
 ghost use Rattle.pw_store_kept.specs.Files.{HoldBytes, file_view};
 ghost use Rattle.pw_build_files.specs.Seen.{SeesFault, SeesModules};
-ghost use Rattle.pw_build_files.specs.Programs.{AreAsMany, BuildsFiles, CountsAtMost, FaultBuilds, AnswersFault, FaultCount, HoldsImage, IsCounted, IsNoWant};
+ghost use Rattle.pw_build_files.specs.Programs.{AreAsMany, BuildsFiles, CountsAtMost, FaultBuilds, FaultCount, HoldsImage, IsCounted, IsNoWant};
 ghost use Rattle.pw_db.specs.Limits.{colour_limit};
 
 use pw_build::{BuildFault, Unbuilt, first_phases, no_refusal_is_want_of_memory};

@@ -12,7 +12,7 @@ use Rattle.pw_io.specs.Files.{Files, Told, Keeps, prefix_of}
 use Rattle.pw_store_modules.specs.Modules.{is_module_name, text_read}
 use Rattle.pw_store_texts.specs.Headers.{headers_of}
 use Rattle.pw_store_texts.specs.Names.{source_name}
-use Rattle.pw_store_texts.specs.Outputs.{ComesBy, Output, files_with, output_of}
+use Rattle.pw_store_texts.specs.Outputs.{ComesBy, Output, files_with}
 use Rattle.pw_top_answer.specs.declared.answer.Answer.{Answer}
 use Rattle.pw_top_answer.specs.declared.answer.Answer.TheVariants.{Refused, RefusedSource, Cpp}
 use Rattle.pw_commands_cpp.specs.Telling.{ComesOf, TellsAnswer, TellsBy, TellsRefusal, source_at, told_of}

@@ -1,5 +1,5 @@
 -- Builds over the files of a store as a build sees them: what is built stands among these as in the store, before a build and behind it.
-use Rattle.std.proofs.Common.{◌≡◌, ℕ, cond, List, [], ◌∷◌, Option, Some, Result, Ok, Err, refl, sym, ap, ◌∙◌}
+use Rattle.std.proofs.Common.{◌≡◌, ℕ, cond, List, [], ◌∷◌, Option, Some, Ok, sym, ap, ◌∙◌}
 use Rattle.std.specs.Ordering.{nat_cmp, eq_by_cmp}
 use Rattle.std.specs.Cmp.Lexicographic.{slice_cmp, nat_list_cmp_total}
 use Rattle.std.specs.FinMap as finite
@@ -10,7 +10,6 @@ use Rattle.pw_store_modules.specs.Modules.{module_map}
 use Rattle.pw_store_texts.specs.Seen.{IsSeen}
 use Rattle.pw_top_answer.specs.Effects.{NamedFile, after_puts}
 use Rattle.pw_law_build.specs.Whole.{HoldsFullBuild}
-use Rattle.pw_session.specs.FromBuild.BuildFault.{BuildFault}
 use Rattle.pw_session.specs.FromBuildFiles.Building.{BuildOutcome, Outcome, counted, object_in}
 use Rattle.pw_session.specs.FromBuildFiles.Genuine.{KeepsGenuine}
 use Rattle.pw_build_opts.specs.declared.opts.Opts.{Opts}

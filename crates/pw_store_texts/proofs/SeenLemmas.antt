@@ -1,5 +1,5 @@
 -- The modules of a store with what comes of its C sources in their places.
-use Rattle.std.proofs.Common.{◌≡◌, ◌≢◌, ◌↔◌, ℕ, ◌+◌, ◌≤◌, ◌<◌, Bool, true, false, if◌then◌else◌, cond, List, [], ◌∷◌, take, length, map, Option, Some, None, Result, Ok, Err, refl, sym, ap, ◌∙◌, subst, arith}
+use Rattle.std.proofs.Common.{◌≡◌, ◌≢◌, ◌↔◌, ℕ, ◌+◌, ◌≤◌, ◌<◌, ◌==◌, Bool, true, false, if◌then◌else◌, cond, List, [], ◌∷◌, take, length, map, Option, Some, None, Result, Ok, Err, refl, sym, ap, ◌∙◌, subst, arith}
 use Rattle.std.specs.Prelude.{IfOk, IfSome}
 use Rattle.std.specs.Global.{Vec}
 use Rattle.std.specs.Option.{option_map}
@@ -9,7 +9,8 @@ use Rattle.std.specs.Cmp.Lexicographic.{slice_cmp, nat_list_cmp_total}
 use Rattle.std.specs.FinMap as finite
 use Rattle.std.specs.FinMap.{entries-insert, get-insert, same_map, slice_cmp-IsAntisymmetric, nat_cmp-IsAntisymmetric}
 use Rattle.std.proofs.lemmas.Cmp.{tied_itself}
-use Rattle.std.proofs.lemmas.List.{append_cancel_right, length-map}
+use Rattle.std.proofs.lemmas.Bool.{eqb-true}
+use Rattle.std.proofs.lemmas.List.{append_cancel_right, length-map, nil_from_length}
 use Rattle.std.proofs.lemmas.Map.Lookups.{exact_bytes}
 use Rattle.std.proofs.lemmas.Map.Views.{tells_apart}
 use Rattle.pw_cpp_sources.specs.Sources.{Texts}
@@ -158,6 +159,9 @@ answers-many laws (Some t) now outputs all count comes same p is many =
     (seen.seen t.files outputs, is_seen t.files outputs comes, is ∙ sym (length-map all.items source) ∙ ap length (are ∙ seen_by laws t.files outputs comes), many)
 
 -- ---- where there is no C source
+
+pub no-outcomes : (outputs all : List Compiled) (b : Bool) → outputs ≡ all → b ≡ (length outputs == 0) → b ≡ true → map outcome all ≡ []
+no-outcomes outputs all b same e t = ap (map outcome) (sym same ∙ nil_from_length outputs (eqb-true (length outputs) 0 (sym e ∙ t)))
 
 -- files are seen as they are
 as_they_are : (files : Files) (outputs : Outputs) → StoreComes files outputs → outputs ≡ [] → IsSeen files files

@@ -96,7 +96,7 @@ pub fn seen_modules<S: Store>(alloc: Global, store: &mut S) -> Result<Vec<Module
     modules_are_exact();
     other_files();
     let outputs = compile_sources(alloc, store)?;
-    if outputs.is_empty() {
+    if outputs.as_slice().is_empty() {
         return read_modules(alloc, store);
     }
     let all = placed_modules(alloc, store, outputs)?;

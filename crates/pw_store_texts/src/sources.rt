@@ -1,6 +1,6 @@
 //! The C sources of a store, and what comes of each.
 
-ghost use Rattle.std.specs.Prelude.{◌≡◌, ◌++◌, IfErr, IfOk, IfSome, OnOk, map, option_to_list, string_bytes};
+ghost use Rattle.std.specs.Prelude.{◌≡◌, ◌++◌, IfOk, IfSome, OnOk, map, option_to_list, string_bytes};
 ghost use Rattle.pw_cpp_sources.specs.Sources.{texts_of};
 ghost use Rattle.pw_io.specs.Faults.{HasStoreCause};
 ghost use Rattle.pw_io.specs.Files.{Keeps};
