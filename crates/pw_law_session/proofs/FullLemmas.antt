@@ -3,7 +3,8 @@ use Rattle.std.proofs.Common.{◌≡◌, ◌≢◌, ℕ, List, [], ◌∷◌, �
 use Rattle.std.specs.List.{AllByRecursion}
 use Rattle.std.specs.FinMap as finite
 use Rattle.pw_io.specs.Files.{Files, Told, after_put, after_remove}
-use Rattle.pw_store_modules.specs.Modules.{is_module_file, module_map}
+use Rattle.pw_store_modules.specs.Modules.{module_map}
+use Rattle.pw_store_texts.specs.Names.{is_text_file}
 use Rattle.pw_top_answer.specs.Effects.{NamedFile, after_puts}
 use Rattle.pw_law_build.specs.Whole.{HoldsFullBuild}
 use Rattle.pw_session.specs.FromBuild.BuildFault.{BuildFault}
@@ -12,7 +13,7 @@ use Rattle.pw_session.specs.FromBuildFiles.Full.{image_of}
 use Rattle.pw_law_meaning.specs.Meaning.{BuildsAndMeans}
 use Rattle.pw_session.specs.FromBuildFiles.Genuine.{KeepsGenuine}
 use Rattle.pw_session.specs.FromBuildFiles.Outcomes.{AreOpts}
-use Rattle.pw_session_script.specs.Script.{LineValue, PutText, RemoveText, BuildProgram, RunProgram, NamesModule}
+use Rattle.pw_session_script.specs.Script.{LineValue, PutText, RemoveText, BuildProgram, RunProgram, NamesText}
 use Rattle.pw_build_opts.specs.declared.opts.RunOpts.{RunOpts}
 use Rattle.pw_session.specs.Builds.{BuildsTo}
 use Rattle.pw_session.specs.Changes.{Puts, after_changes}
@@ -26,7 +27,7 @@ pub record Laws : Type 0 where
   pub whole : (told : Told) (opts : Opts) (outcome : Outcome) → KeepsGenuine told.files → BuildOutcome told.files opts (Ok outcome) → HoldsFullBuild (module_map told.files) opts (after_puts told outcome.puts).files
   pub leaves : (told : Told) (opts : Opts) (outcome : Outcome) → KeepsGenuine told.files → BuildOutcome told.files opts (Ok outcome) → KeepsGenuine (after_puts told outcome.puts).files
   pub full : (files : Files) (opts : Opts) (comes : Result Outcome BuildFault) → AreOpts opts → KeepsGenuine files → BuildOutcome files opts comes → BuildsAndMeans (module_map files) opts (image_of comes)
-  pub texts : (file : List ℕ) (old new : Files) → is_module_file file ≡ true → ((other : List ℕ) → other ≢ file → finite.get new other ≡ finite.get old other) → KeepsGenuine old → KeepsGenuine new
+  pub texts : (file : List ℕ) (old new : Files) → is_text_file file ≡ true → ((other : List ℕ) → other ≢ file → finite.get new other ≡ finite.get old other) → KeepsGenuine old → KeepsGenuine new
   pub insertion : (files : Files) (name bytes other : List ℕ) → other ≢ name → finite.get (finite.insert files name bytes) other ≡ finite.get files other
   pub removal : (files : Files) (name other : List ℕ) → other ≢ name → finite.get (finite.remove files name) other ≡ finite.get files other
 
@@ -47,7 +48,7 @@ opened opts files comes h = h
 left_by : (s : SessionState) (effect one : LineEffect) → effect ≡ one → KeepsGenuine (next_state s one).told.files → KeepsGenuine (next_state s effect).told.files
 left_by s effect one e h = subst (λ (a : LineEffect). KeepsGenuine (next_state s a).told.files) (sym e) h
 
-line_left : Laws → (opts : RunOpts) (s : SessionState) (line : LineValue) (effect : LineEffect) → KeepsGenuine s.told.files → NamesModule line → Acts opts s line effect → KeepsGenuine (next_state s effect).told.files
+line_left : Laws → (opts : RunOpts) (s : SessionState) (line : LineValue) (effect : LineEffect) → KeepsGenuine s.told.files → NamesText line → Acts opts s line effect → KeepsGenuine (next_state s effect).told.files
 line_left laws opts s (PutText file text) effect keeps named h = left_by s effect _ h (laws.texts file s.told.files (after_put s.told file text).files named (laws.insertion s.told.files file text) keeps)
 line_left laws opts s (RemoveText file) effect keeps named h = left_by s effect _ h (laws.texts file s.told.files (after_remove s.told file).files named (laws.removal s.told.files file) keeps)
 line_left laws opts s BuildProgram effect keeps named h = left_by s effect _ h.2 (build_left laws opts s h.0 keeps (opened opts s.told.files h.0 h.1))
@@ -76,15 +77,15 @@ line_in_full laws opts are s BuildProgram effect keeps h =
     (h.0, h.1, h.2, laws.full s.told.files opts.build h.0 are keeps comes, build_leaves laws opts s effect h.0 h.2 keeps comes)
 line_in_full laws opts are s (RunProgram input) effect keeps h = h
 
-lines_in_full : Laws → (opts : RunOpts) → AreOpts opts.build → (s : SessionState) (lines : List LineValue) (e : Effects) → AllByRecursion NamesModule lines → KeepsGenuine s.told.files → LinesAct opts s lines e → LinesBuildInFull opts s lines e
+lines_in_full : Laws → (opts : RunOpts) → AreOpts opts.build → (s : SessionState) (lines : List LineValue) (e : Effects) → AllByRecursion NamesText lines → KeepsGenuine s.told.files → LinesAct opts s lines e → LinesBuildInFull opts s lines e
 lines_in_full laws opts are s [] e named keeps h = h
 lines_in_full laws opts are s (line ∷ lines) e named keeps h =
     (h.0, h.1, line_in_full laws opts are s line h.0 keeps h.2, lines_in_full laws opts are (next_state s h.0) lines h.1 named.1 (line_left laws opts s line h.0 keeps named.0 h.2) h.3, h.4)
 
-front_named : (front more : List LineValue) → AllByRecursion NamesModule (front ++ more) → AllByRecursion NamesModule front
+front_named : (front more : List LineValue) → AllByRecursion NamesText (front ++ more) → AllByRecursion NamesText front
 front_named [] more named = tt
 front_named (line ∷ front) more named = (named.0, front_named front more named.1)
 
 pub session_in_full : Laws → (opts : RunOpts) (told : Told) (script : List ℕ) → AreOpts opts.build → KeepsGenuine told.files → SessionBuildsInFull opts told script
 session_in_full laws opts told script are keeps = λ front more e split h.
-    lines_in_full laws opts are (session_start told) front e (front_named front more (subst (λ (lines : List LineValue). AllByRecursion NamesModule lines) split (script_named script))) keeps h
+    lines_in_full laws opts are (session_start told) front e (front_named front more (subst (λ (lines : List LineValue). AllByRecursion NamesText lines) split (script_named script))) keeps h

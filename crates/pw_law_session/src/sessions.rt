@@ -13,7 +13,7 @@ use pw_io::laws::other_files;
 use pw_law_build::a_build_leaves_the_whole_program;
 use pw_law_meaning::images_mean_their_texts;
 use pw_session::{
-    builds_leave_genuine_objects, genuine_objects_give_the_full_image, module_texts_are_no_objects,
+    builds_leave_genuine_objects, genuine_objects_give_the_full_image, texts_are_no_objects,
 };
 
 /// Where the kept objects are genuine before a session, each of its builds comes to the image of the full build of the
@@ -26,8 +26,8 @@ pub fn sessions_build_in_full()
     builds_leave_genuine_objects();
     genuine_objects_give_the_full_image();
     images_mean_their_texts();
-    module_texts_are_no_objects();
     other_files();
+    texts_are_no_objects();
 }
 
 /// `bench` builds in full: nothing is kept of the texts that it makes, so its image is that of their full build, byte for

@@ -5,7 +5,8 @@ use Rattle.pw_io.specs.declared.StoreError.{StoreError}
 use Rattle.pw_io.specs.declared.StoreError.TheVariants as store
 use Rattle.pw_io.specs.Faults.{HasStoreCause, OnFailed, OnNoMemory}
 use Rattle.pw_io.specs.Files.{Files, Keeps, Told, LeavesFile, PutsPart}
-use Rattle.pw_store_modules.specs.Modules.{is_module_file, modules_of}
+use Rattle.pw_store_modules.specs.Modules.{modules_of}
+use Rattle.pw_store_texts.specs.Names.{is_text_file}
 use Rattle.pw_top_answer.specs.declared.answer.Answer.{Answer}
 use Rattle.pw_top_answer.specs.declared.answer.Answer.TheVariants.{Done, Refused, LinkRefused, StoreFault, NoMemory}
 use Rattle.pw_top_answer.specs.Answers.{line_text}
@@ -213,8 +214,8 @@ pub does_some : (may : List ℕ → Type 0) (output : List ℕ) (changes : List 
 does_some may output changes None new answer taken taken' own does = tt
 does_some may output changes (Some told) new answer taken taken' own does = makes_some may changes answer told new own does.made
 
--- of one module's file
-pub put_some : (may : List ℕ → Type 0) (output file text : List ℕ) (first new : Option Told) (answer : Answer) (taken taken' : Option (List ℕ)) → is_module_file file ≡ true → IfSome first (λ told. DoesEffect output (Puts (file, text) ∷ []) answer told new taken taken')
+-- of one text's file
+pub put_some : (may : List ℕ → Type 0) (output file text : List ℕ) (first new : Option Told) (answer : Answer) (taken taken' : Option (List ℕ)) → is_text_file file ≡ true → IfSome first (λ told. DoesEffect output (Puts (file, text) ∷ []) answer told new taken taken')
     → IfSome first (λ told. MakesSome may answer told new)
 put_some may output file text first new answer taken taken' own does = does_some may output (Puts (file, text) ∷ []) first new answer taken taken' (inl own, tt) does
 

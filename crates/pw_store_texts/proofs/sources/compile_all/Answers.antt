@@ -6,7 +6,7 @@ use Rattle.pw_store_modules.proofs.ModuleLemmas.{mapped_rest}
 use Rattle.pw_store_texts.specs.Outputs.{ComesBy, output_of}
 use Rattle.pw_store_texts.specs.Seen.{AllCome, outcome}
 use Rattle.pw_store_texts.specs.Views.{named_text}
-use Rattle.pw_store_texts.specs.declared.sources.Compiled.{Compiled}
+use Rattle.pw_store_texts.specs.declared.compiled.Compiled.{Compiled}
 use Rattle.pw_store_texts.proofs.ComeLemmas.{come-all, come-more, none-left}
 use Rattle.pw_store_texts.proofs.sources.compile_all.Goals as goal
 

@@ -1,0 +1,11 @@
+use Rattle.std.proofs.Common.{◌+◌, drop, map, arith}
+use Rattle.pw_store_modules.specs.Views.{source}
+use Rattle.pw_store_modules.proofs.ModuleLemmas.{mapped_rest}
+use Rattle.pw_store_texts.proofs.ComeLemmas.{none-left}
+use Rattle.pw_store_texts.proofs.PlaceLemmas.{place_at, place_before, place_behind, place_last}
+use Rattle.pw_store_texts.proofs.place.place_of.Goals as goal
+
+pub loop-i-preserved : goal.loop-i-preserved
+loop-i-preserved c =
+    let next = mapped_rest source c.args.modules.now c.loop-i.i c.index-modules-i.result (omega arith) c.index-modules-i.is in
+    place_behind (map source c.args.modules.now) c.args.name.now c.loop-i.i (source c.index-modules-i.result) c.loop-i.invariant next c.in-Greater.is
