@@ -13,6 +13,7 @@ use Rattle.std.proofs.lemmas.Bool.{eqb-true}
 use Rattle.std.proofs.lemmas.List.{append_cancel_right, length-map, nil_from_length}
 use Rattle.std.proofs.lemmas.Map.Lookups.{exact_bytes}
 use Rattle.std.proofs.lemmas.Map.Views.{tells_apart}
+use Rattle.pw_cpp.specs.declared.fault.CppFault.{CppFault}
 use Rattle.pw_cpp_sources.specs.Sources.{Texts}
 use Rattle.pw_io.specs.Files.{Files, Keeps, Told, prefix_of}
 use Rattle.pw_store_modules.specs.FileNames.{text_ending, text_name}
@@ -27,7 +28,7 @@ use Rattle.pw_store_texts.specs.Names.{is_source_file}
 use Rattle.pw_store_texts.specs.Outputs.{output_of}
 use Rattle.pw_store_texts.specs.Placing.{placed, with_outputs}
 use Rattle.pw_store_texts.specs.Seen as seen
-use Rattle.pw_store_texts.specs.Seen.{AllCome, AnswersSeen, IsSeen, Outputs, StoreComes, outcome, seen_text, sources_among, sources_of}
+use Rattle.pw_store_texts.specs.Seen.{AllCome, AnswersSeen, IsSeen, Outputs, StoreComes, outcome, refused_text, seen_text, sources_among, sources_of}
 use Rattle.pw_store_texts.specs.declared.compiled.Compiled.{Compiled}
 use Rattle.pw_value.specs.Limits.{module_limit}
 use Rattle.pw_store_texts.proofs.HeaderLemmas.{source-named}
@@ -38,6 +39,14 @@ use Rattle.pw_store_texts.proofs.HeaderLemmas.{source-named}
 pub cut-is : (most : ℕ) (text cut : List ℕ) → cut ≡ take most text → cut ≡ prefix_of most text
 unfolding prefix_of
 cut-is most text cut e = e
+
+-- the text of a source that was compiled
+pub made-text : (name cut : List ℕ) (text : Vec ℕ) (output : Result (Vec ℕ) CppFault) → output ≡ Ok text → cut ≡ take text_read text.items → (name, cut) ≡ (name, prefix_of text_read (seen_text (output_of output)))
+made-text name cut text output e t = ap (λ (x : List ℕ). (name, x)) (cut-is text_read text.items cut t ∙ sym (ap (λ (o : Result (Vec ℕ) CppFault). prefix_of text_read (seen_text (output_of o))) e))
+
+-- and of one that has a fault
+pub faulty-text : (name items : List ℕ) (fault : CppFault) (output : Result (Vec ℕ) CppFault) → output ≡ Err fault → items ≡ refused_text → prefix_of text_read refused_text ≡ refused_text → (name, items) ≡ (name, prefix_of text_read (seen_text (output_of output)))
+faulty-text name items fault output e t short = ap (λ (x : List ℕ). (name, x)) (t ∙ sym short ∙ sym (ap (λ (o : Result (Vec ℕ) CppFault). prefix_of text_read (seen_text (output_of o))) e))
 
 pub placed-more : (all new whole : List Source) (m : Source) (c : Compiled) (left rest : List Compiled) → with_outputs all (map outcome left) ≡ whole → left ≡ c ∷ rest
     → m ≡ (c.name, prefix_of text_read (seen_text (output_of c.output))) → new ≡ placed m.0 m.1 all → with_outputs new (map outcome rest) ≡ whole

@@ -14,7 +14,7 @@ use crate::compiled::Compiled;
 use crate::headers::TEXT_READ;
 use crate::place::put_module;
 use crate::sources::compile_sources;
-use pw_io::laws::other_files;
+use pw_io::laws::{front, other_files};
 use pw_io::{Store, StoreError};
 use pw_store_modules::{
     Module, ModulesFault, module_files_of, modules_are_exact, read_modules, read_sources,
@@ -29,6 +29,7 @@ const REFUSED_TEXT: &[u8] = b"@";
 fn seen_module(alloc: Global, compiled: Compiled) -> Result<Module, AllocError>
     ensures { IfOk result (λ made. source made ≡ (compiled.name, prefix_of text_read (seen_text (output_of compiled.output)))) }
 {
+    front();
     let Compiled { name, output, .. } = compiled;
     match output {
         Ok(mut text) => {
