@@ -18,6 +18,7 @@ use Rattle.pw_build_files.specs.FromBuild.Unbuilt.{Unbuilt}
 use Rattle.pw_build_files.specs.FromBuild.Builds.{first_phases}
 use Rattle.pw_build_files.specs.FromBuild.Phases.{IsLine, refused_line}
 use Rattle.pw_build_files.specs.Building.{BuildOutcome, Outcome}
+use Rattle.pw_build_files.specs.Genuine.{KeepsGenuine}
 use Rattle.pw_build_files.specs.Outcomes.{CountsAtMost, CountsBuilt, CountsFound, CountsSeen, FaultBuilt, FaultFound, outcome_of}
 use Rattle.pw_build_files.specs.Seen.{SeenOutcome, SeesModules}
 use Rattle.pw_build_files.specs.declared.prepared.Ready.{Ready}
@@ -45,6 +46,9 @@ pub record Beside : Type 0 where
 
 kept_same : Beside → (files shown : Files) → IsSeen files shown → (name : List ℕ) → kept_object files name ≡ kept_object shown name
 kept_same beside files shown is name = ap (λ (bytes : Option (List ℕ)). object_in (counted bytes)) (sym (beside.object files shown name is))
+
+pub genuine_seen : Beside → (files shown : Files) → IsSeen files shown → KeepsGenuine files → KeepsGenuine shown
+genuine_seen beside files shown is keeps name object named e = keeps name object named (kept_same beside files shown is name ∙ e)
 
 pub kept_shown : Beside → (files shown : Files) → IsSeen files shown → (ms : List Module) → map (λ m. kept_object files m.name) ms ≡ map (λ m. kept_object shown m.name) ms
 kept_shown beside files shown is [] = refl

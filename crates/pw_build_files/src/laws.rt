@@ -11,6 +11,7 @@ ghost use Rattle.pw_build_files.specs.FromBuild.Builds.{Builds};
 ghost use Rattle.pw_build_files.specs.FromBuild.Full.{built_anew};
 ghost use Rattle.pw_build_files.specs.Building.{BuildOutcome, Outcome, kept_objects};
 ghost use Rattle.pw_build_files.specs.Seen.{SeenOutcome};
+ghost use Rattle.pw_store_texts.specs.Seen.{IsSeen};
 ghost use Rattle.pw_build_files.specs.Full.{BuildsImage, image_of};
 ghost use Rattle.pw_build_files.specs.Genuine.{IsGenuineFile, KeepsGenuine};
 ghost use Rattle.pw_db.specs.Limits.{colour_limit};
@@ -23,7 +24,7 @@ use pw_image::laws::images_and_files_are_one_to_one;
 use pw_io::laws::{names, other_files};
 use pw_object::laws::objects_and_files_are_one_to_one;
 use pw_store_modules::modules_are_exact;
-use pw_store_texts::files_are_seen_in_one_way;
+use pw_store_texts::{built_files_are_seen, files_are_seen_in_one_way};
 
 /// The files of a store come to one build.
 pub fn a_store_has_one_build()
@@ -50,6 +51,13 @@ pub fn genuine_objects_give_the_full_build()
     names();
     modules_are_exact();
     build_laws::genuine_objects_give_the_full_build();
+}
+
+/// Where the kept objects are genuine, so they are among the files as a build sees them.
+pub fn genuine_objects_are_seen()
+    ensures { (files shown : Files) → IsSeen files shown → KeepsGenuine files → KeepsGenuine shown }
+{
+    built_files_are_seen();
 }
 
 /// The full build of texts comes to the bytes of one image, or to one fault.

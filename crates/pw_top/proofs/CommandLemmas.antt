@@ -18,7 +18,8 @@ use Rattle.pw_go.specs.Ends.{EndsIn}
 use Rattle.pw_build_opts.specs.declared.opts.Opts.{Opts}
 use Rattle.pw_build_opts.specs.declared.opts.RunOpts.{RunOpts}
 use Rattle.pw_law_session.specs.FromSession.FromBuild.BuildFault.{BuildFault}
-use Rattle.pw_law_session.specs.FromSession.FromBuildFiles.Building.{BuildOutcome, Outcome, puts_of}
+use Rattle.pw_law_session.specs.FromSession.FromBuildFiles.Building.{Outcome, puts_of}
+use Rattle.pw_law_session.specs.FromSession.FromBuildFiles.Seen.{SeenOutcome}
 use Rattle.pw_law_session.specs.FromSession.FromBuildFiles.Outcomes.{AnswersOutcome}
 use Rattle.pw_law_session.specs.FromSession.FromBuildFiles.Driving.{BuildEffect, IsBuildAnswer, built_effect}
 use Rattle.pw_go.specs.Going.{GoEffect, HasBuilt, IfMade, IsGoAnswer}
@@ -214,7 +215,7 @@ build_does (Some t) new (Some input) taken taken' opts answer h out =
     built_does (BuildEffect t.files opts input) answer t new input taken taken' (λ e d. comes_rest t.files opts input e d) (h input) (λ e d. out input e d)
 
 -- what `build` built, whatever the input tells
-built_found : (files : Files) (opts : Opts) (answer : Answer) → IsFound (BuildEffect files opts []) answer → IfMade answer ((comes : Result Outcome BuildFault) × BuildOutcome files opts comes)
+built_found : (files : Files) (opts : Opts) (answer : Answer) → IsFound (BuildEffect files opts []) answer → IfMade answer ((comes : Result Outcome BuildFault) × SeenOutcome files opts comes)
 built_found files opts StoreFault h = tt
 built_found files opts NoMemory h = tt
 built_found files opts _ h = let c = h.1 in (c.0, c.1)
@@ -224,7 +225,7 @@ built_puts (Ok outcome) = refl
 built_puts (Err fault) = refl
 
 has_built : (opts : Opts) (answer : Answer) (told : Told) (new : Option Told) → Obeys (BuildEffect told.files opts []) answer told new
-    → ((comes : Result Outcome BuildFault) → BuildOutcome told.files opts comes → AnswersOutcome comes answer) → HasBuilt opts answer told new
+    → ((comes : Result Outcome BuildFault) → SeenOutcome told.files opts comes → AnswersOutcome comes answer) → HasBuilt opts answer told new
 has_built opts answer told new h refusal = record {
   found = built_found told.files opts answer h.found;
   answers = refusal;
@@ -233,7 +234,7 @@ has_built opts answer told new h refusal = record {
 
 pub build_built : (told new : Option Told) (opts : Opts) (answer : Answer)
     → IfSome told (λ t. (input : List ℕ) → Obeys (BuildEffect t.files opts input) answer t new)
-    → IfSome told (λ t. (comes : Result Outcome BuildFault) → BuildOutcome t.files opts comes → AnswersOutcome comes answer)
+    → IfSome told (λ t. (comes : Result Outcome BuildFault) → SeenOutcome t.files opts comes → AnswersOutcome comes answer)
     → IfSome told (λ t. HasBuilt opts answer t new)
 build_built None new opts answer h refusal = tt
 build_built (Some t) new opts answer h refusal = has_built opts answer t new (h []) refusal

@@ -160,12 +160,6 @@ pub bench_stores : (count : ℕ) (answer : Answer) → IsBenchAnswer answer → 
 bench_stores count StoreFault h = absurd h
 bench_stores count _ h = refl
 
-bench_due : (number : ℕ) (answer : Answer) (line : Option ℕ) → IsBenchLine number answer line → IsLineDue (refused_line (modules_of (bench_files number))) answer line
-bench_due number (Refused name refusal) line h = h
-bench_due number (RefusedSource name refusal) line h = h
-bench_due number (Undefined operation home token) line h = h
-bench_due number _ line h = tt
-
-pub bench_line : (told : Option Told) (number : ℕ) (answer : Answer) (line : Option ℕ) → IsBenchLine number answer line → IfSome told (λ t. IsLineDue (refused_line (modules_of (bench_files number))) answer line)
+pub bench_line : (told : Option Told) (number : ℕ) (answer : Answer) (line : Option ℕ) → IsBenchLine number answer line → IfSome told (λ t. IsBenchLine number answer line)
 bench_line None number answer line h = tt
-bench_line (Some t) number answer line h = bench_due number answer line h
+bench_line (Some t) number answer line h = h

@@ -33,6 +33,14 @@ IsToldFor (Some (Where k opts)) answer told = IsToldAnswer answer told
 IsToldFor (Some (Interp opts)) answer told = IsToldAnswer answer told
 IsToldFor command answer told = told ≡ answer
 
+-- the command builds over no files of the store
+abbrev pub IsNoBuilder : Option Command → Type 0
+IsNoBuilder (Some (Go opts)) = ⊥
+IsNoBuilder (Some (Build opts)) = ⊥
+IsNoBuilder (Some (Where k opts)) = ⊥
+IsNoBuilder (Some (Interp opts)) = ⊥
+IsNoBuilder command = Unit {0}
+
 -- The line of what is told: that on which a module is refused, of the text that a build sees; of `interp` also that on which an operation
 -- stands that has no meaning.
 abbrev pub IsLineTold : Option Command → Files → Answer → Option ℕ → Type 0
