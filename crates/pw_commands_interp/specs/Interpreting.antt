@@ -20,6 +20,7 @@ use Rattle.pw_image.specs.declared.image.Image.{Image}
 use Rattle.pw_image.specs.Image.{Contents, IsImageFile}
 use Rattle.pw_link.specs.Linking.{linked}
 use Rattle.pw_store_modules.specs.Modules.{Source, module_map, modules_of}
+use Rattle.pw_store_texts.specs.Seen.{IsSeen}
 use Rattle.pw_top_answer.specs.declared.answer.Answer.{Answer}
 use Rattle.pw_top_answer.specs.declared.answer.Answer.TheVariants.{Ended, Refused, LinkRefused, StackStop, Spent, ReadFault, WriteFault, StoreFault, NoMemory, Undefined}
 use Rattle.pw_top_answer.specs.Effects.{Effect, answers_alone}
@@ -69,15 +70,19 @@ InterpOver files opts input (Ok parts) effect =
     × (effect ≡ run_effect (source_run (record { modules = modules }) (frame_among (frames_of (linked parts.objects opts.build.stack))) opts.build.stack input opts.budget) input)
 InterpOver files opts input (Err fault) effect = effect ≡ answers_alone (fault_answer fault) input
 
--- `interp` over a store's files and an input
-abbrev pub InterpEffect : Files → RunOpts → List ℕ → Effect → Type 0
-InterpEffect files opts input effect =
+-- `interp` over files as they are, and an input
+abbrev pub InterpOf : Files → RunOpts → List ℕ → Effect → Type 0
+InterpOf files opts input effect =
     (comes : Result Parts BuildFault) × Builds (modules_of files) (kept_objects files) opts.build comes × InterpOver files opts input comes effect
+
+-- over a store's files as a build sees them
+abbrev pub InterpEffect : Files → RunOpts → List ℕ → Effect → Type 0
+InterpEffect files opts input effect = (shown : Files) × IsSeen files shown × InterpOf shown opts input effect
 
 -- The same over the full build, in which nothing is kept.
 abbrev pub InterpsInFull : Files → RunOpts → List ℕ → Effect → Type 0
 InterpsInFull files opts input effect =
-    (comes : Result Parts BuildFault) × FullBuild (module_map files) opts.build comes × InterpOver files opts input comes effect
+    (shown : Files) × IsSeen files shown × (comes : Result Parts BuildFault) × FullBuild (module_map shown) opts.build comes × InterpOver shown opts input comes effect
 
 -- ---- what is answered
 
@@ -139,12 +144,16 @@ abbrev pub UnlessMemory : Answer → Type 0 → Type 0
 UnlessMemory NoMemory P = Unit {0}
 UnlessMemory _ P = P
 
--- The command answered, put out and left of its input what it comes to over a store's files.
-pub record Did (files : Files) (opts : RunOpts) (input : List ℕ) (answer : Answer) (rest' taken taken' : Option (List ℕ)) : Type 0 where
-  pub answers : (effect : Effect) → InterpEffect files opts input effect → Answers effect.answer answer
-  pub output : (effect : Effect) → InterpEffect files opts input effect → PutsOut effect.output answer taken taken'
-  pub rest : (effect : Effect) → InterpEffect files opts input effect → LeavesInput effect.rest input answer rest'
-  pub found : IsFound (InterpEffect files opts input) answer
+-- The command answered, put out and left of its input what it comes to.
+pub record DidOf (comes : Effect → Type 0) (input : List ℕ) (answer : Answer) (rest' taken taken' : Option (List ℕ)) : Type 0 where
+  pub answers : (effect : Effect) → comes effect → Answers effect.answer answer
+  pub output : (effect : Effect) → comes effect → PutsOut effect.output answer taken taken'
+  pub rest : (effect : Effect) → comes effect → LeavesInput effect.rest input answer rest'
+  pub found : IsFound comes answer
+
+-- over a store's files
+abbrev pub Did : Files → RunOpts → List ℕ → Answer → (rest' taken taken' : Option (List ℕ)) → Type 0
+Did files opts input answer rest' taken taken' = DidOf (InterpEffect files opts input) input answer rest' taken taken'
 
 -- ---- the line
 

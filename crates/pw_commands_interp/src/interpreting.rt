@@ -1,16 +1,17 @@
 //! The command `interp`.
 
 ghost use Rattle.std.specs.Prelude.{◌≡◌, ◌≤◌, ◌<◌, IfSome, List, map};
-ghost use Rattle.pw_io.specs.Files.{Keeps};
+ghost use Rattle.pw_io.specs.Files.{Files, Keeps};
 ghost use Rattle.pw_cmean.specs.Worlds.{ProgramModule};
 ghost use Rattle.pw_interp.specs.Programs.{program_of};
 ghost use Rattle.pw_interp_calls.specs.Frames.{frame_among};
 ghost use Rattle.pw_db.specs.Limits.{colour_limit};
 ghost use Rattle.pw_store_modules.specs.Modules.{modules_of};
 ghost use Rattle.pw_store_modules.specs.Views.{source};
+ghost use Rattle.pw_store_texts.specs.Seen.{IsSeen};
 ghost use Rattle.pw_top_answer.specs.Outcomes.{InputCount, IsLineDue, LeavesStreams, OutputCount, StoreCount};
 ghost use Rattle.pw_build_files.specs.Outcomes.{AreOpts, HoldsImage};
-ghost use Rattle.pw_commands_interp.specs.Interpreting.{AreTyped, Did, IsInterpAnswer, IsRunAnswer, RunsAs, RunsLinked, UnlessMemory, told_line};
+ghost use Rattle.pw_commands_interp.specs.Interpreting.{AreTyped, Did, DidOf, InterpOf, IsInterpAnswer, IsRunAnswer, RunsAs, RunsLinked, UnlessMemory, told_line};
 
 use crate::answers::{answer_of, with_line};
 use crate::programs::{Program, program_of};
@@ -21,6 +22,7 @@ use pw_build_opts::RunOpts;
 use pw_interp::interpret;
 use pw_io::{Sink, Source, Store};
 use pw_store_modules::Module;
+use pw_store_texts::{built_files_are_seen, files_are_seen_in_one_way};
 use pw_top_answer::{Answer, Reply};
 use std::alloc::{AllocError, Global};
 use std::marker::Brand;
@@ -87,7 +89,7 @@ fn interpret_counted<S: Store, L: Ledger, I: Source, O: Sink>(
     requires name { blank.name ≡ L.name }
     requires parts { blank.parts ≡ L.parts }
     requires some { 0 < blank.parts }
-    ensures did { IfSome (S.told store.old) (λ told. map source modules.now ≡ modules_of told.files → IfSome (I.rest input.old) (λ rest. Did told.files opts.now rest result.answer (I.rest input.new) (O.taken out.old) (O.taken out.new))) }
+    ensures did { IfSome (S.told store.old) (λ told. (shown : Files) → IsSeen told.files shown → map source modules.now ≡ modules_of shown → IfSome (I.rest input.old) (λ rest. DidOf (InterpOf shown opts.now rest) rest result.answer (I.rest input.new) (O.taken out.old) (O.taken out.new))) }
     ensures line { IsLineDue (told_line (map source modules.now) result.answer) result.answer result.line }
     ensures same { Keeps (S.told store.old) (S.told store.new) }
     ensures answer { IsInterpAnswer result.answer }
@@ -97,6 +99,7 @@ fn interpret_counted<S: Store, L: Ledger, I: Source, O: Sink>(
     ensures streams { LeavesStreams result.answer (I.rest input.old) (I.rest input.new) (O.taken out.old) (O.taken out.new) }
 {
     modules_have_one_build();
+    built_files_are_seen();
     let mut steps: Steps<L> = Steps::new(blank);
     match link_program(alloc, store, modules, &opts.build, &mut steps) {
         Ok(linked) => {
@@ -129,7 +132,7 @@ pub fn interpret_modules<S: Store, I: Source, O: Sink>(
 ) -> Reply
     requires { AreOpts opts.now.build }
     ensures did { IfSome (S.told store.old) (λ told. IfSome (I.rest input.old) (λ rest. Did told.files opts.now rest result.answer (I.rest input.new) (O.taken out.old) (O.taken out.new))) }
-    ensures line { IfSome (S.told store.old) (λ told. IsLineDue (told_line (modules_of told.files) result.answer) result.answer result.line) }
+    ensures line { IfSome (S.told store.old) (λ told. (shown : Files) → IsSeen told.files shown → IsLineDue (told_line (modules_of shown) result.answer) result.answer result.line) }
     ensures same { Keeps (S.told store.old) (S.told store.new) }
     ensures answer { IsInterpAnswer result.answer }
     ensures store { StoreCount (S.faults store.old) (S.faults store.new) result.answer }
@@ -138,6 +141,7 @@ pub fn interpret_modules<S: Store, I: Source, O: Sink>(
     ensures streams { LeavesStreams result.answer (I.rest input.old) (I.rest input.new) (O.taken out.old) (O.taken out.new) }
 {
     modules_have_one_build();
+    files_are_seen_in_one_way();
     match modules_to_build(alloc, store) {
         Ok(modules) => interpret_counted::<S, Brand, I, O>(
             alloc,
