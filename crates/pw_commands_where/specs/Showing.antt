@@ -1,5 +1,5 @@
 -- What `where` comes to: a build over the files of a store, and a look at a call in the run of its image over an input.
-use Rattle.std.specs.Prelude.{◌≡◌, ◌≢◌, ℕ, List, [], Option, Some, Result, Ok, Err}
+use Rattle.std.specs.Prelude.{◌≡◌, ◌≢◌, ℕ, List, [], Some, Result, Ok, Err}
 use Rattle.pw_value.specs.declared.fault.LinkFault.TheVariants as link
 use Rattle.pw_io.specs.Files.{Files}
 use Rattle.pw_front_end.specs.Fronts.{HoldsNoWant}

@@ -1,6 +1,6 @@
 //! The command `where`.
 
-ghost use Rattle.std.specs.Prelude.{◌≡◌, ◌≢◌, ◌<◌, IfSome};
+ghost use Rattle.std.specs.Prelude.{◌≢◌, ◌<◌, IfSome};
 ghost use Rattle.std.specs.List.{AllByRecursion};
 ghost use Rattle.pw_debug.specs.Knowing.{IsFrame};
 ghost use Rattle.pw_debug_frames.specs.Frames.{AreFrames};

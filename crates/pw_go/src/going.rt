@@ -1,6 +1,6 @@
 //! The command `go`.
 
-ghost use Rattle.std.specs.Prelude.{◌≡◌, ℕ, List, Option, IfSome};
+ghost use Rattle.std.specs.Prelude.{IfSome};
 ghost use Rattle.pw_top_answer.specs.Effects.{Effect};
 ghost use Rattle.pw_top_answer.specs.Outcomes.{InputCount, LeavesInput, LeavesStreams, OutputCount, PutsOut, StoreCount};
 ghost use Rattle.pw_commands.specs.MachineRun.{IsRunAnswer};

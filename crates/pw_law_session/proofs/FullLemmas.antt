@@ -19,7 +19,7 @@ use Rattle.pw_session_script.specs.Script.{LineValue, PutText, RemoveText, Build
 use Rattle.pw_build_opts.specs.declared.opts.RunOpts.{RunOpts}
 use Rattle.pw_session.specs.Builds.{BuildsTo}
 use Rattle.pw_session.specs.Changes.{Puts, after_changes}
-use Rattle.pw_session.specs.Session.{LineEffect, Acts, Effects, LinesAct, SessionState, builds_as, script_lines, next_state, session_start}
+use Rattle.pw_session.specs.Session.{LineEffect, Acts, Effects, LinesAct, SessionState, builds_as, next_state, session_start}
 use Rattle.pw_law_session.specs.Full.{BuildsInFull, LeavesFullBuild, LinesBuildInFull, SessionBuildsInFull}
 use Rattle.pw_law_session.proofs.NamingLemmas.{script_named}
 use Rattle.pw_build_opts.specs.declared.opts.Opts.{Opts}

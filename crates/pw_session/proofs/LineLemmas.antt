@@ -20,7 +20,6 @@ use Rattle.pw_build_files.specs.FromBuild.BuildFault.{BuildFault}
 use Rattle.pw_build_files.specs.FromBuild.BuildFault.TheVariants as build
 use Rattle.pw_build_files.specs.FromBuild.Unbuilt.{Unbuilt}
 use Rattle.pw_build_files.specs.FromBuild.Phases.{IsLine, refused_line}
-use Rattle.pw_build_opts.specs.declared.opts.Opts.{Opts}
 use Rattle.pw_build_files.specs.declared.report.Report.{Report}
 use Rattle.pw_build_files.specs.Building.{Outcome, puts_of}
 use Rattle.pw_build_files.specs.Lines.{report_lines, report_text}

@@ -1,5 +1,5 @@
 -- Changes of the files of a store.
-use Rattle.std.specs.Prelude.{◌≡◌, ℕ, ◌⊎◌, List, [], ◌∷◌, ◌++◌, Option, Some, IsSomeAnd}
+use Rattle.std.specs.Prelude.{◌≡◌, ℕ, ◌⊎◌, List, ◌∷◌, Option, Some, IsSomeAnd}
 use Rattle.std.specs.List.{AllByRecursion}
 use Rattle.pw_io.specs.Files.{Told, after_put, after_remove, LeavesFile}
 use Rattle.pw_store_texts.specs.Names.{IsTextFile}

@@ -3,7 +3,6 @@ use Rattle.std.proofs.Common.{◌≡◌, ◌≤◌, ℕ, ◌⊎◌, ⊎_elim, Li
 use Rattle.std.specs.Prelude.{◌↔◌, IfSome, IsOk}
 use Rattle.pw_io.specs.Files.{Files, Told}
 use Rattle.pw_store_modules.specs.Modules.{modules_of}
-use Rattle.pw_cpp_sources.specs.Sources.{Texts}
 use Rattle.pw_front_end.specs.declared.refusal.Refusal.{Refusal}
 use Rattle.pw_store_texts.specs.Headers.{headers_of}
 use Rattle.pw_store_texts.specs.Outputs.{Output}
@@ -102,14 +101,14 @@ told_source : (opts : Opts) (files : Files) (name : List ℕ) (refusal : Refusal
 told_source opts files name refusal (Ok text) p = p
 told_source opts files name refusal (Err fault) p = p
 
-told_by_source : (opts : Opts) (files : Files) (headers : Texts) (name : List ℕ) (refusal : Refusal) (source : Option (List ℕ)) (result : Answer) → TellsBy headers name refusal source result → RefusesExactly files opts (Refused name refusal) → RefusesExactly files opts result
-told_by_source opts files headers name refusal None result h p = subst (λ (a : Answer). RefusesExactly files opts a) (sym h) p
-told_by_source opts files headers name refusal (Some text) result h p = subst (λ (a : Answer). RefusesExactly files opts a) (sym h.2) (told_source opts files name refusal h.0 p)
+told_by_source : (opts : Opts) (files : Files) (name : List ℕ) (refusal : Refusal) (source : Option (List ℕ)) (result : Answer) → TellsBy (headers_of files) name refusal source result → RefusesExactly files opts (Refused name refusal) → RefusesExactly files opts result
+told_by_source opts files name refusal None result h p = subst (λ (a : Answer). RefusesExactly files opts a) (sym h) p
+told_by_source opts files name refusal (Some text) result h p = subst (λ (a : Answer). RefusesExactly files opts a) (sym h.2) (told_source opts files name refusal h.0 p)
 
 told_refusal : (opts : Opts) (files : Files) (name : List ℕ) (refusal : Refusal) (result : Answer) → TellsRefusal files name refusal result → RefusesExactly files opts (Refused name refusal) → RefusesExactly files opts result
 told_refusal opts files name refusal StoreFault h p = tt
 told_refusal opts files name refusal NoMemory h p = tt
-told_refusal opts files name refusal result h p = told_by_source opts files (headers_of files) name refusal (source_at files name) result h p
+told_refusal opts files name refusal result h p = told_by_source opts files name refusal (source_at files name) result h p
 
 told_exactly : (opts : Opts) (files : Files) (answer result : Answer) → TellsOrFails files answer result → RefusesExactly files opts answer → RefusesExactly files opts result
 told_exactly opts files (Refused name refusal) result h p = told_refusal opts files name refusal result h p

@@ -6,14 +6,12 @@ use Rattle.pw_top_answer.specs.declared.answer.Answer.{Answer}
 use Rattle.pw_top_answer.specs.declared.answer.Answer.TheVariants.{Done, Usage, Refused, RefusedSource, Cpp, LinkRefused, Halted, ReadFault, WriteFault, StoreFault, NoMemory, BadFile, BadScript, NoFrames, Undefined}
 use Rattle.pw_top_answer.specs.Answers.{NeedsMemory}
 use Rattle.pw_top_answer.specs.Effects.{Effect, NamedFile, PutsFiles}
-use Rattle.pw_top_answer.specs.Outcomes.{InputCount, IsLineDue, StoreCount}
-use Rattle.pw_store_modules.specs.Modules.{modules_of}
-use Rattle.pw_law_session.specs.FromSession.FromBuild.Phases.{refused_line}
+use Rattle.pw_top_answer.specs.Outcomes.{InputCount, StoreCount}
 use Rattle.pw_law_session.specs.FromSession.FromBuild.BuildFault.{BuildFault}
 use Rattle.pw_law_session.specs.FromSession.FromBuildFiles.Building.{Outcome}
 use Rattle.pw_commands.specs.Outcome.{IsFound}
 use Rattle.pw_build_opts.specs.declared.opts.RunOpts.{RunOpts}
-use Rattle.pw_law_session.specs.FromSession.Bench.{BenchEffect, BenchOver, IsBenchAnswer, IsBenchFound, IsBenchLine, ObeysBench, bench_files}
+use Rattle.pw_law_session.specs.FromSession.Bench.{BenchEffect, BenchOver, IsBenchAnswer, IsBenchFound, IsBenchLine, ObeysBench}
 use Rattle.pw_law_session.specs.FromSession.Changes.{Change, ChangePrefix, MakesChanges, MakesSome}
 use Rattle.pw_top.specs.Answers.{IsNoUsage}
 use Rattle.pw_top.specs.Rest.{LeavesRest}

@@ -1,15 +1,11 @@
 -- What holds of the answer that is told: it is the answer, or want of memory for its line.
-use Rattle.std.proofs.Common.{◌≡◌, ℕ, ◌⊎◌, ⊎_elim, inl, inr, List, [], Option, Some, None, Result, Ok, Err, refl, sym, ap, ◌∙◌, subst, append-nil}
+use Rattle.std.proofs.Common.{◌≡◌, ℕ, ◌⊎◌, ⊎_elim, inl, inr, List, [], Option, Some, None, Result, Ok, Err, refl, sym, ◌∙◌, subst}
 use Rattle.std.specs.Prelude.{IfSome}
-use Rattle.pw_io.specs.Files.{Files, Told}
-use Rattle.pw_cmean.specs.declared.undefined.Undef.{Undef}
-use Rattle.pw_front_end.specs.declared.refusal.Refusal.{Refusal}
+use Rattle.pw_io.specs.Files.{Told}
 use Rattle.pw_top_answer.specs.declared.answer.Answer.{Answer}
 use Rattle.pw_top_answer.specs.declared.answer.Answer.TheVariants.{Usage, Refused, RefusedSource, Cpp, LinkRefused, Halted, StoreFault, NoMemory, BadFile, BadScript, NoFrames, Undefined}
-use Rattle.pw_top_answer.specs.Answers.{line_text, NeedsMemory}
-use Rattle.pw_top_answer.specs.Effects.{Effect, NamedFile, PutsFiles, PutPrefix}
-use Rattle.pw_top_answer.specs.Outcomes.{Answers, InputCount, IsLineDue, LeavesInput, LeavesStreams, OutputCount, StoreCount, ToldAs, WasReadInPart}
-use Rattle.pw_go.specs.Ends.{EndsIn}
+use Rattle.pw_top_answer.specs.Answers.{NeedsMemory}
+use Rattle.pw_top_answer.specs.Outcomes.{InputCount, LeavesStreams, OutputCount, StoreCount, ToldAs}
 use Rattle.pw_commands.specs.Others.{KeepsOthers}
 use Rattle.pw_law_session.specs.FromSession.FromBuild.BuildFault.{BuildFault}
 use Rattle.pw_law_session.specs.FromSession.FromBuildFiles.Building.{Outcome, puts_of}
@@ -22,9 +18,9 @@ use Rattle.pw_law_session.specs.FromSession.FromBuildFiles.Driving.{KeepsUnput, 
 use Rattle.pw_law_session.specs.FromSession.Removals.{MayRemove}
 use Rattle.pw_top.specs.Answers.{HoldsNoWantOfMemory}
 use Rattle.pw_top.specs.Commands.{BuildsFirst, EndsScript, KeepsTheRest, files_put}
-use Rattle.pw_top.specs.Does.{Does, DoesAs}
-use Rattle.pw_top.proofs.DoesLemmas.{memory_here, out_part}
-use Rattle.pw_top.proofs.SessionLemmas.{left_memory, session_memory_here, session_no_memory, some_memory}
+use Rattle.pw_top.specs.Does.{DoesAs}
+use Rattle.pw_top.proofs.DoesLemmas.{memory_here}
+use Rattle.pw_top.proofs.SessionLemmas.{left_memory, session_memory_here, some_memory}
 use Rattle.pw_top.proofs.CommandLemmas.{Comes, Ends, comes_ends}
 
 pub no_memory_is_no_usage : NoMemory ≡ Usage → ⊥

@@ -1,5 +1,5 @@
 -- Kinds of commands, and what each leaves alone.
-use Rattle.std.specs.Prelude.{ℕ, Bool, true, false, List, [], ◌∷◌, Option, Some, None, IfSome, IsSomeAnd, ◌↔◌}
+use Rattle.std.specs.Prelude.{ℕ, Bool, true, false, List, [], ◌∷◌, Option, Some, IfSome, IsSomeAnd, ◌↔◌}
 use Rattle.pw_io.specs.Files.{Files, Told}
 use Rattle.pw_store_modules.specs.FileNames.{database_name, image_name}
 use Rattle.pw_top_answer.specs.declared.answer.Answer.{Answer}

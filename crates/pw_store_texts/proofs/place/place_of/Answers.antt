@@ -2,8 +2,7 @@ use Rattle.std.proofs.Common.{map, sym, ◌∙◌, arith}
 use Rattle.std.proofs.lemmas.List.{length-map}
 use Rattle.pw_store_modules.specs.Views.{source}
 use Rattle.pw_store_modules.proofs.ModuleLemmas.{mapped_rest}
-use Rattle.pw_store_texts.proofs.ComeLemmas.{none-left}
-use Rattle.pw_store_texts.proofs.PlaceLemmas.{place_at, place_before, place_behind, place_last}
+use Rattle.pw_store_texts.proofs.PlaceLemmas.{place_at, place_before, place_behind}
 use Rattle.pw_store_texts.proofs.place.place_of.Goals as goal
 
 pub loop-i-preserved : goal.loop-i-preserved
