@@ -41,12 +41,15 @@ unfolding prefix_of
 cut-is most text cut e = e
 
 -- the text of a source that was compiled
-pub made-text : (name cut : List ℕ) (text : Vec ℕ) (output : Result (Vec ℕ) CppFault) → output ≡ Ok text → cut ≡ take text_read text.items → ◌≡◌ {A = Source} (name, cut) (name, prefix_of text_read (seen_text (output_of output)))
-made-text name cut text output e t = ap (λ (x : List ℕ). (name, x)) (cut-is text_read text.items cut t ∙ sym (ap (λ (o : Result (Vec ℕ) CppFault). prefix_of text_read (seen_text (output_of o))) e))
+pub made-text : (cut : List ℕ) (text : Vec ℕ) (output : Result (Vec ℕ) CppFault) → output ≡ Ok text → cut ≡ take text_read text.items → cut ≡ prefix_of text_read (seen_text (output_of output))
+made-text cut text output e t = cut-is text_read text.items cut t ∙ sym (ap (λ (o : Result (Vec ℕ) CppFault). prefix_of text_read (seen_text (output_of o))) e)
 
 -- and of one that has a fault
-pub faulty-text : (name items : List ℕ) (fault : CppFault) (output : Result (Vec ℕ) CppFault) → output ≡ Err fault → items ≡ refused_text → prefix_of text_read refused_text ≡ refused_text → ◌≡◌ {A = Source} (name, items) (name, prefix_of text_read (seen_text (output_of output)))
-faulty-text name items fault output e t short = ap (λ (x : List ℕ). (name, x)) (t ∙ sym short ∙ sym (ap (λ (o : Result (Vec ℕ) CppFault). prefix_of text_read (seen_text (output_of o))) e))
+pub faulty-text : (items : List ℕ) (fault : CppFault) (output : Result (Vec ℕ) CppFault) → output ≡ Err fault → items ≡ refused_text → prefix_of text_read refused_text ≡ refused_text → items ≡ prefix_of text_read (seen_text (output_of output))
+faulty-text items fault output e t short = t ∙ sym short ∙ sym (ap (λ (o : Result (Vec ℕ) CppFault). prefix_of text_read (seen_text (output_of o))) e)
+
+pub named_text : (name items other : List ℕ) → items ≡ other → ◌≡◌ {A = Source} (name, items) (name, other)
+named_text name items other e = ap (λ (x : List ℕ). (name, x)) e
 
 pub placed-more : (all new whole : List Source) (m : Source) (c : Compiled) (left rest : List Compiled) → with_outputs all (map outcome left) ≡ whole → left ≡ c ∷ rest
     → m ≡ (c.name, prefix_of text_read (seen_text (output_of c.output))) → new ≡ placed m.0 m.1 all → with_outputs new (map outcome rest) ≡ whole

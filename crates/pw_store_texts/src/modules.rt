@@ -14,6 +14,7 @@ use crate::compiled::Compiled;
 use crate::headers::TEXT_READ;
 use crate::place::put_module;
 use crate::sources::compile_sources;
+use pw_cpp::CppFault;
 use pw_io::laws::{front, other_files};
 use pw_io::{Store, StoreError};
 use pw_store_modules::{
@@ -25,22 +26,33 @@ use std::alloc::{AllocError, Global};
 /// A text that no module may have.
 const REFUSED_TEXT: &[u8] = b"@";
 
-/// A module as a build sees it, by what came of its C source.
-fn seen_module(alloc: Global, compiled: Compiled) -> Result<Module, AllocError>
-    ensures { IfOk result (λ made. source made ≡ (compiled.name, prefix_of text_read (seen_text (output_of compiled.output)))) }
+/// The text that a build sees of what came of a C source: the output, as far as texts are read, or a text that no module may have.
+pub fn shown_text(alloc: Global, output: Result<Vec<u8>, CppFault>) -> Result<Vec<u8>, AllocError>
+    ensures { IfOk result (λ text. text.items ≡ prefix_of text_read (seen_text (output_of output))) }
 {
     front();
-    let Compiled { name, output, .. } = compiled;
     match output {
         Ok(mut text) => {
             text.truncate(TEXT_READ);
-            Ok(Module { name, text })
+            Ok(text)
         }
         Err(_) => {
             let text = Vec::from_slice(alloc, REFUSED_TEXT)?;
-            Ok(Module { name, text })
+            Ok(text)
         }
     }
+}
+
+/// A module as a build sees it, by what came of its C source.
+#[tactic(auto, using(crate::proofs::SeenLemmas::named_text))]
+fn seen_module(alloc: Global, compiled: Compiled) -> Result<Module, AllocError>
+    ensures { IfOk result (λ made. source made ≡ (compiled.name, prefix_of text_read (seen_text (output_of compiled.output)))) }
+{
+    let Compiled { name, output, .. } = compiled;
+    Ok(Module {
+        name,
+        text: shown_text(alloc, output)?,
+    })
 }
 
 /// Puts what comes of C sources into their places among modules. A module of the same name goes.
