@@ -15,7 +15,7 @@ use Rattle.pw_store_texts.specs.Names.{source_name}
 use Rattle.pw_store_texts.specs.Outputs.{ComesBy, Output, files_with}
 use Rattle.pw_top_answer.specs.declared.answer.Answer.{Answer}
 use Rattle.pw_top_answer.specs.declared.answer.Answer.TheVariants.{Refused, RefusedSource, Cpp}
-use Rattle.pw_commands_cpp.specs.Telling.{ComesOf, TellsAnswer, TellsBy, TellsRefusal, source_at, told_of}
+use Rattle.pw_commands_cpp.specs.Telling.{ComesOf, IsToldAnswer, TellsAnswer, TellsBy, TellsOrFails, TellsRefusal, source_at, told_of}
 
 -- ---- what came of the source
 
@@ -80,6 +80,22 @@ tells_output (Some t) name refusal output e h = by_source (headers_of t.files) n
 pub tells_fault : (first : Option Told) (name : List ℕ) (refusal : Refusal) (fault : CppFault) → is_module_name name ≡ true → IfSome first (λ t. ComesOf t.files name (Some (Err fault))) → IfSome first (λ t. TellsRefusal t.files name refusal (Cpp fault))
 tells_fault None name refusal fault e h = tt
 tells_fault (Some t) name refusal fault e h = by_source (headers_of t.files) name refusal (Err (fault.kind, fault.file, fault.line)) (is_module_name name) (finite.get t.files (source_name name)) e h
+
+-- every other answer is told as it is
+abbrev pub IsNoRefused : Answer → Type 0
+IsNoRefused answer = (name : List ℕ) (refusal : Refusal) → answer ≡ Refused name refusal → ⊥
+
+other_is : (files : Files) (answer : Answer) → IsNoRefused answer → TellsOrFails files answer answer
+other_is files (Refused name refusal) not = absurd (not name refusal refl)
+other_is files _ not = refl
+
+pub tells_other : (first : Option Told) (answer : Answer) → IsNoRefused answer → IfSome first (λ t. TellsOrFails t.files answer answer)
+tells_other None answer not = tt
+tells_other (Some t) answer not = other_is t.files answer not
+
+pub told_other : (answer : Answer) → IsNoRefused answer → IsToldAnswer answer answer
+told_other (Refused name refusal) not = absurd (not name refusal refl)
+told_other _ not = refl
 
 -- ---- in one way
 

@@ -6,6 +6,6 @@ mod laws;
 mod sources;
 mod telling;
 
-pub use laws::answers_are_told_in_one_way;
+pub use laws::{a_source_has_one_output, answers_are_told_in_one_way};
 pub use sources::preprocess_module;
-pub use telling::tell_source;
+pub use telling::{source_output, tell_source};

@@ -17,9 +17,9 @@ use pw_top_answer::{Answer, Reply};
 use pw_value::Name;
 use std::alloc::Global;
 
-/// What came of a module's C source, where it has one.
+/// What the preprocessor makes of a module's C source, where it has one.
 #[tactic(auto, using(crate::proofs::TellingLemmas::came_none, crate::proofs::TellingLemmas::came_some))]
-fn came_of<S: Store>(
+pub fn source_output<S: Store>(
     alloc: Global,
     store: &mut S,
     name: &Name,
@@ -59,7 +59,7 @@ fn tell_refused<S: Store>(
             line,
         };
     }
-    match came_of(alloc, store, &name) {
+    match source_output(alloc, store, &name) {
         Ok(None) => Reply {
             answer: Answer::Refused(name, refusal),
             line,

@@ -1,6 +1,7 @@
 -- What each command did, by its own clauses.
 use Rattle.std.proofs.Common.{◌≡◌, ℕ, Bool, ◌⊎◌, ⊎_elim, List, [], Option, Some, None, Result, Ok, Err, refl, sym, ap, ◌∙◌, subst}
 use Rattle.std.specs.Prelude.{IfSome}
+use Rattle.std.specs.FinMap as finite
 use Rattle.pw_io.specs.Files.{Files, Told, Keeps}
 use Rattle.pw_object.specs.declared.object.Object.{Object}
 use Rattle.pw_db.specs.declared.database.Directives.{Directives}
@@ -36,8 +37,10 @@ use Rattle.pw_law_session.specs.FromSession.Bench.{BenchEffect}
 use Rattle.pw_top_words.specs.declared.commands.Command.{Command}
 use Rattle.pw_top_words.specs.declared.commands.Command.TheVariants.{Go, Build as BuildAll, Session, PhaseOne, Analyse, PhaseTwo, Link, Run, List as ListImage, Db, Bench, Where, Preprocess, Interp}
 use Rattle.pw_store_texts.specs.Headers.{headers_of}
-use Rattle.pw_commands_cpp.specs.Command.{CppEffect, CppOver, IsCppAnswer, effect_of, needed_source}
-use Rattle.pw_commands_phases.specs.First.{EffectOfPhase, PhaseOneEffect, PhaseOneOver}
+use Rattle.pw_store_texts.specs.Names.{source_name}
+use Rattle.pw_store_texts.specs.Outputs.{Output}
+use Rattle.pw_commands_cpp.specs.Command.{CppEffect, CppOver, IsCppAnswer, cpp_fault, effect_of, needed_source}
+use Rattle.pw_commands_phases.specs.First.{EffectBy, EffectOfOutput, EffectOfPhase, EffectOfSource, PhaseOneEffect, PhaseOneOver}
 use Rattle.pw_commands_phases.specs.Made.{IsPhaseAnswer}
 use Rattle.pw_commands_phases.specs.Second.{PhaseTwoEffect, PhaseTwoOver, database_at, flow_at}
 use Rattle.pw_top.specs.Answers.{IsNoUsage}
@@ -99,9 +102,21 @@ phase_quiet : (name : List ℕ) (o : Bool) (phase : Phase) (input : List ℕ) (e
 phase_quiet name o (Err refusal) input e h = quiet_answer (Refused name refusal) input e h
 phase_quiet name o (Ok flow) input e h = subst (Quiet input) (sym h.3) (record { output = refl; rest = refl })
 
-phase_one_quiet : (name : List ℕ) (o : Bool) (text : Result (List ℕ) Answer) (input : List ℕ) (e : Effect) → PhaseOneOver name o text input e → Quiet input e
-phase_one_quiet name o (Err answer) input e h = quiet_answer answer input e h
-phase_one_quiet name o (Ok text) input e h = phase_quiet name o (compiled name text) input e h
+text_quiet : (name : List ℕ) (o : Bool) (text : Result (List ℕ) Answer) (input : List ℕ) (e : Effect) → PhaseOneOver name o text input e → Quiet input e
+text_quiet name o (Err answer) input e h = quiet_answer answer input e h
+text_quiet name o (Ok text) input e h = phase_quiet name o (compiled name text) input e h
+
+source_quiet : (name : List ℕ) (o : Bool) (phase : Phase) (input : List ℕ) (e : Effect) → EffectOfSource name o phase input e → Quiet input e
+source_quiet name o (Err refusal) input e h = quiet_answer (RefusedSource name refusal) input e h
+source_quiet name o (Ok flow) input e h = phase_quiet name o (Ok flow) input e h
+
+phase_output_quiet : (name : List ℕ) (o : Bool) (output : Output) (input : List ℕ) (e : Effect) → EffectOfOutput name o output input e → Quiet input e
+phase_output_quiet name o (Ok text) input e h = source_quiet name o (compiled name text) input e h
+phase_output_quiet name o (Err fault) input e h = quiet_answer (Cpp (cpp_fault fault)) input e h
+
+phase_one_quiet : (files : Files) (name : List ℕ) (o : Bool) (source : Option (List ℕ)) (input : List ℕ) (e : Effect) → EffectBy files name o source input e → Quiet input e
+phase_one_quiet files name o None input e h = text_quiet name o (needed_bytes files (text_name name)) input e h
+phase_one_quiet files name o (Some text) input e h = phase_output_quiet name o h.0 input e h.2
 
 phase_two_quiet : (name : List ℕ) (flow : Result FlowModule Answer) (db : Result (List (List ℕ × Directives)) Answer) (input : List ℕ) (e : Effect) → PhaseTwoOver name flow db input e → Quiet input e
 phase_two_quiet name (Err answer) db input e h = quiet_answer answer input e h
@@ -117,7 +132,7 @@ store_does comes (Some t) new (Some input) taken answer quiet h = quiet_does (co
 pub phase_one_does : (told new : Option Told) (rest taken : Option (List ℕ)) (name : List ℕ) (o : Bool) (answer : Answer) → IfSome told (λ t. (input : List ℕ) → Obeys (PhaseOneEffect t.files name o input) answer t new)
     → IfSome told (λ t. IfSome rest (λ input. Does (PhaseOneEffect t.files name o input) answer t new input rest taken taken))
 phase_one_does told new rest taken name o answer h =
-    store_does (λ files input. PhaseOneEffect files name o input) told new rest taken answer (λ files input e d. phase_one_quiet name o (needed_bytes files (text_name name)) input e d) h
+    store_does (λ files input. PhaseOneEffect files name o input) told new rest taken answer (λ files input e d. phase_one_quiet files name o (finite.get files (source_name name)) input e d) h
 
 pub cpp_does : (told new : Option Told) (rest taken : Option (List ℕ)) (name : List ℕ) (answer : Answer) → IfSome told (λ t. (input : List ℕ) → Obeys (CppEffect t.files name input) answer t new)
     → IfSome told (λ t. IfSome rest (λ input. Does (CppEffect t.files name input) answer t new input rest taken taken))
@@ -319,7 +334,7 @@ comes_ends ends (Some (BuildAll opts)) files input e h = left_all input e (comes
 comes_ends ends (Some (Session opts)) files input e h = absurd h
 comes_ends ends (Some (Bench number opts)) files input e h = left_all input e (bench_prints number opts input e h).rest
 comes_ends ends (Some (Preprocess name)) files input e h = left_all input e (cpp_quiet files name input e h).rest
-comes_ends ends (Some (PhaseOne name optimise)) files input e h = left_all input e (phase_one_quiet name optimise (needed_bytes files (text_name name)) input e h).rest
+comes_ends ends (Some (PhaseOne name optimise)) files input e h = left_all input e (phase_one_quiet files name optimise (finite.get files (source_name name)) input e h).rest
 comes_ends ends (Some (Analyse colours)) files input e h = left_all input e (analyse_quiet (summaries_of files) colours input e h).rest
 comes_ends ends (Some (PhaseTwo name)) files input e h = left_all input e (phase_two_quiet name (needed flow_at files (flow_name name)) (needed database_at files database_name) input e h).rest
 comes_ends ends (Some (Link stack)) files input e h = left_all input e (link_quiet (objects_of files) stack input e h).rest

@@ -1,10 +1,12 @@
 -- What a call did whose answer was told.
 use Rattle.std.proofs.Common.{◌≡◌, ℕ, ◌⊎◌, ⊎_elim, inl, inr, List, [], Option, Some, None, Result, Ok, Err, refl, sym, ◌∙◌, subst}
 use Rattle.std.specs.Prelude.{IfSome}
+use Rattle.std.specs.FinMap as finite
 use Rattle.pw_io.specs.Files.{Files, Told, Keeps}
 use Rattle.pw_front_end.specs.Fronts.{HoldsNoWant}
 use Rattle.pw_front_end.specs.declared.refusal.Refusal.{Refusal}
 use Rattle.pw_store_modules.specs.Modules.{Source, modules_of}
+use Rattle.pw_store_texts.specs.Names.{source_name}
 use Rattle.pw_store_texts.specs.Seen.{IsSeen}
 use Rattle.pw_top_answer.specs.declared.answer.Answer.{Answer}
 use Rattle.pw_top_answer.specs.declared.answer.Reply.{Reply}
@@ -14,6 +16,7 @@ use Rattle.pw_top_answer.specs.Effects.{PutsFiles}
 use Rattle.pw_top_answer.specs.Outcomes.{InputCount, IsLineDue, LeavesStreams, OutputCount, StoreCount, ToldAs}
 use Rattle.pw_commands_cpp.specs.Telling.{IsToldAnswer, IsToldOf, TellsOrFails}
 use Rattle.pw_commands_interp.specs.Interpreting.{told_line}
+use Rattle.pw_commands_phases.specs.First.{IsLineBy}
 use Rattle.pw_go.specs.Going.{HasBuilt}
 use Rattle.pw_law_session.specs.FromSession.FromBuild.BuildFault.{BuildFault}
 use Rattle.pw_law_session.specs.FromSession.FromBuild.Phases.{refused_line}
@@ -312,13 +315,17 @@ pub memory_is_told : (command : Option Command) (first : Option Told) → IfSome
 memory_is_told command None = tt
 memory_is_told command (Some t) = memory_here command t.files
 
+phase_memory : (files : Files) (name : List ℕ) (source : Option (List ℕ)) (line : Option ℕ) → IsLineBy files name source NoMemory line
+phase_memory files name None line = tt
+phase_memory files name (Some text) line = λ output comes. tt
+
 line_memory : (command : Option Command) (files : Files) (line : Option ℕ) → IsLineTold command files NoMemory line
 line_memory (Some (Go opts)) files line = λ shown is. tt
 line_memory (Some (BuildAll opts)) files line = λ shown is. tt
 line_memory (Some (Where k opts)) files line = λ shown is. tt
 line_memory (Some (Interp opts)) files line = λ shown is. tt
 line_memory (Some (Bench number opts)) files line = λ shown is. tt
-line_memory (Some (PhaseOne name optimise)) files line = tt
+line_memory (Some (PhaseOne name optimise)) files line = phase_memory files name (finite.get files (source_name name)) line
 line_memory command files line = tt
 
 pub memory_line : (command : Option Command) (first : Option Told) → IfSome first (λ t. IsLineTold command t.files NoMemory None)

@@ -5,7 +5,7 @@ use Rattle.pw_store_modules.specs.Modules.{modules_of}
 use Rattle.pw_store_texts.specs.Seen.{IsSeen}
 use Rattle.pw_commands_cpp.specs.Telling.{IsToldAnswer, TellsOrFails}
 use Rattle.pw_commands_interp.specs.Interpreting.{told_line}
-use Rattle.pw_commands_phases.specs.First.{phase_line}
+use Rattle.pw_commands_phases.specs.First.{IsPhaseLine}
 use Rattle.pw_law_session.specs.FromSession.Bench.{IsBenchLine}
 use Rattle.pw_law_session.specs.FromSession.FromBuildFiles.Seen.{IsSeenLine}
 use Rattle.pw_top_answer.specs.declared.answer.Answer.{Answer}
@@ -49,7 +49,7 @@ IsLineTold (Some (Build opts)) files answer line = IsSeenLine files answer line
 IsLineTold (Some (Where k opts)) files answer line = IsSeenLine files answer line
 IsLineTold (Some (Interp opts)) files answer line = (shown : Files) → IsSeen files shown → IsLineDue (told_line (modules_of shown) answer) answer line
 IsLineTold (Some (Bench number opts)) files answer line = IsBenchLine number answer line
-IsLineTold (Some (PhaseOne name optimise)) files answer line = IsLineDue (phase_line files name) answer line
+IsLineTold (Some (PhaseOne name optimise)) files answer line = IsPhaseLine files name answer line
 IsLineTold command files answer line = IsLineDue None answer line
 
 -- what the call answered of it: so it was told, or memory ran out for the line
