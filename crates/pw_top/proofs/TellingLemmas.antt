@@ -1,5 +1,5 @@
 -- What a call did whose answer was told.
-use Rattle.std.proofs.Common.{◌≡◌, ℕ, ◌⊎◌, ⊎_elim, inl, inr, List, [], Option, Some, None, Result, Ok, Err, refl, sym, ◌∙◌, subst}
+use Rattle.std.proofs.Common.{◌≡◌, ℕ, Bool, true, false, ◌⊎◌, ⊎_elim, inl, inr, List, [], Option, Some, None, Result, Ok, Err, refl, sym, ◌∙◌, subst}
 use Rattle.std.specs.Prelude.{IfSome}
 use Rattle.std.specs.FinMap as finite
 use Rattle.pw_io.specs.Files.{Files, Told, Keeps}
@@ -33,9 +33,15 @@ use Rattle.pw_top.specs.Answers.{HoldsNoWantOfMemory, IsNoUsage}
 use Rattle.pw_top.specs.Commands.{BuildsFirst, BuildsWhole}
 use Rattle.pw_top.specs.Does.{DoesAs}
 use Rattle.pw_top.specs.Obeying.{CarriesOut, CarriesOutTold, Outside, outside_of}
-use Rattle.pw_top.specs.Telling.{AnswersAs, BuildsAs, IsAnswered, IsLineTold, IsNoBuilder, IsToldBy, IsToldFor}
+use Rattle.pw_top.specs.Telling.{AnswersAs, BuildsAs, IsAnswered, IsLineTold, IsNoBuilder, IsToldBy, IsToldFor, builds_files}
 use Rattle.pw_top.proofs.CommandLemmas.{none_due}
 use Rattle.pw_top.proofs.GenuineLemmas.{kept_others, stays_genuine}
+
+false_is_not_true : ◌≡◌ {A = Bool} false true → ⊥
+false_is_not_true e = cc
+
+true_is_not_false : ◌≡◌ {A = Bool} true false → ⊥
+true_is_not_false e = cc
 
 -- ---- one answer
 
@@ -295,6 +301,53 @@ command_told (Interp opts) reply result old mid new rest taken faults count inpu
     interp_told opts reply.answer result.answer reply.line result.line old mid new rest taken faults count input output c (record { told = told; any = any; line_is = line; kept = kept; counted = counted })
 command_told command reply result old mid new rest taken faults count input output c told any line kept counted alone =
     let a = alone tt in alone_told (Some command) reply result old mid new rest taken faults count input output tt c a.0 a.1 a.2
+
+-- ---- by what a command builds
+
+told_source_here : (command : Command) (files : Files) (answer told : Answer) → builds_files command ≡ true → TellsOrFails files answer told → IsToldBy (Some command) files answer told
+told_source_here (Go opts) files answer told b h = h
+told_source_here (BuildAll opts) files answer told b h = h
+told_source_here (Where k opts) files answer told b h = h
+told_source_here (Interp opts) files answer told b h = h
+told_source_here _ files answer told b h = absurd (false_is_not_true b)
+
+pub told_by_source : (command : Command) (first : Option Told) (answer told : Answer) → builds_files command ≡ true → IfSome first (λ t. TellsOrFails t.files answer told) → IfSome first (λ t. IsToldBy (Some command) t.files answer told)
+told_by_source command None answer told b h = tt
+told_by_source command (Some t) answer told b h = told_source_here command t.files answer told b h
+
+pub told_for_source : (command : Command) (answer told : Answer) → builds_files command ≡ true → IsToldAnswer answer told → IsToldFor (Some command) answer told
+told_for_source (Go opts) answer told b h = h
+told_for_source (BuildAll opts) answer told b h = h
+told_for_source (Where k opts) answer told b h = h
+told_for_source (Interp opts) answer told b h = h
+told_for_source _ answer told b h = absurd (false_is_not_true b)
+
+builder_is : (command : Command) → builds_files command ≡ false → IsNoBuilder (Some command)
+builder_is (Go opts) b = absurd (true_is_not_false b)
+builder_is (BuildAll opts) b = absurd (true_is_not_false b)
+builder_is (Where k opts) b = absurd (true_is_not_false b)
+builder_is (Interp opts) b = absurd (true_is_not_false b)
+builder_is _ b = tt
+
+pub told_by_none : (command : Command) (first : Option Told) (answer : Answer) → builds_files command ≡ false → IfSome first (λ t. IsToldBy (Some command) t.files answer answer)
+told_by_none command first answer b = plain_over (Some command) first answer (builder_is command b)
+
+plain_for : (command : Option Command) (answer : Answer) → IsNoBuilder command → IsToldFor command answer answer
+plain_for (Some (Go opts)) answer is = absurd is
+plain_for (Some (BuildAll opts)) answer is = absurd is
+plain_for (Some (Where k opts)) answer is = absurd is
+plain_for (Some (Interp opts)) answer is = absurd is
+plain_for command answer is = refl
+
+pub told_for_none : (command : Command) (answer : Answer) → builds_files command ≡ false → IsToldFor (Some command) answer answer
+told_for_none command answer b = plain_for (Some command) answer (builder_is command b)
+
+pub no_builder : (command : Command) (P : Type 0) → builds_files command ≡ true → IsNoBuilder (Some command) → P
+no_builder (Go opts) P b is = absurd is
+no_builder (BuildAll opts) P b is = absurd is
+no_builder (Where k opts) P b is = absurd is
+no_builder (Interp opts) P b is = absurd is
+no_builder _ P b is = absurd (false_is_not_true b)
 
 pub usage_for : (command : Command) (answer told : Answer) → IsToldFor (Some command) answer told → IsNoUsage answer → IsNoUsage told
 usage_for (Go opts) answer told h u = answer_told IsNoUsage usage_told answer told h u

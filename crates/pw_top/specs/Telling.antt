@@ -1,5 +1,5 @@
 -- What is told of a command's answer: where a module is refused that has a C source, the preprocessor's fault, or that its output is.
-use Rattle.std.specs.Prelude.{◌≡◌, ◌⊎◌, ℕ, List, Option, Some, None}
+use Rattle.std.specs.Prelude.{◌≡◌, ◌⊎◌, ℕ, Bool, true, false, List, Option, Some, None}
 use Rattle.pw_io.specs.Files.{Files, Told}
 use Rattle.pw_store_modules.specs.Modules.{modules_of}
 use Rattle.pw_store_texts.specs.Seen.{IsSeen}
@@ -33,7 +33,15 @@ IsToldFor (Some (Where k opts)) answer told = IsToldAnswer answer told
 IsToldFor (Some (Interp opts)) answer told = IsToldAnswer answer told
 IsToldFor command answer told = told ≡ answer
 
--- the command builds over no files of the store
+-- the command builds over the files of the store
+abbrev pub builds_files : Command → Bool
+builds_files (Go opts) = true
+builds_files (Build opts) = true
+builds_files (Where k opts) = true
+builds_files (Interp opts) = true
+builds_files _ = false
+
+-- it does not
 abbrev pub IsNoBuilder : Option Command → Type 0
 IsNoBuilder (Some (Go opts)) = ⊥
 IsNoBuilder (Some (Build opts)) = ⊥

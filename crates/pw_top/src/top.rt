@@ -8,7 +8,7 @@ ghost use Rattle.pw_law_session.specs.FromSession.FromBuildFiles.Genuine.{KeepsG
 ghost use Rattle.pw_top.specs.Answers.{HoldsNoWantOfMemory, IsNoUsage};
 ghost use Rattle.pw_top.specs.Commands.{EndsScript, IsComplete, IsNoSession, KeepsTheRest, OnlyReads, is_builder, is_phase, is_reader};
 ghost use Rattle.pw_top.specs.Obeying.{CarriesOut, CarriesOutTold, outside_of};
-ghost use Rattle.pw_top.specs.Telling.{AnswersAs, BuildsAs, IsLineTold, IsNoBuilder, IsToldBy, IsToldFor};
+ghost use Rattle.pw_top.specs.Telling.{AnswersAs, BuildsAs, IsLineTold, IsNoBuilder, IsToldBy, IsToldFor, builds_files};
 ghost use Rattle.pw_top_words.specs.CommandLine.{command_of};
 ghost use Rattle.pw_top_words.specs.Limits.{IsWithin};
 
@@ -150,7 +150,18 @@ fn obey<S: Store, I: Source, O: Sink>(
     }
 }
 
+/// Whether a command builds over the files of the store.
+fn builds_files(command: &Command) -> bool
+    ensures { result ≡ builds_files command.now }
+{
+    match command {
+        Command::Go(_) | Command::Build(_) | Command::Where { .. } | Command::Interp(_) => true,
+        _ => false,
+    }
+}
+
 /// What is told of a command's reply: of one that builds over the files of the store what came of the C source of a refused module.
+#[tactic(auto, using(crate::proofs::TellingLemmas::told_by_source, crate::proofs::TellingLemmas::told_by_none, crate::proofs::TellingLemmas::told_for_source, crate::proofs::TellingLemmas::told_for_none, crate::proofs::TellingLemmas::no_builder))]
 fn tell_builder<S: Store>(alloc: Global, command: &Command, store: &mut S, reply: Reply) -> Reply
     ensures told { IfSome (S.told store.old) (λ told. IsToldBy (Some command.now) told.files reply.answer result.answer) }
     ensures answer { IsToldFor (Some command.now) reply.answer result.answer }
@@ -159,11 +170,10 @@ fn tell_builder<S: Store>(alloc: Global, command: &Command, store: &mut S, reply
     ensures count { (before : ℕ) → StoreCount before (S.faults store.old) reply.answer → StoreCount before (S.faults store.new) result.answer }
     ensures alone { IsNoBuilder (Some command.now) → (S.told store.new ≡ S.told store.old) × (S.faults store.new ≡ S.faults store.old) × (result ≡ reply) }
 {
-    match command {
-        Command::Go(_) | Command::Build(_) | Command::Where { .. } | Command::Interp(_) => {
-            tell_source(alloc, store, reply)
-        }
-        _ => reply,
+    if builds_files(command) {
+        tell_source(alloc, store, reply)
+    } else {
+        reply
     }
 }
 
