@@ -37,7 +37,7 @@ use Rattle.pw_top.specs.FromLawSession.FromMeaning.FromLawWhole.Programs.{AreMod
 use Rattle.pw_top.specs.FromLawSession.FromMeaning.Meaning.{BuildsAndMeans, Means, runs_of}
 use Rattle.pw_commands.specs.MachineRun.{run_answer, run_output}
 use Rattle.pw_top_answer.specs.declared.answer.Answer.{Answer}
-use Rattle.pw_top_answer.specs.declared.answer.Answer.TheVariants.{Done, Ended, Usage, Refused, RefusedSource, Cpp, LinkRefused, StackStop, Spent, Halted, ReadFault, WriteFault, StoreFault, NoMemory, BadFile, BadScript, NoFrames, Undefined}
+use Rattle.pw_top_answer.specs.declared.answer.Answer.TheVariants.{Done, Ended, Usage, Refused, RefusedSource, Cpp, LinkRefused, StackStop, Spent, Halted, ReadFault, WriteFault, StoreFault, NoMemory, BadFile, BadScript, NoFrames, Undefined, UndefinedSource}
 use Rattle.pw_top_answer.specs.Outcomes.{Answers, LeavesStreams, PutsOut}
 use Rattle.pw_top_words.specs.CommandLine.{command_of}
 use Rattle.pw_top_words.specs.declared.commands.Command.{Command}
@@ -198,6 +198,7 @@ by_answer wanted (BadFile name at) taken taken' e part says = says e
 by_answer wanted (BadScript at) taken taken' e part says = says e
 by_answer wanted (NoFrames address) taken taken' e part says = says e
 by_answer wanted (Undefined operation home token) taken taken' e part says = says e
+by_answer wanted (UndefinedSource operation home token) taken taken' e part says = says e
 
 if_made : (answer : Answer) (P : Type 0) (taken taken' : Option (List ℕ)) → (answer ≡ StoreFault → taken' ≡ taken) → IfMade answer P → (P → SaysHi answer taken taken') → SaysHi answer taken taken'
 if_made Done P taken taken' left h says = says h
@@ -218,6 +219,7 @@ if_made (BadFile name at) P taken taken' left h says = says h
 if_made (BadScript at) P taken taken' left h says = says h
 if_made (NoFrames address) P taken taken' left h says = says h
 if_made (Undefined operation home token) P taken taken' left h says = says h
+if_made (UndefinedSource operation home token) P taken taken' left h says = says h
 
 -- ---- the call
 

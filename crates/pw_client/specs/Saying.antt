@@ -5,7 +5,7 @@ use Rattle.pw_io.specs.Streams.{Appends}
 use Rattle.pw_store_modules.specs.Modules.{modules_of}
 use Rattle.pw_store_texts.specs.Seen.{IsSeen}
 use Rattle.pw_top_answer.specs.declared.answer.Answer.{Answer}
-use Rattle.pw_top_answer.specs.declared.answer.Answer.TheVariants.{Done, Ended, Usage, Refused, RefusedSource, Cpp, StackStop, Halted, NoMemory, BadFile, BadScript, NoFrames, Undefined}
+use Rattle.pw_top_answer.specs.declared.answer.Answer.TheVariants.{Done, Ended, Usage, Refused, RefusedSource, Cpp, StackStop, Halted, NoMemory, BadFile, BadScript, NoFrames, Undefined, UndefinedSource}
 use Rattle.pw_hello.specs.Hello.{hello_name, hello_output, hello_text}
 
 -- the only module of the files is `hello`
@@ -37,4 +37,5 @@ SaysHi (BadFile name at) taken taken' = ⊥
 SaysHi (BadScript at) taken taken' = ⊥
 SaysHi (NoFrames address) taken taken' = ⊥
 SaysHi (Undefined operation home token) taken taken' = ⊥
+SaysHi (UndefinedSource operation home token) taken taken' = ⊥
 SaysHi _ taken taken' = PutsPrefix taken taken'

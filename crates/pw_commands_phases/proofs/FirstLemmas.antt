@@ -16,7 +16,7 @@ use Rattle.pw_summarise.specs.Summarises.{Summarises}
 use Rattle.pw_phase_one.specs.FirstPhase.{Phase, compiled}
 use Rattle.pw_store_modules.specs.FileNames.{text_name}
 use Rattle.pw_top_answer.specs.declared.answer.Answer.{Answer}
-use Rattle.pw_top_answer.specs.declared.answer.Answer.TheVariants.{Done, Refused, RefusedSource, StoreFault, NoMemory, BadFile, Undefined}
+use Rattle.pw_top_answer.specs.declared.answer.Answer.TheVariants.{Done, Refused, RefusedSource, StoreFault, NoMemory, BadFile, Undefined, UndefinedSource}
 use Rattle.pw_top_answer.specs.Effects.{Effect, PutsFiles, answers_alone, puts_files}
 use Rattle.pw_top_answer.specs.Outcomes.{Answers, IsLineDue, StoreCount}
 use Rattle.pw_commands.specs.Needed.{StopsAs, needed_bytes}
@@ -130,10 +130,15 @@ no_operation : (name text : List ℕ) (phase : Phase) (operation : _) (home : Li
 no_operation name text (Ok flow) operation home token line h = h
 no_operation name text (Err other) operation home token line h = let e : Undefined operation home token ≡ Refused name other = h.0 in cc
 
+no_source_operation : (name text : List ℕ) (phase : Phase) (operation : _) (home : List ℕ) (token : ℕ) (line : Option ℕ) → RepliesPhase name text phase (UndefinedSource operation home token) line → ⊥
+no_source_operation name text (Ok flow) operation home token line h = h
+no_source_operation name text (Err other) operation home token line h = let e : UndefinedSource operation home token ≡ Refused name other = h.0 in cc
+
 pub reply_due : (name text : List ℕ) (phase : Phase) (answer : Answer) (line : Option ℕ) → Replies name text phase answer line → IsLineDue (line_in text phase) answer line
 reply_due name text phase (Refused own refusal) line h = phase_due name text phase (Refused own refusal) line h
 reply_due name text phase (RefusedSource own refusal) line h = absurd (no_source name text phase own refusal line h)
 reply_due name text phase (Undefined operation home token) line h = absurd (no_operation name text phase operation home token line h)
+reply_due name text phase (UndefinedSource operation home token) line h = absurd (no_source_operation name text phase operation home token line h)
 reply_due name text phase _ line h = tt
 
 -- ---- answers that name no module
@@ -142,6 +147,7 @@ pub put_line : (due : Option ℕ) (answer : Answer) (line : Option ℕ) → IsPu
 put_line due (Refused own refusal) line h = absurd h
 put_line due (RefusedSource own refusal) line h = absurd h
 put_line due (Undefined operation home token) line h = absurd h
+put_line due (UndefinedSource operation home token) line h = absurd h
 put_line due _ line h = tt
 
 pub put_is_phase : (answer : Answer) → IsPutAnswer answer → IsTextAnswer answer
@@ -160,6 +166,7 @@ stop_line : (due : Option ℕ) (answer : Answer) (line : Option ℕ) → IsFileS
 stop_line due (Refused own refusal) line h = absurd h
 stop_line due (RefusedSource own refusal) line h = absurd h
 stop_line due (Undefined operation home token) line h = absurd h
+stop_line due (UndefinedSource operation home token) line h = absurd h
 stop_line due _ line h = tt
 
 pub file_stop_line : (first : Option Told) (name : List ℕ) (answer : Answer) (line : Option ℕ) → IsFileStop answer → IfSome first (λ t. IsLineDue (text_line t.files name) answer line)

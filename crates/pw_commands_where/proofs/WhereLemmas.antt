@@ -165,6 +165,7 @@ look_due : (due : Option ℕ) (a : Answer) → IsLookAnswer a → IsLineDue due 
 look_due due (answer.Refused name refusal) k = absurd k
 look_due due (answer.RefusedSource name refusal) k = absurd k
 look_due due (answer.Undefined operation home token) k = absurd k
+look_due due (answer.UndefinedSource operation home token) k = absurd k
 look_due due _ k = tt
 
 pub look_line : (told : Option Told) (a : Answer) → IsLookAnswer a → IfSome told (λ t. IsSeenLine t.files a None)
@@ -180,6 +181,7 @@ look_is_where (answer.LinkRefused fault) k = absurd k
 look_is_where (answer.BadFile name at) k = absurd k
 look_is_where (answer.BadScript at) k = absurd k
 look_is_where (answer.Undefined operation home token) k = absurd k
+look_is_where (answer.UndefinedSource operation home token) k = absurd k
 look_is_where _ k = tt
 
 pub look_stores : (before now : ℕ) (a : Answer) → IsLookAnswer a → now ≡ before → StoreCount before now a

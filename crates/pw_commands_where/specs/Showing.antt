@@ -12,7 +12,7 @@ use Rattle.pw_debug_frames.specs.Frames.{AreFrames}
 use Rattle.pw_where.specs.Calls.{Passes}
 use Rattle.pw_where.specs.Looks.{ShowsAt, entries_in, start_over}
 use Rattle.pw_top_answer.specs.declared.answer.Answer.{Answer}
-use Rattle.pw_top_answer.specs.declared.answer.Answer.TheVariants.{Done, Usage, Refused, RefusedSource, Cpp, LinkRefused, BadFile, BadScript, NoFrames, Undefined}
+use Rattle.pw_top_answer.specs.declared.answer.Answer.TheVariants.{Done, Usage, Refused, RefusedSource, Cpp, LinkRefused, BadFile, BadScript, NoFrames, Undefined, UndefinedSource}
 use Rattle.pw_top_answer.specs.Effects.{Effect, NamedFile, answers_alone}
 use Rattle.pw_commands.specs.MachineRun.{run_answer, run_rest}
 use Rattle.pw_build_files.specs.FromBuild.BuildFault.{BuildFault}
@@ -56,4 +56,5 @@ IsWhereAnswer (LinkRefused fault) = fault ≢ link.NoMemory
 IsWhereAnswer (BadFile name at) = ⊥
 IsWhereAnswer (BadScript at) = ⊥
 IsWhereAnswer (Undefined operation name token) = ⊥
+IsWhereAnswer (UndefinedSource operation name token) = ⊥
 IsWhereAnswer _ = Unit {0}

@@ -129,6 +129,7 @@ run_due : (due : Option ℕ) (a : Answer) → IsRunAnswer a → IsLineDue due a 
 run_due due (answer.Refused name refusal) k = absurd k
 run_due due (answer.RefusedSource name refusal) k = absurd k
 run_due due (answer.Undefined operation home token) k = absurd k
+run_due due (answer.UndefinedSource operation home token) k = absurd k
 run_due due _ k = tt
 
 pub run_line : (told : Option Told) (a : Answer) → IsRunAnswer a → IfSome told (λ t. IsSeenLine t.files a None)
@@ -146,6 +147,7 @@ run_is (answer.BadFile name at) k = absurd k
 run_is (answer.BadScript at) k = absurd k
 run_is (answer.NoFrames address) k = absurd k
 run_is (answer.Undefined operation home token) k = absurd k
+run_is (answer.UndefinedSource operation home token) k = absurd k
 run_is _ k = tt
 
 pub run_stores : (before now : ℕ) (a : Answer) → IsRunAnswer a → now ≡ before → StoreCount before now a

@@ -8,7 +8,7 @@ use Rattle.pw_image.specs.Image.{Contents, IsImageFile}
 use Rattle.pw_machine.specs.Run.{Progress, run_of}
 use Rattle.pw_machine.specs.Start.{image_start}
 use Rattle.pw_top_answer.specs.declared.answer.Answer.{Answer}
-use Rattle.pw_top_answer.specs.declared.answer.Answer.TheVariants.{Done, Usage, Refused, LinkRefused, StoreFault, NoMemory, BadFile, BadScript, NoFrames, RefusedSource, Cpp, Undefined}
+use Rattle.pw_top_answer.specs.declared.answer.Answer.TheVariants.{Done, Usage, Refused, LinkRefused, StoreFault, NoMemory, BadFile, BadScript, NoFrames, RefusedSource, Cpp, Undefined, UndefinedSource}
 use Rattle.pw_top_answer.specs.Effects.{Effect, NamedFile, PutsFiles, answers_alone}
 use Rattle.pw_top_answer.specs.Outcomes.{Answers, LeavesInput, PutsOut}
 use Rattle.pw_commands.specs.MachineRun.{run_answer, run_output, run_rest, start_state}
@@ -67,6 +67,7 @@ IsGoAnswer (BadFile name at) = ⊥
 IsGoAnswer (BadScript at) = ⊥
 IsGoAnswer (NoFrames address) = ⊥
 IsGoAnswer (Undefined operation name token) = ⊥
+IsGoAnswer (UndefinedSource operation name token) = ⊥
 IsGoAnswer _ = Unit {0}
 
 -- ---- inside

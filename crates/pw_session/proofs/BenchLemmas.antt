@@ -14,7 +14,7 @@ use Rattle.pw_machine.specs.Start.{image_start}
 use Rattle.pw_commands.specs.MachineRun.{run_answer}
 use Rattle.pw_store_modules.specs.Modules.{modules_of}
 use Rattle.pw_top_answer.specs.declared.answer.Answer.{Answer}
-use Rattle.pw_top_answer.specs.declared.answer.Answer.TheVariants.{Done, Usage, Refused, RefusedSource, Cpp, LinkRefused, WriteFault, StoreFault, NoMemory, BadFile, Undefined}
+use Rattle.pw_top_answer.specs.declared.answer.Answer.TheVariants.{Done, Usage, Refused, RefusedSource, Cpp, LinkRefused, WriteFault, StoreFault, NoMemory, BadFile, Undefined, UndefinedSource}
 use Rattle.pw_top_answer.specs.Effects.{Effect, answers_alone, prints}
 use Rattle.pw_top_answer.specs.Outcomes.{Answers, IsLineDue, IsPrintAnswer, LeavesStreams, OutputCount, PutsOut, StoreCount}
 use Rattle.pw_store_texts.specs.Seen.{IsSeen}
@@ -162,6 +162,7 @@ said_due : (due : Option ℕ) (answer : Answer) (line : Option ℕ) → IsPrintA
 said_due due (Refused name refusal) line k = absurd k
 said_due due (RefusedSource name refusal) line k = absurd k
 said_due due (Undefined operation home token) line k = absurd k
+said_due due (UndefinedSource operation home token) line k = absurd k
 said_due due _ line k = tt
 
 pub said_at : (number : ℕ) (answer : Answer) (line : Option ℕ) → IsPrintAnswer answer → IsBenchLine number answer line

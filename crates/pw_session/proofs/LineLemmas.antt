@@ -11,7 +11,7 @@ use Rattle.pw_commands_cpp.specs.Telling.{TellsAnswer, TellsOrFails, TellsRefusa
 use Rattle.pw_store_texts.specs.Names.{is_text_file}
 use Rattle.pw_store_texts.specs.Seen.{IsSeen}
 use Rattle.pw_top_answer.specs.declared.answer.Answer.{Answer}
-use Rattle.pw_top_answer.specs.declared.answer.Answer.TheVariants.{Done, Refused, RefusedSource, LinkRefused, StoreFault, NoMemory, Undefined}
+use Rattle.pw_top_answer.specs.declared.answer.Answer.TheVariants.{Done, Refused, RefusedSource, LinkRefused, StoreFault, NoMemory, Undefined, UndefinedSource}
 use Rattle.pw_top_answer.specs.declared.answer.Reply.{Reply}
 use Rattle.pw_top_answer.specs.Answers.{line_text}
 use Rattle.pw_top_answer.specs.Effects.{IsLeft, NamedFile, PutsFiles, after_puts}
@@ -118,6 +118,7 @@ due_text : (told : Answer) (due number : Option ℕ) → IsLineDue due told numb
 due_text (Refused name refusal) due number h = ap (λ (n : Option ℕ). line_text n (Refused name refusal)) h
 due_text (RefusedSource name refusal) due number h = ap (λ (n : Option ℕ). line_text n (RefusedSource name refusal)) h
 due_text (Undefined operation name token) due number h = ap (λ (n : Option ℕ). line_text n (Undefined operation name token)) h
+due_text (UndefinedSource operation name token) due number h = ap (λ (n : Option ℕ). line_text n (UndefinedSource operation name token)) h
 due_text _ due number h = refl
 
 -- the line that was put out is the one that the refusal comes to

@@ -12,7 +12,7 @@ use Rattle.pw_summary.specs.declared.summary.Summary.{Summary}
 use Rattle.pw_image.specs.declared.image.Image.{Image}
 use Rattle.pw_machine.specs.Core.{Core}
 use Rattle.pw_top_answer.specs.declared.answer.Answer.{Answer}
-use Rattle.pw_top_answer.specs.declared.answer.Answer.TheVariants.{Usage, Refused, RefusedSource, Cpp, LinkRefused, ReadFault, WriteFault, StoreFault, NoMemory, BadFile, Undefined}
+use Rattle.pw_top_answer.specs.declared.answer.Answer.TheVariants.{Usage, Refused, RefusedSource, Cpp, LinkRefused, ReadFault, WriteFault, StoreFault, NoMemory, BadFile, Undefined, UndefinedSource}
 use Rattle.pw_top_answer.specs.Effects.{Effect, NamedFile, PutsFiles, answers_alone, prints}
 use Rattle.pw_top_answer.specs.Outcomes.{Answers, InputCount, IsLineDue, LeavesInput, LeavesStreams, OutputCount, PutsOut}
 use Rattle.pw_go.specs.Ends.{EndsIn}
@@ -418,6 +418,7 @@ first_line : (answer : Answer) → IsLineDue None answer None
 first_line (Refused name refusal) = refl
 first_line (RefusedSource name refusal) = refl
 first_line (Undefined operation home token) = refl
+first_line (UndefinedSource operation home token) = refl
 first_line _ = tt
 
 -- an answer of a command that refuses no module

@@ -3,7 +3,7 @@ use Rattle.std.proofs.Common.{◌≡◌, ℕ, List, [], Option, Some, None, Resu
 use Rattle.std.specs.Prelude.{IfSome, IsSomeAnd}
 use Rattle.pw_io.specs.Files.{Told}
 use Rattle.pw_top_answer.specs.declared.answer.Answer.{Answer}
-use Rattle.pw_top_answer.specs.declared.answer.Answer.TheVariants.{Done, Usage, Refused, RefusedSource, Cpp, LinkRefused, Halted, ReadFault, WriteFault, StoreFault, NoMemory, BadFile, BadScript, NoFrames, Undefined}
+use Rattle.pw_top_answer.specs.declared.answer.Answer.TheVariants.{Done, Usage, Refused, RefusedSource, Cpp, LinkRefused, Halted, ReadFault, WriteFault, StoreFault, NoMemory, BadFile, BadScript, NoFrames, Undefined, UndefinedSource}
 use Rattle.pw_top_answer.specs.Answers.{NeedsMemory}
 use Rattle.pw_top_answer.specs.Effects.{Effect, NamedFile, PutsFiles}
 use Rattle.pw_top_answer.specs.Outcomes.{InputCount, StoreCount}
@@ -73,6 +73,7 @@ some_memory may (BadFile name at) told new n h = h
 some_memory may (BadScript at) told new n h = h
 some_memory may (NoFrames address) told new n h = h
 some_memory may (Undefined operation home token) told new n h = h
+some_memory may (UndefinedSource operation home token) told new n h = h
 some_memory may _ told new n h = absurd n
 
 -- ---- want of memory in place of the answer's line
@@ -87,6 +88,7 @@ changes_front changes (BadFile name at) told new n h = record { done = changes; 
 changes_front changes (BadScript at) told new n h = record { done = changes; more = []; split = sym (append-nil changes); left = h }
 changes_front changes (NoFrames address) told new n h = record { done = changes; more = []; split = sym (append-nil changes); left = h }
 changes_front changes (Undefined operation home token) told new n h = record { done = changes; more = []; split = sym (append-nil changes); left = h }
+changes_front changes (UndefinedSource operation home token) told new n h = record { done = changes; more = []; split = sym (append-nil changes); left = h }
 changes_front changes _ told new n h = absurd n
 
 leaves_part : (script : List ℕ) (answer : Answer) (rest : Option (List ℕ)) → NeedsMemory answer → LeavesScript script answer rest → LeavesScript script NoMemory rest

@@ -3,7 +3,7 @@ use Rattle.std.proofs.Common.{◌≡◌, ℕ, ◌⊎◌, ⊎_elim, inl, inr, Lis
 use Rattle.std.specs.Prelude.{IfSome}
 use Rattle.pw_io.specs.Files.{Told}
 use Rattle.pw_top_answer.specs.declared.answer.Answer.{Answer}
-use Rattle.pw_top_answer.specs.declared.answer.Answer.TheVariants.{Usage, Refused, RefusedSource, Cpp, LinkRefused, Halted, StoreFault, NoMemory, BadFile, BadScript, NoFrames, Undefined}
+use Rattle.pw_top_answer.specs.declared.answer.Answer.TheVariants.{Usage, Refused, RefusedSource, Cpp, LinkRefused, Halted, StoreFault, NoMemory, BadFile, BadScript, NoFrames, Undefined, UndefinedSource}
 use Rattle.pw_top_answer.specs.Answers.{NeedsMemory}
 use Rattle.pw_top_answer.specs.Outcomes.{InputCount, LeavesStreams, OutputCount, StoreCount, ToldAs}
 use Rattle.pw_commands.specs.Others.{KeepsOthers}
@@ -107,6 +107,7 @@ store_told before now answer last t h = told_by (λ a. StoreCount before now a) 
     kept (BadScript at) n h = h
     kept (NoFrames address) n h = h
     kept (Undefined operation home token) n h = h
+    kept (UndefinedSource operation home token) n h = h
     kept _ n h = absurd n
 
 pub input_told : (before now : ℕ) (answer last : Answer) → ToldAs answer last → InputCount before now answer → InputCount before now last
@@ -122,6 +123,7 @@ input_told before now answer last t h = told_by (λ a. InputCount before now a) 
     kept (BadScript at) n h = h
     kept (NoFrames address) n h = h
     kept (Undefined operation home token) n h = h
+    kept (UndefinedSource operation home token) n h = h
     kept _ n h = absurd n
 
 pub output_told : (before now : ℕ) (answer last : Answer) → ToldAs answer last → OutputCount before now answer → OutputCount before now last
@@ -137,6 +139,7 @@ output_told before now answer last t h = told_by (λ a. OutputCount before now a
     kept (BadScript at) n h = h
     kept (NoFrames address) n h = h
     kept (Undefined operation home token) n h = h
+    kept (UndefinedSource operation home token) n h = h
     kept _ n h = absurd n
 
 pub streams_told : (P : Type 0) (answer last : Answer) (i i' o o' : Option (List ℕ)) → ToldAs answer last → (P → LeavesStreams answer i i' o o') → P → LeavesStreams last i i' o o'
