@@ -44,7 +44,7 @@ pub record Beside : Type 0 where
   pub database : (files shown : Files) → IsSeen files shown → finite.get shown database_name ≡ finite.get files database_name
   pub image : (files shown : Files) → IsSeen files shown → finite.get shown image_name ≡ finite.get files image_name
 
-kept_same : Beside → (files shown : Files) → IsSeen files shown → (name : List ℕ) → kept_object files name ≡ kept_object shown name
+pub kept_same : Beside → (files shown : Files) → IsSeen files shown → (name : List ℕ) → kept_object files name ≡ kept_object shown name
 kept_same beside files shown is name = ap (λ (bytes : Option (List ℕ)). object_in (counted bytes)) (sym (beside.object files shown name is))
 
 pub genuine_seen : Beside → (files shown : Files) → IsSeen files shown → KeepsGenuine files → KeepsGenuine shown

@@ -9,7 +9,7 @@ ghost use Rattle.pw_build_objects.specs.Programs.{Parts};
 ghost use Rattle.pw_build_files.specs.FromBuild.BuildFault.{BuildFault};
 ghost use Rattle.pw_build_files.specs.FromBuild.Builds.{Builds};
 ghost use Rattle.pw_build_files.specs.FromBuild.Full.{built_anew};
-ghost use Rattle.pw_build_files.specs.Building.{BuildOutcome, Outcome, kept_objects};
+ghost use Rattle.pw_build_files.specs.Building.{BuildOutcome, Outcome, kept_object, kept_objects};
 ghost use Rattle.pw_build_files.specs.Seen.{SeenOutcome};
 ghost use Rattle.pw_store_texts.specs.Seen.{IsSeen};
 ghost use Rattle.pw_build_files.specs.Full.{BuildsImage, image_of};
@@ -51,6 +51,13 @@ pub fn genuine_objects_give_the_full_build()
     names();
     modules_are_exact();
     build_laws::genuine_objects_give_the_full_build();
+}
+
+/// What is kept of a module stands so among the files as a build sees them.
+pub fn kept_objects_are_seen()
+    ensures { (files shown : Files) (name : List ℕ) → IsSeen files shown → kept_object files name ≡ kept_object shown name }
+{
+    built_files_are_seen();
 }
 
 /// Where the kept objects are genuine, so they are among the files as a build sees them.

@@ -13,7 +13,7 @@ pub use driving::{answer_of, build_modules, build_uncounted, put_report};
 pub use laws::{
     a_store_has_one_build, a_store_is_built_in_one_way, builds_leave_genuine_objects,
     genuine_files_keep_genuine, genuine_objects_are_seen, genuine_objects_give_the_full_build,
-    genuine_objects_give_the_full_image, texts_have_one_image,
+    genuine_objects_give_the_full_image, kept_objects_are_seen, texts_have_one_image,
 };
 pub use program::{modules_to_build, program_of};
 pub use pw_build::{

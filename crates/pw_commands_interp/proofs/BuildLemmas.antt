@@ -2,9 +2,7 @@
 use Rattle.std.proofs.Common.{◌≡◌, ◌≤◌, ℕ, List, [], ◌∷◌, ◌++◌, take, drop, map, Option, Some, None, Result, Ok, Err, refl, sym, ap, subst, ◌∙◌}
 use Rattle.std.specs.Prelude.{IfSome}
 use Rattle.std.proofs.lemmas.List.{take-append-drop}
-use Rattle.std.specs.FinMap as finite
 use Rattle.pw_io.specs.Files.{Files, Keeps, Told}
-use Rattle.pw_store_modules.specs.FileNames.{object_name}
 use Rattle.pw_store_texts.specs.Seen.{IsSeen}
 use Rattle.pw_object.specs.declared.object.Object.{Object}
 use Rattle.pw_db.specs.Limits.{colour_limit}
@@ -28,7 +26,7 @@ use Rattle.pw_build_files.specs.FromBuild.BuildFault.{BuildFault}
 use Rattle.pw_build_files.specs.FromBuild.BuildFault.TheVariants as build
 use Rattle.pw_build_files.specs.FromBuild.Builds.{Builds, BuildsBy}
 use Rattle.pw_build_files.specs.FromBuild.Full.{built_anew}
-use Rattle.pw_build_files.specs.Building.{counted, kept_object, kept_objects, object_in}
+use Rattle.pw_build_files.specs.Building.{kept_object, kept_objects}
 use Rattle.pw_build_files.specs.Seen.{SeesFault, SeesModules}
 use Rattle.pw_build_files.specs.Programs.{BuildsFiles, FaultBuilds}
 use Rattle.pw_build_files.specs.Outcomes.{fault_answer}
@@ -164,13 +162,14 @@ module _ (one : OneBuild) (files : Files) (opts : RunOpts) (few : opts.build.col
 abbrev pub OneWay : Type 0
 OneWay = (files shown other : Files) → IsSeen files shown → IsSeen files other → shown ≡ other
 
+-- what is kept stands among them as in the store
 abbrev pub ObjectsBeside : Type 0
-ObjectsBeside = (files shown : Files) (name : List ℕ) → IsSeen files shown → finite.get shown (object_name name) ≡ finite.get files (object_name name)
+ObjectsBeside = (files shown : Files) (name : List ℕ) → IsSeen files shown → kept_object files name ≡ kept_object shown name
 
 kept_shown : ObjectsBeside → (files shown : Files) → IsSeen files shown → (ms : List Module) → map (λ m. kept_object files m.name) ms ≡ map (λ m. kept_object shown m.name) ms
 kept_shown beside files shown is [] = refl
 kept_shown beside files shown is (m ∷ ms) =
-    ap (λ (o : Option Object). o ∷ map (λ m. kept_object files m.name) ms) (ap (λ (bytes : Option (List ℕ)). object_in (counted bytes)) (sym (beside files shown m.name is)))
+    ap (λ (o : Option Object). o ∷ map (λ m. kept_object files m.name) ms) (beside files shown m.name is)
     ∙ ap (λ (zs : List (Option Object)). kept_object shown m.name ∷ zs) (kept_shown beside files shown is ms)
 
 found_seen : (inner outer : Effect → Type 0) (a : Answer) → ((e : Effect) → inner e → outer e) → IsFound inner a → IsFound outer a

@@ -16,13 +16,15 @@ ghost use Rattle.pw_commands_interp.specs.Interpreting.{AreTyped, Did, DidOf, In
 use crate::answers::{answer_of, with_line};
 use crate::programs::{Program, program_of};
 use pw_build_files::build_laws::modules_have_one_build;
-use pw_build_files::{answer_of as refusal_of, modules_to_build, program_of as link_program};
+use pw_build_files::{
+    answer_of as refusal_of, kept_objects_are_seen, modules_to_build, program_of as link_program,
+};
 use pw_build_objects::Steps;
 use pw_build_opts::RunOpts;
 use pw_interp::interpret;
 use pw_io::{Sink, Source, Store};
 use pw_store_modules::Module;
-use pw_store_texts::{built_files_are_seen, files_are_seen_in_one_way};
+use pw_store_texts::files_are_seen_in_one_way;
 use pw_top_answer::{Answer, Reply};
 use std::alloc::{AllocError, Global};
 use std::marker::Brand;
@@ -99,7 +101,7 @@ fn interpret_counted<S: Store, L: Ledger, I: Source, O: Sink>(
     ensures streams { LeavesStreams result.answer (I.rest input.old) (I.rest input.new) (O.taken out.old) (O.taken out.new) }
 {
     modules_have_one_build();
-    built_files_are_seen();
+    kept_objects_are_seen();
     let mut steps: Steps<L> = Steps::new(blank);
     match link_program(alloc, store, modules, &opts.build, &mut steps) {
         Ok(linked) => {

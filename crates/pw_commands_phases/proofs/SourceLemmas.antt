@@ -39,8 +39,8 @@ refused_is name own refusal other e = ap source_answer e
 not_done : (name : List ℕ) (refusal : Refusal) → Refused name refusal ≡ Done → ⊥
 not_done name refusal e = cc
 
-not_bad : (name own : List ℕ) (refusal : Refusal) (at : Option ℕ) → Refused name refusal ≡ BadFile own at → ⊥
-not_bad name own refusal at e = cc
+not_bad : (name own : List ℕ) (refusal : Refusal) (offset : Option ℕ) → Refused name refusal ≡ BadFile own offset → ⊥
+not_bad name own refusal offset e = cc
 
 done_is_no_refusal : (own : List ℕ) (refusal : Refusal) → Done ≡ Refused own refusal → ⊥
 done_is_no_refusal own refusal e = cc
@@ -62,7 +62,7 @@ refused_obeys name o refusal (Refused own other) told new input k h =
 refused_obeys name o refusal StoreFault told new input k h = record { answers = λ e d. tt; puts = no_puts name o refusal StoreFault told new input h; found = tt }
 refused_obeys name o refusal NoMemory told new input k h = record { answers = λ e d. tt; puts = no_puts name o refusal NoMemory told new input h; found = tt }
 refused_obeys name o refusal Done told new input k h = absurd (not_done name refusal (h.answers (answers_alone (Refused name refusal) input) refl))
-refused_obeys name o refusal (BadFile own at) told new input k h = absurd (not_bad name own refusal at (h.answers (answers_alone (Refused name refusal) input) refl))
+refused_obeys name o refusal (BadFile own offset) told new input k h = absurd (not_bad name own refusal offset (h.answers (answers_alone (Refused name refusal) input) refl))
 refused_obeys name o refusal _ told new input k h = absurd k
 
 -- one that is not

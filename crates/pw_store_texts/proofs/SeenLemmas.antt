@@ -44,6 +44,13 @@ cut-is most text cut e = e
 pub made-text : (cut : List ℕ) (text : Vec ℕ) (output : Result (Vec ℕ) CppFault) → output ≡ Ok text → cut ≡ take text_read text.items → cut ≡ prefix_of text_read (seen_text (output_of output))
 made-text cut text output e t = cut-is text_read text.items cut t ∙ sym (ap (λ (o : Result (Vec ℕ) CppFault). prefix_of text_read (seen_text (output_of o))) e)
 
+-- a text that no module may have is short
+refused-length : length refused_text ≡ 1
+refused-length = refl
+
+pub refused-short : (items : List ℕ) → items ≡ refused_text → length items ≤ text_read
+refused-short items e = let one : length items ≡ 1 = ap length e ∙ refused-length in omega arith
+
 -- and of one that has a fault
 pub faulty-text : (items : List ℕ) (fault : CppFault) (output : Result (Vec ℕ) CppFault) → output ≡ Err fault → items ≡ refused_text → prefix_of text_read refused_text ≡ refused_text → items ≡ prefix_of text_read (seen_text (output_of output))
 faulty-text items fault output e t short = t ∙ sym short ∙ sym (ap (λ (o : Result (Vec ℕ) CppFault). prefix_of text_read (seen_text (output_of o))) e)

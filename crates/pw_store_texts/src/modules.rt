@@ -1,6 +1,6 @@
 //! The modules of a store as a build sees them: what comes of each C source stands as its module's text.
 
-ghost use Rattle.std.specs.Prelude.{◌≡◌, IfOk, IfSome, map};
+ghost use Rattle.std.specs.Prelude.{◌≡◌, ◌≤◌, IfOk, IfSome, length, map};
 ghost use Rattle.pw_io.specs.Faults.{HasStoreCause};
 ghost use Rattle.pw_io.specs.Files.{Keeps, prefix_of};
 ghost use Rattle.pw_store_modules.specs.Few.{HasModulesCause};
@@ -28,7 +28,8 @@ const REFUSED_TEXT: &[u8] = b"@";
 
 /// The text that a build sees of what came of a C source: the output, as far as texts are read, or a text that no module may have.
 pub fn shown_text(alloc: Global, output: Result<Vec<u8>, CppFault>) -> Result<Vec<u8>, AllocError>
-    ensures { IfOk result (λ text. text.items ≡ prefix_of text_read (seen_text (output_of output))) }
+    ensures text { IfOk result (λ text. text.items ≡ prefix_of text_read (seen_text (output_of output))) }
+    ensures short { IfOk result (λ text. length text.items ≤ text_read) }
 {
     front();
     match output {

@@ -5,7 +5,7 @@ use Rattle.pw_commands_interp.proofs.interpreting.interpret_modules.Goals as goa
 pub returns-in-Ok-clause-did : goal.returns-in-Ok-clause-did
 returns-in-Ok-clause-did g c =
     read_did c.files_are_seen_in_one_way.ensures c.args.opts.now c.in-Ok.modules.items (g.S.Store.told c.args.store.now) _ (g.I.Source.rest c.args.input.now) _ (g.O.Sink.taken c.args.out.now) _ c.interpret_counted.result.answer c.in-Ok.ensures.modules
-    c.in-Ok.ensures.same (rw c.deref.ensures.value at c.interpret_counted.ensures.did)
+    c.modules_to_build.ensures.same (rw c.deref.ensures.value at c.interpret_counted.ensures.did)
 
 pub returns-in-Ok-clause-line : goal.returns-in-Ok-clause-line
 returns-in-Ok-clause-line g c =

@@ -1,5 +1,4 @@
 use Rattle.std.proofs.Common.{map, arith}
-use Rattle.std.specs.Prelude.{nat_lt}
 use Rattle.pw_store_texts.specs.Seen.{outcome}
 use Rattle.pw_store_texts.proofs.SeenLemmas.{answers-many, answers-placed, answers-plain, no-outcomes}
 use Rattle.pw_store_texts.proofs.modules.seen_modules.Goals as goal
@@ -13,3 +12,8 @@ pub returns-clause-seen : goal.returns-clause-seen
 returns-clause-seen g c =
     answers-placed (record { exact = c.modules_are_exact.ensures.exact; inserted = c.other_files.ensures.inserted; insertion = c.other_files.ensures.insertion }) (g.S.Store.told c.args.store.now) _ (map outcome c.in_ok-outputs.outputs.items) c.in_ok-all.all
     c.in_ok-outputs.ensures.comes c.in_ok-outputs.ensures.same c.in_ok-all.ensures.placed (omega arith)
+
+pub returns-then-count-gt-MODULE_LIMIT-clause-seen : goal.returns-then-count-gt-MODULE_LIMIT-clause-seen
+returns-then-count-gt-MODULE_LIMIT-clause-seen g c =
+    answers-many (record { exact = c.modules_are_exact.ensures.exact; inserted = c.other_files.ensures.inserted; insertion = c.other_files.ensures.insertion }) (g.S.Store.told c.args.store.now) _ (map outcome c.in_ok-outputs.outputs.items) c.in_ok-all.all _
+    c.in_ok-outputs.ensures.comes c.in_ok-outputs.ensures.same c.in_ok-all.ensures.placed (omega arith) (omega arith)
