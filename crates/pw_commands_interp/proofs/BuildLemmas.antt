@@ -32,7 +32,7 @@ use Rattle.pw_build_files.specs.Programs.{BuildsFiles, FaultBuilds}
 use Rattle.pw_build_files.specs.Outcomes.{fault_answer}
 use Rattle.pw_build_opts.specs.declared.opts.Opts.{Opts}
 use Rattle.pw_build_opts.specs.declared.opts.RunOpts.{RunOpts}
-use Rattle.pw_commands_interp.specs.Interpreting.{AreTyped, Did, DidOf, InterpEffect, InterpOf, InterpOver, RanAs, RepliesTo, RunsLinked, TellsToken, UnlessMemory, frames_of, run_effect}
+use Rattle.pw_commands_interp.specs.Interpreting.{AreTyped, DidOf, DidPlain, InterpOf, PlainEffect, InterpOver, RanAs, RepliesTo, RunsLinked, TellsToken, UnlessMemory, frames_of, run_effect}
 use Rattle.pw_commands_interp.proofs.RunLemmas.{appends_none, if_some, untouched}
 use Rattle.pw_commands_interp.proofs.LineLemmas.{of_reply}
 
@@ -179,19 +179,19 @@ found_seen inner outer answer.StoreFault f h = tt
 found_seen inner outer answer.NoMemory f h = tt
 found_seen inner outer _ f h = (h.0, f h.0 h.1, h.2)
 
-seen_effect : OneWay → (files shown : Files) (opts : RunOpts) (input : List ℕ) (e : Effect) → IsSeen files shown → InterpEffect files opts input e → InterpOf shown opts input e
+seen_effect : OneWay → (files shown : Files) (opts : RunOpts) (input : List ℕ) (e : Effect) → IsSeen files shown → PlainEffect files opts input e → InterpOf shown opts input e
 seen_effect way files shown opts input e is (other, are, d) = subst (λ (f : Files). InterpOf f opts input e) (way files other shown are is) d
 
-did_seen : OneWay → (files shown : Files) (opts : RunOpts) (input : List ℕ) (a : Answer) (rest' taken taken' : Option (List ℕ)) → IsSeen files shown → DidOf (InterpOf shown opts input) input a rest' taken taken' → Did files opts input a rest' taken taken'
+did_seen : OneWay → (files shown : Files) (opts : RunOpts) (input : List ℕ) (a : Answer) (rest' taken taken' : Option (List ℕ)) → IsSeen files shown → DidOf (InterpOf shown opts input) input a rest' taken taken' → DidPlain files opts input a rest' taken taken'
 did_seen way files shown opts input a rest' taken taken' is h = record {
   answers = λ e d. h.answers e (seen_effect way files shown opts input e is d);
   output = λ e d. h.output e (seen_effect way files shown opts input e is d);
   rest = λ e d. h.rest e (seen_effect way files shown opts input e is d);
-  found = found_seen (InterpOf shown opts input) (InterpEffect files opts input) a (λ e d. (shown, is, d)) h.found;
+  found = found_seen (InterpOf shown opts input) (PlainEffect files opts input) a (λ e d. (shown, is, d)) h.found;
 }
 
 -- the store failed, or memory ran out
-failed_did : (files : Files) (opts : RunOpts) (input : List ℕ) (taken : Option (List ℕ)) → Did files opts input answer.StoreFault (Some input) taken taken
+failed_did : (files : Files) (opts : RunOpts) (input : List ℕ) (taken : Option (List ℕ)) → DidPlain files opts input answer.StoreFault (Some input) taken taken
 failed_did files opts input taken = record {
   answers = λ e d. tt;
   output = λ e d. record { output = []; more = e.output; taken = appends_none taken; front = refl; whole = tt };
@@ -199,7 +199,7 @@ failed_did files opts input taken = record {
   found = tt;
 }
 
-memory_did : (files : Files) (opts : RunOpts) (input : List ℕ) (taken : Option (List ℕ)) → Did files opts input answer.NoMemory (Some input) taken taken
+memory_did : (files : Files) (opts : RunOpts) (input : List ℕ) (taken : Option (List ℕ)) → DidPlain files opts input answer.NoMemory (Some input) taken taken
 memory_did files opts input taken = record {
   answers = λ e d. tt;
   output = λ e d. record { output = []; more = e.output; taken = appends_none taken; front = refl; whole = tt };
@@ -238,7 +238,7 @@ refused_did one beside opts few ms (Some t) rest taken fault a is h = λ shown s
     (subst (λ (o : Option (List ℕ)). DidOf (InterpOf shown opts input) input (fault_answer fault) o taken taken) (sym told) (fault_did one shown opts few input taken fault found)))
 
 -- modules that were not read, or are too many
-sees_did : OneBuild → OneWay → (files : Files) (opts : RunOpts) → opts.build.colours ≤ colour_limit → (input : List ℕ) (taken : Option (List ℕ)) (fault : BuildFault) → SeesFault files fault → Did files opts input (fault_answer fault) (Some input) taken taken
+sees_did : OneBuild → OneWay → (files : Files) (opts : RunOpts) → opts.build.colours ≤ colour_limit → (input : List ℕ) (taken : Option (List ℕ)) (fault : BuildFault) → SeesFault files fault → DidPlain files opts input (fault_answer fault) (Some input) taken taken
 sees_did one way files opts few input taken build.StoreFault h = failed_did files opts input taken
 sees_did one way files opts few input taken build.NoMemory h = memory_did files opts input taken
 sees_did one way files opts few input taken (build.Refused name refusal) h =
@@ -249,16 +249,16 @@ sees_did one way files opts few input taken (build.LinkRefused fault) h =
     (fault_did one h.0 opts few input taken (build.LinkRefused fault) (subst (λ x. BuildsBy x (kept_objects h.0) opts.build (Err (build.LinkRefused fault))) (sym h.2) refl))
 
 pub unread_did : OneBuild → OneWay → (opts : RunOpts) → opts.build.colours ≤ colour_limit → (told : Option Told) (rest taken : Option (List ℕ)) (fault : BuildFault) (a : Answer) → a ≡ fault_answer fault
-    → IfSome told (λ t. SeesFault t.files fault) → IfSome told (λ t. IfSome rest (λ input. Did t.files opts input a rest taken taken))
+    → IfSome told (λ t. SeesFault t.files fault) → IfSome told (λ t. IfSome rest (λ input. DidPlain t.files opts input a rest taken taken))
 unread_did one way opts few None rest taken fault a is h = tt
 unread_did one way opts few (Some t) rest taken fault a is h = if_some rest (λ input told.
-    subst (λ (x : Answer). Did t.files opts input x rest taken taken) (sym is)
-    (subst (λ (o : Option (List ℕ)). Did t.files opts input (fault_answer fault) o taken taken) (sym told) (sees_did one way t.files opts few input taken fault h)))
+    subst (λ (x : Answer). DidPlain t.files opts input x rest taken taken) (sym is)
+    (subst (λ (o : Option (List ℕ)). DidPlain t.files opts input (fault_answer fault) o taken taken) (sym told) (sees_did one way t.files opts few input taken fault h)))
 
 -- what was done by the modules that were read
 pub read_did : OneWay → (opts : RunOpts) (ms : List Module) (told mid : Option Told) (rest rest' taken taken' : Option (List ℕ)) (a : Answer) → IfSome told (λ t. SeesModules t.files (map source ms)) → Keeps told mid
     → IfSome mid (λ t. (shown : Files) → IsSeen t.files shown → map source ms ≡ modules_of shown → IfSome rest (λ input. DidOf (InterpOf shown opts input) input a rest' taken taken'))
-    → IfSome told (λ t. IfSome rest (λ input. Did t.files opts input a rest' taken taken'))
+    → IfSome told (λ t. IfSome rest (λ input. DidPlain t.files opts input a rest' taken taken'))
 read_did way opts ms None mid rest rest' taken taken' a sources same did = tt
 read_did way opts ms (Some t) mid rest rest' taken taken' a sources same did =
     let P : Option Told → Type 0 = λ o. IfSome o (λ u. (shown : Files) → IsSeen u.files shown → map source ms ≡ modules_of shown → IfSome rest (λ input. DidOf (InterpOf shown opts input) input a rest' taken taken')) in

@@ -11,10 +11,11 @@ ghost use Rattle.pw_store_modules.specs.Views.{source};
 ghost use Rattle.pw_store_texts.specs.Seen.{IsSeen};
 ghost use Rattle.pw_top_answer.specs.Outcomes.{InputCount, IsLineDue, LeavesStreams, OutputCount, StoreCount};
 ghost use Rattle.pw_build_files.specs.Outcomes.{AreOpts, HoldsImage};
-ghost use Rattle.pw_commands_interp.specs.Interpreting.{AreTyped, Did, DidOf, InterpOf, IsInterpAnswer, IsRunAnswer, RunsAs, RunsLinked, UnlessMemory, told_line};
+ghost use Rattle.pw_commands_interp.specs.Interpreting.{AreTyped, Did, DidOf, DidPlain, InterpOf, IsInterpAnswer, IsRunAnswer, RunsAs, RunsLinked, UnlessMemory, told_line};
 
 use crate::answers::{answer_of, with_line};
 use crate::programs::{Program, program_of};
+use crate::telling::told_reply;
 use pw_build_files::build_laws::modules_have_one_build;
 use pw_build_files::{
     answer_of as refusal_of, kept_objects_are_seen, modules_to_build, program_of as link_program,
@@ -116,16 +117,8 @@ fn interpret_counted<S: Store, L: Ledger, I: Source, O: Sink>(
     }
 }
 
-/// Builds the program of the modules of a store, without putting anything, and runs the modules by the meaning of C within the
-/// bound that `opts.budget` is, with the frames of the program's image and the stack of the options. A byte of the input is read
-/// when the program reads it, and a byte of the output put when the program writes it.
-///
-/// The answer is how the run ended: `Ended`, `StackStop`, `Spent` where it did not end within the bound, or `Undefined` at the first
-/// operation that has no meaning in C, with the module and the token that met it, and the token's line. `Refused` for the first
-/// module that is refused, with the line, and `LinkRefused` where the modules are refused together; then nothing is read or put
-/// out. At a fault of the store, the input or the output, or for want of memory, the run is given up: what was put out is a front of
-/// the program's output, and what was read a front of what it reads.
-pub fn interpret_modules<S: Store, I: Source, O: Sink>(
+/// The same, over the modules of a store.
+fn interpret_seen<S: Store, I: Source, O: Sink>(
     alloc: Global,
     store: &mut S,
     opts: &RunOpts,
@@ -133,7 +126,7 @@ pub fn interpret_modules<S: Store, I: Source, O: Sink>(
     out: &mut O,
 ) -> Reply
     requires { AreOpts opts.now.build }
-    ensures did { IfSome (S.told store.old) (λ told. IfSome (I.rest input.old) (λ rest. Did told.files opts.now rest result.answer (I.rest input.new) (O.taken out.old) (O.taken out.new))) }
+    ensures did { IfSome (S.told store.old) (λ told. IfSome (I.rest input.old) (λ rest. DidPlain told.files opts.now rest result.answer (I.rest input.new) (O.taken out.old) (O.taken out.new))) }
     ensures line { IfSome (S.told store.old) (λ told. (shown : Files) → IsSeen told.files shown → IsLineDue (told_line (modules_of shown) result.answer) result.answer result.line) }
     ensures same { Keeps (S.told store.old) (S.told store.new) }
     ensures answer { IsInterpAnswer result.answer }
@@ -157,6 +150,42 @@ pub fn interpret_modules<S: Store, I: Source, O: Sink>(
         Err(unbuilt) => Reply {
             line: unbuilt.line,
             answer: refusal_of(unbuilt.fault),
+        },
+    }
+}
+
+/// Builds the program of the modules of a store, without putting anything, and runs the modules by the meaning of C within the
+/// bound that `opts.budget` is, with the frames of the program's image and the stack of the options. A byte of the input is read
+/// when the program reads it, and a byte of the output put when the program writes it.
+///
+/// The answer is how the run ended: `Ended`, `StackStop`, `Spent` where it did not end within the bound, or `Undefined` at the first
+/// operation that has no meaning in C, with the module and the token that met it, and the token's line. `Refused` for the first
+/// module that is refused, with the line, and `LinkRefused` where the modules are refused together; then nothing is read or put
+/// out. At a fault of the store, the input or the output, or for want of memory, the run is given up: what was put out is a front of
+/// the program's output, and what was read a front of what it reads.
+#[tactic(auto, using(crate::proofs::ToldLemmas::did_told, crate::proofs::ToldLemmas::did_stored, crate::proofs::ToldLemmas::line_told, crate::proofs::ToldLemmas::line_stored, crate::proofs::ToldLemmas::kind_told, crate::proofs::ToldLemmas::kind_stored, crate::proofs::ToldLemmas::store_told, crate::proofs::ToldLemmas::read_told, crate::proofs::ToldLemmas::read_stored, crate::proofs::ToldLemmas::write_told, crate::proofs::ToldLemmas::write_stored, crate::proofs::ToldLemmas::streams_told, crate::proofs::ToldLemmas::streams_stored, crate::proofs::ToldLemmas::kept_told))]
+pub fn interpret_modules<S: Store, I: Source, O: Sink>(
+    alloc: Global,
+    store: &mut S,
+    opts: &RunOpts,
+    input: &mut I,
+    out: &mut O,
+) -> Reply
+    requires { AreOpts opts.now.build }
+    ensures did { IfSome (S.told store.old) (λ told. IfSome (I.rest input.old) (λ rest. Did told.files opts.now rest result.answer (I.rest input.new) (O.taken out.old) (O.taken out.new))) }
+    ensures line { IfSome (S.told store.old) (λ told. (shown : Files) → IsSeen told.files shown → IsLineDue (told_line (modules_of shown) result.answer) result.answer result.line) }
+    ensures same { Keeps (S.told store.old) (S.told store.new) }
+    ensures answer { IsInterpAnswer result.answer }
+    ensures store { StoreCount (S.faults store.old) (S.faults store.new) result.answer }
+    ensures read { InputCount (I.faults input.old) (I.faults input.new) result.answer }
+    ensures write { OutputCount (O.faults out.old) (O.faults out.new) result.answer }
+    ensures streams { LeavesStreams result.answer (I.rest input.old) (I.rest input.new) (O.taken out.old) (O.taken out.new) }
+{
+    match store.names(alloc) {
+        Ok(names) => told_reply(alloc, &names, interpret_seen(alloc, store, opts, input, out)),
+        Err(error) => Reply {
+            answer: Answer::from(error),
+            line: None,
         },
     }
 }

@@ -1,6 +1,6 @@
 use Rattle.pw_commands_interp.proofs.BuildLemmas.{read_did, unread_did}
 use Rattle.pw_commands_interp.proofs.LineLemmas.{fault_proper, fault_reads, fault_streams, fault_writes, line_read, line_unread}
-use Rattle.pw_commands_interp.proofs.interpreting.interpret_modules.Goals as goal
+use Rattle.pw_commands_interp.proofs.interpreting.interpret_seen.Goals as goal
 
 pub returns-in-Ok-clause-did : goal.returns-in-Ok-clause-did
 returns-in-Ok-clause-did g c =
