@@ -1,5 +1,5 @@
 -- What the command did, told of the file in which an undefined operation stands.
-use Rattle.std.proofs.Common.{◌≡◌, ℕ, Bool, true, false, if◌then◌else◌, ◌⊎◌, ⊎_elim, inl, inr, List, [], ◌∷◌, ◌++◌, ◌||◌, map, Option, Some, None, Result, Ok, Err, refl, sym, ap, ◌∙◌, subst, append-nil}
+use Rattle.std.proofs.Common.{◌≡◌, ℕ, Bool, true, false, if◌then◌else◌, ◌⊎◌, ⊎_elim, inl, inr, List, [], ◌∷◌, ◌++◌, ◌||◌, map, Option, Some, None, refl, sym, ap, ◌∙◌, subst}
 use Rattle.std.specs.Prelude.{IfSome, String, string_bytes}
 use Rattle.std.specs.declared.alloc.Global.{Global}
 use Rattle.std.specs.List.{list_any}
@@ -19,7 +19,7 @@ use Rattle.pw_store_texts.specs.Seen.{IsSeen}
 use Rattle.pw_build_opts.specs.declared.opts.RunOpts.{RunOpts}
 use Rattle.pw_commands.specs.Outcome.{IsFound}
 use Rattle.pw_top_answer.specs.declared.answer.Answer.{Answer}
-use Rattle.pw_top_answer.specs.declared.answer.Answer.TheVariants.{Refused, ReadFault, WriteFault, StoreFault, NoMemory, Undefined, UndefinedSource}
+use Rattle.pw_top_answer.specs.declared.answer.Answer.TheVariants.{ReadFault, WriteFault, StoreFault, NoMemory, Undefined, UndefinedSource}
 use Rattle.pw_top_answer.specs.Effects.{Effect}
 use Rattle.pw_top_answer.specs.Outcomes.{Answers, InputCount, IsLineDue, LeavesInput, LeavesStreams, OutputCount, PutsOut, StoreCount, WasReadInPart, store_answer}
 use Rattle.pw_commands_interp.specs.Interpreting.{Did, DidPlain, InterpEffect, IsInterpAnswer, IsToldEnd, PlainEffect, TellsToken, ToldAny, has_source, told_effect, told_end, told_line}
@@ -68,6 +68,13 @@ any_plain _ not = refl
 pub any_memory : (answer : Answer) → TellsToken answer → ToldAny answer NoMemory
 any_memory (Undefined operation home token) t = inr (inr refl)
 any_memory _ t = absurd t
+
+-- of a reply
+pub reply_told : (names : List (String Global)) (answer told : Answer) → ((files : Files) → map string_bytes names ≡ finite.keys files → told ≡ told_end files answer) → (files : Files) → map string_bytes names ≡ finite.keys files → IsToldEnd files answer told
+reply_told names answer told h = λ files e. inl (h files e)
+
+pub reply_memory : (names : List (String Global)) (answer : Answer) → TellsToken answer → (files : Files) → map string_bytes names ≡ finite.keys files → IsToldEnd files answer NoMemory
+reply_memory names answer t = λ files e. inr (refl, t)
 
 -- ---- what holds of an answer holds of what is told of it
 

@@ -1,6 +1,6 @@
 //! The file in which an undefined operation stands.
 
-ghost use Rattle.std.specs.Prelude.{◌≡◌, IfOk, List, OnErr, map, string_bytes};
+ghost use Rattle.std.specs.Prelude.{◌≡◌, IfOk, OnErr, map, string_bytes};
 ghost use Rattle.std.specs.FinMap as finite;
 ghost use Rattle.std.specs.List.{list_any};
 ghost use Rattle.std.specs.Str.{bytes_eq};
@@ -50,7 +50,7 @@ fn told_answer(alloc: Global, names: &[String], answer: Answer) -> Result<Answer
 }
 
 /// The same of a reply; want of memory may come in its place.
-#[tactic(auto, using(crate::proofs::ToldLemmas::any_memory))]
+#[tactic(auto, using(crate::proofs::ToldLemmas::reply_told, crate::proofs::ToldLemmas::reply_memory, crate::proofs::ToldLemmas::any_memory))]
 pub fn told_reply(alloc: Global, names: &[String], reply: Reply) -> Reply
     ensures told { (files : Files) → map string_bytes names.now ≡ finite.keys files → IsToldEnd files reply.answer result.answer }
     ensures any { ToldAny reply.answer result.answer }
