@@ -10,6 +10,3 @@ returns-in-Ok-clause-text c = made-text c.truncate.new.self.items c.in-Ok.text c
 pub returns-in_ok-text-in-Err-clause-text : goal.returns-in_ok-text-in-Err-clause-text
 returns-in_ok-text-in-Err-clause-text c =
     faulty-text c.in_ok-text-in-Err.text.items c.in-Err.field-0 c.args.output c.in-Err.is c.in_ok-text-in-Err.ensures.items (c.front.ensures.whole text_read refused_text (refused-short refused_text refl))
-
-pub returns-in_ok-text-in-Err-clause-short : goal.returns-in_ok-text-in-Err-clause-short
-returns-in_ok-text-in-Err-clause-short c = refused-short c.in_ok-text-in-Err.text.items c.in_ok-text-in-Err.ensures.items
