@@ -140,12 +140,15 @@ itself _ = refl
 same_answers : (wanted a : Answer) → wanted ≡ a → Answers wanted a
 same_answers wanted a e = subst (λ (x : Answer). Answers x a) (sym e) (itself a)
 
+same_told : (files : Files) (wanted a : Answer) → wanted ≡ a → Answers (told_end files wanted) (told_end files a)
+same_told files wanted a e = same_answers (told_end files wanted) (told_end files a) (ap (told_end files) e)
+
 answers_told : (files : Files) (wanted a : Answer) → Answers wanted a → Answers (told_end files wanted) (told_end files a)
 answers_told files wanted ReadFault h = tt
 answers_told files wanted WriteFault h = tt
 answers_told files wanted StoreFault h = tt
 answers_told files wanted NoMemory h = tt
-answers_told files wanted _ h = same_answers (told_end files wanted) (told_end files _) (ap (told_end files) h)
+answers_told files wanted _ h = same_told files wanted _ h
 
 found_is : (comes : Effect → Type 0) (a : Answer) (e : Effect) → comes e → e.answer ≡ a → IsFound comes a
 found_is comes ReadFault e c is = (e, c)
@@ -154,12 +157,15 @@ found_is comes StoreFault e c is = tt
 found_is comes NoMemory e c is = tt
 found_is comes _ e c is = (e, c, is)
 
+found_same : (files : Files) (opts : RunOpts) (input : List ℕ) (a : Answer) (e : Effect) → PlainEffect files opts input e → e.answer ≡ a → IsFound (InterpEffect files opts input) (told_end files a)
+found_same files opts input a e c is = found_is (InterpEffect files opts input) (told_end files a) (told_effect files e) (e, c, refl) (ap (told_end files) is)
+
 found_told : (files : Files) (opts : RunOpts) (input : List ℕ) (a : Answer) → IsFound (PlainEffect files opts input) a → IsFound (InterpEffect files opts input) (told_end files a)
 found_told files opts input ReadFault h = (told_effect files h.0, (h.0, h.1, refl))
 found_told files opts input WriteFault h = (told_effect files h.0, (h.0, h.1, refl))
 found_told files opts input StoreFault h = tt
 found_told files opts input NoMemory h = tt
-found_told files opts input _ h = found_is (InterpEffect files opts input) (told_end files _) (told_effect files h.0) (h.0, h.1, refl) (ap (told_end files) h.2)
+found_told files opts input _ h = found_same files opts input _ h.0 h.1 h.2
 
 end_did : (files : Files) (opts : RunOpts) (input : List ℕ) (a : Answer) (rest' taken taken' : Option (List ℕ)) → DidPlain files opts input a rest' taken taken' → Did files opts input (told_end files a) rest' taken taken'
 end_did files opts input a rest' taken taken' h = record {

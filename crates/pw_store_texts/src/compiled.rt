@@ -1,6 +1,7 @@
 //! What comes of a module's C source.
 
 ghost use Rattle.std.specs.Prelude.{◌≡◌, ◌≢◌, IfErr, true};
+ghost use Rattle.std.proofs.Props.{props};
 ghost use Rattle.pw_cpp_directives.specs.declared.fault.CppKind.TheVariants.{NoMemory};
 ghost use Rattle.pw_store_modules.specs.Modules.{is_module_name};
 
@@ -13,5 +14,5 @@ pub struct Compiled {
     pub name: Name,
     pub output: Result<Vec<u8>, CppFault>,
     ghost named: { is_module_name name ≡ true },
-    ghost proper: { IfErr output (λ fault. fault.kind ≢ NoMemory) },
+    ghost proper: { IfErr output (λ fault. fault.kind ≢ NoMemory) } by { Prim.hlevel props },
 }
