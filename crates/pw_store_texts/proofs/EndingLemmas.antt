@@ -1,5 +1,5 @@
 -- How the names of texts' files end: not as those of the files that a build puts.
-use Rattle.std.proofs.Common.{◌≡◌, ◌≢◌, ◌⊎◌, ⊎_elim, inl, inr, ℕ, ◌+◌, ◌-◌, ◌&&◌, ◌||◌, Bool, true, false, if◌then◌else◌, nat_le, List, codes, length, drop, refl, sym, ap, ◌∙◌, true≢false, arith, length-append, bytes_eq}
+use Rattle.std.proofs.Common.{◌≡◌, ◌≢◌, ◌⊎◌, ⊎_elim, inl, inr, ℕ, ◌+◌, ◌-◌, ◌&&◌, ◌||◌, Bool, true, false, if◌then◌else◌, nat_le, List, codes, length, drop, get_or, refl, sym, ap, ◌∙◌, true≢false, arith, length-append, bytes_eq}
 use Rattle.std.specs.Prelude.{nat_lt}
 use Rattle.std.proofs.Math.Seq.{drop-append-add}
 use Rattle.std.proofs.lemmas.Slice.Eq.{bytes_eq-Decides}
@@ -53,23 +53,27 @@ no_module e = cc
 no_header : codes ".h" ≡ codes "bj" → ⊥
 no_header e = cc
 
+-- the byte with which each begins
+first_is : (xs ys : List ℕ) → xs ≡ ys → get_or xs 0 0 ≡ get_or ys 0 0
+first_is xs ys e = ap (λ (bytes : List ℕ). get_or bytes 0 0) e
+
 no_source_db : source_ending ≡ codes "db" → ⊥
-no_source_db e = cc
+no_source_db e = let f : 46 ≡ 100 = first_is source_ending (codes "db") e in absurd (omega (arith, f))
 
 no_source_mg : source_ending ≡ codes "mg" → ⊥
-no_source_mg e = cc
+no_source_mg e = let f : 46 ≡ 109 = first_is source_ending (codes "mg") e in absurd (omega (arith, f))
 
 no_module_db : text_ending ≡ codes "db" → ⊥
-no_module_db e = cc
+no_module_db e = let f : 46 ≡ 100 = first_is text_ending (codes "db") e in absurd (omega (arith, f))
 
 no_module_mg : text_ending ≡ codes "mg" → ⊥
-no_module_mg e = cc
+no_module_mg e = let f : 46 ≡ 109 = first_is text_ending (codes "mg") e in absurd (omega (arith, f))
 
 no_header_db : codes ".h" ≡ codes "db" → ⊥
-no_header_db e = cc
+no_header_db e = let f : 46 ≡ 100 = first_is (codes ".h") (codes "db") e in absurd (omega (arith, f))
 
 no_header_mg : codes ".h" ≡ codes "mg" → ⊥
-no_header_mg e = cc
+no_header_mg e = let f : 46 ≡ 109 = first_is (codes ".h") (codes "mg") e in absurd (omega (arith, f))
 
 -- no text's file ends so
 abbrev IsOther : List ℕ → Type 0

@@ -28,7 +28,7 @@ use Rattle.pw_store_texts.specs.Names.{is_source_file}
 use Rattle.pw_store_texts.specs.Outputs.{output_of}
 use Rattle.pw_store_texts.specs.Placing.{placed, with_outputs}
 use Rattle.pw_store_texts.specs.Seen as seen
-use Rattle.pw_store_texts.specs.Seen.{AllCome, AnswersSeen, IsSeen, Outputs, StoreComes, outcome, refused_text, seen_text, sources_among, sources_of}
+use Rattle.pw_store_texts.specs.Seen.{AllCome, AnswersSeen, IsSeen, Outputs, StoreComes, outcome, seen_text, sources_among, sources_of}
 use Rattle.pw_store_texts.specs.declared.compiled.Compiled.{Compiled}
 use Rattle.pw_value.specs.Limits.{module_limit}
 use Rattle.pw_store_texts.proofs.HeaderLemmas.{source-named}
@@ -43,17 +43,6 @@ cut-is most text cut e = e
 -- the text of a source that was compiled
 pub made-text : (cut : List ℕ) (text : Vec ℕ) (output : Result (Vec ℕ) CppFault) → output ≡ Ok text → cut ≡ take text_read text.items → cut ≡ prefix_of text_read (seen_text (output_of output))
 made-text cut text output e t = cut-is text_read text.items cut t ∙ sym (ap (λ (o : Result (Vec ℕ) CppFault). prefix_of text_read (seen_text (output_of o))) e)
-
--- a text that no module may have is short
-refused-length : length refused_text ≡ 1
-refused-length = refl
-
-pub refused-short : (items : List ℕ) → items ≡ refused_text → length items ≤ text_read
-refused-short items e = let one : length items ≡ 1 = ap length e ∙ refused-length in omega arith
-
--- and of one that has a fault
-pub faulty-text : (items : List ℕ) (fault : CppFault) (output : Result (Vec ℕ) CppFault) → output ≡ Err fault → items ≡ refused_text → prefix_of text_read refused_text ≡ refused_text → items ≡ prefix_of text_read (seen_text (output_of output))
-faulty-text items fault output e t short = t ∙ sym short ∙ sym (ap (λ (o : Result (Vec ℕ) CppFault). prefix_of text_read (seen_text (output_of o))) e)
 
 pub named_text : (name items other : List ℕ) → items ≡ other → ◌≡◌ {A = Source} (name, items) (name, other)
 named_text name items other e = ap (λ (x : List ℕ). (name, x)) e
