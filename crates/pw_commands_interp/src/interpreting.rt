@@ -182,7 +182,11 @@ pub fn interpret_modules<S: Store, I: Source, O: Sink>(
     ensures streams { LeavesStreams result.answer (I.rest input.old) (I.rest input.new) (O.taken out.old) (O.taken out.new) }
 {
     match store.names(alloc) {
-        Ok(names) => told_reply(alloc, &names, interpret_seen(alloc, store, opts, input, out)),
+        Ok(names) => told_reply(
+            alloc,
+            &names,
+            interpret_seen(alloc, store, opts, input, out),
+        ),
         Err(error) => Reply {
             answer: Answer::from(error),
             line: None,

@@ -165,8 +165,7 @@ over_program : OneImage → (opts : RunOpts) → FullAt opts.build → (comes : 
     → HasBuilt opts.build answer told new → SeenOutcome told.files opts.build comes → GoOver opts.budget input comes e → Answers e.answer answer → PutsOut e.output answer taken taken' → LeavesInput e.rest input answer input'
     → AnswersSeen told.files opts answer input input' taken taken'
 over_program one opts full (Ok outcome) e answer told new input input' taken taken' keeps bytes was h b over a puts left =
-    let f = full told (Ok outcome) keeps b in
-    (
+    let f = full told (Ok outcome) keeps b in (
       f.0,
       f.1,
       of_image one (module_map f.0) opts outcome.image over.0 answer input input' taken taken' f.2.0 f.2.1 over.1 bytes was
@@ -191,8 +190,7 @@ ran_program fronts one opts answer told new input input' taken taken' h built by
     let full = built.law told (Ok outcome) built.keeps b in
     let means : Means (module_map full.0) opts.build outcome.image = full.2.1 in
     let is : run_effect h.left.files opts.budget input ≡ ran (run_from opts.budget input means.contents) = run_stands fronts h.left.files outcome.image means.contents opts.budget input h.short (stands opts.build told h.left built outcome b) means.file in
-    let run = run_effect h.left.files opts.budget input in
-    (
+    let run = run_effect h.left.files opts.budget input in (
       full.0,
       full.1,
       of_image one (module_map full.0) opts outcome.image means.contents answer input input' taken taken' full.2.0 means means.file bytes was

@@ -25,7 +25,8 @@ use pw_io::laws::other_files;
 use pw_io::{Sink, Source, Store};
 use pw_law_session::{
     a_store_is_built_exactly_where_it_can_be, bench, bench_builds_in_full, build_modules,
-    builds_are_full, genuine_files_keep_genuine, genuine_objects_are_seen, run_session, sessions_build_in_full,
+    builds_are_full, genuine_files_keep_genuine, genuine_objects_are_seen, run_session,
+    sessions_build_in_full,
 };
 use pw_store_texts::files_are_seen_in_one_way;
 use pw_top_answer::{Answer, Reply, tell};

@@ -18,7 +18,7 @@ returns-in_ok-compared-in-Ok-clause-own g c =
     c.in-Ok.ensures.files c.in-Ok.ensures.bytes c.program_of.ensures.same c.in_ok-compared-in-Ok.ensures.prepared
 
 pub returns-in-Err-clause-fault : goal.returns-in-Err-clause-fault
-returns-in-Err-clause-fault g c = 
+returns-in-Err-clause-fault g c =
     found_late (record { object = c.built_files_are_seen.ensures.object; database = c.built_files_are_seen.ensures.database; image = c.built_files_are_seen.ensures.image })
     c.args.opts.now (g.S.Store.told c.args.store.now) c.args.modules.now c.in-Err.unbuilt.fault c.in-Err.ensures.fault
 
