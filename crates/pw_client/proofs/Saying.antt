@@ -263,7 +263,7 @@ says_as : (files : Files) (own answer : Answer) (input input' taken taken' : Opt
 says_as files (Refused name refusal) answer input input' taken taken' left told says = absurd (says (λ e. absurd (no_fault name refusal e)))
 says_as files own answer input input' taken taken' left told says = subst (λ a. SaysHi a taken taken') (sym told) (says (λ e. stays answer input input' taken taken' left (told ∙ e)))
 
-no_memory_says : (answer : Answer) (taken taken' : Option (List ℕ)) → answer ≡ NoMemory → SaysHi answer taken taken'
+pub no_memory_says : (answer : Answer) (taken taken' : Option (List ℕ)) → answer ≡ NoMemory → SaysHi answer taken taken'
 no_memory_says answer taken taken' e = subst (λ a. SaysHi a taken taken') (sym e) tt
 
 -- of a store and an input that tell what they hold
