@@ -1,7 +1,8 @@
 -- The fault where the modules of a store are not told: there are too many, or the store had one.
-use Rattle.std.proofs.Common.{◌≡◌, ◌∙◌, ℕ, ◌<◌, ◌≤◌, Bool, true, cond, List, length, map, Option, Some, None, Ok, Err, sym, ap, subst, arith}
+use Rattle.std.proofs.Common.{Result, ◌≡◌, ◌∙◌, ℕ, ◌<◌, ◌≤◌, Bool, true, cond, List, length, map, Option, Some, None, Ok, Err, sym, ap, subst, arith}
 use Rattle.std.proofs.lemmas.Bool.Decides.{nat_tests}
-use Rattle.std.specs.Prelude.{IfSome, nat_lt}
+use Rattle.pw_build.specs.declared.fault.Unbuilt.{Unbuilt}
+use Rattle.std.specs.Prelude.{IfErr, IfSome, nat_lt}
 use Rattle.std.specs.Global.{Vec}
 use Rattle.pw_io.specs.Files.{Files, Told}
 use Rattle.pw_io.specs.declared.StoreError.TheVariants as store
@@ -79,3 +80,12 @@ modules_seen (Some told) found h = (h.0, h.1, h.2)
 pub modules_few : (first : Option Told) (found : Vec Module) → IfSome first (λ t. AnswersSeen t.files (Ok found)) → IfSome first (λ t. length found.items ≤ module_limit)
 modules_few None found h = tt
 modules_few (Some told) found h = h.3
+
+told_by : (told : Told) (fault : ModulesFault) (result : Result (Vec Module) Unbuilt) → AnswersSeen told.files (Err fault) → IfErr result (λ u. u.fault ≡ modules_fault fault) → IfErr result (λ u. SeesFault told.files u.fault)
+told_by told fault (Ok found) h e = tt
+told_by told fault (Err unbuilt) h e = modules_faults (Some told) fault unbuilt.fault h e
+
+-- the same of what is answered in its place
+pub told_fault : (first : Option Told) (fault : ModulesFault) (result : Result (Vec Module) Unbuilt) → IfSome first (λ t. AnswersSeen t.files (Err fault)) → IfErr result (λ u. u.fault ≡ modules_fault fault) → IfSome first (λ t. IfErr result (λ u. SeesFault t.files u.fault))
+told_fault None fault result h e = tt
+told_fault (Some told) fault result h e = told_by told fault result h e
